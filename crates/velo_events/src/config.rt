@@ -1,0 +1,98 @@
+ghost use Rattle.std.specs.Prelude.{◌≡◌, ◌≤◌, IfOk, IfErr, None, Some};
+
+use thiserror::Error;
+
+/// How many threads, variables and locks a run has. They are numbered from 0.
+#[derive(Clone, Copy, Debug, PartialEq, Eq)]
+pub struct Bounds {
+    /// 1 to 64 in a configuration.
+    pub threads: u8,
+    /// 0 to 65,535.
+    pub variables: u16,
+    /// 0 to 4,096 in a configuration.
+    pub locks: u16,
+}
+
+/// The first value of a configuration that is out of its range.
+#[derive(Clone, Copy, Debug, PartialEq, Eq, Error)]
+pub enum BadConfig {
+    /// There is no thread, or there are more than 64.
+    #[error("the number of threads is not from 1 to 64")]
+    Threads = 1,
+    /// Never answered, since each `u16` is in range.
+    #[error("the number of variables is out of range")]
+    Variables = 2,
+    /// There are more than 4,096 locks.
+    #[error("the number of locks is above 4096")]
+    Locks = 3,
+    /// The limit of events is 0 or above 16,777,216.
+    #[error("the limit of events is not from 1 to 16777216")]
+    Events = 4,
+    /// The limit of nodes is 0 or above 4,096.
+    #[error("the limit of nodes is not from 1 to 4096")]
+    Nodes = 5,
+}
+
+/// What a run is opened with. Every value is in its range.
+#[derive(Clone, Copy, Debug, PartialEq, Eq)]
+pub struct Config {
+    /// A number that the caller picks for the run, to tell it from others.
+    pub run: u64,
+    /// How many threads, variables and locks there are.
+    pub bounds: Bounds,
+    /// The most events that the log takes: 1 to 16,777,216.
+    pub events: u32,
+    /// The most nodes that the graph has at one time: 1 to 4,096.
+    pub nodes: u16,
+    /// Whether the event that closes the first cycle halts the world.
+    pub stop: bool,
+    ghost some_thread: { 1 ≤ bounds.threads },
+    ghost few_threads: { bounds.threads ≤ 64 },
+    ghost few_locks: { bounds.locks ≤ 4096 },
+    ghost some_event: { 1 ≤ events },
+    ghost few_events: { events ≤ 16777216 },
+    ghost some_node: { 1 ≤ nodes },
+    ghost few_nodes: { nodes ≤ 4096 },
+}
+
+impl Config {
+    ghost use Rattle.velo_events.specs.Config.{first_bad_value};
+
+    /// A configuration of these values, where all of them are in range. The error names the first that is not, in the order
+    /// of the parameters.
+    pub fn new(
+        run: u64,
+        bounds: Bounds,
+        events: u32,
+        nodes: u16,
+        stop: bool,
+    ) -> Result<Config, BadConfig>
+        ensures good { IfOk result (λ c. first_bad_value bounds events nodes ≡ None) }
+        ensures bad { IfErr result (λ e. first_bad_value bounds events nodes ≡ Some e) }
+        ensures run { IfOk result (λ c. c.run ≡ run) }
+        ensures bounds { IfOk result (λ c. c.bounds ≡ bounds) }
+        ensures events { IfOk result (λ c. c.events ≡ events) }
+        ensures nodes { IfOk result (λ c. c.nodes ≡ nodes) }
+        ensures stop { IfOk result (λ c. c.stop ≡ stop) }
+    {
+        if bounds.threads < 1 || bounds.threads > 64 {
+            return Err(BadConfig::Threads);
+        }
+        if bounds.locks > 4096 {
+            return Err(BadConfig::Locks);
+        }
+        if events < 1 || events > 16_777_216 {
+            return Err(BadConfig::Events);
+        }
+        if nodes < 1 || nodes > 4096 {
+            return Err(BadConfig::Nodes);
+        }
+        Ok(Config {
+            run,
+            bounds,
+            events,
+            nodes,
+            stop,
+        })
+    }
+}

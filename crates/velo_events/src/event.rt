@@ -1,0 +1,98 @@
+ghost use Rattle.std.specs.Prelude.{◌≡◌};
+ghost use Rattle.velo_events.specs.Conflict.{conflict};
+
+/// The number of a thread. A run has at most 64; thread 0 is the one that is there from the start.
+#[derive(Clone, Copy, Debug, PartialEq, Eq, PartialOrd, Ord, Hash)]
+pub struct ThreadId(pub u8);
+
+/// The number of a shared variable, which starts at the value 0.
+#[derive(Clone, Copy, Debug, PartialEq, Eq, PartialOrd, Ord, Hash)]
+pub struct VarId(pub u16);
+
+/// The number of a lock. A run has at most 4,096; all are free at the start, and none is re-entrant.
+#[derive(Clone, Copy, Debug, PartialEq, Eq, PartialOrd, Ord, Hash)]
+pub struct LockId(pub u16);
+
+/// The label of an atomic block, which reports show. Blocks may share one.
+#[derive(Clone, Copy, Debug, Default, PartialEq, Eq, PartialOrd, Ord, Hash)]
+pub struct Label(pub u32);
+
+/// What a thread did, in one operation.
+#[derive(Clone, Copy, Debug, PartialEq, Eq)]
+pub enum Kind {
+    /// It read this value from the variable.
+    Read(VarId, u64),
+    /// It wrote this value to the variable.
+    Write(VarId, u64),
+    /// It acquired the lock.
+    Acquire(LockId),
+    /// It released the lock.
+    Release(LockId),
+    /// It began an atomic block, within those that it has open.
+    Begin(Label),
+    /// It ended its innermost open block.
+    End,
+    /// It forked the thread, which may act from now on.
+    Fork(ThreadId),
+    /// It joined the thread, which has exited.
+    Join(ThreadId),
+    /// It acts no more.
+    Exit,
+}
+
+/// One operation of one thread.
+#[derive(Clone, Copy, Debug, PartialEq, Eq)]
+pub struct Event {
+    /// The thread that did it.
+    pub thread: ThreadId,
+    /// What it did.
+    pub kind: Kind,
+}
+
+/// What a thread wants to do: as `Kind`, but a read has no value yet.
+#[derive(Clone, Copy, Debug, PartialEq, Eq)]
+pub enum Action {
+    Read(VarId),
+    Write(VarId, u64),
+    Acquire(LockId),
+    Release(LockId),
+    Begin(Label),
+    End,
+    Fork(ThreadId),
+    Join(ThreadId),
+    Exit,
+}
+
+/// Whether two events of one trace conflict, so that no equivalent trace exchanges them.
+///
+/// They do where one thread did both, where both access one variable and one of them writes it, where both operate on one
+/// lock (these are the rules of the paper on Velodrome), and where one of them forks or joins the other's thread. Two forks
+/// or joins of one thread by two others do not conflict by themselves.
+pub fn conflicts(earlier: &Event, later: &Event) -> bool
+    ensures { result ≡ conflict earlier.now later.now }
+{
+    if earlier.thread == later.thread {
+        return true;
+    }
+    match (earlier.kind, later.kind) {
+        (Kind::Read(x, _), Kind::Write(y, _)) => x == y,
+        (Kind::Write(x, _), Kind::Read(y, _) | Kind::Write(y, _)) => x == y,
+        (Kind::Acquire(m) | Kind::Release(m), Kind::Acquire(n) | Kind::Release(n)) => m == n,
+        (Kind::Fork(u) | Kind::Join(u), _) if u == later.thread => true,
+        (_, Kind::Fork(u) | Kind::Join(u)) => u == earlier.thread,
+        _ => false,
+    }
+}
+
+/// How far a thread has come.
+#[derive(Clone, Copy, Debug, PartialEq, Eq)]
+pub enum Status {
+    /// Nobody has forked it, and it is not thread 0.
+    Unborn,
+    /// It may act.
+    Live,
+    /// It has exited, and nobody has joined it.
+    Exited,
+    /// It has exited and was joined.
+    Joined,
+}

@@ -1,0 +1,19 @@
+//! What monitored threads do: events, when two of them conflict, the limits of a run, and the reasons for which an action
+//! is refused.
+//!
+//! Events and their conflicts are those of Flanagan, Freund and Yi, "Velodrome: A Sound and Complete Dynamic Atomicity
+//! Checker for Multithreaded Programs", PLDI 2008. Forks, joins and exits are events here too.
+#![tactic(auto)]
+
+mod config;
+mod event;
+mod memory;
+mod refusal;
+
+pub use config::{BadConfig, Bounds, Config};
+pub use event::{Action, Event, Kind, Label, LockId, Status, ThreadId, VarId, conflicts};
+pub use memory::Memory;
+pub use refusal::Refusal;
+
+#[cfg(test)]
+mod tests;

@@ -1,0 +1,4 @@
+pub mod OnTables
+pub mod OnAdmission
+pub mod OnStandings
+pub mod OnChanges

@@ -1,0 +1,206 @@
+-- What a heap admits is what its trace admits.
+use Rattle.std.proofs.Common.{◌≡◌, ℕ, Bool, true, false, not, List, length, Option, Some, None, Ok, Err, refl, sym, ap, ◌∙◌, subst, arith, ⊎_elim}
+use Rattle.std.specs.Prelude.{◌&&◌, ◌==◌, nat_lt, nat_le, if◌then◌else◌, IsTrue, IsFalse, Result, option_map, slice_get}
+use Rattle.std.proofs.lemmas.Bool.{cases_Bool, cases_lt, lt-ltb, le-ltb, lt-leb, le-leb, eq-eqb, eqb-true, false_from_ne_true, false≢true}
+use Rattle.std.proofs.lemmas.Option.{slice_get_past, same_Some}
+use Rattle.velo_events.specs.declared.config.Bounds.{Bounds}
+use Rattle.velo_events.specs.declared.event.ThreadId.{ThreadId}
+use Rattle.velo_events.specs.declared.event.LockId.{LockId}
+use Rattle.velo_events.specs.declared.event.Action.{Action}
+use Rattle.velo_events.specs.declared.event.Action.TheVariants.{Read, Write, Acquire, Release, Begin, End, Fork, Join, Exit}
+use Rattle.velo_events.specs.declared.event.Event.{Event}
+use Rattle.velo_events.specs.declared.event.Kind.{Kind}
+use Rattle.velo_events.specs.declared.event.Kind.TheVariants as kind
+use Rattle.velo_events.specs.declared.event.Status.{Status}
+use Rattle.velo_events.specs.declared.event.Status.TheVariants.{Unborn, Live, Exited, Joined}
+use Rattle.velo_events.specs.declared.refusal.Refusal.{Refusal}
+use Rattle.velo_events.specs.declared.refusal.Refusal.TheVariants.{NotLive, NoSuchVariable, NoSuchLock, NoSuchThread, Busy, AlreadyHeld, NotHolder, NoOpenBlock, TooDeep, AlreadyForked, NotForked, NotExited, AlreadyJoined, BlockOpen, LockHeld}
+use Rattle.velo_events.specs.Event.{are_same}
+use Rattle.velo_events.specs.Heap.{value_in, holder_in, status_in, depth_in}
+use Rattle.velo_events.specs.WellFormed.{MayFollow, IsWellFormed}
+use Rattle.velo_events.specs.Block.{any_below}
+use Rattle.velo_events.specs.Meaning.{refusal_of, holds_a_lock, kind_for, event_for, action_of, HasItsValue, is_another, is_live, is_unborn, is_joined}
+use Rattle.velo_events.proofs.OnWellFormed.{Facts-from, count_below-zero, count_below-none, count_below, is_held_by}
+use Rattle.velo_events.proofs.OnMeaning.{MayFollow-refusal_of}
+use Rattle.velo_heap.specs.Contents.{Contents, bounds_of, Tabulates, thread_named, locks_in, standing_in, StandsFor, unless_refused, admitted, IsAdmitted}
+use Rattle.velo_heap.specs.Steps.{read_at, write_at, acquire_at, release_at, fork_by, fork_at, join_by, join_at, live_kind, kind_in}
+
+-- the refusal if there is one, or else the operation
+abbrev kind_or : Kind → Option Refusal → Result Kind Refusal
+kind_or k (Some refusal) = Err refusal
+kind_or k None = Ok k
+
+-- ---- what stands at the place that the action names
+
+refused_if : (b : Bool) (r : Refusal) (k : Kind) → (if b then Err r else Ok k) ≡ kind_or k (if b then Some r else None)
+refused_if true r k = refl
+refused_if false r k = refl
+
+acquire_of : (t : ThreadId) (m : LockId) (o : Option ℕ) → acquire_at t m (Some (option_map thread_named o)) ≡ kind_or (kind.Acquire m) (if is_another o t.0 then Some Busy else (if are_same o (Some t.0) then Some AlreadyHeld else None))
+acquire_of t m None = refl
+acquire_of t m (Some h) = elim (h == t.0) as (λ b. (if b then Err AlreadyHeld else Err Busy) ≡ kind_or (kind.Acquire m) (if not b then Some Busy else (if b then Some AlreadyHeld else None))) [ true ↦ refl | false ↦ refl ]
+
+release_of : (t : ThreadId) (m : LockId) (o : Option ℕ) → release_at t m (Some (option_map thread_named o)) ≡ kind_or (kind.Release m) (if not (are_same o (Some t.0)) then Some NotHolder else None)
+release_of t m None = refl
+release_of t m (Some h) = elim (h == t.0) as (λ b. (if b then Ok (kind.Release m) else Err NotHolder) ≡ kind_or (kind.Release m) (if not b then Some NotHolder else None)) [ true ↦ refl | false ↦ refl ]
+
+fork_of : (u : ThreadId) (s : Status) → fork_by u s ≡ kind_or (kind.Fork u) (if not (is_unborn s) then Some AlreadyForked else None)
+fork_of u Unborn = refl
+fork_of u Live = refl
+fork_of u Exited = refl
+fork_of u Joined = refl
+
+join_of : (u : ThreadId) (s : Status) → join_by u s ≡ kind_or (kind.Join u) (if is_unborn s then Some NotForked else (if is_live s then Some NotExited else (if is_joined s then Some AlreadyJoined else None)))
+join_of u Unborn = refl
+join_of u Live = refl
+join_of u Exited = refl
+join_of u Joined = refl
+
+exit_of : (deep held : Bool) → (if deep then Err BlockOpen else (if held then Err LockHeld else Ok kind.Exit)) ≡ kind_or kind.Exit (if deep then Some BlockOpen else (if held then Some LockHeld else None))
+exit_of true held = refl
+exit_of false true = refl
+exit_of false false = refl
+
+-- a thread that has acquired as often as it has released holds no lock, and the other way round
+holds_a_lock-locks_in : (bounds : Bounds) (trace : List Event) (t : ℕ) → IsWellFormed bounds trace → holds_a_lock bounds trace t ≡ not (locks_in trace t == 0)
+unfolding holds_a_lock
+holds_a_lock-locks_in bounds trace t well =
+    let held = (Facts-from bounds trace well).held t in
+    ⊎_elim
+    (λ (some : IsTrue (any_below bounds.locks (is_held_by trace t))).
+    let more : IsFalse (locks_in trace t == 0) = false_from_ne_true _ (λ e.
+    let none : locks_in trace t ≡ 0 = eqb-true _ _ e in
+    let free : count_below bounds.locks (is_held_by trace t) ≡ 0 = omega (arith, none, held) in
+    false≢true (sym (count_below-none bounds.locks (is_held_by trace t) free) ∙ some)) in
+    some ∙ sym (ap not more))
+    (λ (none : IsFalse (any_below bounds.locks (is_held_by trace t))).
+    let free : count_below bounds.locks (is_held_by trace t) ≡ 0 = count_below-zero bounds.locks (is_held_by trace t) none in
+    let equal : locks_in trace t ≡ 0 = omega (arith, free, held) in
+    none ∙ sym (ap not (eq-eqb _ _ equal)))
+    (cases_Bool (any_below bounds.locks (is_held_by trace t)))
+
+module _ (heap : Contents) (trace : List Event) (stands : StandsFor heap trace) where
+  -- the item at a place that may not be there
+  tabulated : {X Y : Type 0} (items : List X) (f : ℕ → X) (i : ℕ) (at : Option X → Y) (missing : Y) (y : Y) → Tabulates items f → at None ≡ missing → at (Some (f i)) ≡ y → at (slice_get items i) ≡ (if nat_le (length items) i then missing else y)
+  tabulated items f i at missing y table none some = ⊎_elim
+      (λ within. rw (table.each i within, lt-leb (length items) i within) some)
+      (λ past. rw (slice_get_past items i past, le-leb (length items) i past) none)
+      (cases_lt i (length items))
+
+  kind_or-if : (b : Bool) (r : Refusal) (k : Kind) (rest : Option Refusal) → kind_or k (if b then Some r else rest) ≡ (if b then Err r else kind_or k rest)
+  kind_or-if true r k rest = refl
+  kind_or-if false r k rest = refl
+
+  -- only a live thread acts
+  when_live : (t : ThreadId) (action : Action) (k : Kind) (rest : Option Refusal) → live_kind heap t (standing_in trace t.0) action ≡ kind_or k rest →
+      kind_in heap t action ≡ kind_or k (if not (nat_lt t.0 (length heap.threads) && is_live (status_in trace t.0)) then Some NotLive else rest)
+  when_live t action k rest h = ⊎_elim
+      (λ within. rw (stands.threads.each t.0 within, lt-ltb t.0 (length heap.threads) within) (acts (is_live (status_in trace t.0))))
+      (λ past. rw (slice_get_past heap.threads t.0 past, le-ltb t.0 (length heap.threads) past) refl)
+      (cases_lt t.0 (length heap.threads))
+    where
+      acts : (b : Bool) → (if b then live_kind heap t (standing_in trace t.0) action else Err NotLive) ≡ kind_or k (if not b then Some NotLive else rest)
+      acts true = h
+      acts false = refl
+
+  kind_in-refusal_of : (t : ThreadId) (action : Action) → kind_in heap t action ≡ kind_or (kind_for trace action) (refusal_of (bounds_of heap) trace t.0 (kind_for trace action))
+  unfolding refusal_of
+  kind_in-refusal_of t (Read x) = when_live t (Read x) _ _
+      (tabulated heap.values (value_in trace) x.0 (read_at x) (Err NoSuchVariable) (Ok (kind.Read x (value_in trace x.0))) stands.values refl refl
+      ∙ refused_if (nat_le (length heap.values) x.0) NoSuchVariable _)
+  kind_in-refusal_of t (Write x v) = when_live t (Write x v) _ _
+      (tabulated heap.values (value_in trace) x.0 (write_at x v) (Err NoSuchVariable) (Ok (kind.Write x v)) stands.values refl refl
+      ∙ refused_if (nat_le (length heap.values) x.0) NoSuchVariable _)
+  kind_in-refusal_of t (Acquire m) = when_live t (Acquire m) _ _
+      (tabulated heap.holders (λ n. option_map thread_named (holder_in trace n)) m.0 (acquire_at t m) (Err NoSuchLock) _ stands.holders refl (acquire_of t m (holder_in trace m.0))
+      ∙ sym (kind_or-if (nat_le (length heap.holders) m.0) NoSuchLock _ _))
+  kind_in-refusal_of t (Release m) = when_live t (Release m) _ _
+      (tabulated heap.holders (λ n. option_map thread_named (holder_in trace n)) m.0 (release_at t m) (Err NoSuchLock) _ stands.holders refl (release_of t m (holder_in trace m.0))
+      ∙ sym (kind_or-if (nat_le (length heap.holders) m.0) NoSuchLock _ _))
+  kind_in-refusal_of t (Begin label) = when_live t (Begin label) _ _ (refused_if (nat_le 32 (depth_in trace t.0)) TooDeep (kind.Begin label))
+  kind_in-refusal_of t End = when_live t End _ _ (refused_if (depth_in trace t.0 == 0) NoOpenBlock kind.End)
+  kind_in-refusal_of t (Fork u) = when_live t (Fork u) _ _
+      (tabulated heap.threads (standing_in trace) u.0 (fork_at u) (Err NoSuchThread) _ stands.threads refl (fork_of u (status_in trace u.0))
+      ∙ sym (kind_or-if (nat_le (length heap.threads) u.0) NoSuchThread _ _))
+  kind_in-refusal_of t (Join u) = when_live t (Join u) _ _
+      (tabulated heap.threads (standing_in trace) u.0 (join_at u) (Err NoSuchThread) _ stands.threads refl (join_of u (status_in trace u.0))
+      ∙ sym (kind_or-if (nat_le (length heap.threads) u.0) NoSuchThread _ _))
+  kind_in-refusal_of t Exit = when_live t Exit _ _
+      (subst (λ b. (if not (depth_in trace t.0 == 0) then Err BlockOpen else (if not (locks_in trace t.0 == 0) then Err LockHeld else Ok kind.Exit)) ≡ kind_or kind.Exit (if not (depth_in trace t.0 == 0) then Some BlockOpen else (if b then Some LockHeld else None)))
+      (sym (holds_a_lock-locks_in (bounds_of heap) trace t.0 stands.well_formed))
+      (exit_of (not (depth_in trace t.0 == 0)) (not (locks_in trace t.0 == 0))))
+  -- ---- the event of an operation
+
+abbrev pub event_by : ThreadId → Result Kind Refusal → Result Event Refusal
+event_by t (Ok k) = Ok (record { thread = t; kind = k })
+event_by t (Err refusal) = Err refusal
+
+pub admitted-kind_in : (heap : Contents) (trace : List Event) (t : ThreadId) (action : Action) → StandsFor heap trace → event_by t (kind_in heap t action) ≡ admitted (bounds_of heap) trace t action
+admitted-kind_in heap trace t action stands = ap (event_by t) (kind_in-refusal_of heap trace stands t action) ∙ joined (refusal_of (bounds_of heap) trace t.0 (kind_for trace action))
+  where
+    joined : (o : Option Refusal) → event_by t (kind_or (kind_for trace action) o) ≡ unless_refused o (event_for trace t action)
+    joined (Some refusal) = refl
+    joined None = refl
+
+-- ---- an admitted event may follow
+
+its_own_value : (trace : List Event) (action : Action) → HasItsValue trace (kind_for trace action)
+its_own_value trace (Read x) = refl
+its_own_value trace (Write x v) = tt
+its_own_value trace (Acquire m) = tt
+its_own_value trace (Release m) = tt
+its_own_value trace (Begin label) = tt
+its_own_value trace End = tt
+its_own_value trace (Fork u) = tt
+its_own_value trace (Join u) = tt
+its_own_value trace Exit = tt
+
+unrefused : (o : Option Refusal) (e e' : Event) → unless_refused o e ≡ Ok e' → (o ≡ None) × (e ≡ e')
+unrefused None e e' h = (refl, cc)
+unrefused (Some refusal) e e' h = cc
+
+pub MayFollow-admitted : (bounds : Bounds) (trace : List Event) (t : ThreadId) (action : Action) (e : Event) → IsWellFormed bounds trace → admitted bounds trace t action ≡ Ok e → MayFollow bounds trace e
+MayFollow-admitted bounds trace t action e well h =
+    let parts = unrefused (refusal_of bounds trace t.0 (kind_for trace action)) (event_for trace t action) e h in
+    subst (MayFollow bounds trace) parts.1 ((MayFollow-refusal_of bounds trace (event_for trace t action) well).1 (parts.0, its_own_value trace action))
+
+-- what `admit` answers may be applied
+pub IsAdmitted-from : (heap : Contents) (trace : List Event) (t : ThreadId) (action : Action) (e : Event) → StandsFor heap trace → admitted (bounds_of heap) trace t action ≡ Ok e → IsAdmitted heap e
+IsAdmitted-from heap trace t action e stands h = record { trace = trace; stands = stands; follows = MayFollow-admitted (bounds_of heap) trace t action e stands.well_formed h }
+
+-- ---- an event that may follow one of the heap's traces may follow each of them
+
+kind_for-known : (heap : Contents) (one other : List Event) (t : ThreadId) (k : Kind) → StandsFor heap one → StandsFor heap other → MayFollow (bounds_of heap) one (record { thread = t; kind = k }) → kind_for other (action_of k) ≡ k
+kind_for-known heap one other t (kind.Read x v) s s' f =
+    ap (kind.Read x) (sym (f.in_turn ∙ same_Some _ _ (sym (s.values.each x.0 f.known_names) ∙ s'.values.each x.0 f.known_names)))
+kind_for-known heap one other t (kind.Write x v) s s' f = refl
+kind_for-known heap one other t (kind.Acquire m) s s' f = refl
+kind_for-known heap one other t (kind.Release m) s s' f = refl
+kind_for-known heap one other t (kind.Begin label) s s' f = refl
+kind_for-known heap one other t kind.End s s' f = refl
+kind_for-known heap one other t (kind.Fork u) s s' f = refl
+kind_for-known heap one other t (kind.Join u) s s' f = refl
+kind_for-known heap one other t kind.Exit s s' f = refl
+
+its_value : (trace : List Event) (k : Kind) → kind_for trace (action_of k) ≡ k → HasItsValue trace k
+its_value trace (kind.Read x v) h = cc
+its_value trace (kind.Write x v) h = tt
+its_value trace (kind.Acquire m) h = tt
+its_value trace (kind.Release m) h = tt
+its_value trace (kind.Begin label) h = tt
+its_value trace kind.End h = tt
+its_value trace (kind.Fork u) h = tt
+its_value trace (kind.Join u) h = tt
+its_value trace kind.Exit h = tt
+
+pub MayFollow-each : (heap : Contents) (one other : List Event) (e : Event) → StandsFor heap one → StandsFor heap other → MayFollow (bounds_of heap) one e → MayFollow (bounds_of heap) other e
+MayFollow-each heap one other e s s' f =
+    let bounds = bounds_of heap in
+    let asked = action_of e.kind in
+    let same : kind_for other asked ≡ e.kind = kind_for-known heap one other e.thread e.kind s s' f in
+    let same_one : kind_for one asked ≡ e.kind = kind_for-known heap one one e.thread e.kind s s f in
+    let none : refusal_of bounds one e.thread.0 e.kind ≡ None = ((MayFollow-refusal_of bounds one e s.well_formed).0 f).0 in
+    let answered : admitted bounds one e.thread asked ≡ Ok e = rw same_one (rw none refl) in
+    let answered_too : admitted bounds other e.thread asked ≡ Ok e = sym (admitted-kind_in heap other e.thread asked s') ∙ (admitted-kind_in heap one e.thread asked s ∙ answered) in
+    let none_too : refusal_of bounds other e.thread.0 e.kind ≡ None = subst (λ k. refusal_of bounds other e.thread.0 k ≡ None) same (unrefused _ _ _ answered_too).0 in
+    (MayFollow-refusal_of bounds other e s'.well_formed).1 (none_too, its_value other e.kind same)

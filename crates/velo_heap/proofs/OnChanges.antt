@@ -1,0 +1,176 @@
+-- The heap of a trace, changed by an event that may follow, is the heap of the trace with that event.
+use Rattle.std.proofs.Common.{◌≡◌, ℕ, ◌<◌, Bool, true, cond, List, [], ◌∷◌, ◌++◌, length, set, replicate, Option, Some, None, refl, sym, ap, ◌∙◌, subst, arith}
+use Rattle.std.specs.Prelude.{if◌then◌else◌, option_map, IsFalse}
+use Rattle.std.proofs.lemmas.Bool.{eq-eqb, ne_eqb}
+use Rattle.std.proofs.lemmas.List.{length-set, length-replicate, set-get_or}
+use Rattle.velo_events.specs.declared.event.ThreadId.{ThreadId}
+use Rattle.velo_events.specs.declared.event.Event.{Event}
+use Rattle.velo_events.specs.declared.event.Kind.{Kind}
+use Rattle.velo_events.specs.declared.event.Kind.TheVariants.{Read, Write, Acquire, Release, Begin, End, Fork, Join, Exit}
+use Rattle.velo_events.specs.declared.event.Status.{Status}
+use Rattle.velo_events.specs.declared.event.Status.TheVariants.{Unborn, Live, Joined}
+use Rattle.velo_events.specs.Event.{are_same, handled_by, forked_by, joined_by}
+use Rattle.velo_events.specs.Heap.{latest, value_in, holder_in, depth_in}
+use Rattle.velo_events.specs.WellFormed.{MayFollow, IsWellFormed}
+use Rattle.velo_events.proofs.OnWellFormed.{Facts, Facts-from, IsWellFormed-nil, IsWellFormed-push, holder_in-push}
+use Rattle.velo_heap.specs.declared.standing.Standing.{Standing}
+use Rattle.velo_heap.specs.Contents.{Contents, bounds_of, Tabulates, thread_named, locks_in, standing_in, StandsFor, IsAdmitted}
+use Rattle.velo_heap.specs.Steps.{CountsFit, CanChange, contents_after, standing_after, standing_at, with_status, unborn}
+use Rattle.velo_heap.proofs.OnAdmission.{MayFollow-each}
+use Rattle.velo_heap.proofs.OnTables.{get_or-tabulated, Tabulates-same, Tabulates-set, Tabulates-replicate}
+use Rattle.velo_heap.proofs.OnStandings.{value_in-push, standing-elsewhere, standing-own, standing-forked, standing-joined, standing-not_forked, standing-not_joined, standing-nil, CountsFit-admitted}
+
+not_handled : (k : Kind) (i : ℕ) → handled_by k ≡ None → IsFalse (are_same (forked_by k) (Some i)) × IsFalse (are_same (joined_by k) (Some i))
+not_handled (Fork u) i h = cc
+not_handled (Join u) i h = cc
+not_handled (Read x v) i h = (refl, refl)
+not_handled (Write x v) i h = (refl, refl)
+not_handled (Acquire m) i h = (refl, refl)
+not_handled (Release m) i h = (refl, refl)
+not_handled (Begin label) i h = (refl, refl)
+not_handled End i h = (refl, refl)
+not_handled Exit i h = (refl, refl)
+
+module _ (heap : Contents) (trace : List Event) (stands : StandsFor heap trace) (by : ThreadId) where
+  values-after : (k : Kind) → MayFollow (bounds_of heap) trace (record { thread = by; kind = k }) → Tabulates (contents_after heap (record { thread = by; kind = k })).values (value_in (trace ++ record { thread = by; kind = k } ∷ []))
+  values-after (Read x v) f = Tabulates-same _ _ _ stands.values (value_in-push trace (record { thread = by; kind = Read x v }))
+  values-after (Write x v) f =
+      let e : Event = record { thread = by; kind = Write x v } in
+      Tabulates-set heap.values (value_in trace) _ x.0 v stands.values f.known_names
+      (value_in-push trace e x.0 ∙ ap (λ b. cond b v (value_in trace x.0)) (eq-eqb x.0 x.0 refl))
+      (λ i differ. value_in-push trace e i ∙ ap (λ b. cond b v (value_in trace i)) (ne_eqb x.0 i (λ s. differ (sym s))))
+  values-after (Acquire m) f = Tabulates-same _ _ _ stands.values (value_in-push trace (record { thread = by; kind = Acquire m }))
+  values-after (Release m) f = Tabulates-same _ _ _ stands.values (value_in-push trace (record { thread = by; kind = Release m }))
+  values-after (Begin label) f = Tabulates-same _ _ _ stands.values (value_in-push trace (record { thread = by; kind = Begin label }))
+  values-after End f = Tabulates-same _ _ _ stands.values (value_in-push trace (record { thread = by; kind = End }))
+  values-after (Fork u) f = Tabulates-same _ _ _ stands.values (value_in-push trace (record { thread = by; kind = Fork u }))
+  values-after (Join u) f = Tabulates-same _ _ _ stands.values (value_in-push trace (record { thread = by; kind = Join u }))
+  values-after Exit f = Tabulates-same _ _ _ stands.values (value_in-push trace (record { thread = by; kind = Exit }))
+
+  holder : List Event → ℕ → Option ThreadId
+  holder events m = option_map thread_named (holder_in events m)
+
+  -- the holder of a lock after one more event
+  holder-push : (e : Event) (m : ℕ) (now : Option ℕ) → holder_in (trace ++ e ∷ []) m ≡ now → option_map thread_named (holder_in (trace ++ e ∷ []) m) ≡ option_map thread_named now
+  holder-push e m now h = ap (option_map thread_named) h
+
+  holders-after : (k : Kind) → MayFollow (bounds_of heap) trace (record { thread = by; kind = k }) → Tabulates (contents_after heap (record { thread = by; kind = k })).holders (λ m. option_map thread_named (holder_in (trace ++ record { thread = by; kind = k } ∷ []) m))
+  holders-after (Acquire m) f =
+      let e : Event = record { thread = by; kind = Acquire m } in
+      Tabulates-set heap.holders (λ n. option_map thread_named (holder_in trace n)) _ m.0 (Some by) stands.holders f.known_names
+      (holder-push e m.0 (Some by.0) (holder_in-push trace e m.0 ∙ ap (λ b. cond b (Some by.0) (holder_in trace m.0)) (eq-eqb m.0 m.0 refl)))
+      (λ i differ. holder-push e i (holder_in trace i) (holder_in-push trace e i ∙ ap (λ b. cond b (Some by.0) (holder_in trace i)) (ne_eqb m.0 i (λ s. differ (sym s)))))
+  holders-after (Release m) f =
+      let e : Event = record { thread = by; kind = Release m } in
+      Tabulates-set heap.holders (λ n. option_map thread_named (holder_in trace n)) _ m.0 None stands.holders f.known_names
+      (holder-push e m.0 None (holder_in-push trace e m.0 ∙ ap (λ b. cond b None (holder_in trace m.0)) (eq-eqb m.0 m.0 refl)))
+      (λ i differ. holder-push e i (holder_in trace i) (holder_in-push trace e i ∙ ap (λ b. cond b None (holder_in trace i)) (ne_eqb m.0 i (λ s. differ (sym s)))))
+  holders-after (Read x v) f = Tabulates-same _ _ _ stands.holders (λ i. holder-push _ i _ (holder_in-push trace (record { thread = by; kind = Read x v }) i))
+  holders-after (Write x v) f = Tabulates-same _ _ _ stands.holders (λ i. holder-push _ i _ (holder_in-push trace (record { thread = by; kind = Write x v }) i))
+  holders-after (Begin label) f = Tabulates-same _ _ _ stands.holders (λ i. holder-push _ i _ (holder_in-push trace (record { thread = by; kind = Begin label }) i))
+  holders-after End f = Tabulates-same _ _ _ stands.holders (λ i. holder-push _ i _ (holder_in-push trace (record { thread = by; kind = End }) i))
+  holders-after (Fork u) f = Tabulates-same _ _ _ stands.holders (λ i. holder-push _ i _ (holder_in-push trace (record { thread = by; kind = Fork u }) i))
+  holders-after (Join u) f = Tabulates-same _ _ _ stands.holders (λ i. holder-push _ i _ (holder_in-push trace (record { thread = by; kind = Join u }) i))
+  holders-after Exit f = Tabulates-same _ _ _ stands.holders (λ i. holder-push _ i _ (holder_in-push trace (record { thread = by; kind = Exit }) i))
+
+  facts : Facts (bounds_of heap) trace
+  facts = Facts-from (bounds_of heap) trace stands.well_formed
+
+  -- the acting thread's own place
+  own_place-after : (k : Kind) → MayFollow (bounds_of heap) trace (record { thread = by; kind = k }) → handled_by k ≡ None → Tabulates (set heap.threads by.0 (standing_after (standing_at heap.threads by.0) k)) (standing_in (trace ++ record { thread = by; kind = k } ∷ []))
+  own_place-after k f own =
+      let now = get_or-tabulated heap.threads (standing_in trace) unborn by.0 stands.threads f.known_thread in
+      Tabulates-set heap.threads (standing_in trace) _ by.0 _ stands.threads f.known_thread
+      (standing-own (bounds_of heap) trace by k facts f own ∙ ap (λ s. standing_after s k) (sym now))
+      (λ i differ. let untouched = not_handled k i own in standing-elsewhere trace by k i differ untouched.0 untouched.1)
+
+  -- the place of a thread that is forked or joined
+  status-after : (k : Kind) (u : ThreadId) (status : Status) → u.0 < length heap.threads →
+      standing_in (trace ++ record { thread = by; kind = k } ∷ []) u.0 ≡ record { status = status; depth = depth_in trace u.0; locks = locks_in trace u.0 } →
+      ((i : ℕ) → (i ≡ u.0 → ⊥) → standing_in (trace ++ record { thread = by; kind = k } ∷ []) i ≡ standing_in trace i) →
+      Tabulates (with_status (set heap.threads by.0 (standing_at heap.threads by.0)) u.0 status) (standing_in (trace ++ record { thread = by; kind = k } ∷ []))
+  status-after k u status known here elsewhere =
+      let same : set heap.threads by.0 (standing_at heap.threads by.0) ≡ heap.threads = set-get_or heap.threads by.0 unborn in
+      let now = get_or-tabulated heap.threads (standing_in trace) unborn u.0 stands.threads known in
+      subst (λ threads. Tabulates (with_status threads u.0 status) (standing_in (trace ++ record { thread = by; kind = k } ∷ []))) (sym same)
+      (Tabulates-set heap.threads (standing_in trace) _ u.0 _ stands.threads known
+      (here ∙ ap (λ (s : Standing). record s { status = status }) (sym now))
+      elsewhere)
+
+  threads-after : (k : Kind) → MayFollow (bounds_of heap) trace (record { thread = by; kind = k }) → Tabulates (contents_after heap (record { thread = by; kind = k })).threads (standing_in (trace ++ record { thread = by; kind = k } ∷ []))
+  threads-after (Read x v) f = own_place-after (Read x v) f refl
+  threads-after (Write x v) f = own_place-after (Write x v) f refl
+  threads-after (Acquire m) f = own_place-after (Acquire m) f refl
+  threads-after (Release m) f = own_place-after (Release m) f refl
+  threads-after (Begin label) f = own_place-after (Begin label) f refl
+  threads-after End f = own_place-after End f refl
+  threads-after Exit f = own_place-after Exit f refl
+  threads-after (Fork u) f = status-after (Fork u) u Live f.known_names (standing-forked (bounds_of heap) trace by u facts f) (standing-not_forked trace by u)
+  threads-after (Join u) f = status-after (Join u) u Joined f.known_names (standing-joined trace by u) (standing-not_joined trace by u)
+
+-- ---- the bounds stay
+
+as_many : (heap : Contents) (values : List ℕ) (holders : List (Option ThreadId)) (threads : List Standing) → length values ≡ length heap.values → length holders ≡ length heap.holders → length threads ≡ length heap.threads → bounds_of (record { values = values; holders = holders; threads = threads }) ≡ bounds_of heap
+as_many heap values holders threads hv hh ht = rw (hv, hh, ht) refl
+
+pub bounds_of-contents_after : (heap : Contents) (by : ThreadId) (k : Kind) → bounds_of (contents_after heap (record { thread = by; kind = k })) ≡ bounds_of heap
+bounds_of-contents_after heap by (Read x v) = as_many heap _ _ _ refl refl (length-set _ _ _)
+bounds_of-contents_after heap by (Write x v) = as_many heap _ _ _ (length-set _ _ _) refl (length-set _ _ _)
+bounds_of-contents_after heap by (Acquire m) = as_many heap _ _ _ refl (length-set _ _ _) (length-set _ _ _)
+bounds_of-contents_after heap by (Release m) = as_many heap _ _ _ refl (length-set _ _ _) (length-set _ _ _)
+bounds_of-contents_after heap by (Begin label) = as_many heap _ _ _ refl refl (length-set _ _ _)
+bounds_of-contents_after heap by End = as_many heap _ _ _ refl refl (length-set _ _ _)
+bounds_of-contents_after heap by (Fork u) = as_many heap _ _ _ refl refl (length-set _ _ _ ∙ length-set _ _ _)
+bounds_of-contents_after heap by (Join u) = as_many heap _ _ _ refl refl (length-set _ _ _ ∙ length-set _ _ _)
+bounds_of-contents_after heap by Exit = as_many heap _ _ _ refl refl (length-set _ _ _)
+
+-- ---- the whole
+
+pub StandsFor-after : (heap : Contents) (trace : List Event) (e : Event) → StandsFor heap trace → MayFollow (bounds_of heap) trace e → StandsFor (contents_after heap e) (trace ++ e ∷ [])
+StandsFor-after heap trace e stands f = record {
+  well_formed = subst (λ bounds. IsWellFormed bounds (trace ++ e ∷ [])) (sym (bounds_of-contents_after heap e.thread e.kind)) (IsWellFormed-push (bounds_of heap) trace e stands.well_formed f);
+  values = values-after heap trace stands e.thread e.kind f;
+  holders = holders-after heap trace stands e.thread e.kind f;
+  threads = threads-after heap trace stands e.thread e.kind f;
+}
+
+-- an admitted event fits the heap
+pub CanChange-admitted : (heap : Contents) (e : Event) → IsAdmitted heap e → CanChange heap e
+CanChange-admitted heap e admitted =
+    let trace = admitted.trace in
+    let stands = admitted.stands in
+    let f = admitted.follows in
+    let longer : IsWellFormed (bounds_of heap) (trace ++ e ∷ []) = IsWellFormed-push (bounds_of heap) trace e stands.well_formed f in
+    let now = get_or-tabulated heap.threads (standing_in trace) unborn e.thread.0 stands.threads f.known_thread in
+    record {
+      thread = f.known_thread;
+      names = f.known_names;
+      room = subst (λ s. CountsFit (length heap.holders) s e.kind) (sym now) (CountsFit-admitted (bounds_of heap) trace e.thread e.kind (Facts-from (bounds_of heap) (trace ++ e ∷ []) longer) f);
+    }
+
+-- whichever trace the heap stands for
+pub StandsFor-apply : (heap : Contents) (e : Event) → IsAdmitted heap e → (trace : List Event) → StandsFor heap trace → StandsFor (contents_after heap e) (trace ++ e ∷ [])
+StandsFor-apply heap e admitted trace stands = StandsFor-after heap trace e stands (MayFollow-each heap admitted.trace trace e admitted.stands stands admitted.follows)
+
+-- ---- the start
+
+abbrev pub start_by : Bool → Standing
+start_by b = record { status = (if b then Live else Unborn); depth = 0; locks = 0 }
+
+pub StandsFor-start : (threads variables locks : ℕ) → 0 < threads → StandsFor (record { values = replicate variables 0; holders = replicate locks None; threads = set (replicate threads unborn) 0 (start_by true) }) []
+unfolding latest
+StandsFor-start threads variables locks some = record {
+  well_formed = IsWellFormed-nil _;
+  values = Tabulates-replicate variables 0 (value_in []) (λ i. refl);
+  holders = Tabulates-replicate locks None _ (λ i. refl);
+  threads = Tabulates-set (replicate threads unborn) (λ i. unborn) (standing_in []) 0 (start_by true)
+      (Tabulates-replicate threads unborn (λ i. unborn) (λ i. refl))
+      (omega (arith, some, length-replicate threads unborn))
+      (standing-nil 0)
+      (λ i differ. standing-nil i ∙ ap start_by (ne_eqb i 0 differ));
+}
+
+pub StandsFor-made : (threads variables locks : ℕ) (values : List ℕ) (holders : List (Option ThreadId)) (standings : List Standing) (first : Standing) → 0 < threads →
+    values ≡ replicate variables 0 → holders ≡ replicate locks None → standings ≡ replicate threads unborn → first ≡ start_by true →
+    StandsFor (record { values = values; holders = holders; threads = set standings 0 first }) []
+StandsFor-made threads variables locks values holders standings first some hv hh ht hf = rw (hv, hh, ht, hf) (StandsFor-start threads variables locks some)

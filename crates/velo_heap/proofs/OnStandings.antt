@@ -1,0 +1,196 @@
+-- How a thread stands after one more event.
+use Rattle.std.proofs.Common.{◌≡◌, ℕ, zero, suc, ◌+◌, ◌-◌, ◌≤◌, Bool, true, false, cond, List, [], ◌∷◌, ◌++◌, Option, Some, None, refl, sym, ap, ◌∙◌, arith, add-zero}
+use Rattle.std.specs.Prelude.{◌==◌, ◌||◌, if◌then◌else◌, IsTrue, IsFalse}
+use Rattle.std.specs.Option.{option_map_or}
+use Rattle.std.proofs.lemmas.Bool.{eq-eqb, ne_eqb, and_left, and_right, and_from, or_right, or_from, false_from_ne_true, false≢true}
+use Rattle.velo_events.specs.declared.config.Bounds.{Bounds}
+use Rattle.velo_events.specs.declared.event.ThreadId.{ThreadId}
+use Rattle.velo_events.specs.declared.event.Event.{Event}
+use Rattle.velo_events.specs.declared.event.Kind.{Kind}
+use Rattle.velo_events.specs.declared.event.Kind.TheVariants.{Read, Write, Acquire, Release, Begin, End, Fork, Join, Exit}
+use Rattle.velo_events.specs.declared.event.Status.{Status}
+use Rattle.velo_events.specs.declared.event.Status.TheVariants.{Unborn, Live, Exited, Joined}
+use Rattle.velo_events.specs.Event.{value_of, is_write_of, is_begin_by, is_end_by, is_acquire_by, is_release_by, is_exit_by, is_fork_of, is_join_of, handled_by}
+use Rattle.velo_events.specs.Heap.{latest, happened, times, value_in, was_born, status_in, depth_in}
+use Rattle.velo_events.specs.WellFormed.{MayFollow}
+use Rattle.velo_events.proofs.OnTraces.{latest-push, happened-push, times-push}
+use Rattle.velo_events.proofs.OnWellFormed.{Facts, count_below, held_by}
+use Rattle.velo_heap.specs.declared.standing.Standing.{Standing}
+use Rattle.velo_heap.specs.Contents.{locks_in, standing_in}
+use Rattle.velo_heap.specs.Steps.{CountsFit, standing_after}
+
+-- ---- values
+
+pub value_in-push : (trace : List Event) (e : Event) (x : ℕ) → value_in (trace ++ e ∷ []) x ≡ (if is_write_of x e then value_of e.kind else value_in trace x)
+value_in-push trace e x = ap last (latest-push (is_write_of x) trace e)
+    ∙ elim (is_write_of x e) as (λ b. last (if b then Some e else latest (is_write_of x) trace) ≡ (if b then value_of e.kind else last (latest (is_write_of x) trace))) [ true ↦ refl | false ↦ refl ]
+  where
+    last : Option Event → ℕ
+    last o = option_map_or (λ f. value_of f.kind) o 0
+
+-- ---- counts and marks
+
+times-yes : (test : Event → Bool) (trace : List Event) (e : Event) → IsTrue (test e) → times test (trace ++ e ∷ []) ≡ times test trace + 1
+times-yes test trace e h = times-push test trace e ∙ ap (λ b. times test trace + cond {A = ℕ} b 1 0) h
+
+times-no : (test : Event → Bool) (trace : List Event) (e : Event) → IsFalse (test e) → times test (trace ++ e ∷ []) ≡ times test trace
+times-no test trace e h = times-push test trace e ∙ (ap (λ b. times test trace + cond {A = ℕ} b 1 0) h ∙ add-zero (times test trace))
+
+happened-yes : (test : Event → Bool) (trace : List Event) (e : Event) → IsTrue (test e) → IsTrue (happened test (trace ++ e ∷ []))
+happened-yes test trace e h = happened-push test trace e ∙ or_right _ _ h
+
+happened-no : (test : Event → Bool) (trace : List Event) (e : Event) → IsFalse (test e) → happened test (trace ++ e ∷ []) ≡ happened test trace
+happened-no test trace e h = happened-push test trace e ∙ (ap (λ b. happened test trace || b) h ∙ or_false (happened test trace))
+  where
+    or_false : (b : Bool) → (b || false) ≡ b
+    or_false true = refl
+    or_false false = refl
+
+-- ---- one field at a time
+
+abbrev status_by : Bool → Bool → Bool → Status
+status_by joined exited born = if joined then Joined else (if exited then Exited else (if born then Live else Unborn))
+
+module _ (trace : List Event) (e : Event) (i : ℕ) where
+  status-same : IsFalse (is_join_of i e) → IsFalse (is_exit_by i e) → IsFalse (is_fork_of i e) → status_in (trace ++ e ∷ []) i ≡ status_in trace i
+  status-same no_join no_exit no_fork =
+      ap (λ b. status_by b (happened (is_exit_by i) (trace ++ e ∷ [])) (was_born (trace ++ e ∷ []) i)) (happened-no (is_join_of i) trace e no_join)
+      ∙ (ap (λ b. status_by (happened (is_join_of i) trace) b (was_born (trace ++ e ∷ []) i)) (happened-no (is_exit_by i) trace e no_exit)
+      ∙ ap (λ b. status_by (happened (is_join_of i) trace) (happened (is_exit_by i) trace) ((i == 0) || b)) (happened-no (is_fork_of i) trace e no_fork))
+
+  status-joined : IsTrue (is_join_of i e) → status_in (trace ++ e ∷ []) i ≡ Joined
+  status-joined join = ap (λ b. status_by b (happened (is_exit_by i) (trace ++ e ∷ [])) (was_born (trace ++ e ∷ []) i)) (happened-yes (is_join_of i) trace e join)
+
+  status-exited : IsFalse (happened (is_join_of i) trace) → IsFalse (is_join_of i e) → IsTrue (is_exit_by i e) → status_in (trace ++ e ∷ []) i ≡ Exited
+  status-exited unjoined no_join exit =
+      ap (λ b. status_by b (happened (is_exit_by i) (trace ++ e ∷ [])) (was_born (trace ++ e ∷ []) i)) (happened-no (is_join_of i) trace e no_join ∙ unjoined)
+      ∙ ap (λ b. status_by false b (was_born (trace ++ e ∷ []) i)) (happened-yes (is_exit_by i) trace e exit)
+
+  status-forked : IsFalse (happened (is_join_of i) trace) → IsFalse (happened (is_exit_by i) trace) → IsFalse (is_join_of i e) → IsFalse (is_exit_by i e) → IsTrue (is_fork_of i e) → status_in (trace ++ e ∷ []) i ≡ Live
+  status-forked unjoined unexited no_join no_exit fork =
+      ap (λ b. status_by b (happened (is_exit_by i) (trace ++ e ∷ [])) (was_born (trace ++ e ∷ []) i)) (happened-no (is_join_of i) trace e no_join ∙ unjoined)
+      ∙ (ap (λ b. status_by false b (was_born (trace ++ e ∷ []) i)) (happened-no (is_exit_by i) trace e no_exit ∙ unexited)
+      ∙ ap (λ b. status_by false false b) (or_right (i == 0) _ (happened-yes (is_fork_of i) trace e fork)))
+
+  depth-same : IsFalse (is_begin_by i e) → IsFalse (is_end_by i e) → depth_in (trace ++ e ∷ []) i ≡ depth_in trace i
+  depth-same no_begin no_end = omega (arith, times-no (is_begin_by i) trace e no_begin, times-no (is_end_by i) trace e no_end)
+
+  locks-same : IsFalse (is_acquire_by i e) → IsFalse (is_release_by i e) → locks_in (trace ++ e ∷ []) i ≡ locks_in trace i
+  locks-same no_acquire no_release = omega (arith, times-no (is_acquire_by i) trace e no_acquire, times-no (is_release_by i) trace e no_release)
+
+pub same_standing : (s s' : Status) (d d' l l' : ℕ) → s ≡ s' → d ≡ d' → l ≡ l' → ◌≡◌ {A = Standing} (record { status = s; depth = d; locks = l }) (record { status = s'; depth = d'; locks = l' })
+same_standing s s' d d' l l' hs hd hl = rw (hs, hd, hl) refl
+
+-- ---- all fields, by the kind of the event
+
+module _ (trace : List Event) (by : ThreadId) (k : Kind) where
+  abbrev event : Event
+  event = record { thread = by; kind = k }
+
+  -- a thread that neither acts nor is forked or joined
+  pub standing-elsewhere : (i : ℕ) → (i ≡ by.0 → ⊥) → IsFalse (is_fork_of i event) → IsFalse (is_join_of i event) → standing_in (trace ++ event ∷ []) i ≡ standing_in trace i
+  standing-elsewhere i differ no_fork no_join =
+      let other : IsFalse (by.0 == i) = ne_eqb by.0 i (λ e. differ (sym e)) in
+      same_standing _ _ _ _ _ _
+      (status-same trace event i no_join (and_left _ _ other) no_fork)
+      (depth-same trace event i (and_left _ _ other) (and_left _ _ other))
+      (locks-same trace event i (and_left _ _ other) (and_left _ _ other))
+
+-- the thread itself, but for a fork or a join
+pub standing-own : (bounds : Bounds) (trace : List Event) (by : ThreadId) (k : Kind) → Facts bounds trace → MayFollow bounds trace (record { thread = by; kind = k }) → handled_by k ≡ None → standing_in (trace ++ record { thread = by; kind = k } ∷ []) by.0 ≡ standing_after (standing_in trace by.0) k
+standing-own bounds trace by (Read x v) facts f own =
+    let e : Event = record { thread = by; kind = Read x v } in
+    same_standing _ _ _ _ _ _ (status-same trace e by.0 refl (and_right _ _ refl) refl) (depth-same trace e by.0 (and_right _ _ refl) (and_right _ _ refl)) (locks-same trace e by.0 (and_right _ _ refl) (and_right _ _ refl))
+standing-own bounds trace by (Write x v) facts f own =
+    let e : Event = record { thread = by; kind = Write x v } in
+    same_standing _ _ _ _ _ _ (status-same trace e by.0 refl (and_right _ _ refl) refl) (depth-same trace e by.0 (and_right _ _ refl) (and_right _ _ refl)) (locks-same trace e by.0 (and_right _ _ refl) (and_right _ _ refl))
+standing-own bounds trace by (Acquire m) facts f own =
+    let e : Event = record { thread = by; kind = Acquire m } in
+    let more : locks_in (trace ++ e ∷ []) by.0 ≡ locks_in trace by.0 + 1 = omega (arith, times-yes (is_acquire_by by.0) trace e (and_from _ _ (eq-eqb _ _ refl) refl), times-no (is_release_by by.0) trace e (and_right _ _ refl), facts.held by.0) in
+    same_standing _ _ _ _ _ _ (status-same trace e by.0 refl (and_right _ _ refl) refl) (depth-same trace e by.0 (and_right _ _ refl) (and_right _ _ refl)) more
+standing-own bounds trace by (Release m) facts f own =
+    let e : Event = record { thread = by; kind = Release m } in
+    let fewer : locks_in (trace ++ e ∷ []) by.0 ≡ locks_in trace by.0 - 1 = omega (arith, times-no (is_acquire_by by.0) trace e (and_right _ _ refl), times-yes (is_release_by by.0) trace e (and_from _ _ (eq-eqb _ _ refl) refl)) in
+    same_standing _ _ _ _ _ _ (status-same trace e by.0 refl (and_right _ _ refl) refl) (depth-same trace e by.0 (and_right _ _ refl) (and_right _ _ refl)) fewer
+standing-own bounds trace by (Begin label) facts f own =
+    let e : Event = record { thread = by; kind = Begin label } in
+    let deeper : depth_in (trace ++ e ∷ []) by.0 ≡ depth_in trace by.0 + 1 = omega (arith, times-yes (is_begin_by by.0) trace e (and_from _ _ (eq-eqb _ _ refl) refl), times-no (is_end_by by.0) trace e (and_right _ _ refl), facts.nested by.0) in
+    same_standing _ _ _ _ _ _ (status-same trace e by.0 refl (and_right _ _ refl) refl) deeper (locks-same trace e by.0 (and_right _ _ refl) (and_right _ _ refl))
+standing-own bounds trace by End facts f own =
+    let e : Event = record { thread = by; kind = End } in
+    let shallower : depth_in (trace ++ e ∷ []) by.0 ≡ depth_in trace by.0 - 1 = omega (arith, times-no (is_begin_by by.0) trace e (and_right _ _ refl), times-yes (is_end_by by.0) trace e (and_from _ _ (eq-eqb _ _ refl) refl)) in
+    same_standing _ _ _ _ _ _ (status-same trace e by.0 refl (and_right _ _ refl) refl) shallower (locks-same trace e by.0 (and_right _ _ refl) (and_right _ _ refl))
+standing-own bounds trace by Exit facts f own =
+    let e : Event = record { thread = by; kind = Exit } in
+    let unjoined : IsFalse (happened (is_join_of by.0) trace) = false_from_ne_true _ (λ j. false≢true (sym f.not_exited ∙ facts.exited by.0 j)) in
+    same_standing _ _ _ _ _ _ (status-exited trace e by.0 unjoined refl (and_from _ _ (eq-eqb _ _ refl) refl)) (depth-same trace e by.0 (and_right _ _ refl) (and_right _ _ refl)) (locks-same trace e by.0 (and_right _ _ refl) (and_right _ _ refl))
+standing-own bounds trace by (Fork u) facts f own = cc
+standing-own bounds trace by (Join u) facts f own = cc
+
+-- the thread that is forked
+pub standing-forked : (bounds : Bounds) (trace : List Event) (by u : ThreadId) → Facts bounds trace → MayFollow bounds trace (record { thread = by; kind = Fork u }) → standing_in (trace ++ record { thread = by; kind = Fork u } ∷ []) u.0 ≡ record { status = Live; depth = depth_in trace u.0; locks = locks_in trace u.0 }
+standing-forked bounds trace by u facts f =
+    let e : Event = record { thread = by; kind = Fork u } in
+    let unborn : IsFalse (was_born trace u.0) = or_from _ _ (ne_eqb _ _ f.in_turn.0) f.in_turn.1 in
+    let no_exit : IsFalse (happened (is_exit_by u.0) trace) = false_from_ne_true _ (λ x. false≢true (sym unborn ∙ facts.born u.0 x)) in
+    let no_join : IsFalse (happened (is_join_of u.0) trace) = false_from_ne_true _ (λ j. false≢true (sym no_exit ∙ facts.exited u.0 j)) in
+    same_standing _ _ _ _ _ _ (status-forked trace e u.0 no_join no_exit refl (and_right _ _ refl) (eq-eqb _ _ refl)) (depth-same trace e u.0 (and_right _ _ refl) (and_right _ _ refl)) (locks-same trace e u.0 (and_right _ _ refl) (and_right _ _ refl))
+
+-- the thread that is joined
+pub standing-joined : (trace : List Event) (by u : ThreadId) → standing_in (trace ++ record { thread = by; kind = Join u } ∷ []) u.0 ≡ record { status = Joined; depth = depth_in trace u.0; locks = locks_in trace u.0 }
+standing-joined trace by u =
+    let e : Event = record { thread = by; kind = Join u } in
+    same_standing _ _ _ _ _ _ (status-joined trace e u.0 (eq-eqb _ _ refl)) (depth-same trace e u.0 (and_right _ _ refl) (and_right _ _ refl)) (locks-same trace e u.0 (and_right _ _ refl) (and_right _ _ refl))
+
+-- any other thread, also the one that forks or joins
+pub standing-not_forked : (trace : List Event) (by u : ThreadId) (i : ℕ) → (i ≡ u.0 → ⊥) → standing_in (trace ++ record { thread = by; kind = Fork u } ∷ []) i ≡ standing_in trace i
+standing-not_forked trace by u i differ =
+    let e : Event = record { thread = by; kind = Fork u } in
+    same_standing _ _ _ _ _ _ (status-same trace e i refl (and_right _ _ refl) (ne_eqb u.0 i (λ s. differ (sym s)))) (depth-same trace e i (and_right _ _ refl) (and_right _ _ refl)) (locks-same trace e i (and_right _ _ refl) (and_right _ _ refl))
+
+pub standing-not_joined : (trace : List Event) (by u : ThreadId) (i : ℕ) → (i ≡ u.0 → ⊥) → standing_in (trace ++ record { thread = by; kind = Join u } ∷ []) i ≡ standing_in trace i
+standing-not_joined trace by u i differ =
+    let e : Event = record { thread = by; kind = Join u } in
+    same_standing _ _ _ _ _ _ (status-same trace e i (ne_eqb u.0 i (λ s. differ (sym s))) (and_right _ _ refl) refl) (depth-same trace e i (and_right _ _ refl) (and_right _ _ refl)) (locks-same trace e i (and_right _ _ refl) (and_right _ _ refl))
+
+-- ---- the start
+
+pub standing-nil : (i : ℕ) → standing_in [] i ≡ record { status = (if i == 0 then Live else Unborn); depth = 0; locks = 0 }
+unfolding latest happened times
+standing-nil i = elim (i == 0) as (λ b. ◌≡◌ {A = Standing} (record { status = (if b || false then Live else Unborn); depth = 0; locks = 0 }) (record { status = (if b then Live else Unborn); depth = 0; locks = 0 })) [ true ↦ refl | false ↦ refl ]
+
+-- ---- no count wraps
+
+count_below-le : (n : ℕ) (test : ℕ → Bool) → count_below n test ≤ n
+unfolding count_below
+count_below-le zero test = omega arith
+count_below-le (suc n) test =
+    let last : cond {A = ℕ} (test n) 1 0 ≤ 1 = elim (test n) as (λ b. cond {A = ℕ} b 1 0 ≤ 1) [ true ↦ omega arith | false ↦ omega arith ] in
+    omega (arith, count_below-le n test, last)
+
+pub CountsFit-admitted : (bounds : Bounds) (trace : List Event) (by : ThreadId) (k : Kind) → Facts bounds (trace ++ record { thread = by; kind = k } ∷ []) → MayFollow bounds trace (record { thread = by; kind = k }) → CountsFit bounds.locks (standing_in trace by.0) k
+CountsFit-admitted bounds trace by (Acquire m) after f =
+    let e : Event = record { thread = by; kind = Acquire m } in
+    let few : held_by bounds (trace ++ e ∷ []) by.0 ≤ bounds.locks = count_below-le bounds.locks _ in
+    omega (arith, few, after.held by.0, times-yes (is_acquire_by by.0) trace e (and_from _ _ (eq-eqb _ _ refl) refl), times-no (is_release_by by.0) trace e (and_right _ _ refl))
+CountsFit-admitted bounds trace by (Release m) after f =
+    let e : Event = record { thread = by; kind = Release m } in
+    omega (arith, after.held by.0, times-no (is_acquire_by by.0) trace e (and_right _ _ refl), times-yes (is_release_by by.0) trace e (and_from _ _ (eq-eqb _ _ refl) refl))
+CountsFit-admitted bounds trace by (Begin label) after f = let turn = f.in_turn in omega (arith, turn)
+CountsFit-admitted bounds trace by End after f = let turn = f.in_turn in omega (arith, turn)
+CountsFit-admitted bounds trace by (Read x v) after f = tt
+CountsFit-admitted bounds trace by (Write x v) after f = tt
+CountsFit-admitted bounds trace by (Fork u) after f = tt
+CountsFit-admitted bounds trace by (Join u) after f = tt
+CountsFit-admitted bounds trace by Exit after f = tt
+
+pub CountsFit-more : (few most : ℕ) (own : Standing) (k : Kind) → few ≤ most → CountsFit few own k → CountsFit most own k
+CountsFit-more few most own (Acquire m) le room = omega (arith, le, room)
+CountsFit-more few most own (Release m) le room = room
+CountsFit-more few most own (Begin label) le room = room
+CountsFit-more few most own End le room = room
+CountsFit-more few most own (Read x v) le room = tt
+CountsFit-more few most own (Write x v) le room = tt
+CountsFit-more few most own (Fork u) le room = tt
+CountsFit-more few most own (Join u) le room = tt
+CountsFit-more few most own Exit le room = tt

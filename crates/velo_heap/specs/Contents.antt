@@ -1,0 +1,62 @@
+-- What a heap holds, the traces that it stands for, and what it answers by them.
+use Rattle.std.specs.Prelude.{◌≡◌, ℕ, ◌-◌, ◌<◌, List, length, slice_get, Option, Some, None, option_map, Result, Ok, Err}
+use Rattle.velo_events.specs.declared.config.Bounds.{Bounds}
+use Rattle.velo_events.specs.declared.event.ThreadId.{ThreadId}
+use Rattle.velo_events.specs.declared.event.Action.{Action}
+use Rattle.velo_events.specs.declared.event.Event.{Event}
+use Rattle.velo_events.specs.declared.refusal.Refusal.{Refusal}
+use Rattle.velo_events.specs.Event.{is_acquire_by, is_release_by}
+use Rattle.velo_events.specs.Heap.{times, value_in, holder_in, status_in, depth_in}
+use Rattle.velo_events.specs.WellFormed.{MayFollow, IsWellFormed}
+use Rattle.velo_events.specs.Meaning.{refusal_of, kind_for, event_for}
+use Rattle.velo_heap.specs.declared.standing.Standing.{Standing}
+
+-- the value of each variable, the holder of each lock, and how each thread stands
+pub record Contents : Type 0 where
+  pub values : List ℕ
+  pub holders : List (Option ThreadId)
+  pub threads : List Standing
+
+-- as many threads, variables and locks as the heap has
+abbrev pub bounds_of : Contents → Bounds
+bounds_of heap = record { threads = length heap.threads; variables = length heap.values; locks = length heap.holders }
+
+-- ---- the heap of a trace
+
+-- the item at each place i is f i
+pub record Tabulates {X : Type 0} (items : List X) (f : ℕ → X) : Type 0 where
+  pub each : (i : ℕ) → i < length items → slice_get items i ≡ Some (f i)
+
+abbrev pub thread_named : ℕ → ThreadId
+thread_named t = record { 0 = t }
+
+-- how many locks the thread holds: its acquires minus its releases
+abbrev pub locks_in : List Event → ℕ → ℕ
+locks_in trace t = times (is_acquire_by t) trace - times (is_release_by t) trace
+
+-- how the thread stands: its status, how many blocks it has open, how many locks it holds
+abbrev pub standing_in : List Event → ℕ → Standing
+standing_in trace t = record { status = status_in trace t; depth = depth_in trace t; locks = locks_in trace t }
+
+-- the heap is that of the trace, which can come about within the heap's bounds
+pub record StandsFor (heap : Contents) (trace : List Event) : Type 0 where
+  pub well_formed : IsWellFormed (bounds_of heap) trace
+  pub values : Tabulates heap.values (value_in trace)
+  pub holders : Tabulates heap.holders (λ m. option_map thread_named (holder_in trace m))
+  pub threads : Tabulates heap.threads (standing_in trace)
+
+-- ---- what the heap answers and takes
+
+abbrev pub unless_refused : Option Refusal → Event → Result Event Refusal
+unless_refused (Some refusal) event = Err refusal
+unless_refused None event = Ok event
+
+-- the first reason to refuse the action after the trace, or else its event
+abbrev pub admitted : Bounds → List Event → ThreadId → Action → Result Event Refusal
+admitted bounds trace t action = unless_refused (refusal_of bounds trace t.0 (kind_for trace action)) (event_for trace t action)
+
+-- the event was admitted: it may follow a trace that the heap stands for
+pub record IsAdmitted (heap : Contents) (event : Event) : Type 0 where
+  pub trace : List Event
+  pub stands : StandsFor heap trace
+  pub follows : MayFollow (bounds_of heap) trace event

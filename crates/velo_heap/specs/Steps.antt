@@ -1,0 +1,135 @@
+-- Which operations a heap's contents admit, and how these change. Words of private contracts.
+use Rattle.std.specs.Prelude.{ℕ, ◌+◌, ◌-◌, ◌<◌, ◌==◌, nat_le, not, if◌then◌else◌, List, length, get_or, slice_get, slice_set, Option, Some, None, Result, Ok, Err, ⊤}
+use Rattle.velo_events.specs.declared.event.ThreadId.{ThreadId}
+use Rattle.velo_events.specs.declared.event.VarId.{VarId}
+use Rattle.velo_events.specs.declared.event.LockId.{LockId}
+use Rattle.velo_events.specs.declared.event.Label.{Label}
+use Rattle.velo_events.specs.declared.event.Action.{Action}
+use Rattle.velo_events.specs.declared.event.Event.{Event}
+use Rattle.velo_events.specs.declared.event.Kind.{Kind}
+use Rattle.velo_events.specs.declared.event.Kind.TheVariants.{Read, Write, Acquire, Release, Begin, End, Fork, Join, Exit}
+use Rattle.velo_events.specs.declared.event.Status.{Status}
+use Rattle.velo_events.specs.declared.event.Status.TheVariants.{Unborn, Live, Exited, Joined}
+use Rattle.velo_events.specs.declared.refusal.Refusal.{Refusal}
+use Rattle.velo_events.specs.declared.refusal.Refusal.TheVariants.{NotLive, NoSuchVariable, NoSuchLock, NoSuchThread, Busy, AlreadyHeld, NotHolder, NoOpenBlock, TooDeep, AlreadyForked, NotForked, NotExited, AlreadyJoined, BlockOpen, LockHeld}
+use Rattle.velo_events.specs.Meaning.{is_live}
+use Rattle.velo_events.specs.WellFormed.{most_open_blocks, NamesKnown}
+use Rattle.velo_heap.specs.declared.standing.Standing.{Standing}
+use Rattle.velo_heap.specs.Contents.{Contents, bounds_of}
+
+-- ---- which operation is admitted, by what stands at the place that the action names
+
+abbrev pub read_at : VarId → Option ℕ → Result Kind Refusal
+read_at x (Some v) = Ok (Read x v)
+read_at x None = Err NoSuchVariable
+
+abbrev pub write_at : VarId → ℕ → Option ℕ → Result Kind Refusal
+write_at x v (Some old) = Ok (Write x v)
+write_at x v None = Err NoSuchVariable
+
+abbrev pub acquire_at : ThreadId → LockId → Option (Option ThreadId) → Result Kind Refusal
+acquire_at t m (Some (Some holder)) = if holder.0 == t.0 then Err AlreadyHeld else Err Busy
+acquire_at t m (Some None) = Ok (Acquire m)
+acquire_at t m None = Err NoSuchLock
+
+abbrev pub release_at : ThreadId → LockId → Option (Option ThreadId) → Result Kind Refusal
+release_at t m (Some (Some holder)) = if holder.0 == t.0 then Ok (Release m) else Err NotHolder
+release_at t m (Some None) = Err NotHolder
+release_at t m None = Err NoSuchLock
+
+abbrev pub fork_by : ThreadId → Status → Result Kind Refusal
+fork_by u Unborn = Ok (Fork u)
+fork_by u _ = Err AlreadyForked
+
+abbrev pub fork_at : ThreadId → Option Standing → Result Kind Refusal
+fork_at u (Some child) = fork_by u child.status
+fork_at u None = Err NoSuchThread
+
+abbrev pub join_by : ThreadId → Status → Result Kind Refusal
+join_by u Unborn = Err NotForked
+join_by u Live = Err NotExited
+join_by u Exited = Ok (Join u)
+join_by u Joined = Err AlreadyJoined
+
+abbrev pub join_at : ThreadId → Option Standing → Result Kind Refusal
+join_at u (Some child) = join_by u child.status
+join_at u None = Err NoSuchThread
+
+abbrev pub begin_in : Standing → Label → Result Kind Refusal
+begin_in own label = if nat_le most_open_blocks own.depth then Err TooDeep else Ok (Begin label)
+
+abbrev pub end_in : Standing → Result Kind Refusal
+end_in own = if own.depth == 0 then Err NoOpenBlock else Ok End
+
+abbrev pub exit_in : Standing → Result Kind Refusal
+exit_in own = if not (own.depth == 0) then Err BlockOpen else (if not (own.locks == 0) then Err LockHeld else Ok Exit)
+
+-- what a live thread may do
+abbrev pub live_kind : Contents → ThreadId → Standing → Action → Result Kind Refusal
+live_kind heap t own (Action.Read x) = read_at x (slice_get heap.values x.0)
+live_kind heap t own (Action.Write x v) = write_at x v (slice_get heap.values x.0)
+live_kind heap t own (Action.Acquire m) = acquire_at t m (slice_get heap.holders m.0)
+live_kind heap t own (Action.Release m) = release_at t m (slice_get heap.holders m.0)
+live_kind heap t own (Action.Begin label) = begin_in own label
+live_kind heap t own Action.End = end_in own
+live_kind heap t own (Action.Fork u) = fork_at u (slice_get heap.threads u.0)
+live_kind heap t own (Action.Join u) = join_at u (slice_get heap.threads u.0)
+live_kind heap t own Action.Exit = exit_in own
+
+abbrev pub kind_if_live : Contents → ThreadId → Option Standing → Action → Result Kind Refusal
+kind_if_live heap t (Some own) action = if is_live own.status then live_kind heap t own action else Err NotLive
+kind_if_live heap t None action = Err NotLive
+
+-- the operation of the action, or why it is refused
+abbrev pub kind_in : Contents → ThreadId → Action → Result Kind Refusal
+kind_in heap t action = kind_if_live heap t (slice_get heap.threads t.0) action
+
+-- ---- how an operation changes the contents
+
+-- the operation makes no count of the thread wrap, where a thread may hold so many locks
+abbrev pub CountsFit : ℕ → Standing → Kind → Type 0
+CountsFit most own (Acquire m) = own.locks < most
+CountsFit most own (Release m) = 0 < own.locks
+CountsFit most own (Begin label) = own.depth < most_open_blocks
+CountsFit most own End = 0 < own.depth
+CountsFit most own _ = ⊤
+
+-- a thread after its own operation
+abbrev pub standing_after : Standing → Kind → Standing
+standing_after own (Acquire m) = record own { locks = own.locks + 1 }
+standing_after own (Release m) = record own { locks = own.locks - 1 }
+standing_after own (Begin label) = record own { depth = own.depth + 1 }
+standing_after own End = record own { depth = own.depth - 1 }
+standing_after own Exit = record own { status = Exited }
+standing_after own _ = own
+
+abbrev pub unborn : Standing
+unborn = record { status = Unborn; depth = 0; locks = 0 }
+
+abbrev pub standing_at : List Standing → ℕ → Standing
+standing_at threads t = get_or threads t unborn
+
+abbrev pub with_status : List Standing → ℕ → Status → List Standing
+with_status threads t status = slice_set threads t (record (standing_at threads t) { status = status })
+
+-- the operation changes what it names
+abbrev pub named_after : Contents → ThreadId → Kind → Contents
+named_after heap t (Write x v) = record heap { values = slice_set heap.values x.0 v }
+named_after heap t (Acquire m) = record heap { holders = slice_set heap.holders m.0 (Some t) }
+named_after heap t (Release m) = record heap { holders = slice_set heap.holders m.0 None }
+named_after heap t (Fork u) = record heap { threads = with_status heap.threads u.0 Live }
+named_after heap t (Join u) = record heap { threads = with_status heap.threads u.0 Joined }
+named_after heap t _ = heap
+
+-- and it changes its own thread
+abbrev pub own_after : Contents → ThreadId → Kind → Contents
+own_after heap t kind = record heap { threads = slice_set heap.threads t.0 (standing_after (standing_at heap.threads t.0) kind) }
+
+abbrev pub contents_after : Contents → Event → Contents
+contents_after heap event = named_after (own_after heap event.thread event.kind) event.thread event.kind
+
+-- the operation fits the contents
+pub record CanChange (heap : Contents) (event : Event) : Type 0 where
+  pub thread : event.thread.0 < length heap.threads
+  pub names : NamesKnown (bounds_of heap) event.kind
+  pub room : CountsFit (length heap.holders) (standing_at heap.threads event.thread.0) event.kind

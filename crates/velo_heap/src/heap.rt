@@ -1,0 +1,219 @@
+ghost use Rattle.std.specs.Prelude.{◌≡◌, ◌<◌, [], ◌∷◌, ◌++◌, List, IfOk, option_map, length, slice_get};
+ghost use Rattle.velo_events.specs.declared.event.Event.{Event};
+ghost use Rattle.velo_events.specs.Heap.{value_in, holder_in, status_in, depth_in};
+ghost use Rattle.velo_heap.specs.Contents.{bounds_of, StandsFor, admitted, IsAdmitted};
+ghost use Rattle.velo_heap.specs.Steps.{read_at, write_at, acquire_at, release_at, fork_at, join_at, kind_in, contents_after, CanChange};
+
+use crate::standing::Standing;
+use std::alloc::Global;
+use std::marker::Model;
+use velo_events::{Action, Config, Event, Kind, LockId, Memory, Refusal, Status, ThreadId, VarId};
+
+/// The variables, locks and threads of a run as they stand.
+///
+/// A heap keeps no log. It stands for the trace of the events that were applied to it.
+#[derive(Drop)]
+pub struct Heap {
+    values: Vec<u64>,
+    holders: Vec<Option<ThreadId>>,
+    threads: Vec<Standing>,
+}
+
+impl Model for Heap {
+    ghost use Rattle.std.specs.Prelude.{◌≤◌, length};
+    ghost use Rattle.velo_heap.specs.Contents.{Contents};
+
+    ghost Value = { Contents };
+
+    ghost view = { λ h. record { values = h.values.items; holders = h.holders.items; threads = h.threads.items } };
+
+    // at most so many locks that the count of those that a thread holds never wraps
+    ghost invariant = { λ h. length h.holders.items ≤ 65535 };
+}
+
+impl Heap {
+    /// The heap at the start of a run: thread 0 is live and no other is born, all variables are 0, all locks are free.
+    ///
+    /// # Errors
+    /// `Memory` where a growth was refused. No later call takes memory.
+    pub fn new(alloc: Global, config: &Config) -> Result<Heap, Memory>
+        ensures bounds { IfOk result (λ h. bounds_of h ≡ config.now.bounds) }
+        ensures start { IfOk result (λ h. StandsFor h []) }
+    {
+        let bounds = config.bounds;
+        let values = vec![in alloc; 0; usize::from(bounds.variables)]?;
+        let holders = vec![in alloc; None; usize::from(bounds.locks)]?;
+        let mut threads = vec![in alloc; Standing::unborn(); usize::from(bounds.threads)]?;
+        threads[0].status = Status::Live;
+        Ok(Heap {
+            values,
+            holders,
+            threads,
+        })
+    }
+
+    /// The event that the action becomes if the thread does it now; a read's event has the variable's value.
+    ///
+    /// # Errors
+    /// The first refusal that applies, from `NotLive` (2) to `LockHeld` (16).
+    pub fn admit(&self, thread: ThreadId, action: Action) -> Result<Event, Refusal>
+        ensures { (trace : List Event) → StandsFor self.now trace →
+            result ≡ admitted (bounds_of self.now) trace thread action }
+    {
+        let kind = self.kind_for(thread, action)?;
+        Ok(Event { thread, kind })
+    }
+
+    /// Does an admitted event.
+    pub fn apply(&mut self, event: &Event)
+        requires { IsAdmitted self.old event.now }
+        ensures bounds { bounds_of self.new ≡ bounds_of self.old }
+        ensures next { (trace : List Event) → StandsFor self.old trace →
+            StandsFor self.new (trace ++ event.now ∷ []) }
+    {
+        self.change(*event);
+    }
+
+    /// The value of a variable.
+    pub fn value(&self, x: VarId) -> u64
+        requires { x.0 < (bounds_of self.now).variables }
+        ensures { (trace : List Event) → StandsFor self.now trace → result ≡ value_in trace x.0 }
+    {
+        let at = usize::from(x.0);
+        self.values[at]
+    }
+
+    /// The thread that holds a lock, or `None` where it is free.
+    pub fn holder(&self, m: LockId) -> Option<ThreadId>
+        requires { m.0 < (bounds_of self.now).locks }
+        ensures { (trace : List Event) → StandsFor self.now trace →
+            option_map (λ t. t.0) result ≡ holder_in trace m.0 }
+    {
+        let at = usize::from(m.0);
+        self.holders[at]
+    }
+
+    /// How far a thread has come.
+    pub fn status(&self, t: ThreadId) -> Status
+        requires { t.0 < (bounds_of self.now).threads }
+        ensures { (trace : List Event) → StandsFor self.now trace → result ≡ status_in trace t.0 }
+    {
+        let at = usize::from(t.0);
+        self.threads[at].status
+    }
+
+    /// How many blocks a thread has open, at most 32.
+    pub fn depth(&self, t: ThreadId) -> u8
+        requires { t.0 < (bounds_of self.now).threads }
+        ensures { (trace : List Event) → StandsFor self.now trace → result ≡ depth_in trace t.0 }
+    {
+        let at = usize::from(t.0);
+        self.threads[at].depth
+    }
+
+    /// The operation that the action becomes.
+    fn kind_for(&self, thread: ThreadId, action: Action) -> Result<Kind, Refusal>
+        ensures { result ≡ kind_in self.now thread action }
+    {
+        let Some(own) = self.threads.get(usize::from(thread.0)).copied() else {
+            return Err(Refusal::NotLive);
+        };
+        if !own.is_live() {
+            return Err(Refusal::NotLive);
+        }
+        match action {
+            Action::Read(x) => self.admit_read(x),
+            Action::Write(x, value) => self.admit_write(x, value),
+            Action::Acquire(m) => self.admit_acquire(thread, m),
+            Action::Release(m) => self.admit_release(thread, m),
+            Action::Begin(label) => own.admit_begin(label),
+            Action::End => own.admit_end(),
+            Action::Fork(u) => self.admit_fork(u),
+            Action::Join(u) => self.admit_join(u),
+            Action::Exit => own.admit_exit(),
+        }
+    }
+
+    fn admit_read(&self, x: VarId) -> Result<Kind, Refusal>
+        ensures { result ≡ read_at x (slice_get self.now.values x.0) }
+    {
+        match self.values.get(usize::from(x.0)).copied() {
+            Some(value) => Ok(Kind::Read(x, value)),
+            None => Err(Refusal::NoSuchVariable),
+        }
+    }
+
+    fn admit_write(&self, x: VarId, value: u64) -> Result<Kind, Refusal>
+        ensures { result ≡ write_at x value (slice_get self.now.values x.0) }
+    {
+        match self.values.get(usize::from(x.0)).copied() {
+            Some(_) => Ok(Kind::Write(x, value)),
+            None => Err(Refusal::NoSuchVariable),
+        }
+    }
+
+    fn admit_acquire(&self, thread: ThreadId, m: LockId) -> Result<Kind, Refusal>
+        ensures { result ≡ acquire_at thread m (slice_get self.now.holders m.0) }
+    {
+        match self.holders.get(usize::from(m.0)).copied() {
+            Some(None) => Ok(Kind::Acquire(m)),
+            Some(Some(holder)) => Err(if holder == thread {
+                Refusal::AlreadyHeld
+            } else {
+                Refusal::Busy
+            }),
+            None => Err(Refusal::NoSuchLock),
+        }
+    }
+
+    fn admit_release(&self, thread: ThreadId, m: LockId) -> Result<Kind, Refusal>
+        ensures { result ≡ release_at thread m (slice_get self.now.holders m.0) }
+    {
+        match self.holders.get(usize::from(m.0)).copied() {
+            Some(Some(holder)) => {
+                if holder == thread {
+                    Ok(Kind::Release(m))
+                } else {
+                    Err(Refusal::NotHolder)
+                }
+            }
+            Some(None) => Err(Refusal::NotHolder),
+            None => Err(Refusal::NoSuchLock),
+        }
+    }
+
+    fn admit_fork(&self, u: ThreadId) -> Result<Kind, Refusal>
+        ensures { result ≡ fork_at u (slice_get self.now.threads u.0) }
+    {
+        match self.threads.get(usize::from(u.0)).copied() {
+            Some(child) => child.admit_fork(u),
+            None => Err(Refusal::NoSuchThread),
+        }
+    }
+
+    fn admit_join(&self, u: ThreadId) -> Result<Kind, Refusal>
+        ensures { result ≡ join_at u (slice_get self.now.threads u.0) }
+    {
+        match self.threads.get(usize::from(u.0)).copied() {
+            Some(child) => child.admit_join(u),
+            None => Err(Refusal::NoSuchThread),
+        }
+    }
+
+    /// Changes what the event names, and its thread.
+    fn change(&mut self, event: Event)
+        requires { CanChange self.old event }
+        ensures { self.new ≡ contents_after self.old event }
+    {
+        let own = usize::from(event.thread.0);
+        self.threads[own] = self.threads[own].after(event.kind);
+        match event.kind {
+            Kind::Write(x, value) => self.values[usize::from(x.0)] = value,
+            Kind::Acquire(m) => self.holders[usize::from(m.0)] = Some(event.thread),
+            Kind::Release(m) => self.holders[usize::from(m.0)] = None,
+            Kind::Fork(u) => self.threads[usize::from(u.0)].status = Status::Live,
+            Kind::Join(u) => self.threads[usize::from(u.0)].status = Status::Joined,
+            Kind::Read(..) | Kind::Begin(_) | Kind::End | Kind::Exit => {}
+        }
+    }
+}

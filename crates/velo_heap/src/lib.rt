@@ -1,0 +1,11 @@
+//! The shared heap of monitored threads: what an action may do, and what its event changes.
+#![tactic(auto)]
+
+mod heap;
+mod standing;
+
+pub use heap::Heap;
+pub use velo_events::Status;
+
+#[cfg(test)]
+mod tests;

@@ -1,0 +1,121 @@
+ghost use Rattle.std.specs.Prelude.{◌≡◌};
+ghost use Rattle.velo_events.specs.Meaning.{is_live};
+ghost use Rattle.velo_heap.specs.Steps.{CountsFit, standing_after, begin_in, end_in, exit_in, fork_by, join_by, unborn};
+
+use velo_events::{Kind, Label, Refusal, Status, ThreadId};
+
+/// How many blocks a thread may have open.
+const MOST_OPEN_BLOCKS: u8 = 32;
+
+/// How one thread stands.
+#[derive(Clone, Copy)]
+pub struct Standing {
+    pub status: Status,
+    /// How many blocks it has open.
+    pub depth: u8,
+    /// How many locks it holds.
+    pub locks: u16,
+}
+
+impl Standing {
+    /// A thread that nobody has forked yet.
+    pub fn unborn() -> Standing
+        ensures { result ≡ unborn }
+    {
+        Standing {
+            status: Status::Unborn,
+            depth: 0,
+            locks: 0,
+        }
+    }
+
+    pub fn is_live(self) -> bool
+        ensures { result ≡ is_live self.status }
+    {
+        matches!(self.status, Status::Live)
+    }
+
+    pub fn admit_begin(self, label: Label) -> Result<Kind, Refusal>
+        ensures { result ≡ begin_in self label }
+    {
+        if self.depth >= MOST_OPEN_BLOCKS {
+            Err(Refusal::TooDeep)
+        } else {
+            Ok(Kind::Begin(label))
+        }
+    }
+
+    pub fn admit_end(self) -> Result<Kind, Refusal>
+        ensures { result ≡ end_in self }
+    {
+        if self.depth == 0 {
+            Err(Refusal::NoOpenBlock)
+        } else {
+            Ok(Kind::End)
+        }
+    }
+
+    pub fn admit_exit(self) -> Result<Kind, Refusal>
+        ensures { result ≡ exit_in self }
+    {
+        if self.depth != 0 {
+            Err(Refusal::BlockOpen)
+        } else if self.locks != 0 {
+            Err(Refusal::LockHeld)
+        } else {
+            Ok(Kind::Exit)
+        }
+    }
+
+    /// The fork of this thread, whose number is `u`.
+    pub fn admit_fork(self, u: ThreadId) -> Result<Kind, Refusal>
+        ensures { result ≡ fork_by u self.status }
+    {
+        match self.status {
+            Status::Unborn => Ok(Kind::Fork(u)),
+            Status::Live | Status::Exited | Status::Joined => Err(Refusal::AlreadyForked),
+        }
+    }
+
+    /// The join of this thread, whose number is `u`.
+    pub fn admit_join(self, u: ThreadId) -> Result<Kind, Refusal>
+        ensures { result ≡ join_by u self.status }
+    {
+        match self.status {
+            Status::Unborn => Err(Refusal::NotForked),
+            Status::Live => Err(Refusal::NotExited),
+            Status::Exited => Ok(Kind::Join(u)),
+            Status::Joined => Err(Refusal::AlreadyJoined),
+        }
+    }
+
+    /// The thread after its own operation.
+    pub fn after(self, kind: Kind) -> Standing
+        requires { CountsFit 65535 self kind }
+        ensures { result ≡ standing_after self kind }
+    {
+        match kind {
+            Kind::Acquire(_) => Standing {
+                locks: self.locks + 1,
+                ..self
+            },
+            Kind::Release(_) => Standing {
+                locks: self.locks - 1,
+                ..self
+            },
+            Kind::Begin(_) => Standing {
+                depth: self.depth + 1,
+                ..self
+            },
+            Kind::End => Standing {
+                depth: self.depth - 1,
+                ..self
+            },
+            Kind::Exit => Standing {
+                status: Status::Exited,
+                ..self
+            },
+            Kind::Read(..) | Kind::Write(..) | Kind::Fork(_) | Kind::Join(_) => self,
+        }
+    }
+}

@@ -1,0 +1,35 @@
+-- What it is for shares to fit a book.
+use Rattle.std.specs.Prelude.{◌≡◌, ◌<◌, ◌≤◌, ℕ, MatchOption, List, length, Option, Some, slice_get, slice_set, replicate}
+use Rattle.velo_events.specs.declared.event.ThreadId.{ThreadId}
+use Rattle.velo_ledger.specs.declared.tally.Tally.{Tally}
+use Rattle.velo_ledger.specs.Tally.{blank}
+use Rattle.velo_ledger.specs.Views.{Accounts, Holding}
+
+-- a book without events
+abbrev pub opening_accounts : ℕ → ℕ → Accounts
+opening_accounts run threads = record { run = run; rows = replicate threads blank }
+
+-- the book with another row of the thread, and the share with another tally
+abbrev pub with_row : Accounts → ThreadId → Tally → Accounts
+with_row book t tally = record book { rows = slice_set book.rows t.0 tally }
+
+abbrev pub with_tally : Holding → Tally → Holding
+with_tally share tally = record share { tally = tally }
+
+-- the share is of the book's run and of one of its threads, and has all five numbers of the row
+pub record Fits (book : Accounts) (share : Holding) : Type 0 where
+  pub run : share.run ≡ book.run
+  pub row : slice_get book.rows share.thread.0 ≡ Some share.tally
+
+-- no share is missing at the place, and the share fits
+abbrev pub PlaceFits : Accounts → ℕ → Option Holding → Type 0
+PlaceFits book t place = MatchOption place (length book.rows ≤ t) (Fits book)
+
+-- the place has a share
+abbrev pub IsFilled : List (Option Holding) → ℕ → Type 0
+IsFilled places t = (share : Holding) × (slice_get places t ≡ Some (Some share))
+
+-- the share of each thread is there, and all shares fit
+pub record IsComplete (book : Accounts) (places : List (Option Holding)) : Type 0 where
+  pub there : (t : ℕ) → t < length book.rows → IsFilled places t
+  pub fit : (t : ℕ) (share : Holding) → slice_get places t ≡ Some (Some share) → Fits book share

@@ -1,0 +1,5 @@
+pub mod Tally
+pub mod Views
+pub mod Shares
+pub mod Book
+pub mod Logs

@@ -1,0 +1,116 @@
+ghost use Rattle.std.specs.Prelude.{◌≡◌, ◌<◌, ◌≤◌, ◌↔◌, Some, IfOk, IfSome, IsTrue, length, slice_get, sum_by};
+ghost use Rattle.std.specs.Option.{SomeIff};
+ghost use Rattle.velo_ledger.specs.Tally.{entered};
+ghost use Rattle.velo_ledger.specs.Shares.{AreOpening, events_in, events_in_all};
+ghost use Rattle.velo_ledger.specs.Book.{Fits, PlaceFits, IsComplete, with_row, with_tally, opening_accounts};
+
+use crate::share::Share;
+use crate::shares::Shares;
+use crate::tally::Tally;
+use std::alloc::Global;
+use std::marker::Model;
+use velo_events::{Event, Memory, ThreadId};
+
+/// A row for each thread of a run.
+#[derive(Drop)]
+pub struct Book {
+    run: u64,
+    rows: Vec<Tally>,
+}
+
+impl Model for Book {
+    ghost use Rattle.std.specs.Prelude.{◌≤◌, All, length};
+    ghost use Rattle.velo_ledger.specs.Views.{Accounts};
+    ghost use Rattle.velo_ledger.specs.Tally.{IsSmall};
+
+    ghost Value = { Accounts };
+
+    ghost view = { λ book. record { run = book.run; rows = book.rows.items } };
+
+    ghost invariant = { λ book. (length book.rows.items ≤ 255) × All IsSmall book.rows.items };
+}
+
+impl Book {
+    /// A book without events, and a fitting share of each of its threads.
+    pub fn open(alloc: Global, run: u64, threads: u8) -> Result<(Book, Shares), Memory>
+        ensures book { IfOk result (λ opened. opened.0 ≡ opening_accounts run threads) }
+        ensures shares { IfOk result (λ opened. AreOpening run threads opened.1) }
+        ensures fit { IfOk result (λ opened. IsComplete opened.0 opened.1) }
+    {
+        let mut rows: Vec<Tally> = Vec::new(alloc);
+        rows.reserve(usize::from(threads))?;
+        let mut places: Vec<Option<Share>> = Vec::new(alloc);
+        places.reserve(usize::from(threads))?;
+        for thread in 0..threads {
+            rows.push_reserved(Tally::blank());
+            places.push_reserved(Some(Share {
+                run,
+                thread: ThreadId(thread),
+                tally: Tally::blank(),
+            }));
+        }
+        Ok((Book { run, rows }, Shares { places }))
+    }
+
+    /// The row of a thread of the book.
+    pub fn tally(&self, thread: ThreadId) -> Tally
+        requires { thread.0 < length self.now.rows }
+        ensures { slice_get self.now.rows thread.0 ≡ Some result }
+    {
+        self.rows[usize::from(thread.0)]
+    }
+
+    /// Whether the share is of this run and of a thread of the book, and says what the row says.
+    pub fn fits(&self, share: &Share) -> bool
+        ensures { IsTrue result ↔ Fits self.now share.now }
+    {
+        let place = usize::from(share.thread.0);
+        if self.run != share.run || place >= self.rows.len() {
+            return false;
+        }
+        self.rows[place].is_same(&share.tally)
+    }
+
+    /// Adds an event to the row and to the share of its thread.
+    pub fn enter(&mut self, share: &mut Share, position: usize, event: &Event)
+        requires fits { Fits self.old share.old }
+        requires thread { event.now.thread ≡ share.old.thread }
+        requires later { share.old.tally.next ≤ position }
+        requires room { position < 16777216 }
+        ensures book { self.new ≡ with_row self.old share.old.thread (entered share.old.tally position event.now) }
+        ensures share { share.new ≡ with_tally share.old (entered share.old.tally position event.now) }
+        ensures fit { Fits self.new share.new }
+    {
+        let place = usize::from(share.thread.0);
+        let row = self.rows[place].entered(position as u64, event);
+        self.rows[place] = row;
+        share.tally = row;
+    }
+
+    /// The events that the place counts, where no share is missing there and the share fits.
+    fn events_at(&self, place: usize, share: &Option<Share>) -> Option<u64>
+        ensures sum { SomeIff result (PlaceFits self.now place share.now) (events_in share.now) }
+        ensures few { IfSome result (λ events. events ≤ 16777216) }
+    {
+        match share {
+            Some(share) if self.fits(share) => Some(share.tally.events),
+            None if place >= self.rows.len() => Some(0),
+            _ => None,
+        }
+    }
+}
+
+/// The sum of the shares' events, where the share of each thread is there and all fit.
+pub fn gather(book: &Book, shares: &Shares) -> Option<u64>
+    ensures sum { SomeIff result (IsComplete book.now shares.now) (events_in_all shares.now) }
+    ensures rows { IfSome result (λ events. events ≡ sum_by (λ row. row.events) book.now.rows) }
+{
+    if shares.places.len() < book.rows.len() {
+        return None;
+    }
+    let mut sum = 0;
+    for place in 0..shares.places.len() {
+        sum += book.events_at(place, &shares.places[place])?;
+    }
+    Some(sum)
+}

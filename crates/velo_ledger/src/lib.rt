@@ -1,0 +1,14 @@
+//! A book with a row for each thread of a run, and the shares that tell each thread what its row says.
+#![tactic(auto)]
+
+mod book;
+mod share;
+mod shares;
+mod tally;
+#[cfg(test)]
+mod tests;
+
+pub use book::{Book, gather};
+pub use share::Share;
+pub use shares::Shares;
+pub use tally::Tally;

@@ -1,0 +1,96 @@
+ghost use Rattle.std.specs.Prelude.{◌≡◌, ◌<◌, ◌↔◌, IsTrue};
+
+use velo_events::{Event, Kind};
+
+/// What the events of one thread come to.
+#[derive(Clone, Copy, Debug, PartialEq, Eq)]
+pub struct Tally {
+    /// How many events there are.
+    pub events: u64,
+    /// The position of the last event plus one, or 0.
+    pub next: u64,
+    /// The last event.
+    pub last: Option<Event>,
+    /// The sum of the values that were read.
+    pub read_total: u128,
+    /// The sum of the values that were written.
+    pub written_total: u128,
+}
+
+ghost use Rattle.velo_ledger.specs.Tally.{blank, entered, IsSmall, read_by, written_by};
+
+impl Tally {
+    /// The tally of no event.
+    pub(crate) fn blank() -> Tally
+        ensures { result ≡ blank }
+    {
+        Tally {
+            events: 0,
+            next: 0,
+            last: None,
+            read_total: 0,
+            written_total: 0,
+        }
+    }
+
+    /// The tally with one event more.
+    pub(crate) fn entered(&self, position: u64, event: &Event) -> Tally
+        requires small { IsSmall self.now }
+        requires room { position < 16777216 }
+        ensures { result ≡ entered self.now position event.now }
+    {
+        let (read, written) = amounts(&event.kind);
+        Tally {
+            events: self.events + 1,
+            next: position + 1,
+            last: Some(*event),
+            read_total: self.read_total + u128::from(read),
+            written_total: self.written_total + u128::from(written),
+        }
+    }
+
+    /// Whether all five numbers are the same.
+    pub(crate) fn is_same(&self, other: &Tally) -> bool
+        ensures { IsTrue result ↔ (self.now ≡ other.now) }
+    {
+        self.events == other.events
+            && self.next == other.next
+            && is_same_last(&self.last, &other.last)
+            && self.read_total == other.read_total
+            && self.written_total == other.written_total
+    }
+}
+
+/// What an operation reads, and what it writes.
+fn amounts(kind: &Kind) -> (u64, u64)
+    ensures read { result.0 ≡ read_by kind.now }
+    ensures written { result.1 ≡ written_by kind.now }
+{
+    match *kind {
+        Kind::Read(_, value) => (value, 0),
+        Kind::Write(_, value) => (0, value),
+        _ => (0, 0),
+    }
+}
+
+fn is_same_last(a: &Option<Event>, b: &Option<Event>) -> bool
+    ensures { IsTrue result ↔ (a.now ≡ b.now) }
+{
+    match (a, b) {
+        (None, None) => true,
+        (Some(a), Some(b)) => is_same_event(a, b),
+        _ => false,
+    }
+}
+
+fn is_same_event(a: &Event, b: &Event) -> bool
+    ensures { IsTrue result ↔ (a.now ≡ b.now) }
+{
+    a.thread == b.thread && is_same_kind(&a.kind, &b.kind)
+}
+
+fn is_same_kind(a: &Kind, b: &Kind) -> bool
+    ensures { IsTrue result ↔ (a.now ≡ b.now) }
+{
+    *a == *b
+}

@@ -1,0 +1,127 @@
+use crate::{Book, Shares, Tally, gather};
+use std::process::Abort;
+use std::test::Fail;
+use velo_events::{Event, Kind, Label, ThreadId, VarId};
+
+const X: VarId = VarId(0);
+
+const fn by(thread: u8, kind: Kind) -> Event {
+    Event {
+        thread: ThreadId(thread),
+        kind,
+    }
+}
+
+/// Enters the event by the share of its thread.
+fn enter(
+    rt: &impl Abort,
+    book: &mut Book,
+    shares: &mut Shares,
+    position: usize,
+    event: &Event,
+) -> Result<(), Fail> {
+    let mut share = shares.take(event.thread).ok_or("no share")?;
+    assert!(rt; book.fits(&share));
+    assert!(rt; share.next() <= position as u64 && position < 16_777_216);
+    book.enter(&mut share, position, event);
+    assert!(rt; shares.put(share).is_ok());
+    Ok(())
+}
+
+/// The row of a thread, which is also what its share says.
+fn row(rt: &impl Abort, book: &Book, shares: &Shares, thread: u8) -> Result<Tally, Fail> {
+    let share = shares.get(ThreadId(thread)).ok_or("no share")?;
+    assert!(rt; book.fits(share));
+    let row = book.tally(share.thread());
+    assert_eq!(rt; share.events(), row.events);
+    assert_eq!(rt; share.next(), row.next);
+    assert_eq!(rt; share.last(), row.last);
+    assert_eq!(rt; share.read_total(), row.read_total);
+    assert_eq!(rt; share.written_total(), row.written_total);
+    Ok(row)
+}
+
+fn tally(events: u64, next: u64, last: Event, read_total: u128, written_total: u128) -> Tally {
+    Tally {
+        events,
+        next,
+        last: Some(last),
+        read_total,
+        written_total,
+    }
+}
+
+#[test]
+fn counts_the_events_of_two_threads(rt: HostRuntime) -> Result<(), Fail> {
+    let events = [
+        by(0, Kind::Fork(ThreadId(1))),
+        by(0, Kind::Begin(Label(0))),
+        by(0, Kind::Read(X, 0)),
+        by(1, Kind::Write(X, 5)),
+        by(0, Kind::Write(X, 1)),
+        by(0, Kind::End),
+        by(1, Kind::Exit),
+        by(0, Kind::Join(ThreadId(1))),
+        by(0, Kind::Exit),
+    ];
+    let (mut book, mut shares) = Book::open(rt.alloc(), 7, 2)?;
+    for (position, event) in events.iter().enumerate() {
+        enter(&rt, &mut book, &mut shares, position, event)?;
+        if position == 4 {
+            let fifth = tally(4, 5, by(0, Kind::Write(X, 1)), 0, 1);
+            assert_eq!(rt; row(&rt, &book, &shares, 0)?, fifth);
+            let fourth = tally(1, 4, by(1, Kind::Write(X, 5)), 0, 5);
+            assert_eq!(rt; row(&rt, &book, &shares, 1)?, fourth);
+        }
+    }
+    let first = tally(7, 9, by(0, Kind::Exit), 0, 1);
+    assert_eq!(rt; row(&rt, &book, &shares, 0)?, first);
+    let second = tally(2, 7, by(1, Kind::Exit), 0, 5);
+    assert_eq!(rt; row(&rt, &book, &shares, 1)?, second);
+    assert_eq!(rt; gather(&book, &shares), Some(9));
+    Ok(())
+}
+
+#[test]
+fn foreign_shares_do_not_fit(rt: HostRuntime) -> Result<(), Fail> {
+    let (mut book, mut shares) = Book::open(rt.alloc(), 7, 2)?;
+    let (_, of_another_run) = Book::open(rt.alloc(), 8, 2)?;
+    let (_, of_another_book) = Book::open(rt.alloc(), 7, 3)?;
+    enter(&rt, &mut book, &mut shares, 0, &by(0, Kind::Read(X, 0)))?;
+    for (foreign, thread, fits) in [
+        (&shares, 0, true),
+        (&of_another_run, 0, false),
+        (&of_another_run, 1, false),
+        (&of_another_book, 0, false),
+        (&of_another_book, 1, true),
+        (&of_another_book, 2, false),
+    ] {
+        let share = foreign.get(ThreadId(thread)).ok_or("no share")?;
+        assert_eq!(rt; book.fits(share), fits, "of thread {thread}");
+    }
+    assert_eq!(rt; gather(&book, &of_another_run), None);
+    assert_eq!(rt; gather(&book, &of_another_book), None);
+    assert_eq!(rt; gather(&book, &shares), Some(1));
+    Ok(())
+}
+
+#[test]
+fn a_place_takes_one_share(rt: HostRuntime) -> Result<(), Fail> {
+    let (book, mut shares) = Book::open(rt.alloc(), 7, 2)?;
+    let (_, mut others) = Book::open(rt.alloc(), 8, 2)?;
+    let mut empty = Shares::none(rt.alloc(), 1)?;
+
+    let first = shares.take(ThreadId(0)).ok_or("no share")?;
+    assert!(rt; shares.take(ThreadId(0)).is_none());
+    assert!(rt; shares.take(ThreadId(2)).is_none());
+    assert_eq!(rt; gather(&book, &shares), None);
+    let back = others.put(first).err().ok_or("two shares at one place")?;
+    assert_eq!(rt; (back.run(), back.thread()), (7, ThreadId(0)));
+    assert!(rt; shares.put(back).is_ok());
+    assert_eq!(rt; gather(&book, &shares), Some(0));
+
+    let second = shares.take(ThreadId(1)).ok_or("no share")?;
+    assert!(rt; empty.put(second).is_err());
+    assert!(rt; empty.get(ThreadId(0)).is_none());
+    Ok(())
+}

@@ -1,0 +1,5 @@
+pub mod Device
+pub mod Text
+pub mod Finding
+pub mod Reading
+pub mod Window

@@ -1,0 +1,49 @@
+//! Why a log could not be read or written.
+ghost use Rattle.std.specs.Prelude.{◌≡◌};
+
+use crate::device::Failed;
+use thiserror::Error;
+
+/// Why a log could not be read. Lines are counted from 1, the header's.
+#[derive(Clone, Copy, Debug, PartialEq, Eq, Error)]
+pub enum LogFault {
+    /// The first line is no header, or it has no newline.
+    #[error("bad header")]
+    BadHeader,
+    /// This line is no event's, though its newline or more than 64 bytes of it are there.
+    #[error("bad line {0}")]
+    BadLine(usize),
+    /// The input ends within this line, after 1 to 64 bytes of it.
+    #[error("line {0} is cut off")]
+    Truncated(usize),
+    /// A byte stands after the 16,777,216th event's line.
+    #[error("too many events")]
+    TooLong,
+    /// The source failed in this call.
+    #[error("read failed")]
+    Read,
+    /// A growth was refused in this call.
+    #[error("out of memory")]
+    Memory,
+}
+
+/// The sink failed in this call.
+#[derive(Clone, Copy, Debug, PartialEq, Eq, Error)]
+#[error("write failed")]
+pub struct WriteFault;
+
+impl From<Failed> for LogFault {
+    ghost use Rattle.velo_logtext.specs.declared.fault.LogFault.TheVariants.{Read};
+
+    ghost from_gives = { λ _ e. e ≡ Read };
+
+    fn from(_failed: Failed) -> LogFault {
+        LogFault::Read
+    }
+}
+
+impl From<Failed> for WriteFault {
+    fn from(_failed: Failed) -> WriteFault {
+        WriteFault
+    }
+}

@@ -1,0 +1,26 @@
+//! The text of a log: reading it from a source of bytes, and writing it to a sink.
+#![tactic(auto)]
+
+mod adapters;
+mod device;
+mod fault;
+mod laws;
+mod lines;
+mod memory_sink;
+mod memory_source;
+mod numbers;
+mod read;
+mod words;
+mod write;
+
+pub use adapters::{ReaderSource, WriterSink};
+pub use device::{Failed, Sink, Source, write_all};
+pub use fault::{LogFault, WriteFault};
+pub use laws::{one_finding, one_text};
+pub use memory_sink::Text;
+pub use memory_source::Bytes;
+pub use read::read_log;
+pub use write::write_log;
+
+#[cfg(test)]
+mod tests;

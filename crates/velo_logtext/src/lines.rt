@@ -1,0 +1,122 @@
+//! The lines of a log, read from the front of bytes.
+ghost use Rattle.std.specs.Prelude.{◌≡◌, option_map};
+ghost use Rattle.velo_logtext.specs.Reading.{access_at, thread_kind_at, block_kind_at, lock_kind_at, kind_at, event_at, header_at};
+
+use crate::numbers::{number, spaced_number};
+use crate::words::after;
+use velo_events::{Bounds, Event, Kind, Label, LockId, ThreadId, VarId};
+
+/// A variable and a value.
+#[inline(always)]
+#[tactic(auto, unfolding(crate::specs::Reading::access_at))]
+fn access(bytes: &[u8]) -> Option<(VarId, u64, &[u8])>
+    ensures { option_map (λ r. ((r.0.0, r.1), r.2.now)) result ≡ access_at bytes.now }
+{
+    let (x, rest) = number(bytes, 65_535)?;
+    let rest = after(rest, b" ")?;
+    let (value, rest) = number(rest, u64::MAX)?;
+    Some((VarId(x as u16), value, rest))
+}
+
+/// A fork, a join or an exit.
+#[inline(always)]
+#[tactic(auto, unfolding(crate::specs::Reading::thread_kind_at))]
+fn thread_kind(bytes: &[u8]) -> Option<(Kind, &[u8])>
+    ensures { option_map (λ r. (r.0, r.1.now)) result ≡ thread_kind_at bytes.now }
+{
+    if let Some(rest) = after(bytes, b"fork ") {
+        let (u, rest) = number(rest, 255)?;
+        return Some((Kind::Fork(ThreadId(u as u8)), rest));
+    }
+    if let Some(rest) = after(bytes, b"join ") {
+        let (u, rest) = number(rest, 255)?;
+        return Some((Kind::Join(ThreadId(u as u8)), rest));
+    }
+    let rest = after(bytes, b"exit")?;
+    Some((Kind::Exit, rest))
+}
+
+/// A begin or an end, or one of the above.
+#[inline(always)]
+#[tactic(auto, unfolding(crate::specs::Reading::block_kind_at))]
+fn block_kind(bytes: &[u8]) -> Option<(Kind, &[u8])>
+    ensures { option_map (λ r. (r.0, r.1.now)) result ≡ block_kind_at bytes.now }
+{
+    if let Some(rest) = after(bytes, b"begin ") {
+        let (label, rest) = number(rest, 4_294_967_295)?;
+        return Some((Kind::Begin(Label(label as u32)), rest));
+    }
+    if let Some(rest) = after(bytes, b"end") {
+        return Some((Kind::End, rest));
+    }
+    thread_kind(bytes)
+}
+
+/// An acquire or a release, or one of the above.
+#[inline(always)]
+#[tactic(auto, unfolding(crate::specs::Reading::lock_kind_at))]
+fn lock_kind(bytes: &[u8]) -> Option<(Kind, &[u8])>
+    ensures { option_map (λ r. (r.0, r.1.now)) result ≡ lock_kind_at bytes.now }
+{
+    if let Some(rest) = after(bytes, b"acq ") {
+        let (m, rest) = number(rest, 65_535)?;
+        return Some((Kind::Acquire(LockId(m as u16)), rest));
+    }
+    if let Some(rest) = after(bytes, b"rel ") {
+        let (m, rest) = number(rest, 65_535)?;
+        return Some((Kind::Release(LockId(m as u16)), rest));
+    }
+    block_kind(bytes)
+}
+
+/// Any operation.
+#[inline(always)]
+#[tactic(auto, unfolding(crate::specs::Reading::kind_at))]
+fn kind(bytes: &[u8]) -> Option<(Kind, &[u8])>
+    ensures { option_map (λ r. (r.0, r.1.now)) result ≡ kind_at bytes.now }
+{
+    if let Some(rest) = after(bytes, b"rd ") {
+        let (x, value, rest) = access(rest)?;
+        return Some((Kind::Read(x, value), rest));
+    }
+    if let Some(rest) = after(bytes, b"wr ") {
+        let (x, value, rest) = access(rest)?;
+        return Some((Kind::Write(x, value), rest));
+    }
+    lock_kind(bytes)
+}
+
+/// The event whose line stands at the front, and the bytes after its newline.
+#[inline(always)]
+#[tactic(auto, unfolding(crate::specs::Reading::event_at))]
+pub fn event(bytes: &[u8]) -> Option<(Event, &[u8])>
+    ensures { option_map (λ r. (r.0, r.1.now)) result ≡ event_at bytes.now }
+{
+    let (t, rest) = number(bytes, 255)?;
+    let rest = after(rest, b" ")?;
+    let (kind, rest) = kind(rest)?;
+    let next = after(rest, b"\n")?;
+    let thread = ThreadId(t as u8);
+    Some((Event { thread, kind }, next))
+}
+
+/// The bounds whose header stands at the front, and the bytes after its newline.
+#[tactic(auto, unfolding(crate::specs::Reading::header_at))]
+pub fn header(bytes: &[u8]) -> Option<(Bounds, &[u8])>
+    ensures { option_map (λ r. (r.0, r.1.now)) result ≡ header_at bytes.now }
+{
+    let rest = after(bytes, b"vlog 1 ")?;
+    let (threads, rest) = spaced_number(rest, 64)?;
+    let (variables, rest) = spaced_number(rest, 65_535)?;
+    let (locks, rest) = number(rest, 4096)?;
+    let rest = after(rest, b"\n")?;
+    if threads == 0 {
+        return None;
+    }
+    let bounds = Bounds {
+        threads: threads as u8,
+        variables: variables as u16,
+        locks: locks as u16,
+    };
+    Some((bounds, rest))
+}

@@ -1,0 +1,54 @@
+//! Decimal numbers without leading zeros.
+ghost use Rattle.std.specs.Prelude.{◌≡◌, ◌≤◌, ◌<◌, option_map, IfSome};
+ghost use Rattle.velo_logtext.specs.Reading.{digits_on, number_at, spaced_number_at};
+
+use crate::words::after;
+
+/// The digits that go on a number that is not 0, up to `most`.
+#[inline(always)]
+fn digits(start: u64, bytes: &[u8], most: u64) -> Option<(u64, &[u8])>
+    requires { start ≤ most }
+    ensures value { option_map (λ r. (r.0, r.1.now)) result ≡ digits_on most start bytes.now }
+    ensures bound { IfSome result (λ r. r.0 ≤ most) }
+{
+    let mut value = start;
+    for (i, byte) in bytes.iter().enumerate() {
+        if !byte.is_ascii_digit() {
+            return Some((value, &bytes[i..]));
+        }
+        let digit = u64::from(*byte - b'0');
+        if value > most / 10 || digit > most - value * 10 {
+            return None;
+        }
+        value = value * 10 + digit;
+    }
+    Some((value, &bytes[bytes.len()..]))
+}
+
+/// The number at the front, up to `most`, and the bytes after it.
+#[inline(always)]
+pub fn number(bytes: &[u8], most: u64) -> Option<(u64, &[u8])>
+    requires { 9 ≤ most }
+    ensures value { option_map (λ r. (r.0, r.1.now)) result ≡ number_at most bytes.now }
+    ensures bound { IfSome result (λ r. r.0 ≤ most) }
+{
+    let (first, rest) = bytes.split_first()?;
+    if *first == b'0' {
+        return Some((0, rest));
+    }
+    if !first.is_ascii_digit() {
+        return None;
+    }
+    digits(u64::from(*first - b'0'), rest, most)
+}
+
+/// The number at the front and the space behind it.
+pub fn spaced_number(bytes: &[u8], most: u64) -> Option<(u64, &[u8])>
+    requires { 9 ≤ most }
+    ensures value { option_map (λ r. (r.0, r.1.now)) result ≡ spaced_number_at most bytes.now }
+    ensures bound { IfSome result (λ r. r.0 ≤ most) }
+{
+    let (value, rest) = number(bytes, most)?;
+    let rest = after(rest, b" ")?;
+    Some((value, rest))
+}

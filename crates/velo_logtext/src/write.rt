@@ -1,0 +1,129 @@
+//! Writing a log to a sink.
+ghost use Rattle.std.specs.Prelude.{◌≡◌, ◌≤◌, ◌+◌, ◌++◌, length, take, decimal, OnOk, OnErr};
+ghost use Rattle.std.specs.Io.KnownBytes.{Appends};
+ghost use Rattle.velo_logtext.specs.Device.{one_more, AppendsBeginning};
+ghost use Rattle.velo_logtext.specs.Text.{AreBounds, IsEvent, IsLogText, kind_text, event_line, header_line, log_text};
+
+use crate::device::{Sink, write_all};
+use crate::fault::WriteFault;
+use itoa::Buffer;
+use velo_events::{Bounds, Event, Kind};
+use velo_traces::Trace;
+
+/// How many bytes are gathered before they are written.
+const ROOM: usize = 65_536;
+
+/// Room that is enough for a line.
+const LINE_ROOM: usize = 90;
+
+/// Puts bytes at a place of the buffer, and answers the place behind them.
+fn put(buffer: &mut [u8], at: usize, bytes: &[u8]) -> usize
+    requires { at + length bytes.now ≤ length buffer.old }
+    ensures text { take result buffer.new ≡ take at buffer.old ++ bytes.now }
+    ensures end { result ≡ at + length bytes.now }
+{
+    let end = at + bytes.len();
+    buffer[at..end].copy_from_slice(bytes);
+    end
+}
+
+/// Puts the digits of a number, of which there are at most 20.
+fn put_number(buffer: &mut [u8], at: usize, number: u64) -> usize
+    requires { at + 20 ≤ length buffer.old }
+    ensures text { take result buffer.new ≡ take at buffer.old ++ decimal number }
+    ensures end { result ≤ at + 20 }
+{
+    let mut digits = Buffer::new();
+    put(buffer, at, digits.format(number).as_bytes())
+}
+
+/// Puts a word of at most 6 bytes and a number.
+fn put_word(buffer: &mut [u8], at: usize, word: &[u8], number: u64) -> usize
+    requires short { length word.now ≤ 6 }
+    requires room { at + 26 ≤ length buffer.old }
+    ensures text { take result buffer.new ≡ take at buffer.old ++ (word.now ++ decimal number) }
+    ensures end { result ≤ at + 26 }
+{
+    let at = put(buffer, at, word);
+    put_number(buffer, at, number)
+}
+
+/// Puts an operation, of at most 60 bytes.
+fn put_kind(buffer: &mut [u8], at: usize, kind: Kind) -> usize
+    requires { at + 60 ≤ length buffer.old }
+    ensures text { take result buffer.new ≡ take at buffer.old ++ kind_text kind }
+    ensures end { result ≤ at + 60 }
+{
+    match kind {
+        Kind::Read(x, value) => {
+            let at = put_word(buffer, at, b"rd ", u64::from(x.0));
+            put_word(buffer, at, b" ", value)
+        }
+        Kind::Write(x, value) => {
+            let at = put_word(buffer, at, b"wr ", u64::from(x.0));
+            put_word(buffer, at, b" ", value)
+        }
+        Kind::Acquire(m) => put_word(buffer, at, b"acq ", u64::from(m.0)),
+        Kind::Release(m) => put_word(buffer, at, b"rel ", u64::from(m.0)),
+        Kind::Begin(label) => put_word(buffer, at, b"begin ", u64::from(label.0)),
+        Kind::End => put(buffer, at, b"end"),
+        Kind::Fork(u) => put_word(buffer, at, b"fork ", u64::from(u.0)),
+        Kind::Join(u) => put_word(buffer, at, b"join ", u64::from(u.0)),
+        Kind::Exit => put(buffer, at, b"exit"),
+    }
+}
+
+/// Puts the line of an event, of at most 90 bytes.
+#[tactic(auto, unfolding(crate::specs::Text::event_line))]
+fn put_event(buffer: &mut [u8], at: usize, event: Event) -> usize
+    requires { at + 90 ≤ length buffer.old }
+    ensures text { take result buffer.new ≡ take at buffer.old ++ event_line event }
+    ensures end { result ≤ at + 90 }
+    ensures fits { IsEvent event }
+{
+    let at = put_number(buffer, at, u64::from(event.thread.0));
+    let at = put(buffer, at, b" ");
+    let at = put_kind(buffer, at, event.kind);
+    put(buffer, at, b"\n")
+}
+
+/// Puts the header at the front.
+#[tactic(auto, unfolding(crate::specs::Text::header_line))]
+fn put_header(buffer: &mut [u8], bounds: Bounds) -> usize
+    requires { 90 ≤ length buffer.old }
+    ensures text { take result buffer.new ≡ header_line bounds }
+    ensures end { result ≤ 90 }
+{
+    let at = put(buffer, 0, b"vlog 1 ");
+    let at = put_number(buffer, at, u64::from(bounds.threads));
+    let at = put_word(buffer, at, b" ", u64::from(bounds.variables));
+    let at = put_word(buffer, at, b" ", u64::from(bounds.locks));
+    put(buffer, at, b"\n")
+}
+
+/// Writes a log: the one text of its bounds and events.
+pub fn write_log<S: Sink>(bounds: Bounds, trace: &Trace, sink: &mut S) -> Result<(), WriteFault>
+    requires bounds { AreBounds bounds }
+    requires few { length trace.now.events ≤ 16777216 }
+    ensures ok { OnOk result (Appends (S.contents sink.old) (S.contents sink.new) (log_text bounds trace.now.events)) }
+
+    // After a fault a beginning of the text went out, and the sink has failed once more.
+    ensures err { OnErr result (AppendsBeginning (S.contents sink.old) (S.contents sink.new) (log_text bounds trace.now.events)) }
+    ensures no_failure { OnOk result (S.failures sink.new ≡ S.failures sink.old) }
+    ensures failure { OnErr result (S.failures sink.new ≡ one_more (S.failures sink.old)) }
+
+    // What is written is read again as these bounds and events.
+    ensures text { OnOk result (IsLogText (log_text bounds trace.now.events) bounds trace.now.events) }
+{
+    let mut buffer = [0u8; ROOM];
+    let mut used = put_header(&mut buffer, bounds);
+    for event in trace.as_slice() {
+        if used > ROOM - LINE_ROOM {
+            write_all(sink, &buffer[..used])?;
+            used = 0;
+        }
+        used = put_event(&mut buffer, used, *event);
+    }
+    let rest = &buffer[..used];
+    write_all(sink, rest)
+}

@@ -1,0 +1,75 @@
+//! The open blocks of a thread, found in one pass from the end of a trace to its start.
+ghost use Rattle.std.specs.Prelude.{◌≡◌, ◌≤◌, ◌<◌, ◌+◌, [], ◌∷◌, length, map};
+ghost use Rattle.velo_events.specs.Block.{open_blocks};
+ghost use Rattle.velo_events.specs.Scan.{LeavesEnds, open_from};
+ghost use Rattle.velo_traces.specs.Blocks.{block_at};
+
+use crate::block::Block;
+use smallvec::SmallVec;
+use std::alloc::Global;
+use velo_events::{Event, Kind, ThreadId};
+
+/// Puts a block before the others. There is room for it.
+fn put_first(blocks: &mut SmallVec<Block, 32>, block: Block)
+    requires room { length blocks.old.items < 32 }
+    requires inline { blocks.old.capacity ≡ 32 }
+    ensures items { blocks.new.items ≡ block ∷ blocks.old.items }
+    ensures inline { blocks.new.capacity ≡ 32 }
+{
+    match blocks.insert(0, block) {
+        Ok(()) => {}
+        Err(_) => unreachable!(),
+    }
+}
+
+/// Takes the event at a position in, where those after it were taken in before. Counts the ends that wait for a begin
+/// further up: a begin that meets one is closed, another is open.
+fn take_in(
+    events: &[Event],
+    thread: ThreadId,
+    at: usize,
+    ends: usize,
+    blocks: &mut SmallVec<Block, 32>,
+) -> usize
+    requires within { at < length events.now }
+    requires few_ends { ends + at < length events.now }
+    requires few_blocks { length (open_blocks events.now thread.0) ≤ 32 }
+    requires ends { LeavesEnds events.now thread.0 (at + 1) ends }
+    requires blocks { blocks.old.items ≡ map (block_at events.now) (open_from events.now thread.0 (at + 1)) }
+    requires inline { blocks.old.capacity ≡ 32 }
+    ensures few_ends { result + at ≤ length events.now }
+    ensures ends { LeavesEnds events.now thread.0 at result }
+    ensures blocks { blocks.new.items ≡ map (block_at events.now) (open_from events.now thread.0 at) }
+    ensures inline { blocks.new.capacity ≡ 32 }
+{
+    let event = events[at];
+    if event.thread != thread {
+        return ends;
+    }
+    match event.kind {
+        Kind::End => ends + 1,
+        Kind::Begin(label) => {
+            if ends > 0 {
+                return ends - 1;
+            }
+            put_first(blocks, Block { first: at, label });
+            0
+        }
+        _ => ends,
+    }
+}
+
+/// The blocks of a thread that are open at the end of the events, outermost first.
+pub fn open_blocks_in(events: &[Event], thread: ThreadId, alloc: Global) -> SmallVec<Block, 32>
+    requires { length (open_blocks events.now thread.0) ≤ 32 }
+    ensures { result.items ≡ map (block_at events.now) (open_blocks events.now thread.0) }
+{
+    let mut blocks = SmallVec::new(alloc);
+    let mut ends: usize = 0;
+    let mut at = events.len();
+    while at > 0 {
+        at -= 1;
+        ends = take_in(events, thread, at, ends, &mut blocks);
+    }
+    blocks
+}

@@ -1,0 +1,9 @@
+pub mod Owners
+pub mod Marks
+pub mod GraphState
+pub mod Observed
+pub mod Alarms
+pub mod Runs
+pub mod Worlds
+pub mod Steps
+pub mod Kept

@@ -1,0 +1,127 @@
+//! The course of a run: its log, and what follows from it.
+ghost use Rattle.std.specs.Prelude.{◌≡◌, [], ◌∷◌, ◌++◌, length, None, IsTrue, ◌↔◌, IfOk, OnOk, OnErr, ◌⊎◌};
+ghost use Rattle.velo_events.specs.WellFormed.{MayFollow};
+ghost use Rattle.velo_heap.specs.Contents.{bounds_of, StandsFor};
+ghost use Rattle.velo_world.specs.Owners.{AreOwners};
+ghost use Rattle.velo_world.specs.Alarms.{AlarmOf};
+ghost use Rattle.velo_world.specs.Runs.{Follows, HasRoom};
+ghost use Rattle.velo_world.specs.Steps.{value_read, Replies};
+
+use crate::full_graph::{FullGraph, Seen};
+use std::alloc::Global;
+use velo_events::{Config, Event, Kind, Memory, Refusal};
+use velo_heap::Heap;
+use velo_traces::Trace;
+
+/// The first event that closed a cycle.
+#[derive(Clone, Copy, Debug, PartialEq, Eq)]
+pub struct Alarm {
+    /// Its position in the log.
+    pub position: usize,
+    /// The first position of its transaction.
+    pub transaction: usize,
+}
+
+/// What an action came to.
+#[derive(Clone, Copy, Debug, PartialEq, Eq)]
+pub struct Reply {
+    /// The position of its event.
+    pub position: usize,
+    /// The value that a read read.
+    pub value: Option<u64>,
+    /// Whether an alarm is kept after it.
+    pub alarmed: bool,
+}
+
+/// A log, and heap, graph and alarm as they follow from it.
+#[derive(Drop)]
+pub struct Run {
+    pub log: Trace,
+    pub heap: Heap,
+    /// The graph of the events before the alarm.
+    pub graph: FullGraph,
+    pub alarm: Option<Alarm>,
+}
+
+impl Run {
+    /// A run without events.
+    pub fn new(alloc: Global, config: &Config) -> Result<Run, Memory>
+        ensures log { IfOk result (λ run. run.log.events ≡ []) }
+        ensures bounds { IfOk result (λ run. bounds_of run.heap ≡ config.now.bounds) }
+        ensures follows { IfOk result (λ run. Follows run) }
+    {
+        let heap = Heap::new(alloc, config)?;
+        Ok(Run {
+            log: Trace::new(alloc),
+            heap,
+            graph: FullGraph::new(alloc),
+            alarm: None,
+        })
+    }
+
+    /// Makes room for one more event.
+    pub fn reserve_one(&mut self) -> Result<(), Memory>
+        ensures log { self.new.log.events ≡ self.old.log.events }
+        ensures heap { self.new.heap ≡ self.old.heap }
+        ensures owners { self.new.graph.owners ≡ self.old.graph.owners }
+        ensures alarm { self.new.alarm ≡ self.old.alarm }
+        ensures room { OnOk result (HasRoom self.new) }
+        ensures err { OnErr result ((self.old.log.room ≡ 0) ⊎ (self.old.graph.room ≡ 0)) }
+    {
+        self.log.reserve_one()?;
+        self.graph.reserve_one()?;
+        Ok(())
+    }
+
+    /// Takes in an admitted event for which there is room.
+    pub fn commit(&mut self, event: Event) -> Reply
+        requires follows { Follows self.old }
+        requires room { HasRoom self.old }
+        requires admitted { MayFollow (bounds_of self.old.heap) self.old.log.events event }
+        ensures log { self.new.log.events ≡ self.old.log.events ++ event ∷ [] }
+        ensures bounds { bounds_of self.new.heap ≡ bounds_of self.old.heap }
+        ensures follows { Follows self.new }
+        ensures reply { Replies self.old.log.events event result }
+    {
+        let position = self.log.len();
+        self.watch(&event);
+        self.log.push_reserved(event);
+        self.heap.apply(&event);
+        Reply {
+            position,
+            value: value_read(event.kind),
+            alarmed: self.alarm.is_some(),
+        }
+    }
+
+    /// Lets the graph see the next event, unless an alarm is kept already.
+    fn watch(&mut self, event: &Event)
+        requires follows { Follows self.old }
+        requires room { HasRoom self.old }
+        requires admitted { MayFollow (bounds_of self.old.heap) self.old.log.events event.now }
+        ensures log { self.new.log ≡ self.old.log }
+        ensures heap { self.new.heap ≡ self.old.heap }
+        ensures alarm { AlarmOf (self.old.log.events ++ event.now ∷ []) self.new.alarm }
+        ensures graph { self.new.alarm ≡ None → AreOwners self.new.graph.owners (self.old.log.events ++ event.now ∷ []) }
+    {
+        if self.alarm.is_some() {
+            return;
+        }
+        if let Seen::Closes { transaction } = self.graph.observe(&self.log, event) {
+            self.alarm = Some(Alarm {
+                position: self.log.len(),
+                transaction,
+            });
+        }
+    }
+}
+
+/// The value that a read read.
+fn value_read(kind: Kind) -> Option<u64>
+    ensures { result ≡ value_read kind }
+{
+    match kind {
+        Kind::Read(_, value) => Some(value),
+        _ => None,
+    }
+}

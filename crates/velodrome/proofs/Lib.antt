@@ -1,0 +1,4 @@
+pub mod OnReports
+pub mod OnFollowing
+pub mod OnStops
+pub mod OnVerdicts

@@ -1,0 +1,6 @@
+use Rattle.std.proofs.Common.{◌≡◌, take}
+use Rattle.velodrome.specs.Following.{world_of}
+use Rattle.velodrome.proofs.check.followed.Given as goal
+
+abbrev pub invariant-loop-event : goal.invariant-loop-event
+invariant-loop-event l = l.world ≡ world_of l.fn.config (take l.event-index l.events)

@@ -1,0 +1,79 @@
+-- How the program ends: its status, and the line on standard error, if there is one.
+use Rattle.std.specs.Prelude.{ℕ, ◌++◌, [], List, decimal, codes, Bool, if◌then◌else◌, nat_le}
+use Rattle.velo_events.specs.declared.refusal.Refusal.{Refusal}
+use Rattle.velo_events.specs.declared.refusal.Refusal.TheVariants.{Halted, NotLive, NoSuchVariable, NoSuchLock, NoSuchThread, Busy, AlreadyHeld, NotHolder, NoOpenBlock, TooDeep, AlreadyForked, NotForked, NotExited, AlreadyJoined, BlockOpen, LockHeld, LogFull, GraphFull, WouldDeadlock, RuntimeMemory, Foreign}
+use Rattle.velo_events.specs.declared.refusal.Refusal.TheVariants as refusal
+use Rattle.velo_logtext.specs.declared.fault.LogFault.{LogFault}
+use Rattle.velo_logtext.specs.declared.fault.LogFault.TheVariants.{BadHeader, BadLine, Truncated, TooLong, Read}
+use Rattle.velo_logtext.specs.declared.fault.LogFault.TheVariants as log_fault
+use Rattle.velodrome.specs.declared.check.CheckFault.{CheckFault}
+use Rattle.velodrome.specs.declared.check.CheckFault.TheVariants.{Log, Refused, WrongValue, Write, Memory}
+use Rattle.velodrome.specs.declared.fate.Fate.{Fate}
+use Rattle.velodrome.specs.declared.fate.Fate.TheVariants.{Finished, Check, CannotOpen}
+use Rattle.velodrome.specs.declared.fate.Fate.TheVariants as fate
+
+abbrev pub number_of : Refusal → ℕ
+number_of Halted = 1
+number_of NotLive = 2
+number_of NoSuchVariable = 3
+number_of NoSuchLock = 4
+number_of NoSuchThread = 5
+number_of Busy = 6
+number_of AlreadyHeld = 7
+number_of NotHolder = 8
+number_of NoOpenBlock = 9
+number_of TooDeep = 10
+number_of AlreadyForked = 11
+number_of NotForked = 12
+number_of NotExited = 13
+number_of AlreadyJoined = 14
+number_of BlockOpen = 15
+number_of LockHeld = 16
+number_of LogFull = 17
+number_of GraphFull = 18
+number_of refusal.Memory = 19
+number_of WouldDeadlock = 20
+number_of RuntimeMemory = 21
+number_of Foreign = 22
+
+-- 2 where the log is at fault, 4 where a limit was met, 5 where memory or a device failed
+abbrev pub status_of_log : LogFault → ℕ
+status_of_log Read = 5
+status_of_log log_fault.Memory = 5
+status_of_log _ = 2
+
+abbrev pub status_of_check : CheckFault → ℕ
+status_of_check (Log fault) = status_of_log fault
+status_of_check (Refused position refusal) = if nat_le 17 (number_of refusal) then 4 else 2
+status_of_check (WrongValue position) = 2
+status_of_check Write = 5
+status_of_check Memory = 5
+
+-- 0 without an alarm, 3 with one
+abbrev pub status_of : Fate → ℕ
+status_of (Finished alarm) = if alarm then 3 else 0
+status_of (Check fault) = status_of_check fault
+status_of CannotOpen = 5
+status_of fate.Memory = 5
+
+abbrev pub line_of_log : LogFault → List ℕ
+line_of_log BadHeader = codes "log fault 1\n"
+line_of_log (BadLine n) = codes "log fault 2 line " ++ decimal n ++ codes "\n"
+line_of_log (Truncated n) = codes "log fault 3 line " ++ decimal n ++ codes "\n"
+line_of_log TooLong = codes "log fault 4\n"
+line_of_log Read = codes "read failed\n"
+line_of_log log_fault.Memory = codes "out of memory\n"
+
+abbrev pub line_of_check : CheckFault → List ℕ
+line_of_check (Log fault) = line_of_log fault
+line_of_check (Refused position refusal) =
+    codes "refused " ++ decimal (number_of refusal) ++ codes " at " ++ decimal position ++ codes "\n"
+line_of_check (WrongValue position) = codes "wrong value at " ++ decimal position ++ codes "\n"
+line_of_check Write = codes "write failed\n"
+line_of_check Memory = codes "out of memory\n"
+
+abbrev pub line_of : Fate → List ℕ
+line_of (Finished alarm) = []
+line_of (Check fault) = line_of_check fault
+line_of CannotOpen = codes "cannot open\n"
+line_of fate.Memory = codes "out of memory\n"

@@ -1,0 +1,4 @@
+pub mod Check
+pub mod Fate
+pub mod Following
+pub mod Report

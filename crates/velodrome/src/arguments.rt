@@ -1,0 +1,85 @@
+//! The words of the command line.
+ghost use Rattle.std.specs.Prelude.{◌≤◌};
+
+use clap::{Arg, ArgAction, ArgMatches, Command, value_parser};
+use std::alloc::{AllocError, Global};
+use velo_events::Memory;
+
+/// The most events that the log of a run can be limited to.
+pub const MOST_EVENTS: u32 = 16_777_216;
+
+/// The most nodes that the graph of a run can be limited to.
+pub const MOST_NODES: u16 = 4096;
+
+/// What `velodrome check` was asked for.
+#[derive(Clone, Copy, Debug)]
+pub struct CheckOptions<'a> {
+    /// The path of the log.
+    pub log: &'a str,
+    /// The most events that the log may have.
+    pub events: u32,
+    /// The most nodes that the graph may have at one time.
+    pub nodes: u16,
+    ghost some_event: { 1 ≤ events },
+    ghost few_events: { events ≤ 16777216 },
+    ghost some_node: { 1 ≤ nodes },
+    ghost few_nodes: { nodes ≤ 4096 },
+}
+
+/// The command line of the program: a word of no subcommand, or a number out of its range, is a fault of usage.
+///
+/// # Errors
+/// `Memory` where a growth was refused.
+pub fn command<'a>(alloc: Global) -> Result<Command<'a>, Memory> {
+    Ok(velodrome(alloc)?)
+}
+
+fn velodrome<'a>(alloc: Global) -> Result<Command<'a>, AllocError> {
+    Command::new(alloc, "velodrome")
+        .about("Tells whether the atomic blocks of an observed run can be serialized")
+        .subcommand_required(true)
+        .subcommand(check(alloc)?)
+}
+
+fn check<'a>(alloc: Global) -> Result<Command<'a>, AllocError> {
+    Command::new(alloc, "check")
+        .about("Reads a recorded log and reports the verdict")
+        .arg(
+            Arg::new(alloc, "LOG")
+                .help("The path of the log")
+                .required(true)
+                .action(ArgAction::Set),
+        )?
+        .arg(events(alloc))?
+        .arg(nodes(alloc))
+}
+
+fn events<'a>(alloc: Global) -> Arg<'a> {
+    Arg::new(alloc, "events")
+        .long("events")
+        .value_name("N")
+        .help("The most events that the log may have, 1 to 16777216")
+        .value_parser(value_parser!(u32).range(1..=16_777_216))
+        .default_value("1048576")
+}
+
+fn nodes<'a>(alloc: Global) -> Arg<'a> {
+    Arg::new(alloc, "nodes")
+        .long("nodes")
+        .value_name("N")
+        .help("The most nodes that the graph may have at one time, 1 to 4096")
+        .value_parser(value_parser!(u16).range(1..=4096))
+        .default_value("1024")
+}
+
+/// Reads the options of `check` from its matches; none where a word is missing or a number is out of its range, which
+/// the command has refused already.
+pub fn check_options<'a>(found: &ArgMatches<'a>) -> Option<CheckOptions<'a>> {
+    let log = found.get_str("LOG")?;
+    let events = found.get_one::<u32>("events")?;
+    let nodes = found.get_one::<u16>("nodes")?;
+    if events < 1 || events > MOST_EVENTS || nodes < 1 || nodes > MOST_NODES {
+        return None;
+    }
+    Some(CheckOptions { log, events, nodes })
+}

@@ -1,0 +1,213 @@
+//! Checking a recorded log.
+ghost use Rattle.std.specs.Prelude.{◌≡◌, ◌≤◌, ◌<◌, [], ◌∷◌, ◌++◌, None, false, IfOk, IfErr, OnOk, length};
+ghost use Rattle.velo_events.specs.Meaning.{action_of, has_its_value};
+ghost use Rattle.velo_events.specs.WellFormed.{IsWellFormed, NamesKnown};
+ghost use Rattle.velo_traces.specs.Flaws.{flaw_of};
+ghost use Rattle.velo_logtext.specs.Text.{AreBounds};
+ghost use Rattle.velo_world.specs.Worlds.{meaning};
+ghost use Rattle.velo_world.specs.Alarms.{AlarmOf};
+ghost use Rattle.velodrome.specs.Check.{Checks, Reports, verdict_of, read_failures, write_failures};
+ghost use Rattle.velodrome.specs.Following.{world_of, Stops, StopsIn, IsRefusal, is_as_logged};
+
+use crate::report::report_of;
+use std::alloc::Global;
+use velo_events::{Action, Bounds, Config, Event, Kind, Refusal};
+use velo_logtext::{LogFault, Sink, Source, WriteFault, read_log, write_all};
+use velo_traces::Trace;
+use velo_world::{Alarm, World};
+
+/// What a log shows.
+#[derive(Clone, Copy, Debug, PartialEq, Eq)]
+pub enum Verdict {
+    /// Its atomic blocks can be serialized.
+    Clean,
+    /// They can't be.
+    Alarm,
+}
+
+/// Why a log has no verdict. Positions count the events from 0.
+#[derive(Clone, Copy, Debug, PartialEq, Eq)]
+pub enum CheckFault {
+    /// The log could not be read.
+    Log(LogFault),
+    /// The event at the position is refused.
+    Refused { position: usize, refusal: Refusal },
+    /// The event at the position reads a value that the variable does not have.
+    WrongValue { position: usize },
+    /// The sink failed; a beginning of the report was written.
+    Write,
+    /// A growth was refused.
+    Memory,
+}
+
+/// The action that asks for the operation.
+fn action_of(kind: Kind) -> Action
+    ensures { result ≡ action_of kind }
+{
+    match kind {
+        Kind::Read(x, _) => Action::Read(x),
+        Kind::Write(x, v) => Action::Write(x, v),
+        Kind::Acquire(m) => Action::Acquire(m),
+        Kind::Release(m) => Action::Release(m),
+        Kind::Begin(label) => Action::Begin(label),
+        Kind::End => Action::End,
+        Kind::Fork(u) => Action::Fork(u),
+        Kind::Join(u) => Action::Join(u),
+        Kind::Exit => Action::Exit,
+    }
+}
+
+/// Whether a read has its variable's value now; true of any other operation.
+fn has_its_value(world: &World, kind: Kind) -> bool
+    requires { NamesKnown world.now.config.bounds kind }
+    ensures { result ≡ has_its_value world.now.log kind }
+{
+    match kind {
+        Kind::Read(x, v) => world.heap().value(x) == v,
+        _ => true,
+    }
+}
+
+/// Whether what a read answered is what the log says.
+fn is_as_logged(kind: Kind, value: Option<u64>) -> bool
+    ensures { result ≡ is_as_logged kind value }
+{
+    match (kind, value) {
+        (Kind::Read(_, logged), Some(read)) => logged == read,
+        (Kind::Read(..), None) => false,
+        _ => true,
+    }
+}
+
+/// Why the next event of a log can't be done in the world, which has refused it.
+fn fault_of(world: &World, event: &Event, refusal: Refusal) -> CheckFault
+    requires running { world.now.halted ≡ false }
+    requires refused { IsRefusal (meaning world.now event.now.thread (action_of event.now.kind)) refusal }
+    ensures { Stops world.now.config world.now.log event.now result }
+{
+    let position = world.log().len();
+    match refusal {
+        Refusal::Memory => CheckFault::Memory,
+        Refusal::LogFull => {
+            if has_its_value(world, event.kind) {
+                CheckFault::Refused { position, refusal }
+            } else {
+                CheckFault::WrongValue { position }
+            }
+        }
+        _ => CheckFault::Refused { position, refusal },
+    }
+}
+
+/// Lets the world do what the next event of a log says.
+fn follow(world: &mut World, event: &Event) -> Result<(), CheckFault>
+    requires running { world.old.halted ≡ false }
+    requires goes_on { world.old.config.stop ≡ false }
+    ensures before { IsWellFormed world.old.config.bounds world.old.log }
+    ensures short { length world.old.log ≤ world.old.config.events }
+    ensures ok { OnOk result (world.new ≡ world_of world.old.config (world.old.log ++ event.now ∷ [])) }
+    ensures follows { OnOk result (flaw_of world.old.config.bounds world.old.log event.now ≡ None) }
+    ensures err { IfErr result (λ fault. Stops world.old.config world.old.log event.now fault) }
+{
+    let position = world.log().len();
+    match world.act(event.thread, action_of(event.kind)) {
+        Ok(reply) if is_as_logged(event.kind, reply.value) => Ok(()),
+        Ok(_) => Err(CheckFault::WrongValue { position }),
+        Err(refusal) => Err(fault_of(world, event, refusal)),
+    }
+}
+
+/// The world of a log, all of whose events were done in it.
+fn followed(alloc: Global, config: Config, log: &Trace) -> Result<World, CheckFault>
+    requires goes_on { config.stop ≡ false }
+    ensures ok { IfOk result (λ world. world ≡ world_of config log.now.events) }
+    ensures err { IfErr result (λ fault. StopsIn config log.now.events fault) }
+{
+    let Ok(mut world) = World::new(alloc, config) else {
+        return Err(CheckFault::Memory);
+    };
+    let events = log.as_slice();
+    for event in events {
+        follow(&mut world, event)?;
+    }
+    Ok(world)
+}
+
+/// The configuration of a check: it goes on after an alarm.
+fn configured(bounds: Bounds, events: u32, nodes: u16) -> Config
+    requires bounds { AreBounds bounds }
+    requires events { (1 ≤ events) × (events ≤ 16777216) }
+    requires nodes { (1 ≤ nodes) × (nodes ≤ 4096) }
+    ensures bounds { result.bounds ≡ bounds }
+    ensures events { result.events ≡ events }
+    ensures goes_on { result.stop ≡ false }
+{
+    match Config::new(0, bounds, events, nodes, false) {
+        Ok(config) => config,
+        Err(_) => unreachable!(),
+    }
+}
+
+/// The alarm that a world keeps.
+fn alarm_of(world: &World) -> Option<Alarm>
+    ensures { AlarmOf world.now.log result }
+{
+    world.alarm().copied()
+}
+
+fn verdict_of(alarm: Option<Alarm>) -> Verdict
+    ensures { result ≡ verdict_of alarm }
+{
+    match alarm {
+        Some(_) => Verdict::Alarm,
+        None => Verdict::Clean,
+    }
+}
+
+/// Writes the report of a world's log, which is made before the first byte goes out.
+fn reported<O: Sink>(alloc: Global, world: &World, sink: &mut O) -> Result<Verdict, CheckFault>
+    ensures well_formed { IsWellFormed world.now.config.bounds world.now.log }
+    ensures short { length world.now.log ≤ world.now.config.events }
+    ensures answer { Reports world.now (O.contents sink.old) (O.contents sink.new) result }
+    ensures written { O.failures sink.new ≡ write_failures result (O.failures sink.old) }
+{
+    let log = world.log();
+    let alarm = alarm_of(world);
+    let Ok(text) = report_of(alloc, world.bounds().threads, log, alarm) else {
+        return Err(CheckFault::Memory);
+    };
+    match write_all(sink, text.as_bytes()) {
+        Ok(()) => Ok(verdict_of(alarm)),
+        Err(WriteFault) => Err(CheckFault::Write),
+    }
+}
+
+/// Reads a whole log, does its events one after another, and writes the report.
+///
+/// The limits are the most events that the log may have, 1 to 16,777,216, and the most nodes that the graph may have at
+/// one time, 1 to 4,096.
+///
+/// # Errors
+/// A fault of the text comes before any other; else the first event that can't come about decides, and a refusal there
+/// comes before a wrong value, and this before the limit of events. Every fault but `Write` has written nothing; after
+/// `Write` a beginning of the report was written.
+pub fn check_run<I: Source, O: Sink>(
+    alloc: Global,
+    source: &mut I,
+    sink: &mut O,
+    events: u32,
+    nodes: u16,
+) -> Result<Verdict, CheckFault>
+    requires events { (1 ≤ events) × (events ≤ 16777216) }
+    requires nodes { (1 ≤ nodes) × (nodes ≤ 4096) }
+    ensures answer { Checks events (I.remaining source.old) (O.contents sink.old) (O.contents sink.new) result }
+    ensures read { I.failures source.new ≡ read_failures result (I.failures source.old) }
+    ensures written { O.failures sink.new ≡ write_failures result (O.failures sink.old) }
+{
+    let (bounds, log) = match read_log(alloc, source) {
+        Ok(read) => read,
+        Err(fault) => return Err(CheckFault::Log(fault)),
+    };
+    let world = followed(alloc, configured(bounds, events, nodes), &log)?;
+    reported(alloc, &world, sink)
+}
