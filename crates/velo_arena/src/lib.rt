@@ -1,0 +1,11 @@
+//! Slots for the nodes of a graph: each node bears a stamp, and its slot serves again once it is free.
+#![tactic(auto)]
+
+mod arena;
+mod step;
+
+pub use arena::{Arena, GraphFull};
+pub use step::{Node, Step};
+
+#[cfg(test)]
+mod tests;

@@ -1,0 +1,5 @@
+pub mod OnRows
+pub mod OnOrders
+pub mod OnNodes
+pub mod OnFlags
+pub mod OnEdges

@@ -1,0 +1,5 @@
+pub mod Nodes
+pub mod Codes
+pub mod Rows
+pub mod Kept
+pub mod Flags

@@ -1,0 +1,2 @@
+pub mod OnRising
+pub mod OnSearches

@@ -1,0 +1,6 @@
+mod OnReaders
+mod OnKept
+pub mod OnLast
+pub mod OnLookUps
+pub mod OnSteps
+pub mod OnGraphLookUps

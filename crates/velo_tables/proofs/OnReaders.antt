@@ -1,0 +1,182 @@
+-- Entries by number: lists that are filled up, the threads that have one, and the steps of all.
+use Rattle.std.proofs.Common.{◌≡◌, ℕ, zero, suc, ◌+◌, ◌-◌, ◌*◌, ◌/◌, ◌%◌, ◌^◌, ◌<◌, ◌≤◌, List, [], ◌∷◌, ◌++◌, length, take, get_or, Option, Some, None, refl, sym, ap, ◌∙◌, subst, arith, length-append, ⊎_elim, max}
+use Rattle.std.specs.Prelude.{replicate}
+use Rattle.std.specs.List.{filter_map, range_with_len, cons_option}
+use Rattle.std.specs.Option.{option_to_list}
+use Rattle.std.specs.Int.{bit_at, trailing_zeros}
+use Rattle.std.specs.Int.RustNames.{bit_or}
+use mir.Syntax.{w64}
+use mir.Val.{bits}
+use Rattle.std.proofs.Math.ListN.{set}
+use Rattle.std.proofs.lemmas.Bool.{cases_lt, cases_eq}
+use Rattle.std.proofs.lemmas.Nat.{shr-shr}
+use Rattle.std.proofs.lemmas.Nat.Bits.{bit_at-zero, bit_at_above, bit_at-trailing_zeros, bit_at_set_same, bit_at_set_other}
+use Rattle.std.proofs.lemmas.List.{append-nil, append_assoc, take_all, get_or_append_left, get_or-append_right, get_or_past, get_or-replicate, length-replicate, get_or-set_same, get_or-set_other, length-set, map-id}
+use Rattle.std.proofs.lemmas.List.Elements.{filter_map-append}
+use Rattle.std.proofs.lemmas.List.FromFn.{map-range_with_len_more}
+use Rattle.velo_tables.specs.Readers.{filled_up, AreReaders}
+use Rattle.velo_tables.specs.Place.{thread_numbers}
+
+-- ---- filled up
+
+pub filled_up-long : {X : Type 0} (blank : X) (n : ℕ) (xs : List X) → n ≤ length xs → filled_up blank n xs ≡ xs
+unfolding filled_up
+filled_up-long blank n xs h = ap (λ k. xs ++ replicate k blank) (let none : n - length xs ≡ 0 = omega arith in none) ∙ append-nil xs
+
+-- what `resize` leaves of a list of k elements
+pub filled_up-short : {X : Type 0} (blank : X) (n k : ℕ) (xs : List X) → length xs ≡ k → k ≤ n → take n xs ++ replicate (n - k) blank ≡ filled_up blank n xs
+unfolding filled_up
+filled_up-short blank n k xs all h =
+    ap (λ ys. ys ++ replicate (n - k) blank) (take_all n xs (omega (arith, all, h)))
+    ∙ ap (λ m. xs ++ replicate m blank) (let same : n - k ≡ n - length xs = omega (arith, all) in same)
+
+-- what as many pushes as are missing leave
+pub filled_up-pushed : {X : Type 0} (blank : X) (n k : ℕ) (xs : List X) → length xs + k ≡ n → xs ++ replicate k blank ≡ filled_up blank n xs
+unfolding filled_up
+filled_up-pushed blank n k xs h = ap (λ m. xs ++ replicate m blank) (let same : k ≡ n - length xs = omega (arith, h) in same)
+
+pub get_or-blanks : {X : Type 0} (blank : X) (n i : ℕ) → get_or (replicate n blank) i blank ≡ blank
+get_or-blanks blank n i =
+    ⊎_elim (λ under. get_or-replicate n i blank blank under)
+    (λ past. get_or_past (replicate n blank) i blank (omega (arith, past, length-replicate n blank))) (cases_lt i n)
+
+-- no entry is changed by it
+pub get_or-filled_up : {X : Type 0} (blank : X) (n : ℕ) (xs : List X) (i : ℕ) → get_or (filled_up blank n xs) i blank ≡ get_or xs i blank
+unfolding filled_up
+get_or-filled_up blank n xs i =
+    ⊎_elim (λ under. get_or_append_left xs (replicate (n - length xs) blank) blank i under)
+    (λ past. get_or-append_right xs (replicate (n - length xs) blank) (length xs) i blank refl past
+    ∙ (get_or-blanks blank (n - length xs) (i - length xs) ∙ sym (get_or_past xs i blank past))) (cases_lt i (length xs))
+
+pub length-filled_up : {X : Type 0} (blank : X) (n : ℕ) (xs : List X) → length (filled_up blank n xs) ≡ max n (length xs)
+unfolding filled_up
+length-filled_up blank n xs = omega (arith, length-append xs (replicate (n - length xs) blank), length-replicate (n - length xs) blank)
+
+-- ---- the threads that have a read
+
+pub AreReaders-nil : {X : Type 0} → AreReaders {X = X} 0 []
+AreReaders-nil {X} = record { few = omega arith; covers = λ t h. refl }
+
+pub AreReaders-filled_up : {X : Type 0} (readers n : ℕ) (reads : List (Option X)) → n ≤ 64 → AreReaders readers reads → AreReaders readers (filled_up None n reads)
+AreReaders-filled_up readers n reads h are = record {
+  few = omega (arith, length-filled_up None n reads, are.few);
+  covers = λ t clear. get_or-filled_up None n reads t ∙ are.covers t clear;
+}
+
+-- an entry without a step needs no bit
+pub AreReaders-set_none : {X : Type 0} (readers : ℕ) (reads : List (Option X)) (t : ℕ) → t < length reads → AreReaders readers reads → AreReaders readers (set reads t None)
+AreReaders-set_none readers reads t within are = record {
+  few = omega (arith, length-set reads t None, are.few);
+  covers = λ u clear.
+      ⊎_elim (λ at. subst (λ k. get_or (set reads t None) k None ≡ None) (sym at) (get_or-set_same reads t None None within))
+      (λ off. get_or-set_other reads t u None None off ∙ are.covers u clear) (cases_eq u t);
+}
+
+-- with its bit set, an entry may have a step
+pub AreReaders-set : {X : Type 0} (readers : ℕ) (reads : List (Option X)) (t : ℕ) (step : Option X) → t < length reads → AreReaders readers reads → AreReaders (bit_or readers (1 * 2 ^ t % 2 ^ bits w64)) (set reads t step)
+AreReaders-set readers reads t step within are = record {
+  few = omega (arith, length-set reads t step, are.few);
+  covers = λ u clear.
+      ⊎_elim (λ at. absurd (let zero_one : 0 ≡ 1 = sym (subst (λ k. bit_at (bit_or readers (1 * 2 ^ t % 2 ^ bits w64)) k ≡ 0) at clear) ∙ bit_at_set_same w64 readers t small in omega (arith, zero_one)))
+      (λ off. get_or-set_other reads t u step None off ∙ are.covers u (sym (bit_at_set_other w64 readers t small u off) ∙ clear)) (cases_eq u t);
+}
+  where
+    small : t < bits w64
+    small = omega (arith, within, are.few)
+
+-- ---- the steps of the first entries
+
+pub range_more : (n : ℕ) → range_with_len 0 (n + 1) ≡ range_with_len 0 n ++ n ∷ []
+range_more n = sym (map-id (range_with_len 0 (n + 1))) ∙ (map-range_with_len_more (λ (x : ℕ). x) 0 n n (omega arith) ∙ ap (λ xs. xs ++ n ∷ []) (map-id (range_with_len 0 n)))
+
+cons_option-is : {X : Type 0} (o : Option X) (xs : List X) → cons_option o xs ≡ option_to_list o ++ xs
+cons_option-is None xs = refl
+cons_option-is (Some x) xs = refl
+
+pub filter_map-cons : {X Y : Type 0} (f : X → Option Y) (x : X) (xs : List X) → filter_map f (x ∷ xs) ≡ option_to_list (f x) ++ filter_map f xs
+filter_map-cons f x xs = cons_option-is (f x) (filter_map f xs)
+
+pub filter_map-more : {Y : Type 0} (f : ℕ → Option Y) (n : ℕ) → filter_map f (range_with_len 0 (n + 1)) ≡ filter_map f (range_with_len 0 n) ++ option_to_list (f n)
+filter_map-more f n =
+    ap (filter_map f) (range_more n)
+    ∙ (filter_map-append f (range_with_len 0 n) (n ∷ [])
+    ∙ ap (λ ys. filter_map f (range_with_len 0 n) ++ ys) (cons_option-is (f n) [] ∙ append-nil (option_to_list (f n))))
+
+-- entries without a step may be skipped
+pub filter_map-skip : {Y : Type 0} (f : ℕ → Option Y) (n m : ℕ) → ((k : ℕ) → n ≤ k → k < n + m → f k ≡ None) → filter_map f (range_with_len 0 (n + m)) ≡ filter_map f (range_with_len 0 n)
+filter_map-skip f n zero none = ap (λ k. filter_map f (range_with_len 0 k)) (let same : n + zero ≡ n = omega arith in same)
+filter_map-skip f n (suc m) none =
+    ap (λ k. filter_map f (range_with_len 0 k)) (let same : n + suc m ≡ n + m + 1 = omega arith in same)
+    ∙ (filter_map-more f (n + m)
+    ∙ (ap (λ o. filter_map f (range_with_len 0 (n + m)) ++ option_to_list o) (none (n + m) (omega arith) (omega arith))
+    ∙ (append-nil (filter_map f (range_with_len 0 (n + m)))
+    ∙ filter_map-skip f n m (λ k above under. none k above (omega (arith, under))))))
+
+-- ---- a walk over the bits
+
+-- `rest` has the bits of the threads from `next` on, and the list the steps of those before
+pub record IsWalked {X : Type 0} (readers : ℕ) (reads : List (Option X)) (before : List X) (rest next : ℕ) (list : List X) : Type 0 where
+  pub shifted : rest ≡ readers / 2 ^ next
+  pub small : next ≤ 64
+  pub few : length list ≤ length before + next
+  pub listed : list ≡ before ++ filter_map (λ t. get_or reads t None) (range_with_len 0 next)
+
+pub IsWalked-start : {X : Type 0} (readers : ℕ) (reads : List (Option X)) (before : List X) → IsWalked readers reads before readers 0 before
+IsWalked-start readers reads before = record {
+  shifted = omega arith;
+  small = omega arith;
+  few = omega arith;
+  listed = sym (append-nil before);
+}
+
+module _ {X : Type 0} (readers : ℕ) (reads : List (Option X)) (before : List X) (rest next : ℕ) (list : List X) where
+  bit_of_rest : IsWalked readers reads before rest next list → (i : ℕ) → bit_at rest i ≡ bit_at readers (next + i)
+  bit_of_rest walked i = ap (λ n. n / 2 ^ i % 2) walked.shifted ∙ ap (λ n. n % 2) (shr-shr readers next i)
+
+  -- the next bit that is set is of a thread's number
+  pub IsWalked-within : readers < 2 ^ 64 → 0 < rest → rest < 2 ^ 64 → IsWalked readers reads before rest next list → next + trailing_zeros w64 rest < 64
+  IsWalked-within fits some rest_fits walked =
+      let lowest = bit_at-trailing_zeros w64 rest some rest_fits in
+      ⊎_elim (λ under. under)
+      (λ past. absurd (let zero_one : 0 ≡ 1 = sym (bit_at_above readers 64 (next + trailing_zeros w64 rest) fits past) ∙ (sym (bit_of_rest walked (trailing_zeros w64 rest)) ∙ lowest.1) in omega (arith, zero_one)))
+      (cases_lt (next + trailing_zeros w64 rest) 64)
+
+  pub IsWalked-next : AreReaders readers reads → readers < 2 ^ 64 → 0 < rest → rest < 2 ^ 64 → IsWalked readers reads before rest next list → (thread : ℕ) → thread ≡ next + trailing_zeros w64 rest →
+      IsWalked readers reads before (rest / 2 ^ trailing_zeros w64 rest / 2 ^ 1) (thread + 1) (list ++ option_to_list (get_or reads thread None))
+  IsWalked-next are fits some rest_fits walked thread at = record {
+    shifted = ap (λ n. n / 2 ^ trailing_zeros w64 rest / 2 ^ 1) walked.shifted
+        ∙ (ap (λ n. n / 2 ^ 1) (shr-shr readers next (trailing_zeros w64 rest))
+        ∙ (shr-shr readers (next + trailing_zeros w64 rest) 1 ∙ ap (λ n. readers / 2 ^ n) (let same : next + trailing_zeros w64 rest + 1 ≡ thread + 1 = omega (arith, at) in same)));
+    small = omega (arith, at, IsWalked-within fits some rest_fits walked);
+    few = omega (arith, at, walked.few, length-append list (option_to_list (get_or reads thread None)), at_most_one (get_or reads thread None));
+    listed = ap (λ xs. xs ++ option_to_list (get_or reads thread None)) (walked.listed ∙ ap (λ ys. before ++ ys) skipped)
+        ∙ (append_assoc before (filter_map f (range_with_len 0 thread)) (option_to_list (f thread)) ∙ ap (λ ys. before ++ ys) (sym (filter_map-more f thread)));
+  }
+    where
+      f : ℕ → Option X
+      f t = get_or reads t None
+
+      at_most_one : (o : Option X) → length (option_to_list o) ≤ 1
+      at_most_one None = omega arith
+      at_most_one (Some x) = omega arith
+
+      none_between : (k : ℕ) → next ≤ k → k < next + trailing_zeros w64 rest → f k ≡ None
+      none_between k above under =
+          let clear : bit_at rest (k - next) ≡ 0 = (bit_at-trailing_zeros w64 rest some rest_fits).2 (k - next) (omega (arith, above, under)) in
+          are.covers k (ap (bit_at readers) (let same : k ≡ next + (k - next) = omega (arith, above) in same) ∙ (sym (bit_of_rest walked (k - next)) ∙ clear))
+
+      skipped : filter_map f (range_with_len 0 next) ≡ filter_map f (range_with_len 0 thread)
+      skipped = sym (ap (λ n. filter_map f (range_with_len 0 n)) at ∙ filter_map-skip f next (trailing_zeros w64 rest) none_between)
+
+  pub IsWalked-all : AreReaders readers reads → rest ≡ 0 → IsWalked readers reads before rest next list → list ≡ before ++ filter_map (λ t. get_or reads t None) thread_numbers
+  unfolding thread_numbers
+  IsWalked-all are done walked =
+      walked.listed ∙ ap (λ ys. before ++ ys)
+      (sym (ap (λ n. filter_map f (range_with_len 0 n)) (let all : 64 ≡ next + (64 - next) = omega (arith, walked.small) in all) ∙ filter_map-skip f next (64 - next) none_left))
+    where
+      f : ℕ → Option X
+      f t = get_or reads t None
+
+      none_left : (k : ℕ) → next ≤ k → k < next + (64 - next) → f k ≡ None
+      none_left k above under =
+          are.covers k (ap (bit_at readers) (let same : k ≡ next + (k - next) = omega (arith, above) in same) ∙ (sym (bit_of_rest walked (k - next)) ∙ (ap (λ n. bit_at n (k - next)) done ∙ bit_at-zero (k - next))))

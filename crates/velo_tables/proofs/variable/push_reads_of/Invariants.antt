@@ -1,0 +1,12 @@
+use Rattle.std.proofs.Common.{◌≡◌, ◌-◌}
+use Rattle.velo_tables.proofs.OnReaders.{IsWalked}
+use Rattle.velo_tables.proofs.variable.push_reads_of.Given as goal
+
+abbrev pub invariant-loop-rest : goal.invariant-loop-rest
+invariant-loop-rest l = record {
+  walked : IsWalked l.readers l.reads l.fn.list.items l.rest l.thread l.list.items;
+  capacity : l.list.capacity ≡ l.fn.list.capacity;
+}
+
+abbrev pub decreases-loop-rest : goal.decreases-loop-rest
+decreases-loop-rest l = 64 - l.thread

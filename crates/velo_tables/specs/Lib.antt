@@ -1,0 +1,6 @@
+pub mod Entry
+pub mod Place
+pub mod Readers
+pub mod Kept
+pub mod Recorded
+pub mod Last

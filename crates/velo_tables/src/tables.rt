@@ -1,0 +1,283 @@
+ghost use Rattle.std.specs.Prelude.{◌≡◌, ◌+◌, ◌^◌, ◌<◌, ◌≤◌, ◌++◌, ◌∷◌, None, length, map, slice_index_or, slice_set, IsTrue, ◌↔◌, IfOk, OnOk, OnErr};
+ghost use Rattle.std.specs.List.{filter_map};
+ghost use Rattle.smallvec.specs.SmallVec.{HasRoomFor as HasSpace};
+ghost use Rattle.velo_tables.specs.Place.{LastOf, LastWrite, LastRead, LastOn, thread_numbers};
+ghost use Rattle.velo_tables.specs.Readers.{filled_up};
+ghost use Rattle.velo_tables.specs.Kept.{entry, no_accesses, steps_looked_up, HasItsThreads, HasRoomFor, HasRoomToRead, HasRoomBeside, CoverReaders, IsBlank, IsUnchanged, IsRecorded};
+ghost use Rattle.velo_tables.specs.Recorded.{recorded, with_reads_of};
+
+use crate::entry::{Entry, entry_at};
+use crate::variable::{Variable, push_step};
+use smallvec::SmallVec;
+use std::alloc::Global;
+use std::marker::Model;
+use velo_arena::Step;
+use velo_events::{Config, Event, Kind, LockId, Memory, ThreadId, VarId};
+
+/// The step of the last event at each place: of each thread, of each lock, the last write of each variable, and its last
+/// read by each thread. There is room for what was accessed, and for the threads.
+#[derive(Drop)]
+pub struct Tables {
+    threads: Vec<Entry>,
+    variables: Vec<Variable>,
+    locks: Vec<Entry>,
+}
+
+impl Model for Tables {
+    ghost use Rattle.std.specs.Prelude.{◌≤◌, length};
+    ghost use Rattle.velo_tables.specs.Kept.{Kept};
+
+    ghost Value = { Kept };
+
+    ghost view = { λ s. record { threads = s.threads.items; variables = s.variables.items; locks = s.locks.items } };
+
+    ghost invariant = { λ s. length s.threads.items ≤ 64 };
+}
+
+/// Makes room for the entry with this number.
+fn grow_entries(entries: &mut Vec<Entry>, number: usize) -> Result<(), Memory>
+    requires { number < 2 ^ 32 }
+    ensures ok { OnOk result (entries.new.items ≡ filled_up None (number + 1) entries.old.items) }
+    ensures err { OnErr result (entries.new.items ≡ entries.old.items) }
+    ensures refused { OnErr result (length entries.old.items ≤ number) }
+{
+    if entries.len() <= number {
+        entries.resize(number + 1, Entry::new(None))?;
+    }
+    Ok(())
+}
+
+/// Makes room for the variable with this number.
+fn grow_variables(variables: &mut Vec<Variable>, number: usize) -> Result<(), Memory>
+    requires { number < 2 ^ 32 }
+    ensures ok { OnOk result (variables.new.items ≡ filled_up no_accesses (number + 1) variables.old.items) }
+    ensures err { OnErr result (variables.new.items ≡ variables.old.items) }
+    ensures refused { OnErr result (length variables.old.items ≤ number) }
+{
+    if number < variables.len() {
+        return Ok(());
+    }
+    let missing = number + 1 - variables.len();
+    variables.reserve(missing)?;
+    let alloc = *variables.allocator();
+    for _ in 0..missing {
+        variables.push_reserved(Variable::new(alloc));
+    }
+    Ok(())
+}
+
+/// Makes room for the reads of the variable with this number by so many threads.
+fn grow_reads(variables: &mut Vec<Variable>, number: usize, threads: usize) -> Result<(), Memory>
+    requires there { number < length variables.old.items }
+    requires few { threads ≤ 64 }
+    ensures ok { OnOk result (variables.new.items ≡ slice_set variables.old.items number (with_reads_of threads (slice_index_or variables.old.items number no_accesses))) }
+    ensures err { OnErr result (variables.new.items ≡ variables.old.items) }
+{
+    let variable = &mut variables[number];
+    variable.reserve_reads(threads)
+}
+
+impl Tables {
+    /// Tables of a run's threads, without a step.
+    pub fn new(alloc: Global, config: &Config) -> Result<Tables, Memory>
+        ensures threads { IfOk result (λ tables. length tables.threads ≡ config.now.bounds.threads) }
+        ensures blank { IfOk result IsBlank }
+    {
+        let mut threads = Vec::new(alloc);
+        threads.resize(config.bounds.threads as usize, Entry::new(None))?;
+        Ok(Tables {
+            threads,
+            variables: Vec::new(alloc),
+            locks: Vec::new(alloc),
+        })
+    }
+
+    /// The step of the thread's last event, or of its fork while it has none.
+    pub fn last_of(&self, t: ThreadId) -> Option<Step>
+        ensures { result ≡ entry self.now (LastOf t.0) }
+    {
+        entry_at(&self.threads, t.0 as usize)
+    }
+
+    /// The step of the variable's last write.
+    pub fn last_write(&self, x: VarId) -> Option<Step>
+        ensures { result ≡ entry self.now (LastWrite x.0) }
+    {
+        if (x.0 as usize) < self.variables.len() {
+            self.variables[x.0 as usize].last_write()
+        } else {
+            None
+        }
+    }
+
+    /// The step of the variable's last read by the thread.
+    pub fn last_read(&self, x: VarId, t: ThreadId) -> Option<Step>
+        ensures { result ≡ entry self.now (LastRead x.0 t.0) }
+    {
+        if (x.0 as usize) < self.variables.len() {
+            self.variables[x.0 as usize].last_read(t)
+        } else {
+            None
+        }
+    }
+
+    /// A bit for each thread whose last read of the variable has a step, and perhaps for others that read it: no other
+    /// thread's read has to be looked up.
+    pub fn readers(&self, x: VarId) -> u64
+        ensures { CoverReaders self.now x.0 result }
+    {
+        if (x.0 as usize) < self.variables.len() {
+            let variable = &self.variables[x.0 as usize];
+            variable.readers()
+        } else {
+            0
+        }
+    }
+
+    /// The step of the lock's last event.
+    pub fn last_on(&self, m: LockId) -> Option<Step>
+        ensures { result ≡ entry self.now (LastOn m.0) }
+    {
+        entry_at(&self.locks, m.0 as usize)
+    }
+}
+
+impl Tables {
+    /// Makes room for what the event records. No step changes, also where it is refused.
+    pub fn reserve_for(&mut self, event: &Event) -> Result<(), Memory>
+        ensures unchanged { IsUnchanged self.old self.new }
+        ensures threads { length self.new.threads ≡ length self.old.threads }
+        ensures ok { OnOk result (HasItsThreads self.old event.now → HasRoomFor self.new event.now) }
+        ensures err { OnErr result (¬ HasRoomFor self.old event.now) }
+    {
+        match event.kind {
+            Kind::Read(x, _) => {
+                if self.has_room_to_read(x, event.thread) {
+                    Ok(())
+                } else {
+                    self.reserve_reads(x)
+                }
+            }
+            Kind::Write(x, _) => self.reserve_variable(x),
+            Kind::Acquire(m) | Kind::Release(m) => self.reserve_lock(m),
+            _ => Ok(()),
+        }
+    }
+
+    /// Whether there is room for a read of the variable by the thread.
+    fn has_room_to_read(&self, x: VarId, t: ThreadId) -> bool
+        ensures { IsTrue result ↔ HasRoomBeside self.now t.0 (Kind.Read x 0) }
+    {
+        if (x.0 as usize) < self.variables.len() {
+            let variable = &self.variables[x.0 as usize];
+            variable.has_room_for(t)
+        } else {
+            false
+        }
+    }
+
+    /// Makes room for a write of the variable.
+    fn reserve_variable(&mut self, x: VarId) -> Result<(), Memory>
+        ensures same { IsUnchanged self.old self.new }
+        ensures threads { length self.new.threads ≡ length self.old.threads }
+        ensures ok { OnOk result (x.0 < length self.new.variables) }
+        ensures err { OnErr result (length self.old.variables ≤ x.0) }
+    {
+        grow_variables(&mut self.variables, x.0 as usize)
+    }
+
+    /// Makes room for a read of the variable by each thread.
+    fn reserve_reads(&mut self, x: VarId) -> Result<(), Memory>
+        ensures same { IsUnchanged self.old self.new }
+        ensures threads { length self.new.threads ≡ length self.old.threads }
+        ensures ok { OnOk result (HasRoomToRead (length self.old.threads) self.new x.0) }
+    {
+        self.reserve_variable(x)?;
+        let threads = self.threads.len();
+        grow_reads(&mut self.variables, x.0 as usize, threads)
+    }
+
+    /// Makes room for an event of the lock.
+    fn reserve_lock(&mut self, m: LockId) -> Result<(), Memory>
+        ensures same { IsUnchanged self.old self.new }
+        ensures threads { length self.new.threads ≡ length self.old.threads }
+        ensures ok { OnOk result (m.0 < length self.new.locks) }
+        ensures err { OnErr result (length self.old.locks ≤ m.0) }
+    {
+        grow_entries(&mut self.locks, m.0 as usize)
+    }
+
+    /// Keeps the step, or none, as that of the last event at each place that the event records.
+    #[tactic(auto, unfolding(crate::specs::Recorded::recorded))]
+    pub fn record(&mut self, event: &Event, step: Option<Step>)
+        requires { HasRoomFor self.old event.now }
+        ensures recorded { IsRecorded self.old event.now step self.new }
+        ensures threads { length self.new.threads ≡ length self.old.threads }
+    {
+        self.record_in_place(event, step);
+    }
+
+    #[tactic(auto, unfolding(crate::specs::Recorded::recorded))]
+    fn record_in_place(&mut self, event: &Event, step: Option<Step>)
+        requires { HasRoomFor self.old event.now }
+        ensures { self.new ≡ recorded self.old event.now step }
+    {
+        let entry = Entry::new(step);
+        self.threads[event.thread.0 as usize] = entry;
+        match event.kind {
+            Kind::Read(x, _) => {
+                let variable = &mut self.variables[x.0 as usize];
+                variable.record_read(event.thread, step);
+            }
+            Kind::Write(x, _) => {
+                let variable = &mut self.variables[x.0 as usize];
+                variable.record_write(step);
+            }
+            Kind::Acquire(m) | Kind::Release(m) => self.locks[m.0 as usize] = entry,
+            Kind::Fork(u) => self.threads[u.0 as usize] = entry,
+            _ => {}
+        }
+    }
+
+    /// Puts the steps that the event looks up into the list, in place of what it had: first that of the thread's last
+    /// event, and a write's reads in the order of their threads.
+    #[tactic(auto, unfolding(crate::specs::Kept::steps_looked_up))]
+    pub fn predecessors_into(&self, event: &Event, list: &mut SmallVec<Step, 66>)
+        requires { 66 ≤ list.old.capacity }
+        ensures items { list.new.items ≡ steps_looked_up self.now event.now }
+        ensures capacity { list.new.capacity ≡ list.old.capacity }
+    {
+        list.clear();
+        push_step(list, self.last_of(event.thread));
+        match event.kind {
+            Kind::Read(x, _) => push_step(list, self.last_write(x)),
+            Kind::Write(x, _) => self.push_accesses(x, list),
+            Kind::Acquire(m) | Kind::Release(m) => push_step(list, self.last_on(m)),
+            Kind::Join(u) => push_step(list, self.last_of(u)),
+            _ => {}
+        }
+    }
+
+    /// Appends the steps of the variable's last write and reads.
+    fn push_accesses(&self, x: VarId, list: &mut SmallVec<Step, 66>)
+        requires { HasSpace list.old 65 }
+        ensures items { list.new.items ≡ list.old.items ++ filter_map (entry self.now) (LastWrite x.0 ∷ map (LastRead x.0) thread_numbers) }
+        ensures capacity { list.new.capacity ≡ list.old.capacity }
+    {
+        if (x.0 as usize) < self.variables.len() {
+            let variable = &self.variables[x.0 as usize];
+            push_step(list, variable.last_write());
+            variable.push_reads(list);
+        }
+    }
+
+    /// The steps that the event looks up: first that of the thread's last event, and a write's reads in the order of their
+    /// threads.
+    pub fn predecessors(&self, event: &Event) -> SmallVec<Step, 66>
+        ensures { result.items ≡ steps_looked_up self.now event.now }
+    {
+        let mut list = SmallVec::new(*self.threads.allocator());
+        self.predecessors_into(event, &mut list);
+        list
+    }
+}

@@ -1,0 +1,127 @@
+ghost use Rattle.std.specs.Prelude.{◌≡◌, length, IfOk};
+ghost use Rattle.velo_tables.specs.Kept.{HasItsThreads};
+
+use crate::Tables;
+use std::alloc::Global;
+use std::test::Fail;
+use velo_arena::Step;
+use velo_events::{Bounds, Config, Event, Kind, Label, LockId, ThreadId, VarId};
+
+/// The tables of a run of four threads.
+fn opened(alloc: Global) -> Result<Tables, Fail>
+    ensures { IfOk result (λ tables. length tables.threads ≡ 4) }
+{
+    let bounds = Bounds {
+        threads: 4,
+        variables: 3,
+        locks: 2,
+    };
+    let config = Config::new(1, bounds, 100, 10, false)?;
+    let tables = Tables::new(alloc, &config)?;
+    Ok(tables)
+}
+
+fn by(thread: u8, kind: Kind) -> Event
+    ensures thread { result.thread.0 ≡ thread }
+    ensures kind { result.kind ≡ kind }
+{
+    Event {
+        thread: ThreadId(thread),
+        kind,
+    }
+}
+
+fn at(stamp: u32) -> Step {
+    Step { slot: 7, stamp }
+}
+
+/// Makes room for the event and records it.
+fn note(tables: &mut Tables, event: Event, step: Option<Step>) -> Result<(), Fail>
+    requires { HasItsThreads tables.old event }
+    ensures { length tables.new.threads ≡ length tables.old.threads }
+{
+    tables.reserve_for(&event)?;
+    tables.record(&event, step);
+    Ok(())
+}
+
+const X: VarId = VarId(0);
+
+const Y: VarId = VarId(1);
+
+#[test]
+fn a_write_finds_every_reader(rt: HostRuntime) -> Result<(), Fail> {
+    let mut tables = opened(rt.alloc())?;
+    note(&mut tables, by(0, Kind::Read(X, 0)), Some(at(1)))?;
+    note(&mut tables, by(2, Kind::Read(X, 0)), Some(at(2)))?;
+    note(&mut tables, by(1, Kind::Read(X, 0)), Some(at(3)))?;
+    note(&mut tables, by(1, Kind::Read(Y, 0)), Some(at(4)))?;
+    let write = by(3, Kind::Write(X, 5));
+    assert_eq!(rt;
+        tables.predecessors(&write).as_slice(),
+        [at(1), at(3), at(2)].as_slice()
+    );
+
+    tables.reserve_for(&write)?;
+    assert_eq!(rt;
+        tables.predecessors(&write).as_slice(),
+        [at(1), at(3), at(2)].as_slice()
+    );
+
+    note(&mut tables, write, Some(at(5)))?;
+    let next = by(0, Kind::Write(X, 6));
+    assert_eq!(rt;
+        tables.predecessors(&next).as_slice(),
+        [at(1), at(5), at(1), at(3), at(2)].as_slice()
+    );
+
+    note(&mut tables, by(2, Kind::Read(X, 5)), None)?;
+    assert_eq!(rt;
+        tables.predecessors(&next).as_slice(),
+        [at(1), at(5), at(1), at(3)].as_slice()
+    );
+    Ok(())
+}
+
+#[test]
+fn a_fork_leads_to_the_child_and_a_join_from_it(rt: HostRuntime) -> Result<(), Fail> {
+    let mut tables = opened(rt.alloc())?;
+    note(&mut tables, by(0, Kind::Fork(ThreadId(1))), Some(at(1)))?;
+    let first = by(1, Kind::Begin(Label(0)));
+    assert_eq!(rt; tables.predecessors(&first).as_slice(), [at(1)].as_slice());
+    assert_eq!(rt;
+        tables.predecessors(&by(2, Kind::End)).as_slice(),
+        [].as_slice()
+    );
+
+    note(&mut tables, first, Some(at(2)))?;
+    let join = by(0, Kind::Join(ThreadId(1)));
+    assert_eq!(rt;
+        tables.predecessors(&join).as_slice(),
+        [at(1), at(2)].as_slice()
+    );
+    Ok(())
+}
+
+#[test]
+fn a_lock_has_one_last_event(rt: HostRuntime) -> Result<(), Fail> {
+    let mut tables = opened(rt.alloc())?;
+    note(&mut tables, by(0, Kind::Acquire(LockId(1))), Some(at(1)))?;
+    note(&mut tables, by(0, Kind::Release(LockId(1))), Some(at(2)))?;
+    assert_eq!(rt;
+        tables
+            .predecessors(&by(1, Kind::Acquire(LockId(1))))
+            .as_slice(),
+        [at(2)].as_slice()
+    );
+    assert_eq!(rt;
+        tables
+            .predecessors(&by(1, Kind::Acquire(LockId(0))))
+            .as_slice(),
+        [].as_slice()
+    );
+    assert_eq!(rt; tables.last_on(LockId(1)), Some(at(2)));
+    assert_eq!(rt; tables.last_write(X), None);
+    assert_eq!(rt; tables.last_read(X, ThreadId(3)), None);
+    Ok(())
+}
