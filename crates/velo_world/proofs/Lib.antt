@@ -4,3 +4,9 @@ pub mod OnSearches
 pub mod OnEntries
 pub mod OnAlarms
 pub mod OnAnswers
+pub mod OnStatuses
+pub mod OnHoldings
+pub mod OnSteps
+pub mod OnSequences
+pub mod OnClosing
+pub mod OnReadiness

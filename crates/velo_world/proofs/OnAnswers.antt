@@ -1,15 +1,20 @@
 -- The event that an action is may follow the log.
-use Rattle.std.proofs.Common.{◌≡◌, Bool, true, false, List, length, Option, Some, None, Ok, Err, refl, subst}
-use Rattle.std.specs.Prelude.{if◌then◌else◌, nat_le, Result}
+use Rattle.std.proofs.Common.{◌≡◌, Bool, true, false, List, length, Option, Some, None, Ok, Err, refl, sym, subst}
+use Rattle.std.specs.Prelude.{◌<◌, ◌&&◌, if◌then◌else◌, nat_le, nat_lt, Result, IsTrue, IsFalse}
+use Rattle.std.proofs.lemmas.Bool.{leb-false, ltb-true, not_from_false}
 use Rattle.velo_events.specs.declared.event.Action.{Action}
 use Rattle.velo_events.specs.declared.event.Event.{Event}
 use Rattle.velo_events.specs.declared.event.ThreadId.{ThreadId}
 use Rattle.velo_events.specs.declared.refusal.Refusal.{Refusal}
-use Rattle.velo_events.specs.declared.refusal.Refusal.TheVariants.{Halted, LogFull}
+use Rattle.velo_events.specs.declared.refusal.Refusal.TheVariants.{Halted, NotLive, LogFull}
+use Rattle.velo_events.specs.declared.event.Status.{Status}
+use Rattle.velo_events.specs.declared.event.Status.TheVariants.{Unborn, Live, Exited, Joined}
+use Rattle.velo_events.specs.Heap.{status_in}
 use Rattle.velo_events.specs.WellFormed.{MayFollow, IsWellFormed}
-use Rattle.velo_events.specs.Meaning.{kind_for, event_for, refusal_of, HasItsValue}
+use Rattle.velo_events.specs.Meaning.{kind_for, event_for, refusal_of, HasItsValue, is_live}
 use Rattle.velo_events.proofs.OnMeaning.{MayFollow-refusal_of}
 use Rattle.velo_world.specs.Worlds.{WorldState, meaning}
+use Rattle.velo_world.specs.Holdings.{IsLive}
 
 its_value : (log : List Event) (action : Action) → HasItsValue log (kind_for log action)
 its_value log (Action.Read x) = refl
@@ -39,3 +44,41 @@ MayFollow-meaning w t action e well h = at (refusal_of w.config.bounds w.log t.0
     at None is =
         subst (MayFollow w.config.bounds w.log) (event_is w.halted (nat_le w.config.events (length w.log)) (event_for w.log t action) e (rw is at h))
         ((MayFollow-refusal_of w.config.bounds w.log (event_for w.log t action) well).1 (is, its_value w.log action))
+
+-- it is the action's event
+pub event-meaning : (w : WorldState) (t : ThreadId) (action : Action) (e : Event) → meaning w t action ≡ Ok e → e ≡ event_for w.log t action
+event-meaning w t action e h = at (refusal_of w.config.bounds w.log t.0 (kind_for w.log action)) refl
+  where
+    at : (o : Option Refusal) → refusal_of w.config.bounds w.log t.0 (kind_for w.log action) ≡ o → e ≡ event_for w.log t action
+    at (Some r) is = absurd (refused w.halted r e (rw is at h))
+    at None is = sym (event_is w.halted (nat_le w.config.events (length w.log)) (event_for w.log t action) e (rw is at h))
+
+-- and there is room for it within the limit
+within : (halted full : Bool) (x e : Event) → ◌≡◌ {A = Result Event Refusal} (if halted then Err Halted else (if full then Err LogFull else Ok x)) (Ok e) → IsFalse full
+within true full x e h = cc
+within false true x e h = cc
+within false false x e h = refl
+
+pub meaning-room : (w : WorldState) (t : ThreadId) (action : Action) (e : Event) → meaning w t action ≡ Ok e → length w.log < w.config.events
+meaning-room w t action e h = at (refusal_of w.config.bounds w.log t.0 (kind_for w.log action)) refl
+  where
+    at : (o : Option Refusal) → refusal_of w.config.bounds w.log t.0 (kind_for w.log action) ≡ o → length w.log < w.config.events
+    at (Some r) is = absurd (refused w.halted r e (rw is at h))
+    at None is = leb-false _ _ (within w.halted (nat_le w.config.events (length w.log)) (event_for w.log t action) e (rw is at h))
+
+-- a thread that is not live is refused so, in a world that is not halted
+pub meaning-not_live : (w : WorldState) (t : ThreadId) (action : Action) → IsFalse w.halted → ¬ IsLive w t.0 → meaning w t action ≡ Err NotLive
+unfolding refusal_of
+meaning-not_live w t action going not_live =
+    let no = not_from_false _ (live_test (nat_lt t.0 w.config.bounds.threads) (status_in w.log t.0) (λ lt live. not_live (ltb-true _ _ lt, live))) in
+    rw (going, no) refl
+  where
+    live_test : (b : Bool) (s : Status) → (IsTrue b → s ≡ Live → ⊥) → IsFalse (b && is_live s)
+    live_test false s h = refl
+    live_test true Unborn h = refl
+    live_test true Live h = absurd (h refl refl)
+    live_test true Exited h = refl
+    live_test true Joined h = refl
+
+pub meaning-halted : (w : WorldState) (t : ThreadId) (action : Action) → IsTrue w.halted → meaning w t action ≡ Err Halted
+meaning-halted w t action h = rw h refl

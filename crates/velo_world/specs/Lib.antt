@@ -5,5 +5,7 @@ pub mod Observed
 pub mod Alarms
 pub mod Runs
 pub mod Worlds
+pub mod Holdings
 pub mod Steps
+pub mod Sequences
 pub mod Kept

@@ -1,11 +1,13 @@
-//! One world: a log and the heap that it leaves, where each action is one event and the first cycle raises the alarm.
+//! One world: a log, the heap that it leaves and a book of it, where each action is one event and the first cycle raises the alarm.
 #![tactic(auto)]
 
+mod closed;
 mod full_graph;
 mod reach;
 mod run;
 mod world;
 
+pub use closed::Closed;
 pub use run::{Alarm, Reply};
 pub use world::World;
 

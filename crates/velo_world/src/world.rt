@@ -1,26 +1,40 @@
-ghost use Rattle.std.specs.Prelude.{◌≡◌, ◌≤◌, length, IfOk, IfSome, IfNone};
+ghost use Rattle.std.specs.Prelude.{◌≡◌, ◌≤◌, ◌<◌, ◌↔◌, ◌∷◌, ◌++◌, [], ℕ, length, None, Some, IfOk, IfSome, IfNone, OnErr, IsTrue, slice_get, slice_set};
+ghost use Rattle.velo_events.specs.declared.event.Action.TheVariants.{Fork};
 ghost use Rattle.velo_events.specs.Graph.{HasCycle};
-ghost use Rattle.velo_events.specs.WellFormed.{IsWellFormed};
+ghost use Rattle.velo_events.specs.WellFormed.{IsWellFormed, MayFollow};
 ghost use Rattle.velo_heap.specs.Contents.{bounds_of, StandsFor};
+ghost use Rattle.velo_ledger.specs.Tally.{entered};
+ghost use Rattle.velo_ledger.specs.Book.{Fits, IsFilled, with_row, with_tally};
+ghost use Rattle.velo_ledger.specs.Shares.{AreInPlace, events_in_all, opening_share, share_at};
 ghost use Rattle.velo_world.specs.Alarms.{IsAlarm};
+ghost use Rattle.velo_world.specs.Runs.{Follows, HasRoom};
 ghost use Rattle.velo_world.specs.Worlds.{opening, halted_world, meaning};
-ghost use Rattle.velo_world.specs.Steps.{Acts};
+ghost use Rattle.velo_world.specs.Holdings.{FitsRun, IsBookOf, IsBorn, IsLive, IsReady, IsComplete, PlaceIsRight};
+ghost use Rattle.velo_world.specs.Steps.{IsNoFork, Replies, Acts, Forks, Closes};
+ghost use Rattle.velo_world.specs.Sequences.{StepsTo, RunsTo, born_by, with_share};
 
+use crate::closed::Closed;
 use crate::run::{Alarm, Reply, Run};
 use std::alloc::Global;
 use std::marker::Model;
-use velo_events::{Action, Bounds, Config, Event, Memory, Refusal, ThreadId};
+use velo_events::{Action, Bounds, Config, Event, Memory, Refusal, Status, ThreadId};
 use velo_heap::Heap;
+use velo_ledger::{Book, Share, Shares};
 use velo_traces::Trace;
 
-/// The log of a run with the heap that it leaves, and an alarm once the log has a cycle.
+/// The log of a run with the heap that it leaves, an alarm once the log has a cycle, and a book of the threads' events.
 ///
-/// Each action of a thread either is refused and changes nothing, or is one event.
+/// Each action of a thread either is refused and changes nothing, or is one event. A thread acts by its share, which the
+/// world keeps until the thread is forked.
 #[derive(Drop)]
 pub struct World {
     config: Config,
     halted: bool,
     run: Run,
+    book: Book,
+    /// The shares of the threads that are not born yet.
+    kept: Shares,
+    alloc: Global,
 }
 
 impl Model for World {
@@ -36,50 +50,126 @@ impl Model for World {
 }
 
 impl World {
-    /// A world without events.
+    /// A world without events, and the share of thread 0.
     ///
     /// # Errors
     /// `Memory` where a growth was refused.
-    pub fn new(alloc: Global, config: Config) -> Result<World, Memory>
-        ensures { IfOk result (λ world. world ≡ opening config) }
+    pub fn new(alloc: Global, config: Config) -> Result<(World, Share), Memory>
+        ensures world { IfOk result (λ opened. opened.0 ≡ opening config) }
+        ensures share { IfOk result (λ opened. opened.1 ≡ opening_share config.run 0) }
     {
         let run = Run::new(alloc, &config)?;
-        Ok(World {
+        let (book, mut kept) = Book::open(alloc, config.run, config.bounds.threads)?;
+        let Some(share) = kept.take(ThreadId(0)) else {
+            unreachable!()
+        };
+        let world = World {
             config,
             halted: false,
             run,
-        })
+            book,
+            kept,
+            alloc,
+        };
+        Ok((world, share))
     }
 
-    /// Does an action of a thread, which is one event at the end of the log.
+    /// Does an action of the share's thread, which is one event at the end of the log.
     ///
     /// # Errors
     /// The first refusal that applies: `Halted` (1), those of the heap (2 to 16), `LogFull` (17), `Memory` (19). Nothing
-    /// changes then.
-    pub fn act(&mut self, thread: ThreadId, action: Action) -> Result<Reply, Refusal>
-        ensures { Acts self.old thread action result self.new }
+    /// changes then, the share neither.
+    pub fn act(&mut self, share: &mut Share, action: Action) -> Result<Reply, Refusal>
+        requires fork { IsNoFork action }
+        requires fits { FitsRun self.old share.old }
+        ensures { Acts self.old share.old action result self.new share.new }
     {
-        let event = self.decide(thread, action)?;
+        let event = self.decide(share.thread(), action)?;
         if self.run.reserve_one().is_err() {
             return Err(Refusal::Memory);
         }
-        let reply = self.run.commit(event);
+        let reply = commit(&mut self.run, &mut self.book, share, event);
         self.halted = self.config.stop && reply.alarmed;
         Ok(reply)
     }
 
-    /// The event that an action is, or the first refusal that applies.
-    fn decide(&self, thread: ThreadId, action: Action) -> Result<Event, Refusal>
-        ensures { result ≡ meaning self.now thread action }
+    /// Forks a thread, which is one event of the share's thread, and hands out the share that the child begins with.
+    ///
+    /// # Errors
+    /// The first refusal that applies, as for `act`. Nothing changes then, the share neither.
+    pub fn fork(&mut self, share: &mut Share, child: ThreadId) -> Result<(Reply, Share), Refusal>
+        requires { FitsRun self.old share.old }
+        ensures { Forks self.old share.old child result self.new share.new }
+    {
+        let event = self.decide(share.thread(), Action::Fork(child))?;
+        if self.run.reserve_one().is_err() {
+            return Err(Refusal::Memory);
+        }
+        let Some(born) = self.kept.take(child) else {
+            unreachable!()
+        };
+        let forked = commit(&mut self.run, &mut self.book, share, event);
+        self.halted = self.config.stop && forked.alarmed;
+        Ok((forked, born))
+    }
+
+    /// Does the steps one after another, each by the share of its thread, and answers one outcome for each. The share of
+    /// a forked thread comes to its place.
+    ///
+    /// # Errors
+    /// `Memory` where the room for the outcomes was refused, before any step.
+    pub fn run(
+        &mut self,
+        shares: &mut Shares,
+        steps: &[(ThreadId, Action)],
+    ) -> Result<Vec<Result<Reply, Refusal>>, Memory>
+        requires { IsReady self.old shares.old }
+        ensures outcomes { IfOk result (λ outcomes.
+            RunsTo self.old shares.old steps.now outcomes.items self.new shares.new) }
+        ensures count { IfOk result (λ outcomes. length outcomes.items ≡ length steps.now) }
+        ensures world { OnErr result (self.new ≡ self.old) }
+        ensures shares { OnErr result (shares.new ≡ shares.old) }
+        ensures ready { IsReady self.new shares.new }
+        ensures filled { (t : ℕ) → IsFilled shares.old t → IsFilled shares.new t }
+        ensures complete { IsComplete self.old shares.old → IsComplete self.new shares.new }
+    {
+        let mut outcomes: Vec<Result<Reply, Refusal>> = Vec::new(self.alloc);
+        outcomes.reserve(steps.len())?;
+        for (thread, action) in steps {
+            outcomes.push_reserved(self.step(shares, *thread, *action));
+        }
+        Ok(outcomes)
+    }
+
+    /// Does one action of a thread, a fork or any other, by the share at the thread's place.
+    ///
+    /// # Errors
+    /// The first refusal that applies, as for `act`. Nothing changes then, the shares neither.
+    pub fn step(
+        &mut self,
+        shares: &mut Shares,
+        thread: ThreadId,
+        action: Action,
+    ) -> Result<Reply, Refusal>
+        requires { IsReady self.old shares.old }
+        ensures outcome { StepsTo self.old shares.old thread action result self.new shares.new }
+        ensures ready { IsReady self.new shares.new }
+        ensures filled { (t : ℕ) → IsFilled shares.old t → IsFilled shares.new t }
+        ensures complete { IsComplete self.old shares.old → IsComplete self.new shares.new }
     {
         if self.halted {
             return Err(Refusal::Halted);
         }
-        let event = self.run.heap.admit(thread, action)?;
-        if self.run.log.len() >= self.config.events as usize {
-            return Err(Refusal::LogFull);
+        if !self.is_live(thread) {
+            return Err(Refusal::NotLive);
         }
-        Ok(event)
+        let Some(mut share) = shares.take(thread) else {
+            unreachable!()
+        };
+        let (outcome, born) = self.act_or_fork(&mut share, action);
+        put(shares, Some(share));
+        put(shares, born);
+        outcome
     }
 
     /// How many threads, variables and locks there are.
@@ -87,6 +177,13 @@ impl World {
         ensures { result ≡ self.now.config.bounds }
     {
         self.config.bounds
+    }
+
+    /// How many threads there are.
+    pub fn threads(&self) -> u8
+        ensures { result ≡ self.now.config.bounds.threads }
+    {
+        self.bounds().threads
     }
 
     /// The events so far.
@@ -104,6 +201,13 @@ impl World {
         ensures bounds { bounds_of result.now ≡ self.now.config.bounds }
     {
         &self.run.heap
+    }
+
+    /// The book of the log, with a row for each thread.
+    pub fn book(&self) -> &Book
+        ensures { IsBookOf self.now result.now }
+    {
+        &self.book
     }
 
     /// The alarm, if the log has a cycle: the first event that closed one, however the log went on.
@@ -126,5 +230,140 @@ impl World {
         ensures { result ≡ self.now.halted }
     {
         self.halted
+    }
+
+    /// Whether the share is of this run and of a thread of this world, and says what the log says of it.
+    pub fn fits(&self, share: &Share) -> bool
+        ensures { IsTrue result ↔ FitsRun self.now share.now }
+    {
+        self.book.fits(share)
+    }
+
+    /// Ends the run where the shares that the world keeps and those given are one fitting share of each thread. Else the
+    /// world and the shares are given back as they were.
+    pub fn close(self, given: Shares) -> Result<Closed, (World, Shares)>
+        ensures closes { Closes self given result }
+        ensures sum { IfOk result (λ closed. events_in_all given ≡ length closed.log) }
+    {
+        if self.is_complete(&given) {
+            Ok(self.into_closed())
+        } else {
+            Err((self, given))
+        }
+    }
+
+    /// Ends the run, whoever has the shares.
+    pub fn into_closed(self) -> Closed
+        ensures { result ≡ self }
+    {
+        Closed { world: self }
+    }
+
+    /// The event that an action is, or the first refusal that applies.
+    fn decide(&self, thread: ThreadId, action: Action) -> Result<Event, Refusal>
+        ensures { result ≡ meaning self.now thread action }
+    {
+        if self.is_halted() {
+            return Err(Refusal::Halted);
+        }
+        let event = self.run.heap.admit(thread, action)?;
+        if self.run.log.len() >= self.config.events as usize {
+            return Err(Refusal::LogFull);
+        }
+        Ok(event)
+    }
+
+    /// Acts or forks by the share, and hands out the share of a forked thread.
+    fn act_or_fork(
+        &mut self,
+        share: &mut Share,
+        action: Action,
+    ) -> (Result<Reply, Refusal>, Option<Share>)
+        requires { FitsRun self.old share.old }
+        ensures acts { Acts self.old share.old action result.0 self.new share.new }
+        ensures born { result.1 ≡ born_by self.old.config.run action result.0 }
+    {
+        let Action::Fork(child) = action else {
+            return (self.act(share, action), None);
+        };
+        match self.fork(share, child) {
+            Ok((reply, born)) => (Ok(reply), Some(born)),
+            Err(refusal) => (Err(refusal), None),
+        }
+    }
+
+    /// Whether the thread is there and may act.
+    fn is_live(&self, thread: ThreadId) -> bool
+        ensures { IsTrue result ↔ IsLive self.now thread.0 }
+    {
+        thread.0 < self.threads() && matches!(self.run.heap.status(thread), Status::Live)
+    }
+
+    /// Whether the thread is there and not unborn.
+    fn is_born(&self, thread: ThreadId) -> bool
+        ensures { IsTrue result ↔ IsBorn self.now thread.0 }
+    {
+        thread.0 < self.threads() && !matches!(self.run.heap.status(thread), Status::Unborn)
+    }
+
+    /// Whether the place of a thread has a fitting share if the thread was born, and else none.
+    fn is_right_at(&self, given: &Shares, thread: ThreadId) -> bool
+        ensures right { IsTrue result ↔ PlaceIsRight self.now thread.0 (share_at given.now thread) }
+        ensures in_place { AreInPlace given.now }
+    {
+        match given.get(thread) {
+            None => !self.is_born(thread),
+            Some(share) => self.is_born(thread) && self.fits(share),
+        }
+    }
+
+    /// Whether the shares that the world keeps and those given are one fitting share of each thread.
+    fn is_complete(&self, given: &Shares) -> bool
+        ensures complete { IsTrue result ↔ IsComplete self.now given.now }
+        ensures sum { IsTrue result → events_in_all given.now ≡ length self.now.log }
+    {
+        let _ = &self.config;
+        for thread in 0..u8::MAX {
+            if !self.is_right_at(given, ThreadId(thread)) {
+                return false;
+            }
+        }
+        true
+    }
+}
+
+/// Takes in an admitted event of the share's thread, for which there is room, and enters it in book and share.
+fn commit(run: &mut Run, book: &mut Book, share: &mut Share, event: Event) -> Reply
+    requires follows { Follows run.old }
+    requires room { HasRoom run.old }
+    requires admitted { MayFollow (bounds_of run.old.heap) run.old.log.events event }
+    requires fits { Fits book.old share.old }
+    requires own { event.thread ≡ share.old.thread }
+    requires later { share.old.tally.next ≤ length run.old.log.events }
+    requires short { length run.old.log.events < 16777216 }
+    ensures log { run.new.log.events ≡ run.old.log.events ++ event ∷ [] }
+    ensures bounds { bounds_of run.new.heap ≡ bounds_of run.old.heap }
+    ensures follows { Follows run.new }
+    ensures reply { Replies run.old.log.events event result }
+    ensures book { book.new ≡ with_row book.old share.old.thread
+        (entered share.old.tally (length run.old.log.events) event) }
+    ensures share { share.new ≡ with_tally share.old
+        (entered share.old.tally (length run.old.log.events) event) }
+{
+    let reply = run.commit(event);
+    book.enter(share, reply.position, &event);
+    reply
+}
+
+/// Puts a share, if there is one, at its thread's place, which is there and empty.
+fn put(shares: &mut Shares, share: Option<Share>)
+    requires { IfSome share (λ share. slice_get shares.old share.thread.0 ≡ Some None) }
+    ensures { shares.new ≡ with_share shares.old share }
+{
+    let Some(share) = share else {
+        return;
+    };
+    if shares.put(share).is_err() {
+        unreachable!()
     }
 }

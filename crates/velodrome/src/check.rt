@@ -4,14 +4,16 @@ ghost use Rattle.velo_events.specs.Meaning.{action_of, has_its_value};
 ghost use Rattle.velo_events.specs.WellFormed.{IsWellFormed, NamesKnown};
 ghost use Rattle.velo_traces.specs.Flaws.{flaw_of};
 ghost use Rattle.velo_logtext.specs.Text.{AreBounds};
-ghost use Rattle.velo_world.specs.Worlds.{meaning};
+ghost use Rattle.velo_world.specs.Worlds.{meaning, opening};
+ghost use Rattle.velo_world.specs.Holdings.{IsReady};
 ghost use Rattle.velo_world.specs.Alarms.{AlarmOf};
 ghost use Rattle.velodrome.specs.Check.{Checks, Reports, verdict_of, read_failures, write_failures};
 ghost use Rattle.velodrome.specs.Following.{world_of, Stops, StopsIn, IsRefusal, is_as_logged};
 
 use crate::report::report_of;
 use std::alloc::Global;
-use velo_events::{Action, Bounds, Config, Event, Kind, Refusal};
+use velo_events::{Action, Bounds, Config, Event, Kind, Memory, Refusal};
+use velo_ledger::Shares;
 use velo_logtext::{LogFault, Sink, Source, WriteFault, read_log, write_all};
 use velo_traces::Trace;
 use velo_world::{Alarm, World};
@@ -99,10 +101,25 @@ fn fault_of(world: &World, event: &Event, refusal: Refusal) -> CheckFault
     }
 }
 
+/// A world without events, and a place for each thread's share.
+fn opened(alloc: Global, config: Config) -> Result<(World, Shares), Memory>
+    ensures world { IfOk result (λ opened. opened.0 ≡ opening config) }
+    ensures ready { IfOk result (λ opened. IsReady opened.0 opened.1) }
+{
+    let (world, share) = World::new(alloc, config)?;
+    let mut shares = Shares::none(alloc, config.bounds.threads)?;
+    if shares.put(share).is_err() {
+        unreachable!()
+    }
+    Ok((world, shares))
+}
+
 /// Lets the world do what the next event of a log says.
-fn follow(world: &mut World, event: &Event) -> Result<(), CheckFault>
+fn follow(world: &mut World, shares: &mut Shares, event: &Event) -> Result<(), CheckFault>
     requires running { world.old.halted ≡ false }
     requires goes_on { world.old.config.stop ≡ false }
+    requires ready { IsReady world.old shares.old }
+    ensures ready { IsReady world.new shares.new }
     ensures before { IsWellFormed world.old.config.bounds world.old.log }
     ensures short { length world.old.log ≤ world.old.config.events }
     ensures ok { OnOk result (world.new ≡ world_of world.old.config (world.old.log ++ event.now ∷ [])) }
@@ -110,7 +127,7 @@ fn follow(world: &mut World, event: &Event) -> Result<(), CheckFault>
     ensures err { IfErr result (λ fault. Stops world.old.config world.old.log event.now fault) }
 {
     let position = world.log().len();
-    match world.act(event.thread, action_of(event.kind)) {
+    match world.step(shares, event.thread, action_of(event.kind)) {
         Ok(reply) if is_as_logged(event.kind, reply.value) => Ok(()),
         Ok(_) => Err(CheckFault::WrongValue { position }),
         Err(refusal) => Err(fault_of(world, event, refusal)),
@@ -123,12 +140,12 @@ fn followed(alloc: Global, config: Config, log: &Trace) -> Result<World, CheckFa
     ensures ok { IfOk result (λ world. world ≡ world_of config log.now.events) }
     ensures err { IfErr result (λ fault. StopsIn config log.now.events fault) }
 {
-    let Ok(mut world) = World::new(alloc, config) else {
+    let Ok((mut world, mut shares)) = opened(alloc, config) else {
         return Err(CheckFault::Memory);
     };
     let events = log.as_slice();
     for event in events {
-        follow(&mut world, event)?;
+        follow(&mut world, &mut shares, event)?;
     }
     Ok(world)
 }
@@ -171,9 +188,8 @@ fn reported<O: Sink>(alloc: Global, world: &World, sink: &mut O) -> Result<Verdi
     ensures answer { Reports world.now (O.contents sink.old) (O.contents sink.new) result }
     ensures written { O.failures sink.new ≡ write_failures result (O.failures sink.old) }
 {
-    let log = world.log();
     let alarm = alarm_of(world);
-    let Ok(text) = report_of(alloc, world.bounds().threads, log, alarm) else {
+    let Ok(text) = report_of(alloc, world, alarm) else {
         return Err(CheckFault::Memory);
     };
     match write_all(sink, text.as_bytes()) {

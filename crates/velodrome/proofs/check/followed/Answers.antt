@@ -14,6 +14,6 @@ returns-in_err-follow-clause-err c =
     let same = c.as_slice-events.ensures in
     let within : i < length c.as_slice-events.result.now = omega arith in
     rw (p.1, p.2) (stops_in_world c.loop-event.world c.args.config c.args.log.now.events i _ _
-    (c.loop-event.invariant ∙ ap (λ xs. world_of c.args.config (take i xs)) same)
+    (c.loop-event.invariant.done ∙ ap (λ xs. world_of c.args.config (take i xs)) same)
     (ap (λ xs. slice_get xs i) (sym same) ∙ slice_get-get_or c.as_slice-events.result.now i _ within)
     m.before m.short m.err)

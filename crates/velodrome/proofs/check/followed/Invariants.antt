@@ -1,6 +1,11 @@
 use Rattle.std.proofs.Common.{◌≡◌, take}
+use Rattle.velo_world.specs.Holdings.{IsReady}
 use Rattle.velodrome.specs.Following.{world_of}
 use Rattle.velodrome.proofs.check.followed.Given as goal
 
 abbrev pub invariant-loop-event : goal.invariant-loop-event
-invariant-loop-event l = l.world ≡ world_of l.fn.config (take l.event-index l.events)
+invariant-loop-event l =
+    record {
+      done : l.world ≡ world_of l.fn.config (take l.event-index l.events);
+      ready : IsReady l.world l.shares;
+    }

@@ -3,4 +3,4 @@ use Rattle.velodrome.specs.Report.{thread_lines}
 use Rattle.velodrome.proofs.report.add_threads.Given as goal
 
 abbrev pub invariant-loop-t : goal.invariant-loop-t
-invariant-loop-t l = string_bytes l.text ≡ string_bytes l.initial.text ++ thread_lines l.log.events l.t-counter
+invariant-loop-t l = string_bytes l.text ≡ string_bytes l.initial.text ++ thread_lines l.world.log l.t-counter

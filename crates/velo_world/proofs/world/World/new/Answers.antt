@@ -1,0 +1,14 @@
+use Rattle.std.proofs.Common.{◌≡◌, length, arith, ap}
+use Rattle.velo_world.proofs.OnHoldings.{IsBookOf-opening, KeepsUnborn-opening}
+use Rattle.velo_world.proofs.world.World.new.Goals as goal
+
+pub invariant_of-world : goal.invariant_of-world
+invariant_of-world c =
+    let log_is = c.in_ok-run.ensures.log in
+    record {
+      short = (let none : length c.in_ok-run.run'.log.events ≡ 0 = ap length log_is in omega (arith, none));
+      bounds = c.in_ok-run.ensures.bounds;
+      follows = c.in_ok-run.ensures.follows;
+      book = rw (log_is, c.in_ok-book.ensures.book) (IsBookOf-opening c.args.config);
+      keeps = rw (log_is, c.take.ensures.after) (KeepsUnborn-opening c.args.config c.in_ok-book.kept c.args.config.some_thread c.in_ok-book.ensures.shares);
+    }
