@@ -322,6 +322,7 @@ impl World {
         ensures complete { IsTrue result ↔ IsComplete self.now given.now }
         ensures sum { IsTrue result → events_in_all given.now ≡ length self.now.log }
     {
+        // the sum follows from what the type keeps of its book
         let _ = &self.config;
         for thread in 0..u8::MAX {
             if !self.is_right_at(given, ThreadId(thread)) {

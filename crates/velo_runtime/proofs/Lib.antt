@@ -1,0 +1,2 @@
+pub mod OnRefusals
+pub mod Places

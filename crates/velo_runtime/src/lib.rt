@@ -1,0 +1,12 @@
+//! Threads at one world: each has a seat, and a lock guards the room that the world is in.
+#![tactic(auto)]
+
+mod room;
+mod seat;
+mod shared;
+#[cfg(test)]
+mod tests;
+
+pub use room::{Room, fork_in, step_in};
+pub use seat::Seat;
+pub use shared::{Missing, Shared, close};

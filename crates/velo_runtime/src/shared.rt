@@ -1,0 +1,73 @@
+ghost use Rattle.std.specs.Prelude.{◌≡◌, length, sum_by, IfOk, IfErr};
+ghost use Rattle.velo_events.specs.declared.refusal.Refusal.TheVariants as refusal;
+ghost use Rattle.velo_ledger.specs.Shares.{opening_share};
+ghost use Rattle.velo_runtime.specs.Seats.{AreSeatsOf};
+
+use crate::room::Room;
+use crate::seat::Seat;
+use std::alloc::Global;
+use std::fmt;
+use std::fmt::{Debug, Formatter, Write};
+use std::sync::Mutex;
+use thiserror::Error;
+use velo_events::{Config, Refusal};
+use velo_world::Closed;
+
+/// A room under its lock, for any number of threads.
+#[derive(Drop)]
+pub struct Shared {
+    pub room: Mutex<Room>,
+}
+
+impl Shared {
+    /// Opens a room without events, and gives the seat of thread 0.
+    ///
+    /// # Errors
+    /// `RuntimeMemory` (21) where a growth was refused.
+    pub fn open(alloc: Global, config: Config) -> Result<(Shared, Seat), Refusal>
+        ensures seat { IfOk result (λ opened. opened.1 ≡ opening_share config.run 0) }
+        ensures memory { IfErr result (λ e. e ≡ refusal.RuntimeMemory) }
+    {
+        let Ok((room, seat)) = Room::open(alloc, config) else {
+            return Err(Refusal::RuntimeMemory);
+        };
+        let shared = Shared {
+            room: Mutex::new(room),
+        };
+        Ok((shared, seat))
+    }
+}
+
+/// What `close` gives back, all as it was.
+#[derive(Drop, Error)]
+#[error("a seat is missing, or one does not fit")]
+pub struct Missing {
+    pub shared: Shared,
+    pub seats: Vec<Seat>,
+}
+
+impl Debug for Missing {
+    fn fmt<W: Write>(&self, f: &mut Formatter<W>) -> fmt::Result {
+        f.debug_struct("Missing").finish_non_exhaustive()
+    }
+}
+
+/// Ends the run. It takes no memory.
+///
+/// # Errors
+/// `Missing` where the seats are not one fitting seat of each thread that was forked, and of thread 0.
+pub fn close(shared: Shared, seats: Vec<Seat>) -> Result<Closed, Missing>
+    ensures seats { IfOk result (λ closed. AreSeatsOf closed seats.items) }
+    ensures total { IfOk result (λ closed. length closed.log ≡ sum_by (λ seat. seat.tally.events) seats.items) }
+    ensures back { IfErr result (λ missing. missing.seats ≡ seats) }
+{
+    match shared.room.into_inner().close(seats) {
+        Ok(closed) => Ok(closed),
+        Err((room, seats)) => Err(Missing {
+            shared: Shared {
+                room: Mutex::new(room),
+            },
+            seats,
+        }),
+    }
+}
