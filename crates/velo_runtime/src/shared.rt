@@ -58,7 +58,8 @@ impl Debug for Missing {
 /// `Missing` where the seats are not one fitting seat of each thread that was forked, and of thread 0.
 pub fn close(shared: Shared, seats: Vec<Seat>) -> Result<Closed, Missing>
     ensures seats { IfOk result (λ closed. AreSeatsOf closed seats.items) }
-    ensures total { IfOk result (λ closed. length closed.log ≡ sum_by (λ seat. seat.tally.events) seats.items) }
+    ensures total { IfOk result (λ closed.
+        length closed.log ≡ sum_by (λ seat. seat.tally.events) seats.items) }
     ensures back { IfErr result (λ missing. missing.seats ≡ seats) }
 {
     match shared.room.into_inner().close(seats) {

@@ -10,6 +10,7 @@ use crate::arguments::{CheckOptions, check_options, command};
 use crate::check::{Verdict, check_run};
 use crate::fate::{Fate, end_line};
 use std::fs::File;
+use std::io::ErrorKind;
 use std::process::ExitCode;
 use velo_logtext::{ReaderSource, WriterSink};
 
@@ -25,14 +26,11 @@ fn main(rt: HostRuntime) -> ExitCode {
 
 /// Does what the command line asks for, and answers the status to end with.
 fn status(rt: &HostRuntime) -> u8 {
-    let alloc = rt.alloc();
-    let Ok(arguments) = std::env::args(rt) else {
-        return end(rt, Fate::Memory);
+    let words = match words_of(rt) {
+        Ok(words) => words,
+        Err(status) => return status,
     };
-    let Ok(words) = arguments.collect::<Vec<String>>(alloc) else {
-        return end(rt, Fate::Memory);
-    };
-    let Ok(command) = command(alloc) else {
+    let Ok(command) = command(rt.alloc()) else {
         return end(rt, Fate::Memory);
     };
     match command.try_get_matches_from(words.as_slice()) {
@@ -49,6 +47,25 @@ fn status(rt: &HostRuntime) -> u8 {
             }
             error.exit_code() as u8
         }
+    }
+}
+
+/// The words of the command line, or the status to end with.
+fn words_of(rt: &HostRuntime) -> Result<Vec<String>, u8> {
+    match std::env::args(rt) {
+        Ok(words) => match words.collect::<Vec<String>>(rt.alloc()) {
+            Ok(words) => Ok(words),
+            Err(_) => Err(end(rt, Fate::Memory)),
+        },
+        Err(error) if error.kind() == ErrorKind::InvalidData => {
+            let told = eprintln!(rt; "error: a word of the command line is not UTF-8");
+            Err(if told.is_ok() {
+                BAD_USAGE
+            } else {
+                DEVICE_FAILED
+            })
+        }
+        Err(_) => Err(end(rt, Fate::Memory)),
     }
 }
 
