@@ -11,9 +11,18 @@ fn fault_of(alloc: Global, text: &[u8]) -> Option<LogFault> {
 }
 
 /// Logs as in the worked examples, and each kind of line at the ends of its numbers' ranges.
-const LOGS: [&str; 5] = [
+const LOGS: [&str; 14] = [
     "vlog 1 1 0 0\n",
     "vlog 1 2 1 0\n0 fork 1\n0 begin 7\n0 rd 0 0\n1 wr 0 5\n0 wr 0 1\n",
+    "vlog 1 2 2 0\n0 fork 1\n0 begin 1\n0 wr 0 1\n1 begin 2\n1 wr 1 1\n0 rd 1 1\n1 rd 0 1\n",
+    "vlog 1 2 0 0\n0 begin 1\n0 fork 1\n1 exit\n0 join 1\n",
+    "vlog 1 2 1 0\n0 fork 1\n0 begin 1\n0 rd 0 0\n0 begin 2\n1 wr 0 3\n0 wr 0 4\n",
+    "vlog 1 2 1 0\n0 fork 1\n0 begin 1\n0 begin 2\n0 rd 0 0\n1 wr 0 3\n0 wr 0 4\n",
+    "vlog 1 2 1 1\n0 fork 1\n0 begin 1\n0 acq 0\n0 rd 0 0\n0 rel 0\n1 acq 0\n1 wr 0 9\n1 rel 0\n0 acq 0\n",
+    "vlog 1 2 1 1\n0 fork 1\n0 begin 1\n0 acq 0\n0 rd 0 0\n0 wr 0 1\n0 rel 0\n0 end\n1 begin 1\n1 acq 0\n1 rd 0 1\n1 wr 0 2\n1 rel 0\n1 end\n",
+    "vlog 1 2 1 0\n0 fork 1\n0 begin 1\n0 wr 0 1\n1 rd 0 1\n0 wr 0 2\n",
+    "vlog 1 2 1 0\n0 fork 1\n0 begin 1\n0 wr 0 1\n0 end\n1 begin 2\n0 rd 0 1\n1 wr 0 2\n1 end\n",
+    "vlog 1 2 1 0\n0 fork 1\n0 begin 1\n1 wr 0 2\n0 rd 0 2\n0 end\n",
     "vlog 1 2 1 1\n0 fork 1\n0 acq 0\n0 rel 0\n1 exit\n0 join 1\n0 end\n",
     "vlog 1 64 65535 4096\n255 rd 65535 18446744073709551615\n255 wr 0 18446744073709551615\n",
     "vlog 1 10 9 10\n0 begin 4294967295\n0 acq 65535\n9 rel 10\n10 fork 255\n99 join 0\n",
