@@ -1,3 +1,4 @@
+ghost use Rattle.velo_events.specs.Refusals.{GrowthRefused};
 ghost use Rattle.std.specs.Prelude.{◌≡◌, ℕ, ◌<◌, ◌≤◌, ◌↔◌, Some, None, replicate, IfOk, OnErr, IsErr, IsTrue, true, vec_capacity, if◌then◌else◌};
 ghost use Rattle.velo_arena.specs.Slots.{limit_of, is_used, used_in, bears, stamp_in, is_finished_in, with_node, Opens, HasOwnStamps};
 ghost use Rattle.std.specs.Option.{ForSome};
@@ -7,6 +8,7 @@ use crate::step::{Node, Step};
 use std::alloc::Global;
 use std::marker::Model;
 use thiserror::Error;
+use velo_events::growth::{filled, with_capacity};
 use velo_events::Memory;
 
 /// All slots are in use.
@@ -42,8 +44,9 @@ impl Arena {
     pub fn new(alloc: Global, limit: u16) -> Result<Arena, Memory>
         ensures nodes { IfOk result (λ arena. arena.nodes ≡ replicate limit None) }
         ensures newest { IfOk result (λ arena. arena.newest ≡ None) }
+        ensures memory { OnErr result GrowthRefused }
     {
-        let nodes = vec![in alloc; None; limit as usize]?;
+        let nodes = filled(alloc, None, limit as usize)?;
         let free = slots_below(alloc, limit)?;
         Ok(Arena {
             nodes,
@@ -171,8 +174,9 @@ impl Arena {
 fn slots_below(alloc: Global, limit: u16) -> Result<Vec<u16>, Memory>
     ensures falling { IfOk result (λ slots. CountsDown slots.items limit limit) }
     ensures room { IfOk result (λ slots. limit ≤ vec_capacity slots) }
+    ensures memory { OnErr result GrowthRefused }
 {
-    let mut slots = Vec::with_capacity(alloc, limit as usize)?;
+    let mut slots = with_capacity(alloc, limit as usize)?;
     for taken in 0..limit {
         slots.push_reserved(limit - 1 - taken);
     }

@@ -17,3 +17,4 @@ pub mod OnUnfinished
 pub mod OnReaching
 pub mod OnCollection
 pub mod OnBlame
+pub mod OnSerializing

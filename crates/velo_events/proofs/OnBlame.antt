@@ -47,7 +47,7 @@ IsReordering-to_front trace p order closed once kept = IsReordering-by trace (to
     ∙ (sum_by-filter_both p (λ x. not (p x)) (λ x. refl) (λ k. cond {A = ℕ} (k == i) 1 0) order ∙ once i))
     (AllPairs-to_front (KeepsOrder trace) p order kept (λ x y passes fails moved. false_from_ne_true _ (λ c. both_ways (p y) fails (closed y x (moved, c) passes))))
 
-positions-keep : (trace : List Event) → AllPairs (KeepsOrder trace) (positions trace)
+pub positions-keep : (trace : List Event) → AllPairs (KeepsOrder trace) (positions trace)
 positions-keep trace i j d l within moved = let rise = positions-rise trace i j d l within in absurd (omega (arith, rise, moved))
 
 -- ---- the block of thread t that begins at b and is open at the end
@@ -249,7 +249,7 @@ module _ (trace : List Event) (event : Event) (b : ℕ) where
 
   module _ (none : ¬ HasCycle trace) (opened : IsTrue (is_open_at trace (thread_of event) b (length trace))) where
     -- no chain from b through another thread comes back to the thread before the appended event
-    no_return : (x c : ℕ) → IsFalse (passes_at trace (is_by (thread_of event)) x) → IsFrom trace b x → ConflictsInOrder trace x c → IsTrue (passes_at trace (is_by (thread_of event)) c) → ⊥
+    pub no_return : (x c : ℕ) → IsFalse (passes_at trace (is_by (thread_of event)) x) → IsFrom trace b x → ConflictsInOrder trace x c → IsTrue (passes_at trace (is_by (thread_of event)) c) → ⊥
     no_return x c other from link own = none (HasCycle-from_on trace (owner trace x) (record {
       other = owner trace c;
       differ = differ;

@@ -1,5 +1,7 @@
 ghost use Rattle.std.specs.Prelude.{◌≡◌, ◌≤◌, IfOk, IfErr, None, Some};
+ghost use Rattle.velo_events.specs.declared.limits.TheConstants.{MOST_EVENTS, MOST_LOCKS, MOST_NODES, MOST_THREADS};
 
+use crate::limits::{MOST_EVENTS, MOST_LOCKS, MOST_NODES, MOST_THREADS};
 use thiserror::Error;
 
 /// How many threads, variables and locks a run has. They are numbered from 0.
@@ -47,12 +49,12 @@ pub struct Config {
     /// Whether the event that closes the first cycle halts the world.
     pub stop: bool,
     ghost some_thread: { 1 ≤ bounds.threads },
-    ghost few_threads: { bounds.threads ≤ 64 },
-    ghost few_locks: { bounds.locks ≤ 4096 },
+    ghost few_threads: { bounds.threads ≤ MOST_THREADS },
+    ghost few_locks: { bounds.locks ≤ MOST_LOCKS },
     ghost some_event: { 1 ≤ events },
-    ghost few_events: { events ≤ 16777216 },
+    ghost few_events: { events ≤ MOST_EVENTS },
     ghost some_node: { 1 ≤ nodes },
-    ghost few_nodes: { nodes ≤ 4096 },
+    ghost few_nodes: { nodes ≤ MOST_NODES },
 }
 
 impl Config {
@@ -75,16 +77,16 @@ impl Config {
         ensures nodes { IfOk result (λ c. c.nodes ≡ nodes) }
         ensures stop { IfOk result (λ c. c.stop ≡ stop) }
     {
-        if bounds.threads < 1 || bounds.threads > 64 {
+        if bounds.threads < 1 || bounds.threads > MOST_THREADS {
             return Err(BadConfig::Threads);
         }
-        if bounds.locks > 4096 {
+        if bounds.locks > MOST_LOCKS {
             return Err(BadConfig::Locks);
         }
-        if events < 1 || events > 16_777_216 {
+        if events < 1 || events > MOST_EVENTS {
             return Err(BadConfig::Events);
         }
-        if nodes < 1 || nodes > 4096 {
+        if nodes < 1 || nodes > MOST_NODES {
             return Err(BadConfig::Nodes);
         }
         Ok(Config {

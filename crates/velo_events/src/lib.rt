@@ -7,11 +7,14 @@
 
 mod config;
 mod event;
+pub mod growth;
+mod limits;
 mod memory;
 mod refusal;
 
 pub use config::{BadConfig, Bounds, Config};
 pub use event::{Action, Event, Kind, Label, LockId, Status, ThreadId, VarId, conflicts};
+pub use limits::{MOST_EVENTS, MOST_LOCKS, MOST_NODES, MOST_OPEN_BLOCKS, MOST_THREADS};
 pub use memory::Memory;
 pub use refusal::Refusal;
 

@@ -1,12 +1,16 @@
-ghost use Rattle.std.specs.Prelude.{◌≡◌, ◌≢◌, ◌↔◌, ℕ, ◌<◌, ◌≤◌, false, Some, None, replicate, IfOk, OnErr, IsErr, IsTrue, true, if◌then◌else◌};
+ghost use Rattle.velo_events.specs.Refusals.{GrowthRefused};
+ghost use Rattle.std.specs.Prelude.{◌≡◌, ◌≢◌, ◌↔◌, ℕ, ◌<◌, ◌≤◌, false, Some, None, replicate, IfOk, OnErr, IsErr, IsTrue, true, vec_capacity, if◌then◌else◌};
 ghost use Rattle.std.specs.Option.{ForSome};
 ghost use Rattle.velo_arena.specs.Slots.{limit_of, is_used, used_in, bears, stamp_in, is_finished_in, with_node, Opens};
+ghost use Rattle.velo_graph.specs.Collects.{Collects, TellsFreed, HasNothingLeft};
 ghost use Rattle.velo_graph.specs.Nodes.{Nodes, is_ancestor, reaches, IsRoot, IsAlone, IsSound, AddsEdge, LosesAncestor};
 
-use crate::rows::{carry, empty_rows, take_out};
+use crate::rows::{carry, empty_rows, take_away_first, take_out};
+use crate::vacate::vacate;
 use std::alloc::Global;
 use std::marker::Model;
 use velo_arena::{Arena, GraphFull, Step};
+use velo_events::growth::filled;
 use velo_events::Memory;
 use velo_rows::Ancestors;
 
@@ -28,8 +32,10 @@ pub enum Edge {
 pub struct Graph<A: Ancestors> {
     arena: Arena,
     rows: Vec<A>,
-    /// The slots that an edge carries on.
+    /// The slots that an edge carries on, or that are freed at once.
     carried: A,
+    /// The slots in use whose nodes have not finished.
+    unfinished: A,
     /// Whether a slot may be an ancestor of some other.
     leads: Vec<bool>,
 }
@@ -37,7 +43,7 @@ pub struct Graph<A: Ancestors> {
 impl<A: Ancestors> Model for Graph<A> {
     ghost use Rattle.std.specs.Prelude.{map};
     ghost use Rattle.velo_graph.specs.Nodes.{Nodes};
-    ghost use Rattle.velo_graph.specs.Kept.{IsKept};
+    ghost use Rattle.velo_graph.specs.Kept.{KeepsAll};
     ghost use Rattle.velo_graph.specs.Codes.{nodes_code};
 
     ghost Value = { Nodes };
@@ -46,7 +52,7 @@ impl<A: Ancestors> Model for Graph<A> {
 
     ghost view = { λ g. record { slots = g.arena; ancestors = map A.members g.rows.items } };
 
-    ghost invariant = { λ g. IsKept (record { slots = g.arena; ancestors = map A.members g.rows.items }) (map A.capacity g.rows.items) (A.capacity g.carried) g.leads.items };
+    ghost invariant = { λ g. KeepsAll (record { slots = g.arena; ancestors = map A.members g.rows.items }) (map A.capacity g.rows.items) (A.capacity g.carried) g.leads.items (A.members g.unfinished) (A.capacity g.unfinished) };
 }
 
 impl<A: Ancestors> Graph<A> {
@@ -56,15 +62,18 @@ impl<A: Ancestors> Graph<A> {
         ensures newest { IfOk result (λ graph. graph.slots.newest ≡ None) }
         ensures no_ancestors { IfOk result (λ graph. (m n : ℕ) → is_ancestor graph m n ≡ false) }
         ensures sound { IfOk result IsSound }
+        ensures memory { OnErr result GrowthRefused }
     {
         let arena = Arena::new(alloc, limit)?;
         let rows = empty_rows(alloc, limit)?;
         let carried = A::empty(alloc, limit)?;
-        let leads = vec![in alloc; false; limit as usize]?;
+        let unfinished = A::empty(alloc, limit)?;
+        let leads = filled(alloc, false, limit as usize)?;
         Ok(Graph {
             arena,
             rows,
             carried,
+            unfinished,
             leads,
         })
     }
@@ -80,7 +89,9 @@ impl<A: Ancestors> Graph<A> {
         ensures unchanged { OnErr result (self.new ≡ self.old) }
         ensures sound { IsSound self.new }
     {
-        self.arena.open(stamp)
+        let step = self.arena.open(stamp)?;
+        self.unfinished.insert(step.slot);
+        Ok(step)
     }
 
     /// Marks the node of a step as finished.
@@ -91,6 +102,7 @@ impl<A: Ancestors> Graph<A> {
         ensures sound { IsSound self.new }
     {
         self.arena.finish(step);
+        self.unfinished.remove(step.slot);
     }
 
     /// Takes a node without ancestors out of its slot and out of the ancestors of all others.
@@ -104,7 +116,30 @@ impl<A: Ancestors> Graph<A> {
         let count = self.descendants_end(slot);
         take_out(&mut self.rows, count, slot);
         self.leads[slot as usize] = false;
+        self.unfinished.remove(slot);
         self.arena.free(slot);
+    }
+
+    /// Frees exactly the finished nodes without an unfinished ancestor, and tells their stamps.
+    pub fn free_unneeded(&mut self, freed: &mut Vec<u32>)
+        requires room { limit_of self.old.slots ≤ vec_capacity freed.old }
+        ensures collects { Collects self.old self.new }
+        ensures nothing_left { HasNothingLeft self.new }
+        ensures tells { TellsFreed self.old self.new freed.new.items }
+        ensures room { vec_capacity freed.new ≡ vec_capacity freed.old }
+        ensures sound { IsSound self.new }
+    {
+        let end = self.arena.extent();
+        let roots = vacate(
+            &mut self.arena,
+            &self.rows,
+            &self.unfinished,
+            &mut self.carried,
+            &mut self.leads,
+            freed,
+            end,
+        );
+        take_away_first(&mut self.rows, end, roots, &self.carried);
     }
 
     /// The slot of a step, where that slot is in use and bears the stamp.

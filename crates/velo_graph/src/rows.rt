@@ -1,8 +1,12 @@
-ghost use Rattle.std.specs.Prelude.{◌≡◌, ◌<◌, ◌≤◌, map, length, replicate, IfOk, false};
+ghost use Rattle.velo_events.specs.Refusals.{GrowthRefused};
+ghost use Rattle.std.specs.Prelude.{◌≡◌, ◌<◌, ◌≤◌, map, length, replicate, IfOk, OnErr, IsTrue, false, if◌then◌else◌};
 ghost use Rattle.std.specs.FinSet as set;
+ghost use Rattle.velo_rows.specs.Meet.{Meet};
+ghost use Rattle.velo_graph.specs.Roots.{one_more, may_meet, IsBelow, MeetBelow};
 ghost use Rattle.velo_graph.specs.Rows.{row_of, widened, ChangesFirst, CarriesEdge};
 
 use std::alloc::Global;
+use velo_events::growth::with_capacity;
 use velo_events::Memory;
 use velo_rows::Ancestors;
 
@@ -10,8 +14,9 @@ use velo_rows::Ancestors;
 pub fn empty_rows<A: Ancestors>(alloc: Global, limit: u16) -> Result<Vec<A>, Memory>
     ensures members { IfOk result (λ rows. map A.members rows.items ≡ replicate limit set.empty) }
     ensures capacities { IfOk result (λ rows. map A.capacity rows.items ≡ replicate limit limit) }
+    ensures memory { OnErr result GrowthRefused }
 {
-    let mut rows = Vec::with_capacity(alloc, limit as usize)?;
+    let mut rows = with_capacity(alloc, limit as usize)?;
     for _slot in 0..limit {
         let row = A::empty(alloc, limit)?;
         rows.push_reserved(row);
@@ -56,6 +61,67 @@ pub fn take_out<A: Ancestors>(rows: &mut [A], count: u16, slot: u16)
     for n in 0..count {
         let row = &mut rows[n as usize];
         row.remove(slot);
+    }
+}
+
+/// The slots of a set that have no ancestors.
+#[derive(Clone, Copy, Debug, PartialEq, Eq)]
+pub enum Roots {
+    Zero,
+    One(u16),
+    Many,
+}
+
+impl Roots {
+    /// One more of them, if the slot is a root.
+    pub fn and_if(self, slot: u16, is_root: bool) -> Roots
+        ensures { result ≡ (if is_root then one_more self slot else self) }
+    {
+        match (is_root, self) {
+            (false, roots) => roots,
+            (true, Roots::Zero) => Roots::One(slot),
+            (true, _) => Roots::Many,
+        }
+    }
+
+    /// Whether the row of a slot below them can have a member in their set.
+    fn may_meet<A: Ancestors>(self, row: &A) -> bool
+        requires { IsBelow self (A.capacity row.now) }
+        ensures { result ≡ may_meet self (A.members row.now) }
+    {
+        match self {
+            Roots::Zero => false,
+            Roots::One(root) => row.contains(root),
+            Roots::Many => true,
+        }
+    }
+}
+
+/// Takes a set with these roots away from a row.
+fn take_away<A: Ancestors>(row: &mut A, roots: Roots, gone: &A)
+    requires roots { IsBelow roots (A.capacity row.old) }
+    requires meets { Meet (A.members row.old) (A.members gone.now) → IsTrue (may_meet roots (A.members row.old)) }
+    requires gone { A.capacity gone.now ≡ A.capacity row.old }
+    ensures members { A.members row.new ≡ set.difference (A.members row.old) (A.members gone.now) }
+    ensures capacity { A.capacity row.new ≡ A.capacity row.old }
+{
+    if roots.may_meet(row) {
+        row.take_away(gone);
+    }
+}
+
+/// Takes a set with these roots away from the first rows.
+pub fn take_away_first<A: Ancestors>(rows: &mut [A], count: u16, roots: Roots, gone: &A)
+    requires count { count ≤ length rows.old }
+    requires capacities { map A.capacity rows.old ≡ replicate (length rows.old) (length rows.old) }
+    requires roots { IsBelow roots (length rows.old) }
+    requires meets { MeetBelow roots (map A.members rows.old) (A.members gone.now) }
+    requires gone { A.capacity gone.now ≡ length rows.old }
+    ensures members { ChangesFirst (λ row. set.difference row (A.members gone.now)) (map A.members rows.old) (map A.members rows.new) count }
+    ensures capacities { map A.capacity rows.new ≡ map A.capacity rows.old }
+{
+    for n in 0..count {
+        take_away(&mut rows[n as usize], roots, gone);
     }
 }
 

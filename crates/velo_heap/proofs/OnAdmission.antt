@@ -22,7 +22,7 @@ use Rattle.velo_events.specs.Block.{any_below}
 use Rattle.velo_events.specs.Meaning.{refusal_of, holds_a_lock, kind_for, event_for, action_of, HasItsValue, is_another, is_live, is_unborn, is_joined}
 use Rattle.velo_events.proofs.OnWellFormed.{Facts-from, count_below-zero, count_below-none, count_below, is_held_by}
 use Rattle.velo_events.proofs.OnMeaning.{MayFollow-refusal_of}
-use Rattle.velo_heap.specs.Contents.{Contents, bounds_of, Tabulates, thread_named, locks_in, standing_in, StandsFor, unless_refused, admitted, IsAdmitted}
+use Rattle.velo_heap.specs.Contents.{Contents, bounds_of, Tabulates, thread_named, locks_in, standing_in, IsHeapOf, unless_refused, admitted, IsAdmitted}
 use Rattle.velo_heap.specs.Steps.{read_at, write_at, acquire_at, release_at, fork_by, fork_at, join_by, join_at, live_kind, kind_in}
 
 -- the refusal if there is one, or else the operation
@@ -79,7 +79,7 @@ holds_a_lock-locks_in bounds trace t well =
     none ∙ sym (ap not (eq-eqb _ _ equal)))
     (cases_Bool (any_below bounds.locks (is_held_by trace t)))
 
-module _ (heap : Contents) (trace : List Event) (stands : StandsFor heap trace) where
+module _ (heap : Contents) (trace : List Event) (stands : IsHeapOf heap trace) where
   -- the item at a place that may not be there
   tabulated : {X Y : Type 0} (items : List X) (f : ℕ → X) (i : ℕ) (at : Option X → Y) (missing : Y) (y : Y) → Tabulates items f → at None ≡ missing → at (Some (f i)) ≡ y → at (slice_get items i) ≡ (if nat_le (length items) i then missing else y)
   tabulated items f i at missing y table none some = ⊎_elim
@@ -135,7 +135,7 @@ abbrev pub event_by : ThreadId → Result Kind Refusal → Result Event Refusal
 event_by t (Ok k) = Ok (record { thread = t; kind = k })
 event_by t (Err refusal) = Err refusal
 
-pub admitted-kind_in : (heap : Contents) (trace : List Event) (t : ThreadId) (action : Action) → StandsFor heap trace → event_by t (kind_in heap t action) ≡ admitted (bounds_of heap) trace t action
+pub admitted-kind_in : (heap : Contents) (trace : List Event) (t : ThreadId) (action : Action) → IsHeapOf heap trace → event_by t (kind_in heap t action) ≡ admitted (bounds_of heap) trace t action
 admitted-kind_in heap trace t action stands = ap (event_by t) (kind_in-refusal_of heap trace stands t action) ∙ joined (refusal_of (bounds_of heap) trace t.0 (kind_for trace action))
   where
     joined : (o : Option Refusal) → event_by t (kind_or (kind_for trace action) o) ≡ unless_refused o (event_for trace t action)
@@ -165,12 +165,12 @@ MayFollow-admitted bounds trace t action e well h =
     subst (MayFollow bounds trace) parts.1 ((MayFollow-refusal_of bounds trace (event_for trace t action) well).1 (parts.0, its_own_value trace action))
 
 -- what `admit` answers may be applied
-pub IsAdmitted-from : (heap : Contents) (trace : List Event) (t : ThreadId) (action : Action) (e : Event) → StandsFor heap trace → admitted (bounds_of heap) trace t action ≡ Ok e → IsAdmitted heap e
+pub IsAdmitted-from : (heap : Contents) (trace : List Event) (t : ThreadId) (action : Action) (e : Event) → IsHeapOf heap trace → admitted (bounds_of heap) trace t action ≡ Ok e → IsAdmitted heap e
 IsAdmitted-from heap trace t action e stands h = record { trace = trace; stands = stands; follows = MayFollow-admitted (bounds_of heap) trace t action e stands.well_formed h }
 
 -- ---- an event that may follow one of the heap's traces may follow each of them
 
-kind_for-known : (heap : Contents) (one other : List Event) (t : ThreadId) (k : Kind) → StandsFor heap one → StandsFor heap other → MayFollow (bounds_of heap) one (record { thread = t; kind = k }) → kind_for other (action_of k) ≡ k
+kind_for-known : (heap : Contents) (one other : List Event) (t : ThreadId) (k : Kind) → IsHeapOf heap one → IsHeapOf heap other → MayFollow (bounds_of heap) one (record { thread = t; kind = k }) → kind_for other (action_of k) ≡ k
 kind_for-known heap one other t (kind.Read x v) s s' f =
     ap (kind.Read x) (sym (f.in_turn ∙ same_Some _ _ (sym (s.values.each x.0 f.known_names) ∙ s'.values.each x.0 f.known_names)))
 kind_for-known heap one other t (kind.Write x v) s s' f = refl
@@ -193,7 +193,7 @@ its_value trace (kind.Fork u) h = tt
 its_value trace (kind.Join u) h = tt
 its_value trace kind.Exit h = tt
 
-pub MayFollow-each : (heap : Contents) (one other : List Event) (e : Event) → StandsFor heap one → StandsFor heap other → MayFollow (bounds_of heap) one e → MayFollow (bounds_of heap) other e
+pub MayFollow-each : (heap : Contents) (one other : List Event) (e : Event) → IsHeapOf heap one → IsHeapOf heap other → MayFollow (bounds_of heap) one e → MayFollow (bounds_of heap) other e
 MayFollow-each heap one other e s s' f =
     let bounds = bounds_of heap in
     let asked = action_of e.kind in

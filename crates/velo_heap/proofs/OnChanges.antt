@@ -14,7 +14,7 @@ use Rattle.velo_events.specs.Heap.{latest, value_in, holder_in, depth_in}
 use Rattle.velo_events.specs.WellFormed.{MayFollow, IsWellFormed}
 use Rattle.velo_events.proofs.OnWellFormed.{Facts, Facts-from, IsWellFormed-nil, IsWellFormed-push, holder_in-push}
 use Rattle.velo_heap.specs.declared.standing.Standing.{Standing}
-use Rattle.velo_heap.specs.Contents.{Contents, bounds_of, Tabulates, thread_named, locks_in, standing_in, StandsFor, IsAdmitted}
+use Rattle.velo_heap.specs.Contents.{Contents, bounds_of, Tabulates, thread_named, locks_in, standing_in, IsHeapOf, IsAdmitted}
 use Rattle.velo_heap.specs.Steps.{CountsFit, CanChange, contents_after, standing_after, standing_at, with_status, unborn}
 use Rattle.velo_heap.proofs.OnAdmission.{MayFollow-each}
 use Rattle.velo_heap.proofs.OnTables.{get_or-tabulated, Tabulates-same, Tabulates-set, Tabulates-replicate}
@@ -31,7 +31,7 @@ not_handled (Begin label) i h = (refl, refl)
 not_handled End i h = (refl, refl)
 not_handled Exit i h = (refl, refl)
 
-module _ (heap : Contents) (trace : List Event) (stands : StandsFor heap trace) (by : ThreadId) where
+module _ (heap : Contents) (trace : List Event) (stands : IsHeapOf heap trace) (by : ThreadId) where
   values-after : (k : Kind) → MayFollow (bounds_of heap) trace (record { thread = by; kind = k }) → Tabulates (contents_after heap (record { thread = by; kind = k })).values (value_in (trace ++ record { thread = by; kind = k } ∷ []))
   values-after (Read x v) f = Tabulates-same _ _ _ stands.values (value_in-push trace (record { thread = by; kind = Read x v }))
   values-after (Write x v) f =
@@ -126,8 +126,8 @@ bounds_of-contents_after heap by Exit = as_many heap _ _ _ refl refl (length-set
 
 -- ---- the whole
 
-pub StandsFor-after : (heap : Contents) (trace : List Event) (e : Event) → StandsFor heap trace → MayFollow (bounds_of heap) trace e → StandsFor (contents_after heap e) (trace ++ e ∷ [])
-StandsFor-after heap trace e stands f = record {
+pub IsHeapOf-after : (heap : Contents) (trace : List Event) (e : Event) → IsHeapOf heap trace → MayFollow (bounds_of heap) trace e → IsHeapOf (contents_after heap e) (trace ++ e ∷ [])
+IsHeapOf-after heap trace e stands f = record {
   well_formed = subst (λ bounds. IsWellFormed bounds (trace ++ e ∷ [])) (sym (bounds_of-contents_after heap e.thread e.kind)) (IsWellFormed-push (bounds_of heap) trace e stands.well_formed f);
   values = values-after heap trace stands e.thread e.kind f;
   holders = holders-after heap trace stands e.thread e.kind f;
@@ -149,17 +149,17 @@ CanChange-admitted heap e admitted =
     }
 
 -- whichever trace the heap stands for
-pub StandsFor-apply : (heap : Contents) (e : Event) → IsAdmitted heap e → (trace : List Event) → StandsFor heap trace → StandsFor (contents_after heap e) (trace ++ e ∷ [])
-StandsFor-apply heap e admitted trace stands = StandsFor-after heap trace e stands (MayFollow-each heap admitted.trace trace e admitted.stands stands admitted.follows)
+pub IsHeapOf-apply : (heap : Contents) (e : Event) → IsAdmitted heap e → (trace : List Event) → IsHeapOf heap trace → IsHeapOf (contents_after heap e) (trace ++ e ∷ [])
+IsHeapOf-apply heap e admitted trace stands = IsHeapOf-after heap trace e stands (MayFollow-each heap admitted.trace trace e admitted.stands stands admitted.follows)
 
 -- ---- the start
 
 abbrev pub start_by : Bool → Standing
 start_by b = record { status = (if b then Live else Unborn); depth = 0; locks = 0 }
 
-pub StandsFor-start : (threads variables locks : ℕ) → 0 < threads → StandsFor (record { values = replicate variables 0; holders = replicate locks None; threads = set (replicate threads unborn) 0 (start_by true) }) []
+pub IsHeapOf-start : (threads variables locks : ℕ) → 0 < threads → IsHeapOf (record { values = replicate variables 0; holders = replicate locks None; threads = set (replicate threads unborn) 0 (start_by true) }) []
 unfolding latest
-StandsFor-start threads variables locks some = record {
+IsHeapOf-start threads variables locks some = record {
   well_formed = IsWellFormed-nil _;
   values = Tabulates-replicate variables 0 (value_in []) (λ i. refl);
   holders = Tabulates-replicate locks None _ (λ i. refl);
@@ -170,7 +170,7 @@ StandsFor-start threads variables locks some = record {
       (λ i differ. standing-nil i ∙ ap start_by (ne_eqb i 0 differ));
 }
 
-pub StandsFor-made : (threads variables locks : ℕ) (values : List ℕ) (holders : List (Option ThreadId)) (standings : List Standing) (first : Standing) → 0 < threads →
+pub IsHeapOf-made : (threads variables locks : ℕ) (values : List ℕ) (holders : List (Option ThreadId)) (standings : List Standing) (first : Standing) → 0 < threads →
     values ≡ replicate variables 0 → holders ≡ replicate locks None → standings ≡ replicate threads unborn → first ≡ start_by true →
-    StandsFor (record { values = values; holders = holders; threads = set standings 0 first }) []
-StandsFor-made threads variables locks values holders standings first some hv hh ht hf = rw (hv, hh, ht, hf) (StandsFor-start threads variables locks some)
+    IsHeapOf (record { values = values; holders = holders; threads = set standings 0 first }) []
+IsHeapOf-made threads variables locks values holders standings first some hv hh ht hf = rw (hv, hh, ht, hf) (IsHeapOf-start threads variables locks some)

@@ -39,7 +39,7 @@ abbrev pub standing_in : List Event → ℕ → Standing
 standing_in trace t = record { status = status_in trace t; depth = depth_in trace t; locks = locks_in trace t }
 
 -- the heap is that of the trace, which can come about within the heap's bounds
-pub record StandsFor (heap : Contents) (trace : List Event) : Type 0 where
+pub record IsHeapOf (heap : Contents) (trace : List Event) : Type 0 where
   pub well_formed : IsWellFormed (bounds_of heap) trace
   pub values : Tabulates heap.values (value_in trace)
   pub holders : Tabulates heap.holders (λ m. option_map thread_named (holder_in trace m))
@@ -58,5 +58,5 @@ admitted bounds trace t action = unless_refused (refusal_of bounds trace t.0 (ki
 -- the event was admitted: it may follow a trace that the heap stands for
 pub record IsAdmitted (heap : Contents) (event : Event) : Type 0 where
   pub trace : List Event
-  pub stands : StandsFor heap trace
+  pub stands : IsHeapOf heap trace
   pub follows : MayFollow (bounds_of heap) trace event

@@ -1,12 +1,14 @@
-ghost use Rattle.std.specs.Prelude.{◌≡◌, ◌<◌, [], ◌∷◌, ◌++◌, List, IfOk, option_map, length, slice_get};
+ghost use Rattle.velo_events.specs.Refusals.{GrowthRefused};
+ghost use Rattle.std.specs.Prelude.{◌≡◌, ◌<◌, [], ◌∷◌, ◌++◌, List, IfOk, option_map, length, slice_get, OnErr};
 ghost use Rattle.velo_events.specs.declared.event.Event.{Event};
 ghost use Rattle.velo_events.specs.Heap.{value_in, holder_in, status_in, depth_in};
-ghost use Rattle.velo_heap.specs.Contents.{bounds_of, StandsFor, admitted, IsAdmitted};
+ghost use Rattle.velo_heap.specs.Contents.{bounds_of, IsHeapOf, admitted, IsAdmitted};
 ghost use Rattle.velo_heap.specs.Steps.{read_at, write_at, acquire_at, release_at, fork_at, join_at, kind_in, contents_after, CanChange};
 
 use crate::standing::Standing;
 use std::alloc::Global;
 use std::marker::Model;
+use velo_events::growth::filled;
 use velo_events::{Action, Config, Event, Kind, LockId, Memory, Refusal, Status, ThreadId, VarId};
 
 /// The variables, locks and threads of a run as they stand.
@@ -38,12 +40,13 @@ impl Heap {
     /// `Memory` where a growth was refused. No later call takes memory.
     pub fn new(alloc: Global, config: &Config) -> Result<Heap, Memory>
         ensures bounds { IfOk result (λ h. bounds_of h ≡ config.now.bounds) }
-        ensures start { IfOk result (λ h. StandsFor h []) }
+        ensures start { IfOk result (λ h. IsHeapOf h []) }
+        ensures memory { OnErr result GrowthRefused }
     {
         let bounds = config.bounds;
-        let values = vec![in alloc; 0; usize::from(bounds.variables)]?;
-        let holders = vec![in alloc; None; usize::from(bounds.locks)]?;
-        let mut threads = vec![in alloc; Standing::unborn(); usize::from(bounds.threads)]?;
+        let values = filled(alloc, 0, usize::from(bounds.variables))?;
+        let holders = filled(alloc, None, usize::from(bounds.locks))?;
+        let mut threads = filled(alloc, Standing::unborn(), usize::from(bounds.threads))?;
         threads[0].status = Status::Live;
         Ok(Heap {
             values,
@@ -57,7 +60,7 @@ impl Heap {
     /// # Errors
     /// The first refusal that applies, from `NotLive` (2) to `LockHeld` (16).
     pub fn admit(&self, thread: ThreadId, action: Action) -> Result<Event, Refusal>
-        ensures { (trace : List Event) → StandsFor self.now trace →
+        ensures { (trace : List Event) → IsHeapOf self.now trace →
             result ≡ admitted (bounds_of self.now) trace thread action }
     {
         let kind = self.kind_for(thread, action)?;
@@ -68,8 +71,8 @@ impl Heap {
     pub fn apply(&mut self, event: &Event)
         requires { IsAdmitted self.old event.now }
         ensures bounds { bounds_of self.new ≡ bounds_of self.old }
-        ensures next { (trace : List Event) → StandsFor self.old trace →
-            StandsFor self.new (trace ++ event.now ∷ []) }
+        ensures next { (trace : List Event) → IsHeapOf self.old trace →
+            IsHeapOf self.new (trace ++ event.now ∷ []) }
     {
         self.change(*event);
     }
@@ -77,7 +80,7 @@ impl Heap {
     /// The value of a variable.
     pub fn value(&self, x: VarId) -> u64
         requires { x.0 < (bounds_of self.now).variables }
-        ensures { (trace : List Event) → StandsFor self.now trace → result ≡ value_in trace x.0 }
+        ensures { (trace : List Event) → IsHeapOf self.now trace → result ≡ value_in trace x.0 }
     {
         let at = usize::from(x.0);
         self.values[at]
@@ -86,7 +89,7 @@ impl Heap {
     /// The thread that holds a lock, or `None` where it is free.
     pub fn holder(&self, m: LockId) -> Option<ThreadId>
         requires { m.0 < (bounds_of self.now).locks }
-        ensures { (trace : List Event) → StandsFor self.now trace →
+        ensures { (trace : List Event) → IsHeapOf self.now trace →
             option_map (λ t. t.0) result ≡ holder_in trace m.0 }
     {
         let at = usize::from(m.0);
@@ -96,7 +99,7 @@ impl Heap {
     /// How far a thread has come.
     pub fn status(&self, t: ThreadId) -> Status
         requires { t.0 < (bounds_of self.now).threads }
-        ensures { (trace : List Event) → StandsFor self.now trace → result ≡ status_in trace t.0 }
+        ensures { (trace : List Event) → IsHeapOf self.now trace → result ≡ status_in trace t.0 }
     {
         let at = usize::from(t.0);
         self.threads[at].status
@@ -105,7 +108,7 @@ impl Heap {
     /// How many blocks a thread has open, at most 32.
     pub fn depth(&self, t: ThreadId) -> u8
         requires { t.0 < (bounds_of self.now).threads }
-        ensures { (trace : List Event) → StandsFor self.now trace → result ≡ depth_in trace t.0 }
+        ensures { (trace : List Event) → IsHeapOf self.now trace → result ≡ depth_in trace t.0 }
     {
         let at = usize::from(t.0);
         self.threads[at].depth

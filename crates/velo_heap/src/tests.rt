@@ -1,6 +1,6 @@
 ghost use Rattle.std.specs.Prelude.{◌≡◌, ◌<◌, List, IfOk};
 ghost use Rattle.velo_events.specs.declared.event.Event.{Event};
-ghost use Rattle.velo_heap.specs.Contents.{bounds_of, StandsFor};
+ghost use Rattle.velo_heap.specs.Contents.{bounds_of, IsHeapOf};
 
 use crate::{Heap, Status};
 use std::alloc::Global;
@@ -14,7 +14,7 @@ const BOUNDS: Bounds = Bounds {
 };
 
 fn opened(alloc: Global) -> Result<Heap, Fail>
-    ensures stands { IfOk result (λ h. (trace : List Event) × StandsFor h trace) }
+    ensures stands { IfOk result (λ h. (trace : List Event) × IsHeapOf h trace) }
     ensures threads { IfOk result (λ h. (bounds_of h).threads ≡ 3) }
     ensures variables { IfOk result (λ h. (bounds_of h).variables ≡ 1) }
     ensures locks { IfOk result (λ h. (bounds_of h).locks ≡ 1) }
@@ -25,8 +25,8 @@ fn opened(alloc: Global) -> Result<Heap, Fail>
 
 /// Does the action if it is admitted, and says why where it is not.
 fn act(heap: &mut Heap, thread: ThreadId, action: Action) -> Option<Refusal>
-    requires { (trace : List Event) × StandsFor heap.old trace }
-    ensures stands { (trace : List Event) × StandsFor heap.new trace }
+    requires { (trace : List Event) × IsHeapOf heap.old trace }
+    ensures stands { (trace : List Event) × IsHeapOf heap.new trace }
     ensures bounds { bounds_of heap.new ≡ bounds_of heap.old }
 {
     match heap.admit(thread, action) {
@@ -40,8 +40,8 @@ fn act(heap: &mut Heap, thread: ThreadId, action: Action) -> Option<Refusal>
 
 /// Does the actions one after another, up to the first whose refusal is not the one beside it.
 fn first_surprise(heap: &mut Heap, steps: &[(u8, Action, Option<Refusal>)]) -> Option<usize>
-    requires { (trace : List Event) × StandsFor heap.old trace }
-    ensures stands { (trace : List Event) × StandsFor heap.new trace }
+    requires { (trace : List Event) × IsHeapOf heap.old trace }
+    ensures stands { (trace : List Event) × IsHeapOf heap.new trace }
     ensures bounds { bounds_of heap.new ≡ bounds_of heap.old }
 {
     for i in 0..steps.len() {

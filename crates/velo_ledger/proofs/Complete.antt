@@ -10,7 +10,7 @@ use Rattle.velo_ledger.specs.declared.tally.Tally.{Tally}
 use Rattle.velo_ledger.specs.Tally.{blank}
 use Rattle.velo_ledger.specs.Views.{Accounts, Holding}
 use Rattle.velo_ledger.specs.Shares.{AreInPlace, AreOpening, opening_share, events_in, events_in_all}
-use Rattle.velo_ledger.specs.Book.{Fits, PlaceFits, IsFilled, IsComplete, opening_accounts, with_row}
+use Rattle.velo_ledger.specs.Book.{FitsBook, PlaceFits, IsFilled, HasAllShares, opening_accounts, with_row}
 use Rattle.velo_ledger.proofs.Places.{slice_get-replicate, slice_get-set_other, sum_by-matching, some_below, not_both}
 
 -- ---- place by place
@@ -20,28 +20,28 @@ filled_at book places t None is fit lt = absurd fit
 filled_at book places t (Some None) is fit lt = absurd (omega arith)
 filled_at book places t (Some (Some share)) is fit lt = (share, is)
 
-share_fits_at : (book : Accounts) (places : List (Option Holding)) (t : ℕ) (share : Holding) → slice_get places t ≡ Some (Some share) → IsSomeAnd (slice_get places t) (PlaceFits book t) → Fits book share
+share_fits_at : (book : Accounts) (places : List (Option Holding)) (t : ℕ) (share : Holding) → slice_get places t ≡ Some (Some share) → IsSomeAnd (slice_get places t) (PlaceFits book t) → FitsBook book share
 share_fits_at book places t share is fit = rw is at fit
 
 -- enough places, and each as it should be
-pub complete_by_places : (book : Accounts) (places : List (Option Holding)) → length book.rows ≤ length places → ((t : ℕ) → t < length places → IsSomeAnd (slice_get places t) (PlaceFits book t)) → IsComplete book places
+pub complete_by_places : (book : Accounts) (places : List (Option Holding)) → length book.rows ≤ length places → ((t : ℕ) → t < length places → IsSomeAnd (slice_get places t) (PlaceFits book t)) → HasAllShares book places
 complete_by_places book places long fit = record {
   there = λ t lt. filled_at book places t (slice_get places t) refl (fit t (omega arith)) lt;
   fit = λ t share is. share_fits_at book places t share is (fit t (slice_get_within places t (Some share) is));
 }
 
-pub place_fits : (book : Accounts) (places : List (Option Holding)) (t : ℕ) (place : Option Holding) → IsComplete book places → slice_get places t ≡ Some place → PlaceFits book t place
+pub place_fits : (book : Accounts) (places : List (Option Holding)) (t : ℕ) (place : Option Holding) → HasAllShares book places → slice_get places t ≡ Some place → PlaceFits book t place
 place_fits book places t (Some share) complete is = complete.fit t share is
 place_fits book places t None complete is =
     some_below t (length book.rows) (λ lt. let there = complete.there t lt in not_both None there.0 refl (same_Some _ _ (sym is ∙ there.1)))
 
-pub complete-long : (book : Accounts) (places : List (Option Holding)) → IsComplete book places → length book.rows ≤ length places
+pub complete-long : (book : Accounts) (places : List (Option Holding)) → HasAllShares book places → length book.rows ≤ length places
 complete-long book places complete =
     some_below (length places) (length book.rows) (λ lt. let there = complete.there (length places) lt in not_both (slice_get places (length places)) (Some there.0) (slice_get_past places (length places) (omega arith)) there.1)
 
 -- ---- the sum
 
-pub sum-rows : (book : Accounts) (places : List (Option Holding)) → AreInPlace places → IsComplete book places → events_in_all places ≡ sum_by (λ row. row.events) book.rows
+pub sum-rows : (book : Accounts) (places : List (Option Holding)) → AreInPlace places → HasAllShares book places → events_in_all places ≡ sum_by (λ row. row.events) book.rows
 sum-rows book places own complete = sum_by-matching events_in (λ row. row.events) places book.rows (complete-long book places complete) counted beyond
   where
     counted : (t : ℕ) (place : Option Holding) (row : Tally) → slice_get places t ≡ Some place → slice_get book.rows t ≡ Some row → events_in place ≡ row.events
@@ -77,7 +77,7 @@ opening-in_place run n places few opening = record {
       ap (λ s. s.thread.0) (same_Some _ _ (same_Some _ _ (sym is ∙ opening.each t lt)));
 }
 
-pub opening-complete : (run n : ℕ) (places : List (Option Holding)) → AreOpening run n places → IsComplete (opening_accounts run n) places
+pub opening-complete : (run n : ℕ) (places : List (Option Holding)) → AreOpening run n places → HasAllShares (opening_accounts run n) places
 opening-complete run n places opening = record {
   there = λ t lt. (opening_share run t, opening.each t (let all = length-replicate n blank in omega arith));
   fit = λ t share is.
@@ -98,7 +98,7 @@ fits-next book places n place is fit before = below_more _ n before (rw is fit)
 -- ---- another row
 
 -- the shares of the other threads still fit
-pub others-fit : (book : Accounts) (t : ThreadId) (tally : Tally) (share : Holding) → share.thread.0 ≢ t.0 → Fits book share → Fits (with_row book t tally) share
+pub others-fit : (book : Accounts) (t : ThreadId) (tally : Tally) (share : Holding) → share.thread.0 ≢ t.0 → FitsBook book share → FitsBook (with_row book t tally) share
 others-fit book t tally share other fits = record {
   run = fits.run;
   row = slice_get-set_other book.rows t.0 share.thread.0 tally (λ is. other (sym is)) ∙ fits.row;

@@ -13,9 +13,9 @@ use Rattle.velo_events.specs.Heap.{times}
 use Rattle.velo_events.specs.Tally.{end_of_last, events_of, next_of, last_of, read_total_of, written_total_of}
 use Rattle.velo_events.proofs.OnTraces.{latest-nil, latest-push, times-nil, times-push}
 use Rattle.velo_ledger.specs.declared.tally.Tally.{Tally}
-use Rattle.velo_ledger.specs.Tally.{blank, entered, read_by, written_by}
+use Rattle.velo_ledger.specs.Tally.{blank, with_event, read_by, written_by}
 use Rattle.velo_ledger.specs.Views.{Accounts, Holding}
-use Rattle.velo_ledger.specs.Book.{Fits, with_row, opening_accounts}
+use Rattle.velo_ledger.specs.Book.{FitsBook, with_row, opening_accounts}
 use Rattle.velo_ledger.specs.Logs.{tally_of, AreTalliesOf, events_below, IsOfThreadsBelow}
 use Rattle.velo_ledger.proofs.Places.{slice_get-set_same, slice_get-set_other, slice_get-replicate}
 
@@ -95,7 +95,7 @@ pub tally_of-nil : (t : ℕ) → tally_of [] t ≡ blank
 unfolding end_of_last read_total_of written_total_of
 tally_of-nil t = rw (times-nil (is_by t), latest-nil (is_by t)) refl
 
-pub tally_of-own : (trace : List Event) (t : ℕ) (e : Event) → thread_of e ≡ t → tally_of (trace ++ e ∷ []) t ≡ entered (tally_of trace t) (length trace) e
+pub tally_of-own : (trace : List Event) (t : ℕ) (e : Event) → thread_of e ≡ t → tally_of (trace ++ e ∷ []) t ≡ with_event (tally_of trace t) (length trace) e
 tally_of-own trace t e is =
     let by : IsTrue (is_by t e) = eq-eqb _ _ is in
     let count : events_of (trace ++ e ∷ []) t ≡ events_of trace t + 1 = times-push (is_by t) trace e ∙ ap (λ b. events_of trace t + cond {A = ℕ} b 1 0) by in
@@ -121,16 +121,16 @@ opening-rows run threads = record {
 }
 
 -- what a fitting share says of its thread
-pub fitting-tally : (trace : List Event) (book : Accounts) (share : Holding) → Fits book share → AreTalliesOf trace book.rows → share.tally ≡ tally_of trace share.thread.0
+pub fitting-tally : (trace : List Event) (book : Accounts) (share : Holding) → FitsBook book share → AreTalliesOf trace book.rows → share.tally ≡ tally_of trace share.thread.0
 fitting-tally trace book share fits rows =
     same_Some _ _ (sym fits.row ∙ rows.each share.thread.0 (slice_get_within book.rows share.thread.0 share.tally fits.row))
 
 -- the row of an event's thread gets the event, and the other rows stay the tallies of theirs
-pub entered-rows : (trace : List Event) (book : Accounts) (share : Holding) (e : Event) → Fits book share → e.thread ≡ share.thread → AreTalliesOf trace book.rows → AreTalliesOf (trace ++ e ∷ []) (with_row book share.thread (entered share.tally (length trace) e)).rows
-entered-rows trace book share e fits own rows = record { each = λ t lt. row_at t (within t lt) (cases_eq t share.thread.0) }
+pub with_event-rows : (trace : List Event) (book : Accounts) (share : Holding) (e : Event) → FitsBook book share → e.thread ≡ share.thread → AreTalliesOf trace book.rows → AreTalliesOf (trace ++ e ∷ []) (with_row book share.thread (with_event share.tally (length trace) e)).rows
+with_event-rows trace book share e fits own rows = record { each = λ t lt. row_at t (within t lt) (cases_eq t share.thread.0) }
   where
     row : Tally
-    row = entered share.tally (length trace) e
+    row = with_event share.tally (length trace) e
 
     within : (t : ℕ) → t < length (set book.rows share.thread.0 row) → t < length book.rows
     within t lt = rw (length-set book.rows share.thread.0 row) at lt
@@ -141,7 +141,7 @@ entered-rows trace book share e fits own rows = record { each = λ t lt. row_at 
     row_at : (t : ℕ) → t < length book.rows → (t ≡ share.thread.0) ⊎ (t ≢ share.thread.0) → slice_get (set book.rows share.thread.0 row) t ≡ Some (tally_of (trace ++ e ∷ []) t)
     row_at t lt (inl is) =
         rw is (slice_get-set_same book.rows share.thread.0 row (rw is at lt)
-        ∙ ap Some (ap (λ tally. entered tally (length trace) e) (fitting-tally trace book share fits rows) ∙ sym (tally_of-own trace share.thread.0 e by)))
+        ∙ ap Some (ap (λ tally. with_event tally (length trace) e) (fitting-tally trace book share fits rows) ∙ sym (tally_of-own trace share.thread.0 e by)))
     row_at t lt (inr other) =
         slice_get-set_other book.rows share.thread.0 t row (λ is. other (sym is))
         ∙ (rows.each t lt ∙ ap Some (sym (tally_of-other trace t e (λ is. other (sym is ∙ by)))))

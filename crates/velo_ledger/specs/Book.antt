@@ -17,19 +17,19 @@ abbrev pub with_tally : Holding → Tally → Holding
 with_tally share tally = record share { tally = tally }
 
 -- the share is of the book's run and of one of its threads, and has all five numbers of the row
-pub record Fits (book : Accounts) (share : Holding) : Type 0 where
+pub record FitsBook (book : Accounts) (share : Holding) : Type 0 where
   pub run : share.run ≡ book.run
   pub row : slice_get book.rows share.thread.0 ≡ Some share.tally
 
 -- no share is missing at the place, and the share fits
 abbrev pub PlaceFits : Accounts → ℕ → Option Holding → Type 0
-PlaceFits book t place = MatchOption place (length book.rows ≤ t) (Fits book)
+PlaceFits book t place = MatchOption place (length book.rows ≤ t) (FitsBook book)
 
 -- the place has a share
 abbrev pub IsFilled : List (Option Holding) → ℕ → Type 0
 IsFilled places t = (share : Holding) × (slice_get places t ≡ Some (Some share))
 
 -- the share of each thread is there, and all shares fit
-pub record IsComplete (book : Accounts) (places : List (Option Holding)) : Type 0 where
+pub record HasAllShares (book : Accounts) (places : List (Option Holding)) : Type 0 where
   pub there : (t : ℕ) → t < length book.rows → IsFilled places t
-  pub fit : (t : ℕ) (share : Holding) → slice_get places t ≡ Some (Some share) → Fits book share
+  pub fit : (t : ℕ) (share : Holding) → slice_get places t ≡ Some (Some share) → FitsBook book share

@@ -19,8 +19,8 @@ abbrev pub blank : Tally
 blank = record { events = 0; next = 0; last = None; read_total = 0; written_total = 0 }
 
 -- the tally with the event at the position
-abbrev pub entered : Tally → ℕ → Event → Tally
-entered tally position e = record {
+abbrev pub with_event : Tally → ℕ → Event → Tally
+with_event tally position e = record {
   events = tally.events + 1;
   next = position + 1;
   last = Some e;

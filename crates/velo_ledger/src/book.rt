@@ -1,14 +1,16 @@
-ghost use Rattle.std.specs.Prelude.{◌≡◌, ◌<◌, ◌≤◌, ◌↔◌, Some, IfOk, IfSome, IsTrue, length, slice_get, sum_by};
+ghost use Rattle.velo_events.specs.Refusals.{GrowthRefused};
+ghost use Rattle.std.specs.Prelude.{◌≡◌, ◌<◌, ◌≤◌, ◌↔◌, Some, IfOk, IfSome, IsTrue, length, slice_get, sum_by, OnErr};
 ghost use Rattle.std.specs.Option.{SomeIff};
-ghost use Rattle.velo_ledger.specs.Tally.{entered};
+ghost use Rattle.velo_ledger.specs.Tally.{with_event};
 ghost use Rattle.velo_ledger.specs.Shares.{AreOpening, events_in, events_in_all};
-ghost use Rattle.velo_ledger.specs.Book.{Fits, PlaceFits, IsComplete, with_row, with_tally, opening_accounts};
+ghost use Rattle.velo_ledger.specs.Book.{FitsBook, PlaceFits, HasAllShares, with_row, with_tally, opening_accounts};
 
 use crate::share::Share;
 use crate::shares::Shares;
 use crate::tally::Tally;
 use std::alloc::Global;
 use std::marker::Model;
+use velo_events::growth::reserve;
 use velo_events::{Event, Memory, ThreadId};
 
 /// A row for each thread of a run.
@@ -35,12 +37,13 @@ impl Book {
     pub fn open(alloc: Global, run: u64, threads: u8) -> Result<(Book, Shares), Memory>
         ensures book { IfOk result (λ opened. opened.0 ≡ opening_accounts run threads) }
         ensures shares { IfOk result (λ opened. AreOpening run threads opened.1) }
-        ensures fit { IfOk result (λ opened. IsComplete opened.0 opened.1) }
+        ensures fit { IfOk result (λ opened. HasAllShares opened.0 opened.1) }
+        ensures memory { OnErr result GrowthRefused }
     {
         let mut rows: Vec<Tally> = Vec::new(alloc);
-        rows.reserve(usize::from(threads))?;
+        reserve(&mut rows, usize::from(threads))?;
         let mut places: Vec<Option<Share>> = Vec::new(alloc);
-        places.reserve(usize::from(threads))?;
+        reserve(&mut places, usize::from(threads))?;
         for thread in 0..threads {
             rows.push_reserved(Tally::blank());
             places.push_reserved(Some(Share {
@@ -62,7 +65,7 @@ impl Book {
 
     /// Whether the share is of this run and of a thread of the book, and says what the row says.
     pub fn fits(&self, share: &Share) -> bool
-        ensures { IsTrue result ↔ Fits self.now share.now }
+        ensures { IsTrue result ↔ FitsBook self.now share.now }
     {
         let place = usize::from(share.thread.0);
         if self.run != share.run || place >= self.rows.len() {
@@ -73,16 +76,16 @@ impl Book {
 
     /// Adds an event to the row and to the share of its thread.
     pub fn enter(&mut self, share: &mut Share, position: usize, event: &Event)
-        requires fits { Fits self.old share.old }
+        requires fits { FitsBook self.old share.old }
         requires thread { event.now.thread ≡ share.old.thread }
         requires later { share.old.tally.next ≤ position }
         requires room { position < 16777216 }
-        ensures book { self.new ≡ with_row self.old share.old.thread (entered share.old.tally position event.now) }
-        ensures share { share.new ≡ with_tally share.old (entered share.old.tally position event.now) }
-        ensures fit { Fits self.new share.new }
+        ensures book { self.new ≡ with_row self.old share.old.thread (with_event share.old.tally position event.now) }
+        ensures share { share.new ≡ with_tally share.old (with_event share.old.tally position event.now) }
+        ensures fit { FitsBook self.new share.new }
     {
         let place = usize::from(share.thread.0);
-        let row = self.rows[place].entered(position as u64, event);
+        let row = self.rows[place].with_event(position as u64, event);
         self.rows[place] = row;
         share.tally = row;
     }
@@ -102,7 +105,7 @@ impl Book {
 
 /// The sum of the shares' events, where the share of each thread is there and all fit.
 pub fn gather(book: &Book, shares: &Shares) -> Option<u64>
-    ensures sum { SomeIff result (IsComplete book.now shares.now) (events_in_all shares.now) }
+    ensures sum { SomeIff result (HasAllShares book.now shares.now) (events_in_all shares.now) }
     ensures rows { IfSome result (λ events. events ≡ sum_by (λ row. row.events) book.now.rows) }
 {
     if shares.places.len() < book.rows.len() {

@@ -1,3 +1,4 @@
+ghost use Rattle.velo_events.specs.Refusals.{GrowthRefused};
 ghost use Rattle.std.specs.Prelude.{◌≡◌, ◌↔◌, None, Some, IsOk, IfOk, OnOk, IfErr, OnErr, IfSome, replicate, slice_get, slice_set};
 ghost use Rattle.std.specs.Option.{option_copied};
 ghost use Rattle.velo_ledger.specs.Shares.{AreInPlace, share_at};
@@ -5,6 +6,7 @@ ghost use Rattle.velo_ledger.specs.Shares.{AreInPlace, share_at};
 use crate::share::Share;
 use std::alloc::Global;
 use std::marker::Model;
+use velo_events::growth::reserve;
 use velo_events::{Memory, ThreadId};
 
 /// A place for each thread's share.
@@ -28,10 +30,11 @@ impl Model for Shares {
 impl Shares {
     /// A place for each of so many threads, and every place empty.
     pub fn none(alloc: Global, threads: u8) -> Result<Shares, Memory>
-        ensures { IfOk result (λ shares. shares ≡ replicate threads None) }
+        ensures empty { IfOk result (λ shares. shares ≡ replicate threads None) }
+        ensures memory { OnErr result GrowthRefused }
     {
         let mut places: Vec<Option<Share>> = Vec::new(alloc);
-        places.reserve(usize::from(threads))?;
+        reserve(&mut places, usize::from(threads))?;
         for _ in 0..threads {
             places.push_reserved(None);
         }

@@ -17,7 +17,7 @@ pub struct Tally {
     pub written_total: u128,
 }
 
-ghost use Rattle.velo_ledger.specs.Tally.{blank, entered, IsSmall, read_by, written_by};
+ghost use Rattle.velo_ledger.specs.Tally.{blank, with_event, IsSmall, read_by, written_by};
 
 impl Tally {
     /// The tally of no event.
@@ -34,10 +34,10 @@ impl Tally {
     }
 
     /// The tally with one event more.
-    pub(crate) fn entered(&self, position: u64, event: &Event) -> Tally
+    pub(crate) fn with_event(&self, position: u64, event: &Event) -> Tally
         requires small { IsSmall self.now }
         requires room { position < 16777216 }
-        ensures { result ≡ entered self.now position event.now }
+        ensures { result ≡ with_event self.now position event.now }
     {
         let (read, written) = amounts(&event.kind);
         Tally {

@@ -15,6 +15,7 @@ use Rattle.velo_logtext.specs.declared.read.Stop.TheVariants.{Short, NoEvent, Fu
 use Rattle.velo_logtext.specs.Text.{kind_text, header_line, event_line, event_lines, AreBounds, AreEvents, Begins}
 use Rattle.velo_logtext.specs.Finding.{HasNoHeader, HasNoEvent, IsCutLine, Answers, failures_after}
 use Rattle.velo_logtext.specs.Reading.{event_at, header_at}
+use Rattle.velo_events.specs.Refusals.{GrowthRefused}
 use Rattle.velo_logtext.specs.Window.{margin, Stops, judged, LinesGive}
 use Rattle.velo_logtext.proofs.Choices.{front_of}
 use Rattle.velo_logtext.proofs.OnDevices.{keeps_from_none}
@@ -185,9 +186,10 @@ fault_given limit last events rest more bytes Full f stops is text at_end =
     let wrong : LinesGive limit bytes events (Err TooLong) = (stops.1, record { rest = rest ++ more; text = text; left = some_more last rest more stops.0 }) in
     subst (λ (r : Result (Unit {0}) LogFault). LinesGive limit bytes events r) is wrong
 fault_given limit last events rest more bytes NoRoom f stops is text at_end =
-    let found = event_taken rest stops.0 stops.1 stops.2 in
+    let taken = stops.1 in
+    let found = event_taken rest taken.0 taken.1 taken.2 in
     let wrong : LinesGive limit bytes events (Err Memory) =
-    record { rest = rest ++ more; text = text; left = (stops.0, stops.1 ++ more, found.fits, ap (λ (t : List ℕ). t ++ more) found.text ∙ append_assoc (event_line stops.0) stops.1 more) } in
+    record { rest = rest ++ more; text = text; left = (taken.0, taken.1 ++ more, found.fits, ap (λ (t : List ℕ). t ++ more) found.text ∙ append_assoc (event_line taken.0) taken.1 more) } in
     subst (λ (r : Result (Unit {0}) LogFault). LinesGive limit bytes events r) is wrong
 
 pub judged_fault : (limit : ℕ) (last : Bool) (events : List Event) (rest : List ℕ) (stop : Stop) (f : LogFault) (total remaining : Option (List ℕ)) → Stops limit last (length events) rest stop → judged stop rest (length events + 2) ≡ Err f
@@ -215,6 +217,17 @@ judged_no_read X NoRoom rest line count f is = subst (λ (r : Result (Unit {0}) 
 line_not_ok : (b : Bool) (line : ℕ) (x : Unit {0}) → ◌≡◌ {A = Result (Unit {0}) LogFault} (cond b (Err (BadLine line)) (Err (Truncated line))) (Ok x) → ⊥
 line_not_ok true line x is = cc
 line_not_ok false line x is = cc
+
+line_no_memory : (b : Bool) (line : ℕ) → ◌≡◌ {A = Result (Unit {0}) LogFault} (cond b (Err (BadLine line)) (Err (Truncated line))) (Err Memory) → ⊥
+line_no_memory true line is = cc
+line_no_memory false line is = cc
+
+-- memory is wanted only where a growth was refused
+pub judged_memory : (limit : ℕ) (last : Bool) (count : ℕ) (rest : List ℕ) (stop : Stop) (line : ℕ) → Stops limit last count rest stop → judged stop rest line ≡ Err Memory → GrowthRefused
+judged_memory limit last count rest Short line stops is = absurd cc
+judged_memory limit last count rest NoEvent line stops is = absurd (line_no_memory (is_bad rest) line is)
+judged_memory limit last count rest Full line stops is = absurd cc
+judged_memory limit last count rest NoRoom line stops is = stops.0
 
 -- all lines were taken
 pub judged_all : (limit : ℕ) (events : List Event) (rest : List ℕ) (stop : Stop) (line : ℕ) (x : Unit {0}) (total remaining : Option (List ℕ)) → Stops limit true (length events) rest stop → judged stop rest line ≡ Ok x

@@ -1,6 +1,7 @@
 -- How far the reader has come in the bytes that it holds.
 use Rattle.std.specs.Prelude.{◌≡◌, ℕ, ◌+◌, ◌<◌, ◌≤◌, Bool, ◌||◌, ◌==◌, nat_lt, if◌then◌else◌, List, ◌++◌, length, None, Some, Result, Ok, Err}
 use Rattle.std.specs.List.{list_any}
+use Rattle.velo_events.specs.Refusals.{GrowthRefused}
 use Rattle.velo_events.specs.declared.event.Event.{Event}
 use Rattle.velo_logtext.specs.declared.read.Stop.{Stop}
 use Rattle.velo_logtext.specs.declared.read.Stop.TheVariants.{Short, NoEvent, Full, NoRoom}
@@ -19,7 +20,7 @@ abbrev pub Stops : ℕ → Bool → ℕ → List ℕ → Stop → Type 0
 Stops limit last count rest Short = length rest ≤ margin last
 Stops limit last count rest NoEvent = (margin last < length rest) × (count < limit) × (event_at rest ≡ None)
 Stops limit last count rest Full = (margin last < length rest) × (count ≡ limit)
-Stops limit last count rest NoRoom = (e : Event) × (after : List ℕ) × (event_at rest ≡ Some (e, after))
+Stops limit last count rest NoRoom = GrowthRefused × ((e : Event) × (after : List ℕ) × (event_at rest ≡ Some (e, after)))
 
 -- what is said of the line at the front of the bytes that are left
 abbrev pub judged : Stop → List ℕ → ℕ → Result (Unit {0}) LogFault

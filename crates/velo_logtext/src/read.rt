@@ -1,6 +1,8 @@
 //! Reading a log from a source, a piece at a time.
-ghost use Rattle.std.specs.Prelude.{◌≡◌, ◌≤◌, ◌<◌, ◌-◌, ◌++◌, false, length, take, drop, IfOk, IfErr, OnOk, OnErr, IfSome, IsTrue};
+ghost use Rattle.std.specs.Prelude.{◌≡◌, ◌≤◌, ◌<◌, ◌-◌, ◌++◌, false, length, take, drop, IfOk, IfErr, OnOk, OnErr, IfSome, IsTrue, Err};
 ghost use Rattle.std.specs.Io.KnownBytes.{IsAtEnd, Keeps, prepend_known};
+ghost use Rattle.velo_events.specs.Refusals.{GrowthRefused};
+ghost use Rattle.velo_logtext.specs.declared.fault.LogFault.TheVariants as log_fault;
 ghost use Rattle.velo_logtext.specs.Device.{one_more};
 ghost use Rattle.velo_logtext.specs.Text.{AreBounds, AreEvents, event_lines};
 ghost use Rattle.velo_logtext.specs.Finding.{Finding, Stands, Answers, Tells, finding_of, failures_after};
@@ -139,6 +141,7 @@ fn read_events<S: Source>(
     ensures few { length trace.new.events ≤ limit }
     ensures end { OnOk result (IsAtEnd (S.remaining source.new)) }
     ensures failures { S.failures source.new ≡ failures_after result (S.failures source.old) }
+    ensures memory { result ≡ Err log_fault.Memory → GrowthRefused }
 {
     let mut filled = filled;
     loop {
@@ -168,6 +171,7 @@ pub fn read_up_to<S: Source>(
     ensures within { IfOk result (λ log. AreBounds log.0 × AreEvents log.1.events × (length log.1.events ≤ limit)) }
     ensures end { OnOk result (IsAtEnd (S.remaining source.new)) }
     ensures failures { S.failures source.new ≡ failures_after result (S.failures source.old) }
+    ensures memory { result ≡ Err log_fault.Memory → GrowthRefused }
 {
     let mut buffer = [0u8; ROOM];
     let nothing = Filled {
@@ -206,6 +210,7 @@ pub fn read_log<S: Source>(alloc: Global, source: &mut S) -> Result<(Bounds, Tra
 
     // One failure more after `Read`, and none after any other answer.
     ensures failures { S.failures source.new ≡ failures_after result (S.failures source.old) }
+    ensures memory { result ≡ Err log_fault.Memory → GrowthRefused }
 {
     read_up_to(alloc, source, MOST_EVENTS)
 }

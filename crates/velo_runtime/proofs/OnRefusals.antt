@@ -13,7 +13,7 @@ use Rattle.velo_events.specs.declared.refusal.Refusal.TheVariants.{Halted, NotLi
 use Rattle.velo_events.specs.Meaning.{kind_for, event_for, refusal_of}
 use Rattle.velo_ledger.specs.Views.{Holding}
 use Rattle.velo_world.specs.Worlds.{WorldState, meaning}
-use Rattle.velo_world.specs.Holdings.{FitsRun}
+use Rattle.velo_world.specs.Holdings.{FitsLog}
 use Rattle.velo_world.specs.Steps.{Acts, Forks, Refuses}
 use Rattle.velo_world.specs.declared.run.Reply.{Reply}
 
@@ -58,8 +58,8 @@ forks-domestic w w' share share' child (Ok out) forks h = cc
 forks-domestic w w' share share' child (Err refusal) forks h =
     let is : refusal ≡ Foreign = cc in refuses-domestic w w' share share' share.thread (Fork child) refusal forks is
 
-pub acts-foreign : (w w' : WorldState) (share share' : Holding) (action : Action) (outcome : Result Reply Refusal) → FitsRun w share → Acts w share action outcome w' share' → (outcome ≡ Err Foreign) ↔ ¬ FitsRun w share
+pub acts-foreign : (w w' : WorldState) (share share' : Holding) (action : Action) (outcome : Result Reply Refusal) → FitsLog w share → Acts w share action outcome w' share' → (outcome ≡ Err Foreign) ↔ ¬ FitsLog w share
 acts-foreign w w' share share' action outcome fits acts = (λ h. absurd (acts-domestic w w' share share' action outcome acts h), λ misfit. absurd (misfit fits))
 
-pub forks-foreign : (w w' : WorldState) (share share' : Holding) (child : ThreadId) (outcome : Result (Reply × Holding) Refusal) → FitsRun w share → Forks w share child outcome w' share' → (outcome ≡ Err Foreign) ↔ ¬ FitsRun w share
+pub forks-foreign : (w w' : WorldState) (share share' : Holding) (child : ThreadId) (outcome : Result (Reply × Holding) Refusal) → FitsLog w share → Forks w share child outcome w' share' → (outcome ≡ Err Foreign) ↔ ¬ FitsLog w share
 forks-foreign w w' share share' child outcome fits forks = (λ h. absurd (forks-domestic w w' share share' child outcome forks h), λ misfit. absurd (misfit fits))

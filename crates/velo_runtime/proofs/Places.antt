@@ -15,7 +15,7 @@ use Rattle.velo_ledger.specs.Views.{Holding}
 use Rattle.velo_ledger.specs.Shares.{events_in, events_in_all}
 use Rattle.velo_ledger.proofs.Places.{slice_get-set_same, slice_get-set_other, slice_get-replicate}
 use Rattle.velo_world.specs.Worlds.{WorldState}
-use Rattle.velo_world.specs.Holdings.{FitsRun, HasShare, IsComplete}
+use Rattle.velo_world.specs.Holdings.{FitsLog, HasShare, CompletesShares}
 use Rattle.velo_runtime.specs.Seats.{AreSeatsOf, is_of}
 
 -- how many seats a thread has at the end
@@ -30,12 +30,12 @@ events_of_all shares = sum_by (λ s. s.tally.events) shares
 abbrev pub PlaceAwaits : WorldState → ℕ → ℕ → Option (Option Holding) → Type 0
 PlaceAwaits w t left None = ⊥
 PlaceAwaits w t left (Some None) = left ≡ seats_due w t
-PlaceAwaits w t left (Some (Some share)) = FitsRun w share × (share.thread.0 ≡ t) × (left ≡ 0) × (seats_due w t ≡ 1)
+PlaceAwaits w t left (Some (Some share)) = FitsLog w share × (share.thread.0 ≡ t) × (left ≡ 0) × (seats_due w t ≡ 1)
 
 -- some of the seats were put at their places, and the rest fit what is left
 pub record Filling (w : WorldState) (total : ℕ) (rest : List Holding) (places : List (Option Holding)) : Type 0 where
   pub count : length places ≡ w.config.bounds.threads
-  pub fit : All (FitsRun w) rest
+  pub fit : All (FitsLog w) rest
   pub each : (t : ℕ) → t < w.config.bounds.threads → PlaceAwaits w t (count_by (is_of t) rest) (slice_get places t)
   pub sum : events_in_all places + events_of_all rest ≡ total
 
@@ -72,8 +72,8 @@ empty_at w t left (Some None) some h = refl
 empty_at w t left (Some (Some share)) some h = let none = h.2 in absurd (omega arith)
 
 module _ (w : WorldState) (total : ℕ) (rest : List Holding) (s : Holding) (places : List (Option Holding)) (filling : Filling w total (rest ++ s ∷ []) places) where
-  parts : All (FitsRun w) rest × FitsRun w s
-  parts = All-pop (FitsRun w) (rest ++ s ∷ []) rest (Some s) refl filling.fit
+  parts : All (FitsLog w) rest × FitsLog w s
+  parts = All-pop (FitsLog w) (rest ++ s ∷ []) rest (Some s) refl filling.fit
 
   own : PlaceAwaits w s.thread.0 (count_by (is_of s.thread.0) rest + 1) (slice_get places s.thread.0)
   own = rw (count-own s.thread.0 rest s refl) at (filling.each s.thread.0 parts.1.thread)
@@ -128,7 +128,7 @@ born_at_end w places t share there h unborn =
     let one = at.3 in
     omega (arith, none, one)
 
-pub Filling-end : (w : WorldState) (total : ℕ) (rest : List Holding) (places : List (Option Holding)) → rest ≡ [] → Filling w total rest places → IsComplete w places
+pub Filling-end : (w : WorldState) (total : ℕ) (rest : List Holding) (places : List (Option Holding)) → rest ≡ [] → Filling w total rest places → CompletesShares w places
 Filling-end w total rest places none filling = record {
   born = λ t born. share_at_end w places t (slice_get places t) refl (awaits t born.0) (due_of (status_in w.log t) born.1);
   no_other = λ t share there. let lt = below t share there in (lt, born_at_end w places t share there (awaits t lt));

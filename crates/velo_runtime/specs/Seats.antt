@@ -5,10 +5,10 @@ use Rattle.velo_events.specs.declared.event.Kind.{Kind}
 use Rattle.velo_events.specs.Heap.{status_in}
 use Rattle.velo_events.specs.Meaning.{is_unborn}
 use Rattle.velo_ledger.specs.Views.{Holding}
-use Rattle.velo_ledger.specs.Tally.{entered}
+use Rattle.velo_ledger.specs.Tally.{with_event}
 use Rattle.velo_ledger.specs.Book.{with_tally}
 use Rattle.velo_world.specs.Worlds.{WorldState}
-use Rattle.velo_world.specs.Holdings.{FitsRun}
+use Rattle.velo_world.specs.Holdings.{FitsLog}
 use Rattle.velo_world.specs.declared.run.Reply.{Reply}
 
 -- an event of the share's thread
@@ -18,7 +18,7 @@ event_by share kind = record { thread = share.thread; kind = kind }
 -- the share has one event more: its thread's operation, at this position, which is past its other events
 pub record GrowsAt (share share' : Holding) (position : ℕ) (kind : Kind) : Type 0 where
   pub later : share.tally.next ≤ position
-  pub holding : share' ≡ with_tally share (entered share.tally position (event_by share kind))
+  pub holding : share' ≡ with_tally share (with_event share.tally position (event_by share kind))
 
 -- it has one event more, at a position that is not told
 pub record Grows (share share' : Holding) (kind : Kind) : Type 0 where
@@ -37,5 +37,5 @@ is_of t share = share.thread.0 == t
 
 -- each seat says what the log says of its thread; each thread that was born has one seat, and no other has any
 pub record AreSeatsOf (w : WorldState) (seats : List Holding) : Type 0 where
-  pub fit : All (FitsRun w) seats
+  pub fit : All (FitsLog w) seats
   pub each : (t : ℕ) → t < w.config.bounds.threads → count_by (is_of t) seats ≡ (if is_unborn (status_in w.log t) then 0 else 1)

@@ -5,23 +5,23 @@ use Rattle.velo_events.specs.declared.event.ThreadId.{ThreadId}
 use Rattle.velo_events.specs.declared.refusal.Refusal.{Refusal}
 use Rattle.velo_events.specs.declared.refusal.Refusal.TheVariants.{Foreign}
 use Rattle.velo_ledger.specs.Views.{Holding}
-use Rattle.velo_world.specs.Holdings.{FitsRun}
+use Rattle.velo_world.specs.Holdings.{FitsLog}
 use Rattle.velo_world.specs.Steps.{Acts, Forks}
 use Rattle.velo_world.specs.declared.run.Reply.{Reply}
 use Rattle.velo_runtime.specs.Rooms.{RoomState}
 
 -- the share fits, and the step is the world's
 pub record ActsIn (room : RoomState) (share : Holding) (action : Action) (outcome : Result Reply Refusal) (room' : RoomState) (share' : Holding) : Type 0 where
-  pub fits : FitsRun room.world share
+  pub fits : FitsLog room.world share
   pub acts : Acts room.world share action outcome room'.world share'
 
 pub record ForksIn (room : RoomState) (share : Holding) (child : ThreadId) (outcome : Result (Reply × Holding) Refusal) (room' : RoomState) (share' : Holding) : Type 0 where
-  pub fits : FitsRun room.world share
+  pub fits : FitsLog room.world share
   pub forks : Forks room.world share child outcome room'.world share'
 
 -- the share does not fit, and nothing changes
 pub record IsForeign (room : RoomState) (share : Holding) (room' : RoomState) (share' : Holding) : Type 0 where
-  pub misfit : ¬ FitsRun room.world share
+  pub misfit : ¬ FitsLog room.world share
   pub same_room : room' ≡ room
   pub same_share : share' ≡ share
 

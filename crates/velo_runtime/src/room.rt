@@ -1,10 +1,11 @@
-ghost use Rattle.std.specs.Prelude.{◌≡◌, ◌<◌, ◌↔◌, None, Err, IfOk, IfErr, IsTrue, All, count_by, sum_by, length, if◌then◌else◌, replicate};
+ghost use Rattle.velo_events.specs.Refusals.{GrowthRefused};
+ghost use Rattle.std.specs.Prelude.{◌≡◌, ◌<◌, ◌↔◌, None, Err, IfOk, IfErr, IsTrue, All, count_by, sum_by, length, if◌then◌else◌, replicate, OnErr};
 ghost use Rattle.velo_events.specs.declared.refusal.Refusal.TheVariants as refusal;
 ghost use Rattle.velo_events.specs.Heap.{status_in};
 ghost use Rattle.velo_events.specs.Meaning.{is_unborn};
 ghost use Rattle.velo_ledger.specs.Shares.{opening_share};
 ghost use Rattle.velo_world.specs.Worlds.{opening};
-ghost use Rattle.velo_world.specs.Holdings.{FitsRun};
+ghost use Rattle.velo_world.specs.Holdings.{FitsLog};
 ghost use Rattle.velo_world.specs.Steps.{IsNoFork};
 ghost use Rattle.velo_runtime.specs.Steps.{StepsIn, StepsForking};
 ghost use Rattle.velo_runtime.specs.Seats.{AreSeatsOf, is_of};
@@ -40,6 +41,7 @@ impl Room {
     pub(crate) fn open(alloc: Global, config: Config) -> Result<(Room, Seat), Memory>
         ensures room { IfOk result (λ opened. opened.0.world ≡ opening config) }
         ensures seat { IfOk result (λ opened. opened.1 ≡ opening_share config.run 0) }
+        ensures memory { OnErr result GrowthRefused }
     {
         let (world, share) = World::new(alloc, config)?;
         let places = Shares::none(alloc, config.bounds.threads)?;
@@ -73,14 +75,14 @@ impl Room {
 
     /// Whether the seat's share says what the book says of its thread.
     fn fits(&self, seat: &Seat) -> bool
-        ensures { IsTrue result ↔ FitsRun self.now.world seat.now }
+        ensures { IsTrue result ↔ FitsLog self.now.world seat.now }
     {
         self.world.fits(&seat.share)
     }
 
     /// Whether each seat fits.
     fn all_fit(&self, seats: &[Seat]) -> bool
-        ensures { IsTrue result ↔ All (FitsRun self.now.world) seats.now }
+        ensures { IsTrue result ↔ All (FitsLog self.now.world) seats.now }
     {
         for seat in seats {
             if !self.fits(seat) {
@@ -133,7 +135,7 @@ fn count_of(seats: &[Seat], thread: ThreadId) -> usize
 pub fn step_in(room: &mut Room, seat: &mut Seat, action: Action) -> Result<Reply, Refusal>
     requires { IsNoFork action }
     ensures step { StepsIn room.old seat.old action result room.new seat.new }
-    ensures foreign { (result ≡ Err refusal.Foreign) ↔ ¬ FitsRun room.old.world seat.old }
+    ensures foreign { (result ≡ Err refusal.Foreign) ↔ ¬ FitsLog room.old.world seat.old }
 {
     if !room.fits(seat) {
         return Err(Refusal::Foreign);
@@ -147,7 +149,7 @@ pub fn step_in(room: &mut Room, seat: &mut Seat, action: Action) -> Result<Reply
 /// As `step_in`.
 pub fn fork_in(room: &mut Room, seat: &mut Seat, child: ThreadId) -> Result<(Reply, Seat), Refusal>
     ensures step { StepsForking room.old seat.old child result room.new seat.new }
-    ensures foreign { (result ≡ Err refusal.Foreign) ↔ ¬ FitsRun room.old.world seat.old }
+    ensures foreign { (result ≡ Err refusal.Foreign) ↔ ¬ FitsLog room.old.world seat.old }
 {
     if !room.fits(seat) {
         return Err(Refusal::Foreign);

@@ -1,4 +1,5 @@
-ghost use Rattle.std.specs.Prelude.{◌≡◌, length, sum_by, IfOk, IfErr};
+ghost use Rattle.velo_events.specs.Refusals.{GrowthRefused};
+ghost use Rattle.std.specs.Prelude.{◌≡◌, length, sum_by, IfOk, IfErr, OnErr};
 ghost use Rattle.velo_events.specs.declared.refusal.Refusal.TheVariants as refusal;
 ghost use Rattle.velo_ledger.specs.Shares.{opening_share};
 ghost use Rattle.velo_runtime.specs.Seats.{AreSeatsOf};
@@ -26,7 +27,8 @@ impl Shared {
     /// `RuntimeMemory` (21) where a growth was refused.
     pub fn open(alloc: Global, config: Config) -> Result<(Shared, Seat), Refusal>
         ensures seat { IfOk result (λ opened. opened.1 ≡ opening_share config.run 0) }
-        ensures memory { IfErr result (λ e. e ≡ refusal.RuntimeMemory) }
+        ensures cause { IfErr result (λ e. e ≡ refusal.RuntimeMemory) }
+        ensures memory { OnErr result GrowthRefused }
     {
         let Ok((room, seat)) = Room::open(alloc, config) else {
             return Err(Refusal::RuntimeMemory);

@@ -1,5 +1,5 @@
-mod OnReaders
-mod OnKept
+pub mod OnReaders
+pub mod OnKept
 pub mod OnLast
 pub mod OnLookUps
 pub mod OnSteps

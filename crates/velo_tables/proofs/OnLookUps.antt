@@ -23,45 +23,45 @@ use Rattle.velo_tables.proofs.OnLast.{IsLast, last_at-is, last_at-within, last_p
 
 -- ---- numbers that are the same
 
-are_same-some : (o : Option ℕ) (n : ℕ) → IsTrue (are_same o (Some n)) → o ≡ Some n
+pub are_same-some : (o : Option ℕ) (n : ℕ) → IsTrue (are_same o (Some n)) → o ≡ Some n
 are_same-some None n h = absurd (false≢true h)
 are_same-some (Some m) n h = ap (λ k. Some k) (eqb-true m n h)
 
-are_same-both : (o p : Option ℕ) → IsTrue (are_same o p) → (n : ℕ) × (o ≡ Some n) × (p ≡ Some n)
+pub are_same-both : (o p : Option ℕ) → IsTrue (are_same o p) → (n : ℕ) × (o ≡ Some n) × (p ≡ Some n)
 are_same-both None None h = absurd (false≢true h)
 are_same-both None (Some n) h = absurd (false≢true h)
 are_same-both (Some m) None h = absurd (false≢true h)
 are_same-both (Some m) (Some n) h = (n, ap (λ k. Some k) (eqb-true m n h), refl)
 
-are_same-from : (o p : Option ℕ) (n : ℕ) → o ≡ Some n → p ≡ Some n → IsTrue (are_same o p)
+pub are_same-from : (o p : Option ℕ) (n : ℕ) → o ≡ Some n → p ≡ Some n → IsTrue (are_same o p)
 are_same-from o p n at also = ap (λ q. are_same q p) at ∙ (ap (are_same (Some n)) also ∙ eq-eqb n n refl)
 
 -- ---- when two events conflict
 
 module _ (a b : Event) where
-  conflict-thread : thread_of a ≡ thread_of b → IsTrue (conflict a b)
+  pub conflict-thread : thread_of a ≡ thread_of b → IsTrue (conflict a b)
   conflict-thread h = or_left _ _ (or_left _ _ (or_left _ _ (or_left _ _ (eq-eqb _ _ h))))
 
-  conflict-variable : IsTrue (are_same (variable_of a.kind) (variable_of b.kind)) → IsTrue (is_write a.kind || is_write b.kind) → IsTrue (conflict a b)
+  pub conflict-variable : IsTrue (are_same (variable_of a.kind) (variable_of b.kind)) → IsTrue (is_write a.kind || is_write b.kind) → IsTrue (conflict a b)
   conflict-variable same writes = or_left _ _ (or_left _ _ (or_left _ _ (or_right (thread_of a == thread_of b) _ (and_from _ _ same writes))))
 
-  conflict-lock : IsTrue (are_same (lock_of a.kind) (lock_of b.kind)) → IsTrue (conflict a b)
+  pub conflict-lock : IsTrue (are_same (lock_of a.kind) (lock_of b.kind)) → IsTrue (conflict a b)
   conflict-lock h = or_left _ _ (or_left _ _ (or_right _ _ h))
 
   conflict-handles : handled_by a.kind ≡ Some (thread_of b) → IsTrue (conflict a b)
   conflict-handles h = or_left _ _ (or_right _ _ (are_same-from _ _ (thread_of b) h refl))
 
-  conflict-handled : handled_by b.kind ≡ Some (thread_of a) → IsTrue (conflict a b)
+  pub conflict-handled : handled_by b.kind ≡ Some (thread_of a) → IsTrue (conflict a b)
   conflict-handled h = or_right _ _ (are_same-from _ _ (thread_of a) h refl)
 
 -- the two events at positions of a trace
-conflict_at-events : (trace : List Event) (i j : ℕ) (f g : Event) → slice_get trace i ≡ Some f → slice_get trace j ≡ Some g → IsTrue (conflict f g) → IsTrue (conflict_at trace i j)
+pub conflict_at-events : (trace : List Event) (i j : ℕ) (f g : Event) → slice_get trace i ≡ Some f → slice_get trace j ≡ Some g → IsTrue (conflict f g) → IsTrue (conflict_at trace i j)
 unfolding conflict_at
 conflict_at-events trace i j f g at also h = rw (at, also) h
 
 -- ---- kinds
 
-fork_handles : (k : Kind) (t : ℕ) → IsTrue (are_same (forked_by k) (Some t)) → handled_by k ≡ Some t
+pub fork_handles : (k : Kind) (t : ℕ) → IsTrue (are_same (forked_by k) (Some t)) → handled_by k ≡ Some t
 fork_handles (Fork u) t h = ap (λ n. Some n) (eqb-true u.0 t h)
 fork_handles (Read x v) t h = absurd (false≢true h)
 fork_handles (Write x v) t h = absurd (false≢true h)
@@ -83,7 +83,7 @@ join_handles End t h = absurd (false≢true h)
 join_handles (Fork u) t h = absurd (false≢true h)
 join_handles Exit t h = absurd (false≢true h)
 
-forks_or_joins : (k : Kind) (t : ℕ) → IsTrue (are_same (handled_by k) (Some t)) → IsTrue (are_same (forked_by k) (Some t)) ⊎ IsTrue (are_same (joined_by k) (Some t))
+pub forks_or_joins : (k : Kind) (t : ℕ) → IsTrue (are_same (handled_by k) (Some t)) → IsTrue (are_same (forked_by k) (Some t)) ⊎ IsTrue (are_same (joined_by k) (Some t))
 forks_or_joins (Fork u) t h = inl h
 forks_or_joins (Join u) t h = inr h
 forks_or_joins (Read x v) t h = absurd (false≢true h)
@@ -95,7 +95,7 @@ forks_or_joins End t h = absurd (false≢true h)
 forks_or_joins Exit t h = absurd (false≢true h)
 
 -- an access is a read or a write
-reads_or_writes : (k : Kind) (x : ℕ) → variable_of k ≡ Some x → IsTrue (is_write k) ⊎ IsTrue (is_read k)
+pub reads_or_writes : (k : Kind) (x : ℕ) → variable_of k ≡ Some x → IsTrue (is_write k) ⊎ IsTrue (is_read k)
 reads_or_writes (Read y v) x h = inr refl
 reads_or_writes (Write y v) x h = inl refl
 reads_or_writes (Acquire m) x h = absurd (none-some x h)
@@ -157,14 +157,14 @@ happened-from test trace i j f under at h = happened-at test (take i trace) j f 
 -- ---- what an event looks up
 
 -- what is before is also in the longer list
-further : (q : Place) (xs : List Place) (p : Place) → Contains xs p → Contains (q ∷ xs) p
+pub further : (q : Place) (xs : List Place) (p : Place) → Contains xs p → Contains (q ∷ xs) p
 further q xs p w = (suc w.0, omega (arith, w.1), w.2)
 
 -- the last event of its own thread
 pub looked_up-own : (e : Event) → Contains (looked_up e) (LastOf (thread_of e))
 looked_up-own e = (0, omega arith, refl)
 
-also-join : (k : Kind) (u : ℕ) → IsTrue (are_same (joined_by k) (Some u)) → Contains (also_looked_up k) (LastOf u)
+pub also-join : (k : Kind) (u : ℕ) → IsTrue (are_same (joined_by k) (Some u)) → Contains (also_looked_up k) (LastOf u)
 also-join (Join t) u h = (0, omega arith, ap (λ n. LastOf n) (eqb-true t.0 u h))
 also-join (Read x v) u h = absurd (false≢true h)
 also-join (Write x v) u h = absurd (false≢true h)
@@ -175,7 +175,7 @@ also-join End u h = absurd (false≢true h)
 also-join (Fork t) u h = absurd (false≢true h)
 also-join Exit u h = absurd (false≢true h)
 
-also-access : (k : Kind) (x : ℕ) → variable_of k ≡ Some x → Contains (also_looked_up k) (LastWrite x)
+pub also-access : (k : Kind) (x : ℕ) → variable_of k ≡ Some x → Contains (also_looked_up k) (LastWrite x)
 also-access (Read y v) x h = (0, omega arith, ap (λ n. LastWrite n) (same_Some y.0 x h))
 also-access (Write y v) x h = (0, omega arith, ap (λ n. LastWrite n) (same_Some y.0 x h))
 also-access (Acquire m) x h = absurd (none-some x h)
@@ -201,7 +201,7 @@ also-write (Fork u) x t h w few = absurd (false≢true w)
 also-write (Join u) x t h w few = absurd (false≢true w)
 also-write Exit x t h w few = absurd (false≢true w)
 
-also-lock : (k : Kind) (m : ℕ) → lock_of k ≡ Some m → Contains (also_looked_up k) (LastOn m)
+pub also-lock : (k : Kind) (m : ℕ) → lock_of k ≡ Some m → Contains (also_looked_up k) (LastOn m)
 also-lock (Acquire n) m h = (0, omega arith, ap (λ i. LastOn i) (same_Some n.0 m h))
 also-lock (Release n) m h = (0, omega arith, ap (λ i. LastOn i) (same_Some n.0 m h))
 also-lock (Read x v) m h = absurd (none-some m h)
@@ -369,13 +369,13 @@ module _ (bounds : Bounds) (trace : List Event) (e : Event) (well : IsWellFormed
       (λ k g before at recorded. conflict-lock f g (are_same-from _ _ m same (are_same-some _ m recorded)))
 
   -- nothing of a thread follows its join
-  no_join : IsTrue (is_join_of (thread_of e) f) → ⊥
+  pub no_join : IsTrue (is_join_of (thread_of e) f) → ⊥
   no_join joins =
       let exited = happened-before (is_exit_by (thread_of e)) trace i (join_turn (take i trace) (thread_of f) f.kind (thread_of e) joins (well.each i f here).in_turn) in
       false≢true (sym follows.not_exited ∙ happened-at (is_exit_by (thread_of e)) trace exited.0 exited.1 exited.3 exited.4)
 
   -- and nothing of it comes before its fork
-  no_fork : IsTrue (is_fork_of (thread_of f) e) → ⊥
+  pub no_fork : IsTrue (is_fork_of (thread_of f) e) → ⊥
   no_fork forks =
       let turn = fork_turn trace (thread_of e) e.kind (thread_of f) forks follows.in_turn in
       ⊎_elim (λ first. turn.0 (eqb-true _ _ first))

@@ -1,3 +1,4 @@
+ghost use Rattle.velo_events.specs.Refusals.{GrowthRefused};
 ghost use Rattle.std.specs.Prelude.{◌≡◌, ◌+◌, ◌^◌, ◌<◌, ◌≤◌, ◌++◌, ◌∷◌, None, length, map, slice_index_or, slice_set, IsTrue, ◌↔◌, IfOk, OnOk, OnErr};
 ghost use Rattle.std.specs.List.{filter_map};
 ghost use Rattle.smallvec.specs.SmallVec.{HasRoomFor as HasSpace};
@@ -12,6 +13,7 @@ use smallvec::SmallVec;
 use std::alloc::Global;
 use std::marker::Model;
 use velo_arena::Step;
+use velo_events::growth::{reserve, resize};
 use velo_events::{Config, Event, Kind, LockId, Memory, ThreadId, VarId};
 
 /// The step of the last event at each place: of each thread, of each lock, the last write of each variable, and its last
@@ -40,9 +42,10 @@ fn grow_entries(entries: &mut Vec<Entry>, number: usize) -> Result<(), Memory>
     ensures ok { OnOk result (entries.new.items ≡ filled_up None (number + 1) entries.old.items) }
     ensures err { OnErr result (entries.new.items ≡ entries.old.items) }
     ensures refused { OnErr result (length entries.old.items ≤ number) }
+    ensures memory { OnErr result GrowthRefused }
 {
     if entries.len() <= number {
-        entries.resize(number + 1, Entry::new(None))?;
+        resize(entries, number + 1, Entry::new(None))?;
     }
     Ok(())
 }
@@ -53,12 +56,13 @@ fn grow_variables(variables: &mut Vec<Variable>, number: usize) -> Result<(), Me
     ensures ok { OnOk result (variables.new.items ≡ filled_up no_accesses (number + 1) variables.old.items) }
     ensures err { OnErr result (variables.new.items ≡ variables.old.items) }
     ensures refused { OnErr result (length variables.old.items ≤ number) }
+    ensures memory { OnErr result GrowthRefused }
 {
     if number < variables.len() {
         return Ok(());
     }
     let missing = number + 1 - variables.len();
-    variables.reserve(missing)?;
+    reserve(variables, missing)?;
     let alloc = *variables.allocator();
     for _ in 0..missing {
         variables.push_reserved(Variable::new(alloc));
@@ -72,6 +76,7 @@ fn grow_reads(variables: &mut Vec<Variable>, number: usize, threads: usize) -> R
     requires few { threads ≤ 64 }
     ensures ok { OnOk result (variables.new.items ≡ slice_set variables.old.items number (with_reads_of threads (slice_index_or variables.old.items number no_accesses))) }
     ensures err { OnErr result (variables.new.items ≡ variables.old.items) }
+    ensures memory { OnErr result GrowthRefused }
 {
     let variable = &mut variables[number];
     variable.reserve_reads(threads)
@@ -82,9 +87,14 @@ impl Tables {
     pub fn new(alloc: Global, config: &Config) -> Result<Tables, Memory>
         ensures threads { IfOk result (λ tables. length tables.threads ≡ config.now.bounds.threads) }
         ensures blank { IfOk result IsBlank }
+        ensures memory { OnErr result GrowthRefused }
     {
         let mut threads = Vec::new(alloc);
-        threads.resize(config.bounds.threads as usize, Entry::new(None))?;
+        resize(
+            &mut threads,
+            config.bounds.threads as usize,
+            Entry::new(None),
+        )?;
         Ok(Tables {
             threads,
             variables: Vec::new(alloc),
@@ -149,6 +159,7 @@ impl Tables {
         ensures threads { length self.new.threads ≡ length self.old.threads }
         ensures ok { OnOk result (HasItsThreads self.old event.now → HasRoomFor self.new event.now) }
         ensures err { OnErr result (¬ HasRoomFor self.old event.now) }
+        ensures memory { OnErr result GrowthRefused }
     {
         match event.kind {
             Kind::Read(x, _) => {
@@ -182,6 +193,7 @@ impl Tables {
         ensures threads { length self.new.threads ≡ length self.old.threads }
         ensures ok { OnOk result (x.0 < length self.new.variables) }
         ensures err { OnErr result (length self.old.variables ≤ x.0) }
+        ensures memory { OnErr result GrowthRefused }
     {
         grow_variables(&mut self.variables, x.0 as usize)
     }
@@ -191,6 +203,7 @@ impl Tables {
         ensures same { IsUnchanged self.old self.new }
         ensures threads { length self.new.threads ≡ length self.old.threads }
         ensures ok { OnOk result (HasRoomToRead (length self.old.threads) self.new x.0) }
+        ensures memory { OnErr result GrowthRefused }
     {
         self.reserve_variable(x)?;
         let threads = self.threads.len();
@@ -203,6 +216,7 @@ impl Tables {
         ensures threads { length self.new.threads ≡ length self.old.threads }
         ensures ok { OnOk result (m.0 < length self.new.locks) }
         ensures err { OnErr result (length self.old.locks ≤ m.0) }
+        ensures memory { OnErr result GrowthRefused }
     {
         grow_entries(&mut self.locks, m.0 as usize)
     }

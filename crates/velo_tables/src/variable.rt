@@ -1,3 +1,4 @@
+ghost use Rattle.velo_events.specs.Refusals.{GrowthRefused};
 ghost use Rattle.std.specs.Prelude.{◌≡◌, ◌<◌, ◌≤◌, ◌++◌, None, length, slice_index_or, slice_set, IsTrue, ◌↔◌, OnOk, OnErr};
 ghost use Rattle.std.specs.List.{filter_map};
 ghost use Rattle.std.specs.Option.{option_to_list};
@@ -12,6 +13,7 @@ use smallvec::SmallVec;
 use std::alloc::Global;
 use std::marker::Model;
 use velo_arena::Step;
+use velo_events::growth::resize;
 use velo_events::{Memory, ThreadId};
 
 /// The last accesses of one variable.
@@ -112,9 +114,10 @@ impl Variable {
         ensures ok { OnOk result (self.new ≡ with_reads_of threads self.old) }
         ensures err { OnErr result (self.new ≡ self.old) }
         ensures refused { OnErr result (length self.old.reads < threads) }
+        ensures memory { OnErr result GrowthRefused }
     {
         if self.reads.len() < threads {
-            self.reads.resize(threads, Entry::new(None))?;
+            resize(&mut self.reads, threads, Entry::new(None))?;
         }
         Ok(())
     }

@@ -1,5 +1,6 @@
 ghost use Rattle.velo_events.specs.Block.{owner, open_blocks};
 ghost use Rattle.velo_traces.specs.Blocks.{block_at};
+ghost use Rattle.velo_events.specs.Refusals.{GrowthRefused};
 ghost use Rattle.velo_events.specs.Scan.{IsScanned};
 ghost use Rattle.std.specs.Prelude.{◌≤◌, ◌+◌, ◌≡◌, ◌∷◌, [], ◌++◌, ◌<◌, length, map, slice_get, OnOk, OnErr, IsOk, option_copied, IsTrue, ◌↔◌};
 
@@ -8,6 +9,7 @@ use crate::open::open_blocks_in;
 use smallvec::SmallVec;
 use std::alloc::Global;
 use std::marker::Model;
+use velo_events::growth::reserve;
 use velo_events::{Event, Kind, Memory, ThreadId};
 
 /// The events that threads performed over a shared heap, in order. It stores whatever is pushed: `well_formed` judges it.
@@ -42,9 +44,9 @@ impl Trace {
         ensures ok { OnOk result (0 < self.new.room) }
         ensures full { OnErr result (self.old.room ≡ 0) }
         ensures err { OnErr result (self.new ≡ self.old) }
+        ensures memory { OnErr result GrowthRefused }
     {
-        self.items.reserve(1)?;
-        Ok(())
+        reserve(&mut self.items, 1)
     }
 
     /// Appends an event. There is room for it, as after `reserve_one`, so it takes no memory.
@@ -60,6 +62,7 @@ impl Trace {
         ensures ok { OnOk result (self.new.events ≡ self.old.events ++ event ∷ []) }
         ensures full { OnErr result (self.old.room ≡ 0) }
         ensures err { OnErr result (self.new ≡ self.old) }
+        ensures memory { OnErr result GrowthRefused }
     {
         self.reserve_one()?;
         self.push_reserved(event);

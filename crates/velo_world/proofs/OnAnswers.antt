@@ -14,7 +14,7 @@ use Rattle.velo_events.specs.WellFormed.{MayFollow, IsWellFormed}
 use Rattle.velo_events.specs.Meaning.{kind_for, event_for, refusal_of, HasItsValue, is_live}
 use Rattle.velo_events.proofs.OnMeaning.{MayFollow-refusal_of}
 use Rattle.velo_world.specs.Worlds.{WorldState, meaning}
-use Rattle.velo_world.specs.Holdings.{IsLive}
+use Rattle.velo_world.specs.Holdings.{IsLiveThread}
 
 its_value : (log : List Event) (action : Action) → HasItsValue log (kind_for log action)
 its_value log (Action.Read x) = refl
@@ -67,7 +67,7 @@ meaning-room w t action e h = at (refusal_of w.config.bounds w.log t.0 (kind_for
     at None is = leb-false _ _ (within w.halted (nat_le w.config.events (length w.log)) (event_for w.log t action) e (rw is at h))
 
 -- a thread that is not live is refused so, in a world that is not halted
-pub meaning-not_live : (w : WorldState) (t : ThreadId) (action : Action) → IsFalse w.halted → ¬ IsLive w t.0 → meaning w t action ≡ Err NotLive
+pub meaning-not_live : (w : WorldState) (t : ThreadId) (action : Action) → IsFalse w.halted → ¬ IsLiveThread w t.0 → meaning w t action ≡ Err NotLive
 unfolding refusal_of
 meaning-not_live w t action going not_live =
     let no = not_from_false _ (live_test (nat_lt t.0 w.config.bounds.threads) (status_in w.log t.0) (λ lt live. not_live (ltb-true _ _ lt, live))) in

@@ -11,7 +11,7 @@ use Rattle.velo_ledger.specs.Shares.{AreInPlace, events_in, events_in_all, share
 use Rattle.velo_ledger.specs.Logs.{tally_of}
 use Rattle.velo_ledger.proofs.Places.{sum_by-matching}
 use Rattle.velo_world.specs.Worlds.{WorldState}
-use Rattle.velo_world.specs.Holdings.{FitsRun, IsBookOf, KeepsUnborn, IsBorn, HasShare, IsComplete, PlaceIsRight}
+use Rattle.velo_world.specs.Holdings.{FitsLog, IsBookOf, KeepsUnborn, IsBorn, HasShare, CompletesShares, PlaceIsRight}
 
 no_share : (place : Option (Option Holding)) (share : Holding) → place ≡ None → place ≡ Some (Some share) → ⊥
 no_share place share none some = let same : ◌≡◌ {A = Option (Option Holding)} None (Some (Some share)) = sym none ∙ some in cc
@@ -20,17 +20,17 @@ empty : (place : Option (Option Holding)) (share : Holding) → place ≡ Some N
 empty place share none some = let same : ◌≡◌ {A = Option (Option Holding)} (Some None) (Some (Some share)) = sym none ∙ some in cc
 
 module _ (w : WorldState) (given : List (Option Holding)) where
-  right_at : (t : ℕ) (place : Option (Option Holding)) → slice_get given t ≡ place → IsComplete w given → PlaceIsRight w t (share_at given (record { 0 = t }))
+  right_at : (t : ℕ) (place : Option (Option Holding)) → slice_get given t ≡ place → CompletesShares w given → PlaceIsRight w t (share_at given (record { 0 = t }))
   right_at t None is complete = rw is (λ born. let has = complete.born t born in no_share (slice_get given t) has.share is has.there)
   right_at t (Some None) is complete = rw is (λ born. let has = complete.born t born in empty (slice_get given t) has.share is has.there)
   right_at t (Some (Some share)) is complete =
       let born = complete.no_other t share is in
       let has = complete.born t born in
       let same : has.share ≡ share = same_Some has.share share (same_Some (Some has.share) (Some share) (sym has.there ∙ is)) in
-      rw is (born, subst (FitsRun w) same has.fits)
+      rw is (born, subst (FitsLog w) same has.fits)
 
   -- where all is complete, each place is right
-  pub PlaceIsRight-complete : (t : ℕ) → IsComplete w given → PlaceIsRight w t (share_at given (record { 0 = t }))
+  pub PlaceIsRight-complete : (t : ℕ) → CompletesShares w given → PlaceIsRight w t (share_at given (record { 0 = t }))
   PlaceIsRight-complete t complete = right_at t (slice_get given t) refl complete
 
   has_at : (t : ℕ) (place : Option (Option Holding)) → slice_get given t ≡ place → AreInPlace given → PlaceIsRight w t (share_at given (record { 0 = t })) → IsBorn w t → HasShare w given t
@@ -39,15 +39,15 @@ module _ (w : WorldState) (given : List (Option Holding)) where
   has_at t (Some (Some share)) is own right born = record { share = share; there = is; own = own.own t share is; fits = (rw is at right).1 }
 
   -- and where each place is right, all is complete
-  pub IsComplete-from_places : AreInPlace given → ((t : ℕ) → t < 255 → PlaceIsRight w t (share_at given (record { 0 = t }))) → IsComplete w given
-  IsComplete-from_places own right = record {
+  pub CompletesShares-from_places : AreInPlace given → ((t : ℕ) → t < 255 → PlaceIsRight w t (share_at given (record { 0 = t }))) → CompletesShares w given
+  CompletesShares-from_places own right = record {
     born = λ t born. let lt = born.0 in let few = w.config.few_threads in has_at t (slice_get given t) refl own (right t (omega arith)) born;
     no_other = λ t share is. let lt = slice_get_within given t (Some share) is in let few = own.few in (rw is at (right t (omega arith))).0;
   }
 
 -- ---- the sum
 
-module _ (w : WorldState) (book : Accounts) (kept given : List (Option Holding)) (are : IsBookOf w book) (keeps : KeepsUnborn w kept) (own : AreInPlace given) (complete : IsComplete w given) where
+module _ (w : WorldState) (book : Accounts) (kept given : List (Option Holding)) (are : IsBookOf w book) (keeps : KeepsUnborn w kept) (own : AreInPlace given) (complete : CompletesShares w given) where
   row_is : (t : ℕ) (row : Tally) → slice_get book.rows t ≡ Some row → row ≡ tally_of w.log t
   row_is t row is = sym (same_Some (tally_of w.log t) row (sym (are.rows.each t (slice_get_within book.rows t row is)) ∙ is))
 
@@ -67,7 +67,7 @@ module _ (w : WorldState) (book : Accounts) (kept given : List (Option Holding))
   counted t (Some share) row is at =
       let has = complete.born t (complete.no_other t share is) in
       let same : has.share ≡ share = same_Some has.share share (same_Some (Some has.share) (Some share) (sym has.there ∙ is)) in
-      let fits : FitsRun w share = subst (FitsRun w) same has.fits in
+      let fits : FitsLog w share = subst (FitsLog w) same has.fits in
       ap (λ (tally : Tally). tally.events) (fits.tally ∙ (ap (tally_of w.log) (own.own t share is) ∙ sym (row_is t row at)))
 
   beyond_rows : (t : ℕ) (place : Option Holding) → slice_get given t ≡ Some place → length book.rows ≤ t → events_in place ≡ 0

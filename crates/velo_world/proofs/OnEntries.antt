@@ -54,8 +54,8 @@ module _ (log : List Event) (e : Event) where
       start (c ∷ cs) x p = no_edge c p.0
 
   -- an event that conflicts with the next one, in a transaction that this one's reached, closes a cycle
-  pub HasCycle-entered : (i : ℕ) → i < length log → Reaches (Edge log) (owner (log ++ e ∷ []) (length log)) (owner log i) → Enters log e (owner (log ++ e ∷ []) (length log)) i → HasCycle (log ++ e ∷ [])
-  HasCycle-entered i within reached enters = HasCycle-from_push log e (owner log i) reached (record {
+  pub HasCycle-with_event : (i : ℕ) → i < length log → Reaches (Edge log) (owner (log ++ e ∷ []) (length log)) (owner log i) → Enters log e (owner (log ++ e ∷ []) (length log)) i → HasCycle (log ++ e ∷ [])
+  HasCycle-with_event i within reached enters = HasCycle-from_push log e (owner log i) reached (record {
     from = i;
     to = length log;
     in_order = within;
@@ -67,8 +67,8 @@ module _ (log : List Event) (e : Event) where
   })
 
   -- where all such events made their edge before, no cycle is closed
-  pub no_cycle-entered : ((i : ℕ) → i < length log → Reaches (Edge log) (owner (log ++ e ∷ []) (length log)) (owner log i) → Enters log e (owner (log ++ e ∷ []) (length log)) i → Edge log (owner log i) (owner (log ++ e ∷ []) (length log))) → ¬ HasCycle log → ¬ HasCycle (log ++ e ∷ [])
-  no_cycle-entered old none c = ⊎_elim none (λ w. none (HasCycle-back log _ w.0 w.1 (edge w.0 w.1 w.2))) (HasCycle-push log e c)
+  pub no_cycle-with_event : ((i : ℕ) → i < length log → Reaches (Edge log) (owner (log ++ e ∷ []) (length log)) (owner log i) → Enters log e (owner (log ++ e ∷ []) (length log)) i → Edge log (owner log i) (owner (log ++ e ∷ []) (length log))) → ¬ HasCycle log → ¬ HasCycle (log ++ e ∷ [])
+  no_cycle-with_event old none c = ⊎_elim none (λ w. none (HasCycle-back log _ w.0 w.1 (edge w.0 w.1 w.2))) (HasCycle-push log e c)
     where
       edge : (x : ℕ) → Reaches (Edge log) (owner (log ++ e ∷ []) (length log)) x → Edge (log ++ e ∷ []) x (owner (log ++ e ∷ []) (length log)) → Edge log x (owner (log ++ e ∷ []) (length log))
       edge x reached w = ⊎_elim (Edge-before log (e ∷ []) x _ w) last (cases_lt w.to (length log))
@@ -83,10 +83,10 @@ module _ (log : List Event) (e : Event) where
 
   -- the same of a number that is the transaction
   pub no_cycle-by : (a : ℕ) → a ≡ owner (log ++ e ∷ []) (length log) → ((i : ℕ) → i < length log → Reaches (Edge log) a (owner log i) → Enters log e a i → Edge log (owner log i) a) → ¬ HasCycle log → ¬ HasCycle (log ++ e ∷ [])
-  no_cycle-by a is = subst (λ n. ((i : ℕ) → i < length log → Reaches (Edge log) n (owner log i) → Enters log e n i → Edge log (owner log i) n) → ¬ HasCycle log → ¬ HasCycle (log ++ e ∷ [])) (sym is) no_cycle-entered
+  no_cycle-by a is = subst (λ n. ((i : ℕ) → i < length log → Reaches (Edge log) n (owner log i) → Enters log e n i → Edge log (owner log i) n) → ¬ HasCycle log → ¬ HasCycle (log ++ e ∷ [])) (sym is) no_cycle-with_event
 
   pub HasCycle-by : (a i : ℕ) → a ≡ owner (log ++ e ∷ []) (length log) → i < length log → Reaches (Edge log) a (owner log i) → Enters log e a i → HasCycle (log ++ e ∷ [])
-  HasCycle-by a i is within = subst (λ n. Reaches (Edge log) n (owner log i) → Enters log e n i → HasCycle (log ++ e ∷ [])) (sym is) (HasCycle-entered i within)
+  HasCycle-by a i is within = subst (λ n. Reaches (Edge log) n (owner log i) → Enters log e n i → HasCycle (log ++ e ∷ [])) (sym is) (HasCycle-with_event i within)
 
 -- ---- the transaction of the next event
 

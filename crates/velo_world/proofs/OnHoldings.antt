@@ -14,15 +14,15 @@ use Rattle.velo_events.specs.WellFormed.{MayFollow, IsWellFormed}
 use Rattle.velo_events.specs.Meaning.{is_unborn}
 use Rattle.velo_events.proofs.OnWellFormed.{IsWellFormed-push}
 use Rattle.velo_ledger.specs.declared.tally.Tally.{Tally}
-use Rattle.velo_ledger.specs.Tally.{blank, entered}
+use Rattle.velo_ledger.specs.Tally.{blank, with_event}
 use Rattle.velo_ledger.specs.Views.{Accounts, Holding}
-use Rattle.velo_ledger.specs.Book.{Fits, with_row, with_tally, opening_accounts}
+use Rattle.velo_ledger.specs.Book.{FitsBook, with_row, with_tally, opening_accounts}
 use Rattle.velo_ledger.specs.Shares.{opening_share, AreOpening}
 use Rattle.velo_ledger.specs.Logs.{IsOfThreadsBelow, events_below}
 use Rattle.velo_ledger.proofs.Places.{slice_get-set_same, slice_get-set_other}
-use Rattle.velo_ledger.proofs.OnLogs.{tally_of-nil, tally_of-own, tally_of-other, next_of-le, opening-rows, entered-rows, sum_by-rows, events_below-all}
+use Rattle.velo_ledger.proofs.OnLogs.{tally_of-nil, tally_of-own, tally_of-other, next_of-le, opening-rows, with_event-rows, sum_by-rows, events_below-all}
 use Rattle.velo_world.specs.Worlds.{WorldState, opening}
-use Rattle.velo_world.specs.Holdings.{FitsRun, IsBookOf, KeptAt, KeepsUnborn}
+use Rattle.velo_world.specs.Holdings.{FitsLog, IsBookOf, KeptAt, KeepsUnborn}
 use Rattle.velo_world.proofs.OnStatuses.{first-born, others-unborn, unborn-before, unborn-same, actor-born, forked-after, forked-before}
 
 -- the world with one event more
@@ -39,26 +39,26 @@ events_below-log bounds log well = events_below-all log bounds.threads (IsOfThre
 
 -- ---- a share that fits
 
-pub Fits-from : (w : WorldState) (book : Accounts) (share : Holding) → IsBookOf w book → FitsRun w share → Fits book share
-Fits-from w book share is fits = record {
+pub FitsBook-from : (w : WorldState) (book : Accounts) (share : Holding) → IsBookOf w book → FitsLog w share → FitsBook book share
+FitsBook-from w book share is fits = record {
   run = fits.run ∙ sym is.run;
   row = is.rows.each share.thread.0 (let lt = fits.thread in let count = is.count in omega arith) ∙ ap Some (sym fits.tally);
 }
 
-pub FitsRun-next_le : (w : WorldState) (share : Holding) → FitsRun w share → share.tally.next ≤ length w.log
-FitsRun-next_le w share fits = subst (λ (tally : Tally). tally.next ≤ length w.log) (sym fits.tally) (next_of-le w.log share.thread.0)
+pub FitsLog-next_le : (w : WorldState) (share : Holding) → FitsLog w share → share.tally.next ≤ length w.log
+FitsLog-next_le w share fits = subst (λ (tally : Tally). tally.next ≤ length w.log) (sym fits.tally) (next_of-le w.log share.thread.0)
 
 -- the share with the event of its thread fits the longer log
-pub FitsRun-own : (w : WorldState) (e : Event) (halted : Bool) (share : Holding) → e.thread ≡ share.thread → FitsRun w share → FitsRun (longer w e halted) (with_tally share (entered share.tally (length w.log) e))
-FitsRun-own w e halted share own fits = record {
+pub FitsLog-own : (w : WorldState) (e : Event) (halted : Bool) (share : Holding) → e.thread ≡ share.thread → FitsLog w share → FitsLog (longer w e halted) (with_tally share (with_event share.tally (length w.log) e))
+FitsLog-own w e halted share own fits = record {
   run = fits.run;
   thread = fits.thread;
-  tally = ap (λ (tally : Tally). entered tally (length w.log) e) fits.tally ∙ sym (tally_of-own w.log share.thread.0 e (ap (λ (t : ThreadId). t.0) own));
+  tally = ap (λ (tally : Tally). with_event tally (length w.log) e) fits.tally ∙ sym (tally_of-own w.log share.thread.0 e (ap (λ (t : ThreadId). t.0) own));
 }
 
 -- and so does the share of another thread as it was
-pub FitsRun-other : (w : WorldState) (e : Event) (halted : Bool) (share : Holding) → thread_of e ≢ share.thread.0 → FitsRun w share → FitsRun (longer w e halted) share
-FitsRun-other w e halted share other fits = record {
+pub FitsLog-other : (w : WorldState) (e : Event) (halted : Bool) (share : Holding) → thread_of e ≢ share.thread.0 → FitsLog w share → FitsLog (longer w e halted) share
+FitsLog-other w e halted share other fits = record {
   run = fits.run;
   thread = fits.thread;
   tally = fits.tally ∙ sym (tally_of-other w.log share.thread.0 e other);
@@ -78,10 +78,10 @@ IsBookOf-opening config = record {
     no_events zero = refl
     no_events (suc n) = let rest = no_events n in omega (arith, rest)
 
-pub IsBookOf-next : (w : WorldState) (e : Event) (halted : Bool) (book : Accounts) (share : Holding) → IsWellFormed w.config.bounds w.log → MayFollow w.config.bounds w.log e → IsBookOf w book → FitsRun w share → e.thread ≡ share.thread → IsBookOf (longer w e halted) (with_row book share.thread (entered share.tally (length w.log) e))
+pub IsBookOf-next : (w : WorldState) (e : Event) (halted : Bool) (book : Accounts) (share : Holding) → IsWellFormed w.config.bounds w.log → MayFollow w.config.bounds w.log e → IsBookOf w book → FitsLog w share → e.thread ≡ share.thread → IsBookOf (longer w e halted) (with_row book share.thread (with_event share.tally (length w.log) e))
 IsBookOf-next w e halted book share well follows is fits own =
-    let rows = entered-rows w.log book share e (Fits-from w book share is fits) own is.rows in
-    let count = length-set book.rows share.thread.0 (entered share.tally (length w.log) e) ∙ is.count in
+    let rows = with_event-rows w.log book share e (FitsBook-from w book share is fits) own is.rows in
+    let count = length-set book.rows share.thread.0 (with_event share.tally (length w.log) e) ∙ is.count in
     let known = IsOfThreadsBelow-well_formed w.config.bounds (w.log ++ e ∷ []) (IsWellFormed-push w.config.bounds w.log e well follows) in
     record {
       run = is.run;
@@ -111,10 +111,10 @@ KeepsUnborn-opening config places some are = record {
 other_acts : (bounds : Bounds) (log : List Event) (e : Event) (t : ℕ) → MayFollow bounds log e → IsTrue (is_unborn (status_in log t)) → thread_of e ≢ t
 other_acts bounds log e t follows unborn = λ is. false≢true (sym (actor-born bounds log e follows) ∙ subst (λ n. IsTrue (is_unborn (status_in log n))) (sym is) unborn)
 
-still_fits : (w : WorldState) (e : Event) (halted : Bool) (kept : List (Option Holding)) → MayFollow w.config.bounds w.log e → KeepsUnborn w kept → (t : ℕ) → t < w.config.bounds.threads → IsTrue (is_unborn (status_in (w.log ++ e ∷ []) t)) → FitsRun (longer w e halted) (opening_share w.config.run t)
+still_fits : (w : WorldState) (e : Event) (halted : Bool) (kept : List (Option Holding)) → MayFollow w.config.bounds w.log e → KeepsUnborn w kept → (t : ℕ) → t < w.config.bounds.threads → IsTrue (is_unborn (status_in (w.log ++ e ∷ []) t)) → FitsLog (longer w e halted) (opening_share w.config.run t)
 still_fits w e halted kept follows keeps t lt unborn =
     let before = (unborn-before w.log e t unborn).0 in
-    FitsRun-other w e halted (opening_share w.config.run t) (other_acts w.config.bounds w.log e t follows before) (keeps.fit t lt before)
+    FitsLog-other w e halted (opening_share w.config.run t) (other_acts w.config.bounds w.log e t follows before) (keeps.fit t lt before)
 
 -- what is right at a place stays so while the thread's birth stays as it is
 kept_at-same : (w : WorldState) (e : Event) (halted : Bool) (t : ℕ) (place : Option (Option Holding)) → is_unborn (status_in (w.log ++ e ∷ []) t) ≡ is_unborn (status_in w.log t) → KeptAt w t place → KeptAt (longer w e halted) t place

@@ -14,7 +14,7 @@ use Rattle.velo_ledger.specs.Shares.{opening_share}
 use Rattle.velo_ledger.proofs.Places.{slice_get-set_same, slice_get-set_other, slice_get-replicate}
 use Rattle.velo_ledger.proofs.OnLogs.{tally_of-nil}
 use Rattle.velo_world.specs.Worlds.{WorldState, opening, halted_world}
-use Rattle.velo_world.specs.Holdings.{HasShare, IsReady, IsComplete}
+use Rattle.velo_world.specs.Holdings.{HasShare, HoldsLiveShares, CompletesShares}
 use Rattle.velo_world.proofs.OnStatuses.{first-born, others-unborn, is_Unborn}
 
 -- thread 0's share is at its place, and every other place is empty
@@ -42,8 +42,8 @@ module _ (config : Config) where
   not_live : (t : ℕ) → t ≢ 0 → status_in [] t ≡ Live → ⊥
   not_live t other live = let same : ◌≡◌ {A = Status} Unborn Live = sym (is_Unborn (status_in [] t) (others-unborn t other)) ∙ live in cc
 
-  pub IsReady-opened : IsReady (opening config) opened
-  IsReady-opened = record {
+  pub HoldsLiveShares-opened : HoldsLiveShares (opening config) opened
+  HoldsLiveShares-opened = record {
     live = λ t live. ⊎_elim (HasShare-first t) (λ other. absurd (not_live t other live.1)) (cases_eq t 0);
     unborn = λ t unborn. ⊎_elim (λ is. absurd (false≢true (sym (first-born t is) ∙ ap is_unborn unborn.1))) (λ other. others-empty t other ∙ slice_get-replicate config.bounds.threads t None unborn.0) (cases_eq t 0);
   }
@@ -55,8 +55,8 @@ module _ (config : Config) where
       let same : ◌≡◌ {A = Option (Option Holding)} (Some None) (Some (Some share)) = sym (slice_get-replicate config.bounds.threads t None (omega arith)) ∙ is in
       cc
 
-  pub IsComplete-opened : IsComplete (opening config) opened
-  IsComplete-opened = record {
+  pub CompletesShares-opened : CompletesShares (opening config) opened
+  CompletesShares-opened = record {
     born = λ t born. ⊎_elim (HasShare-first t) (λ other. absurd (born.1 (is_Unborn (status_in [] t) (others-unborn t other)))) (cases_eq t 0);
     no_other = λ t share is. ⊎_elim
         (λ first. (subst (λ n. n < config.bounds.threads) (sym first) config.some_thread, λ unborn. false≢true (sym (first-born t first) ∙ ap is_unborn unborn)))
@@ -73,8 +73,8 @@ HasShare-halted w places t has = record {
   fits = record { run = has.fits.run; thread = has.fits.thread; tally = has.fits.tally };
 }
 
-pub IsReady-halted : (w : WorldState) (places : List (Option Holding)) → IsReady w places → IsReady (halted_world w) places
-IsReady-halted w places ready = record { live = λ t live. HasShare-halted w places t (ready.live t live); unborn = ready.unborn }
+pub HoldsLiveShares-halted : (w : WorldState) (places : List (Option Holding)) → HoldsLiveShares w places → HoldsLiveShares (halted_world w) places
+HoldsLiveShares-halted w places ready = record { live = λ t live. HasShare-halted w places t (ready.live t live); unborn = ready.unborn }
 
-pub IsComplete-halted : (w : WorldState) (places : List (Option Holding)) → IsComplete w places → IsComplete (halted_world w) places
-IsComplete-halted w places complete = record { born = λ t born. HasShare-halted w places t (complete.born t born); no_other = complete.no_other }
+pub CompletesShares-halted : (w : WorldState) (places : List (Option Holding)) → CompletesShares w places → CompletesShares (halted_world w) places
+CompletesShares-halted w places complete = record { born = λ t born. HasShare-halted w places t (complete.born t born); no_other = complete.no_other }

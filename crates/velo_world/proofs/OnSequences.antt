@@ -17,19 +17,19 @@ use Rattle.velo_events.specs.Event.{thread_of, is_fork_of, forked_by, are_same}
 use Rattle.velo_events.specs.Heap.{status_in}
 use Rattle.velo_events.specs.WellFormed.{MayFollow, IsWellFormed, NamesKnown}
 use Rattle.velo_events.specs.Meaning.{is_unborn, event_for}
-use Rattle.velo_ledger.specs.Tally.{entered}
+use Rattle.velo_ledger.specs.Tally.{with_event}
 use Rattle.velo_ledger.specs.Views.{Holding}
 use Rattle.velo_ledger.specs.Book.{IsFilled, with_tally}
 use Rattle.velo_ledger.specs.Shares.{opening_share, share_at}
 use Rattle.velo_ledger.proofs.Places.{slice_get-set_same, slice_get-set_other}
 use Rattle.velo_world.specs.declared.run.Reply.{Reply}
 use Rattle.velo_world.specs.Worlds.{WorldState}
-use Rattle.velo_world.specs.Holdings.{FitsRun, KeepsUnborn, IsUnborn, IsLive, HasShare, IsReady, IsComplete}
+use Rattle.velo_world.specs.Holdings.{FitsLog, KeepsUnborn, IsUnborn, IsLiveThread, HasShare, HoldsLiveShares, CompletesShares}
 use Rattle.velo_world.specs.Steps.{Acts}
 use Rattle.velo_world.specs.Sequences.{with_born, with_share, born_by, StepsTo, RunsTo}
 use Rattle.velo_world.proofs.OnAnswers.{MayFollow-meaning}
 use Rattle.velo_world.proofs.OnStatuses.{is_Unborn, unborn-before, live-before, unborn-same, actor-born, forked-after, forked-before}
-use Rattle.velo_world.proofs.OnHoldings.{longer, FitsRun-own, FitsRun-other}
+use Rattle.velo_world.proofs.OnHoldings.{longer, FitsLog-own, FitsLog-other}
 
 -- ---- places
 
@@ -80,7 +80,7 @@ at-unforked run Action.Exit places log t u no_fork = refl
 
 -- ---- an event of a live thread, by the share at its place
 
-module _ (w : WorldState) (places : List (Option Holding)) (share : Holding) (action : Action) (halted : Bool) (well : IsWellFormed w.config.bounds w.log) (opening_fits : (u : ℕ) → u < w.config.bounds.threads → IsTrue (is_unborn (status_in w.log u)) → FitsRun w (opening_share w.config.run u)) (ready : IsReady w places) (live : IsLive w share.thread.0) (there : slice_get places share.thread.0 ≡ Some (Some share)) (fits : FitsRun w share) (follows : MayFollow w.config.bounds w.log (event_for w.log share.thread action)) where
+module _ (w : WorldState) (places : List (Option Holding)) (share : Holding) (action : Action) (halted : Bool) (well : IsWellFormed w.config.bounds w.log) (opening_fits : (u : ℕ) → u < w.config.bounds.threads → IsTrue (is_unborn (status_in w.log u)) → FitsLog w (opening_share w.config.run u)) (ready : HoldsLiveShares w places) (live : IsLiveThread w share.thread.0) (there : slice_get places share.thread.0 ≡ Some (Some share)) (fits : FitsLog w share) (follows : MayFollow w.config.bounds w.log (event_for w.log share.thread action)) where
   abbrev event : Event
   event = event_for w.log share.thread action
 
@@ -88,7 +88,7 @@ module _ (w : WorldState) (places : List (Option Holding)) (share : Holding) (ac
   after = longer w event halted
 
   abbrev own_after : Holding
-  own_after = with_tally share (entered share.tally (length w.log) event)
+  own_after = with_tally share (with_event share.tally (length w.log) event)
 
   abbrev places_after : List (Option Holding)
   places_after = with_born w.config.run action (set places share.thread.0 (Some own_after))
@@ -124,7 +124,7 @@ module _ (w : WorldState) (places : List (Option Holding)) (share : Holding) (ac
       slice_get-set_other places share.thread.0 u place (λ is. false≢true (sym (other_forked u (sym is)) ∙ fork)) ∙ ready.unborn u (born_not u fork)
 
   HasShare-own : (u : ℕ) → u ≡ share.thread.0 → HasShare after places_after u
-  HasShare-own u is = record { share = own_after; there = at_own u is; own = sym is; fits = FitsRun-own w event halted share refl fits }
+  HasShare-own u is = record { share = own_after; there = at_own u is; own = sym is; fits = FitsLog-own w event halted share refl fits }
 
   HasShare-forked : (u : ℕ) → IsTrue (is_fork_of u event) → HasShare after places_after u
   HasShare-forked u fork =
@@ -134,7 +134,7 @@ module _ (w : WorldState) (places : List (Option Holding)) (share : Holding) (ac
         share = opening_share w.config.run u;
         there = at_forked u fork;
         own = refl;
-        fits = FitsRun-other w event halted (opening_share w.config.run u) acts (opening_fits u unborn.0 (ap is_unborn unborn.1));
+        fits = FitsLog-other w event halted (opening_share w.config.run u) acts (opening_fits u unborn.0 (ap is_unborn unborn.1));
       }
 
   HasShare-next : (u : ℕ) → IsFalse (is_fork_of u event) → HasShare w places u → HasShare after places_after u
@@ -145,11 +145,11 @@ module _ (w : WorldState) (places : List (Option Holding)) (share : Holding) (ac
         share = has.share;
         there = at_other u other no_fork ∙ has.there;
         own = has.own;
-        fits = FitsRun-other w event halted has.share (λ is. other (sym has.own ∙ sym is)) has.fits;
+        fits = FitsLog-other w event halted has.share (λ is. other (sym has.own ∙ sym is)) has.fits;
       }
 
-  pub IsReady-next : IsReady after places_after
-  IsReady-next = record {
+  pub HoldsLiveShares-next : HoldsLiveShares after places_after
+  HoldsLiveShares-next = record {
     live = λ u alive. ⊎_elim (HasShare-forked u) (λ no_fork. HasShare-next u no_fork (ready.live u (alive.0, live-before w.log event u alive.1 no_fork))) (cases_Bool (is_fork_of u event));
     unborn = λ u unborn.
         let before = unborn-before w.log event u (ap is_unborn unborn.1) in
@@ -167,8 +167,8 @@ module _ (w : WorldState) (places : List (Option Holding)) (share : Holding) (ac
       (λ other. ⊎_elim (λ fork. (opening_share w.config.run u, at_forked u fork)) (λ no_fork. (filled.0, at_other u other no_fork ∙ filled.1)) (cases_Bool (is_fork_of u event)))
       (cases_eq u share.thread.0)
 
-  pub IsComplete-next : IsComplete w places → IsComplete after places_after
-  IsComplete-next complete = record {
+  pub CompletesShares-next : CompletesShares w places → CompletesShares after places_after
+  CompletesShares-next complete = record {
     born = λ u born. ⊎_elim (HasShare-forked u) (λ no_fork. HasShare-next u no_fork (complete.born u (born.0, was_born u no_fork born.1))) (cases_Bool (is_fork_of u event));
     no_other = λ u s is. ⊎_elim (λ own. (subst (λ n. n < w.config.bounds.threads) (sym own) live.0, own_born u own))
         (λ other. ⊎_elim (λ fork. ((born_not u fork).0, still_born u (forked-after w.log event u fork)))
@@ -229,14 +229,14 @@ forked_born run Action.Exit reply born log t is = cc
 -- what a step leaves, beside its outcome
 pub record Stepped (w : WorldState) (places : List (Option Holding)) (t : ThreadId) (action : Action) (outcome : Result Reply Refusal) (w' : WorldState) (places' : List (Option Holding)) : Type 0 where
   pub outcome_is : StepsTo w places t action outcome w' places'
-  pub ready : IsReady w' places'
+  pub ready : HoldsLiveShares w' places'
   pub filled : (u : ℕ) → IsFilled places u → IsFilled places' u
-  pub complete : IsComplete w places → IsComplete w' places'
+  pub complete : CompletesShares w places → CompletesShares w' places'
 
-pub Stepped-same : (w : WorldState) (places : List (Option Holding)) (t : ThreadId) (action : Action) (refusal : Refusal) → IsReady w places → StepsTo w places t action (Err refusal) w places → Stepped w places t action (Err refusal) w places
+pub Stepped-same : (w : WorldState) (places : List (Option Holding)) (t : ThreadId) (action : Action) (refusal : Refusal) → HoldsLiveShares w places → StepsTo w places t action (Err refusal) w places → Stepped w places t action (Err refusal) w places
 Stepped-same w places t action refusal ready is = record { outcome_is = is; ready = ready; filled = λ u filled. filled; complete = λ complete. complete }
 
-module _ (w w' : WorldState) (places : List (Option Holding)) (share share' : Holding) (action : Action) (well : IsWellFormed w.config.bounds w.log) (opening_fits : (u : ℕ) → u < w.config.bounds.threads → IsTrue (is_unborn (status_in w.log u)) → FitsRun w (opening_share w.config.run u)) (ready : IsReady w places) (live : IsLive w share.thread.0) (there : slice_get places share.thread.0 ≡ Some (Some share)) (fits : FitsRun w share) where
+module _ (w w' : WorldState) (places : List (Option Holding)) (share share' : Holding) (action : Action) (well : IsWellFormed w.config.bounds w.log) (opening_fits : (u : ℕ) → u < w.config.bounds.threads → IsTrue (is_unborn (status_in w.log u)) → FitsLog w (opening_share w.config.run u)) (ready : HoldsLiveShares w places) (live : IsLiveThread w share.thread.0) (there : slice_get places share.thread.0 ≡ Some (Some share)) (fits : FitsLog w share) where
   same_thread : (outcome : Result Reply Refusal) → Acts w share action outcome w' share' → share'.thread ≡ share.thread
   same_thread (Ok reply) acts = ap (λ (s : Holding). s.thread) acts.1.holding
   same_thread (Err refusal) acts = ap (λ (s : Holding). s.thread) acts.holding
@@ -274,25 +274,25 @@ module _ (w w' : WorldState) (places : List (Option Holding)) (share share' : Ho
       let own = acts.1.holding in
       record {
         outcome_is = record { share = share; share' = share'; there = there; own = refl; acts = acts; after = put };
-        ready = rw (put, own, world) (IsReady-next w places share action w'.halted well opening_fits ready live there fits follows);
+        ready = rw (put, own, world) (HoldsLiveShares-next w places share action w'.halted well opening_fits ready live there fits follows);
         filled = rw (put, own) (IsFilled-next w places share action w'.halted well opening_fits ready live there fits follows);
-        complete = rw (put, own, world) (IsComplete-next w places share action w'.halted well opening_fits ready live there fits follows);
+        complete = rw (put, own, world) (CompletesShares-next w places share action w'.halted well opening_fits ready live there fits follows);
       }
 
 -- the share of a live thread was taken out of its place
 pub record Taken (w : WorldState) (places : List (Option Holding)) (t : ThreadId) (share : Holding) (rest : List (Option Holding)) : Type 0 where
   pub well : IsWellFormed w.config.bounds w.log
-  pub opening_fits : (u : ℕ) → u < w.config.bounds.threads → IsTrue (is_unborn (status_in w.log u)) → FitsRun w (opening_share w.config.run u)
-  pub ready : IsReady w places
-  pub live : IsLive w t.0
+  pub opening_fits : (u : ℕ) → u < w.config.bounds.threads → IsTrue (is_unborn (status_in w.log u)) → FitsLog w (opening_share w.config.run u)
+  pub ready : HoldsLiveShares w places
+  pub live : IsLiveThread w t.0
   pub own : share.thread ≡ t
   pub from_place : Some share ≡ share_at places t
   pub without : rest ≡ set places t.0 None
 
-pub Taken-from : (w0 w : WorldState) (bounds : Bounds) (kept places rest : List (Option Holding)) (t : ThreadId) (share : Holding) → w0 ≡ w → IsWellFormed bounds w0.log → bounds ≡ w0.config.bounds → KeepsUnborn w0 kept → IsReady w places → IsLive w t.0 → share.thread ≡ t → Some share ≡ share_at places t → rest ≡ set places t.0 None → Taken w places t share rest
+pub Taken-from : (w0 w : WorldState) (bounds : Bounds) (kept places rest : List (Option Holding)) (t : ThreadId) (share : Holding) → w0 ≡ w → IsWellFormed bounds w0.log → bounds ≡ w0.config.bounds → KeepsUnborn w0 kept → HoldsLiveShares w places → IsLiveThread w t.0 → share.thread ≡ t → Some share ≡ share_at places t → rest ≡ set places t.0 None → Taken w places t share rest
 Taken-from w0 w bounds kept places rest t share same well bounds_is keeps ready live own from_place without = record {
   well = subst (λ (v : WorldState). IsWellFormed v.config.bounds v.log) same (subst (λ b. IsWellFormed b w0.log) bounds_is well);
-  opening_fits = subst (λ (v : WorldState). (u : ℕ) → u < v.config.bounds.threads → IsTrue (is_unborn (status_in v.log u)) → FitsRun v (opening_share v.config.run u)) same keeps.fit;
+  opening_fits = subst (λ (v : WorldState). (u : ℕ) → u < v.config.bounds.threads → IsTrue (is_unborn (status_in v.log u)) → FitsLog v (opening_share v.config.run u)) same keeps.fit;
   ready = ready;
   live = live;
   own = own;
@@ -301,8 +301,8 @@ Taken-from w0 w bounds kept places rest t share same well bounds_is keeps ready 
 }
 
 module _ (w w' : WorldState) (places : List (Option Holding)) (t : ThreadId) (share share' : Holding) (rest : List (Option Holding)) (action : Action) (outcome : Result Reply Refusal) (taken : Taken w places t share rest) (acts : Acts w share action outcome w' share') where
-  live_own : IsLive w share.thread.0
-  live_own = subst (λ (u : ThreadId). IsLive w u.0) (sym taken.own) taken.live
+  live_own : IsLiveThread w share.thread.0
+  live_own = subst (λ (u : ThreadId). IsLiveThread w u.0) (sym taken.own) taken.live
 
   has_own : HasShare w places t.0
   has_own = taken.ready.live t.0 taken.live
@@ -315,9 +315,9 @@ module _ (w w' : WorldState) (places : List (Option Holding)) (t : ThreadId) (sh
   unfolding has_own
   there_own = subst (λ (u : ThreadId). slice_get places u.0 ≡ Some (Some share)) (sym taken.own) (has_own.there ∙ ap (λ (s : Holding). Some (Some s)) share_is)
 
-  fits_own : FitsRun w share
+  fits_own : FitsLog w share
   unfolding has_own
-  fits_own = subst (FitsRun w) share_is has_own.fits
+  fits_own = subst (FitsLog w) share_is has_own.fits
 
   rest_is : rest ≡ set places share.thread.0 None
   rest_is = taken.without ∙ ap (λ (u : ThreadId). set places u.0 None) (sym taken.own)

@@ -8,16 +8,16 @@ use Rattle.velo_events.specs.declared.event.ThreadId.{ThreadId}
 use Rattle.velo_events.specs.Event.{is_fork_of}
 use Rattle.velo_events.specs.WellFormed.{MayFollow, IsWellFormed}
 use Rattle.velo_events.specs.Meaning.{event_for}
-use Rattle.velo_ledger.specs.Tally.{entered}
+use Rattle.velo_ledger.specs.Tally.{with_event}
 use Rattle.velo_ledger.specs.Views.{Accounts, Holding}
 use Rattle.velo_ledger.specs.Book.{with_row, with_tally}
 use Rattle.velo_ledger.specs.Shares.{opening_share, share_at}
 use Rattle.velo_world.specs.declared.run.Reply.{Reply}
 use Rattle.velo_world.specs.Worlds.{WorldState, meaning}
-use Rattle.velo_world.specs.Holdings.{FitsRun, IsBookOf, KeepsUnborn}
-use Rattle.velo_world.specs.Steps.{IsNoFork, Replies, Adds, Acts}
+use Rattle.velo_world.specs.Holdings.{FitsLog, IsBookOf, KeepsUnborn}
+use Rattle.velo_world.specs.Steps.{IsNoFork, Replies, AddsEvent, Acts}
 use Rattle.velo_world.proofs.OnAnswers.{MayFollow-meaning, event-meaning}
-use Rattle.velo_world.proofs.OnHoldings.{FitsRun-next_le, IsBookOf-next, KeepsUnborn-next, KeepsUnborn-fork, kept-born, fork_by}
+use Rattle.velo_world.proofs.OnHoldings.{FitsLog-next_le, IsBookOf-next, KeepsUnborn-next, KeepsUnborn-fork, kept-born, fork_by}
 
 forks_none : (log : List Event) (t : ThreadId) (action : Action) (u : ℕ) → IsNoFork action → IsFalse (is_fork_of u (event_for log t action))
 forks_none log t (Action.Read x) u h = refl
@@ -35,7 +35,7 @@ own_event w t action e due = ap (λ (f : Event). f.thread) (event-meaning w t ac
 
 -- ---- what the type keeps
 
-pub book-committed : (w : WorldState) (t : ThreadId) (action : Action) (e : Event) (halted : Bool) (log log' : List Event) (book book' : Accounts) (share : Holding) → IsWellFormed w.config.bounds w.log → meaning w t action ≡ Ok e → IsBookOf w book → FitsRun w share → t ≡ share.thread → log ≡ w.log → log' ≡ log ++ e ∷ [] → book' ≡ with_row book share.thread (entered share.tally (length log) e) → IsBookOf (record { config = w.config; halted = halted; log = log' }) book'
+pub book-committed : (w : WorldState) (t : ThreadId) (action : Action) (e : Event) (halted : Bool) (log log' : List Event) (book book' : Accounts) (share : Holding) → IsWellFormed w.config.bounds w.log → meaning w t action ≡ Ok e → IsBookOf w book → FitsLog w share → t ≡ share.thread → log ≡ w.log → log' ≡ log ++ e ∷ [] → book' ≡ with_row book share.thread (with_event share.tally (length log) e) → IsBookOf (record { config = w.config; halted = halted; log = log' }) book'
 book-committed w t action e halted log log' book book' share well due is fits own log_is log'_is book'_is =
     rw (log'_is, book'_is, log_is) (IsBookOf-next w e halted book share well (MayFollow-meaning w t action e well due) is fits (own_event w t action e due ∙ own))
 
@@ -58,16 +58,16 @@ module _ (w : WorldState) (t child : ThreadId) (e : Event) (well : IsWellFormed 
 
 -- ---- what the caller learns
 
-pub Acts-committed : (w : WorldState) (share share' : Holding) (action : Action) (e : Event) (reply : Reply) (config : Config) (halted : Bool) (log log' : List Event) → meaning w share.thread action ≡ Ok e → FitsRun w share → config ≡ w.config → halted ≡ (config.stop && reply.alarmed) → log ≡ w.log → log' ≡ log ++ e ∷ [] → Replies log e reply → share' ≡ with_tally share (entered share.tally (length log) e) → Acts w share action (Ok reply) (record { config = config; halted = halted; log = log' }) share'
+pub Acts-committed : (w : WorldState) (share share' : Holding) (action : Action) (e : Event) (reply : Reply) (config : Config) (halted : Bool) (log log' : List Event) → meaning w share.thread action ≡ Ok e → FitsLog w share → config ≡ w.config → halted ≡ (config.stop && reply.alarmed) → log ≡ w.log → log' ≡ log ++ e ∷ [] → Replies log e reply → share' ≡ with_tally share (with_event share.tally (length log) e) → Acts w share action (Ok reply) (record { config = config; halted = halted; log = log' }) share'
 Acts-committed w share share' action e reply config halted log log' due fits config_is halted_is log_is log'_is replies share'_is =
-    subst (λ f. (meaning w share.thread action ≡ Ok f) × Adds w share f reply (record { config = config; halted = halted; log = log' }) share') (event-meaning w share.thread action e due) (
+    subst (λ f. (meaning w share.thread action ≡ Ok f) × AddsEvent w share f reply (record { config = config; halted = halted; log = log' }) share') (event-meaning w share.thread action e due) (
       due,
       record {
         config = config_is;
         log = log'_is ∙ ap (λ l. l ++ e ∷ []) log_is;
         halted = halted_is ∙ ap (λ (k : Config). k.stop && reply.alarmed) config_is;
         replies = subst (λ l. Replies l e reply) log_is replies;
-        holding = share'_is ∙ ap (λ l. with_tally share (entered share.tally (length l) e)) log_is;
-        later = (let le = FitsRun-next_le w share fits in let at = replies.position in let same : length log ≡ length w.log = ap length log_is in omega arith);
+        holding = share'_is ∙ ap (λ l. with_tally share (with_event share.tally (length l) e)) log_is;
+        later = (let le = FitsLog-next_le w share fits in let at = replies.position in let same : length log ≡ length w.log = ap length log_is in omega arith);
       },
     )

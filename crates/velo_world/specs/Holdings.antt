@@ -9,7 +9,7 @@ use Rattle.velo_ledger.specs.Logs.{tally_of, AreTalliesOf}
 use Rattle.velo_world.specs.Worlds.{WorldState}
 
 -- the share is of this run and one of its threads, and says what the thread's events in the log come to
-pub record FitsRun (w : WorldState) (share : Holding) : Type 0 where
+pub record FitsLog (w : WorldState) (share : Holding) : Type 0 where
   pub run : share.run ≡ w.config.run
   pub thread : share.thread.0 < w.config.bounds.threads
   pub tally : share.tally ≡ tally_of w.log share.thread.0
@@ -29,14 +29,14 @@ KeptAt w t place = place ≡ Some (if is_unborn (status_in w.log t) then Some (o
 pub record KeepsUnborn (w : WorldState) (kept : List (Option Holding)) : Type 0 where
   pub count : length kept ≡ w.config.bounds.threads
   pub each : (t : ℕ) → t < w.config.bounds.threads → KeptAt w t (slice_get kept t)
-  pub fit : (t : ℕ) → t < w.config.bounds.threads → IsTrue (is_unborn (status_in w.log t)) → FitsRun w (opening_share w.config.run t)
+  pub fit : (t : ℕ) → t < w.config.bounds.threads → IsTrue (is_unborn (status_in w.log t)) → FitsLog w (opening_share w.config.run t)
 
 -- how far a thread of the world has come
 abbrev pub IsUnborn : WorldState → ℕ → Type 0
 IsUnborn w t = (t < w.config.bounds.threads) × (status_in w.log t ≡ Unborn)
 
-abbrev pub IsLive : WorldState → ℕ → Type 0
-IsLive w t = (t < w.config.bounds.threads) × (status_in w.log t ≡ Live)
+abbrev pub IsLiveThread : WorldState → ℕ → Type 0
+IsLiveThread w t = (t < w.config.bounds.threads) × (status_in w.log t ≡ Live)
 
 abbrev pub IsBorn : WorldState → ℕ → Type 0
 IsBorn w t = (t < w.config.bounds.threads) × (status_in w.log t ≢ Unborn)
@@ -46,15 +46,15 @@ pub record HasShare (w : WorldState) (places : List (Option Holding)) (t : ℕ) 
   pub share : Holding
   pub there : slice_get places t ≡ Some (Some share)
   pub own : share.thread.0 ≡ t
-  pub fits : FitsRun w share
+  pub fits : FitsLog w share
 
 -- each live thread's share is at its place and fits, and each unborn thread's place is there and empty
-pub record IsReady (w : WorldState) (places : List (Option Holding)) : Type 0 where
-  pub live : (t : ℕ) → IsLive w t → HasShare w places t
+pub record HoldsLiveShares (w : WorldState) (places : List (Option Holding)) : Type 0 where
+  pub live : (t : ℕ) → IsLiveThread w t → HasShare w places t
   pub unborn : (t : ℕ) → IsUnborn w t → slice_get places t ≡ Some None
 
 -- with the shares of unborn threads, which the world keeps, the given ones are one fitting share of each thread
-pub record IsComplete (w : WorldState) (given : List (Option Holding)) : Type 0 where
+pub record CompletesShares (w : WorldState) (given : List (Option Holding)) : Type 0 where
   -- each thread that was born has its fitting share there
   pub born : (t : ℕ) → IsBorn w t → HasShare w given t
   -- and no other share is there
@@ -63,4 +63,4 @@ pub record IsComplete (w : WorldState) (given : List (Option Holding)) : Type 0 
 -- what is right at a place of the given shares, whether or not such a thread is there
 abbrev pub PlaceIsRight : WorldState → ℕ → Option Holding → Type 0
 PlaceIsRight w t None = ¬ IsBorn w t
-PlaceIsRight w t (Some share) = IsBorn w t × FitsRun w share
+PlaceIsRight w t (Some share) = IsBorn w t × FitsLog w share

@@ -1,7 +1,8 @@
 ghost use Rattle.std.specs.Prelude.{◌≡◌, ◌≤◌, ◌<◌, length, IfSome, IfNone};
 ghost use Rattle.velo_events.specs.Graph.{HasCycle};
+ghost use Rattle.velo_events.specs.Reordering.{IsSerializable};
 ghost use Rattle.velo_events.specs.WellFormed.{IsWellFormed};
-ghost use Rattle.velo_heap.specs.Contents.{bounds_of, StandsFor};
+ghost use Rattle.velo_heap.specs.Contents.{bounds_of, IsHeapOf};
 ghost use Rattle.velo_ledger.specs.Logs.{tally_of, events_below};
 ghost use Rattle.velo_world.specs.Alarms.{IsAlarm};
 
@@ -46,16 +47,18 @@ impl Closed {
 
     /// The heap that the log leaves.
     pub fn heap(&self) -> &Heap
-        ensures stands { StandsFor result.now self.now.log }
+        ensures stands { IsHeapOf result.now self.now.log }
         ensures bounds { bounds_of result.now ≡ self.now.config.bounds }
     {
         self.world.heap()
     }
 
-    /// The alarm, if the log has a cycle.
+    /// The alarm, if the log has a cycle, that is, if no reordering of it is serial.
     pub fn alarm(&self) -> Option<&Alarm>
         ensures none { IfNone result (¬ HasCycle self.now.log) }
         ensures some { IfSome result (λ alarm. IsAlarm self.now.log alarm.now) }
+        ensures serial_none { IfNone result (IsSerializable self.now.log) }
+        ensures serial_some { IfSome result (λ alarm. ¬ IsSerializable self.now.log) }
     {
         self.world.alarm()
     }

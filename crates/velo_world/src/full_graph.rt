@@ -1,4 +1,5 @@
 //! A plain full graph of the log, which finds the event that closes the first cycle.
+ghost use Rattle.velo_events.specs.Refusals.{GrowthRefused};
 ghost use Rattle.std.specs.Prelude.{◌≡◌, ◌≤◌, ◌<◌, ℕ, [], ◌∷◌, ◌++◌, length, IsTrue, IsFalse, ◌↔◌, OnOk, OnErr};
 ghost use Rattle.velo_events.specs.Block.{owner, open_blocks};
 ghost use Rattle.velo_events.specs.Graph.{Edge, HasCycle};
@@ -9,6 +10,7 @@ ghost use Rattle.velo_world.specs.Observed.{GraphStandsFor, Observed};
 use crate::reach::{Mark, conflict_at, knows, mark_reached};
 use std::alloc::Global;
 use std::marker::Model;
+use velo_events::growth::reserve;
 use velo_events::{Event, Memory, conflicts};
 use velo_traces::Trace;
 
@@ -56,9 +58,10 @@ impl FullGraph {
         ensures owners { self.new.owners ≡ self.old.owners }
         ensures ok { OnOk result (0 < self.new.room) }
         ensures err { OnErr result (self.old.room ≡ 0) }
+        ensures memory { OnErr result GrowthRefused }
     {
-        self.owners.reserve(1)?;
-        self.marks.reserve(1)?;
+        reserve(&mut self.owners, 1)?;
+        reserve(&mut self.marks, 1)?;
         Ok(())
     }
 

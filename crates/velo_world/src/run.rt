@@ -1,7 +1,8 @@
 //! The course of a run: its log, and what follows from it.
+ghost use Rattle.velo_events.specs.Refusals.{GrowthRefused};
 ghost use Rattle.std.specs.Prelude.{◌≡◌, [], ◌∷◌, ◌++◌, length, None, IsTrue, ◌↔◌, IfOk, OnOk, OnErr, ◌⊎◌};
 ghost use Rattle.velo_events.specs.WellFormed.{MayFollow};
-ghost use Rattle.velo_heap.specs.Contents.{bounds_of, StandsFor};
+ghost use Rattle.velo_heap.specs.Contents.{bounds_of, IsHeapOf};
 ghost use Rattle.velo_world.specs.Owners.{AreOwners};
 ghost use Rattle.velo_world.specs.Alarms.{AlarmOf};
 ghost use Rattle.velo_world.specs.Runs.{Follows, HasRoom};
@@ -49,6 +50,7 @@ impl Run {
         ensures log { IfOk result (λ run. run.log.events ≡ []) }
         ensures bounds { IfOk result (λ run. bounds_of run.heap ≡ config.now.bounds) }
         ensures follows { IfOk result (λ run. Follows run) }
+        ensures memory { OnErr result GrowthRefused }
     {
         let heap = Heap::new(alloc, config)?;
         Ok(Run {
@@ -67,6 +69,7 @@ impl Run {
         ensures alarm { self.new.alarm ≡ self.old.alarm }
         ensures room { OnOk result (HasRoom self.new) }
         ensures err { OnErr result ((self.old.log.room ≡ 0) ⊎ (self.old.graph.room ≡ 0)) }
+        ensures memory { OnErr result GrowthRefused }
     {
         self.log.reserve_one()?;
         self.graph.reserve_one()?;

@@ -1,5 +1,5 @@
 ghost use Rattle.std.specs.Prelude.{◌≡◌, IfOk};
-ghost use Rattle.velo_world.specs.Holdings.{IsReady};
+ghost use Rattle.velo_world.specs.Holdings.{HoldsLiveShares};
 
 use crate::{Alarm, Reply, World};
 use std::alloc::Global;
@@ -32,7 +32,7 @@ const ALARM: Alarm = Alarm {
 
 /// A world of so many threads, one variable and one lock, with thread 0's share at its place.
 fn opened(alloc: Global, threads: u8, events: u32, stop: bool) -> Result<(World, Shares), Fail>
-    ensures { IfOk result (λ opened. IsReady opened.0 opened.1) }
+    ensures { IfOk result (λ opened. HoldsLiveShares opened.0 opened.1) }
 {
     let bounds = Bounds {
         threads,
@@ -100,8 +100,8 @@ fn refuse(
     shares: &mut Shares,
     steps: &[(u8, Action, Option<Refusal>)],
 )
-    requires { IsReady world.old shares.old }
-    ensures { IsReady world.new shares.new }
+    requires { HoldsLiveShares world.old shares.old }
+    ensures { HoldsLiveShares world.new shares.new }
 {
     for i in 0..steps.len() {
         let (thread, action, wanted) = steps[i];
@@ -188,8 +188,8 @@ fn refused_at_the_third_step(rt: HostRuntime) -> Result<(), Fail> {
 
 /// The lost update closes a cycle with its last step, and raises the alarm there.
 fn lose_the_update(rt: &impl Abort, world: &mut World, shares: &mut Shares) -> Result<(), Memory>
-    requires { IsReady world.old shares.old }
-    ensures { IsReady world.new shares.new }
+    requires { HoldsLiveShares world.old shares.old }
+    ensures { HoldsLiveShares world.new shares.new }
 {
     let outcomes = world.run(shares, &LOST_UPDATE)?;
     let wanted = [

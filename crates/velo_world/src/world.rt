@@ -1,15 +1,17 @@
+ghost use Rattle.velo_events.specs.Refusals.{GrowthRefused};
 ghost use Rattle.std.specs.Prelude.{◌≡◌, ◌≤◌, ◌<◌, ◌↔◌, ◌∷◌, ◌++◌, [], ℕ, length, None, Some, IfOk, IfSome, IfNone, OnErr, IsTrue, slice_get, slice_set};
 ghost use Rattle.velo_events.specs.declared.event.Action.TheVariants.{Fork};
 ghost use Rattle.velo_events.specs.Graph.{HasCycle};
+ghost use Rattle.velo_events.specs.Reordering.{IsSerializable};
 ghost use Rattle.velo_events.specs.WellFormed.{IsWellFormed, MayFollow};
-ghost use Rattle.velo_heap.specs.Contents.{bounds_of, StandsFor};
-ghost use Rattle.velo_ledger.specs.Tally.{entered};
-ghost use Rattle.velo_ledger.specs.Book.{Fits, IsFilled, with_row, with_tally};
+ghost use Rattle.velo_heap.specs.Contents.{bounds_of, IsHeapOf};
+ghost use Rattle.velo_ledger.specs.Tally.{with_event};
+ghost use Rattle.velo_ledger.specs.Book.{FitsBook, IsFilled, with_row, with_tally};
 ghost use Rattle.velo_ledger.specs.Shares.{AreInPlace, events_in_all, opening_share, share_at};
 ghost use Rattle.velo_world.specs.Alarms.{IsAlarm};
 ghost use Rattle.velo_world.specs.Runs.{Follows, HasRoom};
 ghost use Rattle.velo_world.specs.Worlds.{opening, halted_world, meaning};
-ghost use Rattle.velo_world.specs.Holdings.{FitsRun, IsBookOf, IsBorn, IsLive, IsReady, IsComplete, PlaceIsRight};
+ghost use Rattle.velo_world.specs.Holdings.{FitsLog, IsBookOf, IsBorn, IsLiveThread, HoldsLiveShares, CompletesShares, PlaceIsRight};
 ghost use Rattle.velo_world.specs.Steps.{IsNoFork, Replies, Acts, Forks, Closes};
 ghost use Rattle.velo_world.specs.Sequences.{StepsTo, RunsTo, born_by, with_share};
 
@@ -17,6 +19,7 @@ use crate::closed::Closed;
 use crate::run::{Alarm, Reply, Run};
 use std::alloc::Global;
 use std::marker::Model;
+use velo_events::growth::reserve;
 use velo_events::{Action, Bounds, Config, Event, Memory, Refusal, Status, ThreadId};
 use velo_heap::Heap;
 use velo_ledger::{Book, Share, Shares};
@@ -57,6 +60,7 @@ impl World {
     pub fn new(alloc: Global, config: Config) -> Result<(World, Share), Memory>
         ensures world { IfOk result (λ opened. opened.0 ≡ opening config) }
         ensures share { IfOk result (λ opened. opened.1 ≡ opening_share config.run 0) }
+        ensures memory { OnErr result GrowthRefused }
     {
         let run = Run::new(alloc, &config)?;
         let (book, mut kept) = Book::open(alloc, config.run, config.bounds.threads)?;
@@ -81,7 +85,7 @@ impl World {
     /// changes then, the share neither.
     pub fn act(&mut self, share: &mut Share, action: Action) -> Result<Reply, Refusal>
         requires fork { IsNoFork action }
-        requires fits { FitsRun self.old share.old }
+        requires fits { FitsLog self.old share.old }
         ensures { Acts self.old share.old action result self.new share.new }
     {
         let event = self.decide(share.thread(), action)?;
@@ -98,7 +102,7 @@ impl World {
     /// # Errors
     /// The first refusal that applies, as for `act`. Nothing changes then, the share neither.
     pub fn fork(&mut self, share: &mut Share, child: ThreadId) -> Result<(Reply, Share), Refusal>
-        requires { FitsRun self.old share.old }
+        requires { FitsLog self.old share.old }
         ensures { Forks self.old share.old child result self.new share.new }
     {
         let event = self.decide(share.thread(), Action::Fork(child))?;
@@ -123,18 +127,19 @@ impl World {
         shares: &mut Shares,
         steps: &[(ThreadId, Action)],
     ) -> Result<Vec<Result<Reply, Refusal>>, Memory>
-        requires { IsReady self.old shares.old }
+        requires { HoldsLiveShares self.old shares.old }
         ensures outcomes { IfOk result (λ outcomes.
             RunsTo self.old shares.old steps.now outcomes.items self.new shares.new) }
         ensures count { IfOk result (λ outcomes. length outcomes.items ≡ length steps.now) }
+        ensures memory { OnErr result GrowthRefused }
         ensures world { OnErr result (self.new ≡ self.old) }
         ensures shares { OnErr result (shares.new ≡ shares.old) }
-        ensures ready { IsReady self.new shares.new }
+        ensures ready { HoldsLiveShares self.new shares.new }
         ensures filled { (t : ℕ) → IsFilled shares.old t → IsFilled shares.new t }
-        ensures complete { IsComplete self.old shares.old → IsComplete self.new shares.new }
+        ensures complete { CompletesShares self.old shares.old → CompletesShares self.new shares.new }
     {
         let mut outcomes: Vec<Result<Reply, Refusal>> = Vec::new(self.alloc);
-        outcomes.reserve(steps.len())?;
+        reserve(&mut outcomes, steps.len())?;
         for (thread, action) in steps {
             outcomes.push_reserved(self.step(shares, *thread, *action));
         }
@@ -151,11 +156,11 @@ impl World {
         thread: ThreadId,
         action: Action,
     ) -> Result<Reply, Refusal>
-        requires { IsReady self.old shares.old }
+        requires { HoldsLiveShares self.old shares.old }
         ensures outcome { StepsTo self.old shares.old thread action result self.new shares.new }
-        ensures ready { IsReady self.new shares.new }
+        ensures ready { HoldsLiveShares self.new shares.new }
         ensures filled { (t : ℕ) → IsFilled shares.old t → IsFilled shares.new t }
-        ensures complete { IsComplete self.old shares.old → IsComplete self.new shares.new }
+        ensures complete { CompletesShares self.old shares.old → CompletesShares self.new shares.new }
     {
         if self.halted {
             return Err(Refusal::Halted);
@@ -197,7 +202,7 @@ impl World {
 
     /// The heap that the log leaves.
     pub fn heap(&self) -> &Heap
-        ensures stands { StandsFor result.now self.now.log }
+        ensures stands { IsHeapOf result.now self.now.log }
         ensures bounds { bounds_of result.now ≡ self.now.config.bounds }
     {
         &self.run.heap
@@ -210,10 +215,13 @@ impl World {
         &self.book
     }
 
-    /// The alarm, if the log has a cycle: the first event that closed one, however the log went on.
+    /// The alarm, if the log has a cycle: the first event that closed one, however the log went on. Without a cycle, and only
+    /// then, some reordering of the log is serial.
     pub fn alarm(&self) -> Option<&Alarm>
         ensures none { IfNone result (¬ HasCycle self.now.log) }
         ensures some { IfSome result (λ alarm. IsAlarm self.now.log alarm.now) }
+        ensures serial_none { IfNone result (IsSerializable self.now.log) }
+        ensures serial_some { IfSome result (λ alarm. ¬ IsSerializable self.now.log) }
     {
         self.run.alarm.as_ref()
     }
@@ -234,7 +242,7 @@ impl World {
 
     /// Whether the share is of this run and of a thread of this world, and says what the log says of it.
     pub fn fits(&self, share: &Share) -> bool
-        ensures { IsTrue result ↔ FitsRun self.now share.now }
+        ensures { IsTrue result ↔ FitsLog self.now share.now }
     {
         self.book.fits(share)
     }
@@ -279,7 +287,7 @@ impl World {
         share: &mut Share,
         action: Action,
     ) -> (Result<Reply, Refusal>, Option<Share>)
-        requires { FitsRun self.old share.old }
+        requires { FitsLog self.old share.old }
         ensures acts { Acts self.old share.old action result.0 self.new share.new }
         ensures born { result.1 ≡ born_by self.old.config.run action result.0 }
     {
@@ -294,7 +302,7 @@ impl World {
 
     /// Whether the thread is there and may act.
     fn is_live(&self, thread: ThreadId) -> bool
-        ensures { IsTrue result ↔ IsLive self.now thread.0 }
+        ensures { IsTrue result ↔ IsLiveThread self.now thread.0 }
     {
         thread.0 < self.threads() && matches!(self.run.heap.status(thread), Status::Live)
     }
@@ -319,7 +327,7 @@ impl World {
 
     /// Whether the shares that the world keeps and those given are one fitting share of each thread.
     fn is_complete(&self, given: &Shares) -> bool
-        ensures complete { IsTrue result ↔ IsComplete self.now given.now }
+        ensures complete { IsTrue result ↔ CompletesShares self.now given.now }
         ensures sum { IsTrue result → events_in_all given.now ≡ length self.now.log }
     {
         // the sum follows from what the type keeps of its book
@@ -338,7 +346,7 @@ fn commit(run: &mut Run, book: &mut Book, share: &mut Share, event: Event) -> Re
     requires follows { Follows run.old }
     requires room { HasRoom run.old }
     requires admitted { MayFollow (bounds_of run.old.heap) run.old.log.events event }
-    requires fits { Fits book.old share.old }
+    requires fits { FitsBook book.old share.old }
     requires own { event.thread ≡ share.old.thread }
     requires later { share.old.tally.next ≤ length run.old.log.events }
     requires short { length run.old.log.events < 16777216 }
@@ -347,9 +355,9 @@ fn commit(run: &mut Run, book: &mut Book, share: &mut Share, event: Event) -> Re
     ensures follows { Follows run.new }
     ensures reply { Replies run.old.log.events event result }
     ensures book { book.new ≡ with_row book.old share.old.thread
-        (entered share.old.tally (length run.old.log.events) event) }
+        (with_event share.old.tally (length run.old.log.events) event) }
     ensures share { share.new ≡ with_tally share.old
-        (entered share.old.tally (length run.old.log.events) event) }
+        (with_event share.old.tally (length run.old.log.events) event) }
 {
     let reply = run.commit(event);
     book.enter(share, reply.position, &event);

@@ -5,7 +5,7 @@ ghost use Rattle.velo_events.specs.WellFormed.{IsWellFormed, NamesKnown};
 ghost use Rattle.velo_traces.specs.Flaws.{flaw_of};
 ghost use Rattle.velo_logtext.specs.Text.{AreBounds};
 ghost use Rattle.velo_world.specs.Worlds.{meaning, opening};
-ghost use Rattle.velo_world.specs.Holdings.{IsReady};
+ghost use Rattle.velo_world.specs.Holdings.{HoldsLiveShares};
 ghost use Rattle.velo_world.specs.Alarms.{AlarmOf};
 ghost use Rattle.velodrome.specs.Check.{Checks, Reports, verdict_of, read_failures, write_failures};
 ghost use Rattle.velodrome.specs.Following.{world_of, Stops, StopsIn, IsRefusal, is_as_logged};
@@ -104,7 +104,7 @@ fn fault_of(world: &World, event: &Event, refusal: Refusal) -> CheckFault
 /// A world without events, and a place for each thread's share.
 fn opened(alloc: Global, config: Config) -> Result<(World, Shares), Memory>
     ensures world { IfOk result (λ opened. opened.0 ≡ opening config) }
-    ensures ready { IfOk result (λ opened. IsReady opened.0 opened.1) }
+    ensures ready { IfOk result (λ opened. HoldsLiveShares opened.0 opened.1) }
 {
     let (world, share) = World::new(alloc, config)?;
     let mut shares = Shares::none(alloc, config.bounds.threads)?;
@@ -118,8 +118,8 @@ fn opened(alloc: Global, config: Config) -> Result<(World, Shares), Memory>
 fn follow(world: &mut World, shares: &mut Shares, event: &Event) -> Result<(), CheckFault>
     requires running { world.old.halted ≡ false }
     requires goes_on { world.old.config.stop ≡ false }
-    requires ready { IsReady world.old shares.old }
-    ensures ready { IsReady world.new shares.new }
+    requires ready { HoldsLiveShares world.old shares.old }
+    ensures ready { HoldsLiveShares world.new shares.new }
     ensures before { IsWellFormed world.old.config.bounds world.old.log }
     ensures short { length world.old.log ≤ world.old.config.events }
     ensures ok { OnOk result (world.new ≡ world_of world.old.config (world.old.log ++ event.now ∷ [])) }

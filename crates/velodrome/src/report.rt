@@ -16,7 +16,7 @@ fn events_of(world: &World, t: ThreadId) -> u64
     world.book().tally(t).events
 }
 
-/// Adds the line of each thread.
+/// AddsEvent the line of each thread.
 fn add_threads(text: &mut String, world: &World) -> Result<(), AllocError>
     ensures { OnOk result (string_bytes text.new ≡ string_bytes text.old ++ thread_lines world.now.log world.now.config.bounds.threads) }
 {
@@ -27,7 +27,7 @@ fn add_threads(text: &mut String, world: &World) -> Result<(), AllocError>
     Ok(())
 }
 
-/// Adds the verdict, and with an alarm its transaction.
+/// AddsEvent the verdict, and with an alarm its transaction.
 fn add_verdict(text: &mut String, alarm: Option<Alarm>) -> Result<(), AllocError>
     ensures { OnOk result (string_bytes text.new ≡ string_bytes text.old ++ verdict_lines alarm) }
 {

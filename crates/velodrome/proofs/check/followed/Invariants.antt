@@ -1,5 +1,5 @@
 use Rattle.std.proofs.Common.{◌≡◌, take}
-use Rattle.velo_world.specs.Holdings.{IsReady}
+use Rattle.velo_world.specs.Holdings.{HoldsLiveShares}
 use Rattle.velodrome.specs.Following.{world_of}
 use Rattle.velodrome.proofs.check.followed.Given as goal
 
@@ -7,5 +7,5 @@ abbrev pub invariant-loop-event : goal.invariant-loop-event
 invariant-loop-event l =
     record {
       done : l.world ≡ world_of l.fn.config (take l.event-index l.events);
-      ready : IsReady l.world l.shares;
+      ready : HoldsLiveShares l.world l.shares;
     }

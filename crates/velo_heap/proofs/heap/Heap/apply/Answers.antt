@@ -1,6 +1,6 @@
 use Rattle.std.proofs.Common.{[], ◌∷◌, ◌++◌, sym, subst}
-use Rattle.velo_heap.specs.Contents.{StandsFor}
-use Rattle.velo_heap.proofs.OnChanges.{CanChange-admitted, StandsFor-apply}
+use Rattle.velo_heap.specs.Contents.{IsHeapOf}
+use Rattle.velo_heap.proofs.OnChanges.{CanChange-admitted, IsHeapOf-apply}
 use Rattle.velo_heap.proofs.heap.Heap.apply.Goals as goal
 
 pub change-requires : goal.change-requires
@@ -8,5 +8,5 @@ change-requires c = CanChange-admitted c.args.self.now c.args.event.now c.requir
 
 pub returns-clause-next : goal.returns-clause-next
 returns-clause-next c = λ trace stands.
-    subst (λ heap. StandsFor heap (trace ++ c.args.event.now ∷ [])) (sym c.change.ensures)
-    (StandsFor-apply c.args.self.now c.args.event.now c.requires trace stands)
+    subst (λ heap. IsHeapOf heap (trace ++ c.args.event.now ∷ [])) (sym c.change.ensures)
+    (IsHeapOf-apply c.args.self.now c.args.event.now c.requires trace stands)

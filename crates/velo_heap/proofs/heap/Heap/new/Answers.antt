@@ -4,7 +4,7 @@ use Rattle.std.proofs.lemmas.Grind.{common_steps}
 use Rattle.velo_events.specs.declared.event.Status.TheVariants.{Live}
 use Rattle.velo_heap.specs.declared.standing.Standing.{Standing}
 use Rattle.velo_heap.specs.Steps.{unborn}
-use Rattle.velo_heap.proofs.OnChanges.{StandsFor-made}
+use Rattle.velo_heap.proofs.OnChanges.{IsHeapOf-made}
 use Rattle.velo_heap.proofs.heap.Heap.new.Goals as goal
 
 pub returns-clause-start : goal.returns-clause-start
@@ -15,4 +15,4 @@ returns-clause-start c =
     let threads : c.in_ok-threads.threads.items ≡ replicate bounds.threads unborn = grind (arith, common_steps) in
     let some : 0 < bounds.threads = c.args.config.now.some_thread in
     let first : c.index_mut.result.now ≡ unborn = c.index_mut.ensures.value ∙ (ap (λ standings. get_or standings 0 c.index_mut.result.now) threads ∙ get_or-replicate bounds.threads 0 unborn _ some) in
-    StandsFor-made bounds.threads bounds.variables bounds.locks _ _ _ _ some values holders threads (ap (λ (own : Standing). record own { status = Live }) first)
+    IsHeapOf-made bounds.threads bounds.variables bounds.locks _ _ _ _ some values holders threads (ap (λ (own : Standing). record own { status = Live }) first)

@@ -14,7 +14,7 @@ pub returns-in_ok-resize-clause-ok : goal.returns-in_ok-resize-clause-ok
 returns-in_ok-resize-clause-ok c =
     let before = c.self.inside.reads in
     let n = c.args.threads in
-    let grown : c.resize.new.self.items ≡ filled_up None n before.items =
+    let grown : c.resize.new.items.items ≡ filled_up None n before.items =
     c.in_ok-resize.ensures.items
     ∙ (ap (λ blank. take n before.items ++ replicate (n - vec_len before) blank) c.new.ensures
     ∙ filled_up-short None n (vec_len before) before.items (sym before.ok.0) (omega (arith, c.if-len-threads.true, c.len.ensures))) in

@@ -3,10 +3,10 @@ use Rattle.velo_events.specs.declared.event.Event.{Event}
 use Rattle.velo_events.specs.WellFormed.{MayFollow, IsWellFormed}
 use Rattle.velo_heap.specs.Contents.{bounds_of}
 use Rattle.velo_world.specs.Worlds.{meaning}
-use Rattle.velo_world.specs.Holdings.{FitsRun}
+use Rattle.velo_world.specs.Holdings.{FitsLog}
 use Rattle.velo_world.specs.Kept.{seen}
 use Rattle.velo_world.proofs.OnAnswers.{MayFollow-meaning, meaning-room}
-use Rattle.velo_world.proofs.OnHoldings.{FitsRun-next_le}
+use Rattle.velo_world.proofs.OnHoldings.{FitsLog-next_le}
 use Rattle.velo_world.proofs.OnSteps.{book-committed, kept-committed, Acts-committed}
 use Rattle.velo_world.proofs.world.World.act.Goals as goal
 use Rattle.velo_world.proofs.world.World.act.Goals.{then-self, else-self}
@@ -24,8 +24,8 @@ commit-reply-requires-clause-admitted c =
 
 pub commit-reply-requires-clause-later : goal.commit-reply-requires-clause-later
 commit-reply-requires-clause-later c =
-    let fits = subst (λ w. FitsRun w c.args.share.now) (sym c.self.view_is) c.requires.fits in
-    subst (λ (log : List Event). c.args.share.now.tally.next ≤ length log) (sym c.reserve_one.ensures.log) (FitsRun-next_le (seen c.self.inside) c.args.share.now fits)
+    let fits = subst (λ w. FitsLog w c.args.share.now) (sym c.self.view_is) c.requires.fits in
+    subst (λ (log : List Event). c.args.share.now.tally.next ≤ length log) (sym c.reserve_one.ensures.log) (FitsLog-next_le (seen c.self.inside) c.args.share.now fits)
 
 pub invariant_of-self-2 : goal.invariant_of-self-2
 invariant_of-self-2 c =
@@ -33,7 +33,7 @@ invariant_of-self-2 c =
     let event = c.in_ok-event.event in
     let well = subst (λ b. IsWellFormed b inside.run.log.events) c.self.invariant.bounds c.self.invariant.follows.heap.well_formed in
     let due : meaning (seen inside) c.thread.result c.args.action ≡ Ok event = ap (λ w. meaning w c.thread.result c.args.action) c.self.view_is ∙ (sym c.decide.ensures ∙ c.in_ok-event.was) in
-    let fits = subst (λ w. FitsRun w c.args.share.now) (sym c.self.view_is) c.requires.fits in
+    let fits = subst (λ w. FitsLog w c.args.share.now) (sym c.self.view_is) c.requires.fits in
     let room = meaning-room (seen inside) c.thread.result c.args.action event due in
     let log_is : c.commit-reply.new.run.log.events ≡ inside.run.log.events ++ event ∷ [] = c.commit-reply.ensures.log ∙ ap (λ (l : List Event). l ++ event ∷ []) c.reserve_one.ensures.log in
     record {

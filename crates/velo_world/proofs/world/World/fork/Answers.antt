@@ -6,10 +6,10 @@ use Rattle.velo_events.specs.WellFormed.{MayFollow, IsWellFormed}
 use Rattle.velo_heap.specs.Contents.{bounds_of}
 use Rattle.velo_ledger.specs.Shares.{opening_share}
 use Rattle.velo_world.specs.Worlds.{meaning}
-use Rattle.velo_world.specs.Holdings.{FitsRun}
+use Rattle.velo_world.specs.Holdings.{FitsLog}
 use Rattle.velo_world.specs.Kept.{seen}
 use Rattle.velo_world.proofs.OnAnswers.{MayFollow-meaning, meaning-room}
-use Rattle.velo_world.proofs.OnHoldings.{FitsRun-next_le}
+use Rattle.velo_world.proofs.OnHoldings.{FitsLog-next_le}
 use Rattle.velo_world.proofs.OnSteps.{book-committed, kept-forked, born-committed, Acts-committed}
 use Rattle.velo_world.proofs.world.World.fork.Goals as goal
 use Rattle.velo_world.proofs.world.World.fork.Goals.{then-self, else-self}
@@ -36,8 +36,8 @@ commit-forked-requires-clause-admitted c =
 
 pub commit-forked-requires-clause-later : goal.commit-forked-requires-clause-later
 commit-forked-requires-clause-later c =
-    let fits = subst (λ w. FitsRun w c.args.share.now) (sym c.self.view_is) c.requires in
-    subst (λ (log : List Event). c.args.share.now.tally.next ≤ length log) (sym c.reserve_one.ensures.log) (FitsRun-next_le (seen c.self.inside) c.args.share.now fits)
+    let fits = subst (λ w. FitsLog w c.args.share.now) (sym c.self.view_is) c.requires in
+    subst (λ (log : List Event). c.args.share.now.tally.next ≤ length log) (sym c.reserve_one.ensures.log) (FitsLog-next_le (seen c.self.inside) c.args.share.now fits)
 
 pub invariant_of-self-2 : goal.invariant_of-self-2
 invariant_of-self-2 c =
@@ -45,7 +45,7 @@ invariant_of-self-2 c =
     let event = c.in_ok-event.event in
     let well = subst (λ b. IsWellFormed b inside.run.log.events) c.self.invariant.bounds c.self.invariant.follows.heap.well_formed in
     let due : meaning (seen inside) c.thread.result (Fork c.args.child) ≡ Ok event = ap (λ w. meaning w c.thread.result (Fork c.args.child)) c.self.view_is ∙ (sym c.decide.ensures ∙ c.in_ok-event.was) in
-    let fits = subst (λ w. FitsRun w c.args.share.now) (sym c.self.view_is) c.requires in
+    let fits = subst (λ w. FitsLog w c.args.share.now) (sym c.self.view_is) c.requires in
     let room = meaning-room (seen inside) c.thread.result (Fork c.args.child) event due in
     let log_is : c.commit-forked.new.run.log.events ≡ inside.run.log.events ++ event ∷ [] = c.commit-forked.ensures.log ∙ ap (λ (l : List Event). l ++ event ∷ []) c.reserve_one.ensures.log in
     record {

@@ -1,0 +1,62 @@
+//! The growing calls of the library, each with the fact that its refusal leaves. No other code can show this fact.
+ghost use Rattle.std.specs.Prelude.{◌≡◌, ◌≤◌, ◌<◌, ◌+◌, ◌-◌, ◌++◌, [], if◌then◌else◌, is_ok, take, replicate, vec_len, vec_capacity, IfOk, OnOk, OnErr};
+ghost use Rattle.velo_events.specs.Refusals.{GrowthRefused};
+
+use crate::Memory;
+use std::alloc::Global;
+
+/// Makes room for more items.
+pub fn reserve<T>(items: &mut Vec<T>, more: usize) -> Result<(), Memory>
+    ensures items { items.new.items ≡ items.old.items }
+    ensures len { vec_len items.new ≡ vec_len items.old }
+    ensures ok { OnOk result (vec_len items.new + more ≤ vec_capacity items.new) }
+    ensures capacity { vec_capacity items.old ≤ vec_capacity items.new }
+    ensures full { OnErr result (vec_capacity items.old < vec_len items.old + more) }
+    ensures err { OnErr result (vec_capacity items.new ≡ vec_capacity items.old) }
+    ensures memory { OnErr result GrowthRefused }
+{
+    match items.reserve(more) {
+        Ok(()) => Ok(()),
+        Err(_) => Err(Memory),
+    }
+}
+
+/// A list with room.
+pub fn with_capacity<T>(alloc: Global, capacity: usize) -> Result<Vec<T>, Memory>
+    ensures items { IfOk result (λ items. items.items ≡ []) }
+    ensures len { IfOk result (λ items. vec_len items ≡ 0) }
+    ensures capacity { IfOk result (λ items. capacity ≤ vec_capacity items) }
+    ensures exact { IfOk result (λ items. vec_capacity items ≡ capacity) }
+    ensures memory { OnErr result GrowthRefused }
+{
+    match Vec::with_capacity(alloc, capacity) {
+        Ok(items) => Ok(items),
+        Err(_) => Err(Memory),
+    }
+}
+
+/// Cuts a list to a length, or fills it up to it.
+pub fn resize<T: Copy>(items: &mut Vec<T>, count: usize, item: T) -> Result<(), Memory>
+    ensures items { items.new.items ≡ (if is_ok result then take count items.old.items ++ replicate (count - vec_len items.old) item else items.old.items) }
+    ensures len { vec_len items.new ≡ (if is_ok result then count else vec_len items.old) }
+    ensures capacity { vec_capacity items.old ≤ vec_capacity items.new }
+    ensures full { OnErr result (vec_capacity items.old < count) }
+    ensures memory { OnErr result GrowthRefused }
+{
+    match items.resize(count, item) {
+        Ok(()) => Ok(()),
+        Err(_) => Err(Memory),
+    }
+}
+
+/// A list of so many clones.
+pub fn filled<T: Clone + Drop>(alloc: Global, item: T, count: usize) -> Result<Vec<T>, Memory>
+    ensures items_if_clones_equal { IfOk result (λ items. ((y : T) → T.is_clone item y → y ≡ item) → items.items ≡ replicate count item) }
+    ensures len { IfOk result (λ items. vec_len items ≡ count) }
+    ensures memory { OnErr result GrowthRefused }
+{
+    match Vec::from_elem(alloc, item, count) {
+        Ok(items) => Ok(items),
+        Err(_) => Err(Memory),
+    }
+}

@@ -1,0 +1,62 @@
+ghost use Rattle.std.specs.Prelude.{◌≡◌, ◌+◌, ◌/◌, length};
+ghost use Rattle.velo_rows.specs.Bits.{AreBelow, bits_of, below_bits};
+
+use crate::ancestors::Ancestors;
+use crate::words::{are_down, is_up, join, meet, put_all_down, put_down, put_up, take_away};
+use std::alloc::Global;
+use velo_events::growth::filled;
+use velo_events::Memory;
+
+/// A set of slots as one bit for each.
+#[derive(Drop)]
+pub struct BitRow {
+    words: Vec<u64>,
+    limit: u16,
+    ghost room: { length words.items ≡ (limit + 63) / 64 },
+    ghost below: { AreBelow limit words.items },
+}
+
+impl Ancestors for BitRow {
+    ghost capacity = { λ row. row.limit };
+
+    ghost members = { λ row. bits_of row.words.items };
+
+    ghost within = { λ row slot there. below_bits row.words.items row.limit slot row.below there };
+
+    fn empty(alloc: Global, limit: u16) -> Result<BitRow, Memory> {
+        let words = filled(alloc, 0u64, (limit as usize).div_ceil(64))?;
+        Ok(BitRow { words, limit })
+    }
+
+    fn contains(&self, slot: u16) -> bool {
+        is_up(&self.words, slot as usize)
+    }
+
+    fn insert(&mut self, slot: u16) {
+        put_up(&mut self.words, slot as usize);
+    }
+
+    fn remove(&mut self, slot: u16) {
+        put_down(&mut self.words, slot as usize);
+    }
+
+    fn join(&mut self, other: &BitRow) {
+        join(&mut self.words, &other.words);
+    }
+
+    fn take_away(&mut self, other: &BitRow) {
+        take_away(&mut self.words, &other.words);
+    }
+
+    fn meets(&self, other: &BitRow) -> bool {
+        meet(&self.words, &other.words)
+    }
+
+    fn is_empty(&self) -> bool {
+        are_down(&self.words)
+    }
+
+    fn clear(&mut self) {
+        put_all_down(&mut self.words);
+    }
+}
