@@ -1,6 +1,6 @@
 -- Live, covered and harmless transactions: what stays so in every longer trace, and what is given up without loss.
 use Rattle.std.proofs.Common.{◌≡◌, ◌≢◌, ℕ, suc, ◌+◌, ◌<◌, Bool, false, cond, List, [], ◌∷◌, ◌++◌, length, refl, sym, ap, ◌∙◌, subst, arith, append_assoc, ⊎_elim, inl}
-use Rattle.std.specs.Prelude.{◌⊎◌, ◌||◌, ◌==◌, sum_by, count_by, filter, IsTrue, IsFalse, AllPairs, Contains}
+use Rattle.std.specs.Prelude.{◌||◌, ◌==◌, sum_by, count_by, filter, IsTrue, IsFalse, AllPairs, Contains}
 use Rattle.std.proofs.lemmas.List.{append-nil}
 use Rattle.std.proofs.lemmas.List.Sums.{sum_by-cons, length-filter}
 use Rattle.std.proofs.lemmas.List.Kept.{IsStrictlyIncreasing-filter}
