@@ -5,7 +5,7 @@ ghost use Rattle.smallvec.specs.SmallVec.{HasRoomFor as HasSpace};
 ghost use Rattle.velo_tables.specs.Place.{LastOf, LastWrite, LastRead, LastOn, thread_numbers};
 ghost use Rattle.velo_tables.specs.Readers.{filled_up};
 ghost use Rattle.velo_tables.specs.Kept.{entry, no_accesses, steps_looked_up, HasItsThreads, HasRoomFor, HasRoomToRead, HasRoomBeside, CoverReaders, IsBlank, IsUnchanged, IsRecorded};
-ghost use Rattle.velo_tables.specs.Recorded.{recorded, with_reads_of};
+ghost use Rattle.velo_tables.specs.Recorded.{kept_after, with_reads_of};
 
 use crate::entry::{Entry, entry_at};
 use crate::variable::{Variable, push_step};
@@ -222,7 +222,7 @@ impl Tables {
     }
 
     /// Keeps the step, or none, as that of the last event at each place that the event records.
-    #[tactic(auto, unfolding(crate::specs::Recorded::recorded))]
+    #[tactic(auto, unfolding(crate::specs::Recorded::kept_after))]
     pub fn record(&mut self, event: &Event, step: Option<Step>)
         requires { HasRoomFor self.old event.now }
         ensures recorded { IsRecorded self.old event.now step self.new }
@@ -231,10 +231,10 @@ impl Tables {
         self.record_in_place(event, step);
     }
 
-    #[tactic(auto, unfolding(crate::specs::Recorded::recorded))]
+    #[tactic(auto, unfolding(crate::specs::Recorded::kept_after))]
     fn record_in_place(&mut self, event: &Event, step: Option<Step>)
         requires { HasRoomFor self.old event.now }
-        ensures { self.new ≡ recorded self.old event.now step }
+        ensures { self.new ≡ kept_after self.old event.now step }
     {
         let entry = Entry::new(step);
         self.threads[event.thread.0 as usize] = entry;
