@@ -7,9 +7,11 @@ ghost use Rattle.velo_events.specs.Event.{thread_of};
 ghost use Rattle.velo_events.specs.Heap.{depth_in};
 ghost use Rattle.velo_events.specs.WellFormed.{MayFollow};
 ghost use Rattle.velo_events.specs.Merge.{GetsNew};
-ghost use Rattle.velo_events.specs.Collection.{HasManyLive};
+ghost use Rattle.velo_events.specs.Block.{IsTransaction};
+ghost use Rattle.velo_events.specs.Collection.{HasManyLive, IsAccountedFor, IsGivenUp, IsHarmless};
 ghost use Rattle.velo_arena.specs.declared.step.Step.{Step as StepOf};
 ghost use Rattle.velo_arena.specs.Slots.{used_in, limit_of};
+ghost use Rattle.velo_arena.specs.Stamps.{stamps_in};
 ghost use Rattle.velo_graph.specs.Nodes.{IsSound, AddsEdges};
 ghost use Rattle.velo_graph.specs.Collects.{HasNothingLeft};
 ghost use Rattle.velo_merge.specs.Named.{Bears, live_stamps, HasFinished, IsAncestor};
@@ -143,10 +145,13 @@ impl Monitor {
         Seen::Quiet
     }
 
-    /// How many slots are in use: at most as many as there are live transactions.
+    /// How many slots are in use: at most as many as there are live transactions. Every transaction founds the node of one,
+    /// is covered by one, or is not live, and no continuation brings one that is given up into a cycle.
     pub fn used(&self) -> u16
         ensures used { result ≡ used_in self.now.nodes.slots }
         ensures live { (bounds : BoundsOf) (trace : List EventOf) → IsMonitorOf bounds self.now trace → HasManyLive trace result }
+        ensures accounted { (bounds : BoundsOf) (trace : List EventOf) → IsMonitorOf bounds self.now trace → (a : ℕ) → IsTransaction trace a → IsAccountedFor trace (stamps_in self.now.nodes.slots) a }
+        ensures given_up { (bounds : BoundsOf) (trace : List EventOf) → IsMonitorOf bounds self.now trace → (a : ℕ) → IsGivenUp trace (stamps_in self.now.nodes.slots) a → IsHarmless bounds trace a }
     {
         self.graph.used()
     }
