@@ -10,7 +10,7 @@ use Rattle.velo_events.proofs.OnBlocks.{owner-append}
 use Rattle.velo_events.proofs.OnGraphs.{IsClosing-push, IsClosing-append, HasCycle-from_closing}
 use Rattle.velo_events.proofs.OnSerializing.{serializable_law, serializable_law-none}
 use Rattle.velo_world.specs.declared.run.Alarm.{Alarm}
-use Rattle.velo_world.specs.Alarms.{IsAlarm, AlarmOf}
+use Rattle.velo_world.specs.World.{IsAlarm, AlarmOf}
 
 -- an alarm stays
 pub AlarmOf-stays : (log : List Event) (e : Event) (alarm : Option Alarm) → IsTrue (is_some alarm) → AlarmOf log alarm → AlarmOf (log ++ e ∷ []) alarm

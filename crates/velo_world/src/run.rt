@@ -4,9 +4,8 @@ ghost use Rattle.std.specs.Prelude.{◌≡◌, [], ◌∷◌, ◌++◌, length, 
 ghost use Rattle.velo_events.specs.WellFormed.{MayFollow};
 ghost use Rattle.velo_heap.specs.Contents.{bounds_of, IsHeapOf};
 ghost use Rattle.velo_world.specs.Owners.{AreOwners};
-ghost use Rattle.velo_world.specs.Alarms.{AlarmOf};
-ghost use Rattle.velo_world.specs.Runs.{Follows, HasRoom};
-ghost use Rattle.velo_world.specs.Steps.{value_read, Replies};
+ghost use Rattle.velo_world.specs.World.{AlarmOf, value_read, Replies};
+ghost use Rattle.velo_world.specs.Run.{IsRunOfItsLog, HasRoom};
 
 use crate::full_graph::{FullGraph, Seen};
 use std::alloc::Global;
@@ -49,7 +48,7 @@ impl Run {
     pub fn new(alloc: Global, config: &Config) -> Result<Run, Memory>
         ensures log { IfOk result (λ run. run.log.events ≡ []) }
         ensures bounds { IfOk result (λ run. bounds_of run.heap ≡ config.now.bounds) }
-        ensures follows { IfOk result (λ run. Follows run) }
+        ensures follows { IfOk result (λ run. IsRunOfItsLog run) }
         ensures memory { OnErr result GrowthRefused }
     {
         let heap = Heap::new(alloc, config)?;
@@ -78,12 +77,12 @@ impl Run {
 
     /// Takes in an admitted event for which there is room.
     pub fn commit(&mut self, event: Event) -> Reply
-        requires follows { Follows self.old }
+        requires follows { IsRunOfItsLog self.old }
         requires room { HasRoom self.old }
         requires admitted { MayFollow (bounds_of self.old.heap) self.old.log.events event }
         ensures log { self.new.log.events ≡ self.old.log.events ++ event ∷ [] }
         ensures bounds { bounds_of self.new.heap ≡ bounds_of self.old.heap }
-        ensures follows { Follows self.new }
+        ensures follows { IsRunOfItsLog self.new }
         ensures reply { Replies self.old.log.events event result }
     {
         let position = self.log.len();
@@ -99,7 +98,7 @@ impl Run {
 
     /// Lets the graph see the next event, unless an alarm is kept already.
     fn watch(&mut self, event: &Event)
-        requires follows { Follows self.old }
+        requires follows { IsRunOfItsLog self.old }
         requires room { HasRoom self.old }
         requires admitted { MayFollow (bounds_of self.old.heap) self.old.log.events event.now }
         ensures log { self.new.log ≡ self.old.log }

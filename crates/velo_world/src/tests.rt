@@ -1,5 +1,5 @@
 ghost use Rattle.std.specs.Prelude.{◌≡◌, IfOk};
-ghost use Rattle.velo_world.specs.Holdings.{HoldsLiveShares};
+ghost use Rattle.velo_world.specs.World.{HoldsLiveShares};
 
 use crate::{Alarm, Reply, World};
 use std::alloc::Global;
