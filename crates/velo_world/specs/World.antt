@@ -1,5 +1,5 @@
 -- A world as callers see it: its log tells heap, alarm and book, and an action is one event or a refusal.
-use Rattle.std.specs.Prelude.{◌≡◌, ◌≢◌, ◌≤◌, ◌<◌, ◌↔◌, ◌⊎◌, ◌&&◌, ℕ, Bool, true, false, List, [], ◌∷◌, ◌++◌, length, ⊤, Option, Some, None, Result, Ok, Err, IsOk, IsTrue, slice_get, slice_set, sum_by}
+use Rattle.std.specs.Prelude.{◌≡◌, ◌≢◌, ◌≤◌, ◌<◌, ◌↔◌, ◌⊎◌, ◌&&◌, ℕ, Bool, true, false, List, [], ◌∷◌, ◌++◌, length, ⊤, Option, Some, None, Result, Ok, Err, IsOk, IsTrue, slice_get, slice_set, sum_by, map}
 use Rattle.velo_events.specs.declared.config.Config.{Config}
 use Rattle.velo_events.specs.declared.event.Action.{Action}
 use Rattle.velo_events.specs.declared.event.Action.TheVariants.{Fork}
@@ -20,6 +20,8 @@ use Rattle.velo_ledger.specs.Logs.{tally_of, AreTalliesOf}
 use Rattle.velo_ledger.specs.Shares.{opening_share}
 use Rattle.velo_ledger.specs.Tally.{with_event}
 use Rattle.velo_ledger.specs.Views.{Accounts, Holding}
+use Rattle.velo_traces.specs.Blocks.{block_at}
+use Rattle.velo_blame.specs.Blamed.{AreBlamedAt, begins_of}
 use Rattle.velo_world.specs.declared.run.Alarm.{Alarm}
 use Rattle.velo_world.specs.declared.run.Reply.{Reply}
 
@@ -41,10 +43,14 @@ meaning w t action = answer_to w.config.bounds w.config.events w.halted w.log t 
 
 -- ---- the alarm
 
--- the alarm is at the first event that closes a cycle, and names this event's transaction
+-- the alarm is at the first event that closes a cycle, names this event's transaction, and blames exactly the blocks that its
+-- thread has open there and that are not self-serializable in the events up to and including it, outermost first
 pub record IsAlarm (log : List Event) (alarm : Alarm) : Type 0 where
   pub closing : IsClosing log alarm.position
   pub transaction : alarm.transaction ≡ owner log alarm.position
+  pub blamed : AreBlamedAt log alarm.position (begins_of alarm.blamed.items)
+  -- each with its label
+  pub blocks : alarm.blamed.items ≡ map (block_at log) (begins_of alarm.blamed.items)
 
 -- an alarm is kept exactly where the log has a cycle
 abbrev pub AlarmOf : List Event → Option Alarm → Type 0
