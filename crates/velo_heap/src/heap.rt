@@ -23,14 +23,15 @@ pub struct Heap {
 
 impl Model for Heap {
     ghost use Rattle.std.specs.Prelude.{◌≤◌, length};
+    ghost use Rattle.velo_events.specs.declared.limits.TheConstants.{MOST_LOCKS};
     ghost use Rattle.velo_heap.specs.Contents.{Contents};
 
     ghost Value = { Contents };
 
     ghost view = { λ h. record { values = h.values.items; holders = h.holders.items; threads = h.threads.items } };
 
-    // at most so many locks that the count of those that a thread holds never wraps
-    ghost invariant = { λ h. length h.holders.items ≤ 65535 };
+    // so few locks that the count of those that a thread holds never wraps
+    ghost invariant = { λ h. length h.holders.items ≤ MOST_LOCKS };
 }
 
 impl Heap {
@@ -105,7 +106,7 @@ impl Heap {
         self.threads[at].status
     }
 
-    /// How many blocks a thread has open, at most 32.
+    /// How many blocks a thread has open.
     pub fn depth(&self, t: ThreadId) -> u8
         requires { t.0 < (bounds_of self.now).threads }
         ensures { (trace : List Event) → IsHeapOf self.now trace → result ≡ depth_in trace t.0 }

@@ -1,4 +1,5 @@
 ghost use Rattle.std.specs.Prelude.{◌≡◌, ◌<◌, ◌↔◌, IsTrue};
+ghost use Rattle.velo_events.specs.declared.limits.TheConstants.{MOST_EVENTS};
 
 use velo_events::{Event, Kind};
 
@@ -36,7 +37,7 @@ impl Tally {
     /// The tally with one event more.
     pub(crate) fn with_event(&self, position: u64, event: &Event) -> Tally
         requires small { IsSmall self.now }
-        requires room { position < 16777216 }
+        requires room { position < MOST_EVENTS }
         ensures { result ≡ with_event self.now position event.now }
     {
         let (read, written) = amounts(&event.kind);

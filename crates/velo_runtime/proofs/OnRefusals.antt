@@ -1,7 +1,7 @@
--- The world refuses no action as foreign.
-use Rattle.std.proofs.Common.{◌≡◌, ℕ, ⊎_elim, refl, ap, ◌∙◌, Ok, Err}
-use Rattle.std.specs.Prelude.{Result, Option, Some, None, Bool, true, false, List, ◌↔◌, if◌then◌else◌, length, nat_le}
-use Rattle.std.proofs.lemmas.Option.{same_Some}
+-- Which refusals a step answers: those that are due in the world, memory behind a refused growth, and the foreign share.
+use Rattle.std.proofs.Common.{◌≡◌, ℕ, ◌⊎◌, inl, inr, ⊎_elim, refl, ap, ◌∙◌, Ok, Err}
+use Rattle.std.specs.Prelude.{⊤, Result, Option, Some, None, Bool, true, false, List, ◌↔◌, IsTrue, if◌then◌else◌, length, nat_le}
+use Rattle.std.proofs.lemmas.Bool.{false≢true}
 use Rattle.velo_events.specs.declared.config.Bounds.{Bounds}
 use Rattle.velo_events.specs.declared.event.Action.{Action}
 use Rattle.velo_events.specs.declared.event.Action.TheVariants.{Fork}
@@ -9,57 +9,103 @@ use Rattle.velo_events.specs.declared.event.Event.{Event}
 use Rattle.velo_events.specs.declared.event.Kind.{Kind}
 use Rattle.velo_events.specs.declared.event.ThreadId.{ThreadId}
 use Rattle.velo_events.specs.declared.refusal.Refusal.{Refusal}
-use Rattle.velo_events.specs.declared.refusal.Refusal.TheVariants.{Halted, NotLive, NoSuchVariable, NoSuchLock, NoSuchThread, Busy, AlreadyHeld, NotHolder, NoOpenBlock, TooDeep, AlreadyForked, NotForked, NotExited, AlreadyJoined, BlockOpen, LockHeld, LogFull, Foreign}
+use Rattle.velo_events.specs.declared.refusal.Refusal.TheVariants.{Halted, NotLive, NoSuchVariable, NoSuchLock, NoSuchThread, Busy, AlreadyHeld, NotHolder, NoOpenBlock, TooDeep, AlreadyForked, NotForked, NotExited, AlreadyJoined, BlockOpen, LockHeld, LogFull, GraphFull, Memory, WouldDeadlock, RuntimeMemory, Foreign}
 use Rattle.velo_events.specs.Meaning.{kind_for, event_for, refusal_of}
+use Rattle.velo_events.specs.Refusals.{GrowthRefused}
 use Rattle.velo_ledger.specs.Views.{Holding}
 use Rattle.velo_world.specs.Worlds.{WorldState, meaning}
 use Rattle.velo_world.specs.Holdings.{FitsLog}
 use Rattle.velo_world.specs.Steps.{Acts, Forks, Refuses}
 use Rattle.velo_world.specs.declared.run.Reply.{Reply}
+use Rattle.velo_runtime.specs.Rooms.{RoomState}
+use Rattle.velo_runtime.specs.Steps.{StepsIn, StepsForking, ActsIn, ForksIn}
 
-one_reason : (b : Bool) (r : Refusal) (rest : Option Refusal) → (r ≡ Foreign → ⊥) → (rest ≡ Some Foreign → ⊥) → (if b then Some r else rest) ≡ Some Foreign → ⊥
-one_reason true r rest first others h = first (same_Some _ _ h)
-one_reason false r rest first others h = others h
+-- ---- the meaning of an action gives refusals of the world alone
 
-none_foreign : (b0 b1 b2 b3 b4 b5 b6 b7 b8 b9 b10 b11 b12 b13 b14 : Bool) → (if b0 then Some NotLive else (if b1 then Some NoSuchVariable else (if b2 then Some NoSuchLock else (if b3 then Some NoSuchThread else (if b4 then Some Busy else (if b5 then Some AlreadyHeld else (if b6 then Some NotHolder else (if b7 then Some NoOpenBlock else (if b8 then Some TooDeep else (if b9 then Some AlreadyForked else (if b10 then Some NotForked else (if b11 then Some NotExited else (if b12 then Some AlreadyJoined else (if b13 then Some BlockOpen else (if b14 then Some LockHeld else None))))))))))))))) ≡ Some Foreign → ⊥
-none_foreign b0 b1 b2 b3 b4 b5 b6 b7 b8 b9 b10 b11 b12 b13 b14 = one_reason b0 NotLive _ (λ e. cc) (one_reason b1 NoSuchVariable _ (λ e. cc) (one_reason b2 NoSuchLock _ (λ e. cc) (one_reason b3 NoSuchThread _ (λ e. cc) (one_reason b4 Busy _ (λ e. cc) (one_reason b5 AlreadyHeld _ (λ e. cc) (one_reason b6 NotHolder _ (λ e. cc) (one_reason b7 NoOpenBlock _ (λ e. cc) (one_reason b8 TooDeep _ (λ e. cc) (one_reason b9 AlreadyForked _ (λ e. cc) (one_reason b10 NotForked _ (λ e. cc) (one_reason b11 NotExited _ (λ e. cc) (one_reason b12 AlreadyJoined _ (λ e. cc) (one_reason b13 BlockOpen _ (λ e. cc) (one_reason b14 LockHeld _ (λ e. cc) (λ (h : ◌≡◌ {A = Option Refusal} None (Some Foreign)). cc)))))))))))))))
+abbrev pub is_of_world : Refusal → Bool
+is_of_world Memory = false
+is_of_world WouldDeadlock = false
+is_of_world RuntimeMemory = false
+is_of_world Foreign = false
+is_of_world _ = true
 
-refusal_of-domestic : (bounds : Bounds) (log : List Event) (t : ℕ) (kind : Kind) → refusal_of bounds log t kind ≡ Some Foreign → ⊥
+abbrev IsOfWorld : Refusal → Type 0
+IsOfWorld r = is_of_world r ≡ true
+
+abbrev IfReason : Option Refusal → Type 0
+IfReason None = ⊤
+IfReason (Some r) = IsOfWorld r
+
+one_reason : (b : Bool) (r : Refusal) (rest : Option Refusal) → IsOfWorld r → IfReason rest → IfReason (if b then Some r else rest)
+one_reason true r rest here others = here
+one_reason false r rest here others = others
+
+all_reasons : (b0 b1 b2 b3 b4 b5 b6 b7 b8 b9 b10 b11 b12 b13 b14 : Bool) → IfReason (if b0 then Some NotLive else (if b1 then Some NoSuchVariable else (if b2 then Some NoSuchLock else (if b3 then Some NoSuchThread else (if b4 then Some Busy else (if b5 then Some AlreadyHeld else (if b6 then Some NotHolder else (if b7 then Some NoOpenBlock else (if b8 then Some TooDeep else (if b9 then Some AlreadyForked else (if b10 then Some NotForked else (if b11 then Some NotExited else (if b12 then Some AlreadyJoined else (if b13 then Some BlockOpen else (if b14 then Some LockHeld else None)))))))))))))))
+all_reasons b0 b1 b2 b3 b4 b5 b6 b7 b8 b9 b10 b11 b12 b13 b14 = one_reason b0 NotLive _ refl (one_reason b1 NoSuchVariable _ refl (one_reason b2 NoSuchLock _ refl (one_reason b3 NoSuchThread _ refl (one_reason b4 Busy _ refl (one_reason b5 AlreadyHeld _ refl (one_reason b6 NotHolder _ refl (one_reason b7 NoOpenBlock _ refl (one_reason b8 TooDeep _ refl (one_reason b9 AlreadyForked _ refl (one_reason b10 NotForked _ refl (one_reason b11 NotExited _ refl (one_reason b12 AlreadyJoined _ refl (one_reason b13 BlockOpen _ refl (one_reason b14 LockHeld None refl tt))))))))))))))
+
+refusal_of-reason : (bounds : Bounds) (log : List Event) (t : ℕ) (kind : Kind) → IfReason (refusal_of bounds log t kind)
 unfolding refusal_of
-refusal_of-domestic bounds log t kind h = none_foreign _ _ _ _ _ _ _ _ _ _ _ _ _ _ _ h
+refusal_of-reason bounds log t kind = all_reasons _ _ _ _ _ _ _ _ _ _ _ _ _ _ _
 
-by_reason : (halted : Bool) (r : Refusal) → (r ≡ Foreign → ⊥) → ◌≡◌ {A = Result Event Refusal} (if halted then Err Halted else Err r) (Err Foreign) → ⊥
-by_reason true r other h = cc
-by_reason false r other h = let is : r ≡ Foreign = cc in other is
+by_reason : (halted : Bool) (r r' : Refusal) → IsOfWorld r → ◌≡◌ {A = Result Event Refusal} (if halted then Err Halted else Err r) (Err r') → IsOfWorld r'
+by_reason true r r' of_world h = let is : Halted ≡ r' = cc in rw (← is) refl
+by_reason false r r' of_world h = let is : r ≡ r' = cc in rw (← is) of_world
 
-by_limit : (halted full : Bool) (e : Event) → ◌≡◌ {A = Result Event Refusal} (if halted then Err Halted else (if full then Err LogFull else Ok e)) (Err Foreign) → ⊥
-by_limit true full e h = cc
-by_limit false true e h = cc
-by_limit false false e h = cc
+by_limit : (halted full : Bool) (e : Event) (r' : Refusal) → ◌≡◌ {A = Result Event Refusal} (if halted then Err Halted else (if full then Err LogFull else Ok e)) (Err r') → IsOfWorld r'
+by_limit true full e r' h = let is : Halted ≡ r' = cc in rw (← is) refl
+by_limit false true e r' h = let is : LogFull ≡ r' = cc in rw (← is) refl
+by_limit false false e r' h = cc
 
-meaning-domestic : (w : WorldState) (t : ThreadId) (action : Action) → meaning w t action ≡ Err Foreign → ⊥
-meaning-domestic w t action h = at (refusal_of w.config.bounds w.log t.0 (kind_for w.log action)) refl
+pub meaning-refusal : (w : WorldState) (t : ThreadId) (action : Action) (r : Refusal) → meaning w t action ≡ Err r → is_of_world r ≡ true
+meaning-refusal w t action r h = at (refusal_of w.config.bounds w.log t.0 (kind_for w.log action)) refl
   where
-    at : (o : Option Refusal) → refusal_of w.config.bounds w.log t.0 (kind_for w.log action) ≡ o → ⊥
-    at (Some r) is = by_reason w.halted r (λ e. refusal_of-domestic w.config.bounds w.log t.0 (kind_for w.log action) (is ∙ ap Some e)) (rw is at h)
-    at None is = by_limit w.halted (nat_le w.config.events (length w.log)) (event_for w.log t action) (rw is at h)
+    at : (o : Option Refusal) → refusal_of w.config.bounds w.log t.0 (kind_for w.log action) ≡ o → IsOfWorld r
+    at (Some reason) is = by_reason w.halted reason r (rw is at (refusal_of-reason w.config.bounds w.log t.0 (kind_for w.log action))) (rw is at h)
+    at None is = by_limit w.halted (nat_le w.config.events (length w.log)) (event_for w.log t action) r (rw is at h)
 
-refuses-domestic : {X : Type 0} (w w' : WorldState) (held held' : X) (t : ThreadId) (action : Action) (refusal : Refusal) → Refuses w held (meaning w t action) refusal w' held' → refusal ≡ Foreign → ⊥
-refuses-domestic w w' held held' t action refusal refuses is =
-    ⊎_elim (λ due. meaning-domestic w t action (due ∙ ap Err is)) (λ memory. (let named = memory.0 in cc)) refuses.cause
+-- ---- why the world refuses
 
-acts-domestic : (w w' : WorldState) (share share' : Holding) (action : Action) (outcome : Result Reply Refusal) → Acts w share action outcome w' share' → outcome ≡ Err Foreign → ⊥
-acts-domestic w w' share share' action (Ok reply) acts h = cc
-acts-domestic w w' share share' action (Err refusal) acts h =
-    let is : refusal ≡ Foreign = cc in refuses-domestic w w' share share' share.thread action refusal acts is
+pub record WorldRefuses (r : Refusal) : Type 0 where
+  pub cause : (is_of_world r ≡ true) ⊎ ((r ≡ Memory) × GrowthRefused)
 
-forks-domestic : (w w' : WorldState) (share share' : Holding) (child : ThreadId) (outcome : Result (Reply × Holding) Refusal) → Forks w share child outcome w' share' → outcome ≡ Err Foreign → ⊥
-forks-domestic w w' share share' child (Ok out) forks h = cc
-forks-domestic w w' share share' child (Err refusal) forks h =
-    let is : refusal ≡ Foreign = cc in refuses-domestic w w' share share' share.thread (Fork child) refusal forks is
+refuses-cause : {X : Type 0} (w w' : WorldState) (held held' : X) (t : ThreadId) (action : Action) (r : Refusal) → Refuses w held (meaning w t action) r w' held' → WorldRefuses r
+refuses-cause w w' held held' t action r refuses = record {
+  cause = ⊎_elim (λ due. inl (meaning-refusal w t action r due)) (λ memory. inr (memory.0, memory.1.1)) refuses.cause;
+}
 
-pub acts-foreign : (w w' : WorldState) (share share' : Holding) (action : Action) (outcome : Result Reply Refusal) → FitsLog w share → Acts w share action outcome w' share' → (outcome ≡ Err Foreign) ↔ ¬ FitsLog w share
-acts-foreign w w' share share' action outcome fits acts = (λ h. absurd (acts-domestic w w' share share' action outcome acts h), λ misfit. absurd (misfit fits))
+same_refusal : {X : Type 0} (r r' : Refusal) → ◌≡◌ {A = Result X Refusal} (Err r) (Err r') → r ≡ r'
+same_refusal r r' h = cc
 
-pub forks-foreign : (w w' : WorldState) (share share' : Holding) (child : ThreadId) (outcome : Result (Reply × Holding) Refusal) → FitsLog w share → Forks w share child outcome w' share' → (outcome ≡ Err Foreign) ↔ ¬ FitsLog w share
-forks-foreign w w' share share' child outcome fits forks = (λ h. absurd (forks-domestic w w' share share' child outcome forks h), λ misfit. absurd (misfit fits))
+pub acts-refuses : (w w' : WorldState) (share share' : Holding) (action : Action) (outcome : Result Reply Refusal) (r : Refusal) → Acts w share action outcome w' share' → outcome ≡ Err r → WorldRefuses r
+acts-refuses w w' share share' action (Ok reply) r acts h = cc
+acts-refuses w w' share share' action (Err refusal) r acts h = rw (← same_refusal refusal r h) (refuses-cause w w' share share' share.thread action refusal acts)
+
+pub forks-refuses : (w w' : WorldState) (share share' : Holding) (child : ThreadId) (outcome : Result (Reply × Holding) Refusal) (r : Refusal) → Forks w share child outcome w' share' → outcome ≡ Err r → WorldRefuses r
+forks-refuses w w' share share' child (Ok forked) r forks h = cc
+forks-refuses w w' share share' child (Err refusal) r forks h = rw (← same_refusal refusal r h) (refuses-cause w w' share share' share.thread (Fork child) refusal forks)
+
+pub no_foreign : WorldRefuses Foreign → ⊥
+no_foreign refuses = ⊎_elim (λ of_world. false≢true of_world) (λ memory. (let is = memory.0 in cc)) refuses.cause
+
+pub refused_growth : WorldRefuses Memory → GrowthRefused
+refused_growth refuses = ⊎_elim (λ of_world. absurd (false≢true of_world)) (λ memory. memory.1) refuses.cause
+
+-- ---- of a step in a room
+
+pub steps-foreign : (room room' : RoomState) (share share' : Holding) (action : Action) (outcome : Result Reply Refusal) → StepsIn room share action outcome room' share' → (outcome ≡ Err Foreign) ↔ ¬ FitsLog room.world share
+steps-foreign room room' share share' action outcome (inl acts) =
+    (λ h. absurd (no_foreign (acts-refuses room.world room'.world share share' action outcome Foreign acts.acts h)), λ misfit. absurd (misfit acts.fits))
+steps-foreign room room' share share' action outcome (inr foreign) = (λ h. foreign.0.misfit, λ misfit. foreign.1)
+
+pub steps-memory : (room room' : RoomState) (share share' : Holding) (action : Action) (outcome : Result Reply Refusal) → StepsIn room share action outcome room' share' → outcome ≡ Err Memory → GrowthRefused
+steps-memory room room' share share' action outcome (inl acts) h = refused_growth (acts-refuses room.world room'.world share share' action outcome Memory acts.acts h)
+steps-memory room room' share share' action outcome (inr foreign) h = let is = foreign.1 in cc
+
+pub forking-foreign : (room room' : RoomState) (share share' : Holding) (child : ThreadId) (outcome : Result (Reply × Holding) Refusal) → StepsForking room share child outcome room' share' → (outcome ≡ Err Foreign) ↔ ¬ FitsLog room.world share
+forking-foreign room room' share share' child outcome (inl forks) =
+    (λ h. absurd (no_foreign (forks-refuses room.world room'.world share share' child outcome Foreign forks.forks h)), λ misfit. absurd (misfit forks.fits))
+forking-foreign room room' share share' child outcome (inr foreign) = (λ h. foreign.0.misfit, λ misfit. foreign.1)
+
+pub forking-memory : (room room' : RoomState) (share share' : Holding) (child : ThreadId) (outcome : Result (Reply × Holding) Refusal) → StepsForking room share child outcome room' share' → outcome ≡ Err Memory → GrowthRefused
+forking-memory room room' share share' child outcome (inl forks) h = refused_growth (forks-refuses room.world room'.world share share' child outcome Memory forks.forks h)
+forking-memory room room' share share' child outcome (inr foreign) h = let is = foreign.1 in cc

@@ -16,19 +16,19 @@ abbrev pub event_by : Holding → Kind → Event
 event_by share kind = record { thread = share.thread; kind = kind }
 
 -- the share has one event more: its thread's operation, at this position, which is past its other events
-pub record GrowsAt (share share' : Holding) (position : ℕ) (kind : Kind) : Type 0 where
+pub record GainsEventAt (share share' : Holding) (position : ℕ) (kind : Kind) : Type 0 where
   pub later : share.tally.next ≤ position
   pub holding : share' ≡ with_tally share (with_event share.tally position (event_by share kind))
 
 -- it has one event more, at a position that is not told
-pub record Grows (share share' : Holding) (kind : Kind) : Type 0 where
+pub record GainsEvent (share share' : Holding) (kind : Kind) : Type 0 where
   pub position : ℕ
-  pub grows : GrowsAt share share' position kind
+  pub gains : GainsEventAt share share' position kind
 
 -- it has one event more, and the reply tells the position
-pub record Replied (share share' : Holding) (reply : Reply) (kind : Kind) : Type 0 where
+pub record GainsEventOf (share share' : Holding) (reply : Reply) (kind : Kind) : Type 0 where
   pub value : reply.value ≡ None
-  pub grows : GrowsAt share share' reply.position kind
+  pub gains : GainsEventAt share share' reply.position kind
 
 -- ---- the end of a run
 

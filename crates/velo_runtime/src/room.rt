@@ -1,9 +1,12 @@
 ghost use Rattle.velo_events.specs.Refusals.{GrowthRefused};
-ghost use Rattle.std.specs.Prelude.{◌≡◌, ◌<◌, ◌↔◌, None, Err, IfOk, IfErr, IsTrue, All, count_by, sum_by, length, if◌then◌else◌, replicate, OnErr};
+ghost use Rattle.std.specs.Prelude.{◌≡◌, ◌<◌, ◌↔◌, None, Err, IfOk, IfErr, IfSome, IfNone, IsTrue, All, count_by, sum_by, length, if◌then◌else◌, replicate, OnErr};
 ghost use Rattle.velo_events.specs.declared.refusal.Refusal.TheVariants as refusal;
+ghost use Rattle.velo_events.specs.Graph.{HasCycle};
 ghost use Rattle.velo_events.specs.Heap.{status_in};
 ghost use Rattle.velo_events.specs.Meaning.{is_unborn};
+ghost use Rattle.velo_events.specs.Reordering.{IsSerializable};
 ghost use Rattle.velo_ledger.specs.Shares.{opening_share};
+ghost use Rattle.velo_world.specs.Alarms.{IsAlarm};
 ghost use Rattle.velo_world.specs.Worlds.{opening};
 ghost use Rattle.velo_world.specs.Holdings.{FitsLog};
 ghost use Rattle.velo_world.specs.Steps.{IsNoFork};
@@ -12,10 +15,12 @@ ghost use Rattle.velo_runtime.specs.Seats.{AreSeatsOf, is_of};
 
 use crate::seat::Seat;
 use std::alloc::Global;
+use std::fmt;
+use std::fmt::{Debug, Formatter, Write};
 use std::marker::Model;
 use velo_events::{Action, Config, Memory, Refusal, Status, ThreadId};
 use velo_ledger::Shares;
-use velo_world::{Closed, Reply, World};
+use velo_world::{Alarm, Closed, Reply, World};
 
 /// A world that threads share, each by its seat.
 #[derive(Drop)]
@@ -36,6 +41,12 @@ impl Model for Room {
     ghost invariant = { λ room. room.places ≡ replicate room.world.config.bounds.threads None };
 }
 
+impl Debug for Room {
+    fn fmt<W: Write>(&self, f: &mut Formatter<W>) -> fmt::Result {
+        f.debug_struct("Room").finish_non_exhaustive()
+    }
+}
+
 impl Room {
     /// A room without events, and the seat of thread 0.
     pub(crate) fn open(alloc: Global, config: Config) -> Result<(Room, Seat), Memory>
@@ -46,6 +57,30 @@ impl Room {
         let (world, share) = World::new(alloc, config)?;
         let places = Shares::none(alloc, config.bounds.threads)?;
         Ok((Room { world, places }, Seat { share }))
+    }
+
+    /// The alarm, if the log has a cycle so far. Without a cycle, and only then, some reordering of the log is serial.
+    pub fn alarm(&self) -> Option<&Alarm>
+        ensures none { IfNone result (¬ HasCycle self.now.world.log) }
+        ensures some { IfSome result (λ alarm. IsAlarm self.now.world.log alarm.now) }
+        ensures serial_none { IfNone result (IsSerializable self.now.world.log) }
+        ensures serial_some { IfSome result (λ alarm. ¬ IsSerializable self.now.world.log) }
+    {
+        self.world.alarm()
+    }
+
+    /// Whether every action is refused.
+    pub fn is_halted(&self) -> bool
+        ensures { result ≡ self.now.world.halted }
+    {
+        self.world.is_halted()
+    }
+
+    /// How many events the log has.
+    pub fn count_events(&self) -> usize
+        ensures { result ≡ length self.now.world.log }
+    {
+        self.world.log().len()
     }
 
     /// Ends the run, if the seats are one fitting seat of each thread that was born. It takes no memory.
@@ -78,6 +113,28 @@ impl Room {
         ensures { IsTrue result ↔ FitsLog self.now.world seat.now }
     {
         self.world.fits(&seat.share)
+    }
+
+    /// Does an action that is no fork, if the seat fits.
+    fn act(&mut self, seat: &mut Seat, action: Action) -> Result<Reply, Refusal>
+        requires { IsNoFork action }
+        ensures { StepsIn self.old seat.old action result self.new seat.new }
+    {
+        if !self.fits(seat) {
+            return Err(Refusal::Foreign);
+        }
+        self.world.act(&mut seat.share, action)
+    }
+
+    /// Forks a thread, if the seat fits.
+    fn fork(&mut self, seat: &mut Seat, child: ThreadId) -> Result<(Reply, Seat), Refusal>
+        ensures { StepsForking self.old seat.old child result self.new seat.new }
+    {
+        if !self.fits(seat) {
+            return Err(Refusal::Foreign);
+        }
+        let (reply, share) = self.world.fork(&mut seat.share, child)?;
+        Ok((reply, Seat { share }))
     }
 
     /// Whether each seat fits.
@@ -136,11 +193,9 @@ pub fn step_in(room: &mut Room, seat: &mut Seat, action: Action) -> Result<Reply
     requires { IsNoFork action }
     ensures step { StepsIn room.old seat.old action result room.new seat.new }
     ensures foreign { (result ≡ Err refusal.Foreign) ↔ ¬ FitsLog room.old.world seat.old }
+    ensures memory { result ≡ Err refusal.Memory → GrowthRefused }
 {
-    if !room.fits(seat) {
-        return Err(Refusal::Foreign);
-    }
-    room.world.act(&mut seat.share, action)
+    room.act(seat, action)
 }
 
 /// Forks a thread, and gives its seat. The caller has the room, so this waits for nobody.
@@ -150,10 +205,7 @@ pub fn step_in(room: &mut Room, seat: &mut Seat, action: Action) -> Result<Reply
 pub fn fork_in(room: &mut Room, seat: &mut Seat, child: ThreadId) -> Result<(Reply, Seat), Refusal>
     ensures step { StepsForking room.old seat.old child result room.new seat.new }
     ensures foreign { (result ≡ Err refusal.Foreign) ↔ ¬ FitsLog room.old.world seat.old }
+    ensures memory { result ≡ Err refusal.Memory → GrowthRefused }
 {
-    if !room.fits(seat) {
-        return Err(Refusal::Foreign);
-    }
-    let (reply, share) = room.world.fork(&mut seat.share, child)?;
-    Ok((reply, Seat { share }))
+    room.fork(seat, child)
 }

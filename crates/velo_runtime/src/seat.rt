@@ -1,7 +1,9 @@
-ghost use Rattle.std.specs.Prelude.{◌≡◌, ◌==◌, IfOk, MatchResult, OnErr};
+ghost use Rattle.std.specs.Prelude.{◌≡◌, Err, IfOk, OnErr};
 ghost use Rattle.velo_events.specs.declared.event.Kind.TheVariants as kind;
+ghost use Rattle.velo_events.specs.declared.refusal.Refusal.TheVariants as refusal;
+ghost use Rattle.velo_events.specs.Refusals.{GrowthRefused};
 ghost use Rattle.velo_ledger.specs.Shares.{opening_share};
-ghost use Rattle.velo_runtime.specs.Seats.{Grows, Replied, is_of};
+ghost use Rattle.velo_runtime.specs.Seats.{GainsEvent, GainsEventOf, is_of};
 
 use crate::room::{fork_in, step_in};
 use crate::shared::Shared;
@@ -12,7 +14,7 @@ use velo_ledger::Share;
 use velo_world::Reply;
 
 /// A thread's place in a run: its share of the book. Whoever has the seat acts as the thread.
-#[derive(Drop)]
+#[derive(Debug, Drop)]
 pub struct Seat {
     pub(crate) share: Share,
 }
@@ -44,8 +46,9 @@ impl Seat {
 
     /// Reads a variable, and answers its value.
     pub fn read<R: Wait>(&mut self, rt: &R, shared: &Shared, x: VarId) -> Result<u64, Refusal>
-        ensures read { IfOk result (λ value. Grows self.old self.new (kind.Read x value)) }
+        ensures read { IfOk result (λ value. GainsEvent self.old self.new (kind.Read x value)) }
         ensures unchanged { OnErr result (self.new ≡ self.old) }
+        ensures memory { result ≡ Err refusal.Memory → GrowthRefused }
     {
         let mut room = shared.room.lock(rt);
         let reply = step_in(&mut room, self, Action::Read(x))?;
@@ -63,8 +66,9 @@ impl Seat {
         x: VarId,
         value: u64,
     ) -> Result<Reply, Refusal>
-        ensures written { IfOk result (λ reply. Replied self.old self.new reply (kind.Write x value)) }
+        ensures written { IfOk result (λ reply. GainsEventOf self.old self.new reply (kind.Write x value)) }
         ensures unchanged { OnErr result (self.new ≡ self.old) }
+        ensures memory { result ≡ Err refusal.Memory → GrowthRefused }
     {
         let mut room = shared.room.lock(rt);
         step_in(&mut room, self, Action::Write(x, value))
@@ -77,8 +81,9 @@ impl Seat {
         shared: &Shared,
         label: Label,
     ) -> Result<Reply, Refusal>
-        ensures begun { IfOk result (λ reply. Replied self.old self.new reply (kind.Begin label)) }
+        ensures begun { IfOk result (λ reply. GainsEventOf self.old self.new reply (kind.Begin label)) }
         ensures unchanged { OnErr result (self.new ≡ self.old) }
+        ensures memory { result ≡ Err refusal.Memory → GrowthRefused }
     {
         let mut room = shared.room.lock(rt);
         step_in(&mut room, self, Action::Begin(label))
@@ -86,8 +91,9 @@ impl Seat {
 
     /// Ends the innermost open block.
     pub fn end<R: Wait>(&mut self, rt: &R, shared: &Shared) -> Result<Reply, Refusal>
-        ensures ended { IfOk result (λ reply. Replied self.old self.new reply kind.End) }
+        ensures ended { IfOk result (λ reply. GainsEventOf self.old self.new reply kind.End) }
         ensures unchanged { OnErr result (self.new ≡ self.old) }
+        ensures memory { result ≡ Err refusal.Memory → GrowthRefused }
     {
         let mut room = shared.room.lock(rt);
         step_in(&mut room, self, Action::End)
@@ -100,9 +106,10 @@ impl Seat {
         shared: &Shared,
         child: ThreadId,
     ) -> Result<Seat, Refusal>
-        ensures forked { IfOk result (λ seat. Grows self.old self.new (kind.Fork child)) }
+        ensures forked { IfOk result (λ seat. GainsEvent self.old self.new (kind.Fork child)) }
         ensures child { IfOk result (λ seat. seat ≡ opening_share self.old.run child.0) }
         ensures unchanged { OnErr result (self.new ≡ self.old) }
+        ensures memory { result ≡ Err refusal.Memory → GrowthRefused }
     {
         let mut room = shared.room.lock(rt);
         let (_, seat) = fork_in(&mut room, self, child)?;

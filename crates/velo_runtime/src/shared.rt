@@ -17,11 +17,21 @@ use velo_world::Closed;
 /// A room under its lock, for any number of threads.
 #[derive(Drop)]
 pub struct Shared {
+    /// Whoever has the guard may do several actions in one hold, by `step_in` and `fork_in`.
     pub room: Mutex<Room>,
+}
+
+impl Debug for Shared {
+    fn fmt<W: Write>(&self, f: &mut Formatter<W>) -> fmt::Result {
+        f.debug_struct("Shared").finish_non_exhaustive()
+    }
 }
 
 impl Shared {
     /// Opens a room without events, and gives the seat of thread 0.
+    ///
+    /// Runs that are alive together need numbers of their own in their configurations: a seat of one run fits another of
+    /// the same number where its thread has the same events there.
     ///
     /// # Errors
     /// `RuntimeMemory` (21) where a growth was refused.

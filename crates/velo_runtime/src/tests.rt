@@ -1,21 +1,19 @@
-ghost use Rattle.velo_world.specs.Steps.{IsNoFork};
-
-use crate::{Missing, Room, Seat, Shared, close, fork_in, step_in};
+use crate::{Missing, Room, RunError, Seat, Shared, close, fork_in, step_in};
 use std::alloc::Global;
 use std::process::Abort;
 use std::sync::Wait;
 use std::thread;
-use velo_events::{Action, Bounds, Config, Event, Kind, Label, Refusal, ThreadId, VarId};
+use velo_events::{Action, Bounds, Config, Event, Kind, Label, LockId, Refusal, ThreadId, VarId};
 use velo_world::{Alarm, Closed};
 
 const X: VarId = VarId(0);
 
-/// Opens a run with as many variables as threads.
+/// Opens a run with as many variables as threads, and a lock.
 fn open(rt: &impl Abort, alloc: Global, run: u64, threads: u8, stop: bool) -> (Shared, Seat) {
     let bounds = Bounds {
         threads,
         variables: u16::from(threads),
-        locks: 0,
+        locks: 1,
     };
     let config = Config::new(run, bounds, 100, 1024, stop).expect(rt, "in range");
     Shared::open(alloc, config).expect(rt, "opened")
@@ -62,6 +60,25 @@ fn is_the_lost_update(rt: &impl Abort, closed: &Closed) {
     assert!(rt; closed.total() == 5);
 }
 
+/// A block that nothing spoils, and then one in which the other seat writes between a read and a write.
+#[test]
+fn replies_tell_of_an_alarm(rt: HostRuntime) {
+    let (shared, mut first) = open(&rt, rt.alloc(), 1, 2, false);
+    let mut second = first.fork(&rt, &shared, ThreadId(1)).expect(&rt, "fork");
+    for alarmed in [false, true] {
+        let begun = first.begin(&rt, &shared, Label(1)).expect(&rt, "begin");
+        assert!(rt; begun.alarmed == alarmed);
+        let ended = first.end(&rt, &shared).expect(&rt, "end");
+        assert!(rt; ended.alarmed == alarmed);
+
+        assert!(rt; first.begin(&rt, &shared, Label(2)).is_ok());
+        assert!(rt; first.read(&rt, &shared, X).is_ok());
+        assert!(rt; second.write(&rt, &shared, X, 5).is_ok());
+        assert!(rt; first.read(&rt, &shared, X) == Ok(5));
+        assert!(rt; first.end(&rt, &shared).expect(&rt, "end").alarmed);
+    }
+}
+
 /// Writes 1 to 20 to the variable that has the number of the seat's thread.
 fn write_numbers(rt: &(impl Wait + Abort), shared: &Shared, mut seat: Seat) -> Seat {
     let variable = VarId(u16::from(seat.share().thread().0));
@@ -83,10 +100,11 @@ fn four_threads_write_at_once(rt: HostRuntime) {
 }
 
 /// One seat is kept back, and then added.
-fn closes_with_all_seats(rt: &impl Abort, shared: Shared, mut seats: Vec<Seat>) {
+fn closes_with_all_seats(rt: &(impl Wait + Abort), shared: Shared, mut seats: Vec<Seat>) {
     let kept = seats.pop().expect(rt, "a seat");
     let missing = close(shared, seats).err().expect(rt, "a seat is missing");
     let Missing { shared, mut seats } = missing;
+    assert!(rt; !shared.room.lock(rt).is_halted());
     assert!(rt; seats.len() == 3);
     for (thread, seat) in seats.iter().enumerate() {
         assert!(rt; usize::from(seat.share().thread().0) == thread);
@@ -106,18 +124,68 @@ fn has_all_numbers(rt: &impl Abort, closed: &Closed) {
     }
 }
 
-/// Tries a write to an unknown variable, and a fork.
-fn refuses(rt: &impl Abort, room: &mut Room, seat: &mut Seat, refusal: Refusal) {
-    let written = step_in(room, seat, Action::Write(VarId(9), 1));
-    assert!(rt; written == Err(refusal));
-    let forked = fork_in(room, seat, ThreadId(1));
-    assert!(rt; forked.err() == Some(refusal));
+/// Does an action, and answers why it was refused.
+fn refusal_of(room: &mut Room, seat: &mut Seat, action: Action) -> Option<Refusal> {
+    match action {
+        Action::Fork(child) => fork_in(room, seat, child).err(),
+        _ => step_in(room, seat, action).err(),
+    }
 }
 
-fn does(rt: &impl Abort, room: &mut Room, seat: &mut Seat, action: Action)
-    requires { IsNoFork action }
-{
-    assert!(rt; step_in(room, seat, action).is_ok());
+#[test]
+fn a_room_is_opened_as_configured(rt: HostRuntime) {
+    let bounds = Bounds {
+        threads: 2,
+        variables: 3,
+        locks: 4,
+    };
+    let config = Config::new(1, bounds, 5, 1024, false).expect(&rt, "in range");
+    let (shared, mut first) = Shared::open(rt.alloc(), config).expect(&rt, "opened");
+    let mut room = shared.room.lock(&rt);
+    let steps = [
+        (Action::Write(VarId(2), 1), None),
+        (Action::Write(VarId(3), 1), Some(Refusal::NoSuchVariable)),
+        (Action::Acquire(LockId(3)), None),
+        (Action::Acquire(LockId(4)), Some(Refusal::NoSuchLock)),
+        (Action::Fork(ThreadId(1)), None),
+        (Action::Fork(ThreadId(2)), Some(Refusal::NoSuchThread)),
+        (Action::Begin(Label(1)), None),
+        (Action::End, None),
+        (Action::Begin(Label(1)), Some(Refusal::LogFull)),
+    ];
+    for (action, refusal) in steps {
+        assert!(rt; refusal_of(&mut room, &mut first, action) == refusal);
+    }
+    assert!(rt; room.count_events() == 5 && room.alarm().is_none());
+}
+
+/// Forks a thread in a new run, and closes it.
+fn fork_and_close(rt: &impl Wait, alloc: Global, threads: u8) -> Result<u64, RunError> {
+    let bounds = Bounds {
+        threads,
+        variables: 0,
+        locks: 0,
+    };
+    let config = Config::new(1, bounds, 100, 1024, false)?;
+    let (shared, mut first) = Shared::open(alloc, config)?;
+    let second = first.fork(rt, &shared, ThreadId(1))?;
+    let closed = close(shared, vec![in alloc; first, second]?)?;
+    Ok(closed.total())
+}
+
+#[test]
+fn each_error_is_told_by_its_text(rt: HostRuntime) {
+    let alloc = rt.alloc();
+    assert!(rt; fork_and_close(&rt, alloc, 2).ok() == Some(1));
+    let refused = fork_and_close(&rt, alloc, 1).err().expect(&rt, "refused");
+    assert!(rt; refused.to_string(alloc).expect(&rt, "memory").as_str() == "no such thread");
+}
+
+/// Tries an end and a fork.
+fn refuses(rt: &impl Abort, room: &mut Room, seat: &mut Seat, refusal: Refusal) {
+    for action in [Action::End, Action::Fork(ThreadId(1))] {
+        assert!(rt; refusal_of(room, seat, action) == Some(refusal));
+    }
 }
 
 #[test]
@@ -127,7 +195,7 @@ fn a_seat_of_another_run(rt: HostRuntime) {
     {
         let mut room = two.room.lock(&rt);
         refuses(&rt, &mut room, &mut first, Refusal::Foreign);
-        does(&rt, &mut room, &mut second, Action::Write(X, 1));
+        assert!(rt; refusal_of(&mut room, &mut second, Action::Write(X, 1)).is_none());
     }
     assert!(rt; first.write(&rt, &one, X, 1).is_ok());
 }
@@ -138,11 +206,18 @@ fn halted_goes_before_all_but_foreign(rt: HostRuntime) {
     let (shared, mut first) = open(&rt, rt.alloc(), 1, 2, true);
     let mut room = shared.room.lock(&rt);
     let (_, mut second) = fork_in(&mut room, &mut first, ThreadId(1)).expect(&rt, "fork");
-    does(&rt, &mut room, &mut first, Action::Begin(Label(7)));
-    does(&rt, &mut room, &mut first, Action::Read(X));
-    does(&rt, &mut room, &mut second, Action::Write(X, 5));
     // the world stops at its alarm
-    does(&rt, &mut room, &mut first, Action::Write(X, 1));
+    let steps = [
+        (false, Action::Begin(Label(7))),
+        (false, Action::Read(X)),
+        (true, Action::Write(X, 5)),
+        (false, Action::Write(X, 1)),
+    ];
+    for (by_second, action) in steps {
+        let seat = if by_second { &mut second } else { &mut first };
+        assert!(rt; refusal_of(&mut room, seat, action).is_none());
+    }
+    assert!(rt; room.is_halted() && room.alarm().is_some());
 
     refuses(&rt, &mut room, &mut first, Refusal::Halted);
     refuses(&rt, &mut room, &mut second, Refusal::Halted);

@@ -7,6 +7,7 @@ pub mod OnAnswers
 pub mod OnStatuses
 pub mod OnHoldings
 pub mod OnSteps
+pub mod OnWorlds
 pub mod OnSequences
 pub mod OnClosing
 pub mod OnReadiness

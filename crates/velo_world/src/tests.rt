@@ -1,12 +1,13 @@
 ghost use Rattle.std.specs.Prelude.{◌≡◌, IfOk};
-ghost use Rattle.velo_world.specs.Holdings.{HoldsLiveShares};
+ghost use Rattle.velo_world.specs.World.{HoldsLiveShares};
 
 use crate::{Alarm, Reply, World};
 use std::alloc::Global;
 use std::process::Abort;
 use std::test::Fail;
 use velo_events::{Action, Bounds, Config, Label, LockId, Memory, Refusal, ThreadId, VarId};
-use velo_ledger::{Shares, Tally};
+use velo_ledger::Shares;
+use velo_traces::Block;
 
 const X: VarId = VarId(0);
 
@@ -25,10 +26,16 @@ const LOST_UPDATE: [(ThreadId, Action); 5] = [
     (MAIN, Action::Write(X, 1)),
 ];
 
-const ALARM: Alarm = Alarm {
-    position: 4,
-    transaction: 1,
-};
+/// Whether the alarm is that of the lost update, for which the outer block of the reader is to blame.
+fn is_the_alarm(alarm: Option<&Alarm>) -> bool {
+    let blamed = [Block {
+        first: 1,
+        label: Label(7),
+    }];
+    alarm.is_some_and(|alarm| {
+        alarm.position == 4 && alarm.transaction == 1 && alarm.blamed.as_slice() == blamed.as_slice()
+    })
+}
 
 /// A world of so many threads, one variable and one lock, with thread 0's share at its place.
 fn opened(alloc: Global, threads: u8, events: u32, stop: bool) -> Result<(World, Shares), Fail>
@@ -85,77 +92,6 @@ fn blocks_nest_32_deep(rt: HostRuntime) -> Result<(), Fail> {
     Ok(())
 }
 
-/// The log's length, the variable's value, the book's row of thread 0, and the events that its share counts.
-fn state_of(rt: &impl Abort, world: &World, shares: &Shares) -> (usize, u64, Tally, u64) {
-    assert!(rt; world.bounds().variables == 1);
-    let tally = world.book().tally(MAIN);
-    let events = shares.get(MAIN).map_or(0, |share| share.events());
-    (world.log().len(), world.heap().value(X), tally, events)
-}
-
-/// Does the steps, each of which is refused as said beside it and then changes nothing, or is done.
-fn refuse(
-    rt: &impl Abort,
-    world: &mut World,
-    shares: &mut Shares,
-    steps: &[(u8, Action, Option<Refusal>)],
-)
-    requires { HoldsLiveShares world.old shares.old }
-    ensures { HoldsLiveShares world.new shares.new }
-{
-    for i in 0..steps.len() {
-        let (thread, action, wanted) = steps[i];
-        let before = state_of(rt, world, shares);
-        let outcome = world.step(shares, ThreadId(thread), action);
-        assert_eq!(rt; outcome.err(), wanted, "step {i}");
-        if wanted.is_some() {
-            assert_eq!(rt; state_of(rt, world, shares), before, "step {i}");
-        }
-    }
-}
-
-#[test]
-fn refusals_change_nothing(rt: HostRuntime) -> Result<(), Fail> {
-    let (mut world, mut shares) = opened(rt.alloc(), 2, 8, false)?;
-    let steps = [
-        (1, Action::Write(X, 1), Some(Refusal::NotLive)),
-        (9, Action::Exit, Some(Refusal::NotLive)),
-        (0, Action::Read(VarId(1)), Some(Refusal::NoSuchVariable)),
-        (0, Action::Acquire(LockId(1)), Some(Refusal::NoSuchLock)),
-        (0, Action::Fork(ThreadId(2)), Some(Refusal::NoSuchThread)),
-        (0, Action::Join(OTHER), Some(Refusal::NotForked)),
-        (0, Action::Fork(OTHER), None),
-        (0, Action::Fork(OTHER), Some(Refusal::AlreadyForked)),
-        (0, Action::Join(OTHER), Some(Refusal::NotExited)),
-        (0, Action::Release(M), Some(Refusal::NotHolder)),
-        (0, Action::Acquire(M), None),
-        (0, Action::Acquire(M), Some(Refusal::AlreadyHeld)),
-        (1, Action::Acquire(M), Some(Refusal::Busy)),
-        (0, Action::End, Some(Refusal::NoOpenBlock)),
-        (0, Action::Begin(Label(0)), None),
-        (0, Action::Write(X, 5), None),
-        (0, Action::Exit, Some(Refusal::BlockOpen)),
-        (0, Action::End, None),
-        (0, Action::Exit, Some(Refusal::LockHeld)),
-        (0, Action::Release(M), None),
-        (1, Action::Exit, None),
-        (0, Action::Join(OTHER), None),
-        (0, Action::Join(OTHER), Some(Refusal::AlreadyJoined)),
-        // the log is full
-        (0, Action::Read(X), Some(Refusal::LogFull)),
-        (0, Action::Read(VarId(1)), Some(Refusal::NoSuchVariable)),
-    ];
-    refuse(&rt, &mut world, &mut shares, &steps);
-    world.halt();
-    let steps = [
-        (0, Action::Read(X), Some(Refusal::Halted)),
-        (0, Action::Read(VarId(1)), Some(Refusal::Halted)),
-        (9, Action::Exit, Some(Refusal::Halted)),
-    ];
-    refuse(&rt, &mut world, &mut shares, &steps);
-    Ok(())
-}
-
 /// What comes of the step after thread 0 forked thread 1 and acquired the lock.
 fn third_outcome(
     alloc: Global,
@@ -200,7 +136,7 @@ fn lose_the_update(rt: &impl Abort, world: &mut World, shares: &mut Shares) -> R
         replied(4, None, true),
     ];
     assert_eq!(rt; outcomes.as_slice(), wanted.as_slice());
-    assert_eq!(rt; world.alarm().copied(), Some(ALARM));
+    assert!(rt; is_the_alarm(world.alarm()));
     Ok(())
 }
 
@@ -210,7 +146,7 @@ fn an_alarm_stays(rt: HostRuntime) -> Result<(), Fail> {
     lose_the_update(&rt, &mut world, &mut shares)?;
     let outcome = world.step(&mut shares, MAIN, Action::End);
     assert_eq!(rt; outcome, replied(5, None, true));
-    assert_eq!(rt; world.alarm().copied(), Some(ALARM));
+    assert!(rt; is_the_alarm(world.alarm()));
     assert!(rt; !world.is_halted());
     Ok(())
 }
@@ -231,10 +167,8 @@ fn a_share_is_missing(rt: HostRuntime) -> Result<(), Fail> {
     let Some(mut main) = given.take(MAIN) else {
         return Err("no share".into());
     };
-    assert!(rt; world.fits(&main));
     let (forked, mut other) = world.fork(&mut main, OTHER)?;
     assert_eq!(rt; forked.position, 0);
-    assert!(rt; world.fits(&main));
     world.act(&mut main, Action::Begin(Label(7)))?;
     assert!(rt; world.fits(&main));
     assert_eq!(rt; world.act(&mut main, Action::Read(X))?.value, Some(0));
@@ -253,7 +187,7 @@ fn a_share_is_missing(rt: HostRuntime) -> Result<(), Fail> {
     assert!(rt; second);
     let closed = world.close(given).ok().ok_or("not closed")?;
     assert_eq!(rt; closed.total(), 5);
-    assert_eq!(rt; closed.alarm().copied(), Some(ALARM));
+    assert!(rt; is_the_alarm(closed.alarm()));
     assert_eq!(rt; closed.bounds().threads, 2);
     assert_eq!(rt; closed.log().len(), 5);
     Ok(())
