@@ -1,10 +1,12 @@
 -- Where a log can't be done, as the world finds that does its events.
 use Rattle.std.proofs.Common.{◌≡◌, ℕ, ◌+◌, ◌<◌, ◌≤◌, List, [], ◌∷◌, ◌++◌, length, take, Some, sym, ◌∙◌, subst, inl, inr, arith, length-take}
-use Rattle.std.specs.Prelude.{slice_get}
+use Rattle.std.specs.Prelude.{slice_get, ◌⊎◌}
 use Rattle.std.proofs.lemmas.Option.{slice_get_within}
 use Rattle.velo_events.specs.declared.config.Bounds.{Bounds}
 use Rattle.velo_events.specs.declared.config.Config.{Config}
 use Rattle.velo_events.specs.declared.event.Event.{Event}
+use Rattle.velo_events.specs.declared.refusal.Refusal.{Refusal}
+use Rattle.velo_events.specs.declared.refusal.Refusal.TheVariants.{LogFull, GraphFull}
 use Rattle.velo_events.specs.WellFormed.{IsWellFormed}
 use Rattle.velo_events.proofs.OnWellFormed.{IsWellFormed-push}
 use Rattle.velo_events.proofs.OnScans.{take-next}
@@ -14,7 +16,7 @@ use Rattle.velo_traces.proofs.OnFlaws.{flaw-not_MayFollow, MayFollow-from_no_fla
 use Rattle.velodrome.specs.declared.check.CheckFault.{CheckFault}
 use Rattle.velodrome.specs.declared.check.CheckFault.TheVariants.{Log, Refused, WrongValue, Write, Memory}
 use Rattle.velo_world.specs.World.{WorldState}
-use Rattle.velodrome.specs.Faults.{world_of, IsFaultAtEvent, IsFaultOfLog}
+use Rattle.velodrome.specs.Faults.{world_of, IsFaultAtEvent, IsFaultOfLog, IsLimit, IsGraphFullAt}
 
 -- so many events stand before a position
 before_length : (log : List Event) (i : ℕ) (e : Event) → slice_get log i ≡ Some e → length (take i log) ≡ i
@@ -28,11 +30,21 @@ first_flaw bounds log i p e flaw here well at flawed =
     subst (λ n. IsFirstFlaw bounds log n flaw) same
     (record { before = well; event = e; here = here; does_not_follow = flaw-not_MayFollow bounds (take i log) e flaw well flawed; reason = flawed })
 
+-- which limit was met
+limit_in_log : (config : Config) (log : List Event) (i : ℕ) (e : Event) (p : ℕ) (refusal : Refusal) → slice_get log i ≡ Some e → i ≡ p → length (take i log) ≤ config.events
+    → IsLimit config (take i log) e refusal → ((refusal ≡ LogFull) × (p ≡ config.events)) ⊎ ((refusal ≡ GraphFull) × (p < config.events) × IsGraphFullAt config.nodes log p)
+limit_in_log config log i e p refusal here same short (inl (full, limit)) =
+    let count : length (take i log) ≡ i = before_length log i e here in
+    inl (full, omega (arith, same, count, short, limit))
+limit_in_log config log i e p refusal here same short (inr (full, room, graph)) =
+    let count : length (take i log) ≡ i = before_length log i e here in
+    inr (full, omega (arith, same, count, room), subst (λ n. IsGraphFullAt config.nodes log n) same (record { event = e; here = here; full = graph }))
+
 pub fault_in_log : (config : Config) (log : List Event) (i : ℕ) (e : Event) (fault : CheckFault) → slice_get log i ≡ Some e
     → IsWellFormed config.bounds (take i log) → length (take i log) ≤ config.events → IsFaultAtEvent config (take i log) e fault → IsFaultOfLog config log fault
 fault_in_log config log i e (Refused p refusal) here well short (at, inl flawed) =
     inl (first_flaw config.bounds log i p e _ here well at flawed, omega (arith, at, short))
-fault_in_log config log i e (Refused p refusal) here well short (at, inr (none, full, limit)) =
+fault_in_log config log i e (Refused p refusal) here well short (at, inr (none, limit)) =
     let within : i < length log = slice_get_within log i e here in
     let count : length (take i log) ≡ i = before_length log i e here in
     let next : take (i + 1) log ≡ take i log ++ e ∷ [] = take-next log i e here in
@@ -40,7 +52,7 @@ fault_in_log config log i e (Refused p refusal) here well short (at, inr (none, 
     subst (IsWellFormed config.bounds) (sym next)
     (IsWellFormed-push config.bounds (take i log) e well (MayFollow-from_no_flaw config.bounds (take i log) e well none)) in
     let same : i ≡ p = omega (arith, at, count) in
-    inr (full, omega (arith, at, short, limit), omega (arith, same, within), subst (λ n. IsWellFormed config.bounds (take (n + 1) log)) same well_next)
+    inr (omega (arith, same, within), subst (λ n. IsWellFormed config.bounds (take (n + 1) log)) same well_next, limit_in_log config log i e p refusal here same short limit)
 fault_in_log config log i e (WrongValue p) here well short (at, flawed) =
     record { reason = first_flaw config.bounds log i p e _ here well at flawed; within = omega (arith, at, short) }
 fault_in_log config log i e Memory here well short stops = stops

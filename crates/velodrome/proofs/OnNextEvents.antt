@@ -1,7 +1,8 @@
 -- What a world says of the next event of a log.
-use Rattle.std.proofs.Common.{◌≡◌, ℕ, ◌≤◌, Bool, true, false, List, length, Option, Some, None, Ok, Err, refl, sym, ap, ◌∙◌, inl, inr}
-use Rattle.std.specs.Prelude.{◌&&◌, ◌==◌, nat_lt, if◌then◌else◌, nat_le, not, Result, IsTrue, ◌⊎◌}
+use Rattle.std.proofs.Common.{arith, ◌<◌, ◌≡◌, ℕ, ◌≤◌, Bool, true, false, List, length, Option, Some, None, Ok, Err, refl, sym, ap, ◌∙◌, inl, inr}
+use Rattle.std.specs.Prelude.{IsOk, ◌&&◌, ◌==◌, nat_lt, if◌then◌else◌, nat_le, not, Result, IsTrue, ◌⊎◌}
 use Rattle.std.proofs.lemmas.Bool.{leb-true, eqb-true, false≢true}
+use Rattle.std.proofs.lemmas.Bool.Decides.{nat_tests}
 use Rattle.velo_events.specs.declared.config.Bounds.{Bounds}
 use Rattle.velo_events.specs.declared.event.Event.{Event}
 use Rattle.velo_events.specs.declared.event.Kind.{Kind}
@@ -9,7 +10,7 @@ use Rattle.velo_events.specs.declared.event.Kind.TheVariants.{Read, Write, Acqui
 use Rattle.velo_events.specs.declared.event.ThreadId.{ThreadId}
 use Rattle.velo_events.specs.Refusals.{GrowthRefused}
 use Rattle.velo_events.specs.declared.refusal.Refusal.{Refusal}
-use Rattle.velo_events.specs.declared.refusal.Refusal.TheVariants.{Halted, NotLive, NoSuchVariable, NoSuchLock, NoSuchThread, Busy, AlreadyHeld, NotHolder, NoOpenBlock, TooDeep, AlreadyForked, NotForked, NotExited, AlreadyJoined, BlockOpen, LockHeld, LogFull}
+use Rattle.velo_events.specs.declared.refusal.Refusal.TheVariants.{Halted, NotLive, NoSuchVariable, NoSuchLock, NoSuchThread, Busy, AlreadyHeld, NotHolder, NoOpenBlock, TooDeep, AlreadyForked, NotForked, NotExited, AlreadyJoined, BlockOpen, LockHeld, LogFull, GraphFull}
 use Rattle.velo_events.specs.declared.refusal.Refusal.TheVariants as refusal_case
 use Rattle.velo_events.specs.WellFormed.{MayFollow, NamesKnown, IsWellFormed}
 use Rattle.velo_events.specs.Event.{are_same}
@@ -20,7 +21,7 @@ use Rattle.velo_traces.specs.declared.judge.Flaw.TheVariants.{Refused, WrongValu
 use Rattle.velo_traces.specs.Flaws.{flaw_by, flaw_of}
 use Rattle.velo_world.specs.World.{WorldState, meaning}
 use Rattle.velo_world.specs.World.{value_read}
-use Rattle.velodrome.specs.Faults.{IsRefusal, is_as_logged}
+use Rattle.velodrome.specs.Faults.{IsLimit, IsRefusal, is_as_logged}
 
 -- ---- the event that is asked for
 
@@ -127,9 +128,10 @@ due_cases w e due h = at (refusal_of w.config.bounds w.log e.thread.0 (kind_for 
       due_as w.halted (nat_le w.config.events (length w.log)) (event_for w.log e.thread (action_of e.kind)) due (rw is at h),
     )
 
--- no operation is refused because the log is full or memory was refused
+-- no operation is refused because a limit was met or memory was refused
 abbrev is_of_limits : Refusal → Bool
 is_of_limits LogFull = true
+is_of_limits GraphFull = true
 is_of_limits refusal_case.Memory = true
 is_of_limits _ = false
 
@@ -195,57 +197,91 @@ flaw_by-none o right is true_ = rw (is, true_) refl
 
 -- ---- for the answers
 
-refused_due : (w : WorldState) (due : Result Event Refusal) (r : Refusal) → (r ≡ refusal_case.Memory → ⊥) → IsRefusal due r → due ≡ Err r
-refused_due w due r other (inl is) = is
-refused_due w due r other (inr memory) = absurd (other memory.0)
-
--- memory is wanted only where a growth was refused
-pub refused_memory : (w : WorldState) (e : Event) → w.halted ≡ false → IsRefusal (meaning w e.thread (action_of e.kind)) refusal_case.Memory → GrowthRefused
-refused_memory w e running (inr memory) = memory.1.1
-refused_memory w e running (inl is) = absurd (at (refused_cases w e refusal_case.Memory running is))
-  where
-    at : (refusal_of w.config.bounds w.log e.thread.0 e.kind ≡ Some refusal_case.Memory)
-        ⊎ ((refusal_of w.config.bounds w.log e.thread.0 e.kind ≡ None) × (refusal_case.Memory ≡ LogFull) × (w.config.events ≤ length w.log))
-        → ⊥
-    at (inl bad) = refusal_of-no_limit w.config.bounds w.log e.thread.0 e.kind refusal_case.Memory refl bad
-    at (inr full) = let same = full.1 in cc
-
--- a log that is full was not refused for the names of the operation
-pub full_names : (w : WorldState) (e : Event) → w.halted ≡ false → IsWellFormed w.config.bounds w.log
-    → IsRefusal (meaning w e.thread (action_of e.kind)) LogFull → (refusal_of w.config.bounds w.log e.thread.0 e.kind ≡ None) × NamesKnown w.config.bounds e.kind
-full_names w e running well refused = at (refused_cases w e LogFull running (refused_due w _ LogFull (λ h. cc) refused))
-  where
-    at : (refusal_of w.config.bounds w.log e.thread.0 e.kind ≡ Some LogFull)
-        ⊎ ((refusal_of w.config.bounds w.log e.thread.0 e.kind ≡ None) × (LogFull ≡ LogFull) × (w.config.events ≤ length w.log))
-        → (refusal_of w.config.bounds w.log e.thread.0 e.kind ≡ None) × NamesKnown w.config.bounds e.kind
-    at (inl bad) = absurd (refusal_of-no_limit w.config.bounds w.log e.thread.0 e.kind LogFull refl bad)
-    at (inr full) =
-        let may : MayFollow w.config.bounds w.log (event_for w.log e.thread (action_of e.kind)) =
-        (MayFollow-refusal_of w.config.bounds w.log (event_for w.log e.thread (action_of e.kind)) well).1
-        (refusal_of-asked w.config.bounds w.log e.thread.0 e.kind ∙ full.0, HasItsValue-kind_for w.log (action_of e.kind)) in
-        (full.0, names_asked w.config.bounds w.log e.kind may.known_names)
-
--- a read with a wrong value comes before the full log
-pub full_wrong : (w : WorldState) (e : Event) → w.halted ≡ false → IsWellFormed w.config.bounds w.log
-    → IsRefusal (meaning w e.thread (action_of e.kind)) LogFull → has_its_value w.log e.kind ≡ false
-    → flaw_of w.config.bounds w.log e ≡ Some WrongValue
-full_wrong w e running well refused wrong =
-    flaw_by-wrong (refusal_of w.config.bounds w.log e.thread.0 e.kind) (has_its_value w.log e.kind) (full_names w e running well refused).0 wrong
-
--- any other refusal
-pub refused_flaw : (w : WorldState) (e : Event) (r : Refusal) → w.halted ≡ false
-    → IsRefusal (meaning w e.thread (action_of e.kind)) r → (r ≡ refusal_case.Memory → ⊥) → (r ≡ LogFull → has_its_value w.log e.kind ≡ true)
-    → (flaw_of w.config.bounds w.log e ≡ Some (Refused r))
-    ⊎ ((flaw_of w.config.bounds w.log e ≡ None) × (r ≡ LogFull) × (w.config.events ≤ length w.log))
-refused_flaw w e r running refused other right = at (refused_cases w e r running (refused_due w _ r other refused))
+-- no refusal of this kind is due but by a full log
+no_limit_due : (w : WorldState) (e : Event) (r : Refusal) → w.halted ≡ false → is_of_limits r ≡ true → (r ≡ LogFull → ⊥) → meaning w e.thread (action_of e.kind) ≡ Err r → ⊥
+no_limit_due w e r running limit not_full is = at (refused_cases w e r running is)
   where
     at : (refusal_of w.config.bounds w.log e.thread.0 e.kind ≡ Some r)
         ⊎ ((refusal_of w.config.bounds w.log e.thread.0 e.kind ≡ None) × (r ≡ LogFull) × (w.config.events ≤ length w.log))
-        → (flaw_of w.config.bounds w.log e ≡ Some (Refused r))
-        ⊎ ((flaw_of w.config.bounds w.log e ≡ None) × (r ≡ LogFull) × (w.config.events ≤ length w.log))
-    at (inl is) = inl (flaw_by-refused (refusal_of w.config.bounds w.log e.thread.0 e.kind) (has_its_value w.log e.kind) r is)
-    at (inr full) =
-        inr (flaw_by-none (refusal_of w.config.bounds w.log e.thread.0 e.kind) (has_its_value w.log e.kind) full.0 (right full.1), full.1, full.2)
+        → ⊥
+    at (inl bad) = refusal_of-no_limit w.config.bounds w.log e.thread.0 e.kind r limit bad
+    at (inr full) = not_full full.1
+
+refused_due : (w : WorldState) (t : ThreadId) (due : Result Event Refusal) (r : Refusal) → (r ≡ refusal_case.Memory → ⊥) → (r ≡ GraphFull → ⊥) → IsRefusal w t due r → due ≡ Err r
+refused_due w t due r not_memory not_graph (inl is) = is
+refused_due w t due r not_memory not_graph (inr (inl memory)) = absurd (not_memory memory.0)
+refused_due w t due r not_memory not_graph (inr (inr full)) = absurd (not_graph full.0)
+
+-- memory is wanted only where a growth was refused
+pub refused_memory : (w : WorldState) (e : Event) → w.halted ≡ false → IsRefusal w e.thread (meaning w e.thread (action_of e.kind)) refusal_case.Memory → GrowthRefused
+refused_memory w e running (inr (inl memory)) = memory.1.1
+refused_memory w e running (inr (inr full)) = let same = full.0 in absurd cc
+refused_memory w e running (inl is) = absurd (no_limit_due w e refusal_case.Memory running refl (λ h. cc) is)
+
+-- what is due has its names in the bounds
+pub known_names : (w : WorldState) (e : Event) → IsWellFormed w.config.bounds w.log → refusal_of w.config.bounds w.log e.thread.0 e.kind ≡ None → NamesKnown w.config.bounds e.kind
+known_names w e well none =
+    let may : MayFollow w.config.bounds w.log (event_for w.log e.thread (action_of e.kind)) =
+    (MayFollow-refusal_of w.config.bounds w.log (event_for w.log e.thread (action_of e.kind)) well).1
+    (refusal_of-asked w.config.bounds w.log e.thread.0 e.kind ∙ none, HasItsValue-kind_for w.log (action_of e.kind)) in
+    names_asked w.config.bounds w.log e.kind may.known_names
+
+-- a full log
+pub full_log : (w : WorldState) (e : Event) → w.halted ≡ false → IsRefusal w e.thread (meaning w e.thread (action_of e.kind)) LogFull
+    → (refusal_of w.config.bounds w.log e.thread.0 e.kind ≡ None) × IsLimit w.config w.log e LogFull
+full_log w e running refused = at (refused_cases w e LogFull running (refused_due w e.thread _ LogFull (λ h. cc) (λ h. cc) refused))
+  where
+    at : (refusal_of w.config.bounds w.log e.thread.0 e.kind ≡ Some LogFull)
+        ⊎ ((refusal_of w.config.bounds w.log e.thread.0 e.kind ≡ None) × (LogFull ≡ LogFull) × (w.config.events ≤ length w.log))
+        → (refusal_of w.config.bounds w.log e.thread.0 e.kind ≡ None) × IsLimit w.config w.log e LogFull
+    at (inl bad) = absurd (refusal_of-no_limit w.config.bounds w.log e.thread.0 e.kind LogFull refl bad)
+    at (inr full) = (full.0, inl (refl, full.2))
+
+room_when_due : (halted : Bool) (limit n : ℕ) (x e : Event) → ◌≡◌ {A = Result Event Refusal} (if halted then Err Halted else (if nat_le limit n then Err LogFull else Ok x)) (Ok e) → n < limit
+room_when_due true limit n x e h = cc
+room_when_due false limit n x e h = at (nat_le limit n) refl h
+  where
+    at : (full : Bool) → nat_le limit n ≡ full → ◌≡◌ {A = Result Event Refusal} (if full then Err LogFull else Ok x) (Ok e) → n < limit
+    at true is k = cc
+    at false is k = grind (arith, nat_tests)
+
+-- what is due has room in the log
+room_due : (w : WorldState) (e due : Event) → meaning w e.thread (action_of e.kind) ≡ Ok due → length w.log < w.config.events
+room_due w e due h = at (refusal_of w.config.bounds w.log e.thread.0 (kind_for w.log (action_of e.kind))) refl
+  where
+    at : (o : Option Refusal) → refusal_of w.config.bounds w.log e.thread.0 (kind_for w.log (action_of e.kind)) ≡ o → length w.log < w.config.events
+    at (Some s) is = absurd (not_due w.halted s due (rw is at h))
+    at None is = room_when_due w.halted w.config.events (length w.log) (event_for w.log e.thread (action_of e.kind)) due (rw is at h)
+
+-- a full graph
+pub full_graph : (w : WorldState) (e : Event) → w.halted ≡ false → IsRefusal w e.thread (meaning w e.thread (action_of e.kind)) GraphFull
+    → (refusal_of w.config.bounds w.log e.thread.0 e.kind ≡ None) × IsLimit w.config w.log e GraphFull
+full_graph w e running (inl is) = absurd (no_limit_due w e GraphFull running refl (λ h. cc) is)
+full_graph w e running (inr (inl memory)) = let same = memory.0 in absurd cc
+full_graph w e running (inr (inr full)) = at (meaning w e.thread (action_of e.kind)) refl full.1.0
+  where
+    at : (due : Result Event Refusal) → meaning w e.thread (action_of e.kind) ≡ due → IsOk due
+        → (refusal_of w.config.bounds w.log e.thread.0 e.kind ≡ None) × IsLimit w.config w.log e GraphFull
+    at (Ok due) is ok = ((due_cases w e due is).0, inr (refl, room_due w e due is, full.1.1))
+    at (Err r) is ok = absurd (false≢true ok)
+
+-- a read with a wrong value comes before a limit
+pub limit_wrong : (w : WorldState) (e : Event) → refusal_of w.config.bounds w.log e.thread.0 e.kind ≡ None → has_its_value w.log e.kind ≡ false → flaw_of w.config.bounds w.log e ≡ Some WrongValue
+limit_wrong w e none wrong = flaw_by-wrong (refusal_of w.config.bounds w.log e.thread.0 e.kind) (has_its_value w.log e.kind) none wrong
+
+pub limit_right : (w : WorldState) (e : Event) → refusal_of w.config.bounds w.log e.thread.0 e.kind ≡ None → has_its_value w.log e.kind ≡ true → flaw_of w.config.bounds w.log e ≡ None
+limit_right w e none right = flaw_by-none (refusal_of w.config.bounds w.log e.thread.0 e.kind) (has_its_value w.log e.kind) none right
+
+-- any other refusal
+pub refused_flaw : (w : WorldState) (e : Event) (r : Refusal) → w.halted ≡ false → IsRefusal w e.thread (meaning w e.thread (action_of e.kind)) r
+    → (r ≡ refusal_case.Memory → ⊥) → (r ≡ GraphFull → ⊥) → (r ≡ LogFull → ⊥) → flaw_of w.config.bounds w.log e ≡ Some (Refused r)
+refused_flaw w e r running refused not_memory not_graph not_full = at (refused_cases w e r running (refused_due w e.thread _ r not_memory not_graph refused))
+  where
+    at : (refusal_of w.config.bounds w.log e.thread.0 e.kind ≡ Some r)
+        ⊎ ((refusal_of w.config.bounds w.log e.thread.0 e.kind ≡ None) × (r ≡ LogFull) × (w.config.events ≤ length w.log))
+        → flaw_of w.config.bounds w.log e ≡ Some (Refused r)
+    at (inl is) = flaw_by-refused (refusal_of w.config.bounds w.log e.thread.0 e.kind) (has_its_value w.log e.kind) r is
+    at (inr full) = absurd (not_full full.1)
 
 -- what was done is not what the log says
 pub wrong_read : (w : WorldState) (e due : Event) (value : Option ℕ) → meaning w e.thread (action_of e.kind) ≡ Ok due → value ≡ value_read due.kind

@@ -60,14 +60,14 @@ reported_log limit read w text is input well short report =
     }
 
 -- a check answers what is reported of the world of its log
-pub checked_by : (limit : ℕ) (read : Option (List ℕ)) (w : WorldState) (old new : Option (List ℕ)) (result : Result Verdict CheckFault)
+pub checked_by : (limit nodes : ℕ) (read : Option (List ℕ)) (w : WorldState) (old new : Option (List ℕ)) (result : Result Verdict CheckFault)
     → w.config.events ≡ limit → IsInput read w.config.bounds w.log → IsWellFormed w.config.bounds w.log → length w.log ≤ w.config.events
-    → Reports w old new result → Checks limit read old new result
-checked_by limit read w old new (Ok answer) is input well short reports =
+    → Reports w old new result → Checks limit nodes read old new result
+checked_by limit nodes read w old new (Ok answer) is input well short reports =
     (reports.1.text, (reported_log limit read w reports.1.text is input well short reports.1.is_report, reports.0), reports.1.appends)
-checked_by limit read w old new (Err Write) is input well short reports =
+checked_by limit nodes read w old new (Err Write) is input well short reports =
     (reports.text, reported_log limit read w reports.text is input well short reports.is_report, reports.appends)
-checked_by limit read w old new (Err Memory) is input well short reports = absurd reports
-checked_by limit read w old new (Err (Log fault)) is input well short reports = absurd reports
-checked_by limit read w old new (Err (Refused p refusal)) is input well short reports = absurd reports
-checked_by limit read w old new (Err (WrongValue p)) is input well short reports = absurd reports
+checked_by limit nodes read w old new (Err Memory) is input well short reports = absurd reports
+checked_by limit nodes read w old new (Err (Log fault)) is input well short reports = absurd reports
+checked_by limit nodes read w old new (Err (Refused p refusal)) is input well short reports = absurd reports
+checked_by limit nodes read w old new (Err (WrongValue p)) is input well short reports = absurd reports

@@ -37,11 +37,11 @@ pub record IsReported (limit : ℕ) (read : Option (List ℕ)) (text : List ℕ)
   pub report : IsReport Numbers bounds.threads trace text
 
 -- the log stops at an event that is refused, or that reads a wrong value
-pub record IsRefused (limit : ℕ) (read : Option (List ℕ)) (p : ℕ) (refusal : Refusal) : Type 0 where
+pub record IsRefused (limit nodes : ℕ) (read : Option (List ℕ)) (p : ℕ) (refusal : Refusal) : Type 0 where
   pub bounds : Bounds
   pub trace : List Event
   pub input : IsInput read bounds trace
-  pub reason : IsRefusedAt limit bounds trace p refusal
+  pub reason : IsRefusedAt limit nodes bounds trace p refusal
 
 pub record IsWrongValue (limit : ℕ) (read : Option (List ℕ)) (p : ℕ) : Type 0 where
   pub bounds : Bounds
@@ -64,14 +64,14 @@ Reports w old new (Err fault) = ⊥
 -- What a check answers, by the bytes that were to be read and those written before and after, where they are known. Every
 -- fault but a failed write has written nothing, and after that a beginning of the report was written. Want of memory is
 -- answered only where a growth was refused.
-abbrev pub Checks : ℕ → Option (List ℕ) → Option (List ℕ) → Option (List ℕ) → Result Verdict CheckFault → Type 0
-Checks limit read old new (Ok answer) =
+abbrev pub Checks : ℕ → ℕ → Option (List ℕ) → Option (List ℕ) → Option (List ℕ) → Result Verdict CheckFault → Type 0
+Checks limit nodes read old new (Ok answer) =
     (text : List ℕ) × ((log : IsReported limit read text) × IsVerdict log.trace answer) × Appends old new text
-Checks limit read old new (Err Write) = (text : List ℕ) × IsReported limit read text × AppendsBeginning old new text
-Checks limit read old new (Err (Log fault)) = IfSome read (λ bytes. Answers MOST_EVENTS bytes (Err fault)) × (fault ≡ log_fault.Memory → GrowthRefused) × (new ≡ old)
-Checks limit read old new (Err (Refused p refusal)) = IsRefused limit read p refusal × (new ≡ old)
-Checks limit read old new (Err (WrongValue p)) = IsWrongValue limit read p × (new ≡ old)
-Checks limit read old new (Err Memory) = GrowthRefused × (new ≡ old)
+Checks limit nodes read old new (Err Write) = (text : List ℕ) × IsReported limit read text × AppendsBeginning old new text
+Checks limit nodes read old new (Err (Log fault)) = IfSome read (λ bytes. Answers MOST_EVENTS bytes (Err fault)) × (fault ≡ log_fault.Memory → GrowthRefused) × (new ≡ old)
+Checks limit nodes read old new (Err (Refused p refusal)) = IsRefused limit nodes read p refusal × (new ≡ old)
+Checks limit nodes read old new (Err (WrongValue p)) = IsWrongValue limit read p × (new ≡ old)
+Checks limit nodes read old new (Err Memory) = GrowthRefused × (new ≡ old)
 
 -- the counts of failures of the source and of the sink after the answer
 abbrev pub read_failures : Result Verdict CheckFault → ℕ → ℕ

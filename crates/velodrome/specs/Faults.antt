@@ -1,13 +1,17 @@
 -- Why an event of a recorded log can't be done, and with it the log.
-use Rattle.std.specs.Prelude.{◌≡◌, ℕ, ◌+◌, ◌<◌, ◌≤◌, ◌⊎◌, Bool, true, false, List, take, length, Option, Some, None, Result, Err, IsOk}
+use Rattle.std.specs.Prelude.{◌≡◌, ℕ, ◌+◌, ◌<◌, ◌≤◌, ◌⊎◌, Bool, true, false, List, slice_get, take, length, Option, Some, None, Result, Err, IsOk}
 use Rattle.velo_events.specs.declared.config.Config.{Config}
 use Rattle.velo_events.specs.declared.event.Event.{Event}
 use Rattle.velo_events.specs.declared.event.Kind.{Kind}
 use Rattle.velo_events.specs.declared.event.Kind.TheVariants.{Read}
+use Rattle.velo_events.specs.declared.event.ThreadId.{ThreadId}
 use Rattle.velo_events.specs.Event.{are_same}
+use Rattle.velo_events.specs.Graph.{HasCycle}
+use Rattle.velo_events.specs.Heap.{depth_in}
+use Rattle.velo_events.specs.Collection.{HasManyLive}
 use Rattle.velo_events.specs.Refusals.{GrowthRefused}
 use Rattle.velo_events.specs.declared.refusal.Refusal.{Refusal}
-use Rattle.velo_events.specs.declared.refusal.Refusal.TheVariants.{LogFull}
+use Rattle.velo_events.specs.declared.refusal.Refusal.TheVariants.{LogFull, GraphFull}
 use Rattle.velo_events.specs.declared.refusal.Refusal.TheVariants as refusal_case
 use Rattle.velo_traces.specs.declared.judge.Flaw.TheVariants as flaw
 use Rattle.velo_events.specs.declared.config.Bounds.{Bounds}
@@ -26,25 +30,46 @@ abbrev pub is_as_logged : Kind → Option ℕ → Bool
 is_as_logged (Read x v) value = are_same (Some v) value
 is_as_logged _ value = true
 
--- the refusal is due, or a growth was refused for an event that is due
-abbrev pub IsRefusal : Result Event Refusal → Refusal → Type 0
-IsRefusal due refusal = (due ≡ Err refusal) ⊎ ((refusal ≡ refusal_case.Memory) × (IsOk due × GrowthRefused))
+-- the log has no alarm, the thread is outside blocks, and at least so many transactions are live
+pub record IsGraphFull (nodes : ℕ) (log : List Event) (t : ℕ) : Type 0 where
+  pub no_alarm : ¬ HasCycle log
+  pub outside : depth_in log t ≡ 0
+  pub many : HasManyLive log nodes
 
--- why the event does not come next: a refusal, a wrong value, or a full log, in this order; or a growth was refused
+-- the refusal is due, or the event is due and a growth was refused for it or the graph is full
+abbrev pub IsRefusal : WorldState → ThreadId → Result Event Refusal → Refusal → Type 0
+IsRefusal w t due refusal = (due ≡ Err refusal)
+    ⊎ (((refusal ≡ refusal_case.Memory) × (IsOk due × GrowthRefused))
+    ⊎ ((refusal ≡ GraphFull) × (IsOk due × IsGraphFull w.config.nodes w.log t.0)))
+
+-- the log is full, or it is not and the graph is
+abbrev pub IsLimit : Config → List Event → Event → Refusal → Type 0
+IsLimit config log e refusal = ((refusal ≡ LogFull) × (config.events ≤ length log))
+    ⊎ ((refusal ≡ GraphFull) × (length log < config.events) × IsGraphFull config.nodes log e.thread.0)
+
+-- why the event does not come next: a refusal, a wrong value, or a limit, in this order; or a growth was refused
 abbrev pub IsFaultAtEvent : Config → List Event → Event → CheckFault → Type 0
 IsFaultAtEvent config log e (Refused p refusal) = (p ≡ length log)
     × ((flaw_of config.bounds log e ≡ Some (flaw.Refused refusal))
-    ⊎ ((flaw_of config.bounds log e ≡ None) × (refusal ≡ LogFull) × (config.events ≤ length log)))
+    ⊎ ((flaw_of config.bounds log e ≡ None) × IsLimit config log e refusal))
 IsFaultAtEvent config log e (WrongValue p) = (p ≡ length log) × (flaw_of config.bounds log e ≡ Some flaw.WrongValue)
 IsFaultAtEvent config log e Memory = GrowthRefused
 IsFaultAtEvent config log e (Log fault) = ⊥
 IsFaultAtEvent config log e Write = ⊥
 
--- the first event that can't come about, at position p within the limit, is refused for this reason
-abbrev pub IsRefusedAt : ℕ → Bounds → List Event → ℕ → Refusal → Type 0
-IsRefusedAt limit bounds log p refusal =
+-- the graph is full for the event at position p
+pub record IsGraphFullAt (nodes : ℕ) (log : List Event) (p : ℕ) : Type 0 where
+  pub event : Event
+  pub here : slice_get log p ≡ Some event
+  pub full : IsGraphFull nodes (take p log) event.thread.0
+
+-- The first event that can't come about, at position p within the limit, is refused for this reason; or the events up to p
+-- came about, and p is at the limit of events or, before it, at the limit of nodes.
+abbrev pub IsRefusedAt : ℕ → ℕ → Bounds → List Event → ℕ → Refusal → Type 0
+IsRefusedAt limit nodes bounds log p refusal =
     (IsFirstFlaw bounds log p (flaw.Refused refusal) × (p ≤ limit))
-    ⊎ ((refusal ≡ LogFull) × (p ≡ limit) × (p < length log) × IsWellFormed bounds (take (p + 1) log))
+    ⊎ ((p < length log) × IsWellFormed bounds (take (p + 1) log)
+    × (((refusal ≡ LogFull) × (p ≡ limit)) ⊎ ((refusal ≡ GraphFull) × (p < limit) × IsGraphFullAt nodes log p)))
 
 -- the first event that can't come about, at position p within the limit, reads a value that its variable does not have
 pub record IsWrongValueAt (limit : ℕ) (bounds : Bounds) (log : List Event) (p : ℕ) : Type 0 where
@@ -53,7 +78,7 @@ pub record IsWrongValueAt (limit : ℕ) (bounds : Bounds) (log : List Event) (p 
 
 -- why the log can't be done to its end
 abbrev pub IsFaultOfLog : Config → List Event → CheckFault → Type 0
-IsFaultOfLog config log (Refused p refusal) = IsRefusedAt config.events config.bounds log p refusal
+IsFaultOfLog config log (Refused p refusal) = IsRefusedAt config.events config.nodes config.bounds log p refusal
 IsFaultOfLog config log (WrongValue p) = IsWrongValueAt config.events config.bounds log p
 IsFaultOfLog config log Memory = GrowthRefused
 IsFaultOfLog config log (Log fault) = ⊥

@@ -7,7 +7,7 @@ use Rattle.velodrome.specs.Check.{Checks}
 use Rattle.velodrome.specs.Fate.{fate_of}
 
 -- a check was done within the limits, and the fate is what it came to
-pub record IsChecked (limit : ℕ) (read old new : Option (List ℕ)) (fate : Fate) : Type 0 where
+pub record IsChecked (limit nodes : ℕ) (read old new : Option (List ℕ)) (fate : Fate) : Type 0 where
   pub answer : Result Verdict CheckFault
-  pub checks : Checks limit read old new answer
+  pub checks : Checks limit nodes read old new answer
   pub told : fate ≡ fate_of answer

@@ -1,6 +1,6 @@
 //! Checking a recorded log.
 ghost use Rattle.std.specs.Prelude.{◌≡◌, ◌≤◌, ◌<◌, [], ◌∷◌, ◌++◌, None, false, IfOk, IfErr, OnOk, OnErr, length};
-ghost use Rattle.velo_events.specs.Meaning.{action_of, has_its_value};
+ghost use Rattle.velo_events.specs.Meaning.{action_of, has_its_value, refusal_of};
 ghost use Rattle.velo_events.specs.WellFormed.{IsWellFormed, NamesKnown};
 ghost use Rattle.velo_events.specs.Refusals.{GrowthRefused};
 ghost use Rattle.velo_events.specs.declared.limits.TheConstants.{MOST_EVENTS, MOST_NODES};
@@ -9,7 +9,7 @@ ghost use Rattle.velo_logtext.specs.Text.{AreBounds};
 ghost use Rattle.velo_world.specs.World.{meaning, opening};
 ghost use Rattle.velo_world.specs.World.{CompletesShares, HoldsLiveShares};
 ghost use Rattle.velodrome.specs.Check.{Checks, IsVerdict, Reports, read_failures, write_failures};
-ghost use Rattle.velodrome.specs.Faults.{world_of, IsFaultAtEvent, IsFaultOfLog, IsRefusal, is_as_logged};
+ghost use Rattle.velodrome.specs.Faults.{world_of, IsFaultAtEvent, IsFaultOfLog, IsLimit, IsRefusal, is_as_logged};
 
 use std::alloc::Global;
 use velo_events::{Action, Bounds, Config, Event, Kind, Memory, Refusal};
@@ -82,23 +82,34 @@ fn is_as_logged(kind: Kind, value: Option<u64>) -> bool
     }
 }
 
-/// Why the next event of a log can't be done in the world, which has refused it.
-fn fault_of(world: &World, event: &Event, refusal: Refusal) -> CheckFault
-    requires running { world.now.halted ≡ false }
-    requires refused { IsRefusal (meaning world.now event.now.thread (action_of event.now.kind)) refusal }
+/// Why the next event of a log can't be done in the world, which has met a limit: a wrong value goes before.
+fn fault_at_limit(world: &World, event: &Event, refusal: Refusal) -> CheckFault
+    requires none { refusal_of world.now.config.bounds world.now.log event.now.thread.0 event.now.kind ≡ None }
+    requires limit { IsLimit world.now.config world.now.log event.now refusal }
     ensures { IsFaultAtEvent world.now.config world.now.log event.now result }
 {
     let position = world.log().len();
+    if has_its_value(world, event.kind) {
+        CheckFault::Refused { position, refusal }
+    } else {
+        CheckFault::WrongValue { position }
+    }
+}
+
+/// Why the next event of a log can't be done in the world, which has refused it.
+fn fault_of(world: &World, event: &Event, refusal: Refusal) -> CheckFault
+    requires running { world.now.halted ≡ false }
+    requires refused { IsRefusal world.now event.now.thread (meaning world.now event.now.thread (action_of event.now.kind)) refusal }
+    ensures { IsFaultAtEvent world.now.config world.now.log event.now result }
+{
     match refusal {
         Refusal::Memory => CheckFault::Memory,
-        Refusal::LogFull => {
-            if has_its_value(world, event.kind) {
-                CheckFault::Refused { position, refusal }
-            } else {
-                CheckFault::WrongValue { position }
-            }
-        }
-        _ => CheckFault::Refused { position, refusal },
+        Refusal::LogFull => fault_at_limit(world, event, refusal),
+        Refusal::GraphFull => fault_at_limit(world, event, refusal),
+        _ => CheckFault::Refused {
+            position: world.log().len(),
+            refusal,
+        },
     }
 }
 
@@ -169,6 +180,7 @@ pub fn config_of(bounds: Bounds, events: u32, nodes: u16) -> Config
     requires nodes { (1 ≤ nodes) × (nodes ≤ MOST_NODES) }
     ensures bounds { result.bounds ≡ bounds }
     ensures events { result.events ≡ events }
+    ensures nodes { result.nodes ≡ nodes }
     ensures goes_on { result.stop ≡ false }
 {
     match Config::new(0, bounds, events, nodes, false) {
@@ -206,7 +218,7 @@ fn write_report<O: Sink>(closed: &Closed, sink: &mut O) -> Result<Verdict, Check
 ///
 /// # Errors
 /// A fault of the text comes before any other; else the first event that can't come about decides, and a refusal there
-/// comes before a wrong value, and this before the limit of events. Every fault but `Write` has written nothing; after
+/// comes before a wrong value, and this before the limits of events and of nodes. Every fault but `Write` has written nothing; after
 /// `Write` a beginning of the report was written.
 pub fn check_run<I: Source, O: Sink>(
     alloc: Global,
@@ -217,7 +229,7 @@ pub fn check_run<I: Source, O: Sink>(
 ) -> Result<Verdict, CheckFault>
     requires events { (1 ≤ events) × (events ≤ MOST_EVENTS) }
     requires nodes { (1 ≤ nodes) × (nodes ≤ MOST_NODES) }
-    ensures answer { Checks events (I.remaining source.old) (O.contents sink.old) (O.contents sink.new) result }
+    ensures answer { Checks events nodes (I.remaining source.old) (O.contents sink.old) (O.contents sink.new) result }
     ensures read { I.failures source.new ≡ read_failures result (I.failures source.old) }
     ensures written { O.failures sink.new ≡ write_failures result (O.failures sink.old) }
 {

@@ -65,7 +65,7 @@ fn check_log<I: Source, O: Sink>(
     log: &mut I,
     out: &mut O,
 ) -> Fate
-    ensures { IsChecked options.now.events (I.remaining log.old) (O.contents out.old) (O.contents out.new) result }
+    ensures { IsChecked options.now.events options.now.nodes (I.remaining log.old) (O.contents out.old) (O.contents out.new) result }
 {
     let answer = check_run(alloc, log, out, options.events, options.nodes);
     fate_of(answer)

@@ -1,23 +1,23 @@
-use Rattle.std.proofs.Common.{◌∙◌, ap, sym, length}
-use Rattle.velodrome.proofs.OnNextEvents.{full_names, full_wrong, refused_flaw, refused_memory}
+use Rattle.std.proofs.Common.{◌≡◌, ◌∙◌, ap, length, inl}
+use Rattle.velodrome.proofs.OnNextEvents.{full_log, full_graph, refused_flaw, refused_memory}
 use Rattle.velodrome.proofs.check.fault_of.Goals as goal
-
-pub has_its_value-requires : goal.has_its_value-requires
-has_its_value-requires c =
-    (full_names c.args.world.now c.args.event.now c.requires.running c.log.ensures.well_formed (rw c.in-LogFull.is at c.requires.refused)).1
-
-pub returns-else-has_its_value : goal.returns-else-has_its_value
-returns-else-has_its_value c = (
-  c.len-position.ensures ∙ ap length c.log.ensures.events,
-  full_wrong c.args.world.now c.args.event.now c.requires.running c.log.ensures.well_formed (rw c.in-LogFull.is at c.requires.refused) (sym c.if-has_its_value.ensures),
-)
-
-pub returns-in_default : goal.returns-in_default
-returns-in_default c = (
-  c.len-position.ensures ∙ ap length c.log.ensures.events,
-  refused_flaw c.args.world.now c.args.event.now c.args.refusal c.requires.running c.requires.refused c.in_default.not-Memory (λ is. absurd (c.in_default.not-LogFull is)),
-)
 
 pub returns-in-Memory : goal.returns-in-Memory
 returns-in-Memory c =
     refused_memory c.args.world.now c.args.event.now c.requires.running (rw c.in-Memory.is at c.requires.refused)
+
+pub fault_at_limit-requires : goal.fault_at_limit-requires
+fault_at_limit-requires c =
+    let full = full_log c.args.world.now c.args.event.now c.requires.running (rw c.in-LogFull.is at c.requires.refused) in
+    rw c.in-LogFull.is (record { none = full.0; limit = full.1 })
+
+pub fault_at_limit-requires-in-GraphFull : goal.fault_at_limit-requires-in-GraphFull
+fault_at_limit-requires-in-GraphFull c =
+    let full = full_graph c.args.world.now c.args.event.now c.requires.running (rw c.in-GraphFull.is at c.requires.refused) in
+    rw c.in-GraphFull.is (record { none = full.0; limit = full.1 })
+
+pub returns-in_default : goal.returns-in_default
+returns-in_default c = (
+  c.len.ensures ∙ ap length c.log.ensures.events,
+  inl (refused_flaw c.args.world.now c.args.event.now c.args.refusal c.requires.running c.requires.refused c.in_default.not-Memory c.in_default.not-GraphFull c.in_default.not-LogFull),
+)
