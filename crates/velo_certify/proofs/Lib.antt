@@ -1,0 +1,6 @@
+pub mod OnConflicts
+pub mod OnGreatest
+pub mod OnRows
+pub mod OnOwners
+pub mod OnOrders
+pub mod OnDistances
