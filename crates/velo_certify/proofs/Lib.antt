@@ -4,3 +4,5 @@ pub mod OnRows
 pub mod OnOwners
 pub mod OnOrders
 pub mod OnDistances
+pub mod OnNearest
+pub mod OnCycles

@@ -1,6 +1,6 @@
 -- Lists that may be serial reorderings: their places, and whether transactions stand together in them.
 use Rattle.std.proofs.Common.{◌≡◌, ◌≢◌, ℕ, zero, suc, ◌+◌, ◌-◌, ◌<◌, ◌≤◌, Bool, true, false, cond, List, [], ◌∷◌, ◌++◌, length, take, drop, get_or, set, replicate, refl, sym, ap, ◌∙◌, subst, arith, ⊎_elim, Result, Ok, Err}
-use Rattle.std.specs.Prelude.{◌↔◌, IfOk, ◌==◌, nat_lt, if◌then◌else◌, count_by, slice_index, slice_index_or, IsTrue, IsFalse}
+use Rattle.std.specs.Prelude.{◌↔◌, IfOk, IfErr, ◌==◌, nat_lt, if◌then◌else◌, count_by, slice_index, slice_index_or, IsTrue, IsFalse}
 use Rattle.std.proofs.lemmas.Bool.{cases_eq, cases_lt, eq-eqb, eqb-true, ne_eqb, lt-ltb, le-ltb, both_ways, false≢true, false_from_ne_true}
 use Rattle.std.proofs.lemmas.List.{length-set, get_or-set_same, get_or-set_other, length-replicate, get_or-replicate, take-append-drop, get_or_past}
 use Rattle.std.proofs.Math.Seq.{take-length}
@@ -243,3 +243,7 @@ owners-small trace owners are i l =
     let is = are.each i (omega (arith, l, are.count)) in
     let most = owner-le trace i in
     omega (arith, is, most, l)
+
+pub IfErr-map : {T E : Type 0} (P Q : E → Type 0) → ((e : E) → P e → Q e) → (r : Result T E) → IfErr r P → IfErr r Q
+IfErr-map P Q h (Ok x) w = w
+IfErr-map P Q h (Err e) w = h e w

@@ -3,3 +3,6 @@ pub mod Counts
 pub mod Owners
 pub mod Order
 pub mod Distances
+pub mod Nearest
+pub mod Cycle
+pub mod Faults

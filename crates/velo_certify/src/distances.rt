@@ -5,6 +5,7 @@ ghost use Rattle.velo_certify.specs.Owners.{AreOwners};
 ghost use Rattle.velo_certify.specs.Table.{Tabulates, numbers_from, AllNameRows, sizes};
 ghost use Rattle.velo_certify.specs.Distances.{AreDistances, Spreads, SpreadsFrom, on_level, unreached};
 
+use crate::owners::owner_of;
 use crate::table::Table;
 use std::alloc::Global;
 use velo_events::growth::filled;
@@ -31,7 +32,7 @@ fn reach_from(
     ensures yes { IsTrue result → unreached far.new < unreached far.old }
     ensures no { IsFalse result → far.new ≡ far.old }
 {
-    let transaction = owners[at];
+    let transaction = owner_of(events, owners, at);
     let number = if far[transaction] == level { 1 } else { 0 };
     let found = table.take_in(events, at, number);
     if found == 0 {

@@ -1,5 +1,3 @@
-ghost use Rattle.std.specs.Prelude.{◌≡◌};
-
 use thiserror::Error;
 use velo_events::Memory;
 
@@ -21,9 +19,12 @@ pub enum CertFault {
 }
 
 impl From<Memory> for CertFault {
-    fn from(_refused: Memory) -> CertFault
-        ensures { result ≡ CertFault.Memory }
-    {
+    ghost use Rattle.std.specs.Prelude.{◌≡◌};
+    ghost use Rattle.velo_certify.specs.Faults.{out_of_memory};
+
+    ghost from_gives = { λ _ fault. fault ≡ out_of_memory };
+
+    fn from(_refused: Memory) -> CertFault {
         CertFault::Memory
     }
 }

@@ -3,11 +3,14 @@
 #![tactic(auto)]
 
 mod counts;
+mod cycle;
 mod distances;
 mod fault;
+mod nearest;
 mod order;
 mod owners;
 mod table;
 
+pub use cycle::{check_cycle, cycle_of};
 pub use fault::CertFault;
 pub use order::check_order;

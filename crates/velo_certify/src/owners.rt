@@ -77,3 +77,14 @@ pub(crate) fn owners_of(alloc: Global, events: &[Event]) -> Result<Vec<usize>, M
     }
     Ok(owners)
 }
+
+/// The transaction of a position.
+pub(crate) fn owner_of(events: &[Event], owners: &[usize], at: usize) -> usize
+    requires within { at < length events.now }
+    requires owners { AreOwners owners.now events.now }
+    ensures owner { result ≡ owner events.now at }
+    ensures small { result < length events.now }
+    ensures earlier { result ≤ at }
+{
+    owners[at]
+}
