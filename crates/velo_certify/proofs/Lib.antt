@@ -6,3 +6,4 @@ pub mod OnOrders
 pub mod OnDistances
 pub mod OnNearest
 pub mod OnCycles
+pub mod OnSerial

@@ -6,3 +6,4 @@ pub mod Distances
 pub mod Nearest
 pub mod Cycle
 pub mod Faults
+pub mod Serial

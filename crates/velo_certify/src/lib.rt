@@ -9,8 +9,10 @@ mod fault;
 mod nearest;
 mod order;
 mod owners;
+mod serial;
 mod table;
 
 pub use cycle::{check_cycle, cycle_of};
 pub use fault::CertFault;
 pub use order::check_order;
+pub use serial::serial_order;
