@@ -167,6 +167,7 @@ fn a_share_is_missing(rt: HostRuntime) -> Result<(), Fail> {
     let Some(mut main) = given.take(MAIN) else {
         return Err("no share".into());
     };
+    assert!(rt; world.fits(&main));
     let (forked, other) = world.fork(&mut main, OTHER)?;
     assert_eq!(rt; forked.position, 0);
     assert_eq!(rt; world.act(&mut main, Action::Read(X))?.value, Some(0));
