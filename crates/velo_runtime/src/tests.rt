@@ -7,7 +7,7 @@ use std::process::Abort;
 use std::sync::Wait;
 use std::thread;
 use velo_events::{Action, Bounds, Config, Event, Kind, Label, LockId, Refusal, ThreadId, VarId};
-use velo_world::{Alarm, Closed, Reply};
+use velo_world::{Closed, Reply};
 
 const X: VarId = VarId(0);
 
@@ -55,11 +55,8 @@ fn is_the_lost_update(rt: &impl Abort, closed: &Closed) {
         by(0, Kind::Write(X, 1)),
     ];
     assert!(rt; closed.log().as_slice() == log.as_slice());
-    let alarm = Alarm {
-        position: 4,
-        transaction: 1,
-    };
-    assert!(rt; closed.alarm().copied() == Some(alarm));
+    let alarm = closed.alarm().expect(rt, "an alarm");
+    assert!(rt; alarm.position == 4 && alarm.transaction == 1);
     assert!(rt; closed.total() == 5);
 }
 
