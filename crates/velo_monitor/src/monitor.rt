@@ -33,7 +33,7 @@ use velo_events::{Config, Event, Kind, Memory, ThreadId};
 use velo_graph::Graph;
 use velo_merge::{Placed, place};
 use velo_rows::BitRow;
-use velo_tables::Tables;
+use velo_tables::{MOST_PREDECESSORS, Tables};
 
 /// What one more event does to the graph.
 #[derive(Clone, Copy, Debug, PartialEq, Eq)]
@@ -54,13 +54,14 @@ pub struct Monitor {
     /// How many blocks each thread has open.
     depths: Vec<u8>,
     /// The steps that the present event looks up.
-    steps: SmallVec<Step, 66>,
+    steps: SmallVec<Step, MOST_PREDECESSORS>,
     freed: Freed,
 }
 
 impl Model for Monitor {
     ghost use Rattle.std.specs.Prelude.{◌≤◌};
     ghost use Rattle.velo_arena.specs.Slots.{limit_of};
+    ghost use Rattle.velo_tables.specs.declared.tables.TheConstants.{MOST_PREDECESSORS};
     ghost use Rattle.velo_monitor.specs.Watched.{Watched};
     ghost use Rattle.velo_monitor.specs.Codes.{watched_code};
 
@@ -70,7 +71,7 @@ impl Model for Monitor {
 
     ghost view = { λ m. record { nodes = m.graph; kept = m.tables; depths = m.depths.items } };
 
-    ghost invariant = { λ m. (66 ≤ m.steps.capacity) × (limit_of m.graph.slots ≤ m.freed.room) };
+    ghost invariant = { λ m. (MOST_PREDECESSORS ≤ m.steps.capacity) × (limit_of m.graph.slots ≤ m.freed.room) };
 }
 
 impl Monitor {
