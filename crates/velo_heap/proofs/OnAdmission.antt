@@ -23,7 +23,7 @@ use Rattle.velo_events.specs.Block.{any_below}
 use Rattle.velo_events.specs.Meaning.{refusal_of, holds_a_lock, kind_for, event_for, action_of, HasItsValue, is_another, is_live, is_unborn, is_joined}
 use Rattle.velo_events.proofs.OnWellFormed.{Facts-from, count_below-zero, count_below-none, count_below, is_held_by}
 use Rattle.velo_events.proofs.OnMeaning.{MayFollow-refusal_of, HasItsValue-kind_for}
-use Rattle.velo_heap.specs.Contents.{Contents, bounds_of, Tabulates, thread_named, locks_in, standing_in, IsHeapOf, unless_refused, admitted, IsAdmitted}
+use Rattle.velo_heap.specs.Contents.{Contents, bounds_of, Tabulates, thread_named, locks_in, standing_in, IsHeapOf, unless_refused, admission, IsAdmitted}
 use Rattle.velo_heap.specs.Steps.{read_at, write_at, acquire_at, release_at, fork_by, fork_at, join_by, join_at, live_kind, kind_in}
 
 -- the refusal if there is one, or else the operation
@@ -136,8 +136,8 @@ abbrev pub event_by : ThreadId → Result Kind Refusal → Result Event Refusal
 event_by t (Ok k) = Ok (record { thread = t; kind = k })
 event_by t (Err refusal) = Err refusal
 
-pub admitted-kind_in : (heap : Contents) (trace : List Event) (t : ThreadId) (action : Action) → IsHeapOf heap trace → event_by t (kind_in heap t action) ≡ admitted (bounds_of heap) trace t action
-admitted-kind_in heap trace t action stands = ap (event_by t) (kind_in-refusal_of heap trace stands t action) ∙ joined (refusal_of (bounds_of heap) trace t.0 (kind_for trace action))
+pub admission-kind_in : (heap : Contents) (trace : List Event) (t : ThreadId) (action : Action) → IsHeapOf heap trace → event_by t (kind_in heap t action) ≡ admission (bounds_of heap) trace t action
+admission-kind_in heap trace t action stands = ap (event_by t) (kind_in-refusal_of heap trace stands t action) ∙ joined (refusal_of (bounds_of heap) trace t.0 (kind_for trace action))
   where
     joined : (o : Option Refusal) → event_by t (kind_or (kind_for trace action) o) ≡ unless_refused o (event_for trace t action)
     joined (Some refusal) = refl
@@ -149,14 +149,14 @@ unrefused : (o : Option Refusal) (e e' : Event) → unless_refused o e ≡ Ok e'
 unrefused None e e' h = (refl, cc)
 unrefused (Some refusal) e e' h = cc
 
-pub MayFollow-admitted : (bounds : Bounds) (trace : List Event) (t : ThreadId) (action : Action) (e : Event) → IsWellFormed bounds trace → admitted bounds trace t action ≡ Ok e → MayFollow bounds trace e
-MayFollow-admitted bounds trace t action e well h =
+pub MayFollow-admission : (bounds : Bounds) (trace : List Event) (t : ThreadId) (action : Action) (e : Event) → IsWellFormed bounds trace → admission bounds trace t action ≡ Ok e → MayFollow bounds trace e
+MayFollow-admission bounds trace t action e well h =
     let parts = unrefused (refusal_of bounds trace t.0 (kind_for trace action)) (event_for trace t action) e h in
     subst (MayFollow bounds trace) parts.1 ((MayFollow-refusal_of bounds trace (event_for trace t action) well).1 (parts.0, HasItsValue-kind_for trace action))
 
 -- what `admit` answers may be applied
-pub IsAdmitted-from : (heap : Contents) (trace : List Event) (t : ThreadId) (action : Action) (e : Event) → IsHeapOf heap trace → admitted (bounds_of heap) trace t action ≡ Ok e → IsAdmitted heap e
-IsAdmitted-from heap trace t action e stands h = record { trace = trace; stands = stands; follows = MayFollow-admitted (bounds_of heap) trace t action e stands.well_formed h }
+pub IsAdmitted-from : (heap : Contents) (trace : List Event) (t : ThreadId) (action : Action) (e : Event) → IsHeapOf heap trace → admission (bounds_of heap) trace t action ≡ Ok e → IsAdmitted heap e
+IsAdmitted-from heap trace t action e stands h = record { trace = trace; stands = stands; follows = MayFollow-admission (bounds_of heap) trace t action e stands.well_formed h }
 
 -- ---- an event that may follow one of the heap's traces may follow each of them
 
@@ -179,7 +179,7 @@ MayFollow-each heap one other e s s' f =
     let same : kind_for other asked ≡ e.kind = kind_for-known heap one other e.thread e.kind s s' f in
     let same_one : kind_for one asked ≡ e.kind = kind_for-known heap one one e.thread e.kind s s f in
     let none : refusal_of bounds one e.thread.0 e.kind ≡ None = ((MayFollow-refusal_of bounds one e s.well_formed).0 f).0 in
-    let answered : admitted bounds one e.thread asked ≡ Ok e = rw same_one (rw none refl) in
-    let answered_too : admitted bounds other e.thread asked ≡ Ok e = sym (admitted-kind_in heap other e.thread asked s') ∙ (admitted-kind_in heap one e.thread asked s ∙ answered) in
+    let answered : admission bounds one e.thread asked ≡ Ok e = rw same_one (rw none refl) in
+    let answered_too : admission bounds other e.thread asked ≡ Ok e = sym (admission-kind_in heap other e.thread asked s') ∙ (admission-kind_in heap one e.thread asked s ∙ answered) in
     let none_too : refusal_of bounds other e.thread.0 e.kind ≡ None = subst (λ k. refusal_of bounds other e.thread.0 k ≡ None) same (unrefused _ _ _ answered_too).0 in
     (MayFollow-refusal_of bounds other e s'.well_formed).1 (none_too, subst (HasItsValue other) same (HasItsValue-kind_for other asked))

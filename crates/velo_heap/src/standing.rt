@@ -6,7 +6,7 @@ ghost use Rattle.velo_heap.specs.Steps.{CountsFit, standing_after, begin_in, end
 use velo_events::{Kind, Label, MOST_OPEN_BLOCKS, Refusal, Status, ThreadId};
 
 /// How one thread stands.
-#[derive(Clone, Copy)]
+#[derive(Clone, Copy, Debug)]
 pub struct Standing {
     pub status: Status,
     /// How many blocks it has open.

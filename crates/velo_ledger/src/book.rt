@@ -15,7 +15,7 @@ use velo_events::growth::reserve;
 use velo_events::{Event, Memory, ThreadId};
 
 /// A row for each thread of a run.
-#[derive(Drop)]
+#[derive(Debug, Drop)]
 pub struct Book {
     run: u64,
     rows: Vec<Tally>,
@@ -35,6 +35,9 @@ impl Model for Book {
 
 impl Book {
     /// A book without events, and a fitting share of each of its threads.
+    ///
+    /// Books that are alive together need different numbers of their runs. With the same number, a share of one book fits
+    /// another where the other's row says the same.
     pub fn open(alloc: Global, run: u64, threads: u8) -> Result<(Book, Shares), Memory>
         ensures book { IfOk result (λ opened. opened.0 ≡ opening_accounts run threads) }
         ensures shares { IfOk result (λ opened. AreOpening run threads opened.1) }

@@ -20,7 +20,7 @@ use Rattle.velo_logtext.specs.Window.{margin, IsReason, judged, LinesGive}
 use Rattle.velo_logtext.proofs.Choices.{front_of}
 use Rattle.velo_logtext.proofs.OnDevices.{keeps_from_none}
 use Rattle.velo_logtext.proofs.OnWindows.{rest_is}
-use Rattle.velo_logtext.proofs.OnLines.{event_taken, event_again, event_short, header_taken, header_again, header_short}
+use Rattle.velo_logtext.proofs.OnLines.{event_again, event_short, header_taken, header_again, header_short}
 
 cases_bool : (b : Bool) → (b ≡ true) ⊎ (b ≡ false)
 cases_bool true = inl refl

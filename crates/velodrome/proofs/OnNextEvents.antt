@@ -1,14 +1,14 @@
 -- What a world says of the next event of a log.
-use Rattle.std.proofs.Common.{◌≡◌, ◌≢◌, ℕ, ◌≤◌, Bool, true, false, List, [], ◌∷◌, ◌++◌, length, Option, Some, None, Ok, Err, refl, sym, ap, subst, ◌∙◌, inl, inr}
-use Rattle.std.specs.Prelude.{◌&&◌, ◌==◌, nat_lt, if◌then◌else◌, nat_le, not, Result, IsTrue, IsFalse, IsOk, ◌⊎◌}
+use Rattle.std.proofs.Common.{◌≡◌, ℕ, ◌≤◌, Bool, true, false, List, length, Option, Some, None, Ok, Err, refl, sym, ap, ◌∙◌, inl, inr}
+use Rattle.std.specs.Prelude.{◌&&◌, ◌==◌, nat_lt, if◌then◌else◌, nat_le, not, Result, IsTrue, ◌⊎◌}
 use Rattle.std.proofs.lemmas.Bool.{leb-true, eqb-true, false≢true}
 use Rattle.velo_events.specs.declared.config.Bounds.{Bounds}
-use Rattle.velo_events.specs.declared.config.Config.{Config}
 use Rattle.velo_events.specs.declared.event.Action.{Action}
 use Rattle.velo_events.specs.declared.event.Event.{Event}
 use Rattle.velo_events.specs.declared.event.Kind.{Kind}
 use Rattle.velo_events.specs.declared.event.Kind.TheVariants.{Read, Write, Acquire, Release, Begin, End, Fork, Join, Exit}
 use Rattle.velo_events.specs.declared.event.ThreadId.{ThreadId}
+use Rattle.velo_events.specs.Refusals.{GrowthRefused}
 use Rattle.velo_events.specs.declared.refusal.Refusal.{Refusal}
 use Rattle.velo_events.specs.declared.refusal.Refusal.TheVariants.{Halted, NotLive, NoSuchVariable, NoSuchLock, NoSuchThread, Busy, AlreadyHeld, NotHolder, NoOpenBlock, TooDeep, AlreadyForked, NotForked, NotExited, AlreadyJoined, BlockOpen, LockHeld, LogFull}
 use Rattle.velo_events.specs.declared.refusal.Refusal.TheVariants as refusal_case
@@ -17,12 +17,11 @@ use Rattle.velo_events.specs.Event.{are_same}
 use Rattle.velo_events.specs.Heap.{holder_in, status_in, depth_in}
 use Rattle.velo_events.specs.Meaning.{is_another, is_unborn, is_live, is_joined, holds_a_lock, HasItsValue, kind_for, event_for, action_of, refusal_of, has_its_value}
 use Rattle.velo_events.proofs.OnMeaning.{MayFollow-refusal_of}
-use Rattle.velo_traces.specs.declared.judge.Flaw.{Flaw}
 use Rattle.velo_traces.specs.declared.judge.Flaw.TheVariants.{Refused, WrongValue}
 use Rattle.velo_traces.specs.Flaws.{flaw_by, flaw_of}
 use Rattle.velo_world.specs.Worlds.{WorldState, meaning}
 use Rattle.velo_world.specs.Steps.{value_read}
-use Rattle.velodrome.specs.Following.{IsRefusal, is_as_logged}
+use Rattle.velodrome.specs.Faults.{IsRefusal, is_as_logged}
 
 -- ---- the event that is asked for
 
@@ -141,59 +140,60 @@ due_cases w e due h = at (refusal_of w.config.bounds w.log e.thread.0 (kind_for 
       due_as w.halted (nat_le w.config.events (length w.log)) (event_for w.log e.thread (action_of e.kind)) due (rw is at h),
     )
 
--- no operation is refused because the log is full
-abbrev is_full : Refusal → Bool
-is_full LogFull = true
-is_full _ = false
+-- no operation is refused because the log is full or memory was refused
+abbrev is_of_limits : Refusal → Bool
+is_of_limits LogFull = true
+is_of_limits refusal_case.Memory = true
+is_of_limits _ = false
 
-abbrev names_full : Option Refusal → Bool
-names_full (Some r) = is_full r
-names_full None = false
+abbrev names_limit : Option Refusal → Bool
+names_limit (Some r) = is_of_limits r
+names_limit None = false
 
-not_first : (b : Bool) (s : Refusal) (rest : Option Refusal) → is_full s ≡ false → names_full rest ≡ false → names_full (if b then Some s else rest) ≡ false
+not_first : (b : Bool) (s : Refusal) (rest : Option Refusal) → is_of_limits s ≡ false → names_limit rest ≡ false → names_limit (if b then Some s else rest) ≡ false
 not_first true s rest here more = here
 not_first false s rest here more = more
 
-names_full-refusal_of : (bounds : Bounds) (log : List Event) (t : ℕ) (kind : Kind) → names_full (refusal_of bounds log t kind) ≡ false
+names_limit-refusal_of : (bounds : Bounds) (log : List Event) (t : ℕ) (kind : Kind) → names_limit (refusal_of bounds log t kind) ≡ false
 unfolding refusal_of
-names_full-refusal_of bounds log t (Read x v) =
+names_limit-refusal_of bounds log t (Read x v) =
     not_first (not (nat_lt t bounds.threads && is_live (status_in log t))) NotLive (if nat_le bounds.variables x.0 then Some NoSuchVariable else None) refl
     (not_first (nat_le bounds.variables x.0) NoSuchVariable None refl (refl))
-names_full-refusal_of bounds log t (Write x v) =
+names_limit-refusal_of bounds log t (Write x v) =
     not_first (not (nat_lt t bounds.threads && is_live (status_in log t))) NotLive (if nat_le bounds.variables x.0 then Some NoSuchVariable else None) refl
     (not_first (nat_le bounds.variables x.0) NoSuchVariable None refl (refl))
-names_full-refusal_of bounds log t (Acquire m) =
+names_limit-refusal_of bounds log t (Acquire m) =
     not_first (not (nat_lt t bounds.threads && is_live (status_in log t))) NotLive (if nat_le bounds.locks m.0 then Some NoSuchLock else (if is_another (holder_in log m.0) t then Some Busy else (if are_same (holder_in log m.0) (Some t) then Some AlreadyHeld else None))) refl
     (not_first (nat_le bounds.locks m.0) NoSuchLock (if is_another (holder_in log m.0) t then Some Busy else (if are_same (holder_in log m.0) (Some t) then Some AlreadyHeld else None)) refl
     (not_first (is_another (holder_in log m.0) t) Busy (if are_same (holder_in log m.0) (Some t) then Some AlreadyHeld else None) refl
     (not_first (are_same (holder_in log m.0) (Some t)) AlreadyHeld None refl (refl))))
-names_full-refusal_of bounds log t (Release m) =
+names_limit-refusal_of bounds log t (Release m) =
     not_first (not (nat_lt t bounds.threads && is_live (status_in log t))) NotLive (if nat_le bounds.locks m.0 then Some NoSuchLock else (if not (are_same (holder_in log m.0) (Some t)) then Some NotHolder else None)) refl
     (not_first (nat_le bounds.locks m.0) NoSuchLock (if not (are_same (holder_in log m.0) (Some t)) then Some NotHolder else None) refl
     (not_first (not (are_same (holder_in log m.0) (Some t))) NotHolder None refl (refl)))
-names_full-refusal_of bounds log t (Begin l) =
+names_limit-refusal_of bounds log t (Begin l) =
     not_first (not (nat_lt t bounds.threads && is_live (status_in log t))) NotLive (if nat_le 32 (depth_in log t) then Some TooDeep else None) refl
     (not_first (nat_le 32 (depth_in log t)) TooDeep None refl (refl))
-names_full-refusal_of bounds log t End =
+names_limit-refusal_of bounds log t End =
     not_first (not (nat_lt t bounds.threads && is_live (status_in log t))) NotLive (if depth_in log t == 0 then Some NoOpenBlock else None) refl
     (not_first (depth_in log t == 0) NoOpenBlock None refl (refl))
-names_full-refusal_of bounds log t (Fork u) =
+names_limit-refusal_of bounds log t (Fork u) =
     not_first (not (nat_lt t bounds.threads && is_live (status_in log t))) NotLive (if nat_le bounds.threads u.0 then Some NoSuchThread else (if not (is_unborn (status_in log u.0)) then Some AlreadyForked else None)) refl
     (not_first (nat_le bounds.threads u.0) NoSuchThread (if not (is_unborn (status_in log u.0)) then Some AlreadyForked else None) refl
     (not_first (not (is_unborn (status_in log u.0))) AlreadyForked None refl (refl)))
-names_full-refusal_of bounds log t (Join u) =
+names_limit-refusal_of bounds log t (Join u) =
     not_first (not (nat_lt t bounds.threads && is_live (status_in log t))) NotLive (if nat_le bounds.threads u.0 then Some NoSuchThread else (if is_unborn (status_in log u.0) then Some NotForked else (if is_live (status_in log u.0) then Some NotExited else (if is_joined (status_in log u.0) then Some AlreadyJoined else None)))) refl
     (not_first (nat_le bounds.threads u.0) NoSuchThread (if is_unborn (status_in log u.0) then Some NotForked else (if is_live (status_in log u.0) then Some NotExited else (if is_joined (status_in log u.0) then Some AlreadyJoined else None))) refl
     (not_first (is_unborn (status_in log u.0)) NotForked (if is_live (status_in log u.0) then Some NotExited else (if is_joined (status_in log u.0) then Some AlreadyJoined else None)) refl
     (not_first (is_live (status_in log u.0)) NotExited (if is_joined (status_in log u.0) then Some AlreadyJoined else None) refl
     (not_first (is_joined (status_in log u.0)) AlreadyJoined None refl (refl)))))
-names_full-refusal_of bounds log t Exit =
+names_limit-refusal_of bounds log t Exit =
     not_first (not (nat_lt t bounds.threads && is_live (status_in log t))) NotLive (if not (depth_in log t == 0) then Some BlockOpen else (if holds_a_lock bounds log t then Some LockHeld else None)) refl
     (not_first (not (depth_in log t == 0)) BlockOpen (if holds_a_lock bounds log t then Some LockHeld else None) refl
     (not_first (holds_a_lock bounds log t) LockHeld None refl (refl)))
 
-refusal_of-not_full : (bounds : Bounds) (log : List Event) (t : ℕ) (kind : Kind) → refusal_of bounds log t kind ≡ Some LogFull → ⊥
-refusal_of-not_full bounds log t kind h = false≢true (sym (names_full-refusal_of bounds log t kind) ∙ ap names_full h)
+refusal_of-no_limit : (bounds : Bounds) (log : List Event) (t : ℕ) (kind : Kind) (r : Refusal) → is_of_limits r ≡ true → refusal_of bounds log t kind ≡ Some r → ⊥
+refusal_of-no_limit bounds log t kind r is h = false≢true (sym (names_limit-refusal_of bounds log t kind) ∙ ap names_limit h ∙ is)
 
 -- ---- the flaw of the event
 
@@ -212,6 +212,17 @@ refused_due : (w : WorldState) (due : Result Event Refusal) (r : Refusal) → (r
 refused_due w due r other (inl is) = is
 refused_due w due r other (inr memory) = absurd (other memory.0)
 
+-- memory is wanted only where a growth was refused
+pub refused_memory : (w : WorldState) (e : Event) → w.halted ≡ false → IsRefusal (meaning w e.thread (action_of e.kind)) refusal_case.Memory → GrowthRefused
+refused_memory w e running (inr memory) = memory.1.1
+refused_memory w e running (inl is) = absurd (at (refused_cases w e refusal_case.Memory running is))
+  where
+    at : (refusal_of w.config.bounds w.log e.thread.0 e.kind ≡ Some refusal_case.Memory)
+        ⊎ ((refusal_of w.config.bounds w.log e.thread.0 e.kind ≡ None) × (refusal_case.Memory ≡ LogFull) × (w.config.events ≤ length w.log))
+        → ⊥
+    at (inl bad) = refusal_of-no_limit w.config.bounds w.log e.thread.0 e.kind refusal_case.Memory refl bad
+    at (inr full) = let same = full.1 in cc
+
 -- a log that is full was not refused for the names of the operation
 pub full_names : (w : WorldState) (e : Event) → w.halted ≡ false → IsWellFormed w.config.bounds w.log
     → IsRefusal (meaning w e.thread (action_of e.kind)) LogFull → (refusal_of w.config.bounds w.log e.thread.0 e.kind ≡ None) × NamesKnown w.config.bounds e.kind
@@ -220,7 +231,7 @@ full_names w e running well refused = at (refused_cases w e LogFull running (ref
     at : (refusal_of w.config.bounds w.log e.thread.0 e.kind ≡ Some LogFull)
         ⊎ ((refusal_of w.config.bounds w.log e.thread.0 e.kind ≡ None) × (LogFull ≡ LogFull) × (w.config.events ≤ length w.log))
         → (refusal_of w.config.bounds w.log e.thread.0 e.kind ≡ None) × NamesKnown w.config.bounds e.kind
-    at (inl bad) = absurd (refusal_of-not_full w.config.bounds w.log e.thread.0 e.kind bad)
+    at (inl bad) = absurd (refusal_of-no_limit w.config.bounds w.log e.thread.0 e.kind LogFull refl bad)
     at (inr full) =
         let may : MayFollow w.config.bounds w.log (event_for w.log e.thread (action_of e.kind)) =
         (MayFollow-refusal_of w.config.bounds w.log (event_for w.log e.thread (action_of e.kind)) well).1

@@ -1,5 +1,5 @@
 -- The lines of the threads, one after another.
-use Rattle.std.proofs.Common.{◌≡◌, ℕ, ◌+◌, ◌++◌, List, [], refl, add-one, append-nil}
+use Rattle.std.proofs.Common.{◌≡◌, ℕ, ◌+◌, ◌++◌, List, refl, add-one, append-nil}
 use Rattle.velo_events.specs.declared.event.Event.{Event}
 use Rattle.velodrome.specs.Report.{thread_line, thread_lines}
 

@@ -1,10 +1,11 @@
--- A world that follows a recorded log, event by event. Words of private contracts.
-use Rattle.std.specs.Prelude.{◌≡◌, ℕ, ◌+◌, ◌<◌, ◌≤◌, ◌⊎◌, Bool, true, false, List, [], ◌∷◌, ◌++◌, take, length, Option, Some, None, Result, Err, IsOk}
+-- Why an event of a recorded log can't be done, and with it the log.
+use Rattle.std.specs.Prelude.{◌≡◌, ℕ, ◌+◌, ◌<◌, ◌≤◌, ◌⊎◌, Bool, true, false, List, take, length, Option, Some, None, Result, Err, IsOk}
 use Rattle.velo_events.specs.declared.config.Config.{Config}
 use Rattle.velo_events.specs.declared.event.Event.{Event}
 use Rattle.velo_events.specs.declared.event.Kind.{Kind}
 use Rattle.velo_events.specs.declared.event.Kind.TheVariants.{Read}
 use Rattle.velo_events.specs.Event.{are_same}
+use Rattle.velo_events.specs.Refusals.{GrowthRefused}
 use Rattle.velo_events.specs.declared.refusal.Refusal.{Refusal}
 use Rattle.velo_events.specs.declared.refusal.Refusal.TheVariants.{LogFull}
 use Rattle.velo_events.specs.declared.refusal.Refusal.TheVariants as refusal_case
@@ -25,19 +26,19 @@ abbrev pub is_as_logged : Kind → Option ℕ → Bool
 is_as_logged (Read x v) value = are_same (Some v) value
 is_as_logged _ value = true
 
--- the refusal is due, or memory was refused for an event that is due
+-- the refusal is due, or a growth was refused for an event that is due
 abbrev pub IsRefusal : Result Event Refusal → Refusal → Type 0
-IsRefusal due refusal = (due ≡ Err refusal) ⊎ ((refusal ≡ refusal_case.Memory) × IsOk due)
+IsRefusal due refusal = (due ≡ Err refusal) ⊎ ((refusal ≡ refusal_case.Memory) × (IsOk due × GrowthRefused))
 
--- why the event does not come next: a refusal, a wrong value, or a full log, in this order; or memory was refused
-abbrev pub Stops : Config → List Event → Event → CheckFault → Type 0
-Stops config log e (Refused p refusal) = (p ≡ length log)
+-- why the event does not come next: a refusal, a wrong value, or a full log, in this order; or a growth was refused
+abbrev pub IsFaultAtEvent : Config → List Event → Event → CheckFault → Type 0
+IsFaultAtEvent config log e (Refused p refusal) = (p ≡ length log)
     × ((flaw_of config.bounds log e ≡ Some (flaw.Refused refusal))
     ⊎ ((flaw_of config.bounds log e ≡ None) × (refusal ≡ LogFull) × (config.events ≤ length log)))
-Stops config log e (WrongValue p) = (p ≡ length log) × (flaw_of config.bounds log e ≡ Some flaw.WrongValue)
-Stops config log e Memory = Unit {0}
-Stops config log e (Log fault) = ⊥
-Stops config log e Write = ⊥
+IsFaultAtEvent config log e (WrongValue p) = (p ≡ length log) × (flaw_of config.bounds log e ≡ Some flaw.WrongValue)
+IsFaultAtEvent config log e Memory = GrowthRefused
+IsFaultAtEvent config log e (Log fault) = ⊥
+IsFaultAtEvent config log e Write = ⊥
 
 -- the first event that can't come about, at position p within the limit, is refused for this reason
 abbrev pub IsRefusedAt : ℕ → Bounds → List Event → ℕ → Refusal → Type 0
@@ -51,9 +52,9 @@ pub record IsWrongValueAt (limit : ℕ) (bounds : Bounds) (log : List Event) (p 
   pub within : p ≤ limit
 
 -- why the log can't be done to its end
-abbrev pub StopsIn : Config → List Event → CheckFault → Type 0
-StopsIn config log (Refused p refusal) = IsRefusedAt config.events config.bounds log p refusal
-StopsIn config log (WrongValue p) = IsWrongValueAt config.events config.bounds log p
-StopsIn config log Memory = Unit {0}
-StopsIn config log (Log fault) = ⊥
-StopsIn config log Write = ⊥
+abbrev pub IsFaultOfLog : Config → List Event → CheckFault → Type 0
+IsFaultOfLog config log (Refused p refusal) = IsRefusedAt config.events config.bounds log p refusal
+IsFaultOfLog config log (WrongValue p) = IsWrongValueAt config.events config.bounds log p
+IsFaultOfLog config log Memory = GrowthRefused
+IsFaultOfLog config log (Log fault) = ⊥
+IsFaultOfLog config log Write = ⊥

@@ -1,4 +1,5 @@
 pub mod Check
 pub mod Fate
-pub mod Following
+pub mod Faults
+pub mod Program
 pub mod Report

@@ -1,59 +1,78 @@
 //! The lines of a report.
-ghost use Rattle.std.specs.Prelude.{◌≡◌, ◌<◌, ◌≤◌, ◌++◌, codes, length, OnOk, IfOk, string_bytes};
+ghost use Rattle.std.specs.Prelude.{◌≡◌, ◌<◌, ◌≤◌, ◌++◌, codes, decimal, length, option_map, OnOk, OnErr, IfOk, string_bytes};
+ghost use Rattle.velo_events.specs.Refusals.{GrowthRefused};
 ghost use Rattle.velo_events.specs.Tally.{events_of};
 ghost use Rattle.velo_events.specs.WellFormed.{IsWellFormed};
-ghost use Rattle.velodrome.specs.Report.{numbered_line, thread_line, thread_lines, count_lines, verdict_lines, report_lines};
+ghost use Rattle.velodrome.specs.Report.{IsReport, numbered_line, thread_line, thread_lines, verdict_lines};
 
-use std::alloc::{AllocError, Global};
-use velo_events::ThreadId;
+use crate::growth::push_str;
+use itoa::Buffer;
+use std::alloc::Global;
+use velo_events::{Memory, ThreadId};
 use velo_world::{Alarm, World};
 
-/// How many events a thread has.
-fn events_of(world: &World, t: ThreadId) -> u64
-    requires { t.0 < world.now.config.bounds.threads }
-    ensures { result ≡ events_of world.now.log t.0 }
+/// Adds a word and a number after it.
+fn push_numbered(text: &mut String, word: &str, number: usize) -> Result<(), Memory>
+    ensures text { OnOk result (string_bytes text.new ≡ string_bytes text.old ++ (word.now ++ decimal number)) }
+    ensures memory { OnErr result GrowthRefused }
 {
-    world.book().tally(t).events
+    let mut digits = Buffer::new();
+    push_str(text, word)?;
+    push_str(text, digits.format(number))
 }
 
-/// AddsEvent the line of each thread.
-fn add_threads(text: &mut String, world: &World) -> Result<(), AllocError>
-    ensures { OnOk result (string_bytes text.new ≡ string_bytes text.old ++ thread_lines world.now.log world.now.config.bounds.threads) }
+/// Adds a word, a number after it, and the end of the line.
+fn push_line(text: &mut String, word: &str, number: usize) -> Result<(), Memory>
+    ensures text { OnOk result (string_bytes text.new ≡ string_bytes text.old ++ numbered_line word.now number) }
+    ensures memory { OnErr result GrowthRefused }
+{
+    push_numbered(text, word, number)?;
+    push_str(text, "\n")
+}
+
+/// Adds how many events a thread has.
+fn push_thread(text: &mut String, world: &World, t: ThreadId) -> Result<(), Memory>
+    requires { t.0 < world.now.config.bounds.threads }
+    ensures text { OnOk result (string_bytes text.new ≡ string_bytes text.old ++ thread_line world.now.log t.0) }
+    ensures memory { OnErr result GrowthRefused }
+{
+    push_numbered(text, "thread ", usize::from(t.0))?;
+    push_line(text, " ", world.book().tally(t).events as usize)
+}
+
+/// Adds the line of each thread.
+fn push_threads(text: &mut String, world: &World) -> Result<(), Memory>
+    ensures text { OnOk result (string_bytes text.new ≡ string_bytes text.old ++ thread_lines world.now.log world.now.config.bounds.threads) }
+    ensures memory { OnErr result GrowthRefused }
 {
     for t in 0..world.threads() {
-        let count = events_of(world, ThreadId(t));
-        writeln!(text, "thread {t} {count}")?;
+        push_thread(text, world, ThreadId(t))?;
     }
     Ok(())
 }
 
-/// AddsEvent the verdict, and with an alarm its transaction.
-fn add_verdict(text: &mut String, alarm: Option<Alarm>) -> Result<(), AllocError>
-    ensures { OnOk result (string_bytes text.new ≡ string_bytes text.old ++ verdict_lines alarm) }
+/// Adds the verdict, and with an alarm its transaction.
+fn push_verdict(text: &mut String, alarm: Option<&Alarm>) -> Result<(), Memory>
+    ensures text { OnOk result (string_bytes text.new ≡ string_bytes text.old ++ verdict_lines (option_map (λ a. a.now) alarm.entry)) }
+    ensures memory { OnErr result GrowthRefused }
 {
-    match alarm {
-        None => text.push_str("verdict clean\n")?,
-        Some(alarm) => {
-            let Alarm {
-                position,
-                transaction,
-            } = alarm;
-            writeln!(text, "verdict alarm {position}")?;
-            writeln!(text, "transaction {transaction}")?;
-        }
-    }
-    Ok(())
+    let Some(alarm) = alarm else {
+        return push_str(text, "verdict clean\n");
+    };
+    push_line(text, "verdict alarm ", alarm.position)?;
+    push_line(text, "transaction ", alarm.transaction)
 }
 
-/// The report of a world's log, with the alarm that the world keeps.
-pub fn report_of(alloc: Global, world: &World, alarm: Option<Alarm>) -> Result<String, AllocError>
+/// The report of a world's log.
+pub fn report_of(alloc: Global, world: &World) -> Result<String, Memory>
     ensures well_formed { IsWellFormed world.now.config.bounds world.now.log }
     ensures short { length world.now.log ≤ world.now.config.events }
-    ensures lines { IfOk result (λ text. string_bytes text ≡ report_lines world.now.config.bounds.threads world.now.log alarm) }
+    ensures report { IfOk result (λ text. IsReport world.now.config.bounds.threads world.now.log (string_bytes text)) }
+    ensures memory { OnErr result GrowthRefused }
 {
-    let count = world.log().len();
-    let mut text = format!(in alloc; "events {count}\n")?;
-    add_threads(&mut text, world)?;
-    add_verdict(&mut text, alarm)?;
+    let mut text = String::new(alloc);
+    push_line(&mut text, "events ", world.log().len())?;
+    push_threads(&mut text, world)?;
+    push_verdict(&mut text, world.alarm())?;
     Ok(text)
 }

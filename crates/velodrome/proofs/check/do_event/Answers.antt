@@ -1,8 +1,8 @@
-use Rattle.std.proofs.Common.{◌≡◌, ◌∙◌, ap, sym, length}
+use Rattle.std.proofs.Common.{◌∙◌, ap, sym, length}
 use Rattle.velo_events.specs.Meaning.{action_of}
 use Rattle.velo_world.specs.Worlds.{meaning}
-use Rattle.velodrome.proofs.OnFollowing.{wrong_read}
-use Rattle.velodrome.proofs.check.follow.Goals as goal
+use Rattle.velodrome.proofs.OnNextEvents.{wrong_read}
+use Rattle.velodrome.proofs.check.do_event.Goals as goal
 
 pub returns-in-Ok-2-clause-err : goal.returns-in-Ok-2-clause-err
 returns-in-Ok-2-clause-err c =

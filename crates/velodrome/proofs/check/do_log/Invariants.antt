@@ -1,7 +1,7 @@
 use Rattle.std.proofs.Common.{◌≡◌, take}
 use Rattle.velo_world.specs.Holdings.{HoldsLiveShares}
-use Rattle.velodrome.specs.Following.{world_of}
-use Rattle.velodrome.proofs.check.followed.Given as goal
+use Rattle.velodrome.specs.Faults.{world_of}
+use Rattle.velodrome.proofs.check.do_log.Given as goal
 
 abbrev pub invariant-loop-event : goal.invariant-loop-event
 invariant-loop-event l =
