@@ -1,4 +1,3 @@
-pub mod OnReports
 pub mod OnNextEvents
 pub mod OnFaults
 pub mod OnVerdicts

@@ -13,7 +13,7 @@ use Rattle.velo_traces.specs.Flaws.{flaw_of, IsFirstFlaw}
 use Rattle.velo_traces.proofs.OnFlaws.{flaw-not_MayFollow, MayFollow-from_no_flaw}
 use Rattle.velodrome.specs.declared.check.CheckFault.{CheckFault}
 use Rattle.velodrome.specs.declared.check.CheckFault.TheVariants.{Log, Refused, WrongValue, Write, Memory}
-use Rattle.velo_world.specs.Worlds.{WorldState}
+use Rattle.velo_world.specs.World.{WorldState}
 use Rattle.velodrome.specs.Faults.{world_of, IsFaultAtEvent, IsFaultOfLog}
 
 -- so many events stand before a position

@@ -3,7 +3,6 @@ use Rattle.std.proofs.Common.{◌≡◌, ℕ, ◌≤◌, Bool, true, false, List
 use Rattle.std.specs.Prelude.{◌&&◌, ◌==◌, nat_lt, if◌then◌else◌, nat_le, not, Result, IsTrue, ◌⊎◌}
 use Rattle.std.proofs.lemmas.Bool.{leb-true, eqb-true, false≢true}
 use Rattle.velo_events.specs.declared.config.Bounds.{Bounds}
-use Rattle.velo_events.specs.declared.event.Action.{Action}
 use Rattle.velo_events.specs.declared.event.Event.{Event}
 use Rattle.velo_events.specs.declared.event.Kind.{Kind}
 use Rattle.velo_events.specs.declared.event.Kind.TheVariants.{Read, Write, Acquire, Release, Begin, End, Fork, Join, Exit}
@@ -15,12 +14,12 @@ use Rattle.velo_events.specs.declared.refusal.Refusal.TheVariants as refusal_cas
 use Rattle.velo_events.specs.WellFormed.{MayFollow, NamesKnown, IsWellFormed}
 use Rattle.velo_events.specs.Event.{are_same}
 use Rattle.velo_events.specs.Heap.{holder_in, status_in, depth_in}
-use Rattle.velo_events.specs.Meaning.{is_another, is_unborn, is_live, is_joined, holds_a_lock, HasItsValue, kind_for, event_for, action_of, refusal_of, has_its_value}
-use Rattle.velo_events.proofs.OnMeaning.{MayFollow-refusal_of}
+use Rattle.velo_events.specs.Meaning.{is_another, is_unborn, is_live, is_joined, holds_a_lock, kind_for, event_for, action_of, refusal_of, has_its_value}
+use Rattle.velo_events.proofs.OnMeaning.{HasItsValue-kind_for, MayFollow-refusal_of}
 use Rattle.velo_traces.specs.declared.judge.Flaw.TheVariants.{Refused, WrongValue}
 use Rattle.velo_traces.specs.Flaws.{flaw_by, flaw_of}
-use Rattle.velo_world.specs.Worlds.{WorldState, meaning}
-use Rattle.velo_world.specs.Steps.{value_read}
+use Rattle.velo_world.specs.World.{WorldState, meaning}
+use Rattle.velo_world.specs.World.{value_read}
 use Rattle.velodrome.specs.Faults.{IsRefusal, is_as_logged}
 
 -- ---- the event that is asked for
@@ -72,18 +71,6 @@ names_asked bounds log End h = h
 names_asked bounds log (Fork u) h = h
 names_asked bounds log (Join u) h = h
 names_asked bounds log Exit h = h
-
--- the event that is asked for has its value
-its_value : (log : List Event) (action : Action) → HasItsValue log (kind_for log action)
-its_value log (Action.Read x) = refl
-its_value log (Action.Write x v) = tt
-its_value log (Action.Acquire m) = tt
-its_value log (Action.Release m) = tt
-its_value log (Action.Begin l) = tt
-its_value log Action.End = tt
-its_value log (Action.Fork u) = tt
-its_value log (Action.Join u) = tt
-its_value log Action.Exit = tt
 
 -- ---- what is due
 
@@ -235,7 +222,7 @@ full_names w e running well refused = at (refused_cases w e LogFull running (ref
     at (inr full) =
         let may : MayFollow w.config.bounds w.log (event_for w.log e.thread (action_of e.kind)) =
         (MayFollow-refusal_of w.config.bounds w.log (event_for w.log e.thread (action_of e.kind)) well).1
-        (refusal_of-asked w.config.bounds w.log e.thread.0 e.kind ∙ full.0, its_value w.log (action_of e.kind)) in
+        (refusal_of-asked w.config.bounds w.log e.thread.0 e.kind ∙ full.0, HasItsValue-kind_for w.log (action_of e.kind)) in
         (full.0, names_asked w.config.bounds w.log e.kind may.known_names)
 
 -- a read with a wrong value comes before the full log

@@ -8,13 +8,14 @@ use Rattle.velo_events.specs.Graph.{HasCycle, IsClosing}
 use Rattle.velo_events.specs.Reordering.{IsSerializable}
 use Rattle.velo_events.proofs.OnGraphs.{HasCycle-from_closing}
 use Rattle.velo_logtext.specs.Finding.{Answers}
-use Rattle.velo_world.specs.Worlds.{WorldState}
+use Rattle.velo_world.specs.World.{WorldState}
 use Rattle.velodrome.specs.declared.check.Verdict.{Verdict}
 use Rattle.velodrome.specs.declared.check.Verdict.TheVariants as verdict
 use Rattle.velodrome.specs.declared.check.CheckFault.{CheckFault}
 use Rattle.velodrome.specs.declared.check.CheckFault.TheVariants.{Log, Refused, WrongValue, Write, Memory}
 use Rattle.velodrome.specs.Check.{IsInput, IsReported, IsVerdict, Checks, Reports}
-use Rattle.velodrome.specs.Report.{IsReport}
+use Rattle.velo_report.specs.declared.names.Names.TheVariants.{Numbers}
+use Rattle.velo_report.specs.Report.{IsReport}
 
 no_alarm : verdict.Clean ≡ verdict.Alarm → ⊥
 no_alarm h = cc
@@ -47,7 +48,7 @@ input_found None limit bounds log found = tt
 
 abbrev reported_log : (limit : ℕ) (read : Option (List ℕ)) (w : WorldState) (text : List ℕ)
     → w.config.events ≡ limit → IsInput read w.config.bounds w.log → IsWellFormed w.config.bounds w.log → length w.log ≤ w.config.events
-    → IsReport w.config.bounds.threads w.log text → IsReported limit read text
+    → IsReport Numbers w.config.bounds.threads w.log text → IsReported limit read text
 reported_log limit read w text is input well short report =
     record {
       bounds = w.config.bounds;
@@ -63,10 +64,10 @@ pub checked_by : (limit : ℕ) (read : Option (List ℕ)) (w : WorldState) (old 
     → w.config.events ≡ limit → IsInput read w.config.bounds w.log → IsWellFormed w.config.bounds w.log → length w.log ≤ w.config.events
     → Reports w old new result → Checks limit read old new result
 checked_by limit read w old new (Ok answer) is input well short reports =
-    (reports.0, (reported_log limit read w reports.0 is input well short reports.1, reports.2), reports.3)
+    (reports.1.text, (reported_log limit read w reports.1.text is input well short reports.1.is_report, reports.0), reports.1.appends)
 checked_by limit read w old new (Err Write) is input well short reports =
-    (reports.0, reported_log limit read w reports.0 is input well short reports.1, reports.2)
-checked_by limit read w old new (Err Memory) is input well short reports = reports
+    (reports.text, reported_log limit read w reports.text is input well short reports.is_report, reports.appends)
+checked_by limit read w old new (Err Memory) is input well short reports = absurd reports
 checked_by limit read w old new (Err (Log fault)) is input well short reports = absurd reports
 checked_by limit read w old new (Err (Refused p refusal)) is input well short reports = absurd reports
 checked_by limit read w old new (Err (WrongValue p)) is input well short reports = absurd reports

@@ -14,13 +14,14 @@ use Rattle.velo_logtext.specs.declared.fault.LogFault.TheVariants as log_fault
 use Rattle.velo_logtext.specs.Device.{one_more, AppendsBeginning}
 use Rattle.velo_logtext.specs.Text.{IsLogText}
 use Rattle.velo_logtext.specs.Finding.{Answers}
-use Rattle.velo_world.specs.Worlds.{WorldState}
+use Rattle.velo_world.specs.World.{WorldState}
 use Rattle.velodrome.specs.declared.check.Verdict.{Verdict}
 use Rattle.velodrome.specs.declared.check.Verdict.TheVariants as verdict
 use Rattle.velodrome.specs.declared.check.CheckFault.{CheckFault}
 use Rattle.velodrome.specs.declared.check.CheckFault.TheVariants.{Log, Refused, WrongValue, Write, Memory}
 use Rattle.velodrome.specs.Faults.{IsRefusedAt, IsWrongValueAt}
-use Rattle.velodrome.specs.Report.{IsReport}
+use Rattle.velo_report.specs.declared.names.Names.TheVariants.{Numbers}
+use Rattle.velo_report.specs.Report.{IsReport, AppendsReport, AppendsPartOfReport}
 
 -- the bytes, where they are known, are the text of these bounds and events
 abbrev pub IsInput : Option (List ℕ) → Bounds → List Event → Type 0
@@ -33,7 +34,7 @@ pub record IsReported (limit : ℕ) (read : Option (List ℕ)) (text : List ℕ)
   pub input : IsInput read bounds trace
   pub well_formed : IsWellFormed bounds trace
   pub room : length trace ≤ limit
-  pub report : IsReport bounds.threads trace text
+  pub report : IsReport Numbers bounds.threads trace text
 
 -- the log stops at an event that is refused, or that reads a wrong value
 pub record IsRefused (limit : ℕ) (read : Option (List ℕ)) (p : ℕ) (refusal : Refusal) : Type 0 where
@@ -56,10 +57,8 @@ pub record IsVerdict (trace : List Event) (answer : Verdict) : Type 0 where
 
 -- what is written of a world, and the verdict with it
 abbrev pub Reports : WorldState → Option (List ℕ) → Option (List ℕ) → Result Verdict CheckFault → Type 0
-Reports w old new (Ok answer) =
-    (text : List ℕ) × IsReport w.config.bounds.threads w.log text × IsVerdict w.log answer × Appends old new text
-Reports w old new (Err Write) = (text : List ℕ) × IsReport w.config.bounds.threads w.log text × AppendsBeginning old new text
-Reports w old new (Err Memory) = GrowthRefused × (new ≡ old)
+Reports w old new (Ok answer) = IsVerdict w.log answer × AppendsReport old new Numbers w.config.bounds.threads w.log
+Reports w old new (Err Write) = AppendsPartOfReport old new Numbers w.config.bounds.threads w.log
 Reports w old new (Err fault) = ⊥
 
 -- What a check answers, by the bytes that were to be read and those written before and after, where they are known. Every

@@ -13,7 +13,7 @@ use Rattle.velo_traces.specs.declared.judge.Flaw.TheVariants as flaw
 use Rattle.velo_events.specs.declared.config.Bounds.{Bounds}
 use Rattle.velo_events.specs.WellFormed.{IsWellFormed}
 use Rattle.velo_traces.specs.Flaws.{flaw_of, IsFirstFlaw}
-use Rattle.velo_world.specs.Worlds.{WorldState}
+use Rattle.velo_world.specs.World.{WorldState}
 use Rattle.velodrome.specs.declared.check.CheckFault.{CheckFault}
 use Rattle.velodrome.specs.declared.check.CheckFault.TheVariants.{Log, Refused, WrongValue, Write, Memory}
 

@@ -2,4 +2,3 @@ pub mod Check
 pub mod Fate
 pub mod Faults
 pub mod Program
-pub mod Report

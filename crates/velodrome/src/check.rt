@@ -6,18 +6,18 @@ ghost use Rattle.velo_events.specs.Refusals.{GrowthRefused};
 ghost use Rattle.velo_events.specs.declared.limits.TheConstants.{MOST_EVENTS, MOST_NODES};
 ghost use Rattle.velo_traces.specs.Flaws.{flaw_of};
 ghost use Rattle.velo_logtext.specs.Text.{AreBounds};
-ghost use Rattle.velo_world.specs.Worlds.{meaning, opening};
-ghost use Rattle.velo_world.specs.Holdings.{HoldsLiveShares};
+ghost use Rattle.velo_world.specs.World.{meaning, opening};
+ghost use Rattle.velo_world.specs.World.{CompletesShares, HoldsLiveShares};
 ghost use Rattle.velodrome.specs.Check.{Checks, IsVerdict, Reports, read_failures, write_failures};
 ghost use Rattle.velodrome.specs.Faults.{world_of, IsFaultAtEvent, IsFaultOfLog, IsRefusal, is_as_logged};
 
-use crate::report::report_of;
 use std::alloc::Global;
 use velo_events::{Action, Bounds, Config, Event, Kind, Memory, Refusal};
 use velo_ledger::Shares;
-use velo_logtext::{LogFault, Sink, Source, WriteFault, read_log, write_all};
+use velo_logtext::{LogFault, Sink, Source, WriteFault, read_log};
+use velo_report::{Names, report};
 use velo_traces::Trace;
-use velo_world::World;
+use velo_world::{Closed, World};
 
 /// What a log shows.
 #[derive(Clone, Copy, Debug, PartialEq, Eq)]
@@ -106,6 +106,7 @@ fn fault_of(world: &World, event: &Event, refusal: Refusal) -> CheckFault
 pub fn open_world(alloc: Global, config: Config) -> Result<(World, Shares), Memory>
     ensures world { IfOk result (λ opened. opened.0 ≡ opening config) }
     ensures ready { IfOk result (λ opened. HoldsLiveShares opened.0 opened.1) }
+    ensures complete { IfOk result (λ opened. CompletesShares opened.0 opened.1) }
     ensures memory { OnErr result GrowthRefused }
 {
     let (world, share) = World::new(alloc, config)?;
@@ -122,6 +123,7 @@ fn do_event(world: &mut World, shares: &mut Shares, event: &Event) -> Result<(),
     requires goes_on { world.old.config.stop ≡ false }
     requires ready { HoldsLiveShares world.old shares.old }
     ensures ready { HoldsLiveShares world.new shares.new }
+    ensures complete { CompletesShares world.old shares.old → CompletesShares world.new shares.new }
     ensures before { IsWellFormed world.old.config.bounds world.old.log }
     ensures short { length world.old.log ≤ world.old.config.events }
     ensures ok { OnOk result (world.new ≡ world_of world.old.config (world.old.log ++ event.now ∷ [])) }
@@ -136,10 +138,12 @@ fn do_event(world: &mut World, shares: &mut Shares, event: &Event) -> Result<(),
     }
 }
 
-/// The world of a log, all of whose events were done in it.
-fn do_log(alloc: Global, config: Config, log: &Trace) -> Result<World, CheckFault>
+/// The world of a log, all of whose events were done in it, after its end.
+fn do_log(alloc: Global, config: Config, log: &Trace) -> Result<Closed, CheckFault>
     requires goes_on { config.stop ≡ false }
-    ensures ok { IfOk result (λ world. world ≡ world_of config log.now.events) }
+    ensures ok { IfOk result (λ closed. closed ≡ world_of config log.now.events) }
+    ensures well_formed { IfOk result (λ closed. IsWellFormed closed.config.bounds closed.log) }
+    ensures short { IfOk result (λ closed. length closed.log ≤ closed.config.events) }
     ensures err { IfErr result (λ fault. IsFaultOfLog config log.now.events fault) }
 {
     let Ok((mut world, mut shares)) = open_world(alloc, config) else {
@@ -149,7 +153,13 @@ fn do_log(alloc: Global, config: Config, log: &Trace) -> Result<World, CheckFaul
     for event in events {
         do_event(&mut world, &mut shares, event)?;
     }
-    Ok(world)
+    match world.close(shares) {
+        Ok(closed) => {
+            prove!(closed.log().len() == events.len());
+            Ok(closed)
+        }
+        Err(_) => unreachable!(),
+    }
 }
 
 /// The configuration of a check: it goes on after an alarm.
@@ -167,28 +177,23 @@ pub fn config_of(bounds: Bounds, events: u32, nodes: u16) -> Config
     }
 }
 
-/// What a world's log shows.
-fn verdict_of(world: &World) -> Verdict
-    ensures { IsVerdict world.now.log result }
+/// What the log of a closed world shows.
+fn verdict_of(closed: &Closed) -> Verdict
+    ensures { IsVerdict closed.now.log result }
 {
-    match world.alarm() {
+    match closed.alarm() {
         Some(_) => Verdict::Alarm,
         None => Verdict::Clean,
     }
 }
 
-/// Writes the report of a world's log, which is made before the first byte goes out.
-fn write_report<O: Sink>(alloc: Global, world: &World, sink: &mut O) -> Result<Verdict, CheckFault>
-    ensures well_formed { IsWellFormed world.now.config.bounds world.now.log }
-    ensures short { length world.now.log ≤ world.now.config.events }
-    ensures answer { Reports world.now (O.contents sink.old) (O.contents sink.new) result }
+/// Writes the report of a closed world.
+fn write_report<O: Sink>(closed: &Closed, sink: &mut O) -> Result<Verdict, CheckFault>
+    ensures answer { Reports closed.now (O.contents sink.old) (O.contents sink.new) result }
     ensures written { O.failures sink.new ≡ write_failures result (O.failures sink.old) }
 {
-    let verdict = verdict_of(world);
-    let Ok(text) = report_of(alloc, world) else {
-        return Err(CheckFault::Memory);
-    };
-    match write_all(sink, text.as_bytes()) {
+    let verdict = verdict_of(closed);
+    match report(closed, &Names::Numbers, sink) {
         Ok(()) => Ok(verdict),
         Err(WriteFault) => Err(CheckFault::Write),
     }
@@ -220,6 +225,6 @@ pub fn check_run<I: Source, O: Sink>(
         Ok(read) => read,
         Err(fault) => return Err(CheckFault::Log(fault)),
     };
-    let world = do_log(alloc, config_of(bounds, events, nodes), &log)?;
-    write_report(alloc, &world, sink)
+    let closed = do_log(alloc, config_of(bounds, events, nodes), &log)?;
+    write_report(&closed, sink)
 }

@@ -6,7 +6,6 @@ mod check;
 mod fate;
 mod growth;
 mod program;
-mod report;
 
 use crate::program::{Logs, end_without_words, run};
 use std::fs::File;

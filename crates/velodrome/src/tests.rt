@@ -15,7 +15,7 @@ use velo_traces::Trace;
 const LOST_UPDATE: &str = "vlog 1 2 1 0\n0 fork 1\n0 begin 7\n0 rd 0 0\n1 wr 0 5\n0 wr 0 1\n";
 
 const LOST_UPDATE_REPORT: &str =
-    "events 5\nthread 0 4\nthread 1 1\nverdict alarm 4\ntransaction 1\n";
+    "events 5\nthread 0 4\nthread 1 1\nverdict alarm 4\ntransaction 1\nblame 1 7\n";
 
 /// Logs by their paths, which come so many bytes at a time.
 #[derive(Drop)]
@@ -54,22 +54,37 @@ fn show(alloc: Global, words: &[&str], folder: &Folder) -> Shown {
 }
 
 /// Logs with their report and status.
-const REPORTED: [(&str, &str, u8); 6] = [
+const REPORTED: [(&str, &str, u8); 9] = [
     ("vlog 1 1 0 0\n", "events 0\nthread 0 0\nverdict clean\n", 0),
     (LOST_UPDATE, LOST_UPDATE_REPORT, 3),
     (
         "vlog 1 2 2 0\n0 fork 1\n0 begin 1\n0 wr 0 1\n1 begin 2\n1 wr 1 1\n0 rd 1 1\n1 rd 0 1\n",
-        "events 7\nthread 0 4\nthread 1 3\nverdict alarm 6\ntransaction 3\n",
+        "events 7\nthread 0 4\nthread 1 3\nverdict alarm 6\ntransaction 3\nblame none\n",
         3,
     ),
     (
         "vlog 1 2 0 0\n0 begin 1\n0 fork 1\n1 exit\n0 join 1\n",
-        "events 4\nthread 0 3\nthread 1 1\nverdict alarm 3\ntransaction 0\n",
+        "events 4\nthread 0 3\nthread 1 1\nverdict alarm 3\ntransaction 0\nblame 0 1\n",
+        3,
+    ),
+    (
+        "vlog 1 2 1 0\n0 fork 1\n0 begin 1\n0 rd 0 0\n0 begin 2\n1 wr 0 3\n0 wr 0 4\n",
+        "events 6\nthread 0 5\nthread 1 1\nverdict alarm 5\ntransaction 1\nblame 1 1\n",
+        3,
+    ),
+    (
+        "vlog 1 2 1 0\n0 fork 1\n0 begin 1\n0 begin 2\n0 rd 0 0\n1 wr 0 3\n0 wr 0 4\n",
+        "events 6\nthread 0 5\nthread 1 1\nverdict alarm 5\ntransaction 1\nblame 1 1\nblame 2 2\n",
+        3,
+    ),
+    (
+        "vlog 1 2 1 0\n0 fork 1\n0 begin 1\n0 wr 0 1\n1 rd 0 1\n0 wr 0 2\n",
+        "events 5\nthread 0 4\nthread 1 1\nverdict alarm 4\ntransaction 1\nblame 1 1\n",
         3,
     ),
     (
         "vlog 1 2 1 1\n0 fork 1\n0 begin 1\n0 acq 0\n0 rd 0 0\n0 rel 0\n1 acq 0\n1 wr 0 9\n1 rel 0\n0 acq 0\n",
-        "events 9\nthread 0 6\nthread 1 3\nverdict alarm 8\ntransaction 1\n",
+        "events 9\nthread 0 6\nthread 1 3\nverdict alarm 8\ntransaction 1\nblame 1 1\n",
         3,
     ),
     (
@@ -379,8 +394,9 @@ fn ten_thousand_lines(rt: HostRuntime) -> Result<(), Fail> {
     let mut sink = Text::new(rt.alloc());
     let answer = check_run(rt.alloc(), &mut source, &mut sink, 10_000, 1024);
     assert_eq!(rt; answer, Ok(Verdict::Alarm));
-    let lines = "events 10000\nthread 0 4\nthread 1 9996\nverdict alarm 9999\ntransaction 9996\n";
-    assert!(rt; sink.as_slice().starts_with(lines.as_bytes()));
+    let lines =
+        "events 10000\nthread 0 4\nthread 1 9996\nverdict alarm 9999\ntransaction 9996\nblame 9996 7\n";
+    assert_eq!(rt; sink.as_slice(), lines.as_bytes());
     Ok(())
 }
 

@@ -1,6 +1,6 @@
 use Rattle.std.proofs.Common.{◌∙◌, ap, sym, length}
 use Rattle.velo_events.specs.Meaning.{action_of}
-use Rattle.velo_world.specs.Worlds.{meaning}
+use Rattle.velo_world.specs.World.{meaning}
 use Rattle.velodrome.proofs.OnNextEvents.{wrong_read}
 use Rattle.velodrome.proofs.check.do_event.Goals as goal
 

@@ -1,4 +1,4 @@
-use Rattle.velo_world.specs.Holdings.{HoldsLiveShares}
+use Rattle.velo_world.specs.World.{HoldsLiveShares}
 use Rattle.velodrome.proofs.tests.slow.world_by_chance.Given as goal
 
 abbrev pub invariant-loop-i : goal.invariant-loop-i
