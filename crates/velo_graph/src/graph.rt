@@ -171,6 +171,14 @@ impl<A: Ancestors> Graph<A> {
         self.arena.newest()
     }
 
+    /// For its clause alone: what every graph keeps. The call does nothing.
+    pub fn soundness(&self)
+        ensures { IsSound self.now }
+    {
+        // the clause is known once a field is read
+        let _extent = self.arena.extent();
+    }
+
     /// Every slot in use is below it. It stays low, as slots that were used before are given out first.
     pub fn extent(&self) -> u16
         ensures within { result ≤ limit_of self.now.slots }

@@ -5,7 +5,7 @@ mod entry;
 mod tables;
 mod variable;
 
-pub use tables::Tables;
+pub use tables::{MOST_PREDECESSORS, Tables};
 
 #[cfg(test)]
 mod tests;

@@ -8,7 +8,7 @@ use velo_arena::Step;
 use velo_events::{Bounds, Config, Event, Kind, Label, LockId, ThreadId, VarId};
 
 /// The tables of a run of four threads.
-fn opened(alloc: Global) -> Result<Tables, Fail>
+fn tables_of_four(alloc: Global) -> Result<Tables, Fail>
     ensures { IfOk result (λ tables. length tables.threads ≡ 4) }
 {
     let bounds = Bounds {
@@ -51,7 +51,7 @@ const Y: VarId = VarId(1);
 
 #[test]
 fn a_write_finds_every_reader(rt: HostRuntime) -> Result<(), Fail> {
-    let mut tables = opened(rt.alloc())?;
+    let mut tables = tables_of_four(rt.alloc())?;
     note(&mut tables, by(0, Kind::Read(X, 0)), Some(at(1)))?;
     note(&mut tables, by(2, Kind::Read(X, 0)), Some(at(2)))?;
     note(&mut tables, by(1, Kind::Read(X, 0)), Some(at(3)))?;
@@ -85,7 +85,7 @@ fn a_write_finds_every_reader(rt: HostRuntime) -> Result<(), Fail> {
 
 #[test]
 fn a_fork_leads_to_the_child_and_a_join_from_it(rt: HostRuntime) -> Result<(), Fail> {
-    let mut tables = opened(rt.alloc())?;
+    let mut tables = tables_of_four(rt.alloc())?;
     note(&mut tables, by(0, Kind::Fork(ThreadId(1))), Some(at(1)))?;
     let first = by(1, Kind::Begin(Label(0)));
     assert_eq!(rt; tables.predecessors(&first).as_slice(), [at(1)].as_slice());
@@ -105,7 +105,7 @@ fn a_fork_leads_to_the_child_and_a_join_from_it(rt: HostRuntime) -> Result<(), F
 
 #[test]
 fn a_lock_has_one_last_event(rt: HostRuntime) -> Result<(), Fail> {
-    let mut tables = opened(rt.alloc())?;
+    let mut tables = tables_of_four(rt.alloc())?;
     note(&mut tables, by(0, Kind::Acquire(LockId(1))), Some(at(1)))?;
     note(&mut tables, by(0, Kind::Release(LockId(1))), Some(at(2)))?;
     assert_eq!(rt;
