@@ -1,6 +1,6 @@
 -- What clocks note, and which blocks they blame.
 use Rattle.std.proofs.Common.{◌≡◌, ℕ, ◌+◌, ◌≤◌, List, [], ◌∷◌, ◌++◌, length, take, map, filter, sym, ap, ◌∙◌, subst, arith}
-use Rattle.std.specs.Prelude.{nat_lt, slice_get, Option}
+use Rattle.std.specs.Prelude.{nat_lt, Option}
 use Rattle.std.specs.Option.{option_map_or}
 use Rattle.std.proofs.lemmas.List.{take_all, length_push}
 use Rattle.velo_events.specs.declared.config.Bounds.{Bounds}
