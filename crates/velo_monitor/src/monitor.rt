@@ -293,3 +293,6 @@ impl Monitor {
         self.tables.record(event, step);
     }
 }
+
+#[cfg(test)]
+mod tests;
