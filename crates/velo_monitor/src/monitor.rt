@@ -294,3 +294,6 @@ impl Monitor {
         self.tables.record(event, step);
     }
 }
+
+#[cfg(test)]
+mod tests;
