@@ -8,8 +8,8 @@ use crate::step::{Node, Step};
 use std::alloc::Global;
 use std::marker::Model;
 use thiserror::Error;
-use velo_events::growth::{filled, with_capacity};
 use velo_events::Memory;
+use velo_events::growth::{filled, with_capacity};
 
 /// All slots are in use.
 #[derive(Clone, Copy, Debug, PartialEq, Eq, Error)]

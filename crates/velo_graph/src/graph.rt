@@ -10,8 +10,8 @@ use crate::vacate::vacate;
 use std::alloc::Global;
 use std::marker::Model;
 use velo_arena::{Arena, GraphFull, Step};
-use velo_events::growth::filled;
 use velo_events::Memory;
+use velo_events::growth::filled;
 use velo_rows::Ancestors;
 
 /// What adding an edge came to.

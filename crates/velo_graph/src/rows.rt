@@ -6,8 +6,8 @@ ghost use Rattle.velo_graph.specs.Roots.{one_more, may_meet, IsBelow, MeetBelow}
 ghost use Rattle.velo_graph.specs.Rows.{row_of, with_carried, ChangesFirst, CarriesEdge};
 
 use std::alloc::Global;
-use velo_events::growth::with_capacity;
 use velo_events::Memory;
+use velo_events::growth::with_capacity;
 use velo_rows::Ancestors;
 
 /// As many empty sets as there are slots.

@@ -15,7 +15,7 @@ ghost use Rattle.velo_arena.specs.Stamps.{stamps_in};
 ghost use Rattle.velo_graph.specs.Nodes.{IsSound, AddsEdges};
 ghost use Rattle.velo_graph.specs.Collects.{HasNothingLeft};
 ghost use Rattle.velo_merge.specs.Named.{Bears, live_stamps, HasFinished, IsAncestor};
-ghost use Rattle.velo_tables.specs.Place.{LastOf};
+ghost use Rattle.velo_tables.specs.Place.{Place as PlaceOf, LastOf};
 ghost use Rattle.velo_tables.specs.Kept.{entry, steps_looked_up, HasRoomFor};
 ghost use Rattle.velo_monitor.specs.Watched.{IsMonitorOf};
 ghost use Rattle.velo_monitor.specs.Answers.{NeedsNode, GetsNewNode, IsNext, IsSeen};
@@ -33,7 +33,7 @@ use velo_events::{Config, Event, Kind, Memory, ThreadId};
 use velo_graph::Graph;
 use velo_merge::{Placed, place};
 use velo_rows::BitRow;
-use velo_tables::Tables;
+use velo_tables::{MOST_PREDECESSORS, Tables};
 
 /// What one more event does to the graph.
 #[derive(Clone, Copy, Debug, PartialEq, Eq)]
@@ -54,13 +54,14 @@ pub struct Monitor {
     /// How many blocks each thread has open.
     depths: Vec<u8>,
     /// The steps that the present event looks up.
-    steps: SmallVec<Step, 66>,
+    steps: SmallVec<Step, MOST_PREDECESSORS>,
     freed: Freed,
 }
 
 impl Model for Monitor {
     ghost use Rattle.std.specs.Prelude.{◌≤◌};
     ghost use Rattle.velo_arena.specs.Slots.{limit_of};
+    ghost use Rattle.velo_tables.specs.declared.tables.TheConstants.{MOST_PREDECESSORS};
     ghost use Rattle.velo_monitor.specs.Watched.{Watched};
     ghost use Rattle.velo_monitor.specs.Codes.{watched_code};
 
@@ -70,7 +71,7 @@ impl Model for Monitor {
 
     ghost view = { λ m. record { nodes = m.graph; kept = m.tables; depths = m.depths.items } };
 
-    ghost invariant = { λ m. (66 ≤ m.steps.capacity) × (limit_of m.graph.slots ≤ m.freed.room) };
+    ghost invariant = { λ m. (MOST_PREDECESSORS ≤ m.steps.capacity) × (limit_of m.graph.slots ≤ m.freed.room) };
 }
 
 impl Monitor {
@@ -103,6 +104,7 @@ impl Monitor {
     /// `Memory` where a growth was refused.
     pub fn reserve(&mut self, event: &Event) -> Result<(), Memory>
         ensures nodes { self.new.nodes ≡ self.old.nodes }
+        ensures entries { (p : PlaceOf) → entry self.new.kept p ≡ entry self.old.kept p }
         ensures same { (bounds : BoundsOf) (trace : List EventOf) → IsMonitorOf bounds self.old trace → IsMonitorOf bounds self.new trace }
         ensures room { OnOk result ((bounds : BoundsOf) (trace : List EventOf) → IsMonitorOf bounds self.old trace → MayFollow bounds trace event.now → HasRoomFor self.new.kept event.now) }
         ensures full { OnErr result (¬ HasRoomFor self.old.kept event.now) }
@@ -292,3 +294,6 @@ impl Monitor {
         self.tables.record(event, step);
     }
 }
+
+#[cfg(test)]
+mod tests;

@@ -7,3 +7,6 @@ mod names;
 
 pub use closed::report;
 pub use names::Names;
+
+#[cfg(test)]
+mod tests;

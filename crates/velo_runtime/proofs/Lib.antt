@@ -1,2 +1,4 @@
+pub mod Chains
 pub mod OnRefusals
+pub mod OnTurns
 pub mod Places

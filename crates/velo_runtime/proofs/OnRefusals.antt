@@ -1,24 +1,27 @@
 -- Which refusals a step answers: those that are due in the world, memory behind a refused growth, and the foreign share.
-use Rattle.std.proofs.Common.{◌≡◌, ℕ, ◌⊎◌, inl, inr, ⊎_elim, refl, ap, ◌∙◌, Ok, Err}
-use Rattle.std.specs.Prelude.{⊤, Result, Option, Some, None, Bool, true, false, List, ◌↔◌, IsTrue, if◌then◌else◌, length, nat_le}
-use Rattle.std.proofs.lemmas.Bool.{false≢true}
+use Rattle.std.proofs.Common.{◌≡◌, ℕ, ◌<◌, ◌⊎◌, inl, inr, ⊎_elim, refl, ap, ◌∙◌, Ok, Err}
+use Rattle.std.specs.Prelude.{⊤, Result, Option, Some, None, Bool, true, false, List, ◌↔◌, IfErr, IfSome, if◌then◌else◌, length, nat_le}
+use Rattle.std.proofs.lemmas.Bool.{false≢true, leb-false}
 use Rattle.velo_events.specs.declared.config.Bounds.{Bounds}
 use Rattle.velo_events.specs.declared.event.Action.{Action}
-use Rattle.velo_events.specs.declared.event.Action.TheVariants.{Fork}
+use Rattle.velo_events.specs.declared.event.Action.TheVariants.{Acquire, Fork, Join}
 use Rattle.velo_events.specs.declared.event.Event.{Event}
 use Rattle.velo_events.specs.declared.event.Kind.{Kind}
+use Rattle.velo_events.specs.declared.event.Kind.TheVariants as kind
+use Rattle.velo_events.specs.declared.event.LockId.{LockId}
 use Rattle.velo_events.specs.declared.event.ThreadId.{ThreadId}
 use Rattle.velo_events.specs.declared.refusal.Refusal.{Refusal}
 use Rattle.velo_events.specs.declared.refusal.Refusal.TheVariants.{Halted, NotLive, NoSuchVariable, NoSuchLock, NoSuchThread, Busy, AlreadyHeld, NotHolder, NoOpenBlock, TooDeep, AlreadyForked, NotForked, NotExited, AlreadyJoined, BlockOpen, LockHeld, LogFull, GraphFull, Memory, WouldDeadlock, RuntimeMemory, Foreign}
 use Rattle.velo_events.specs.Meaning.{kind_for, event_for, refusal_of}
 use Rattle.velo_events.specs.Refusals.{GrowthRefused}
 use Rattle.velo_ledger.specs.Views.{Holding}
-use Rattle.velo_world.specs.Worlds.{WorldState, meaning}
-use Rattle.velo_world.specs.Holdings.{FitsLog}
-use Rattle.velo_world.specs.Steps.{Acts, Forks, Refuses}
+use Rattle.velo_world.specs.World.{WorldState, meaning}
+use Rattle.velo_world.specs.World.{FitsLog}
+use Rattle.velo_world.specs.World.{Acts, Forks, Refuses}
 use Rattle.velo_world.specs.declared.run.Reply.{Reply}
-use Rattle.velo_runtime.specs.Rooms.{RoomState}
-use Rattle.velo_runtime.specs.Steps.{StepsIn, StepsForking, ActsIn, ForksIn}
+use Rattle.velo_runtime.specs.Rooms.{RoomState, IsThere}
+use Rattle.velo_runtime.specs.Steps.{ActsIn, ForksIn}
+use Rattle.velo_runtime.specs.Turns.{wanted_by, lock_wanted, thread_wanted}
 
 -- ---- the meaning of an action gives refusals of the world alone
 
@@ -92,20 +95,73 @@ refused_growth refuses = ⊎_elim (λ of_world. absurd (false≢true of_world)) 
 
 -- ---- of a step in a room
 
-pub steps-foreign : (room room' : RoomState) (share share' : Holding) (action : Action) (outcome : Result Reply Refusal) → StepsIn room share action outcome room' share' → (outcome ≡ Err Foreign) ↔ ¬ FitsLog room.world share
-steps-foreign room room' share share' action outcome (inl acts) =
+pub acts-foreign : (room room' : RoomState) (share share' : Holding) (action : Action) (outcome : Result Reply Refusal) → ActsIn room share action outcome room' share' → (outcome ≡ Err Foreign) ↔ ¬ FitsLog room.world share
+acts-foreign room room' share share' action outcome acts =
     (λ h. absurd (no_foreign (acts-refuses room.world room'.world share share' action outcome Foreign acts.acts h)), λ misfit. absurd (misfit acts.fits))
-steps-foreign room room' share share' action outcome (inr foreign) = (λ h. foreign.0.misfit, λ misfit. foreign.1)
 
-pub steps-memory : (room room' : RoomState) (share share' : Holding) (action : Action) (outcome : Result Reply Refusal) → StepsIn room share action outcome room' share' → outcome ≡ Err Memory → GrowthRefused
-steps-memory room room' share share' action outcome (inl acts) h = refused_growth (acts-refuses room.world room'.world share share' action outcome Memory acts.acts h)
-steps-memory room room' share share' action outcome (inr foreign) h = let is = foreign.1 in cc
+pub acts-memory : (room room' : RoomState) (share share' : Holding) (action : Action) (outcome : Result Reply Refusal) → ActsIn room share action outcome room' share' → outcome ≡ Err Memory → GrowthRefused
+acts-memory room room' share share' action outcome acts h = refused_growth (acts-refuses room.world room'.world share share' action outcome Memory acts.acts h)
 
-pub forking-foreign : (room room' : RoomState) (share share' : Holding) (child : ThreadId) (outcome : Result (Reply × Holding) Refusal) → StepsForking room share child outcome room' share' → (outcome ≡ Err Foreign) ↔ ¬ FitsLog room.world share
-forking-foreign room room' share share' child outcome (inl forks) =
+pub forks-foreign : (room room' : RoomState) (share share' : Holding) (child : ThreadId) (outcome : Result (Reply × Holding) Refusal) → ForksIn room share child outcome room' share' → (outcome ≡ Err Foreign) ↔ ¬ FitsLog room.world share
+forks-foreign room room' share share' child outcome forks =
     (λ h. absurd (no_foreign (forks-refuses room.world room'.world share share' child outcome Foreign forks.forks h)), λ misfit. absurd (misfit forks.fits))
-forking-foreign room room' share share' child outcome (inr foreign) = (λ h. foreign.0.misfit, λ misfit. foreign.1)
 
-pub forking-memory : (room room' : RoomState) (share share' : Holding) (child : ThreadId) (outcome : Result (Reply × Holding) Refusal) → StepsForking room share child outcome room' share' → outcome ≡ Err Memory → GrowthRefused
-forking-memory room room' share share' child outcome (inl forks) h = refused_growth (forks-refuses room.world room'.world share share' child outcome Memory forks.forks h)
-forking-memory room room' share share' child outcome (inr foreign) h = let is = foreign.1 in cc
+pub forks-memory : (room room' : RoomState) (share share' : Holding) (child : ThreadId) (outcome : Result (Reply × Holding) Refusal) → ForksIn room share child outcome room' share' → outcome ≡ Err Memory → GrowthRefused
+forks-memory room room' share share' child outcome forks h = refused_growth (forks-refuses room.world room'.world share share' child outcome Memory forks.forks h)
+
+-- ---- a refusal that may pass names what is there
+
+reason_is : (halted : Bool) (reason r : Refusal) → (r ≡ Halted → ⊥) → ◌≡◌ {A = Result Event Refusal} (if halted then Err Halted else Err reason) (Err r) → reason ≡ r
+reason_is true reason r other h = let is : r ≡ Halted = cc in absurd (other is)
+reason_is false reason r other h = cc
+
+no_reason : (halted full : Bool) (e : Event) (r : Refusal) → (r ≡ Halted → ⊥) → (r ≡ LogFull → ⊥) → ◌≡◌ {A = Result Event Refusal} (if halted then Err Halted else (if full then Err LogFull else Ok e)) (Err r) → ⊥
+no_reason true full e r halted limit h = let is : r ≡ Halted = cc in halted is
+no_reason false true e r halted limit h = let is : r ≡ LogFull = cc in limit is
+no_reason false false e r halted limit h = cc
+
+meaning-reason : (w : WorldState) (t : ThreadId) (action : Action) (r : Refusal) → (r ≡ Halted → ⊥) → (r ≡ LogFull → ⊥) → meaning w t action ≡ Err r → refusal_of w.config.bounds w.log t.0 (kind_for w.log action) ≡ Some r
+meaning-reason w t action r halted limit h = at (refusal_of w.config.bounds w.log t.0 (kind_for w.log action)) refl
+  where
+    at : (o : Option Refusal) → refusal_of w.config.bounds w.log t.0 (kind_for w.log action) ≡ o → refusal_of w.config.bounds w.log t.0 (kind_for w.log action) ≡ Some r
+    at (Some reason) is = is ∙ ap Some (reason_is w.halted reason r halted (rw is at h))
+    at None is = absurd (no_reason w.halted (nat_le w.config.events (length w.log)) (event_for w.log t action) r halted limit (rw is at h))
+
+no_lock : (b0 b2 : Bool) (rest : Option Refusal) → (if b0 then Some NotLive else (if b2 then Some NoSuchLock else rest)) ≡ Some Busy → b2 ≡ false
+no_lock true b2 rest h = let is : ◌≡◌ {A = Option Refusal} (Some NotLive) (Some Busy) = h in cc
+no_lock false true rest h = let is : ◌≡◌ {A = Option Refusal} (Some NoSuchLock) (Some Busy) = h in cc
+no_lock false false rest h = refl
+
+no_thread : (b0 b3 : Bool) (rest : Option Refusal) → (if b0 then Some NotLive else (if b3 then Some NoSuchThread else rest)) ≡ Some NotExited → b3 ≡ false
+no_thread true b3 rest h = let is : ◌≡◌ {A = Option Refusal} (Some NotLive) (Some NotExited) = h in cc
+no_thread false true rest h = let is : ◌≡◌ {A = Option Refusal} (Some NoSuchThread) (Some NotExited) = h in cc
+no_thread false false rest h = refl
+
+lock_there : (bounds : Bounds) (log : List Event) (t : ℕ) (m : LockId) → refusal_of bounds log t (kind.Acquire m) ≡ Some Busy → m.0 < bounds.locks
+unfolding refusal_of
+lock_there bounds log t m h = leb-false bounds.locks m.0 (no_lock _ _ _ h)
+
+thread_there : (bounds : Bounds) (log : List Event) (t : ℕ) (u : ThreadId) → refusal_of bounds log t (kind.Join u) ≡ Some NotExited → u.0 < bounds.threads
+unfolding refusal_of
+thread_there bounds log t u h = leb-false bounds.threads u.0 (no_thread _ _ _ h)
+
+busy_there : (w : WorldState) (t : ThreadId) (action : Action) → meaning w t action ≡ Err Busy → IfSome (lock_wanted action) (IsThere w.config.bounds)
+busy_there w t (Acquire m) h = lock_there w.config.bounds w.log t.0 m (meaning-reason w t (Acquire m) Busy (λ is. cc) (λ is. cc) h)
+busy_there w t _ h = tt
+
+early_there : (w : WorldState) (t : ThreadId) (action : Action) → meaning w t action ≡ Err NotExited → IfSome (thread_wanted action) (IsThere w.config.bounds)
+early_there w t (Join u) h = thread_there w.config.bounds w.log t.0 u (meaning-reason w t (Join u) NotExited (λ is. cc) (λ is. cc) h)
+early_there w t _ h = tt
+
+due_there : (w : WorldState) (t : ThreadId) (action : Action) (r : Refusal) → meaning w t action ≡ Err r → IfSome (wanted_by action r) (IsThere w.config.bounds)
+due_there w t action Busy h = busy_there w t action h
+due_there w t action NotExited h = early_there w t action h
+due_there w t action _ h = tt
+
+refuses-there : (w w' : WorldState) (share share' : Holding) (action : Action) (r : Refusal) → Refuses w share (meaning w share.thread action) r w' share' → IfSome (wanted_by action r) (IsThere w'.config.bounds)
+refuses-there w w' share share' action r refuses =
+    rw refuses.world (⊎_elim (λ due. due_there w share.thread action r due) (λ memory. rw memory.0 tt) refuses.cause)
+
+pub acts-there : (room room' : RoomState) (share share' : Holding) (action : Action) (outcome : Result Reply Refusal) → ActsIn room share action outcome room' share' → IfErr outcome (λ r. IfSome (wanted_by action r) (IsThere room'.world.config.bounds))
+acts-there room room' share share' action (Ok reply) acts = tt
+acts-there room room' share share' action (Err r) acts = refuses-there room.world room'.world share share' action r acts.acts

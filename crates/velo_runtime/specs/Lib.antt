@@ -1,3 +1,5 @@
 pub mod Rooms
 pub mod Steps
+pub mod Waits
+pub mod Turns
 pub mod Seats

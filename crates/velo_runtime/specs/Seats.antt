@@ -1,14 +1,16 @@
 -- What a seat learns of its calls, and which seats end a run.
 use Rattle.std.specs.Prelude.{◌≡◌, ◌≤◌, ◌<◌, ◌==◌, ℕ, Bool, List, None, All, count_by, if◌then◌else◌}
+use Rattle.velo_events.specs.declared.event.Action.{Action}
 use Rattle.velo_events.specs.declared.event.Event.{Event}
 use Rattle.velo_events.specs.declared.event.Kind.{Kind}
 use Rattle.velo_events.specs.Heap.{status_in}
-use Rattle.velo_events.specs.Meaning.{is_unborn}
+use Rattle.velo_events.specs.Meaning.{is_unborn, kind_for}
 use Rattle.velo_ledger.specs.Views.{Holding}
 use Rattle.velo_ledger.specs.Tally.{with_event}
 use Rattle.velo_ledger.specs.Book.{with_tally}
-use Rattle.velo_world.specs.Worlds.{WorldState}
-use Rattle.velo_world.specs.Holdings.{FitsLog}
+use Rattle.velo_world.specs.World.{WorldState}
+use Rattle.velo_world.specs.World.{FitsLog}
+use Rattle.velo_world.specs.World.{value_read}
 use Rattle.velo_world.specs.declared.run.Reply.{Reply}
 
 -- an event of the share's thread
@@ -29,6 +31,12 @@ pub record GainsEvent (share share' : Holding) (kind : Kind) : Type 0 where
 pub record GainsEventOf (share share' : Holding) (reply : Reply) (kind : Kind) : Type 0 where
   pub value : reply.value ≡ None
   pub gains : GainsEventAt share share' reply.position kind
+
+-- it has one event more, that of the action, and the reply tells position and value
+pub record GainsEventBy (share share' : Holding) (reply : Reply) (action : Action) : Type 0 where
+  pub log : List Event
+  pub value : reply.value ≡ value_read (kind_for log action)
+  pub gains : GainsEventAt share share' reply.position (kind_for log action)
 
 -- ---- the end of a run
 

@@ -5,19 +5,21 @@ use Rattle.velo_events.specs.declared.event.ThreadId.{ThreadId}
 use Rattle.velo_events.specs.declared.refusal.Refusal.{Refusal}
 use Rattle.velo_events.specs.declared.refusal.Refusal.TheVariants.{Foreign}
 use Rattle.velo_ledger.specs.Views.{Holding}
-use Rattle.velo_world.specs.Holdings.{FitsLog}
-use Rattle.velo_world.specs.Steps.{Acts, Forks}
+use Rattle.velo_world.specs.World.{FitsLog}
+use Rattle.velo_world.specs.World.{Acts, Forks}
 use Rattle.velo_world.specs.declared.run.Reply.{Reply}
 use Rattle.velo_runtime.specs.Rooms.{RoomState}
 
--- the share fits, and the step is the world's
+-- the share fits, the step is the world's, and no wait changes
 pub record ActsIn (room : RoomState) (share : Holding) (action : Action) (outcome : Result Reply Refusal) (room' : RoomState) (share' : Holding) : Type 0 where
   pub fits : FitsLog room.world share
   pub acts : Acts room.world share action outcome room'.world share'
+  pub waits : room'.waits ≡ room.waits
 
 pub record ForksIn (room : RoomState) (share : Holding) (child : ThreadId) (outcome : Result (Reply × Holding) Refusal) (room' : RoomState) (share' : Holding) : Type 0 where
   pub fits : FitsLog room.world share
   pub forks : Forks room.world share child outcome room'.world share'
+  pub waits : room'.waits ≡ room.waits
 
 -- the share does not fit, and nothing changes
 pub record IsForeign (room : RoomState) (share : Holding) (room' : RoomState) (share' : Holding) : Type 0 where

@@ -7,8 +7,10 @@ mod seat;
 mod shared;
 #[cfg(test)]
 mod tests;
+mod wait;
 
 pub use error::RunError;
-pub use room::{Room, fork_in, step_in};
+pub use room::{Room, comes_back, fork_in, step_in, turn_in};
 pub use seat::Seat;
 pub use shared::{Missing, Shared, close};
+pub use wait::{Turn, Wanted};

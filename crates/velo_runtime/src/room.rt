@@ -1,44 +1,53 @@
 ghost use Rattle.velo_events.specs.Refusals.{GrowthRefused};
-ghost use Rattle.std.specs.Prelude.{◌≡◌, ◌<◌, ◌↔◌, None, Err, IfOk, IfErr, IfSome, IfNone, IsTrue, All, count_by, sum_by, length, if◌then◌else◌, replicate, OnErr};
+ghost use Rattle.std.specs.Prelude.{◌≡◌, ◌<◌, ◌↔◌, None, Err, IfOk, IfErr, IfSome, IfNone, IsTrue, option_map, All, count_by, sum_by, length, if◌then◌else◌, replicate, OnErr};
 ghost use Rattle.velo_events.specs.declared.refusal.Refusal.TheVariants as refusal;
 ghost use Rattle.velo_events.specs.Graph.{HasCycle};
 ghost use Rattle.velo_events.specs.Heap.{status_in};
 ghost use Rattle.velo_events.specs.Meaning.{is_unborn};
 ghost use Rattle.velo_events.specs.Reordering.{IsSerializable};
 ghost use Rattle.velo_ledger.specs.Shares.{opening_share};
-ghost use Rattle.velo_world.specs.Alarms.{IsAlarm};
-ghost use Rattle.velo_world.specs.Worlds.{opening};
-ghost use Rattle.velo_world.specs.Holdings.{FitsLog};
-ghost use Rattle.velo_world.specs.Steps.{IsNoFork};
-ghost use Rattle.velo_runtime.specs.Steps.{StepsIn, StepsForking};
+ghost use Rattle.velo_world.specs.World.{IsAlarm};
+ghost use Rattle.velo_world.specs.World.{halted_world};
+ghost use Rattle.velo_world.specs.World.{FitsLog};
+ghost use Rattle.velo_world.specs.World.{IsNoFork};
+ghost use Rattle.velo_runtime.specs.declared.wait.Turn.TheVariants as turn;
+ghost use Rattle.velo_runtime.specs.Rooms.{IsThere, opening_room};
+ghost use Rattle.velo_runtime.specs.Steps.{ActsIn, ForksIn, StepsIn, StepsForking};
+ghost use Rattle.velo_runtime.specs.Turns.{TakesTurn, TurnOf, TurnsIn, wanted_by};
+ghost use Rattle.velo_runtime.specs.Waits.{ComesBackIn, leads_to, wait_of};
 ghost use Rattle.velo_runtime.specs.Seats.{AreSeatsOf, is_of};
 
 use crate::seat::Seat;
+use crate::wait::{Turn, Wanted};
 use std::alloc::Global;
 use std::fmt;
 use std::fmt::{Debug, Formatter, Write};
 use std::marker::Model;
-use velo_events::{Action, Config, Memory, Refusal, Status, ThreadId};
+use velo_events::growth::filled;
+use velo_events::{Action, Bounds, Config, Memory, Refusal, Status, ThreadId};
 use velo_ledger::Shares;
 use velo_world::{Alarm, Closed, Reply, World};
 
-/// A world that threads share, each by its seat.
+/// A world that threads share, each by its seat, with what each of them waits for.
 #[derive(Drop)]
 pub struct Room {
     world: World,
+    /// What each thread waits for.
+    waits: Vec<Option<Wanted>>,
     /// An empty place for each thread's share. They are there from the start, so that closing takes no memory.
     places: Shares,
 }
 
 impl Model for Room {
     ghost use Rattle.std.specs.Prelude.{◌≡◌, None, replicate};
-    ghost use Rattle.velo_runtime.specs.Rooms.{RoomState};
+    ghost use Rattle.velo_runtime.specs.Rooms.{RoomState, AreWaitsWithin};
 
     ghost Value = { RoomState };
 
-    ghost view = { λ room. record { world = room.world } };
+    ghost view = { λ room. record { world = room.world; waits = room.waits.items } };
 
-    ghost invariant = { λ room. room.places ≡ replicate room.world.config.bounds.threads None };
+    ghost invariant = { λ room. (room.places ≡ replicate room.world.config.bounds.threads None)
+        × AreWaitsWithin room.world.config.bounds room.waits.items };
 }
 
 impl Debug for Room {
@@ -50,13 +59,26 @@ impl Debug for Room {
 impl Room {
     /// A room without events, and the seat of thread 0.
     pub(crate) fn open(alloc: Global, config: Config) -> Result<(Room, Seat), Memory>
-        ensures room { IfOk result (λ opened. opened.0.world ≡ opening config) }
+        ensures room { IfOk result (λ opened. opened.0 ≡ opening_room config) }
         ensures seat { IfOk result (λ opened. opened.1 ≡ opening_share config.run 0) }
         ensures memory { OnErr result GrowthRefused }
     {
         let (world, share) = World::new(alloc, config)?;
+        let waits = no_waits(alloc, config.bounds.threads)?;
         let places = Shares::none(alloc, config.bounds.threads)?;
-        Ok((Room { world, places }, Seat { share }))
+        let room = Room {
+            world,
+            waits,
+            places,
+        };
+        Ok((room, Seat { share }))
+    }
+
+    /// How many threads, variables and locks there are.
+    pub fn bounds(&self) -> Bounds
+        ensures { result ≡ self.now.world.config.bounds }
+    {
+        self.world.bounds()
     }
 
     /// The alarm, if the log has a cycle so far. Without a cycle, and only then, some reordering of the log is serial.
@@ -83,6 +105,13 @@ impl Room {
         self.world.log().len()
     }
 
+    /// Refuses every action from now on.
+    pub(crate) fn halt(&mut self)
+        ensures { self.new ≡ record self.old { world = halted_world self.old.world } }
+    {
+        self.world.halt();
+    }
+
     /// Ends the run, if the seats are one fitting seat of each thread that was born. It takes no memory.
     pub(crate) fn close(self, mut seats: Vec<Seat>) -> Result<Closed, (Room, Vec<Seat>)>
         ensures closed { IfOk result (λ closed. closed ≡ self.world) }
@@ -96,7 +125,11 @@ impl Room {
         if !self.are_all(seats.as_slice()) {
             return Err((self, seats));
         }
-        let Room { world, mut places } = self;
+        let Room {
+            world,
+            waits: _,
+            mut places,
+        } = self;
         while let Some(seat) = seats.pop() {
             if places.put(seat.share).is_err() {
                 unreachable!()
@@ -115,26 +148,84 @@ impl Room {
         self.world.fits(&seat.share)
     }
 
-    /// Does an action that is no fork, if the seat fits.
+    /// Does an action that is no fork, by a seat that fits.
     fn act(&mut self, seat: &mut Seat, action: Action) -> Result<Reply, Refusal>
-        requires { IsNoFork action }
-        ensures { StepsIn self.old seat.old action result self.new seat.new }
+        requires fork { IsNoFork action }
+        requires fits { FitsLog self.old.world seat.old }
+        ensures { ActsIn self.old seat.old action result self.new seat.new }
     {
-        if !self.fits(seat) {
-            return Err(Refusal::Foreign);
-        }
         self.world.act(&mut seat.share, action)
     }
 
-    /// Forks a thread, if the seat fits.
+    /// Forks a thread, by a seat that fits.
     fn fork(&mut self, seat: &mut Seat, child: ThreadId) -> Result<(Reply, Seat), Refusal>
-        ensures { StepsForking self.old seat.old child result self.new seat.new }
+        requires { FitsLog self.old.world seat.old }
+        ensures { ForksIn self.old seat.old child result self.new seat.new }
     {
-        if !self.fits(seat) {
-            return Err(Refusal::Foreign);
-        }
         let (reply, share) = self.world.fork(&mut seat.share, child)?;
         Ok((reply, Seat { share }))
+    }
+
+    /// Does an action that is no fork, or has the thread wait, by a seat that fits.
+    fn turn(&mut self, seat: &mut Seat, action: Action) -> Turn
+        requires fork { IsNoFork action }
+        requires fits { FitsLog self.old.world seat.old }
+        ensures { TakesTurn self.old seat.old action result self.new seat.new }
+    {
+        let thread = seat.share.thread();
+        let outcome = self.act(seat, action);
+        let (turn, wait) = self.settle(thread, action, outcome);
+        self.waits[usize::from(thread.0)] = wait;
+        turn
+    }
+
+    /// What a turn answers after the outcome of its step, and what its thread waits for then.
+    fn settle(
+        &self,
+        thread: ThreadId,
+        action: Action,
+        outcome: Result<Reply, Refusal>,
+    ) -> (Turn, Option<Wanted>)
+        requires { IfErr outcome (λ refusal. IfSome (wanted_by action refusal) (IsThere self.now.world.config.bounds)) }
+        ensures turn { TurnOf self.now thread action outcome result.0 result.1 }
+        ensures there { IfSome result.1 (IsThere self.now.world.config.bounds) }
+    {
+        let refusal = match outcome {
+            Ok(reply) => return (Turn::Done(reply), None),
+            Err(refusal) => refusal,
+        };
+        let Some(wanted) = wanted_by(action, refusal) else {
+            return (Turn::Refused(refusal), None);
+        };
+        if comes_back(self, thread, wanted) {
+            return (Turn::Refused(Refusal::WouldDeadlock), None);
+        }
+        (Turn::Wait, Some(wanted))
+    }
+
+    /// The thread that a wanted thing leads to.
+    fn leads_to(&self, wanted: Wanted) -> Option<ThreadId>
+        requires { IsThere self.now.world.config.bounds wanted }
+        ensures { option_map (λ t. t.0) result ≡ leads_to self.now.world.log wanted }
+    {
+        match wanted {
+            Wanted::Lock(m) => self.world.heap().holder(m),
+            Wanted::Thread(u) => match self.world.heap().status(u) {
+                Status::Unborn | Status::Live => Some(u),
+                Status::Exited | Status::Joined => None,
+            },
+        }
+    }
+
+    /// What a thread waits for.
+    fn wait_of(&self, thread: ThreadId) -> Option<Wanted>
+        ensures wait { result ≡ wait_of self.now.waits thread.0 }
+        ensures there { IfSome result (IsThere self.now.world.config.bounds) }
+    {
+        match self.waits.get(usize::from(thread.0)) {
+            None => None,
+            Some(wait) => *wait,
+        }
     }
 
     /// Whether each seat fits.
@@ -177,6 +268,14 @@ impl Room {
     }
 }
 
+/// A place for each thread, of which none waits.
+fn no_waits(alloc: Global, threads: u8) -> Result<Vec<Option<Wanted>>, Memory>
+    ensures waits { IfOk result (λ waits. waits.items ≡ replicate threads None) }
+    ensures memory { OnErr result GrowthRefused }
+{
+    filled(alloc, None, usize::from(threads))
+}
+
 /// How many of the seats are the thread's.
 fn count_of(seats: &[Seat], thread: ThreadId) -> usize
     ensures { result ≡ count_by (is_of thread.0) seats.now }
@@ -195,6 +294,9 @@ pub fn step_in(room: &mut Room, seat: &mut Seat, action: Action) -> Result<Reply
     ensures foreign { (result ≡ Err refusal.Foreign) ↔ ¬ FitsLog room.old.world seat.old }
     ensures memory { result ≡ Err refusal.Memory → GrowthRefused }
 {
+    if !room.fits(seat) {
+        return Err(Refusal::Foreign);
+    }
     room.act(seat, action)
 }
 
@@ -207,5 +309,59 @@ pub fn fork_in(room: &mut Room, seat: &mut Seat, child: ThreadId) -> Result<(Rep
     ensures foreign { (result ≡ Err refusal.Foreign) ↔ ¬ FitsLog room.old.world seat.old }
     ensures memory { result ≡ Err refusal.Memory → GrowthRefused }
 {
+    if !room.fits(seat) {
+        return Err(Refusal::Foreign);
+    }
     room.fork(seat, child)
+}
+
+/// Does one action of the seat's thread, where it is not a fork, or has the thread wait. The caller has the room, so this
+/// call itself waits for nobody: where it answers `Wait`, the same call is to be made again after another thread has acted.
+///
+/// In place of `Busy` (6) of an acquire and `NotExited` (13) of a join the thread waits, and the refusal is
+/// `WouldDeadlock` (20) where the chain of waits comes back to it. Every other refusal is that of `step_in`.
+pub fn turn_in(room: &mut Room, seat: &mut Seat, action: Action) -> Turn
+    requires { IsNoFork action }
+    ensures turn { TurnsIn room.old seat.old action result room.new seat.new }
+    ensures foreign { (result ≡ turn.Refused refusal.Foreign) ↔ ¬ FitsLog room.old.world seat.old }
+    ensures memory { result ≡ turn.Refused refusal.Memory → GrowthRefused }
+{
+    if !room.fits(seat) {
+        return Turn::Refused(Refusal::Foreign);
+    }
+    room.turn(seat, action)
+}
+
+/// Whether the chain of waits leads from what the caller wants back to the caller: a wanted lock leads to its holder, a
+/// wanted thread to itself unless it has exited, and a thread to what it waits for.
+pub fn comes_back(room: &Room, caller: ThreadId, wanted: Wanted) -> bool
+    requires { IsThere room.now.world.config.bounds wanted }
+    ensures { IsTrue result ↔ ComesBackIn room.now caller wanted }
+{
+    let mut next = Some(wanted);
+    // a chain in which no thread stands twice has at most one lead more than there are threads
+    for _ in 0..room.waits.len() + 1 {
+        let Some(wanted) = next else {
+            return false;
+        };
+        let Some(thread) = room.leads_to(wanted) else {
+            return false;
+        };
+        if thread.0 == caller.0 {
+            return true;
+        }
+        next = room.wait_of(thread);
+    }
+    false
+}
+
+/// What the action waits for, where the refusal may pass.
+fn wanted_by(action: Action, refusal: Refusal) -> Option<Wanted>
+    ensures { result ≡ wanted_by action refusal }
+{
+    match (refusal, action) {
+        (Refusal::Busy, Action::Acquire(m)) => Some(Wanted::Lock(m)),
+        (Refusal::NotExited, Action::Join(u)) => Some(Wanted::Thread(u)),
+        _ => None,
+    }
 }

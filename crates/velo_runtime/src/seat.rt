@@ -1,15 +1,18 @@
-ghost use Rattle.std.specs.Prelude.{◌≡◌, Err, IfOk, OnErr};
+ghost use Rattle.std.specs.Prelude.{◌≡◌, ◌≢◌, None, Err, IfOk, IfErr, OnErr};
 ghost use Rattle.velo_events.specs.declared.event.Kind.TheVariants as kind;
 ghost use Rattle.velo_events.specs.declared.refusal.Refusal.TheVariants as refusal;
 ghost use Rattle.velo_events.specs.Refusals.{GrowthRefused};
 ghost use Rattle.velo_ledger.specs.Shares.{opening_share};
-ghost use Rattle.velo_runtime.specs.Seats.{GainsEvent, GainsEventOf, is_of};
+ghost use Rattle.velo_world.specs.World.{IsNoFork};
+ghost use Rattle.velo_runtime.specs.Seats.{GainsEvent, GainsEventBy, GainsEventOf, is_of};
+ghost use Rattle.velo_runtime.specs.Turns.{wanted_by};
 
-use crate::room::{fork_in, step_in};
+use crate::room::{fork_in, turn_in};
 use crate::shared::Shared;
+use crate::wait::Turn;
 use std::marker::Model;
 use std::sync::Wait;
-use velo_events::{Action, Label, Refusal, ThreadId, VarId};
+use velo_events::{Action, Label, LockId, Refusal, ThreadId, VarId};
 use velo_ledger::Share;
 use velo_world::Reply;
 
@@ -27,8 +30,10 @@ impl Model for Seat {
     ghost view = { λ seat. seat.share };
 }
 
-/// Each of the calls that are passed `rt` takes the room's lock once. On a refusal, which is that of `step_in`, the seat
-/// is as it was.
+/// Each of the calls that are passed `rt` takes the room's lock, and does one action in one hold of it. On a refusal, which
+/// is that of `turn_in`, and for a fork that of `fork_in`, the seat is as it was.
+///
+/// No call may be made by a thread that has the room's guard: it would wait for itself.
 impl Seat {
     /// What the thread knows of its own events.
     pub fn share(&self) -> &Share
@@ -50,8 +55,7 @@ impl Seat {
         ensures unchanged { OnErr result (self.new ≡ self.old) }
         ensures memory { result ≡ Err refusal.Memory → GrowthRefused }
     {
-        let mut room = shared.room.lock(rt);
-        let reply = step_in(&mut room, self, Action::Read(x))?;
+        let reply = self.turn(rt, shared, Action::Read(x))?;
         let Some(value) = reply.value else {
             unreachable!()
         };
@@ -70,8 +74,36 @@ impl Seat {
         ensures unchanged { OnErr result (self.new ≡ self.old) }
         ensures memory { result ≡ Err refusal.Memory → GrowthRefused }
     {
-        let mut room = shared.room.lock(rt);
-        step_in(&mut room, self, Action::Write(x, value))
+        self.turn(rt, shared, Action::Write(x, value))
+    }
+
+    /// Acquires a lock. While another thread holds it, the call waits; it never answers `Busy` (6).
+    pub fn acquire<R: Wait>(
+        &mut self,
+        rt: &R,
+        shared: &Shared,
+        lock: LockId,
+    ) -> Result<Reply, Refusal>
+        ensures acquired { IfOk result (λ reply. GainsEventOf self.old self.new reply (kind.Acquire lock)) }
+        ensures waits { result ≢ Err refusal.Busy }
+        ensures unchanged { OnErr result (self.new ≡ self.old) }
+        ensures memory { result ≡ Err refusal.Memory → GrowthRefused }
+    {
+        self.turn(rt, shared, Action::Acquire(lock))
+    }
+
+    /// Releases a lock, and wakes the threads that wait.
+    pub fn release<R: Wait>(
+        &mut self,
+        rt: &R,
+        shared: &Shared,
+        lock: LockId,
+    ) -> Result<Reply, Refusal>
+        ensures released { IfOk result (λ reply. GainsEventOf self.old self.new reply (kind.Release lock)) }
+        ensures unchanged { OnErr result (self.new ≡ self.old) }
+        ensures memory { result ≡ Err refusal.Memory → GrowthRefused }
+    {
+        self.turn(rt, shared, Action::Release(lock))
     }
 
     /// Begins an atomic block.
@@ -85,8 +117,7 @@ impl Seat {
         ensures unchanged { OnErr result (self.new ≡ self.old) }
         ensures memory { result ≡ Err refusal.Memory → GrowthRefused }
     {
-        let mut room = shared.room.lock(rt);
-        step_in(&mut room, self, Action::Begin(label))
+        self.turn(rt, shared, Action::Begin(label))
     }
 
     /// Ends the innermost open block.
@@ -95,8 +126,7 @@ impl Seat {
         ensures unchanged { OnErr result (self.new ≡ self.old) }
         ensures memory { result ≡ Err refusal.Memory → GrowthRefused }
     {
-        let mut room = shared.room.lock(rt);
-        step_in(&mut room, self, Action::End)
+        self.turn(rt, shared, Action::End)
     }
 
     /// Forks a thread, and gives its seat.
@@ -115,4 +145,58 @@ impl Seat {
         let (_, seat) = fork_in(&mut room, self, child)?;
         Ok(seat)
     }
+
+    /// Joins a thread. Until it has exited, the call waits; it never answers `NotExited` (13).
+    pub fn join<R: Wait>(
+        &mut self,
+        rt: &R,
+        shared: &Shared,
+        thread: ThreadId,
+    ) -> Result<Reply, Refusal>
+        ensures joined { IfOk result (λ reply. GainsEventOf self.old self.new reply (kind.Join thread)) }
+        ensures waits { result ≢ Err refusal.NotExited }
+        ensures unchanged { OnErr result (self.new ≡ self.old) }
+        ensures memory { result ≡ Err refusal.Memory → GrowthRefused }
+    {
+        self.turn(rt, shared, Action::Join(thread))
+    }
+
+    /// Ends the thread, and wakes the threads that wait.
+    pub fn exit<R: Wait>(&mut self, rt: &R, shared: &Shared) -> Result<Reply, Refusal>
+        ensures exited { IfOk result (λ reply. GainsEventOf self.old self.new reply kind.Exit) }
+        ensures unchanged { OnErr result (self.new ≡ self.old) }
+        ensures memory { result ≡ Err refusal.Memory → GrowthRefused }
+    {
+        self.turn(rt, shared, Action::Exit)
+    }
+
+    /// One action, by holds of the lock until one does not answer that the thread has to wait.
+    #[tactic(auto, using(std::proofs::lemmas::Grind::common_steps, crate::proofs::OnTurns::turns))]
+    fn turn<R: Wait>(&mut self, rt: &R, shared: &Shared, action: Action) -> Result<Reply, Refusal>
+        requires { IsNoFork action }
+        ensures done { IfOk result (λ reply. GainsEventBy self.old self.new reply action) }
+        ensures unchanged { OnErr result (self.new ≡ self.old) }
+        ensures lasting { IfErr result (λ refusal. wanted_by action refusal ≡ None) }
+        ensures memory { result ≡ Err refusal.Memory → GrowthRefused }
+    {
+        let mut room = shared.room.lock(rt);
+        for _ in rt.forever() {
+            match turn_in(&mut room, self, action) {
+                Turn::Done(reply) => {
+                    if lets_go(action) || room.is_halted() {
+                        shared.wake_all();
+                    }
+                    return Ok(reply);
+                }
+                Turn::Refused(refusal) => return Err(refusal),
+                Turn::Wait => room = shared.wait(rt, room),
+            }
+        }
+        unreachable!()
+    }
+}
+
+/// Whether a waiting thread may go on after the action.
+fn lets_go(action: Action) -> bool {
+    matches!(action, Action::Release(_) | Action::Exit)
 }

@@ -9,7 +9,7 @@ use crate::seat::Seat;
 use std::alloc::Global;
 use std::fmt;
 use std::fmt::{Debug, Formatter, Write};
-use std::sync::Mutex;
+use std::sync::{Condvar, Mutex, MutexGuard, Wait};
 use thiserror::Error;
 use velo_events::{Config, Refusal};
 use velo_world::Closed;
@@ -17,8 +17,10 @@ use velo_world::Closed;
 /// A room under its lock, for any number of threads.
 #[derive(Drop)]
 pub struct Shared {
-    /// Whoever has the guard may do several actions in one hold, by `step_in` and `fork_in`.
+    /// Whoever has the guard may do several actions in one hold, by `step_in` and its like.
     pub room: Mutex<Room>,
+    /// Notified when a waiting thread may go on.
+    changed: Condvar,
 }
 
 impl Debug for Shared {
@@ -45,8 +47,29 @@ impl Shared {
         };
         let shared = Shared {
             room: Mutex::new(room),
+            changed: Condvar::new(),
         };
         Ok((shared, seat))
+    }
+
+    /// Refuses every action from now on, and wakes the threads that wait.
+    pub fn halt<R: Wait>(&self, rt: &R) {
+        self.room.lock(rt).halt();
+        self.wake_all();
+    }
+
+    /// Wakes the threads that wait: each tries its action again.
+    pub(crate) fn wake_all(&self) {
+        self.changed.notify_all();
+    }
+
+    /// Lets the room go until another thread has acted, and takes it again.
+    pub(crate) fn wait<'a, R: Wait>(
+        &self,
+        rt: &R,
+        room: MutexGuard<'a, Room>,
+    ) -> MutexGuard<'a, Room> {
+        self.changed.wait(rt, room)
     }
 }
 
@@ -74,11 +97,13 @@ pub fn close(shared: Shared, seats: Vec<Seat>) -> Result<Closed, Missing>
         length closed.log ≡ sum_by (λ seat. seat.tally.events) seats.items) }
     ensures back { IfErr result (λ missing. missing.seats ≡ seats) }
 {
-    match shared.room.into_inner().close(seats) {
+    let Shared { room, changed } = shared;
+    match room.into_inner().close(seats) {
         Ok(closed) => Ok(closed),
         Err((room, seats)) => Err(Missing {
             shared: Shared {
                 room: Mutex::new(room),
+                changed,
             },
             seats,
         }),

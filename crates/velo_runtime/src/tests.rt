@@ -1,10 +1,13 @@
-use crate::{Missing, Room, RunError, Seat, Shared, close, fork_in, step_in};
+use crate::{
+    Missing, Room, RunError, Seat, Shared, Turn, Wanted, close, comes_back, fork_in, step_in,
+    turn_in,
+};
 use std::alloc::Global;
 use std::process::Abort;
 use std::sync::Wait;
 use std::thread;
 use velo_events::{Action, Bounds, Config, Event, Kind, Label, LockId, Refusal, ThreadId, VarId};
-use velo_world::{Alarm, Closed};
+use velo_world::{Closed, Reply};
 
 const X: VarId = VarId(0);
 
@@ -52,11 +55,8 @@ fn is_the_lost_update(rt: &impl Abort, closed: &Closed) {
         by(0, Kind::Write(X, 1)),
     ];
     assert!(rt; closed.log().as_slice() == log.as_slice());
-    let alarm = Alarm {
-        position: 4,
-        transaction: 1,
-    };
-    assert!(rt; closed.alarm().copied() == Some(alarm));
+    let alarm = closed.alarm().expect(rt, "an alarm");
+    assert!(rt; alarm.position == 4 && alarm.transaction == 1);
     assert!(rt; closed.total() == 5);
 }
 
@@ -222,4 +222,155 @@ fn halted_goes_before_all_but_foreign(rt: HostRuntime) {
     refuses(&rt, &mut room, &mut first, Refusal::Halted);
     refuses(&rt, &mut room, &mut second, Refusal::Halted);
     refuses(&rt, &mut room, &mut foreign, Refusal::Foreign);
+}
+
+/// An action that is done, as an event at a position before any alarm.
+const fn done(position: usize) -> Turn {
+    Turn::Done(Reply {
+        position,
+        value: None,
+        alarmed: false,
+    })
+}
+
+/// A turn of a seat, where the action is not a fork.
+fn take_turn(room: &mut Room, seat: &mut Seat, action: Action) -> Option<Turn> {
+    match action {
+        Action::Fork(_) => None,
+        _ => Some(turn_in(room, seat, action)),
+    }
+}
+
+const LOCK: LockId = LockId(0);
+
+#[test]
+fn turns_wait_and_go_on(rt: HostRuntime) {
+    let (shared, mut first) = open(&rt, rt.alloc(), 1, 2, false);
+    let mut room = shared.room.lock(&rt);
+    let (_, mut second) = fork_in(&mut room, &mut first, ThreadId(1)).expect(&rt, "fork");
+    let turns = [
+        (false, Action::Acquire(LOCK), done(1)),
+        (true, Action::Acquire(LOCK), Turn::Wait),
+        // nobody waits for a thread that waits for it
+        (
+            false,
+            Action::Join(ThreadId(1)),
+            Turn::Refused(Refusal::WouldDeadlock),
+        ),
+        (
+            false,
+            Action::Acquire(LOCK),
+            Turn::Refused(Refusal::AlreadyHeld),
+        ),
+        (false, Action::Release(LOCK), done(2)),
+        (true, Action::Acquire(LOCK), done(3)),
+        // the second waits no more
+        (false, Action::Acquire(LOCK), Turn::Wait),
+        (
+            true,
+            Action::Join(ThreadId(1)),
+            Turn::Refused(Refusal::WouldDeadlock),
+        ),
+    ];
+    for (by_second, action, turn) in turns {
+        let seat = if by_second { &mut second } else { &mut first };
+        assert!(rt; take_turn(&mut room, seat, action) == Some(turn));
+    }
+}
+
+/// Whether a thread waits for what the caller has.
+fn is_awaited(room: &Room, caller: ThreadId, thread: ThreadId) -> bool {
+    thread.0 < room.bounds().threads && comes_back(room, caller, Wanted::Thread(thread))
+}
+
+/// Looks at the room until the thread waits for the caller, or until it does not. Answers false after many looks.
+fn sees(rt: &impl Wait, shared: &Shared, caller: u8, thread: u8, waiting: bool) -> bool {
+    for _ in 0..1_000_000u32 {
+        {
+            let room = shared.room.lock(rt);
+            if is_awaited(&room, ThreadId(caller), ThreadId(thread)) == waiting {
+                return true;
+            }
+        }
+        thread::yield_now();
+    }
+    false
+}
+
+/// Whether the thread, which waited for the caller, goes on by itself. Else it is woken, so that no test waits forever.
+fn goes_on(rt: &impl Wait, shared: &Shared, caller: u8, thread: u8) -> bool {
+    let went_on = sees(rt, shared, caller, thread, false);
+    if !went_on {
+        shared.wake_all();
+    }
+    went_on
+}
+
+/// Releases the lock once the second thread waits for it, and joins that thread.
+fn release_and_join(rt: &impl Wait, shared: &Shared, first: &mut Seat) -> bool {
+    let awaited = sees(rt, shared, 0, 1, true);
+    let released = first.release(rt, shared, LOCK).is_ok();
+    let woken = goes_on(rt, shared, 0, 1);
+    awaited && released && woken && first.join(rt, shared, ThreadId(1)).is_ok()
+}
+
+/// Acquires the lock and releases it, and exits once the first thread waits for the exit.
+fn acquire_and_exit(rt: &impl Wait, shared: &Shared, second: &mut Seat) -> bool {
+    let acquired = second.acquire(rt, shared, LOCK).is_ok();
+    let released = second.release(rt, shared, LOCK).is_ok();
+    let awaited = sees(rt, shared, 1, 0, true);
+    let exited = second.exit(rt, shared).is_ok();
+    acquired && released && awaited && exited && goes_on(rt, shared, 1, 0)
+}
+
+#[test]
+fn a_release_and_an_exit_wake(rt: HostRuntime) {
+    let (shared, mut first) = open(&rt, rt.alloc(), 1, 2, false);
+    let mut second = first.fork(&rt, &shared, ThreadId(1)).expect(&rt, "fork");
+    assert!(rt; first.acquire(&rt, &shared, LOCK).is_ok());
+    let woken = thread::join(
+        &rt,
+        || release_and_join(&rt, &shared, &mut first),
+        || acquire_and_exit(&rt, &shared, &mut second),
+    );
+    assert!(rt; woken == (true, true));
+
+    let seats = vec![in rt.alloc(); first, second].expect(&rt, "memory");
+    assert!(rt; close(shared, seats).expect(&rt, "closed").total() == 7);
+}
+
+/// Halts the world once the second thread waits: by an alarm, or outright.
+fn halt_once_awaited(rt: &impl Wait, shared: &Shared, first: &mut Seat, by_alarm: bool) -> bool {
+    let awaited = sees(rt, shared, 0, 1, true);
+    if by_alarm {
+        let written = first.write(rt, shared, X, 1);
+        awaited && written.is_ok() && goes_on(rt, shared, 0, 1)
+    } else {
+        shared.halt(rt);
+        awaited && goes_on(rt, shared, 0, 1)
+    }
+}
+
+#[test]
+fn a_halt_wakes(rt: HostRuntime) {
+    for by_alarm in [false, true] {
+        let (shared, mut first) = open(&rt, rt.alloc(), 1, 2, true);
+        let mut second = first.fork(&rt, &shared, ThreadId(1)).expect(&rt, "fork");
+        if by_alarm {
+            assert!(rt; first.begin(&rt, &shared, Label(1)).is_ok());
+            assert!(rt; first.read(&rt, &shared, X).is_ok());
+            assert!(rt; second.write(&rt, &shared, X, 5).is_ok());
+        }
+        assert!(rt; first.acquire(&rt, &shared, LOCK).is_ok());
+        let (waited, woken) = thread::join(
+            &rt,
+            || second.acquire(&rt, &shared, LOCK),
+            || halt_once_awaited(&rt, &shared, &mut first, by_alarm),
+        );
+        assert!(rt; woken && waited == Err(Refusal::Halted));
+
+        let seats = vec![in rt.alloc(); first, second].expect(&rt, "memory");
+        let closed = close(shared, seats).expect(&rt, "closed");
+        assert!(rt; closed.total() == if by_alarm { 6 } else { 2 });
+    }
 }

@@ -1,22 +1,24 @@
-ghost use Rattle.std.specs.Prelude.{◌≡◌, length, IfOk};
+ghost use Rattle.std.specs.Prelude.{◌≡◌, ◌<◌, length, IfOk};
 ghost use Rattle.velo_tables.specs.Kept.{HasItsThreads};
+ghost use Rattle.velo_tables.specs.Noted.{IsOfThreads};
 
-use crate::Tables;
+use crate::{ClockTables, Tables};
 use std::alloc::Global;
 use std::test::Fail;
 use velo_arena::Step;
 use velo_events::{Bounds, Config, Event, Kind, Label, LockId, ThreadId, VarId};
 
+const BOUNDS: Bounds = Bounds {
+    threads: 4,
+    variables: 3,
+    locks: 2,
+};
+
 /// The tables of a run of four threads.
 fn tables_of_four(alloc: Global) -> Result<Tables, Fail>
     ensures { IfOk result (λ tables. length tables.threads ≡ 4) }
 {
-    let bounds = Bounds {
-        threads: 4,
-        variables: 3,
-        locks: 2,
-    };
-    let config = Config::new(1, bounds, 100, 10, false)?;
+    let config = Config::new(1, BOUNDS, 100, 10, false)?;
     let tables = Tables::new(alloc, &config)?;
     Ok(tables)
 }
@@ -123,5 +125,33 @@ fn a_lock_has_one_last_event(rt: HostRuntime) -> Result<(), Fail> {
     assert_eq!(rt; tables.last_on(LockId(1)), Some(at(2)));
     assert_eq!(rt; tables.last_write(X), None);
     assert_eq!(rt; tables.last_read(X, ThreadId(3)), None);
+    Ok(())
+}
+
+/// Makes room in the clocks for the event and notes it.
+fn note_clock(clocks: &mut ClockTables, position: u32, event: Event) -> Result<(), Fail>
+    requires known { IsOfThreads (length clocks.old.threads) event }
+    requires early { position < 100 }
+    ensures { length clocks.new.threads ≡ length clocks.old.threads }
+{
+    clocks.reserve_for(&event)?;
+    clocks.note(position, &event);
+    Ok(())
+}
+
+#[test]
+fn the_own_thread_is_known_through_others(rt: HostRuntime) -> Result<(), Fail> {
+    let config = Config::new(1, BOUNDS, 100, 10, false)?;
+    let mut clocks = ClockTables::new(rt.alloc(), &config)?;
+    note_clock(&mut clocks, 0, by(0, Kind::Fork(ThreadId(1))))?;
+    note_clock(&mut clocks, 1, by(0, Kind::Begin(Label(1))))?;
+    note_clock(&mut clocks, 2, by(0, Kind::Write(X, 1)))?;
+    note_clock(&mut clocks, 3, by(0, Kind::Begin(Label(2))))?;
+    note_clock(&mut clocks, 4, by(0, Kind::Write(Y, 1)))?;
+    assert_eq!(rt; clocks.bound(&by(0, Kind::Write(X, 2))), 0);
+    note_clock(&mut clocks, 5, by(1, Kind::Read(X, 1)))?;
+    assert_eq!(rt; clocks.bound(&by(0, Kind::Write(X, 2))), 3);
+    note_clock(&mut clocks, 6, by(1, Kind::Exit))?;
+    assert_eq!(rt; clocks.bound(&by(0, Kind::Join(ThreadId(1)))), 3);
     Ok(())
 }

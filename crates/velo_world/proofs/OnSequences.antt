@@ -21,12 +21,12 @@ use Rattle.velo_ledger.specs.Tally.{with_event}
 use Rattle.velo_ledger.specs.Views.{Holding}
 use Rattle.velo_ledger.specs.Book.{IsFilled, with_tally}
 use Rattle.velo_ledger.specs.Shares.{opening_share, share_at}
-use Rattle.velo_ledger.proofs.Places.{slice_get-set_same, slice_get-set_other}
+use Rattle.velo_events.proofs.OnLists.{slice_get-set_same, slice_get-set_other}
 use Rattle.velo_world.specs.declared.run.Reply.{Reply}
 use Rattle.velo_world.specs.World.{WorldState, FitsLog, IsUnborn, IsLiveThread, HasShare, HoldsLiveShares, CompletesShares, Acts, with_born, StepsTo, RunsTo}
 use Rattle.velo_world.specs.Kept.{KeepsUnborn, with_share, born_by, Performs}
 use Rattle.velo_world.proofs.OnAnswers.{MayFollow-meaning}
-use Rattle.velo_world.proofs.OnStatuses.{is_Unborn, unborn-before, live-before, unborn-same, actor-born, forked-after, forked-before}
+use Rattle.velo_events.proofs.OnStatuses.{is_Unborn, unborn-before, live-before, unborn-same, actor-born, forked-after, forked-before}
 use Rattle.velo_world.proofs.OnHoldings.{longer, FitsLog-own, FitsLog-other}
 use Rattle.velo_world.proofs.OnSteps.{world_is}
 

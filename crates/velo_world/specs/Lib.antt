@@ -1,7 +1,3 @@
-pub mod Owners
-pub mod Marks
-pub mod GraphState
-pub mod Observed
 pub mod World
 pub mod Kept
 pub mod Run

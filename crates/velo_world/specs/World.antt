@@ -1,5 +1,5 @@
 -- A world as callers see it: its log tells heap, alarm and book, and an action is one event or a refusal.
-use Rattle.std.specs.Prelude.{◌≡◌, ◌≢◌, ◌≤◌, ◌<◌, ◌↔◌, ◌⊎◌, ◌&&◌, ℕ, Bool, true, false, List, [], ◌∷◌, ◌++◌, length, ⊤, Option, Some, None, Result, Ok, Err, IsOk, IsTrue, slice_get, slice_set, sum_by, map}
+use Rattle.std.specs.Prelude.{◌≡◌, ◌≢◌, ◌≤◌, ◌<◌, ◌↔◌, ◌⊎◌, ◌&&◌, ℕ, Bool, true, false, List, [], ◌∷◌, ◌++◌, length, ⊤, Option, Some, None, Result, Ok, Err, IsOk, IsTrue, slice_get, slice_set, sum_by, map, take}
 use Rattle.velo_events.specs.declared.config.Config.{Config}
 use Rattle.velo_events.specs.declared.event.Action.{Action}
 use Rattle.velo_events.specs.declared.event.Action.TheVariants.{Fork}
@@ -9,10 +9,12 @@ use Rattle.velo_events.specs.declared.event.Kind.TheVariants.{Read}
 use Rattle.velo_events.specs.declared.event.Status.TheVariants.{Unborn, Live}
 use Rattle.velo_events.specs.declared.event.ThreadId.{ThreadId}
 use Rattle.velo_events.specs.declared.refusal.Refusal.{Refusal}
-use Rattle.velo_events.specs.declared.refusal.Refusal.TheVariants.{Memory}
+use Rattle.velo_events.specs.declared.refusal.Refusal.TheVariants.{GraphFull, Memory}
 use Rattle.velo_events.specs.Block.{owner}
+use Rattle.velo_events.specs.Collection.{HasManyLive}
+use Rattle.velo_events.specs.Event.{thread_of}
 use Rattle.velo_events.specs.Graph.{HasCycle, IsClosing}
-use Rattle.velo_events.specs.Heap.{status_in}
+use Rattle.velo_events.specs.Heap.{depth_in, status_in}
 use Rattle.velo_events.specs.Meaning.{answer_to, event_for}
 use Rattle.velo_events.specs.Refusals.{GrowthRefused}
 use Rattle.velo_ledger.specs.Book.{with_tally}
@@ -56,6 +58,10 @@ pub record IsAlarm (log : List Event) (alarm : Alarm) : Type 0 where
 abbrev pub AlarmOf : List Event → Option Alarm → Type 0
 AlarmOf log None = ¬ HasCycle log
 AlarmOf log (Some alarm) = IsAlarm log alarm
+
+-- the events whose graph is kept: the whole log while it has no cycle, else those before the closing event
+pub record IsWatchedPart (log trace : List Event) : Type 0 where
+  pub part : ((¬ HasCycle log) × (trace ≡ log)) ⊎ ((p : ℕ) × IsClosing log p × (trace ≡ take p log))
 
 -- ---- the book, and the shares of the threads
 
@@ -132,11 +138,25 @@ pub record AddsEvent (w : WorldState) (share : Holding) (e : Event) (reply : Rep
   pub holding : share' ≡ with_tally share (with_event share.tally (length w.log) e)
   pub later : share.tally.next ≤ reply.position
 
--- nothing changed, shares neither, and the refusal is the one that is due, or memory for the due event was refused
+-- an event after the log may find no node: no alarm is kept, the event's thread has no block open, and at least as many
+-- transactions are live as there may be nodes
+pub record FindsNoNode (log : List Event) (e : Event) (nodes : ℕ) : Type 0 where
+  pub no_alarm : ¬ HasCycle log
+  pub outside : depth_in log (thread_of e) ≡ 0
+  pub many_live : HasManyLive log nodes
+
+-- an event is due, and may find no node
+pub record FillsGraph (w : WorldState) (due : Result Event Refusal) : Type 0 where
+  pub event : Event
+  pub is_due : due ≡ Ok event
+  pub finds_none : FindsNoNode w.log event w.config.nodes
+
+-- nothing changed, shares neither, and the refusal is the one that is due; or memory for the due event was refused, or the
+-- graph is full
 pub record Refuses {X : Type 0} (w : WorldState) (held : X) (due : Result Event Refusal) (refusal : Refusal) (w' : WorldState) (held' : X) : Type 0 where
   pub world : w' ≡ w
   pub holding : held' ≡ held
-  pub cause : (due ≡ Err refusal) ⊎ ((refusal ≡ Memory) × (IsOk due × GrowthRefused))
+  pub cause : (due ≡ Err refusal) ⊎ (((refusal ≡ Memory) × (IsOk due × GrowthRefused)) ⊎ ((refusal ≡ GraphFull) × FillsGraph w due))
 
 -- an action of the share's thread: the one event that it is, or a refusal
 abbrev pub Acts : WorldState → Holding → Action → Result Reply Refusal → WorldState → Holding → Type 0

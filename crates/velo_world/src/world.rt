@@ -1,7 +1,10 @@
 ghost use Rattle.velo_events.specs.Refusals.{GrowthRefused};
-ghost use Rattle.std.specs.Prelude.{◌≡◌, ◌≤◌, ◌<◌, ◌↔◌, ◌∷◌, ◌++◌, [], ℕ, length, None, Some, IfOk, IfSome, IfNone, OnErr, IsTrue, slice_get, slice_set};
+ghost use Rattle.std.specs.Prelude.{◌≡◌, List, ◌≤◌, ◌<◌, ◌↔◌, ◌∷◌, ◌++◌, [], ℕ, length, None, Some, IfOk, IfSome, IfNone, OnErr, IsTrue, slice_get, slice_set};
 ghost use Rattle.velo_events.specs.declared.event.Action.TheVariants.{Fork};
 ghost use Rattle.velo_events.specs.declared.limits.TheConstants.{MOST_EVENTS};
+ghost use Rattle.velo_events.specs.declared.event.Event.{Event as EventOf};
+ghost use Rattle.velo_events.specs.Block.{IsTransaction};
+ghost use Rattle.velo_events.specs.Collection.{IsAccountedFor, IsGivenUp, IsHarmless};
 ghost use Rattle.velo_events.specs.Graph.{HasCycle};
 ghost use Rattle.velo_events.specs.Reordering.{IsSerializable};
 ghost use Rattle.velo_events.specs.WellFormed.{IsWellFormed, MayFollow};
@@ -9,9 +12,12 @@ ghost use Rattle.velo_heap.specs.Contents.{bounds_of, IsHeapOf};
 ghost use Rattle.velo_ledger.specs.Tally.{with_event};
 ghost use Rattle.velo_ledger.specs.Book.{FitsBook, IsFilled, with_row, with_tally};
 ghost use Rattle.velo_ledger.specs.Shares.{AreInPlace, events_in_all, opening_share, share_at};
-ghost use Rattle.velo_world.specs.World.{IsAlarm, opening, halted_world, meaning, FitsLog, OthersStillFit, IsBookOf, IsBorn, IsLiveThread, HoldsLiveShares, CompletesShares, IsNoFork, Replies, Acts, Forks, Closes, StepsTo, RunsTo};
+ghost use Rattle.velo_arena.specs.Slots.{limit_of};
+ghost use Rattle.velo_arena.specs.Stamps.{stamps_in};
+ghost use Rattle.velo_monitor.specs.Watched.{IsMonitorOf};
+ghost use Rattle.velo_world.specs.World.{IsAlarm, IsWatchedPart, opening, halted_world, meaning, FitsLog, OthersStillFit, IsBookOf, IsBorn, IsLiveThread, HoldsLiveShares, CompletesShares, IsNoFork, Replies, Acts, Forks, Closes, StepsTo, RunsTo};
 ghost use Rattle.velo_world.specs.Kept.{PlaceIsRight, Performs, left_by, taken_by, with_share};
-ghost use Rattle.velo_world.specs.Run.{IsRunOfItsLog, HasRoom};
+ghost use Rattle.velo_world.specs.Run.{IsRunOfItsLog, HasRoomForNext};
 
 use crate::closed::Closed;
 use crate::run::{Alarm, Reply, Run};
@@ -22,6 +28,7 @@ use velo_events::growth::reserve;
 use velo_events::{Action, Bounds, Config, Event, Memory, Refusal, Status, ThreadId};
 use velo_heap::Heap;
 use velo_ledger::{Book, Share, Shares};
+use velo_monitor::Monitor;
 use velo_traces::Trace;
 
 /// The log of a run with the heap that it leaves, an alarm once the log has a cycle, and a book of the threads' events.
@@ -91,8 +98,8 @@ impl World {
     /// Does an action of the share's thread, which is one event at the end of the log. The shares that fitted fit again.
     ///
     /// # Errors
-    /// The first refusal that applies: `Halted` (1), those of the heap (2 to 16), `LogFull` (17), `Memory` (19). Nothing
-    /// changes then, the share neither.
+    /// The first refusal that applies: `Halted` (1), those of the heap (2 to 16), `LogFull` (17), `GraphFull` (18), which an
+    /// event inside a block or after an alarm never meets, `Memory` (19). Nothing changes then, the share neither.
     pub fn act(&mut self, share: &mut Share, action: Action) -> Result<Reply, Refusal>
         requires fork { IsNoFork action }
         requires fits { FitsLog self.old share.old }
@@ -219,6 +226,17 @@ impl World {
         &self.run.heap
     }
 
+    /// The graph of the log's transactions; with an alarm, of those before it. A transaction that it gave up is on no cycle,
+    /// however the run goes on.
+    pub fn monitor(&self) -> &Monitor
+        ensures stands { (trace : List EventOf) → IsWatchedPart self.now.log trace → IsMonitorOf self.now.config.bounds result.now trace }
+        ensures accounted { (trace : List EventOf) → IsWatchedPart self.now.log trace → (a : ℕ) → IsTransaction trace a → IsAccountedFor trace (stamps_in result.now.nodes.slots) a }
+        ensures given_up { (trace : List EventOf) → IsWatchedPart self.now.log trace → (a : ℕ) → IsGivenUp trace (stamps_in result.now.nodes.slots) a → IsHarmless self.now.config.bounds trace a }
+        ensures limit { limit_of result.now.nodes.slots ≡ self.now.config.nodes }
+    {
+        &self.run.monitor
+    }
+
     /// The book of the log, with a row for each thread.
     pub fn book(&self) -> &Book
         ensures { IsBookOf self.now result.now }
@@ -298,7 +316,10 @@ impl World {
         ensures others { OthersStillFit self.old share.old.thread self.new }
     {
         let event = self.decide(share.thread(), action)?;
-        if self.run.reserve_one().is_err() {
+        if self.run.has_no_node_for(&event, self.config.nodes) {
+            return Err(Refusal::GraphFull);
+        }
+        if self.run.reserve_for(&event).is_err() {
             return Err(Refusal::Memory);
         }
         let born = take_forked(&mut self.kept, action);
@@ -346,7 +367,7 @@ impl World {
 /// Takes in an admitted event of the share's thread, for which there is room, and enters it in book and share.
 fn commit(run: &mut Run, book: &mut Book, share: &mut Share, event: Event) -> Reply
     requires follows { IsRunOfItsLog run.old }
-    requires room { HasRoom run.old }
+    requires room { HasRoomForNext run.old event }
     requires admitted { MayFollow (bounds_of run.old.heap) run.old.log.events event }
     requires fits { FitsBook book.old share.old }
     requires own { event.thread ≡ share.old.thread }
@@ -354,6 +375,7 @@ fn commit(run: &mut Run, book: &mut Book, share: &mut Share, event: Event) -> Re
     requires short { length run.old.log.events < MOST_EVENTS }
     ensures log { run.new.log.events ≡ run.old.log.events ++ event ∷ [] }
     ensures bounds { bounds_of run.new.heap ≡ bounds_of run.old.heap }
+    ensures nodes { limit_of run.new.monitor.nodes.slots ≡ limit_of run.old.monitor.nodes.slots }
     ensures follows { IsRunOfItsLog run.new }
     ensures reply { Replies run.old.log.events event result }
     ensures book { book.new ≡ with_row book.old share.old.thread

@@ -1,4 +1,3 @@
-use Rattle.std.proofs.Common.{◌<◌, arith}
 use Rattle.velo_rows.proofs.OnBits.{IsEnd-here}
 use Rattle.velo_rows.proofs.words.end_of_bits.Goals as goal
 

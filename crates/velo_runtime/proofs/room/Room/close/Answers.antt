@@ -8,7 +8,7 @@ use Rattle.velo_runtime.proofs.room.Room.close.Goals as goal
 pub loop-seat-init : goal.loop-seat-init
 loop-seat-init c =
     let are : AreSeatsOf c.self.inside.world c.args.seats.items = grind (arith, common_steps) in
-    rw c.self.invariant (Filling-start c.self.inside.world c.args.seats.items are)
+    rw c.self.invariant.0 (Filling-start c.self.inside.world c.args.seats.items are)
 
 pub unreachable-requires : goal.unreachable-requires
 unreachable-requires c =

@@ -1,0 +1,180 @@
+ghost use Rattle.std.specs.Prelude.{◌<◌, IfOk, IsTrue};
+ghost use Rattle.velo_arena.specs.Slots.{used_in, limit_of};
+ghost use Rattle.velo_events.specs.WellFormed.{IsWellFormed};
+
+use super::{Monitor, Seen};
+use std::alloc::Global;
+use std::process::Abort;
+use std::test::Fail;
+use velo_events::{Bounds, Config, Event, Kind, Label, MOST_EVENTS, ThreadId, VarId};
+use velo_graph::Graph;
+use velo_rows::BitRow;
+use velo_traces::{Trace, well_formed};
+
+const BOUNDS: Bounds = Bounds {
+    threads: 2,
+    variables: 1,
+    locks: 0,
+};
+
+const X: VarId = VarId(0);
+
+/// A node as the tests see it: its stamp, whether it has finished, and the stamps of its ancestors.
+type Node<'a> = (u32, bool, &'a [u32]);
+
+/// An event with whether it needs a node, the answer to it, and the nodes afterwards.
+type Row<'a> = (u8, Kind, bool, Seen, &'a [Node<'a>]);
+
+/// The slot in use with the stamp.
+fn slot_of(graph: &Graph<BitRow>, stamp: u32) -> Option<u16> {
+    for slot in 0..graph.limit() {
+        if graph.is_used(slot) && graph.stamp_of(slot) == stamp {
+            return Some(slot);
+        }
+    }
+    None
+}
+
+/// Whether the first node is the second, or an ancestor of it.
+fn reaches(rt: &impl Abort, graph: &Graph<BitRow>, from: u32, to: u32) -> bool {
+    let from = slot_of(graph, from).expect(rt, "no such node");
+    let to = slot_of(graph, to).expect(rt, "no such node");
+    assert!(rt; graph.is_used(from) && graph.is_used(to));
+    graph.reaches(from, to)
+}
+
+/// Looks at all nodes in use.
+fn look(rt: &impl Abort, monitor: &Monitor, nodes: &[Node]) {
+    let graph = &monitor.graph;
+    assert_eq!(rt; monitor.used() as usize, nodes.len());
+    for (stamp, finished, ancestors) in nodes {
+        let slot = slot_of(graph, *stamp).expect(rt, "no such node");
+        assert_eq!(rt; graph.finished(slot), *finished, "{stamp}");
+        for (other, _, _) in nodes {
+            let is_ancestor = other == stamp || ancestors.contains(other);
+            assert_eq!(rt;
+                reaches(rt, graph, *other, *stamp),
+                is_ancestor,
+                "{other} {stamp}"
+            );
+        }
+    }
+}
+
+/// Whether there is a free slot, if one is needed.
+fn has_slot(monitor: &Monitor, needs_node: bool) -> bool
+    ensures { IsTrue result → IsTrue needs_node → used_in monitor.now.nodes.slots < limit_of monitor.now.nodes.slots }
+{
+    !needs_node || monitor.used() < monitor.graph.limit()
+}
+
+/// The events of the rows as a trace, which can come about.
+fn trace_of(alloc: Global, rows: &[Row]) -> Result<Trace, Fail>
+    ensures { IfOk result (λ trace. IsWellFormed BOUNDS trace.events) }
+{
+    let mut trace = Trace::new(alloc);
+    for (thread, kind, _, _, _) in rows {
+        trace.push(Event {
+            thread: ThreadId(*thread),
+            kind: *kind,
+        })?;
+    }
+    match well_formed(&trace, BOUNDS) {
+        Ok(()) => Ok(trace),
+        Err(_) => Err("not well-formed".into()),
+    }
+}
+
+/// Lets a monitor of so many nodes observe the events up to the one that closes a cycle, and looks at it after each.
+fn play(rt: &impl Abort, alloc: Global, nodes: u16, rows: &[Row]) -> Result<(), Fail> {
+    let config = Config::new(1, BOUNDS, 100, nodes, false)?;
+    let mut monitor = Monitor::new(alloc, &config)?;
+    let trace = trace_of(alloc, rows)?;
+    let events = trace.as_slice();
+    assert_eq!(rt; events.len(), rows.len());
+    assert!(rt; events.len() < MOST_EVENTS as usize);
+    for i in 0..events.len() {
+        let event = events[i];
+        let (_, _, needs, seen, after) = rows[i];
+        monitor.reserve(&event)?;
+        let needs_node = monitor.needs_node(&event);
+        assert_eq!(rt; needs_node, needs, "{i}");
+        assert!(rt; has_slot(&monitor, needs_node));
+        let answer = monitor.observe(i, &event);
+        assert_eq!(rt; answer, seen, "{i}");
+        look(rt, &monitor, after);
+        match answer {
+            Seen::Quiet => {}
+            Seen::Closes { .. } => return Ok(()),
+        }
+    }
+    Ok(())
+}
+
+/// Three reads outside blocks of what an open block wrote share a node, which goes with the block.
+#[test]
+fn reads_are_merged(rt: HostRuntime) -> Result<(), Fail> {
+    let open: &[Node] = &[(1, false, &[])];
+    let merged: &[Node] = &[(1, false, &[]), (3, true, &[1])];
+    play(
+        &rt,
+        rt.alloc(),
+        2,
+        &[
+            (0, Kind::Fork(ThreadId(1)), false, Seen::Quiet, &[]),
+            (0, Kind::Begin(Label(1)), true, Seen::Quiet, open),
+            (0, Kind::Write(X, 1), false, Seen::Quiet, open),
+            (1, Kind::Read(X, 1), true, Seen::Quiet, merged),
+            (1, Kind::Read(X, 1), false, Seen::Quiet, merged),
+            (1, Kind::Read(X, 1), false, Seen::Quiet, merged),
+            (0, Kind::End, false, Seen::Quiet, &[]),
+        ],
+    )
+}
+
+/// A read of what an open block wrote is not merged into that block: the block's next write closes a cycle.
+#[test]
+fn no_merge_into_an_open_block(rt: HostRuntime) -> Result<(), Fail> {
+    let open: &[Node] = &[(1, false, &[])];
+    let read: &[Node] = &[(1, false, &[]), (3, true, &[1])];
+    play(
+        &rt,
+        rt.alloc(),
+        2,
+        &[
+            (0, Kind::Fork(ThreadId(1)), false, Seen::Quiet, &[]),
+            (0, Kind::Begin(Label(1)), true, Seen::Quiet, open),
+            (0, Kind::Write(X, 1), false, Seen::Quiet, open),
+            (1, Kind::Read(X, 1), true, Seen::Quiet, read),
+            (
+                0,
+                Kind::Write(X, 2),
+                false,
+                Seen::Closes { transaction: 1 },
+                read,
+            ),
+        ],
+    )
+}
+
+/// A step of a block that has gone doesn't resolve, though its slot is used again.
+#[test]
+fn slots_are_used_again(rt: HostRuntime) -> Result<(), Fail> {
+    let first: &[Node] = &[(1, false, &[])];
+    let second: &[Node] = &[(4, false, &[])];
+    play(
+        &rt,
+        rt.alloc(),
+        1,
+        &[
+            (0, Kind::Fork(ThreadId(1)), false, Seen::Quiet, &[]),
+            (0, Kind::Begin(Label(1)), true, Seen::Quiet, first),
+            (0, Kind::Write(X, 1), false, Seen::Quiet, first),
+            (0, Kind::End, false, Seen::Quiet, &[]),
+            (1, Kind::Begin(Label(2)), true, Seen::Quiet, second),
+            (0, Kind::Read(X, 1), false, Seen::Quiet, second),
+            (1, Kind::Write(X, 2), false, Seen::Quiet, second),
+            (1, Kind::End, false, Seen::Quiet, &[]),
+        ],
+    )
+}

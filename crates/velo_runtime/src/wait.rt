@@ -1,0 +1,22 @@
+use velo_events::{LockId, Refusal, ThreadId};
+use velo_world::Reply;
+
+/// What a thread waits for.
+#[derive(Clone, Copy, Debug, PartialEq, Eq)]
+pub enum Wanted {
+    /// That its holder releases the lock.
+    Lock(LockId),
+    /// That the thread exits.
+    Thread(ThreadId),
+}
+
+/// What a turn came to.
+#[derive(Clone, Copy, Debug, PartialEq, Eq)]
+pub enum Turn {
+    /// The action is an event of the log.
+    Done(Reply),
+    /// Nothing was done, and the thread waits for nothing.
+    Refused(Refusal),
+    /// Nothing was done yet: the thread waits until the lock is free, or the thread to join has exited.
+    Wait,
+}
