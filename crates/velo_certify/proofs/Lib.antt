@@ -7,3 +7,5 @@ pub mod OnDistances
 pub mod OnNearest
 pub mod OnCycles
 pub mod OnSerial
+pub mod OnPrefixes
+pub mod OnReordered

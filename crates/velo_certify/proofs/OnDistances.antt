@@ -9,10 +9,10 @@ use Rattle.velo_events.specs.declared.event.Event.{Event}
 use Rattle.velo_events.specs.Block.{owner}
 use Rattle.velo_events.specs.Graph.{Path, Reaches, conflict_at, Edge}
 use Rattle.velo_events.proofs.OnReorderings.{conflict_at-within}
-use Rattle.velo_certify.specs.Table.{Tabulates, numbers_from, IsGreatestAfter, TakesIn, AreBlank}
+use Rattle.velo_certify.specs.Table.{HasNumbers, numbers_from, IsGreatestAfter, TakesIn, AreBlank}
 use Rattle.velo_certify.specs.declared.table.Table.{Table}
-use Rattle.velo_certify.specs.Distances.{AreDistances, SpreadsFrom, Spreads, HasLevels, on_level, unreached}
-use Rattle.velo_certify.proofs.OnRows.{Tabulates-none}
+use Rattle.velo_certify.specs.Distances.{AreDistances, FindsLevelFrom, FindsLevel, HasLevels, on_level, unreached}
+use Rattle.velo_certify.proofs.OnRows.{HasNumbers-none}
 
 cases_zero : (n : ℕ) → (n ≡ 0) ⊎ (0 < n)
 cases_zero zero = inl refl
@@ -32,7 +32,7 @@ on_level-from trace far level i h = ⊎_elim (λ e. e) (λ e. absurd (let none =
 -- ---- one event
 
 -- a number is that of the level at the beginning, or now
-pub level-same : (trace : List Event) (level n : ℕ) (old now : List ℕ) → 0 < level → SpreadsFrom trace level n old now → (i number : ℕ) → (slice_index now (owner trace i) ≡ level → number ≡ 1) → (slice_index now (owner trace i) ≢ level → number ≡ 0) → on_level trace old level i ≡ number
+pub level-same : (trace : List Event) (level n : ℕ) (old now : List ℕ) → 0 < level → FindsLevelFrom trace level n old now → (i number : ℕ) → (slice_index now (owner trace i) ≡ level → number ≡ 1) → (slice_index now (owner trace i) ≢ level → number ≡ 0) → on_level trace old level i ≡ number
 level-same trace level n old now positive w i number yes_it_is it_is_not =
     ⊎_elim
     (λ fresh.
@@ -45,7 +45,7 @@ level-same trace level n old now positive w i number yes_it_is it_is_not =
     (cases_eq (slice_index old (owner trace i)) level))
     (cases_zero (slice_index old (owner trace i)))
 
-module _ (trace : List Event) (level at_hand : ℕ) (old now : List ℕ) (m : ℕ) (within : at_hand < length trace) (w : SpreadsFrom trace level (at_hand + 1) old now) (g : IsGreatestAfter trace (on_level trace old level) at_hand m) where
+module _ (trace : List Event) (level at_hand : ℕ) (old now : List ℕ) (m : ℕ) (within : at_hand < length trace) (w : FindsLevelFrom trace level (at_hand + 1) old now) (g : IsGreatestAfter trace (on_level trace old level) at_hand m) where
   abbrev pub own : ℕ
   own = owner trace at_hand
 
@@ -53,8 +53,8 @@ module _ (trace : List Event) (level at_hand : ℕ) (old now : List ℕ) (m : �
   is_at i l h = omega (arith, l, h)
 
   -- its transaction needs no number, or has one
-  pub SpreadsFrom-stays : (m ≡ 0) ⊎ (0 < slice_index now own) → SpreadsFrom trace level at_hand old now
-  SpreadsFrom-stays why = record {
+  pub FindsLevelFrom-stays : (m ≡ 0) ⊎ (0 < slice_index now own) → FindsLevelFrom trace level at_hand old now
+  FindsLevelFrom-stays why = record {
     count = w.count;
     kept = w.kept;
     found = w.found;
@@ -67,8 +67,8 @@ module _ (trace : List Event) (level at_hand : ℕ) (old now : List ℕ) (m : �
   }
 
   -- it is found now
-  pub SpreadsFrom-found : own < length now → slice_index now own ≡ 0 → 0 < level → 0 < m → SpreadsFrom trace level at_hand old (set now own (level + 1))
-  SpreadsFrom-found inside new positive some = record {
+  pub FindsLevelFrom-found : own < length now → slice_index now own ≡ 0 → 0 < level → 0 < m → FindsLevelFrom trace level at_hand old (set now own (level + 1))
+  FindsLevelFrom-found inside new positive some = record {
     count = length-set now own (level + 1) ∙ w.count;
     kept = λ a had. get_or-set_other now own a (level + 1) 0 (λ e. let was = w.kept a had in let none = ap (slice_index now) e ∙ new in omega (arith, was, none, had)) ∙ w.kept a had;
     found = λ a fresh has. ⊎_elim
@@ -116,20 +116,20 @@ unreached-set far a level inside none =
     omega (arith, both, was, now)
 
 -- behind the last event nothing is taken in
-pub Spreads-start : (trace : List Event) (level : ℕ) (far : List ℕ) → SpreadsFrom trace level (length trace) far far
-Spreads-start trace level far = record {
+pub FindsLevel-start : (trace : List Event) (level : ℕ) (far : List ℕ) → FindsLevelFrom trace level (length trace) far far
+FindsLevel-start trace level far = record {
   count = refl;
   kept = λ a h. refl;
   found = λ a none some. absurd (omega (arith, none, some));
   all = λ i j from later clash is. absurd (let inside = (conflict_at-within trace i j clash).1 in omega (arith, from, later, inside));
 }
 
-pub Tabulates-start : (trace : List Event) (numbers : ℕ → ℕ) (table : Table) → AreBlank table → Tabulates trace (numbers_from numbers (length trace)) table
-Tabulates-start trace numbers table blank = Tabulates-none trace (numbers_from numbers (length trace)) table (λ i l. ap (λ b. cond {A = ℕ} b (numbers i) 0) (lt-leb (length trace) i l)) blank
+pub HasNumbers-start : (trace : List Event) (numbers : ℕ → ℕ) (table : Table) → AreBlank table → HasNumbers trace (numbers_from numbers (length trace)) table
+HasNumbers-start trace numbers table blank = HasNumbers-none trace (numbers_from numbers (length trace)) table (λ i l. ap (λ b. cond {A = ℕ} b (numbers i) 0) (lt-leb (length trace) i l)) blank
 
 -- ---- one level
 
-pub HasLevels-next : (trace : List Event) (target level : ℕ) (old new : List ℕ) → HasLevels trace target level old → Spreads trace level old new → unreached new < unreached old → HasLevels trace target (level + 1) new
+pub HasLevels-next : (trace : List Event) (target level : ℕ) (old new : List ℕ) → HasLevels trace target level old → FindsLevel trace level old new → unreached new < unreached old → HasLevels trace target (level + 1) new
 HasLevels-next trace target level old new w s less = record {
   count = s.count ∙ w.count;
   begins = s.kept target (let one = w.begins in omega (arith, one)) ∙ w.begins;
@@ -201,7 +201,7 @@ HasLevels-start trace target far within is = record {
     elsewhere a e = get_or-set_other far target a 1 0 e ∙ blank a
 
 -- a level that finds nothing is the last
-pub AreDistances-end : (trace : List Event) (target level : ℕ) (far : List ℕ) → HasLevels trace target level far → Spreads trace level far far → AreDistances trace target far
+pub AreDistances-end : (trace : List Event) (target level : ℕ) (far : List ℕ) → HasLevels trace target level far → FindsLevel trace level far far → AreDistances trace target far
 AreDistances-end trace target level far w s = record {
   count = w.count;
   begins = w.begins;

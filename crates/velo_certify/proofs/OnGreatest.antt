@@ -168,7 +168,7 @@ or-swap : (a b c : Bool) → ((a || b) || c) ≡ ((a || c) || b)
 or-swap true b c = refl
 or-swap false b c = or-comm b c
 
-conflict-comm : (a b : Event) → conflict a b ≡ conflict b a
+pub conflict-comm : (a b : Event) → conflict a b ≡ conflict b a
 conflict-comm a b =
     ap (λ s. s || (are_same (variable_of a.kind) (variable_of b.kind) && (is_write a.kind || is_write b.kind)) || are_same (lock_of a.kind) (lock_of b.kind) || are_same (handled_by a.kind) (Some (thread_of b)) || are_same (handled_by b.kind) (Some (thread_of a))) (eqb-comm (thread_of a) (thread_of b))
     ∙ (ap (λ s. (thread_of b == thread_of a) || (s && (is_write a.kind || is_write b.kind)) || are_same (lock_of a.kind) (lock_of b.kind) || are_same (handled_by a.kind) (Some (thread_of b)) || are_same (handled_by b.kind) (Some (thread_of a))) (are_same-comm (variable_of a.kind) (variable_of b.kind))

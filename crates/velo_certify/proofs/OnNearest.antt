@@ -7,10 +7,10 @@ use Rattle.velo_events.specs.declared.event.Event.{Event}
 use Rattle.velo_events.specs.Block.{owner}
 use Rattle.velo_events.specs.Graph.{conflict_at, Edge}
 use Rattle.velo_events.proofs.OnReorderings.{conflict_at-within}
-use Rattle.velo_certify.specs.Table.{IsGreatestBefore, Tabulates, numbers_before, AreBlank}
+use Rattle.velo_certify.specs.Table.{IsGreatestBefore, HasNumbers, numbers_before, AreBlank}
 use Rattle.velo_certify.specs.declared.table.Table.{Table}
 use Rattle.velo_certify.specs.Nearest.{own_positions, LeadsInto, IsNearest, IsNearestBelow, IsNoneBelow, IsNearestSoFar, IsWithNext}
-use Rattle.velo_certify.proofs.OnRows.{Tabulates-none}
+use Rattle.velo_certify.proofs.OnRows.{HasNumbers-none}
 
 pub own_positions-yes : (trace : List Event) (a i : ℕ) → owner trace i ≡ a → own_positions trace a i ≡ 1
 unfolding own_positions
@@ -20,8 +20,8 @@ pub own_positions-no : (trace : List Event) (a i : ℕ) → owner trace i ≢ a 
 unfolding own_positions
 own_positions-no trace a i h = ap (λ b. cond {A = ℕ} b 1 0) (ne_eqb _ a h)
 
-pub Tabulates-first : (trace : List Event) (numbers : ℕ → ℕ) (table : Table) → AreBlank table → Tabulates trace (numbers_before numbers 0) table
-Tabulates-first trace numbers table blank = Tabulates-none trace (numbers_before numbers 0) table (λ i l. ap (λ b. cond {A = ℕ} b (numbers i) 0) (le-ltb i 0 (omega arith))) blank
+pub HasNumbers-first : (trace : List Event) (numbers : ℕ → ℕ) (table : Table) → AreBlank table → HasNumbers trace (numbers_before numbers 0) table
+HasNumbers-first trace numbers table blank = HasNumbers-none trace (numbers_before numbers 0) table (λ i l. ap (λ b. cond {A = ℕ} b (numbers i) 0) (le-ltb i 0 (omega arith))) blank
 
 module _ (trace : List Event) (a n m : ℕ) (g : IsGreatestBefore trace (own_positions trace a) n m) where
   pub LeadsInto-by : 0 < m → owner trace n ≢ a → LeadsInto trace a n

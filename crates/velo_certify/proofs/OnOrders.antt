@@ -18,7 +18,7 @@ use Rattle.velo_certify.specs.Table.{IsBlank}
 -- ---- places
 
 -- in all places there are no fewer than in the first
-count_take : (p : ℕ → Bool) (k : ℕ) (xs : List ℕ) → count_by p (take k xs) ≤ count_by p xs
+pub count_take : (p : ℕ → Bool) (k : ℕ) (xs : List ℕ) → count_by p (take k xs) ≤ count_by p xs
 count_take p k xs =
     let both = sum_by-append (λ x. cond {A = ℕ} (p x) 1 0) (take k xs) (drop k xs) in
     let all = ap (count_by p) (take-append-drop k xs) in

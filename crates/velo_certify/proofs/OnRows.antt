@@ -11,13 +11,13 @@ use Rattle.velo_events.specs.declared.event.Kind.TheVariants.{Read, Write, Acqui
 use Rattle.velo_events.specs.Event.{thread_of, handled_by, lock_of}
 use Rattle.velo_events.specs.Conflict.{conflict}
 use Rattle.velo_certify.specs.declared.table.Table.{Table}
-use Rattle.velo_certify.specs.Table.{IsGreatest, IsNumbered, numbers_before, numbers_from, written_by, read_by, thread_in, handled_in, written_in, read_in, lock_in, is_about, IsRow, AreBlank, Tabulates, sizes, HasPlaces, NamesRows, IsLookedUp, IsNoted, TakesIn}
+use Rattle.velo_certify.specs.Table.{IsGreatest, IsNumbered, numbers_before, numbers_from, written_by, read_by, thread_in, handled_in, written_in, read_in, lock_in, is_about, IsRow, AreBlank, HasNumbers, sizes, HasPlaces, NamesRows, IsLookedUp, IsNoted, TakesIn}
 use Rattle.velo_certify.proofs.OnGreatest.{IsGreatest-or, IsGreatest-same, IsRow-noted, IsRow-passed, IsRow-none, IsNumbered-before, IsNumbered-from, IsGreatestBefore-by, IsGreatestAfter-by}
 use Rattle.velo_certify.proofs.OnConflicts.{is_near, IsPlain, conflict-read, conflict-write, conflict-acquire, conflict-release, conflict-fork, conflict-join, conflict-plain}
 
 -- a blank table, before there are numbers
-pub Tabulates-none : (trace : List Event) (numbers : ℕ → ℕ) (table : Table) → ((i : ℕ) → i < length trace → numbers i ≡ 0) → AreBlank table → Tabulates trace numbers table
-Tabulates-none trace numbers table none blank = record {
+pub HasNumbers-none : (trace : List Event) (numbers : ℕ → ℕ) (table : Table) → ((i : ℕ) → i < length trace → numbers i ≡ 0) → AreBlank table → HasNumbers trace numbers table
+HasNumbers-none trace numbers table none blank = record {
   threads = IsRow-none trace numbers none thread_in table.threads.items blank.threads;
   handles = IsRow-none trace numbers none handled_in table.handles.items blank.handles;
   writes = IsRow-none trace numbers none written_in table.writes.items blank.writes;
@@ -45,7 +45,7 @@ plain_kind Exit r w a l f j = tt
 
 -- a and b are the numbers at the event's thread, and `near` the greater of them
 module _ (table : Table) (e : Event) (names : NamesRows (sizes table) e) (a b near : ℕ) (first : a ≡ get_or table.threads.items (thread_of e) a) (second : b ≡ get_or table.handles.items (thread_of e) b) (both : near ≡ max a b) where
-  IsGreatest-near : (trace : List Event) (numbers : ℕ → ℕ) → Tabulates trace numbers table → IsGreatest trace numbers (is_near e) near
+  IsGreatest-near : (trace : List Event) (numbers : ℕ → ℕ) → HasNumbers trace numbers table → IsGreatest trace numbers (is_near e) near
   IsGreatest-near trace numbers has =
       subst (IsGreatest trace numbers (is_near e)) (sym both)
       (IsGreatest-or trace numbers (is_about thread_in (thread_of e)) (is_about handled_in (thread_of e)) a b
@@ -53,7 +53,7 @@ module _ (table : Table) (e : Event) (names : NamesRows (sizes table) e) (a b ne
       (IsRow-at trace numbers handled_in table.handles.items (thread_of e) b names.handle second has.handles))
 
   -- and with one number more
-  looked_up-with : (test : Event → Bool) (c result : ℕ) → ((f : Event) → (is_near e f || test f) ≡ conflict f e) → result ≡ max near c → ((trace : List Event) (numbers : ℕ → ℕ) → Tabulates trace numbers table → IsGreatest trace numbers test c) → IsLookedUp table e result
+  looked_up-with : (test : Event → Bool) (c result : ℕ) → ((f : Event) → (is_near e f || test f) ≡ conflict f e) → result ≡ max near c → ((trace : List Event) (numbers : ℕ → ℕ) → HasNumbers trace numbers table → IsGreatest trace numbers test c) → IsLookedUp table e result
   looked_up-with test c result same is third = record {
     each = λ trace numbers has.
         IsGreatest-same trace numbers (λ f. is_near e f || test f) (λ f. conflict f e) result same

@@ -16,10 +16,10 @@ use Rattle.velo_events.specs.Certificate.{positions_of, IsReady, IsSerialOrder}
 use Rattle.velo_events.proofs.OnBlocks.{owner-le}
 use Rattle.velo_events.proofs.OnReorderings.{conflict_at-within}
 use Rattle.velo_events.proofs.OnSerializing.{is_listed, in_turn, IsGreedy, IsGreedy-nil, IsGreedy-push, ready_or_cycle, IsSerialOrder-by}
-use Rattle.velo_certify.specs.Table.{IsGreatestBefore, Tabulates, numbers_before, AreBlank}
+use Rattle.velo_certify.specs.Table.{IsGreatestBefore, HasNumbers, numbers_before, AreBlank}
 use Rattle.velo_certify.specs.declared.table.Table.{Table}
 use Rattle.velo_certify.specs.Serial.{has, number_left, others_left, HoldsBack, IsFreeAt, IsFree, IsCandidate, AreLast, left}
-use Rattle.velo_certify.proofs.OnRows.{Tabulates-none}
+use Rattle.velo_certify.proofs.OnRows.{HasNumbers-none}
 
 -- ---- numbers of what is not listed
 
@@ -70,8 +70,8 @@ pub IsFree-not : (trace : List Event) (listed : List Bool) (a n : ℕ) → Holds
 IsFree-not trace listed a n w f = both_ways _ w.not_listed ((f.each n).each w.own w.place w.before w.in_conflict w.other)
 
 -- before the first position that is not of a listed transaction there are no numbers
-pub Tabulates-listed : (trace : List Event) (listed : List Bool) (a first : ℕ) (table : Table) → ((i : ℕ) → i < first → i < length trace → IsTrue (has listed (owner trace i))) → AreBlank table → Tabulates trace (numbers_before (others_left trace listed a) first) table
-Tabulates-listed trace listed a first table h blank = Tabulates-none trace (numbers_before (others_left trace listed a) first) table none blank
+pub HasNumbers-listed : (trace : List Event) (listed : List Bool) (a first : ℕ) (table : Table) → ((i : ℕ) → i < first → i < length trace → IsTrue (has listed (owner trace i))) → AreBlank table → HasNumbers trace (numbers_before (others_left trace listed a) first) table
+HasNumbers-listed trace listed a first table h blank = HasNumbers-none trace (numbers_before (others_left trace listed a) first) table none blank
   where
     none : (i : ℕ) → i < length trace → numbers_before (others_left trace listed a) first i ≡ 0
     none i l = ⊎_elim
@@ -108,7 +108,7 @@ AreLast-next trace n lasts count small each within = (
 
 -- ---- the positions of a transaction
 
-range_push : (a n : ℕ) → range_with_len a (suc n) ≡ range_with_len a n ++ (a + n) ∷ []
+pub range_push : (a n : ℕ) → range_with_len a (suc n) ≡ range_with_len a n ++ (a + n) ∷ []
 range_push a zero = ap (λ k. k ∷ []) (let same : a ≡ a + 0 = omega arith in same)
 range_push a (suc n) = ap (λ xs. a ∷ xs) (range_push (a + 1) n ∙ ap (λ k. range_with_len (a + 1) n ++ k ∷ []) (let same : a + 1 + n ≡ a + suc n = omega arith in same))
 

@@ -22,15 +22,15 @@ on_level trace far level i = cond (slice_index far (owner trace i) == level) 1 0
 
 -- what has an edge to a transaction on the level, by an event from n on, and had no number, has got the next level's, and
 -- nothing else has changed
-pub record SpreadsFrom (trace : List Event) (level n : ℕ) (old new : List ℕ) : Type 0 where
+pub record FindsLevelFrom (trace : List Event) (level n : ℕ) (old new : List ℕ) : Type 0 where
   pub count : length new ≡ length old
   pub kept : (a : ℕ) → 0 < slice_index old a → slice_index new a ≡ slice_index old a
   pub found : (a : ℕ) → slice_index old a ≡ 0 → 0 < slice_index new a → (slice_index new a ≡ level + 1) × ((b : ℕ) × Edge trace a b × (slice_index old b ≡ level))
   pub all : (i j : ℕ) → n ≤ i → i < j → IsTrue (conflict_at trace i j) → slice_index old (owner trace j) ≡ level → 0 < slice_index new (owner trace i)
 
 -- the same by any event
-abbrev pub Spreads : List Event → ℕ → List ℕ → List ℕ → Type 0
-Spreads trace level old new = SpreadsFrom trace level 0 old new
+abbrev pub FindsLevel : List Event → ℕ → List ℕ → List ℕ → Type 0
+FindsLevel trace level old new = FindsLevelFrom trace level 0 old new
 
 -- the levels up to this one are found, and edges into the lower ones
 pub record HasLevels (trace : List Event) (target level : ℕ) (far : List ℕ) : Type 0 where

@@ -7,3 +7,4 @@ pub mod Nearest
 pub mod Cycle
 pub mod Faults
 pub mod Serial
+pub mod Reordered

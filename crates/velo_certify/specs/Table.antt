@@ -65,7 +65,7 @@ pub record IsRow (trace : List Event) (numbers : ℕ → ℕ) (named : Event →
 pub record IsBlank (row : List ℕ) : Type 0 where
   pub each : (x : ℕ) → x < length row → slice_index row x ≡ 0
 
-pub record Tabulates (trace : List Event) (numbers : ℕ → ℕ) (table : Table) : Type 0 where
+pub record HasNumbers (trace : List Event) (numbers : ℕ → ℕ) (table : Table) : Type 0 where
   pub threads : IsRow trace numbers thread_in table.threads.items
   pub handles : IsRow trace numbers handled_in table.handles.items
   pub writes : IsRow trace numbers written_in table.writes.items
@@ -124,7 +124,7 @@ pub record AllNameRows (s : Sizes) (trace : List Event) (n : ℕ) : Type 0 where
 
 -- the number is the greatest of the events that conflict with the given one, of whatever positions the table has the numbers
 pub record IsLookedUp (table : Table) (e : Event) (m : ℕ) : Type 0 where
-  pub each : (trace : List Event) (numbers : ℕ → ℕ) → Tabulates trace numbers table → IsGreatest trace numbers (λ f. conflict f e) m
+  pub each : (trace : List Event) (numbers : ℕ → ℕ) → HasNumbers trace numbers table → IsGreatest trace numbers (λ f. conflict f e) m
 
 -- position n, which had no number, has this one now
 pub record IsNumbered (old new : ℕ → ℕ) (n number : ℕ) : Type 0 where
@@ -133,7 +133,7 @@ pub record IsNumbered (old new : ℕ → ℕ) (n number : ℕ) : Type 0 where
   pub others : (i : ℕ) → i ≢ n → new i ≡ old i
 
 pub record IsNoted (old : Table) (e : Event) (number : ℕ) (new : Table) : Type 0 where
-  pub each : (trace : List Event) (n : ℕ) (before after : ℕ → ℕ) → slice_get trace n ≡ Some e → IsNumbered before after n number → Tabulates trace before old → Tabulates trace after new
+  pub each : (trace : List Event) (n : ℕ) (before after : ℕ → ℕ) → slice_get trace n ≡ Some e → IsNumbered before after n number → HasNumbers trace before old → HasNumbers trace after new
 
 -- the numbers of the positions before j, or from j on
 abbrev pub numbers_before : (ℕ → ℕ) → ℕ → ℕ → ℕ
@@ -144,5 +144,5 @@ numbers_from numbers j i = cond (nat_le j i) (numbers i) 0
 
 -- the position at hand is taken in after those before it, or after those behind it
 pub record TakesIn (trace : List Event) (at_hand number : ℕ) (old new : Table) (greatest : ℕ) : Type 0 where
-  pub forward : (numbers : ℕ → ℕ) → numbers at_hand ≡ number → Tabulates trace (numbers_before numbers at_hand) old → Tabulates trace (numbers_before numbers (at_hand + 1)) new × IsGreatestBefore trace numbers at_hand greatest
-  pub backward : (numbers : ℕ → ℕ) → numbers at_hand ≡ number → Tabulates trace (numbers_from numbers (at_hand + 1)) old → Tabulates trace (numbers_from numbers at_hand) new × IsGreatestAfter trace numbers at_hand greatest
+  pub forward : (numbers : ℕ → ℕ) → numbers at_hand ≡ number → HasNumbers trace (numbers_before numbers at_hand) old → HasNumbers trace (numbers_before numbers (at_hand + 1)) new × IsGreatestBefore trace numbers at_hand greatest
+  pub backward : (numbers : ℕ → ℕ) → numbers at_hand ≡ number → HasNumbers trace (numbers_from numbers (at_hand + 1)) old → HasNumbers trace (numbers_from numbers at_hand) new × IsGreatestAfter trace numbers at_hand greatest

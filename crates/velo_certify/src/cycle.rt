@@ -1,8 +1,10 @@
 //! A shortest cycle through the transaction of a position, and whether a list is one.
-ghost use Rattle.std.specs.Prelude.{◌≡◌, ◌-◌, ◌<◌, ◌↔◌, length, IfOk, IfErr, OnErr, IsTrue};
+ghost use Rattle.std.specs.Prelude.{◌≡◌, ◌-◌, ◌<◌, ◌↔◌, ◌++◌, ℕ, List, length, IfOk, IfErr, OnErr, IsTrue};
 ghost use Rattle.velo_events.specs.Block.{owner};
 ghost use Rattle.velo_events.specs.Certificate.{IsShortestCycleAt};
 ghost use Rattle.velo_events.specs.Refusals.{GrowthRefused};
+ghost use Rattle.velo_events.specs.Reordering.{IsSelfSerializable};
+ghost use Rattle.velo_events.specs.declared.event.Event.{Event};
 ghost use Rattle.velo_certify.specs.Owners.{AreOwners};
 ghost use Rattle.velo_certify.specs.Table.{AllNameRows, sizes};
 ghost use Rattle.velo_certify.specs.Distances.{AreDistances};
@@ -62,9 +64,7 @@ fn last_cycle(alloc: Global, events: &[Event]) -> Result<Vec<usize>, CertFault>
     let far = distances(alloc, events, &owners, start)?;
     let mut table = Table::new(alloc, events)?;
     match nearest_next(events, &owners, &mut table, &far, start) {
-        Some(second) => Ok(walk(
-            alloc, events, &owners, &mut table, &far, start, second,
-        )?),
+        Some(second) => Ok(walk(alloc, events, &owners, &mut table, &far, start, second)?),
         None => Err(CertFault::NoCycle),
     }
 }
@@ -72,10 +72,13 @@ fn last_cycle(alloc: Global, events: &[Event]) -> Result<Vec<usize>, CertFault>
 /// A shortest cycle of the events up to the position that begins with the transaction of the position. Each transaction is
 /// named by its first position; of several shortest cycles the least list is given.
 ///
+/// A block that is not self-serializable in the trace stays so, whatever events follow.
+///
 /// Its time grows with the number of events times the length of the longest of the shortest paths to the transaction.
 pub fn cycle_of(alloc: Global, trace: &Trace, position: usize) -> Result<Vec<usize>, CertFault>
     ensures cycle { IfOk result (λ cycle. IsShortestCycleAt trace.now.events position cycle.items) }
     ensures fault { IfErr result (IsCycleFault trace.now.events position) }
+    ensures stays { (more : List Event) (b : ℕ) → ¬ IsSelfSerializable trace.now.events b → ¬ IsSelfSerializable (trace.now.events ++ more) b }
 {
     let events = trace.as_slice();
     if position >= events.len() {

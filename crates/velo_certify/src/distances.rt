@@ -2,8 +2,8 @@
 ghost use Rattle.std.specs.Prelude.{◌≡◌, ◌≤◌, ◌<◌, ◌+◌, ℕ, List, length, slice_index, IfOk, OnErr, IsTrue, IsFalse};
 ghost use Rattle.velo_events.specs.Refusals.{GrowthRefused};
 ghost use Rattle.velo_certify.specs.Owners.{AreOwners};
-ghost use Rattle.velo_certify.specs.Table.{Tabulates, numbers_from, AllNameRows, sizes};
-ghost use Rattle.velo_certify.specs.Distances.{AreDistances, Spreads, SpreadsFrom, on_level, unreached};
+ghost use Rattle.velo_certify.specs.Table.{HasNumbers, numbers_from, AllNameRows, sizes};
+ghost use Rattle.velo_certify.specs.Distances.{AreDistances, FindsLevel, FindsLevelFrom, on_level, unreached};
 
 use crate::owners::owner_of;
 use crate::table::Table;
@@ -28,7 +28,7 @@ fn reach_from(
     requires positive { 0 < level }
     requires small { level ≤ length events.now }
     ensures names { sizes table.new ≡ sizes table.old }
-    ensures spreads { (first : List ℕ) → Tabulates events.now (numbers_from (on_level events.now first level) (at + 1)) table.old → SpreadsFrom events.now level (at + 1) first far.old → Tabulates events.now (numbers_from (on_level events.now first level) at) table.new × SpreadsFrom events.now level at first far.new }
+    ensures finds { (first : List ℕ) → HasNumbers events.now (numbers_from (on_level events.now first level) (at + 1)) table.old → FindsLevelFrom events.now level (at + 1) first far.old → HasNumbers events.now (numbers_from (on_level events.now first level) at) table.new × FindsLevelFrom events.now level at first far.new }
     ensures yes { IsTrue result → unreached far.new < unreached far.old }
     ensures no { IsFalse result → far.new ≡ far.old }
 {
@@ -46,7 +46,7 @@ fn reach_from(
 }
 
 /// Finds the next level: what has an edge to a transaction on this one, and was not reached yet.
-fn spread(
+fn find_level(
     events: &[Event],
     owners: &[usize],
     table: &mut Table,
@@ -59,7 +59,7 @@ fn spread(
     requires positive { 0 < level }
     requires small { level ≤ length events.now }
     ensures names { sizes table.new ≡ sizes table.old }
-    ensures spreads { Spreads events.now level far.old far.new }
+    ensures finds { FindsLevel events.now level far.old far.new }
     ensures yes { IsTrue result → unreached far.new < unreached far.old }
     ensures no { IsFalse result → far.new ≡ far.old }
 {
@@ -91,7 +91,7 @@ pub(crate) fn distances(
     let mut far = filled(alloc, 0, events.len())?;
     far[target] = 1;
     let mut level = 1;
-    while spread(events, owners, &mut table, level, &mut far) {
+    while find_level(events, owners, &mut table, level, &mut far) {
         level += 1;
     }
     Ok(far)

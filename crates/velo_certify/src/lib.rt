@@ -16,3 +16,6 @@ pub use cycle::{check_cycle, cycle_of};
 pub use fault::CertFault;
 pub use order::check_order;
 pub use serial::serial_order;
+
+#[cfg(test)]
+mod tests;

@@ -2,7 +2,7 @@
 ghost use Rattle.std.specs.Prelude.{◌≡◌, ◌≤◌, ◌<◌, ◌+◌, ◌↔◌, ◌⊎◌, ℕ, length, slice_index, IfSome, MatchOption, IsTrue};
 ghost use Rattle.velo_events.specs.Graph.{Edge};
 ghost use Rattle.velo_certify.specs.Owners.{AreOwners};
-ghost use Rattle.velo_certify.specs.Table.{Tabulates, numbers_before, AllNameRows, sizes};
+ghost use Rattle.velo_certify.specs.Table.{HasNumbers, numbers_before, AllNameRows, sizes};
 ghost use Rattle.velo_certify.specs.Nearest.{own_positions, LeadsInto, IsWithNext, IsNearest};
 
 use crate::owners::owner_of;
@@ -11,19 +11,13 @@ use velo_events::Event;
 
 /// Takes in the event at a position, where those before it were taken in. Whether it makes an edge from the transaction to
 /// its own.
-fn makes_edge(
-    events: &[Event],
-    owners: &[usize],
-    table: &mut Table,
-    from: usize,
-    at: usize,
-) -> bool
+fn makes_edge(events: &[Event], owners: &[usize], table: &mut Table, from: usize, at: usize) -> bool
     requires within { at < length events.now }
     requires owners { AreOwners owners.now events.now }
     requires names { AllNameRows (sizes table.old) events.now (length events.now) }
-    requires tabulates { Tabulates events.now (numbers_before (own_positions events.now from) at) table.old }
+    requires numbers { HasNumbers events.now (numbers_before (own_positions events.now from) at) table.old }
     ensures names { sizes table.new ≡ sizes table.old }
-    ensures tabulates { Tabulates events.now (numbers_before (own_positions events.now from) (at + 1)) table.new }
+    ensures numbers { HasNumbers events.now (numbers_before (own_positions events.now from) (at + 1)) table.new }
     ensures edge { IsTrue result ↔ LeadsInto events.now from at }
 {
     let transaction = owner_of(events, owners, at);

@@ -1,11 +1,15 @@
 //! The greedy serial order of a trace without a cycle.
-ghost use Rattle.std.specs.Prelude.{◌≡◌, ◌≤◌, ◌<◌, ◌+◌, ◌++◌, ℕ, length, IfOk, IfErr, OnOk, OnErr, IsTrue, IsFalse};
+ghost use Rattle.std.specs.Prelude.{◌≡◌, ◌≤◌, ◌<◌, ◌+◌, ◌++◌, ℕ, List, length, IfOk, IfErr, OnOk, OnErr, IsTrue, IsFalse};
 ghost use Rattle.velo_events.specs.Block.{owner};
 ghost use Rattle.velo_events.specs.Certificate.{positions_of, IsSerialOrder};
 ghost use Rattle.velo_events.specs.Graph.{HasCycle};
 ghost use Rattle.velo_events.specs.Refusals.{GrowthRefused};
+ghost use Rattle.velo_events.specs.Reordering.{IsReordering, reordered};
+ghost use Rattle.velo_events.specs.WellFormed.{IsWellFormed};
+ghost use Rattle.velo_events.specs.declared.config.Bounds.{Bounds};
+ghost use Rattle.velo_certify.specs.Reordered.{LeavesSameHeap};
 ghost use Rattle.velo_certify.specs.Owners.{AreOwners};
-ghost use Rattle.velo_certify.specs.Table.{Tabulates, numbers_before, AllNameRows, sizes};
+ghost use Rattle.velo_certify.specs.Table.{HasNumbers, numbers_before, AllNameRows, sizes};
 ghost use Rattle.velo_certify.specs.Serial.{has, number_left, others_left, HoldsBack, IsFreeAt, IsFree, IsCandidate, AreLast, IsNext, IsOrderFault};
 
 use crate::CertFault;
@@ -55,9 +59,9 @@ fn holds_back(
     requires owners { AreOwners owners.now events.now }
     requires count { length listed.now ≡ length events.now }
     requires names { AllNameRows (sizes table.old) events.now (length events.now) }
-    requires tabulates { Tabulates events.now (numbers_before (others_left events.now listed.now a) at) table.old }
+    requires numbers { HasNumbers events.now (numbers_before (others_left events.now listed.now a) at) table.old }
     ensures names { sizes table.new ≡ sizes table.old }
-    ensures tabulates { Tabulates events.now (numbers_before (others_left events.now listed.now a) (at + 1)) table.new }
+    ensures numbers { HasNumbers events.now (numbers_before (others_left events.now listed.now a) (at + 1)) table.new }
     ensures yes { IsTrue result → HoldsBack events.now listed.now a at }
     ensures no { IsFalse result → IsFreeAt events.now listed.now a at }
 {
@@ -221,10 +225,15 @@ fn list_all(alloc: Global, events: &[Event]) -> Result<Vec<usize>, CertFault>
 
 /// A serial reordering of the trace: its transactions one after another, each time the least of those whose predecessors are
 /// all listed, the positions of each rising. `HasCycle` is answered exactly where the trace has a cycle.
+///
+/// Every reordering of a well-formed trace is well-formed and leaves the same heap, so what the trace does its serial order
+/// does too.
 pub fn serial_order(alloc: Global, trace: &Trace) -> Result<Vec<usize>, CertFault>
     ensures order { IfOk result (λ order. IsSerialOrder trace.now.events order.items) }
     ensures acyclic { OnOk result (¬ HasCycle trace.now.events) }
     ensures fault { IfErr result (IsOrderFault trace.now.events) }
+    ensures well_formed { (bounds : Bounds) (order : List ℕ) → IsWellFormed bounds trace.now.events → IsReordering trace.now.events order → IsWellFormed bounds (reordered trace.now.events order) }
+    ensures same_heap { (order : List ℕ) → IsReordering trace.now.events order → LeavesSameHeap trace.now.events (reordered trace.now.events order) }
 {
     list_all(alloc, trace.as_slice())
 }

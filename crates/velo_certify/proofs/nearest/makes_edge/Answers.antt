@@ -4,13 +4,13 @@ use Rattle.velo_certify.proofs.OnNearest.{number-of_own, leads-answer-some, lead
 use Rattle.velo_certify.proofs.nearest.makes_edge.Goals as goal
 use Rattle.velo_certify.proofs.nearest.makes_edge.Goals.{then-transaction-from, else-transaction-from}
 
-pub returns-then-found-gt0-clause-tabulates : goal.returns-then-found-gt0-clause-tabulates
-returns-then-found-gt0-clause-tabulates c =
+pub returns-then-found-gt0-clause-numbers : goal.returns-then-found-gt0-clause-numbers
+returns-then-found-gt0-clause-numbers c =
     (c.take_in-found.ensures.taken.forward (own_positions c.args.events.now c.args.from)
     (number-of_own c.args.events.now c.args.from c.args.at c.if-transaction-from.number c.take_in-found.result c.owner_of-transaction.result c.owner_of-transaction.ensures.owner
     (λ h. elim c.if-transaction-from.branch [ then-transaction-from w ↦ w.number-is | else-transaction-from w ↦ absurd (w.if-transaction-from.false h) ])
     (λ h. elim c.if-transaction-from.branch [ then-transaction-from w ↦ absurd (h w.if-transaction-from.true) | else-transaction-from w ↦ w.number-is ]))
-    c.requires.tabulates).0
+    c.requires.numbers).0
 
 pub returns-then-found-gt0-clause-edge : goal.returns-then-found-gt0-clause-edge
 returns-then-found-gt0-clause-edge c =
@@ -19,15 +19,15 @@ returns-then-found-gt0-clause-edge c =
     (number-of_own c.args.events.now c.args.from c.args.at c.if-transaction-from.number c.take_in-found.result c.owner_of-transaction.result c.owner_of-transaction.ensures.owner
     (λ h. elim c.if-transaction-from.branch [ then-transaction-from w ↦ w.number-is | else-transaction-from w ↦ absurd (w.if-transaction-from.false h) ])
     (λ h. elim c.if-transaction-from.branch [ then-transaction-from w ↦ absurd (h w.if-transaction-from.true) | else-transaction-from w ↦ w.number-is ]))
-    c.requires.tabulates).1 (omega (arith, c.if-found-gt0.true))
+    c.requires.numbers).1 (omega (arith, c.if-found-gt0.true))
 
-pub returns-else-found-gt0-clause-tabulates : goal.returns-else-found-gt0-clause-tabulates
-returns-else-found-gt0-clause-tabulates c =
+pub returns-else-found-gt0-clause-numbers : goal.returns-else-found-gt0-clause-numbers
+returns-else-found-gt0-clause-numbers c =
     (c.take_in-found.ensures.taken.forward (own_positions c.args.events.now c.args.from)
     (number-of_own c.args.events.now c.args.from c.args.at c.if-transaction-from.number c.take_in-found.result c.owner_of-transaction.result c.owner_of-transaction.ensures.owner
     (λ h. elim c.if-transaction-from.branch [ then-transaction-from w ↦ w.number-is | else-transaction-from w ↦ absurd (w.if-transaction-from.false h) ])
     (λ h. elim c.if-transaction-from.branch [ then-transaction-from w ↦ absurd (h w.if-transaction-from.true) | else-transaction-from w ↦ w.number-is ]))
-    c.requires.tabulates).0
+    c.requires.numbers).0
 
 pub returns-else-found-gt0-clause-edge : goal.returns-else-found-gt0-clause-edge
 returns-else-found-gt0-clause-edge c =
@@ -36,4 +36,4 @@ returns-else-found-gt0-clause-edge c =
     (number-of_own c.args.events.now c.args.from c.args.at c.if-transaction-from.number c.take_in-found.result c.owner_of-transaction.result c.owner_of-transaction.ensures.owner
     (λ h. elim c.if-transaction-from.branch [ then-transaction-from w ↦ w.number-is | else-transaction-from w ↦ absurd (w.if-transaction-from.false h) ])
     (λ h. elim c.if-transaction-from.branch [ then-transaction-from w ↦ absurd (h w.if-transaction-from.true) | else-transaction-from w ↦ w.number-is ]))
-    c.requires.tabulates).1 (omega (arith, c.if-found-gt0.false))
+    c.requires.numbers).1 (omega (arith, c.if-found-gt0.false))

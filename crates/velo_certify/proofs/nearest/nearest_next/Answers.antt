@@ -10,7 +10,7 @@ loop-at-preserved c =
     let trace = c.args.events.now in let far = c.args.far.now in let from = c.args.from in let n = c.loop-at.at in
     record {
       sizes = c.makes_edge.ensures.names ∙ c.loop-at.invariant.sizes;
-      tabulates = c.makes_edge.ensures.tabulates;
+      numbers = c.makes_edge.ensures.numbers;
       nearest = elim c.if-makes_edge.branch [
         | then-makes_edge w ↦
             subst (IsNearestSoFar trace far from (n + 1)) (sym w.nearest-is)
