@@ -43,18 +43,18 @@ fn is_the_alarm(alarm: Option<&Alarm>) -> bool {
     })
 }
 
-/// A world of two threads, one variable and one lock, with thread 0's share at its place.
-fn opened(alloc: Global, nodes: u16, stop: bool) -> Result<(World, Shares), Fail>
+/// A world of so many threads, one variable and one lock, with thread 0's share at its place.
+fn opened(alloc: Global, threads: u8, nodes: u16, stop: bool) -> Result<(World, Shares), Fail>
     ensures { IfOk result (λ opened. HoldsLiveShares opened.0 opened.1) }
 {
     let bounds = Bounds {
-        threads: 2,
+        threads,
         variables: 1,
         locks: 1,
     };
     let config = Config::new(1, bounds, 100, nodes, stop)?;
     let (world, share) = World::new(alloc, config)?;
-    let mut shares = Shares::none(alloc, 2)?;
+    let mut shares = Shares::none(alloc, threads)?;
     if shares.put(share).is_err() {
         return Err("no place".into());
     }
@@ -68,7 +68,7 @@ fn played(
     stop: bool,
     steps: &[Step],
 ) -> Result<(World, Vec<Outcome>), Fail> {
-    let (mut world, mut shares) = opened(alloc, nodes, stop)?;
+    let (mut world, mut shares) = opened(alloc, 2, nodes, stop)?;
     let outcomes = world.run(&mut shares, steps)?;
     Ok((world, outcomes))
 }
@@ -86,17 +86,32 @@ fn done(position: usize) -> Outcome {
     replied(position, None, false)
 }
 
+/// 33 begins and 32 ends.
+fn nested_step(i: usize) -> Step {
+    if i < 33 {
+        (MAIN, Action::Begin(Label(0)))
+    } else {
+        (MAIN, Action::End)
+    }
+}
+
+/// The 33rd begin is one too deep.
+fn nested_outcome(i: usize) -> Outcome {
+    match i {
+        0..32 => done(i),
+        32 => Err(Refusal::TooDeep),
+        _ => done(i - 1),
+    }
+}
+
 #[test]
 fn blocks_nest_32_deep(rt: HostRuntime) -> Result<(), Fail> {
-    let mut steps = [(MAIN, Action::End); 65];
-    let mut wanted = [done(32); 65];
-    wanted[32] = Err(Refusal::TooDeep);
-    for i in 0..32 {
-        steps[i] = (MAIN, Action::Begin(Label(0)));
-        wanted[i] = done(i);
-        wanted[i + 33] = done(i + 32);
+    let mut steps = Vec::new(rt.alloc());
+    let mut wanted = Vec::new(rt.alloc());
+    for i in 0..65 {
+        steps.push(nested_step(i))?;
+        wanted.push(nested_outcome(i))?;
     }
-    steps[32] = (MAIN, Action::Begin(Label(0)));
     let (_, outcomes) = played(rt.alloc(), 1, false, &steps)?;
     assert_eq!(rt; outcomes.as_slice(), wanted.as_slice());
     Ok(())
@@ -177,7 +192,7 @@ fn a_full_graph_refuses_a_block(rt: HostRuntime) -> Result<(), Fail> {
 
 #[test]
 fn a_share_is_missing(rt: HostRuntime) -> Result<(), Fail> {
-    let (mut world, mut given) = opened(rt.alloc(), 1, false)?;
+    let (mut world, mut given) = opened(rt.alloc(), 2, 1, false)?;
     let Some(mut main) = given.take(MAIN) else {
         return Err("no share".into());
     };
