@@ -15,7 +15,7 @@ pub record TracksFree (nodes : List (Option Node)) (free : List ℕ) (room exten
   pub small : length nodes < 65536
 
 -- and the stamps of the slots in use
-pub record IsKept (nodes : List (Option Node)) (newest : Option ℕ) (free : List ℕ) (room extent : ℕ) : Type 0 where
+pub record TracksSlots (nodes : List (Option Node)) (newest : Option ℕ) (free : List ℕ) (room extent : ℕ) : Type 0 where
   pub tracks : TracksFree nodes free room extent
   pub stamps : HasOwnStamps (record { nodes = nodes; newest = newest })
 

@@ -8,8 +8,8 @@ use crate::step::{Node, Step};
 use std::alloc::Global;
 use std::marker::Model;
 use thiserror::Error;
-use velo_events::growth::{filled, with_capacity};
 use velo_events::Memory;
+use velo_events::growth::{filled, with_capacity};
 
 /// All slots are in use.
 #[derive(Clone, Copy, Debug, PartialEq, Eq, Error)]
@@ -30,13 +30,13 @@ pub struct Arena {
 impl Model for Arena {
     ghost use Rattle.std.specs.Prelude.{vec_capacity};
     ghost use Rattle.velo_arena.specs.Slots.{Slots};
-    ghost use Rattle.velo_arena.specs.Kept.{IsKept};
+    ghost use Rattle.velo_arena.specs.Kept.{TracksSlots};
 
     ghost Value = { Slots };
 
     ghost view = { λ a. record { nodes = a.nodes.items; newest = a.newest } };
 
-    ghost invariant = { λ a. IsKept a.nodes.items a.newest a.free.items (vec_capacity a.free) a.extent };
+    ghost invariant = { λ a. TracksSlots a.nodes.items a.newest a.free.items (vec_capacity a.free) a.extent };
 }
 
 impl Arena {

@@ -1,5 +1,6 @@
 use crate::{Arena, GraphFull, Step};
 use std::test::Fail;
+use velo_events::MOST_NODES;
 
 #[test]
 fn a_slot_serves_again(rt: HostRuntime) -> Result<(), Fail> {
@@ -20,5 +21,15 @@ fn a_slot_serves_again(rt: HostRuntime) -> Result<(), Fail> {
     assert_eq!(rt; (arena.newest(), arena.stamp_of(second.slot)), (Some(4), 4));
     assert!(rt; arena.is_used(second.slot) && !arena.finished(second.slot));
     assert_eq!(rt; arena.resolve(Step { slot: 1, stamp: 4 }), None);
+    Ok(())
+}
+
+#[test]
+fn the_extent_stays_low(rt: HostRuntime) -> Result<(), Fail> {
+    let mut arena = Arena::new(rt.alloc(), MOST_NODES)?;
+    assert_eq!(rt; (arena.limit(), arena.extent()), (MOST_NODES, 0));
+    let step = arena.open(0).ok().ok_or("full")?;
+    arena.free(step.slot);
+    assert_eq!(rt; arena.extent(), 1);
     Ok(())
 }

@@ -6,8 +6,8 @@ ghost use Rattle.velo_graph.specs.Nodes.{IsSound};
 
 use std::alloc::Global;
 use std::marker::Model;
-use velo_events::growth::with_capacity;
 use velo_events::Memory;
+use velo_events::growth::with_capacity;
 use velo_graph::Graph;
 use velo_rows::Ancestors;
 

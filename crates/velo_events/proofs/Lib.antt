@@ -1,8 +1,10 @@
+pub mod OnLists
 pub mod OnTraces
 pub mod OnBlocks
 pub mod OnScans
 pub mod OnOpenBlocks
 pub mod OnWellFormed
+pub mod OnStatuses
 pub mod OnMeaning
 pub mod OnDepths
 pub mod OnGraphs

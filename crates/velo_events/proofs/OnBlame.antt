@@ -18,7 +18,7 @@ use Rattle.velo_events.proofs.OnScans.{event_at, passes_at-event, passes_at-is, 
 use Rattle.velo_events.proofs.OnGraphs.{Path-map, Leads-trans, Reaches-trans, newest}
 use Rattle.velo_events.proofs.OnReorderings.{conflict_at-within, not_self_serializable}
 use Rattle.velo_events.proofs.OnPositions.{Contains-filter, count_positions, positions-rise, to_front, to_front-in_order, AllPairs-to_front}
-use Rattle.velo_events.proofs.OnOwners.{is_open_at-thread, is_open_at-within, open_block-positions, newest-outermost, newest-owner}
+use Rattle.velo_events.proofs.OnOwners.{is_open_at-thread, is_open_at-begins, is_open_at-within, open_block-positions, newest-outermost, newest-owner}
 use Rattle.velo_events.proofs.OnUnfinished.{Contains-open_blocks, open_blocks-increase, is_open_at-before}
 use Rattle.velo_events.proofs.OnReaching.{HasCycle-from_on}
 use Rattle.velo_events.proofs.OnHappening.{ConflictsInOrder-append, ConflictsInOrder-before, Path-before, IsFrom-reaches, IsFrom, is_from, is_from-start, is_from-step, is_from-of, is_from-sound, IsFrom-le, HappensBefore-lt, HappensBefore-within, HappensBefore-decides, ConflictsInOrder-same_thread}
@@ -140,7 +140,12 @@ module _ (trace : List Event) (t b : ℕ) (opened : IsTrue (is_open_at trace t b
 -- The thread t of the last position p has an open block that begins at b. It is self-serializable where it is not interrupted
 pub self_serializable-from_none : (trace : List Event) (t b p : ℕ) → length trace ≡ p + 1 → IsTrue (passes_at trace (is_by t) p) → IsTrue (is_open_at trace t b (length trace)) → ¬ IsInterrupted trace t b p → IsSelfSerializable trace b
 self_serializable-from_none trace t b p last own opened none =
-    record { order = apart trace t b opened; reorders = apart-reorders trace t b opened p last own none; together = apart-together trace t b opened }
+    record {
+      begun = is_open_at-begins trace t b (length trace) opened;
+      order = apart trace t b opened;
+      reorders = apart-reorders trace t b opened p last own none;
+      together = apart-together trace t b opened;
+    }
 
 -- and not where it is
 pub not_self_serializable-from_interrupted : (trace : List Event) (t b p : ℕ) → IsTrue (passes_at trace (is_by t) p) → IsTrue (is_open_at trace t b (length trace)) → IsInterrupted trace t b p → ¬ IsSelfSerializable trace b

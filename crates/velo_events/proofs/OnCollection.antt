@@ -1,6 +1,6 @@
 -- Live, covered and harmless transactions: what stays so in every longer trace, and what is given up without loss.
 use Rattle.std.proofs.Common.{◌≡◌, ◌≢◌, ℕ, suc, ◌+◌, ◌<◌, Bool, false, cond, List, [], ◌∷◌, ◌++◌, length, refl, sym, ap, ◌∙◌, subst, arith, append_assoc, ⊎_elim, inl}
-use Rattle.std.specs.Prelude.{◌⊎◌, ◌||◌, ◌==◌, sum_by, count_by, filter, IsTrue, IsFalse, AllPairs, Contains}
+use Rattle.std.specs.Prelude.{◌||◌, ◌==◌, sum_by, count_by, filter, IsTrue, IsFalse, AllPairs, Contains}
 use Rattle.std.proofs.lemmas.List.{append-nil}
 use Rattle.std.proofs.lemmas.List.Sums.{sum_by-cons, length-filter}
 use Rattle.std.proofs.lemmas.List.Kept.{IsStrictlyIncreasing-filter}
@@ -10,7 +10,7 @@ use Rattle.velo_events.specs.declared.event.Event.{Event}
 use Rattle.velo_events.specs.WellFormed.{IsWellFormed}
 use Rattle.velo_events.specs.Block.{positions, is_in_block, IsTransaction, IsUnfinished, IsFinished, IsOutside}
 use Rattle.velo_events.specs.Graph.{Reaches, IsCycle, Edge, HasCycle}
-use Rattle.velo_events.specs.Collection.{IsHarmless, IsLive, IsCovered, IsGivenUp, HasManyLive}
+use Rattle.velo_events.specs.Collection.{IsHarmless, IsLive, IsCovered, IsAccountedFor, IsGivenUp, HasManyLive}
 use Rattle.velo_events.proofs.OnBlocks.{is_in_block-append}
 use Rattle.velo_events.proofs.OnGraphs.{Reaches-trans, newest}
 use Rattle.velo_events.proofs.OnPositions.{count_positions, positions-increase, Contains-filter}
@@ -104,12 +104,14 @@ not_live-off_cycle trace more a t dead off = (IsOff-append trace more a (record 
 -- in a trace without a cycle, what is not live is harmless
 pub not_live-harmless : (bounds : Bounds) (trace : List Event) (a : ℕ) → ¬ HasCycle trace → IsTransaction trace a → ¬ IsLive trace a → IsHarmless bounds trace a
 not_live-harmless bounds trace a none t dead = record {
+  transaction = t;
   on_no_cycle = λ more well cycle h w. not_live-off_cycle trace more a t dead (λ on. none (HasCycle-from_on trace a on)) (IsOnCycle-from_cycle (trace ++ more) cycle a h w);
 }
 
 -- what is harmless is so in every longer trace
 pub IsHarmless-append : (bounds : Bounds) (trace more : List Event) (a : ℕ) → IsHarmless bounds trace a → IsHarmless bounds (trace ++ more) a
 IsHarmless-append bounds trace more a harmless = record {
+  transaction = IsTransaction-append trace more a harmless.transaction;
   on_no_cycle = λ rest well cycle h.
       let same : (trace ++ more) ++ rest ≡ trace ++ (more ++ rest) = append_assoc trace more rest in
       harmless.on_no_cycle (more ++ rest) (subst (IsWellFormed bounds) same well) cycle (subst (λ xs. IsCycle (Edge xs) cycle) same h);
@@ -163,14 +165,10 @@ IsLive-covered trace a n c w = record { root = w.root; unfinished = w.unfinished
 
 -- ---- given up
 
--- a is a stamp in use, or covered by one, or not live
-abbrev pub IsAccountedFor : List Event → List ℕ → ℕ → Type 0
-IsAccountedFor trace stamps a = Contains stamps a ⊎ (((n : ℕ) × Contains stamps n × IsCovered trace a n) ⊎ (¬ IsLive trace a))
-
 -- what is accounted for and given up is not live
 pub IsGivenUp-not_live : (trace : List Event) (stamps : List ℕ) (a : ℕ) → IsGivenUp trace stamps a → IsAccountedFor trace stamps a → ¬ IsLive trace a
 IsGivenUp-not_live trace stamps a g account =
-    ⊎_elim (λ stamp. absurd (g.no_stamp stamp)) (λ other. ⊎_elim (λ w. absurd (g.not_covered w.0 w.1 w.2)) (λ dead. dead) other) account
+    ⊎_elim (λ stamp. absurd (g.no_stamp stamp)) (λ other. ⊎_elim (λ w. absurd (g.not_covered w.0 w.1 w.2)) (λ dead. dead) other) account.account
 
 -- so it is harmless where there is no cycle
 pub IsGivenUp-harmless : (bounds : Bounds) (trace : List Event) (stamps : List ℕ) (a : ℕ) → ¬ HasCycle trace → IsGivenUp trace stamps a → IsAccountedFor trace stamps a → IsHarmless bounds trace a

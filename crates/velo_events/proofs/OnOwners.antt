@@ -5,7 +5,7 @@ use Rattle.std.proofs.lemmas.Option.{slice_get_within}
 use Rattle.std.proofs.lemmas.Bool.{cases_order, cases_lt, and_parts, and_from, eqb-true, eq-eqb, le-leb, leb-true, both_ways, false_from_ne_true}
 use Rattle.velo_events.specs.declared.event.Event.{Event}
 use Rattle.velo_events.specs.Event.{thread_of, is_by, is_begin, is_begin_by}
-use Rattle.velo_events.specs.Block.{passes_at, is_open_at, is_in_block, owner}
+use Rattle.velo_events.specs.Block.{passes_at, is_begin_at, is_open_at, is_in_block, owner}
 use Rattle.velo_events.proofs.OnBlocks.{least_below-is, owner-push, owner-le, owner-in_block, owner-first}
 use Rattle.velo_events.proofs.OnScans.{passes_at-event, passes_at-is, IsOpenAt-from, IsOpenAt-to, IsOpenAt-less, IsOpenAt-outer}
 use Rattle.velo_events.proofs.OnGraphs.{newest}
@@ -17,6 +17,12 @@ pub is_open_at-thread : (trace : List Event) (t b n : ℕ) → IsTrue (is_open_a
 is_open_at-thread trace t b n opened =
     let e = passes_at-event trace (is_begin_by t) b (IsOpenAt-from trace t b n opened).begun in
     passes_at-is trace (is_by t) b e.0 e.1 ∙ (and_parts (is_by t e.0) (is_begin e.0.kind) e.2).0
+
+-- a block begins there
+pub is_open_at-begins : (trace : List Event) (t b n : ℕ) → IsTrue (is_open_at trace t b n) → IsTrue (is_begin_at trace b)
+is_open_at-begins trace t b n opened =
+    let e = passes_at-event trace (is_begin_by t) b (IsOpenAt-from trace t b n opened).begun in
+    passes_at-is trace (λ f. is_begin f.kind) b e.0 e.1 ∙ (and_parts (is_by t e.0) (is_begin e.0.kind) e.2).1
 
 -- its begin is in the trace
 pub is_open_at-within : (trace : List Event) (t b n : ℕ) → IsTrue (is_open_at trace t b n) → b < length trace

@@ -7,44 +7,45 @@ use thiserror::Error;
 /// How many threads, variables and locks a run has. They are numbered from 0.
 #[derive(Clone, Copy, Debug, PartialEq, Eq)]
 pub struct Bounds {
-    /// 1 to 64 in a configuration.
+    /// In a configuration 1 to [`MOST_THREADS`].
     pub threads: u8,
-    /// 0 to 65,535.
+    /// Any number of a `u16`.
     pub variables: u16,
-    /// 0 to 4,096 in a configuration.
+    /// In a configuration 0 to [`MOST_LOCKS`].
     pub locks: u16,
 }
 
 /// The first value of a configuration that is out of its range.
 #[derive(Clone, Copy, Debug, PartialEq, Eq, Error)]
 pub enum BadConfig {
-    /// There is no thread, or there are more than 64.
-    #[error("the number of threads is not from 1 to 64")]
+    /// There is no thread, or there are more than [`MOST_THREADS`].
+    #[error("the number of threads is not from 1 to {}", MOST_THREADS)]
     Threads = 1,
     /// Never answered, since each `u16` is in range.
     #[error("the number of variables is out of range")]
     Variables = 2,
-    /// There are more than 4,096 locks.
-    #[error("the number of locks is above 4096")]
+    /// There are more than [`MOST_LOCKS`] locks.
+    #[error("the number of locks is above {}", MOST_LOCKS)]
     Locks = 3,
-    /// The limit of events is 0 or above 16,777,216.
-    #[error("the limit of events is not from 1 to 16777216")]
+    /// The limit of events is 0 or above [`MOST_EVENTS`].
+    #[error("the limit of events is not from 1 to {}", MOST_EVENTS)]
     Events = 4,
-    /// The limit of nodes is 0 or above 4,096.
-    #[error("the limit of nodes is not from 1 to 4096")]
+    /// The limit of nodes is 0 or above [`MOST_NODES`].
+    #[error("the limit of nodes is not from 1 to {}", MOST_NODES)]
     Nodes = 5,
 }
 
 /// What a run is opened with. Every value is in its range.
 #[derive(Clone, Copy, Debug, PartialEq, Eq)]
 pub struct Config {
-    /// A number that the caller picks for the run, to tell it from others.
+    /// A number that the caller picks for the run. Runs that are alive together need different ones: a share carries the number
+    /// of its run, and by this alone it is told from the shares of another run.
     pub run: u64,
     /// How many threads, variables and locks there are.
     pub bounds: Bounds,
-    /// The most events that the log takes: 1 to 16,777,216.
+    /// The most events that the log takes: 1 to [`MOST_EVENTS`].
     pub events: u32,
-    /// The most nodes that the graph has at one time: 1 to 4,096.
+    /// The most nodes that the graph has at one time: 1 to [`MOST_NODES`].
     pub nodes: u16,
     /// Whether the event that closes the first cycle halts the world.
     pub stop: bool,

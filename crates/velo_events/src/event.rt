@@ -1,7 +1,7 @@
 ghost use Rattle.std.specs.Prelude.{◌≡◌};
 ghost use Rattle.velo_events.specs.Conflict.{conflict};
 
-/// The number of a thread. A run has at most 64; thread 0 is the one that is there from the start.
+/// The number of a thread. A run has at most [`MOST_THREADS`](crate::MOST_THREADS); thread 0 is there from the start.
 #[derive(Clone, Copy, Debug, PartialEq, Eq, PartialOrd, Ord, Hash)]
 pub struct ThreadId(pub u8);
 
@@ -9,7 +9,8 @@ pub struct ThreadId(pub u8);
 #[derive(Clone, Copy, Debug, PartialEq, Eq, PartialOrd, Ord, Hash)]
 pub struct VarId(pub u16);
 
-/// The number of a lock. A run has at most 4,096; all are free at the start, and none is re-entrant.
+/// The number of a lock. A run has at most [`MOST_LOCKS`](crate::MOST_LOCKS); all are free at the start, and none is
+/// re-entrant.
 #[derive(Clone, Copy, Debug, PartialEq, Eq, PartialOrd, Ord, Hash)]
 pub struct LockId(pub u16);
 

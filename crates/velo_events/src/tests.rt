@@ -1,4 +1,4 @@
-use crate::{BadConfig, Event, Kind, Memory, Refusal};
+use crate::{BadConfig, Bounds, Config, Event, Kind, MOST_OPEN_BLOCKS, Memory, Refusal};
 use std::mem::size_of;
 use std::test::Fail;
 
@@ -41,16 +41,47 @@ fn refusals_have_their_numbers_and_texts(rt: HostRuntime) -> Result<(), Fail> {
 }
 
 #[test]
-fn bad_values_have_their_numbers(rt: HostRuntime) {
-    for (bad, number) in [
-        (BadConfig::Threads, 1),
-        (BadConfig::Variables, 2),
-        (BadConfig::Locks, 3),
-        (BadConfig::Events, 4),
-        (BadConfig::Nodes, 5),
+fn bad_values_have_their_numbers_and_texts(rt: HostRuntime) -> Result<(), Fail> {
+    for (bad, number, text) in [
+        (
+            BadConfig::Threads,
+            1,
+            "the number of threads is not from 1 to 64",
+        ),
+        (
+            BadConfig::Variables,
+            2,
+            "the number of variables is out of range",
+        ),
+        (BadConfig::Locks, 3, "the number of locks is above 4096"),
+        (
+            BadConfig::Events,
+            4,
+            "the limit of events is not from 1 to 16777216",
+        ),
+        (
+            BadConfig::Nodes,
+            5,
+            "the limit of nodes is not from 1 to 4096",
+        ),
     ] {
         assert_eq!(rt; bad as u8, number);
+        assert_eq!(rt; format!(in rt.alloc(); "{bad}")?.as_str(), text);
     }
+    Ok(())
+}
+
+/// A configuration with the greatest values of all.
+#[test]
+fn the_limits_may_be_reached(rt: HostRuntime) {
+    let bounds = Bounds {
+        threads: 64,
+        variables: 65_535,
+        locks: 4_096,
+    };
+    let config = Config::new(0, bounds, 16_777_216, 4_096, true).expect(&rt, "in range");
+    assert_eq!(rt; config.bounds, bounds);
+    assert_eq!(rt; MOST_OPEN_BLOCKS, 32);
 }
 
 #[test]

@@ -10,8 +10,8 @@ use crate::vacate::vacate;
 use std::alloc::Global;
 use std::marker::Model;
 use velo_arena::{Arena, GraphFull, Step};
-use velo_events::growth::filled;
 use velo_events::Memory;
+use velo_events::growth::filled;
 use velo_rows::Ancestors;
 
 /// What adding an edge came to.
@@ -169,6 +169,14 @@ impl<A: Ancestors> Graph<A> {
         ensures sound { IsSound self.now }
     {
         self.arena.newest()
+    }
+
+    /// For its clause alone: what every graph keeps. The call does nothing.
+    pub fn soundness(&self)
+        ensures { IsSound self.now }
+    {
+        // the clause is known once a field is read
+        let _extent = self.arena.extent();
     }
 
     /// Every slot in use is below it. It stays low, as slots that were used before are given out first.

@@ -3,11 +3,11 @@ ghost use Rattle.std.specs.Prelude.{◌≡◌, ◌<◌, ◌≤◌, map, length, 
 ghost use Rattle.std.specs.FinSet as set;
 ghost use Rattle.velo_rows.specs.Meet.{Meet};
 ghost use Rattle.velo_graph.specs.Roots.{one_more, may_meet, IsBelow, MeetBelow};
-ghost use Rattle.velo_graph.specs.Rows.{row_of, widened, ChangesFirst, CarriesEdge};
+ghost use Rattle.velo_graph.specs.Rows.{row_of, with_carried, ChangesFirst, CarriesEdge};
 
 use std::alloc::Global;
-use velo_events::growth::with_capacity;
 use velo_events::Memory;
+use velo_events::growth::with_capacity;
 use velo_rows::Ancestors;
 
 /// As many empty sets as there are slots.
@@ -28,7 +28,7 @@ pub fn empty_rows<A: Ancestors>(alloc: Global, limit: u16) -> Result<Vec<A>, Mem
 fn widen<A: Ancestors>(row: &mut A, slot: u16, more: &A)
     requires slot { slot < A.capacity row.old }
     requires more { A.capacity more.now ≡ A.capacity row.old }
-    ensures members { A.members row.new ≡ widened slot (A.members more.now) (A.members row.old) }
+    ensures members { A.members row.new ≡ with_carried slot (A.members more.now) (A.members row.old) }
     ensures capacity { A.capacity row.new ≡ A.capacity row.old }
 {
     if row.contains(slot) {
@@ -42,7 +42,7 @@ fn widen_first<A: Ancestors>(rows: &mut [A], count: u16, slot: u16, more: &A)
     requires slot { slot < length rows.old }
     requires capacities { map A.capacity rows.old ≡ replicate (length rows.old) (length rows.old) }
     requires more { A.capacity more.now ≡ length rows.old }
-    ensures members { ChangesFirst (widened slot (A.members more.now)) (map A.members rows.old) (map A.members rows.new) count }
+    ensures members { ChangesFirst (with_carried slot (A.members more.now)) (map A.members rows.old) (map A.members rows.new) count }
     ensures capacities { map A.capacity rows.new ≡ map A.capacity rows.old }
 {
     for n in 0..count {

@@ -3,6 +3,7 @@ use Rattle.std.proofs.Common.{◌≡◌, ℕ, Bool, true, false, not, List, leng
 use Rattle.std.specs.Prelude.{◌&&◌, ◌==◌, nat_lt, nat_le, if◌then◌else◌, IsTrue, IsFalse, Result, option_map, slice_get}
 use Rattle.std.proofs.lemmas.Bool.{cases_Bool, cases_lt, lt-ltb, le-ltb, lt-leb, le-leb, eq-eqb, eqb-true, false_from_ne_true, false≢true}
 use Rattle.std.proofs.lemmas.Option.{slice_get_past, same_Some}
+use Rattle.velo_events.specs.declared.limits.TheConstants.{MOST_OPEN_BLOCKS}
 use Rattle.velo_events.specs.declared.config.Bounds.{Bounds}
 use Rattle.velo_events.specs.declared.event.ThreadId.{ThreadId}
 use Rattle.velo_events.specs.declared.event.LockId.{LockId}
@@ -21,8 +22,8 @@ use Rattle.velo_events.specs.WellFormed.{MayFollow, IsWellFormed}
 use Rattle.velo_events.specs.Block.{any_below}
 use Rattle.velo_events.specs.Meaning.{refusal_of, holds_a_lock, kind_for, event_for, action_of, HasItsValue, is_another, is_live, is_unborn, is_joined}
 use Rattle.velo_events.proofs.OnWellFormed.{Facts-from, count_below-zero, count_below-none, count_below, is_held_by}
-use Rattle.velo_events.proofs.OnMeaning.{MayFollow-refusal_of}
-use Rattle.velo_heap.specs.Contents.{Contents, bounds_of, Tabulates, thread_named, locks_in, standing_in, IsHeapOf, unless_refused, admitted, IsAdmitted}
+use Rattle.velo_events.proofs.OnMeaning.{MayFollow-refusal_of, HasItsValue-kind_for}
+use Rattle.velo_heap.specs.Contents.{Contents, bounds_of, Tabulates, thread_named, locks_in, standing_in, IsHeapOf, unless_refused, admission, IsAdmitted}
 use Rattle.velo_heap.specs.Steps.{read_at, write_at, acquire_at, release_at, fork_by, fork_at, join_by, join_at, live_kind, kind_in}
 
 -- the refusal if there is one, or else the operation
@@ -117,7 +118,7 @@ module _ (heap : Contents) (trace : List Event) (stands : IsHeapOf heap trace) w
   kind_in-refusal_of t (Release m) = when_live t (Release m) _ _
       (tabulated heap.holders (λ n. option_map thread_named (holder_in trace n)) m.0 (release_at t m) (Err NoSuchLock) _ stands.holders refl (release_of t m (holder_in trace m.0))
       ∙ sym (kind_or-if (nat_le (length heap.holders) m.0) NoSuchLock _ _))
-  kind_in-refusal_of t (Begin label) = when_live t (Begin label) _ _ (refused_if (nat_le 32 (depth_in trace t.0)) TooDeep (kind.Begin label))
+  kind_in-refusal_of t (Begin label) = when_live t (Begin label) _ _ (refused_if (nat_le MOST_OPEN_BLOCKS (depth_in trace t.0)) TooDeep (kind.Begin label))
   kind_in-refusal_of t End = when_live t End _ _ (refused_if (depth_in trace t.0 == 0) NoOpenBlock kind.End)
   kind_in-refusal_of t (Fork u) = when_live t (Fork u) _ _
       (tabulated heap.threads (standing_in trace) u.0 (fork_at u) (Err NoSuchThread) _ stands.threads refl (fork_of u (status_in trace u.0))
@@ -135,8 +136,8 @@ abbrev pub event_by : ThreadId → Result Kind Refusal → Result Event Refusal
 event_by t (Ok k) = Ok (record { thread = t; kind = k })
 event_by t (Err refusal) = Err refusal
 
-pub admitted-kind_in : (heap : Contents) (trace : List Event) (t : ThreadId) (action : Action) → IsHeapOf heap trace → event_by t (kind_in heap t action) ≡ admitted (bounds_of heap) trace t action
-admitted-kind_in heap trace t action stands = ap (event_by t) (kind_in-refusal_of heap trace stands t action) ∙ joined (refusal_of (bounds_of heap) trace t.0 (kind_for trace action))
+pub admission-kind_in : (heap : Contents) (trace : List Event) (t : ThreadId) (action : Action) → IsHeapOf heap trace → event_by t (kind_in heap t action) ≡ admission (bounds_of heap) trace t action
+admission-kind_in heap trace t action stands = ap (event_by t) (kind_in-refusal_of heap trace stands t action) ∙ joined (refusal_of (bounds_of heap) trace t.0 (kind_for trace action))
   where
     joined : (o : Option Refusal) → event_by t (kind_or (kind_for trace action) o) ≡ unless_refused o (event_for trace t action)
     joined (Some refusal) = refl
@@ -144,29 +145,18 @@ admitted-kind_in heap trace t action stands = ap (event_by t) (kind_in-refusal_o
 
 -- ---- an admitted event may follow
 
-its_own_value : (trace : List Event) (action : Action) → HasItsValue trace (kind_for trace action)
-its_own_value trace (Read x) = refl
-its_own_value trace (Write x v) = tt
-its_own_value trace (Acquire m) = tt
-its_own_value trace (Release m) = tt
-its_own_value trace (Begin label) = tt
-its_own_value trace End = tt
-its_own_value trace (Fork u) = tt
-its_own_value trace (Join u) = tt
-its_own_value trace Exit = tt
-
 unrefused : (o : Option Refusal) (e e' : Event) → unless_refused o e ≡ Ok e' → (o ≡ None) × (e ≡ e')
 unrefused None e e' h = (refl, cc)
 unrefused (Some refusal) e e' h = cc
 
-pub MayFollow-admitted : (bounds : Bounds) (trace : List Event) (t : ThreadId) (action : Action) (e : Event) → IsWellFormed bounds trace → admitted bounds trace t action ≡ Ok e → MayFollow bounds trace e
-MayFollow-admitted bounds trace t action e well h =
+pub MayFollow-admission : (bounds : Bounds) (trace : List Event) (t : ThreadId) (action : Action) (e : Event) → IsWellFormed bounds trace → admission bounds trace t action ≡ Ok e → MayFollow bounds trace e
+MayFollow-admission bounds trace t action e well h =
     let parts = unrefused (refusal_of bounds trace t.0 (kind_for trace action)) (event_for trace t action) e h in
-    subst (MayFollow bounds trace) parts.1 ((MayFollow-refusal_of bounds trace (event_for trace t action) well).1 (parts.0, its_own_value trace action))
+    subst (MayFollow bounds trace) parts.1 ((MayFollow-refusal_of bounds trace (event_for trace t action) well).1 (parts.0, HasItsValue-kind_for trace action))
 
 -- what `admit` answers may be applied
-pub IsAdmitted-from : (heap : Contents) (trace : List Event) (t : ThreadId) (action : Action) (e : Event) → IsHeapOf heap trace → admitted (bounds_of heap) trace t action ≡ Ok e → IsAdmitted heap e
-IsAdmitted-from heap trace t action e stands h = record { trace = trace; stands = stands; follows = MayFollow-admitted (bounds_of heap) trace t action e stands.well_formed h }
+pub IsAdmitted-from : (heap : Contents) (trace : List Event) (t : ThreadId) (action : Action) (e : Event) → IsHeapOf heap trace → admission (bounds_of heap) trace t action ≡ Ok e → IsAdmitted heap e
+IsAdmitted-from heap trace t action e stands h = record { trace = trace; stands = stands; follows = MayFollow-admission (bounds_of heap) trace t action e stands.well_formed h }
 
 -- ---- an event that may follow one of the heap's traces may follow each of them
 
@@ -182,17 +172,6 @@ kind_for-known heap one other t (kind.Fork u) s s' f = refl
 kind_for-known heap one other t (kind.Join u) s s' f = refl
 kind_for-known heap one other t kind.Exit s s' f = refl
 
-its_value : (trace : List Event) (k : Kind) → kind_for trace (action_of k) ≡ k → HasItsValue trace k
-its_value trace (kind.Read x v) h = cc
-its_value trace (kind.Write x v) h = tt
-its_value trace (kind.Acquire m) h = tt
-its_value trace (kind.Release m) h = tt
-its_value trace (kind.Begin label) h = tt
-its_value trace kind.End h = tt
-its_value trace (kind.Fork u) h = tt
-its_value trace (kind.Join u) h = tt
-its_value trace kind.Exit h = tt
-
 pub MayFollow-each : (heap : Contents) (one other : List Event) (e : Event) → IsHeapOf heap one → IsHeapOf heap other → MayFollow (bounds_of heap) one e → MayFollow (bounds_of heap) other e
 MayFollow-each heap one other e s s' f =
     let bounds = bounds_of heap in
@@ -200,7 +179,7 @@ MayFollow-each heap one other e s s' f =
     let same : kind_for other asked ≡ e.kind = kind_for-known heap one other e.thread e.kind s s' f in
     let same_one : kind_for one asked ≡ e.kind = kind_for-known heap one one e.thread e.kind s s f in
     let none : refusal_of bounds one e.thread.0 e.kind ≡ None = ((MayFollow-refusal_of bounds one e s.well_formed).0 f).0 in
-    let answered : admitted bounds one e.thread asked ≡ Ok e = rw same_one (rw none refl) in
-    let answered_too : admitted bounds other e.thread asked ≡ Ok e = sym (admitted-kind_in heap other e.thread asked s') ∙ (admitted-kind_in heap one e.thread asked s ∙ answered) in
+    let answered : admission bounds one e.thread asked ≡ Ok e = rw same_one (rw none refl) in
+    let answered_too : admission bounds other e.thread asked ≡ Ok e = sym (admission-kind_in heap other e.thread asked s') ∙ (admission-kind_in heap one e.thread asked s ∙ answered) in
     let none_too : refusal_of bounds other e.thread.0 e.kind ≡ None = subst (λ k. refusal_of bounds other e.thread.0 k ≡ None) same (unrefused _ _ _ answered_too).0 in
-    (MayFollow-refusal_of bounds other e s'.well_formed).1 (none_too, its_value other e.kind same)
+    (MayFollow-refusal_of bounds other e s'.well_formed).1 (none_too, subst (HasItsValue other) same (HasItsValue-kind_for other asked))

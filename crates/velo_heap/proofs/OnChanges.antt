@@ -12,13 +12,14 @@ use Rattle.velo_events.specs.declared.event.Status.TheVariants.{Unborn, Live, Jo
 use Rattle.velo_events.specs.Event.{are_same, handled_by, forked_by, joined_by}
 use Rattle.velo_events.specs.Heap.{latest, value_in, holder_in, depth_in}
 use Rattle.velo_events.specs.WellFormed.{MayFollow, IsWellFormed}
+use Rattle.velo_events.proofs.OnTraces.{value_in-push}
 use Rattle.velo_events.proofs.OnWellFormed.{Facts, Facts-from, IsWellFormed-nil, IsWellFormed-push, holder_in-push}
 use Rattle.velo_heap.specs.declared.standing.Standing.{Standing}
 use Rattle.velo_heap.specs.Contents.{Contents, bounds_of, Tabulates, thread_named, locks_in, standing_in, IsHeapOf, IsAdmitted}
 use Rattle.velo_heap.specs.Steps.{CountsFit, CanChange, contents_after, standing_after, standing_at, with_status, unborn}
 use Rattle.velo_heap.proofs.OnAdmission.{MayFollow-each}
 use Rattle.velo_heap.proofs.OnTables.{get_or-tabulated, Tabulates-same, Tabulates-set, Tabulates-replicate}
-use Rattle.velo_heap.proofs.OnStandings.{value_in-push, standing-elsewhere, standing-own, standing-forked, standing-joined, standing-not_forked, standing-not_joined, standing-nil, CountsFit-admitted}
+use Rattle.velo_heap.proofs.OnStandings.{standing-elsewhere, standing-own, standing-forked, standing-joined, standing-not_forked, standing-not_joined, standing-nil, CountsFit-admitted}
 
 not_handled : (k : Kind) (i : ℕ) → handled_by k ≡ None → IsFalse (are_same (forked_by k) (Some i)) × IsFalse (are_same (joined_by k) (Some i))
 not_handled (Fork u) i h = cc

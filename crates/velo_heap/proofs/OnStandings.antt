@@ -1,7 +1,6 @@
 -- How a thread stands after one more event.
-use Rattle.std.proofs.Common.{◌≡◌, ℕ, zero, suc, ◌+◌, ◌-◌, ◌≤◌, Bool, true, false, cond, List, [], ◌∷◌, ◌++◌, Option, Some, None, refl, sym, ap, ◌∙◌, arith, add-zero}
+use Rattle.std.proofs.Common.{◌≡◌, ℕ, zero, suc, ◌+◌, ◌-◌, ◌≤◌, Bool, true, false, cond, List, [], ◌∷◌, ◌++◌, None, refl, sym, ap, ◌∙◌, arith}
 use Rattle.std.specs.Prelude.{◌==◌, ◌||◌, if◌then◌else◌, IsTrue, IsFalse}
-use Rattle.std.specs.Option.{option_map_or}
 use Rattle.std.proofs.lemmas.Bool.{eq-eqb, ne_eqb, and_left, and_right, and_from, or_right, or_from, false_from_ne_true, false≢true}
 use Rattle.velo_events.specs.declared.config.Bounds.{Bounds}
 use Rattle.velo_events.specs.declared.event.ThreadId.{ThreadId}
@@ -10,46 +9,17 @@ use Rattle.velo_events.specs.declared.event.Kind.{Kind}
 use Rattle.velo_events.specs.declared.event.Kind.TheVariants.{Read, Write, Acquire, Release, Begin, End, Fork, Join, Exit}
 use Rattle.velo_events.specs.declared.event.Status.{Status}
 use Rattle.velo_events.specs.declared.event.Status.TheVariants.{Unborn, Live, Exited, Joined}
-use Rattle.velo_events.specs.Event.{value_of, is_write_of, is_begin_by, is_end_by, is_acquire_by, is_release_by, is_exit_by, is_fork_of, is_join_of, handled_by}
-use Rattle.velo_events.specs.Heap.{latest, happened, times, value_in, was_born, status_in, depth_in}
+use Rattle.velo_events.specs.Event.{is_begin_by, is_end_by, is_acquire_by, is_release_by, is_exit_by, is_fork_of, is_join_of, handled_by}
+use Rattle.velo_events.specs.Heap.{latest, happened, times, was_born, status_in, depth_in}
 use Rattle.velo_events.specs.WellFormed.{MayFollow}
-use Rattle.velo_events.proofs.OnTraces.{latest-push, happened-push, times-push}
+use Rattle.velo_events.proofs.OnTraces.{happened-yes, happened-no, times-yes, times-no}
+use Rattle.velo_events.proofs.OnStatuses.{status_by}
 use Rattle.velo_events.proofs.OnWellFormed.{Facts, count_below, held_by}
 use Rattle.velo_heap.specs.declared.standing.Standing.{Standing}
 use Rattle.velo_heap.specs.Contents.{locks_in, standing_in}
 use Rattle.velo_heap.specs.Steps.{CountsFit, standing_after}
 
--- ---- values
-
-pub value_in-push : (trace : List Event) (e : Event) (x : ℕ) → value_in (trace ++ e ∷ []) x ≡ (if is_write_of x e then value_of e.kind else value_in trace x)
-value_in-push trace e x = ap last (latest-push (is_write_of x) trace e)
-    ∙ elim (is_write_of x e) as (λ b. last (if b then Some e else latest (is_write_of x) trace) ≡ (if b then value_of e.kind else last (latest (is_write_of x) trace))) [ true ↦ refl | false ↦ refl ]
-  where
-    last : Option Event → ℕ
-    last o = option_map_or (λ f. value_of f.kind) o 0
-
--- ---- counts and marks
-
-times-yes : (test : Event → Bool) (trace : List Event) (e : Event) → IsTrue (test e) → times test (trace ++ e ∷ []) ≡ times test trace + 1
-times-yes test trace e h = times-push test trace e ∙ ap (λ b. times test trace + cond {A = ℕ} b 1 0) h
-
-times-no : (test : Event → Bool) (trace : List Event) (e : Event) → IsFalse (test e) → times test (trace ++ e ∷ []) ≡ times test trace
-times-no test trace e h = times-push test trace e ∙ (ap (λ b. times test trace + cond {A = ℕ} b 1 0) h ∙ add-zero (times test trace))
-
-happened-yes : (test : Event → Bool) (trace : List Event) (e : Event) → IsTrue (test e) → IsTrue (happened test (trace ++ e ∷ []))
-happened-yes test trace e h = happened-push test trace e ∙ or_right _ _ h
-
-happened-no : (test : Event → Bool) (trace : List Event) (e : Event) → IsFalse (test e) → happened test (trace ++ e ∷ []) ≡ happened test trace
-happened-no test trace e h = happened-push test trace e ∙ (ap (λ b. happened test trace || b) h ∙ or_false (happened test trace))
-  where
-    or_false : (b : Bool) → (b || false) ≡ b
-    or_false true = refl
-    or_false false = refl
-
 -- ---- one field at a time
-
-abbrev status_by : Bool → Bool → Bool → Status
-status_by joined exited born = if joined then Joined else (if exited then Exited else (if born then Live else Unborn))
 
 module _ (trace : List Event) (e : Event) (i : ℕ) where
   status-same : IsFalse (is_join_of i e) → IsFalse (is_exit_by i e) → IsFalse (is_fork_of i e) → status_in (trace ++ e ∷ []) i ≡ status_in trace i

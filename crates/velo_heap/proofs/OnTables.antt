@@ -1,27 +1,11 @@
 -- Tables, read and written at one place.
-use Rattle.std.proofs.Common.{◌≡◌, ℕ, zero, suc, ◌<◌, List, [], ◌∷◌, length, set, replicate, get_or, Some, refl, sym, ◌∙◌, subst, ap, arith, ⊎_elim}
+use Rattle.std.proofs.Common.{◌≡◌, ℕ, ◌<◌, List, length, set, replicate, get_or, Some, sym, ◌∙◌, subst, ap, arith, ⊎_elim}
 use Rattle.std.specs.Prelude.{slice_get}
 use Rattle.std.proofs.lemmas.Bool.{cases_eq}
 use Rattle.std.proofs.lemmas.List.{length-set, length-replicate}
 use Rattle.std.proofs.lemmas.Option.{get_or_from_slice_get}
+use Rattle.velo_events.proofs.OnLists.{slice_get-set_same, slice_get-set_other, slice_get-replicate}
 use Rattle.velo_heap.specs.Contents.{Tabulates}
-
-slice_get-set_same : {X : Type 0} (xs : List X) (i : ℕ) (y : X) → i < length xs → slice_get (set xs i y) i ≡ Some y
-slice_get-set_same [] i y h = absurd (omega arith)
-slice_get-set_same (x ∷ xs) zero y h = refl
-slice_get-set_same (x ∷ xs) (suc i) y h = slice_get-set_same xs i y (omega arith)
-
-slice_get-set_other : {X : Type 0} (xs : List X) (i j : ℕ) (y : X) → (j ≡ i → ⊥) → slice_get (set xs i y) j ≡ slice_get xs j
-slice_get-set_other [] i j y h = refl
-slice_get-set_other (x ∷ xs) zero zero y h = absurd (h refl)
-slice_get-set_other (x ∷ xs) zero (suc j) y h = refl
-slice_get-set_other (x ∷ xs) (suc i) zero y h = refl
-slice_get-set_other (x ∷ xs) (suc i) (suc j) y h = slice_get-set_other xs i j y (λ e. h (ap suc e))
-
-slice_get-replicate : {X : Type 0} (n i : ℕ) (x : X) → i < n → slice_get (replicate n x) i ≡ Some x
-slice_get-replicate zero i x h = absurd (omega arith)
-slice_get-replicate (suc n) zero x h = refl
-slice_get-replicate (suc n) (suc i) x h = slice_get-replicate n i x (omega arith)
 
 pub get_or-tabulated : {X : Type 0} (items : List X) (f : ℕ → X) (d : X) (i : ℕ) → Tabulates items f → i < length items → get_or items i d ≡ f i
 get_or-tabulated items f d i table within = get_or_from_slice_get items i (f i) d (table.each i within)
@@ -37,7 +21,7 @@ Tabulates-set items f g at x table there here elsewhere = record {
       let below : i < length items = omega (arith, within, length-set items at x) in
       ⊎_elim
       (λ (same : i ≡ at). subst (λ n. slice_get (set items at x) n ≡ Some (g n)) (sym same) (slice_get-set_same items at x there ∙ ap Some (sym here)))
-      (λ differ. slice_get-set_other items at i x differ ∙ (table.each i below ∙ ap Some (sym (elsewhere i differ))))
+      (λ differ. slice_get-set_other items at i x (λ e. differ (sym e)) ∙ (table.each i below ∙ ap Some (sym (elsewhere i differ))))
       (cases_eq i at);
 }
 

@@ -52,8 +52,8 @@ unless_refused (Some refusal) event = Err refusal
 unless_refused None event = Ok event
 
 -- the first reason to refuse the action after the trace, or else its event
-abbrev pub admitted : Bounds → List Event → ThreadId → Action → Result Event Refusal
-admitted bounds trace t action = unless_refused (refusal_of bounds trace t.0 (kind_for trace action)) (event_for trace t action)
+abbrev pub admission : Bounds → List Event → ThreadId → Action → Result Event Refusal
+admission bounds trace t action = unless_refused (refusal_of bounds trace t.0 (kind_for trace action)) (event_for trace t action)
 
 -- the event was admitted: it may follow a trace that the heap stands for
 pub record IsAdmitted (heap : Contents) (event : Event) : Type 0 where

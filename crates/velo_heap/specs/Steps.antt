@@ -13,7 +13,8 @@ use Rattle.velo_events.specs.declared.event.Status.TheVariants.{Unborn, Live, Ex
 use Rattle.velo_events.specs.declared.refusal.Refusal.{Refusal}
 use Rattle.velo_events.specs.declared.refusal.Refusal.TheVariants.{NotLive, NoSuchVariable, NoSuchLock, NoSuchThread, Busy, AlreadyHeld, NotHolder, NoOpenBlock, TooDeep, AlreadyForked, NotForked, NotExited, AlreadyJoined, BlockOpen, LockHeld}
 use Rattle.velo_events.specs.Meaning.{is_live}
-use Rattle.velo_events.specs.WellFormed.{most_open_blocks, NamesKnown}
+use Rattle.velo_events.specs.declared.limits.TheConstants.{MOST_OPEN_BLOCKS}
+use Rattle.velo_events.specs.WellFormed.{NamesKnown}
 use Rattle.velo_heap.specs.declared.standing.Standing.{Standing}
 use Rattle.velo_heap.specs.Contents.{Contents, bounds_of}
 
@@ -56,7 +57,7 @@ join_at u (Some child) = join_by u child.status
 join_at u None = Err NoSuchThread
 
 abbrev pub begin_in : Standing → Label → Result Kind Refusal
-begin_in own label = if nat_le most_open_blocks own.depth then Err TooDeep else Ok (Begin label)
+begin_in own label = if nat_le MOST_OPEN_BLOCKS own.depth then Err TooDeep else Ok (Begin label)
 
 abbrev pub end_in : Standing → Result Kind Refusal
 end_in own = if own.depth == 0 then Err NoOpenBlock else Ok End
@@ -90,7 +91,7 @@ kind_in heap t action = kind_if_live heap t (slice_get heap.threads t.0) action
 abbrev pub CountsFit : ℕ → Standing → Kind → Type 0
 CountsFit most own (Acquire m) = own.locks < most
 CountsFit most own (Release m) = 0 < own.locks
-CountsFit most own (Begin label) = own.depth < most_open_blocks
+CountsFit most own (Begin label) = own.depth < MOST_OPEN_BLOCKS
 CountsFit most own End = 0 < own.depth
 CountsFit most own _ = ⊤
 

@@ -2,7 +2,7 @@ ghost use Rattle.velo_events.specs.Refusals.{GrowthRefused};
 ghost use Rattle.std.specs.Prelude.{◌≡◌, ◌<◌, [], ◌∷◌, ◌++◌, List, IfOk, option_map, length, slice_get, OnErr};
 ghost use Rattle.velo_events.specs.declared.event.Event.{Event};
 ghost use Rattle.velo_events.specs.Heap.{value_in, holder_in, status_in, depth_in};
-ghost use Rattle.velo_heap.specs.Contents.{bounds_of, IsHeapOf, admitted, IsAdmitted};
+ghost use Rattle.velo_heap.specs.Contents.{bounds_of, IsHeapOf, admission, IsAdmitted};
 ghost use Rattle.velo_heap.specs.Steps.{read_at, write_at, acquire_at, release_at, fork_at, join_at, kind_in, contents_after, CanChange};
 
 use crate::standing::Standing;
@@ -14,7 +14,7 @@ use velo_events::{Action, Config, Event, Kind, LockId, Memory, Refusal, Status, 
 /// The variables, locks and threads of a run as they stand.
 ///
 /// A heap keeps no log. It stands for the trace of the events that were applied to it.
-#[derive(Drop)]
+#[derive(Debug, Drop)]
 pub struct Heap {
     values: Vec<u64>,
     holders: Vec<Option<ThreadId>>,
@@ -23,14 +23,15 @@ pub struct Heap {
 
 impl Model for Heap {
     ghost use Rattle.std.specs.Prelude.{◌≤◌, length};
+    ghost use Rattle.velo_events.specs.declared.limits.TheConstants.{MOST_LOCKS};
     ghost use Rattle.velo_heap.specs.Contents.{Contents};
 
     ghost Value = { Contents };
 
     ghost view = { λ h. record { values = h.values.items; holders = h.holders.items; threads = h.threads.items } };
 
-    // at most so many locks that the count of those that a thread holds never wraps
-    ghost invariant = { λ h. length h.holders.items ≤ 65535 };
+    // so few locks that the count of those that a thread holds never wraps
+    ghost invariant = { λ h. length h.holders.items ≤ MOST_LOCKS };
 }
 
 impl Heap {
@@ -61,7 +62,7 @@ impl Heap {
     /// The first refusal that applies, from `NotLive` (2) to `LockHeld` (16).
     pub fn admit(&self, thread: ThreadId, action: Action) -> Result<Event, Refusal>
         ensures { (trace : List Event) → IsHeapOf self.now trace →
-            result ≡ admitted (bounds_of self.now) trace thread action }
+            result ≡ admission (bounds_of self.now) trace thread action }
     {
         let kind = self.kind_for(thread, action)?;
         Ok(Event { thread, kind })
@@ -105,7 +106,7 @@ impl Heap {
         self.threads[at].status
     }
 
-    /// How many blocks a thread has open, at most 32.
+    /// How many blocks a thread has open.
     pub fn depth(&self, t: ThreadId) -> u8
         requires { t.0 < (bounds_of self.now).threads }
         ensures { (trace : List Event) → IsHeapOf self.now trace → result ≡ depth_in trace t.0 }

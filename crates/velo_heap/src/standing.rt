@@ -1,14 +1,12 @@
 ghost use Rattle.std.specs.Prelude.{◌≡◌};
 ghost use Rattle.velo_events.specs.Meaning.{is_live};
+ghost use Rattle.velo_events.specs.declared.limits.TheConstants.{MOST_LOCKS};
 ghost use Rattle.velo_heap.specs.Steps.{CountsFit, standing_after, begin_in, end_in, exit_in, fork_by, join_by, unborn};
 
-use velo_events::{Kind, Label, Refusal, Status, ThreadId};
-
-/// How many blocks a thread may have open.
-const MOST_OPEN_BLOCKS: u8 = 32;
+use velo_events::{Kind, Label, MOST_OPEN_BLOCKS, Refusal, Status, ThreadId};
 
 /// How one thread stands.
-#[derive(Clone, Copy)]
+#[derive(Clone, Copy, Debug)]
 pub struct Standing {
     pub status: Status,
     /// How many blocks it has open.
@@ -38,7 +36,7 @@ impl Standing {
     pub fn admit_begin(self, label: Label) -> Result<Kind, Refusal>
         ensures { result ≡ begin_in self label }
     {
-        if self.depth >= MOST_OPEN_BLOCKS {
+        if usize::from(self.depth) >= MOST_OPEN_BLOCKS {
             Err(Refusal::TooDeep)
         } else {
             Ok(Kind::Begin(label))
@@ -91,7 +89,7 @@ impl Standing {
 
     /// The thread after its own operation.
     pub fn after(self, kind: Kind) -> Standing
-        requires { CountsFit 65535 self kind }
+        requires { CountsFit MOST_LOCKS self kind }
         ensures { result ≡ standing_after self kind }
     {
         match kind {

@@ -1,4 +1,5 @@
 ghost use Rattle.velo_events.specs.Refusals.{GrowthRefused};
+ghost use Rattle.velo_events.specs.declared.limits.TheConstants.{MOST_EVENTS};
 ghost use Rattle.std.specs.Prelude.{◌≡◌, ◌<◌, ◌≤◌, ◌↔◌, Some, IfOk, IfSome, IsTrue, length, slice_get, sum_by, OnErr};
 ghost use Rattle.std.specs.Option.{SomeIff};
 ghost use Rattle.velo_ledger.specs.Tally.{with_event};
@@ -14,7 +15,7 @@ use velo_events::growth::reserve;
 use velo_events::{Event, Memory, ThreadId};
 
 /// A row for each thread of a run.
-#[derive(Drop)]
+#[derive(Debug, Drop)]
 pub struct Book {
     run: u64,
     rows: Vec<Tally>,
@@ -34,6 +35,9 @@ impl Model for Book {
 
 impl Book {
     /// A book without events, and a fitting share of each of its threads.
+    ///
+    /// Books that are alive together need different numbers of their runs. With the same number, a share of one book fits
+    /// another where the other's row says the same.
     pub fn open(alloc: Global, run: u64, threads: u8) -> Result<(Book, Shares), Memory>
         ensures book { IfOk result (λ opened. opened.0 ≡ opening_accounts run threads) }
         ensures shares { IfOk result (λ opened. AreOpening run threads opened.1) }
@@ -79,7 +83,7 @@ impl Book {
         requires fits { FitsBook self.old share.old }
         requires thread { event.now.thread ≡ share.old.thread }
         requires later { share.old.tally.next ≤ position }
-        requires room { position < 16777216 }
+        requires room { position < MOST_EVENTS }
         ensures book { self.new ≡ with_row self.old share.old.thread (with_event share.old.tally position event.now) }
         ensures share { share.new ≡ with_tally share.old (with_event share.old.tally position event.now) }
         ensures fit { FitsBook self.new share.new }
@@ -93,7 +97,7 @@ impl Book {
     /// The events that the place counts, where no share is missing there and the share fits.
     fn events_at(&self, place: usize, share: &Option<Share>) -> Option<u64>
         ensures sum { SomeIff result (PlaceFits self.now place share.now) (events_in share.now) }
-        ensures few { IfSome result (λ events. events ≤ 16777216) }
+        ensures few { IfSome result (λ events. events ≤ MOST_EVENTS) }
     {
         match share {
             Some(share) if self.fits(share) => Some(share.tally.events),

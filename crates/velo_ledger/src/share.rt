@@ -5,7 +5,7 @@ use std::marker::Model;
 use velo_events::{Event, ThreadId};
 
 /// What one thread knows of its own row. It has no copy, and only `Book::open` makes shares.
-#[derive(Drop, Debug)]
+#[derive(Debug, Drop)]
 pub struct Share {
     pub(crate) run: u64,
     pub(crate) thread: ThreadId,

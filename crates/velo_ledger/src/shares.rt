@@ -10,7 +10,7 @@ use velo_events::growth::reserve;
 use velo_events::{Memory, ThreadId};
 
 /// A place for each thread's share.
-#[derive(Drop)]
+#[derive(Debug, Drop)]
 pub struct Shares {
     pub(crate) places: Vec<Option<Share>>,
 }

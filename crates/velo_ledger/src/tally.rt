@@ -1,4 +1,5 @@
 ghost use Rattle.std.specs.Prelude.{◌≡◌, ◌<◌, ◌↔◌, IsTrue};
+ghost use Rattle.velo_events.specs.declared.limits.TheConstants.{MOST_EVENTS};
 
 use velo_events::{Event, Kind};
 
@@ -36,7 +37,7 @@ impl Tally {
     /// The tally with one event more.
     pub(crate) fn with_event(&self, position: u64, event: &Event) -> Tally
         requires small { IsSmall self.now }
-        requires room { position < 16777216 }
+        requires room { position < MOST_EVENTS }
         ensures { result ≡ with_event self.now position event.now }
     {
         let (read, written) = amounts(&event.kind);
@@ -53,11 +54,7 @@ impl Tally {
     pub(crate) fn is_same(&self, other: &Tally) -> bool
         ensures { IsTrue result ↔ (self.now ≡ other.now) }
     {
-        self.events == other.events
-            && self.next == other.next
-            && is_same_last(&self.last, &other.last)
-            && self.read_total == other.read_total
-            && self.written_total == other.written_total
+        *self == *other
     }
 }
 
@@ -71,26 +68,4 @@ fn amounts(kind: &Kind) -> (u64, u64)
         Kind::Write(_, value) => (0, value),
         _ => (0, 0),
     }
-}
-
-fn is_same_last(a: &Option<Event>, b: &Option<Event>) -> bool
-    ensures { IsTrue result ↔ (a.now ≡ b.now) }
-{
-    match (a, b) {
-        (None, None) => true,
-        (Some(a), Some(b)) => is_same_event(a, b),
-        _ => false,
-    }
-}
-
-fn is_same_event(a: &Event, b: &Event) -> bool
-    ensures { IsTrue result ↔ (a.now ≡ b.now) }
-{
-    a.thread == b.thread && is_same_kind(&a.kind, &b.kind)
-}
-
-fn is_same_kind(a: &Kind, b: &Kind) -> bool
-    ensures { IsTrue result ↔ (a.now ≡ b.now) }
-{
-    *a == *b
 }

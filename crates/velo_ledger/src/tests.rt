@@ -1,7 +1,7 @@
 use crate::{Book, Shares, Tally, gather};
 use std::process::Abort;
 use std::test::Fail;
-use velo_events::{Event, Kind, Label, ThreadId, VarId};
+use velo_events::{Event, Kind, Label, MOST_EVENTS, ThreadId, VarId};
 
 const X: VarId = VarId(0);
 
@@ -22,7 +22,7 @@ fn enter(
 ) -> Result<(), Fail> {
     let mut share = shares.take(event.thread).ok_or("no share")?;
     assert!(rt; book.fits(&share));
-    assert!(rt; share.next() <= position as u64 && position < 16_777_216);
+    assert!(rt; share.next() <= position as u64 && position < MOST_EVENTS as usize);
     book.enter(&mut share, position, event);
     assert!(rt; shares.put(share).is_ok());
     Ok(())

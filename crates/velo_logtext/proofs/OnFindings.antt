@@ -16,12 +16,11 @@ use Rattle.velo_logtext.specs.Text.{kind_text, header_line, event_line, event_li
 use Rattle.velo_logtext.specs.Finding.{HasNoHeader, HasNoEvent, IsCutLine, Answers, failures_after}
 use Rattle.velo_logtext.specs.Reading.{event_at, header_at}
 use Rattle.velo_events.specs.Refusals.{GrowthRefused}
-use Rattle.velo_logtext.specs.Window.{margin, Stops, judged, LinesGive}
+use Rattle.velo_logtext.specs.Window.{margin, IsReason, judged, LinesGive}
 use Rattle.velo_logtext.proofs.Choices.{front_of}
 use Rattle.velo_logtext.proofs.OnDevices.{keeps_from_none}
 use Rattle.velo_logtext.proofs.OnWindows.{rest_is}
-use Rattle.velo_logtext.proofs.OnLines.{event_taken, event_again, event_short, header_taken, header_again, header_short}
-use Rattle.velo_logtext.proofs.OnStreams.{fit_more, event_lines_push}
+use Rattle.velo_logtext.proofs.OnLines.{event_again, event_short, header_taken, header_again, header_short}
 
 cases_bool : (b : Bool) → (b ≡ true) ⊎ (b ≡ false)
 cases_bool true = inl refl
@@ -102,8 +101,8 @@ no_header bytes more none enough =
 abbrev pub is_bad : List ℕ → Bool
 is_bad rest = ltb 64 (length rest) || has_newline rest
 
-bad_seen : (rest : List ℕ) → is_bad rest ≡ true → Contains rest 10 ⊎ (64 < length rest)
-bad_seen rest e =
+bad_ended : (rest : List ℕ) → is_bad rest ≡ true → Contains rest 10 ⊎ (64 < length rest)
+bad_ended rest e =
     elim (cases_lt 64 (length rest)) [
       | inl long ↦ inr long
       | inr short ↦
@@ -116,24 +115,24 @@ or_true : (b : Bool) → (b || true) ≡ true
 or_true true = refl
 or_true false = refl
 
-pub seen_bad : (rest : List ℕ) → Contains rest 10 ⊎ (64 < length rest) → is_bad rest ≡ true
-seen_bad rest (inl h) = let found = newline_found rest h.0 h.1 h.2 in rw found (or_true (ltb 64 (length rest)))
-seen_bad rest (inr long) = let test : ltb 64 (length rest) ≡ true = grind (arith, nat_tests) in rw test refl
+pub ended_bad : (rest : List ℕ) → Contains rest 10 ⊎ (64 < length rest) → is_bad rest ≡ true
+ended_bad rest (inl h) = let found = newline_found rest h.0 h.1 h.2 in rw found (or_true (ltb 64 (length rest)))
+ended_bad rest (inr long) = let test : ltb 64 (length rest) ≡ true = grind (arith, nat_tests) in rw test refl
 
 -- neither long nor with a newline
 not_bad : (rest : List ℕ) → is_bad rest ≡ false → (length rest ≤ 64) × (¬ Contains rest 10)
 not_bad rest e = (
   elim (cases_lt 64 (length rest)) [
-    | inl long ↦ absurd (let bad = seen_bad rest (inr long) in cc)
+    | inl long ↦ absurd (let bad = ended_bad rest (inr long) in cc)
     | inr short ↦ short
   ],
-  λ h. let bad = seen_bad rest (inl h) in absurd cc,
+  λ h. let bad = ended_bad rest (inl h) in absurd cc,
 )
 
 pub cut_not_bad : (rest : List ℕ) → IsCutLine rest → is_bad rest ≡ false
 cut_not_bad rest cut =
     elim (cases_bool (is_bad rest)) [
-      | inl bad ↦ absurd (⊎_elim cut.no_newline (λ long. omega (arith, long, cut.few)) (bad_seen rest bad))
+      | inl bad ↦ absurd (⊎_elim cut.no_newline (λ long. omega (arith, long, cut.few)) (bad_ended rest bad))
       | inr fine ↦ fine
     ]
 
@@ -158,7 +157,7 @@ line_fault last limit events rest more bytes true f test none room enough text i
         text = text;
         left = record {
           no_event = no_event rest more none (enough_for_line last rest more enough);
-          seen = ⊎_elim (λ h. inl (newline_more rest more h)) (λ long. inr (omega (arith, long, length-append rest more))) (bad_seen rest test);
+          ended = ⊎_elim (λ h. inl (newline_more rest more h)) (λ long. inr (omega (arith, long, length-append rest more))) (bad_ended rest test);
         };
       },
     ) in
@@ -178,7 +177,7 @@ left_over lines rest more bytes e = e ∙ append_assoc lines rest more
 some_more : (last : Bool) (rest more : List ℕ) → margin last < length rest → 0 < length (rest ++ more)
 some_more last rest more h = omega (arith, h, length-append rest more)
 
-fault_given : (limit : ℕ) (last : Bool) (events : List Event) (rest more bytes : List ℕ) (stop : Stop) (f : LogFault) → Stops limit last (length events) rest stop → judged stop rest (length events + 2) ≡ Err f → bytes ≡ event_lines events ++ (rest ++ more) → (IsTrue last → more ≡ []) → LinesGive limit bytes events (Err f)
+fault_given : (limit : ℕ) (last : Bool) (events : List Event) (rest more bytes : List ℕ) (stop : Stop) (f : LogFault) → IsReason limit last (length events) rest stop → judged stop rest (length events + 2) ≡ Err f → bytes ≡ event_lines events ++ (rest ++ more) → (IsTrue last → more ≡ []) → LinesGive limit bytes events (Err f)
 fault_given limit last events rest more bytes Short f stops is text at_end = absurd cc
 fault_given limit last events rest more bytes NoEvent f stops is text at_end =
     line_fault last limit events rest more bytes (is_bad rest) f refl stops.2 stops.1 (at_end, stops.0) text is
@@ -186,13 +185,10 @@ fault_given limit last events rest more bytes Full f stops is text at_end =
     let wrong : LinesGive limit bytes events (Err TooLong) = (stops.1, record { rest = rest ++ more; text = text; left = some_more last rest more stops.0 }) in
     subst (λ (r : Result (Unit {0}) LogFault). LinesGive limit bytes events r) is wrong
 fault_given limit last events rest more bytes NoRoom f stops is text at_end =
-    let taken = stops.1 in
-    let found = event_taken rest taken.0 taken.1 taken.2 in
-    let wrong : LinesGive limit bytes events (Err Memory) =
-    record { rest = rest ++ more; text = text; left = (taken.0, taken.1 ++ more, found.fits, ap (λ (t : List ℕ). t ++ more) found.text ∙ append_assoc (event_line taken.0) taken.1 more) } in
+    let wrong : LinesGive limit bytes events (Err Memory) = stops in
     subst (λ (r : Result (Unit {0}) LogFault). LinesGive limit bytes events r) is wrong
 
-pub judged_fault : (limit : ℕ) (last : Bool) (events : List Event) (rest : List ℕ) (stop : Stop) (f : LogFault) (total remaining : Option (List ℕ)) → Stops limit last (length events) rest stop → judged stop rest (length events + 2) ≡ Err f
+pub judged_fault : (limit : ℕ) (last : Bool) (events : List Event) (rest : List ℕ) (stop : Stop) (f : LogFault) (total remaining : Option (List ℕ)) → IsReason limit last (length events) rest stop → judged stop rest (length events + 2) ≡ Err f
     → Keeps total (prepend_known (event_lines events ++ rest) remaining) → (IsTrue last → IsAtEnd remaining) → IfSome total (λ bytes. LinesGive limit bytes events (Err f))
 judged_fault limit last events rest stop f None remaining stops is kept at_end = tt
 judged_fault limit last events rest stop f (Some bytes) None stops is kept at_end = absurd kept
@@ -223,14 +219,14 @@ line_no_memory true line is = cc
 line_no_memory false line is = cc
 
 -- memory is wanted only where a growth was refused
-pub judged_memory : (limit : ℕ) (last : Bool) (count : ℕ) (rest : List ℕ) (stop : Stop) (line : ℕ) → Stops limit last count rest stop → judged stop rest line ≡ Err Memory → GrowthRefused
+pub judged_memory : (limit : ℕ) (last : Bool) (count : ℕ) (rest : List ℕ) (stop : Stop) (line : ℕ) → IsReason limit last count rest stop → judged stop rest line ≡ Err Memory → GrowthRefused
 judged_memory limit last count rest Short line stops is = absurd cc
 judged_memory limit last count rest NoEvent line stops is = absurd (line_no_memory (is_bad rest) line is)
 judged_memory limit last count rest Full line stops is = absurd cc
-judged_memory limit last count rest NoRoom line stops is = stops.0
+judged_memory limit last count rest NoRoom line stops is = stops
 
 -- all lines were taken
-pub judged_all : (limit : ℕ) (events : List Event) (rest : List ℕ) (stop : Stop) (line : ℕ) (x : Unit {0}) (total remaining : Option (List ℕ)) → Stops limit true (length events) rest stop → judged stop rest line ≡ Ok x
+pub judged_all : (limit : ℕ) (events : List Event) (rest : List ℕ) (stop : Stop) (line : ℕ) (x : Unit {0}) (total remaining : Option (List ℕ)) → IsReason limit true (length events) rest stop → judged stop rest line ≡ Ok x
     → Keeps total (prepend_known (event_lines events ++ rest) remaining) → IsAtEnd remaining → IfSome total (λ bytes. bytes ≡ event_lines events)
 judged_all limit events rest Short line x None remaining stops is kept at_end = tt
 judged_all limit events rest Short line x (Some bytes) None stops is kept at_end = absurd kept
@@ -256,12 +252,7 @@ answers_lines limit bytes lines b events (Truncated n) whole bounds fits given =
 answers_lines limit bytes lines b events TooLong whole bounds fits given =
     record { bounds = b; events = events; rest = given.1.rest; begins = begins bytes b events lines given.1.rest whole given.1.text bounds fits; full = given.0; more = given.1.left }
 answers_lines limit bytes lines b events Read whole bounds fits given = tt
-answers_lines limit bytes lines b events Memory whole bounds fits given =
-    let e = given.left.0 in
-    let after = given.left.1 in
-    let one : event_lines (events ++ e ∷ []) ≡ event_lines events ++ event_line e = event_lines_push events e in
-    let text : lines ≡ event_lines (events ++ e ∷ []) ++ after = given.text ∙ ap (λ (t : List ℕ). event_lines events ++ t) given.left.3 ∙ sym (append_assoc (event_lines events) (event_line e) after) ∙ ap (λ (t : List ℕ). t ++ after) (sym one) in
-    record { bounds = b; events = events; event = e; rest = after; begins = begins bytes b (events ++ e ∷ []) lines after whole text bounds (fit_more events e fits given.left.2) }
+answers_lines limit bytes lines b events Memory whole bounds fits given = given
 
 -- the header was taken, and what follows it was moved to the front
 whole_text : (a r : Option (List ℕ)) (there rest : List ℕ) (b : Bounds) → Keeps a (prepend_known there r) → there ≡ header_line b ++ rest → Keeps a (prepend_known (header_line b ++ rest) r)

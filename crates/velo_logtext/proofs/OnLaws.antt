@@ -8,10 +8,10 @@ use Rattle.velo_events.specs.declared.event.Event.{Event}
 use Rattle.velo_logtext.specs.declared.fault.LogFault.{LogFault}
 use Rattle.velo_logtext.specs.declared.fault.LogFault.TheVariants.{BadHeader, BadLine, Truncated, TooLong, Read, Memory}
 use Rattle.velo_logtext.specs.Text.{header_line, event_line, event_lines, IsEvent, AreEvents, Begins, IsLogText}
-use Rattle.velo_logtext.specs.Finding.{HasNoHeader, HasNoEvent, IsBadLine, IsCutLine, Finding, Stands, Answers, Tells}
+use Rattle.velo_logtext.specs.Finding.{HasNoHeader, HasNoEvent, IsBadLine, IsCutLine, Finding, Stands, Answers, IsFindingOrFailure}
 use Rattle.velo_logtext.specs.Reading.{Taken, event_at, header_at}
 use Rattle.velo_logtext.proofs.OnLines.{event_taken, event_again, event_short, header_taken, header_again}
-use Rattle.velo_logtext.proofs.OnFindings.{is_bad, seen_bad, cut_not_bad, newline_of_event}
+use Rattle.velo_logtext.proofs.OnFindings.{is_bad, ended_bad, cut_not_bad, newline_of_event}
 
 -- ---- a reading from the front
 
@@ -104,8 +104,8 @@ cut_no_event rest cut = record { none = λ e after fits same. cut.no_newline (su
 scan_bad : (j n : ℕ) (rest : List ℕ) → IsBadLine rest → scan (suc j) n rest ≡ Err (BadLine n)
 unfolding scan
 scan_bad j n rest bad =
-    let some : 0 < length rest = ⊎_elim (λ h. omega (arith, h.1)) (λ long. omega (arith, long)) bad.seen in
-    rw (some_there rest some, no_event_taken rest bad.no_event, seen_bad rest bad.seen) refl
+    let some : 0 < length rest = ⊎_elim (λ h. omega (arith, h.1)) (λ long. omega (arith, long)) bad.ended in
+    rw (some_there rest some, no_event_taken rest bad.no_event, ended_bad rest bad.ended) refl
 
 scan_cut : (j n : ℕ) (rest : List ℕ) → IsCutLine rest → scan (suc j) n rest ≡ Err (Truncated n)
 unfolding scan
@@ -156,19 +156,19 @@ stands_read limit bytes (Err Memory) h = absurd h
 pub one_finding_is : (limit : ℕ) (bytes : List ℕ) (f g : Finding) → Stands limit bytes f → Stands limit bytes g → f ≡ g
 one_finding_is limit bytes f g p q = sym (stands_read limit bytes f p) ∙ stands_read limit bytes g q
 
-pub answers_tell : (limit : ℕ) (bytes : List ℕ) (answer f : Finding) → Answers limit bytes answer → Stands limit bytes f → Tells answer f
-answers_tell limit bytes (Ok log) f a s = one_finding_is limit bytes f (Ok log) s a
-answers_tell limit bytes (Err Read) f a s = tt
-answers_tell limit bytes (Err Memory) f a s = tt
-answers_tell limit bytes (Err BadHeader) f a s = one_finding_is limit bytes f (Err BadHeader) s a
-answers_tell limit bytes (Err (BadLine n)) f a s = one_finding_is limit bytes f (Err (BadLine n)) s a
-answers_tell limit bytes (Err (Truncated n)) f a s = one_finding_is limit bytes f (Err (Truncated n)) s a
-answers_tell limit bytes (Err TooLong) f a s = one_finding_is limit bytes f (Err TooLong) s a
+pub answers_one : (limit : ℕ) (bytes : List ℕ) (answer f : Finding) → Answers limit bytes answer → Stands limit bytes f → IsFindingOrFailure f answer
+answers_one limit bytes (Ok log) f a s = one_finding_is limit bytes f (Ok log) s a
+answers_one limit bytes (Err Read) f a s = tt
+answers_one limit bytes (Err Memory) f a s = a
+answers_one limit bytes (Err BadHeader) f a s = one_finding_is limit bytes f (Err BadHeader) s a
+answers_one limit bytes (Err (BadLine n)) f a s = one_finding_is limit bytes f (Err (BadLine n)) s a
+answers_one limit bytes (Err (Truncated n)) f a s = one_finding_is limit bytes f (Err (Truncated n)) s a
+answers_one limit bytes (Err TooLong) f a s = one_finding_is limit bytes f (Err TooLong) s a
 
 -- the same where the bytes may be unknown
-pub answers_tell_known : (limit : ℕ) (known : Option (List ℕ)) (answer : Finding) → IfSome known (λ bytes. Answers limit bytes answer) → IfSome known (λ bytes. (f : Finding) → Stands limit bytes f → Tells answer f)
-answers_tell_known limit None answer a = tt
-answers_tell_known limit (Some bytes) answer a = λ f s. answers_tell limit bytes answer f a s
+pub answers_found : (limit : ℕ) (known : Option (List ℕ)) (answer : Finding) → IfSome known (λ bytes. Answers limit bytes answer) → IfSome known (λ bytes. (f : Finding) → Stands limit bytes f → IsFindingOrFailure f answer)
+answers_found limit None answer a = tt
+answers_found limit (Some bytes) answer a = λ f s. answers_one limit bytes answer f a s
 
 -- a text is that of one pair
 pub one_pair : (bytes : List ℕ) (b c : Bounds) (es fs : List Event) → IsLogText bytes b es → IsLogText bytes c fs → (b ≡ c) × (es ≡ fs)

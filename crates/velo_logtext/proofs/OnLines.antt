@@ -5,6 +5,7 @@ use Rattle.std.proofs.lemmas.Fmt.{length-decimal-le}
 use Rattle.std.proofs.lemmas.Bool.Decides.{nat_tests}
 use Rattle.velo_events.specs.declared.config.Bounds.{Bounds}
 use Rattle.velo_events.specs.declared.event.Event.{Event}
+use Rattle.velo_events.specs.declared.limits.TheConstants.{MOST_LOCKS, MOST_THREADS}
 use Rattle.velo_events.specs.declared.event.Kind.{Kind}
 use Rattle.velo_events.specs.declared.event.Kind.TheVariants.{Read, Write, Acquire, Release, Begin, End, Fork, Join, Exit}
 use Rattle.velo_logtext.specs.Text.{kind_text, event_line, header_line, AreBounds, IsKind, IsEvent}
@@ -235,14 +236,14 @@ bounds_of t v m = record { threads = t; variables = v; locks = m }
 pub header_taken : (bytes : List ℕ) (b : Bounds) (left : List ℕ) → header_at bytes ≡ Some (b, left) → TakesBounds bytes b left
 unfolding header_at header_line
 header_taken bytes b left e =
-    let w = bind_some (after_word (codes "vlog 1 ") bytes) (λ words. spaced_number_at 64 words >>= λ t. spaced_number_at 65535 t.1 >>= λ v. number_at 4096 v.1 >>= λ m. after_word (codes "\n") m.1 >>= λ rest. cond (eqb t.0 0) None (Some (bounds_of t.0 v.0 m.0, rest))) (b, left) e in
-    let t = bind_some (spaced_number_at 64 w.0) (λ t. spaced_number_at 65535 t.1 >>= λ v. number_at 4096 v.1 >>= λ m. after_word (codes "\n") m.1 >>= λ rest. cond (eqb t.0 0) None (Some (bounds_of t.0 v.0 m.0, rest))) (b, left) w.2 in
-    let v = bind_some (spaced_number_at 65535 t.0.1) (λ v. number_at 4096 v.1 >>= λ m. after_word (codes "\n") m.1 >>= λ rest. cond (eqb t.0.0 0) None (Some (bounds_of t.0.0 v.0 m.0, rest))) (b, left) t.2 in
-    let m = bind_some (number_at 4096 v.0.1) (λ m. after_word (codes "\n") m.1 >>= λ rest. cond (eqb t.0.0 0) None (Some (bounds_of t.0.0 v.0.0 m.0, rest))) (b, left) v.2 in
+    let w = bind_some (after_word (codes "vlog 1 ") bytes) (λ words. spaced_number_at MOST_THREADS words >>= λ t. spaced_number_at 65535 t.1 >>= λ v. number_at MOST_LOCKS v.1 >>= λ m. after_word (codes "\n") m.1 >>= λ rest. cond (eqb t.0 0) None (Some (bounds_of t.0 v.0 m.0, rest))) (b, left) e in
+    let t = bind_some (spaced_number_at MOST_THREADS w.0) (λ t. spaced_number_at 65535 t.1 >>= λ v. number_at MOST_LOCKS v.1 >>= λ m. after_word (codes "\n") m.1 >>= λ rest. cond (eqb t.0 0) None (Some (bounds_of t.0 v.0 m.0, rest))) (b, left) w.2 in
+    let v = bind_some (spaced_number_at 65535 t.0.1) (λ v. number_at MOST_LOCKS v.1 >>= λ m. after_word (codes "\n") m.1 >>= λ rest. cond (eqb t.0.0 0) None (Some (bounds_of t.0.0 v.0 m.0, rest))) (b, left) t.2 in
+    let m = bind_some (number_at MOST_LOCKS v.0.1) (λ m. after_word (codes "\n") m.1 >>= λ rest. cond (eqb t.0.0 0) None (Some (bounds_of t.0.0 v.0.0 m.0, rest))) (b, left) v.2 in
     let r = bind_some (after_word (codes "\n") m.0.1) (λ rest. cond (eqb t.0.0 0) None (Some (bounds_of t.0.0 v.0.0 m.0.0, rest))) (b, left) m.2 in
     let threads = spaced_taken 64 w.0 t.0.0 t.0.1 (omega arith) (omega arith) t.1 in
     let variables = spaced_taken 65535 t.0.1 v.0.0 v.0.1 (omega arith) (omega arith) v.1 in
-    let locks = number_taken 4096 v.0.1 m.0.0 m.0.1 (omega arith) (omega arith) m.1 in
+    let locks = number_taken MOST_LOCKS v.0.1 m.0.0 m.0.1 (omega arith) (omega arith) m.1 in
     let end = after_taken (codes "\n") m.0.1 r.0 r.1 in
     let text : bytes ≡ header_line (bounds_of t.0.0 v.0.0 m.0.0) ++ r.0 =
     after_taken (codes "vlog 1 ") bytes w.0 w.1
@@ -262,7 +263,7 @@ unfolding header_at header_line
 header_again b rest fits =
     let some : eqb b.threads 0 ≡ false = let h = fits.some_thread in grind (arith, nat_tests) in
     ap header_at (regroup_header (decimal b.threads) (decimal b.variables) (decimal b.locks) rest)
-    ∙ rw (spaced_again 64 b.threads (decimal b.variables ++ 32 ∷ (decimal b.locks ++ 10 ∷ rest)) fits.few_threads (omega arith), spaced_again 65535 b.variables (decimal b.locks ++ 10 ∷ rest) fits.few_variables (omega arith), number_again 4096 b.locks 10 rest fits.few_locks (omega arith) refl, some) refl
+    ∙ rw (spaced_again MOST_THREADS b.threads (decimal b.variables ++ 32 ∷ (decimal b.locks ++ 10 ∷ rest)) fits.few_threads (omega arith), spaced_again 65535 b.variables (decimal b.locks ++ 10 ∷ rest) fits.few_variables (omega arith), number_again MOST_LOCKS b.locks 10 rest fits.few_locks (omega arith) refl, some) refl
 
 pub header_short : (b : Bounds) → AreBounds b → length (header_line b) ≤ 64
 unfolding header_line

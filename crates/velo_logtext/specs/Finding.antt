@@ -1,7 +1,8 @@
 -- What stands in the bytes of an input: the text of a log, or a first line that is wrong.
-use Rattle.std.specs.Prelude.{◌≡◌, ℕ, ◌+◌, ◌<◌, ◌≤◌, List, ◌∷◌, [], ◌++◌, length, Contains, ◌⊎◌, Result, Ok, Err}
+use Rattle.std.specs.Prelude.{◌≡◌, ℕ, ◌+◌, ◌<◌, ◌≤◌, List, ◌++◌, length, Contains, ◌⊎◌, Result, Ok, Err}
 use Rattle.velo_events.specs.declared.config.Bounds.{Bounds}
 use Rattle.velo_events.specs.declared.event.Event.{Event}
+use Rattle.velo_events.specs.Refusals.{GrowthRefused}
 use Rattle.velo_traces.specs.declared.trace.Trace.{Trace}
 use Rattle.velo_logtext.specs.declared.fault.LogFault.{LogFault}
 use Rattle.velo_logtext.specs.declared.fault.LogFault.TheVariants.{BadHeader, BadLine, Truncated, TooLong, Read, Memory}
@@ -19,7 +20,7 @@ pub record HasNoEvent (bytes : List ℕ) : Type 0 where
 -- no event's line, though a newline or more than 64 bytes are there
 pub record IsBadLine (bytes : List ℕ) : Type 0 where
   pub no_event : HasNoEvent bytes
-  pub seen : Contains bytes 10 ⊎ (64 < length bytes)
+  pub ended : Contains bytes 10 ⊎ (64 < length bytes)
 
 -- 1 to 64 bytes, and then the end with no newline
 pub record IsCutLine (bytes : List ℕ) : Type 0 where
@@ -28,7 +29,7 @@ pub record IsCutLine (bytes : List ℕ) : Type 0 where
   pub no_newline : ¬ Contains bytes 10
 
 -- the header and the lines before line n are right, and fewer than limit; line n is wrong in this way
-pub record StopsAt (limit : ℕ) (bytes : List ℕ) (n : ℕ) (IsWrong : List ℕ → Type 0) : Type 0 where
+pub record IsFirstWrongLine (limit : ℕ) (bytes : List ℕ) (n : ℕ) (IsWrong : List ℕ → Type 0) : Type 0 where
   pub bounds : Bounds
   pub events : List Event
   pub rest : List ℕ
@@ -54,8 +55,8 @@ Finding = Result (Bounds × List Event) LogFault
 abbrev pub Stands : ℕ → List ℕ → Finding → Type 0
 Stands limit bytes (Ok log) = IsLogText bytes log.0 log.1 × (length log.1 ≤ limit)
 Stands limit bytes (Err BadHeader) = HasNoHeader bytes
-Stands limit bytes (Err (BadLine n)) = StopsAt limit bytes n IsBadLine
-Stands limit bytes (Err (Truncated n)) = StopsAt limit bytes n IsCutLine
+Stands limit bytes (Err (BadLine n)) = IsFirstWrongLine limit bytes n IsBadLine
+Stands limit bytes (Err (Truncated n)) = IsFirstWrongLine limit bytes n IsCutLine
 Stands limit bytes (Err TooLong) = IsTooLong limit bytes
 Stands limit bytes (Err Read) = ⊥
 Stands limit bytes (Err Memory) = ⊥
@@ -65,27 +66,19 @@ abbrev pub finding_of : Result (Bounds × Trace) LogFault → Finding
 finding_of (Ok log) = Ok (log.0, log.1.events)
 finding_of (Err fault) = Err fault
 
--- room was refused for an event whose line stands there
-pub record WantsRoom (bytes : List ℕ) : Type 0 where
-  pub bounds : Bounds
-  pub events : List Event
-  pub event : Event
-  pub rest : List ℕ
-  pub begins : Begins bytes bounds (events ++ event ∷ []) rest
-
--- What a reader of the bytes answers: what stands in them, unless the device failed or room for an event was refused.
+-- What a reader of the bytes answers: what stands in them, unless the device failed or a growth was refused.
 abbrev pub Answers : ℕ → List ℕ → Finding → Type 0
 Answers limit bytes (Err Read) = Unit {0}
-Answers limit bytes (Err Memory) = WantsRoom bytes
+Answers limit bytes (Err Memory) = GrowthRefused
 Answers limit bytes (Ok log) = Stands limit bytes (Ok log)
 Answers limit bytes (Err fault) = Stands limit bytes (Err fault)
 
--- the answer is this finding, unless the device failed or memory was refused
-abbrev pub Tells : Finding → Finding → Type 0
-Tells (Err Read) finding = Unit {0}
-Tells (Err Memory) finding = Unit {0}
-Tells (Ok log) finding = finding ≡ Ok log
-Tells (Err fault) finding = finding ≡ Err fault
+-- the answer is this finding, unless the device failed or a growth was refused
+abbrev pub IsFindingOrFailure : Finding → Finding → Type 0
+IsFindingOrFailure finding (Err Read) = Unit {0}
+IsFindingOrFailure finding (Err Memory) = GrowthRefused
+IsFindingOrFailure finding (Ok log) = finding ≡ Ok log
+IsFindingOrFailure finding (Err fault) = finding ≡ Err fault
 
 -- the count of failures after a reader's answer
 abbrev pub failures_after : {X : Type 0} → Result X LogFault → ℕ → ℕ

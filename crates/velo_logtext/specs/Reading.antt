@@ -3,6 +3,7 @@ use Rattle.std.specs.Prelude.{ℕ, ◌+◌, ◌-◌, ◌*◌, ◌^◌, ◌==◌,
 use Rattle.std.specs.Char.{is_ascii_digit}
 use Rattle.velo_events.specs.declared.config.Bounds.{Bounds}
 use Rattle.velo_events.specs.declared.event.Event.{Event}
+use Rattle.velo_events.specs.declared.limits.TheConstants.{MOST_LOCKS, MOST_THREADS}
 use Rattle.velo_events.specs.declared.event.Kind.{Kind}
 use Rattle.velo_events.specs.declared.event.Kind.TheVariants.{Read, Write, Acquire, Release, Begin, End, Fork, Join, Exit}
 
@@ -101,8 +102,8 @@ spaced_number_at most bytes = do
 unfoldable pub header_at : List ℕ → Taken Bounds
 header_at bytes = do
   words ← after_word (codes "vlog 1 ") bytes
-  t ← spaced_number_at 64 words
+  t ← spaced_number_at MOST_THREADS words
   v ← spaced_number_at 65535 t.1
-  m ← number_at 4096 v.1
+  m ← number_at MOST_LOCKS v.1
   rest ← after_word (codes "\n") m.1
   if t.0 == 0 then None else Some (record { threads = t.0; variables = v.0; locks = m.0 }, rest)

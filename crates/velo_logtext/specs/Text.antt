@@ -3,6 +3,7 @@ use Rattle.std.specs.Prelude.{◌≡◌, ℕ, ◌^◌, ◌<◌, ◌≤◌, List,
 use Rattle.std.specs.List.{flat_map, AllByRecursion}
 use Rattle.velo_events.specs.declared.config.Bounds.{Bounds}
 use Rattle.velo_events.specs.declared.event.Event.{Event}
+use Rattle.velo_events.specs.declared.limits.TheConstants.{MOST_LOCKS, MOST_THREADS}
 use Rattle.velo_events.specs.declared.event.Kind.{Kind}
 use Rattle.velo_events.specs.declared.event.Kind.TheVariants.{Read, Write, Acquire, Release, Begin, End, Fork, Join, Exit}
 
@@ -38,9 +39,9 @@ log_text bounds events = header_line bounds ++ event_lines events
 
 pub record AreBounds (b : Bounds) : Type 0 where
   pub some_thread : 1 ≤ b.threads
-  pub few_threads : b.threads ≤ 64
+  pub few_threads : b.threads ≤ MOST_THREADS
   pub few_variables : b.variables ≤ 65535
-  pub few_locks : b.locks ≤ 4096
+  pub few_locks : b.locks ≤ MOST_LOCKS
 
 -- its numbers are in their ranges
 abbrev pub IsKind : Kind → Type 0

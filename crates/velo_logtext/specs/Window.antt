@@ -1,5 +1,5 @@
 -- How far the reader has come in the bytes that it holds.
-use Rattle.std.specs.Prelude.{◌≡◌, ℕ, ◌+◌, ◌<◌, ◌≤◌, Bool, ◌||◌, ◌==◌, nat_lt, if◌then◌else◌, List, ◌++◌, length, None, Some, Result, Ok, Err}
+use Rattle.std.specs.Prelude.{◌≡◌, ℕ, ◌+◌, ◌<◌, ◌≤◌, Bool, ◌||◌, ◌==◌, nat_lt, if◌then◌else◌, List, ◌++◌, length, None, Result, Ok, Err}
 use Rattle.std.specs.List.{list_any}
 use Rattle.velo_events.specs.Refusals.{GrowthRefused}
 use Rattle.velo_events.specs.declared.event.Event.{Event}
@@ -7,7 +7,7 @@ use Rattle.velo_logtext.specs.declared.read.Stop.{Stop}
 use Rattle.velo_logtext.specs.declared.read.Stop.TheVariants.{Short, NoEvent, Full, NoRoom}
 use Rattle.velo_logtext.specs.declared.fault.LogFault.{LogFault}
 use Rattle.velo_logtext.specs.declared.fault.LogFault.TheVariants.{BadHeader, BadLine, Truncated, TooLong, Read, Memory}
-use Rattle.velo_logtext.specs.Text.{IsEvent, event_line, event_lines}
+use Rattle.velo_logtext.specs.Text.{event_lines}
 use Rattle.velo_logtext.specs.Finding.{IsBadLine, IsCutLine}
 use Rattle.velo_logtext.specs.Reading.{event_at}
 
@@ -16,11 +16,11 @@ abbrev pub margin : Bool → ℕ
 margin last = if last then 0 else 64
 
 -- why no more lines are taken, of so many events and the bytes that are left
-abbrev pub Stops : ℕ → Bool → ℕ → List ℕ → Stop → Type 0
-Stops limit last count rest Short = length rest ≤ margin last
-Stops limit last count rest NoEvent = (margin last < length rest) × (count < limit) × (event_at rest ≡ None)
-Stops limit last count rest Full = (margin last < length rest) × (count ≡ limit)
-Stops limit last count rest NoRoom = GrowthRefused × ((e : Event) × (after : List ℕ) × (event_at rest ≡ Some (e, after)))
+abbrev pub IsReason : ℕ → Bool → ℕ → List ℕ → Stop → Type 0
+IsReason limit last count rest Short = length rest ≤ margin last
+IsReason limit last count rest NoEvent = (margin last < length rest) × (count < limit) × (event_at rest ≡ None)
+IsReason limit last count rest Full = (margin last < length rest) × (count ≡ limit)
+IsReason limit last count rest NoRoom = GrowthRefused
 
 -- what is said of the line at the front of the bytes that are left
 abbrev pub judged : Stop → List ℕ → ℕ → Result (Unit {0}) LogFault
@@ -43,4 +43,4 @@ LinesGive limit bytes events (Err (BadLine n)) = (length events < limit) × (n �
 LinesGive limit bytes events (Err (Truncated n)) = (length events < limit) × (n ≡ length events + 2) × Leaves bytes events IsCutLine
 LinesGive limit bytes events (Err TooLong) = (length events ≡ limit) × Leaves bytes events (λ rest. 0 < length rest)
 LinesGive limit bytes events (Err Read) = Unit {0}
-LinesGive limit bytes events (Err Memory) = Leaves bytes events (λ rest. (e : Event) × (after : List ℕ) × IsEvent e × (rest ≡ event_line e ++ after))
+LinesGive limit bytes events (Err Memory) = GrowthRefused

@@ -8,8 +8,7 @@ use std::io::{Read, Write};
 #[derive(Drop)]
 pub struct ReaderSource<R> {
     pub reader: R,
-    /// How many reads have failed, modulo 2 ^ 64.
-    pub failures: u64,
+    failures: u64,
 }
 
 impl<R> ReaderSource<R> {
@@ -21,6 +20,13 @@ impl<R> ReaderSource<R> {
             reader,
             failures: 0,
         }
+    }
+
+    /// How many reads have failed, modulo 2 ^ 64.
+    pub fn failures(&self) -> u64
+        ensures { result ≡ self.now.failures }
+    {
+        self.failures
     }
 }
 
@@ -45,8 +51,7 @@ impl<R: Read> Source for ReaderSource<R> {
 #[derive(Drop)]
 pub struct WriterSink<W> {
     pub writer: W,
-    /// How many writes have failed, modulo 2 ^ 64.
-    pub failures: u64,
+    failures: u64,
 }
 
 impl<W> WriterSink<W> {
@@ -58,6 +63,13 @@ impl<W> WriterSink<W> {
             writer,
             failures: 0,
         }
+    }
+
+    /// How many writes have failed, modulo 2 ^ 64.
+    pub fn failures(&self) -> u64
+        ensures { result ≡ self.now.failures }
+    {
+        self.failures
     }
 }
 

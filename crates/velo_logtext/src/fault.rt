@@ -3,6 +3,7 @@ ghost use Rattle.std.specs.Prelude.{◌≡◌};
 
 use crate::device::Failed;
 use thiserror::Error;
+use velo_events::Memory;
 
 /// Why a log could not be read. Lines are counted from 1, the header's.
 #[derive(Clone, Copy, Debug, PartialEq, Eq, Error)]
@@ -39,6 +40,16 @@ impl From<Failed> for LogFault {
 
     fn from(_failed: Failed) -> LogFault {
         LogFault::Read
+    }
+}
+
+impl From<Memory> for LogFault {
+    ghost use Rattle.velo_logtext.specs.declared.fault.LogFault.TheVariants as log_fault;
+
+    ghost from_gives = { λ _ e. e ≡ log_fault.Memory };
+
+    fn from(_refused: Memory) -> LogFault {
+        LogFault::Memory
     }
 }
 

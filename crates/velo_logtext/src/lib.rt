@@ -2,6 +2,7 @@
 #![tactic(auto)]
 
 mod adapters;
+mod buffer;
 mod device;
 mod fault;
 mod laws;
@@ -14,6 +15,7 @@ mod words;
 mod write;
 
 pub use adapters::{ReaderSource, WriterSink};
+pub use buffer::{put_bytes, put_number};
 pub use device::{Failed, Sink, Source, write_all};
 pub use fault::{LogFault, WriteFault};
 pub use laws::{one_finding, one_text};

@@ -4,7 +4,7 @@ ghost use Rattle.velo_logtext.specs.Reading.{access_at, thread_kind_at, block_ki
 
 use crate::numbers::{number, spaced_number};
 use crate::words::after;
-use velo_events::{Bounds, Event, Kind, Label, LockId, ThreadId, VarId};
+use velo_events::{Bounds, Event, Kind, Label, LockId, MOST_LOCKS, MOST_THREADS, ThreadId, VarId};
 
 /// A variable and a value.
 #[inline(always)]
@@ -106,9 +106,9 @@ pub fn header(bytes: &[u8]) -> Option<(Bounds, &[u8])>
     ensures { option_map (λ r. (r.0, r.1.now)) result ≡ header_at bytes.now }
 {
     let rest = after(bytes, b"vlog 1 ")?;
-    let (threads, rest) = spaced_number(rest, 64)?;
+    let (threads, rest) = spaced_number(rest, u64::from(MOST_THREADS))?;
     let (variables, rest) = spaced_number(rest, 65_535)?;
-    let (locks, rest) = number(rest, 4096)?;
+    let (locks, rest) = number(rest, u64::from(MOST_LOCKS))?;
     let rest = after(rest, b"\n")?;
     if threads == 0 {
         return None;

@@ -2,21 +2,19 @@
 ghost use Rattle.std.specs.Prelude.{◌≡◌, ◌≤◌, ◌<◌, ◌-◌, ◌++◌, false, length, take, drop, IfOk, IfErr, OnOk, OnErr, IfSome, IsTrue, Err};
 ghost use Rattle.std.specs.Io.KnownBytes.{IsAtEnd, Keeps, prepend_known};
 ghost use Rattle.velo_events.specs.Refusals.{GrowthRefused};
+ghost use Rattle.velo_events.specs.declared.limits.TheConstants.{MOST_EVENTS};
 ghost use Rattle.velo_logtext.specs.declared.fault.LogFault.TheVariants as log_fault;
 ghost use Rattle.velo_logtext.specs.Device.{one_more};
 ghost use Rattle.velo_logtext.specs.Text.{AreBounds, AreEvents, event_lines};
-ghost use Rattle.velo_logtext.specs.Finding.{Finding, Stands, Answers, Tells, finding_of, failures_after};
-ghost use Rattle.velo_logtext.specs.Window.{margin, Stops, judged, LinesGive};
+ghost use Rattle.velo_logtext.specs.Finding.{Finding, Stands, Answers, IsFindingOrFailure, finding_of, failures_after};
+ghost use Rattle.velo_logtext.specs.Window.{margin, IsReason, judged, LinesGive};
 
 use crate::device::{Failed, Source};
 use crate::fault::LogFault;
 use crate::lines::{event, header};
 use std::alloc::Global;
-use velo_events::Bounds;
+use velo_events::{Bounds, MOST_EVENTS, growth};
 use velo_traces::Trace;
-
-/// The most events that a log may have.
-const MOST_EVENTS: usize = 16_777_216;
 
 /// The most bytes of a line before its newline.
 const LONGEST_LINE: usize = 64;
@@ -45,7 +43,7 @@ fn take_events<'a>(bytes: &'a [u8], last: bool, limit: usize, trace: &mut Trace)
     ensures fit { AreEvents trace.old.events → AreEvents trace.new.events }
     ensures few { length trace.new.events ≤ limit }
     ensures shorter { length result.0.now ≤ length bytes.now }
-    ensures stop { Stops limit last (length trace.new.events) result.0.now result.1 }
+    ensures stop { IsReason limit last (length trace.new.events) result.0.now result.1 }
     ensures progress { margin last < length bytes.now → result.1 ≡ Stop.Short → length trace.old.events < length trace.new.events }
 {
     let kept = if last { 0 } else { LONGEST_LINE };
@@ -135,7 +133,7 @@ fn read_events<S: Source>(
     requires within { filled.end ≤ length buffer.old }
     requires known_end { IsTrue filled.last → IsAtEnd (S.remaining source.old) }
     requires few { length trace.old.events ≤ limit }
-    requires small { limit ≤ 16777216 }
+    requires small { limit ≤ MOST_EVENTS }
     ensures found { IfSome (prepend_known (event_lines trace.old.events ++ take filled.end buffer.old) (S.remaining source.old)) (λ bytes. LinesGive limit bytes trace.new.events result) }
     ensures fit { AreEvents trace.old.events → AreEvents trace.new.events }
     ensures few { length trace.new.events ≤ limit }
@@ -166,30 +164,31 @@ pub fn read_up_to<S: Source>(
     source: &mut S,
     limit: usize,
 ) -> Result<(Bounds, Trace), LogFault>
-    requires { limit ≤ 16777216 }
+    requires { limit ≤ MOST_EVENTS }
     ensures found { IfSome (S.remaining source.old) (λ bytes. Answers limit bytes (finding_of result)) }
     ensures within { IfOk result (λ log. AreBounds log.0 × AreEvents log.1.events × (length log.1.events ≤ limit)) }
     ensures end { OnOk result (IsAtEnd (S.remaining source.new)) }
     ensures failures { S.failures source.new ≡ failures_after result (S.failures source.old) }
     ensures memory { result ≡ Err log_fault.Memory → GrowthRefused }
 {
-    let mut buffer = [0u8; ROOM];
+    let mut buffer = growth::filled(alloc, 0u8, ROOM)?;
+    let buffer = buffer.as_mut_slice();
     let nothing = Filled {
         end: 0,
         last: false,
     };
-    let filled = fill(source, &mut buffer, nothing)?;
+    let filled = fill(source, buffer, nothing)?;
     let Some((bounds, rest)) = header(&buffer[..filled.end]) else {
         return Err(LogFault::BadHeader);
     };
     let left = rest.len();
-    keep(&mut buffer, filled.end, left);
+    keep(buffer, filled.end, left);
     let mut trace = Trace::new(alloc);
     let filled = Filled {
         end: left,
         last: filled.last,
     };
-    read_events(source, &mut buffer, filled, limit, &mut trace)?;
+    read_events(source, buffer, filled, limit, &mut trace)?;
     Ok((bounds, trace))
 }
 
@@ -197,20 +196,20 @@ pub fn read_up_to<S: Source>(
 ///
 /// What it finds is what stands in the source's bytes, however they are cut into pieces: the text of
 /// a log, or the first line that is wrong. `Read` comes only where the source failed in this call,
-/// and `Memory` only where room for an event was refused.
+/// and `Memory` only where a growth was refused.
 pub fn read_log<S: Source>(alloc: Global, source: &mut S) -> Result<(Bounds, Trace), LogFault>
     // What is answered stands in the bytes.
-    ensures found { IfSome (S.remaining source.old) (λ bytes. Answers 16777216 bytes (finding_of result)) }
+    ensures found { IfSome (S.remaining source.old) (λ bytes. Answers MOST_EVENTS bytes (finding_of result)) }
 
-    // What stands in the bytes is answered, unless the source failed or memory was refused.
-    ensures only { IfSome (S.remaining source.old) (λ bytes. (f : Finding) → Stands 16777216 bytes f → Tells (finding_of result) f) }
+    // What stands in the bytes is answered, unless the source failed or a growth was refused.
+    ensures only { IfSome (S.remaining source.old) (λ bytes. (f : Finding) → Stands MOST_EVENTS bytes f → IsFindingOrFailure f (finding_of result)) }
 
-    ensures within { IfOk result (λ log. AreBounds log.0 × AreEvents log.1.events × (length log.1.events ≤ 16777216)) }
+    ensures within { IfOk result (λ log. AreBounds log.0 × AreEvents log.1.events × (length log.1.events ≤ MOST_EVENTS)) }
     ensures end { OnOk result (IsAtEnd (S.remaining source.new)) }
 
     // One failure more after `Read`, and none after any other answer.
     ensures failures { S.failures source.new ≡ failures_after result (S.failures source.old) }
     ensures memory { result ≡ Err log_fault.Memory → GrowthRefused }
 {
-    read_up_to(alloc, source, MOST_EVENTS)
+    read_up_to(alloc, source, MOST_EVENTS as usize)
 }

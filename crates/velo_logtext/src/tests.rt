@@ -1,10 +1,13 @@
 use crate::read::read_up_to;
 use crate::{
-    Bytes, Failed, LogFault, ReaderSource, Source, Text, WriterSink, read_log, write_all, write_log,
+    Bytes, Failed, LogFault, ReaderSource, Source, Text, WriteFault, WriterSink, read_log,
+    write_all, write_log,
 };
 use std::alloc::Global;
-use std::io::{Cursor, Error, ErrorKind, Read};
+use std::io::{Cursor, Error, ErrorKind, Read, Write};
 use std::test::Fail;
+use velo_events::{Bounds, Event, Kind, ThreadId, VarId};
+use velo_traces::Trace;
 
 fn fault_of(alloc: Global, text: &[u8]) -> Option<LogFault> {
     read_log(alloc, &mut Bytes::new(text)).err()
@@ -185,30 +188,127 @@ fn devices_that_fail(rt: HostRuntime) -> Result<(), Fail> {
     Ok(())
 }
 
-/// A reader that is interrupted before it gives its first byte.
-#[derive(Drop)]
-struct Interrupted {
-    told: bool,
+/// How the first call of a reader or a writer ends.
+#[derive(Clone, Copy)]
+enum First {
+    Fails(ErrorKind),
+    /// Only a writer may take nothing.
+    TakesNothing,
 }
 
-impl Read for Interrupted {
+/// A reader and writer whose first call goes wrong, and which works from then on.
+#[derive(Drop)]
+struct WorksLater {
+    first: Option<First>,
+    calls: u64,
+}
+
+impl Read for WorksLater {
     fn read(&mut self, piece: &mut [u8]) -> std::io::Result<usize> {
-        if self.told || piece.is_empty() {
-            return Ok(0);
+        self.calls = self.calls.wrapping_add(1);
+        match self.first.take() {
+            Some(First::Fails(kind)) => Err(Error::from(kind)),
+            Some(First::TakesNothing) | None => Ok(piece.len()),
         }
-        self.told = true;
-        Err(Error::from(ErrorKind::Interrupted))
+    }
+}
+
+impl Write for WorksLater {
+    fn write(&mut self, piece: &[u8]) -> std::io::Result<usize> {
+        self.calls = self.calls.wrapping_add(1);
+        match self.first.take() {
+            Some(First::Fails(kind)) => Err(Error::from(kind)),
+            Some(First::TakesNothing) => Ok(0),
+            None => Ok(piece.len()),
+        }
+    }
+
+    fn flush(&mut self) -> std::io::Result<()> {
+        Ok(())
+    }
+}
+
+fn works_after(first: First) -> WorksLater {
+    WorksLater {
+        first: Some(first),
+        calls: 0,
+    }
+}
+
+/// Each failure is told at the call that met it, and nothing is tried again.
+#[test]
+fn nothing_is_tried_again(rt: HostRuntime) {
+    let faults = [
+        ErrorKind::Interrupted,
+        ErrorKind::WouldBlock,
+        ErrorKind::TimedOut,
+    ];
+    for kind in faults {
+        let mut source = ReaderSource::new(works_after(First::Fails(kind)));
+        assert_eq!(rt;
+            read_log(rt.alloc(), &mut source).err(),
+            Some(LogFault::Read)
+        );
+        assert_eq!(rt; (source.reader.calls, source.failures()), (1, 1));
+        assert_eq!(rt; source.read(&mut [0; 4]), Ok(4));
+        assert_eq!(rt; (source.reader.calls, source.failures()), (2, 1));
+    }
+    let [interrupted, would_block, timed_out] = faults.map(First::Fails);
+    for first in [interrupted, would_block, timed_out, First::TakesNothing] {
+        let mut sink = WriterSink::new(works_after(first));
+        assert_eq!(rt; write_all(&mut sink, b"ab"), Err(WriteFault));
+        assert_eq!(rt; (sink.writer.calls, sink.failures()), (1, 1));
+        assert_eq!(rt; write_all(&mut sink, b"ab"), Ok(()));
+        assert_eq!(rt; (sink.writer.calls, sink.failures()), (2, 1));
     }
 }
 
 #[test]
-fn nothing_is_tried_again(rt: HostRuntime) {
-    let mut source = ReaderSource::new(Interrupted { told: false });
+fn texts_of_faults(rt: HostRuntime) -> Result<(), Fail> {
+    let faults = [
+        (LogFault::BadHeader, "bad header"),
+        (LogFault::BadLine(7), "bad line 7"),
+        (LogFault::Truncated(7), "line 7 is cut off"),
+        (LogFault::TooLong, "too many events"),
+        (LogFault::Read, "read failed"),
+        (LogFault::Memory, "out of memory"),
+    ];
+    for (fault, text) in faults {
+        assert_eq!(rt; format!(in rt.alloc(); "{fault}")?.as_str(), text);
+    }
     assert_eq!(rt;
-        read_log(rt.alloc(), &mut source).err(),
-        Some(LogFault::Read)
+        format!(in rt.alloc(); "{WriteFault}")?.as_str(),
+        "write failed"
     );
-    assert_eq!(rt; source.failures, 1);
+    assert_eq!(rt;
+        format!(in rt.alloc(); "{Failed}")?.as_str(),
+        "the device failed"
+    );
+    Ok(())
+}
+
+/// Its text is read in five pieces, whose seams lie within lines, and written in many.
+#[test]
+fn ten_thousand_lines(rt: HostRuntime) -> Result<(), Fail> {
+    let mut trace = Trace::new(rt.alloc());
+    for i in 0..10_000u64 {
+        let thread = ThreadId((i % 64) as u8);
+        let kind = Kind::Write(VarId(0), u64::MAX - i);
+        trace.push(Event { thread, kind })?;
+    }
+    let bounds = Bounds {
+        threads: 64,
+        variables: 1,
+        locks: 0,
+    };
+    assert_eq!(rt; trace.len(), 10_000);
+    let mut sink = Text::new(rt.alloc());
+    write_log(bounds, &trace, &mut sink)?;
+    assert!(rt; sink.as_slice().len() > 4 * 65_536);
+    let (read_bounds, read) = read_log(rt.alloc(), &mut Bytes::new(sink.as_slice()))?;
+    assert_eq!(rt; read_bounds, bounds);
+    assert!(rt; read.as_slice() == trace.as_slice());
+    Ok(())
 }
 
 #[test]
@@ -225,6 +325,6 @@ fn readers_and_writers(rt: HostRuntime) -> Result<(), Fail> {
     let mut space = [0u8; 4];
     let mut full = WriterSink::new(space.as_mut_slice());
     assert!(rt; write_log(bounds, &trace, &mut full).is_err());
-    assert_eq!(rt; full.failures, 1);
+    assert_eq!(rt; full.failures(), 1);
     Ok(())
 }

@@ -1,41 +1,21 @@
 //! Writing a log to a sink.
 ghost use Rattle.std.specs.Prelude.{◌≡◌, ◌≤◌, ◌+◌, ◌++◌, length, take, decimal, OnOk, OnErr};
 ghost use Rattle.std.specs.Io.KnownBytes.{Appends};
+ghost use Rattle.velo_events.specs.declared.limits.TheConstants.{MOST_EVENTS};
 ghost use Rattle.velo_logtext.specs.Device.{one_more, AppendsBeginning};
 ghost use Rattle.velo_logtext.specs.Text.{AreBounds, IsEvent, IsLogText, kind_text, event_line, header_line, log_text};
 
+use crate::buffer::{put_bytes, put_number};
 use crate::device::{Sink, write_all};
 use crate::fault::WriteFault;
-use itoa::Buffer;
 use velo_events::{Bounds, Event, Kind};
 use velo_traces::Trace;
 
-/// How many bytes are gathered before they are written.
-const ROOM: usize = 65_536;
+/// How many bytes are gathered on the stack before they are written, since writing takes no memory.
+const ROOM: usize = 8_192;
 
 /// Room that is enough for a line.
 const LINE_ROOM: usize = 90;
-
-/// Puts bytes at a place of the buffer, and answers the place behind them.
-fn put(buffer: &mut [u8], at: usize, bytes: &[u8]) -> usize
-    requires { at + length bytes.now ≤ length buffer.old }
-    ensures text { take result buffer.new ≡ take at buffer.old ++ bytes.now }
-    ensures end { result ≡ at + length bytes.now }
-{
-    let end = at + bytes.len();
-    buffer[at..end].copy_from_slice(bytes);
-    end
-}
-
-/// Puts the digits of a number, of which there are at most 20.
-fn put_number(buffer: &mut [u8], at: usize, number: u64) -> usize
-    requires { at + 20 ≤ length buffer.old }
-    ensures text { take result buffer.new ≡ take at buffer.old ++ decimal number }
-    ensures end { result ≤ at + 20 }
-{
-    let mut digits = Buffer::new();
-    put(buffer, at, digits.format(number).as_bytes())
-}
 
 /// Puts a word of at most 6 bytes and a number.
 fn put_word(buffer: &mut [u8], at: usize, word: &[u8], number: u64) -> usize
@@ -44,7 +24,7 @@ fn put_word(buffer: &mut [u8], at: usize, word: &[u8], number: u64) -> usize
     ensures text { take result buffer.new ≡ take at buffer.old ++ (word.now ++ decimal number) }
     ensures end { result ≤ at + 26 }
 {
-    let at = put(buffer, at, word);
+    let at = put_bytes(buffer, at, word);
     put_number(buffer, at, number)
 }
 
@@ -66,10 +46,10 @@ fn put_kind(buffer: &mut [u8], at: usize, kind: Kind) -> usize
         Kind::Acquire(m) => put_word(buffer, at, b"acq ", u64::from(m.0)),
         Kind::Release(m) => put_word(buffer, at, b"rel ", u64::from(m.0)),
         Kind::Begin(label) => put_word(buffer, at, b"begin ", u64::from(label.0)),
-        Kind::End => put(buffer, at, b"end"),
+        Kind::End => put_bytes(buffer, at, b"end"),
         Kind::Fork(u) => put_word(buffer, at, b"fork ", u64::from(u.0)),
         Kind::Join(u) => put_word(buffer, at, b"join ", u64::from(u.0)),
-        Kind::Exit => put(buffer, at, b"exit"),
+        Kind::Exit => put_bytes(buffer, at, b"exit"),
     }
 }
 
@@ -82,9 +62,9 @@ fn put_event(buffer: &mut [u8], at: usize, event: Event) -> usize
     ensures fits { IsEvent event }
 {
     let at = put_number(buffer, at, u64::from(event.thread.0));
-    let at = put(buffer, at, b" ");
+    let at = put_bytes(buffer, at, b" ");
     let at = put_kind(buffer, at, event.kind);
-    put(buffer, at, b"\n")
+    put_bytes(buffer, at, b"\n")
 }
 
 /// Puts the header at the front.
@@ -94,17 +74,17 @@ fn put_header(buffer: &mut [u8], bounds: Bounds) -> usize
     ensures text { take result buffer.new ≡ header_line bounds }
     ensures end { result ≤ 90 }
 {
-    let at = put(buffer, 0, b"vlog 1 ");
+    let at = put_bytes(buffer, 0, b"vlog 1 ");
     let at = put_number(buffer, at, u64::from(bounds.threads));
     let at = put_word(buffer, at, b" ", u64::from(bounds.variables));
     let at = put_word(buffer, at, b" ", u64::from(bounds.locks));
-    put(buffer, at, b"\n")
+    put_bytes(buffer, at, b"\n")
 }
 
 /// Writes a log: the one text of its bounds and events.
 pub fn write_log<S: Sink>(bounds: Bounds, trace: &Trace, sink: &mut S) -> Result<(), WriteFault>
     requires bounds { AreBounds bounds }
-    requires few { length trace.now.events ≤ 16777216 }
+    requires few { length trace.now.events ≤ MOST_EVENTS }
     ensures ok { OnOk result (Appends (S.contents sink.old) (S.contents sink.new) (log_text bounds trace.now.events)) }
 
     // After a fault a beginning of the text went out, and the sink has failed once more.

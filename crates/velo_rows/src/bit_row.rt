@@ -1,19 +1,22 @@
 ghost use Rattle.std.specs.Prelude.{◌≡◌, ◌+◌, ◌/◌, length};
-ghost use Rattle.velo_rows.specs.Bits.{AreBelow, bits_of, below_bits};
+ghost use Rattle.velo_rows.specs.Bits.{AreBelow, IsEnd, bits_of, below_bits};
 
 use crate::ancestors::Ancestors;
-use crate::words::{are_down, is_up, join, meet, put_all_down, put_down, put_up, take_away};
+use crate::words::{end_of_bits, is_up, join, meet, put_all_down, put_down, put_up, take_away};
 use std::alloc::Global;
-use velo_events::growth::filled;
 use velo_events::Memory;
+use velo_events::growth::filled;
 
 /// A set of slots as one bit for each.
-#[derive(Drop)]
+#[derive(Debug, Drop)]
 pub struct BitRow {
     words: Vec<u64>,
+    /// The words from here on are 0, and the one before is not: no call looks at more of them.
+    end: usize,
     limit: u16,
     ghost room: { length words.items ≡ (limit + 63) / 64 },
     ghost below: { AreBelow limit words.items },
+    ghost ends: { IsEnd words.items end },
 }
 
 impl Ancestors for BitRow {
@@ -25,7 +28,11 @@ impl Ancestors for BitRow {
 
     fn empty(alloc: Global, limit: u16) -> Result<BitRow, Memory> {
         let words = filled(alloc, 0u64, (limit as usize).div_ceil(64))?;
-        Ok(BitRow { words, limit })
+        Ok(BitRow {
+            words,
+            end: 0,
+            limit,
+        })
     }
 
     fn contains(&self, slot: u16) -> bool {
@@ -34,29 +41,34 @@ impl Ancestors for BitRow {
 
     fn insert(&mut self, slot: u16) {
         put_up(&mut self.words, slot as usize);
+        self.end = self.end.max(slot as usize / 64 + 1);
     }
 
     fn remove(&mut self, slot: u16) {
         put_down(&mut self.words, slot as usize);
+        self.end = end_of_bits(&self.words, self.end);
     }
 
     fn join(&mut self, other: &BitRow) {
-        join(&mut self.words, &other.words);
+        join(&mut self.words, &other.words, other.end);
+        self.end = self.end.max(other.end);
     }
 
     fn take_away(&mut self, other: &BitRow) {
-        take_away(&mut self.words, &other.words);
+        take_away(&mut self.words, &other.words, self.end.min(other.end));
+        self.end = end_of_bits(&self.words, self.end);
     }
 
     fn meets(&self, other: &BitRow) -> bool {
-        meet(&self.words, &other.words)
+        meet(&self.words, &other.words, self.end.min(other.end))
     }
 
     fn is_empty(&self) -> bool {
-        are_down(&self.words)
+        self.end == 0
     }
 
     fn clear(&mut self) {
-        put_all_down(&mut self.words);
+        put_all_down(&mut self.words, self.end);
+        self.end = 0;
     }
 }

@@ -15,9 +15,9 @@ use Rattle.velo_events.specs.declared.refusal.Refusal.TheVariants.{Halted, NotLi
 use Rattle.velo_events.specs.Meaning.{kind_for, event_for, refusal_of}
 use Rattle.velo_events.specs.Refusals.{GrowthRefused}
 use Rattle.velo_ledger.specs.Views.{Holding}
-use Rattle.velo_world.specs.Worlds.{WorldState, meaning}
-use Rattle.velo_world.specs.Holdings.{FitsLog}
-use Rattle.velo_world.specs.Steps.{Acts, Forks, Refuses}
+use Rattle.velo_world.specs.World.{WorldState, meaning}
+use Rattle.velo_world.specs.World.{FitsLog}
+use Rattle.velo_world.specs.World.{Acts, Forks, Refuses}
 use Rattle.velo_world.specs.declared.run.Reply.{Reply}
 use Rattle.velo_runtime.specs.Rooms.{RoomState, IsThere}
 use Rattle.velo_runtime.specs.Steps.{ActsIn, ForksIn}

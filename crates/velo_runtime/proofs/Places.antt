@@ -14,8 +14,8 @@ use Rattle.velo_events.specs.Meaning.{is_unborn}
 use Rattle.velo_ledger.specs.Views.{Holding}
 use Rattle.velo_ledger.specs.Shares.{events_in, events_in_all}
 use Rattle.velo_ledger.proofs.Places.{slice_get-set_same, slice_get-set_other, slice_get-replicate}
-use Rattle.velo_world.specs.Worlds.{WorldState}
-use Rattle.velo_world.specs.Holdings.{FitsLog, HasShare, CompletesShares}
+use Rattle.velo_world.specs.World.{WorldState}
+use Rattle.velo_world.specs.World.{FitsLog, HasShare, CompletesShares}
 use Rattle.velo_runtime.specs.Seats.{AreSeatsOf, is_of}
 
 -- how many seats a thread has at the end

@@ -2,7 +2,7 @@
 use Rattle.std.specs.Prelude.{◌≡◌, ◌<◌, List, length, replicate, Option, None, All, IfSome}
 use Rattle.velo_events.specs.declared.config.Bounds.{Bounds}
 use Rattle.velo_events.specs.declared.config.Config.{Config}
-use Rattle.velo_world.specs.Worlds.{WorldState, opening}
+use Rattle.velo_world.specs.World.{WorldState, opening}
 use Rattle.velo_runtime.specs.declared.wait.Wanted.{Wanted}
 use Rattle.velo_runtime.specs.declared.wait.Wanted.TheVariants.{Lock, Thread}
 

@@ -8,9 +8,9 @@ use Rattle.velo_events.specs.Meaning.{is_unborn, kind_for}
 use Rattle.velo_ledger.specs.Views.{Holding}
 use Rattle.velo_ledger.specs.Tally.{with_event}
 use Rattle.velo_ledger.specs.Book.{with_tally}
-use Rattle.velo_world.specs.Worlds.{WorldState}
-use Rattle.velo_world.specs.Holdings.{FitsLog}
-use Rattle.velo_world.specs.Steps.{value_read}
+use Rattle.velo_world.specs.World.{WorldState}
+use Rattle.velo_world.specs.World.{FitsLog}
+use Rattle.velo_world.specs.World.{value_read}
 use Rattle.velo_world.specs.declared.run.Reply.{Reply}
 
 -- an event of the share's thread

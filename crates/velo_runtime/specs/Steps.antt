@@ -5,8 +5,8 @@ use Rattle.velo_events.specs.declared.event.ThreadId.{ThreadId}
 use Rattle.velo_events.specs.declared.refusal.Refusal.{Refusal}
 use Rattle.velo_events.specs.declared.refusal.Refusal.TheVariants.{Foreign}
 use Rattle.velo_ledger.specs.Views.{Holding}
-use Rattle.velo_world.specs.Holdings.{FitsLog}
-use Rattle.velo_world.specs.Steps.{Acts, Forks}
+use Rattle.velo_world.specs.World.{FitsLog}
+use Rattle.velo_world.specs.World.{Acts, Forks}
 use Rattle.velo_world.specs.declared.run.Reply.{Reply}
 use Rattle.velo_runtime.specs.Rooms.{RoomState}
 

@@ -3,7 +3,7 @@ ghost use Rattle.velo_events.specs.declared.event.Kind.TheVariants as kind;
 ghost use Rattle.velo_events.specs.declared.refusal.Refusal.TheVariants as refusal;
 ghost use Rattle.velo_events.specs.Refusals.{GrowthRefused};
 ghost use Rattle.velo_ledger.specs.Shares.{opening_share};
-ghost use Rattle.velo_world.specs.Steps.{IsNoFork};
+ghost use Rattle.velo_world.specs.World.{IsNoFork};
 ghost use Rattle.velo_runtime.specs.Seats.{GainsEvent, GainsEventBy, GainsEventOf, is_of};
 ghost use Rattle.velo_runtime.specs.Turns.{wanted_by};
 

@@ -4,3 +4,11 @@ pub mod OnLast
 pub mod OnLookUps
 pub mod OnSteps
 pub mod OnGraphLookUps
+pub mod OnLatest
+pub mod OnBeside
+pub mod OnClocks
+pub mod OnRaised
+pub mod OnClockRoom
+pub mod OnNoted
+pub mod OnBlankClocks
+pub mod OnThreads

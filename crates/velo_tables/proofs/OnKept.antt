@@ -16,7 +16,7 @@ use Rattle.velo_events.specs.Event.{thread_of}
 use Rattle.velo_tables.specs.Place.{Place, LastOf, LastWrite, LastRead, LastOn, is_recorded, thread_numbers}
 use Rattle.velo_tables.specs.Readers.{filled_up}
 use Rattle.velo_tables.specs.Kept.{Kept, Accesses, no_accesses, accesses_of, entry, HasRoomFor, HasRoomBeside, HasRoomToRead, IsRecorded, IsUnchanged}
-use Rattle.velo_tables.specs.Recorded.{with_write, with_read, with_reads_of, with_thread, with_variable, recorded, recorded_beside}
+use Rattle.velo_tables.specs.Recorded.{with_write, with_read, with_reads_of, with_thread, with_variable, kept_after, kept_after_beside}
 use Rattle.velo_tables.proofs.OnReaders.{filter_map-cons, get_or-filled_up, length-filled_up}
 
 -- ---- one list after a write
@@ -92,7 +92,7 @@ module _ (kept : Kept) (by : ℕ) (step : Option Step) where
 module _ (kept : Kept) (by : ThreadId) (step : Option Step) where
   -- the tables after an event of the kind
   abbrev After : Kind → Place → Type 0
-  After k p = entry (recorded_beside (with_thread kept by.0 step) by.0 k step) p ≡ (if is_recorded (record { thread = by; kind = k }) p then step else entry kept p)
+  After k p = entry (kept_after_beside (with_thread kept by.0 step) by.0 k step) p ≡ (if is_recorded (record { thread = by; kind = k }) p then step else entry kept p)
 
   entry-after : (k : Kind) → by.0 < length kept.threads → HasRoomBeside kept by.0 k → (p : Place) → After k p
   entry-after (Read y v) own room (LastOf t) = after_own kept by.0 step t own
@@ -166,7 +166,7 @@ reads-after kept y x accesses same within =
 
 module _ (kept : Kept) (by : ℕ) (step : Option Step) where
   abbrev Roomier : Kind → Type 0
-  Roomier k = HasRoomBeside kept by k → IsRoomier kept (recorded_beside (with_thread kept by step) by k step)
+  Roomier k = HasRoomBeside kept by k → IsRoomier kept (kept_after_beside (with_thread kept by step) by k step)
 
   one_thread : length kept.threads ≤ length (set kept.threads by step)
   one_thread = omega (arith, length-set kept.threads by step)
@@ -193,18 +193,18 @@ module _ (kept : Kept) (by : ℕ) (step : Option Step) where
   roomier-after Exit room = record { threads = one_thread; variables = omega arith; reads = λ x. omega arith; locks = omega arith }
 
 -- what the lists are after an event is what the places have after it
-pub IsRecorded-recorded : (kept : Kept) (e : Event) (step : Option Step) → HasRoomFor kept e → IsRecorded kept e step (recorded kept e step)
-unfolding recorded
-IsRecorded-recorded kept e step room = record {
+pub IsRecorded-kept_after : (kept : Kept) (e : Event) (step : Option Step) → HasRoomFor kept e → IsRecorded kept e step (kept_after kept e step)
+unfolding kept_after
+IsRecorded-kept_after kept e step room = record {
   each = λ p. entry-after kept e.thread step e.kind room.own room.beside p;
-  room = λ f before. HasRoomFor-kept kept (recorded kept e step) f (roomier-after kept (thread_of e) step e.kind room.beside) before;
+  room = λ f before. HasRoomFor-kept kept (kept_after kept e step) f (roomier-after kept (thread_of e) step e.kind room.beside) before;
 }
 
-pub length-threads-recorded : (kept : Kept) (e : Event) (step : Option Step) → length (recorded kept e step).threads ≡ length kept.threads
-unfolding recorded
-length-threads-recorded kept e step = go e.kind
+pub length-threads-kept_after : (kept : Kept) (e : Event) (step : Option Step) → length (kept_after kept e step).threads ≡ length kept.threads
+unfolding kept_after
+length-threads-kept_after kept e step = go e.kind
   where
-    go : (k : Kind) → length (recorded_beside (with_thread kept (thread_of e) step) (thread_of e) k step).threads ≡ length kept.threads
+    go : (k : Kind) → length (kept_after_beside (with_thread kept (thread_of e) step) (thread_of e) k step).threads ≡ length kept.threads
     go (Fork u) = length-set (set kept.threads (thread_of e) step) u.0 step ∙ length-set kept.threads (thread_of e) step
     go (Read x v) = length-set kept.threads (thread_of e) step
     go (Write x v) = length-set kept.threads (thread_of e) step

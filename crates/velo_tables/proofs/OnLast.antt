@@ -9,7 +9,7 @@ use Rattle.velo_arena.specs.declared.step.Step.{Step}
 use Rattle.velo_events.specs.declared.event.Event.{Event}
 use Rattle.velo_tables.specs.Place.{Place, is_recorded}
 use Rattle.velo_tables.specs.Kept.{Kept, entry, IsBlank, IsRecorded, IsUnchanged}
-use Rattle.velo_tables.specs.Last.{last_position, last_at, StandsFor}
+use Rattle.velo_tables.specs.Last.{last_position, last_at, HasLastSteps}
 
 -- ---- the last position that passes a test
 
@@ -123,8 +123,8 @@ abbrev pub step_of : List (Option Step) → Option ℕ → Option Step
 step_of steps o = option_map_or (λ i. get_or steps i None) o None
 
 -- tables without a step stand for the empty trace
-pub StandsFor-nil : (kept : Kept) → IsBlank kept → StandsFor kept [] []
-StandsFor-nil kept blank = record {
+pub HasLastSteps-nil : (kept : Kept) → IsBlank kept → HasLastSteps kept [] []
+HasLastSteps-nil kept blank = record {
   same_length = refl;
   each = λ p. blank.each p ∙ ap (step_of []) (sym (last_position-nil (λ f. is_recorded f p)));
 }
@@ -135,8 +135,8 @@ step_of-push steps step None within = refl
 step_of-push steps step (Some k) within = get_or_append_left steps (step ∷ []) None k (within k refl)
 
 -- tables that recorded the next event stand for the trace with it
-pub StandsFor-push : (old new : Kept) (trace : List Event) (steps : List (Option Step)) (e : Event) (step : Option Step) → StandsFor old trace steps → IsRecorded old e step new → StandsFor new (trace ++ e ∷ []) (steps ++ step ∷ [])
-StandsFor-push old new trace steps e step stands recorded = record {
+pub HasLastSteps-push : (old new : Kept) (trace : List Event) (steps : List (Option Step)) (e : Event) (step : Option Step) → HasLastSteps old trace steps → IsRecorded old e step new → HasLastSteps new (trace ++ e ∷ []) (steps ++ step ∷ [])
+HasLastSteps-push old new trace steps e step stands recorded = record {
   same_length = omega (arith, length_push steps step, length_push trace e, stands.same_length);
   each = λ p. recorded.each p
       ∙ (cases p (is_recorded e p)
@@ -150,20 +150,20 @@ StandsFor-push old new trace steps e step stands recorded = record {
         ∙ sym (step_of-push steps step (last_at p trace) (λ k h. let under = last_at-within p trace k h in omega (arith, under, stands.same_length)))
 
 -- room that was made changes nothing of it
-pub StandsFor-unchanged : (old new : Kept) (trace : List Event) (steps : List (Option Step)) → IsUnchanged old new → StandsFor old trace steps → StandsFor new trace steps
-StandsFor-unchanged old new trace steps same stands = record { same_length = stands.same_length; each = λ p. same.each p ∙ stands.each p }
+pub HasLastSteps-unchanged : (old new : Kept) (trace : List Event) (steps : List (Option Step)) → IsUnchanged old new → HasLastSteps old trace steps → HasLastSteps new trace steps
+HasLastSteps-unchanged old new trace steps same stands = record { same_length = stands.same_length; each = λ p. same.each p ∙ stands.each p }
 
 -- what is at a place is the step of the place's last event
-pub StandsFor-at : (kept : Kept) (trace : List Event) (steps : List (Option Step)) (p : Place) (k : ℕ) → StandsFor kept trace steps → last_at p trace ≡ Some k → entry kept p ≡ get_or steps k None
-StandsFor-at kept trace steps p k stands h = stands.each p ∙ ap (step_of steps) h
+pub HasLastSteps-at : (kept : Kept) (trace : List Event) (steps : List (Option Step)) (p : Place) (k : ℕ) → HasLastSteps kept trace steps → last_at p trace ≡ Some k → entry kept p ≡ get_or steps k None
+HasLastSteps-at kept trace steps p k stands h = stands.each p ∙ ap (step_of steps) h
 
-pub StandsFor-none : (kept : Kept) (trace : List Event) (steps : List (Option Step)) (p : Place) → StandsFor kept trace steps → last_at p trace ≡ None → entry kept p ≡ None
-StandsFor-none kept trace steps p stands h = stands.each p ∙ ap (step_of steps) h
+pub HasLastSteps-none : (kept : Kept) (trace : List Event) (steps : List (Option Step)) (p : Place) → HasLastSteps kept trace steps → last_at p trace ≡ None → entry kept p ≡ None
+HasLastSteps-none kept trace steps p stands h = stands.each p ∙ ap (step_of steps) h
 
 -- and a step that is kept was given for the last event of its place
-pub StandsFor-step : (kept : Kept) (trace : List Event) (steps : List (Option Step)) (p : Place) (step : Step) → StandsFor kept trace steps → entry kept p ≡ Some step → (k : ℕ) × (last_at p trace ≡ Some k) × (get_or steps k None ≡ Some step)
-StandsFor-step kept trace steps p step stands h = go (last_at p trace) refl
+pub HasLastSteps-step : (kept : Kept) (trace : List Event) (steps : List (Option Step)) (p : Place) (step : Step) → HasLastSteps kept trace steps → entry kept p ≡ Some step → (k : ℕ) × (last_at p trace ≡ Some k) × (get_or steps k None ≡ Some step)
+HasLastSteps-step kept trace steps p step stands h = go (last_at p trace) refl
   where
     go : (o : Option ℕ) → last_at p trace ≡ o → (k : ℕ) × (last_at p trace ≡ Some k) × (get_or steps k None ≡ Some step)
-    go None none = absurd (none-some step (sym (StandsFor-none kept trace steps p stands none) ∙ h))
-    go (Some k) last = (k, last, sym (StandsFor-at kept trace steps p k stands last) ∙ h)
+    go None none = absurd (none-some step (sym (HasLastSteps-none kept trace steps p stands none) ∙ h))
+    go (Some k) last = (k, last, sym (HasLastSteps-at kept trace steps p k stands last) ∙ h)

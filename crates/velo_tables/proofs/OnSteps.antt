@@ -10,8 +10,8 @@ use Rattle.velo_events.specs.declared.event.Kind.TheVariants.{Read, Write, Acqui
 use Rattle.velo_events.specs.WellFormed.{NamesKnown, MayFollow}
 use Rattle.velo_tables.specs.Place.{Place, looked_up}
 use Rattle.velo_tables.specs.Kept.{Kept, entry, steps_looked_up, OthersKnown, HasItsThreads}
-use Rattle.velo_tables.specs.Last.{last_at, StandsFor}
-use Rattle.velo_tables.proofs.OnLast.{StandsFor-at, StandsFor-step}
+use Rattle.velo_tables.specs.Last.{last_at, HasLastSteps}
+use Rattle.velo_tables.proofs.OnLast.{HasLastSteps-at, HasLastSteps-step}
 
 -- ---- what is in a list of those that have an image
 
@@ -60,13 +60,13 @@ pub record IsStepOf (trace : List Event) (steps : List (Option Step)) (e : Event
   pub given : get_or steps at None ≡ Some step
 
 -- Tables that stand for a trace give these steps and no others
-pub steps_looked_up-are : (kept : Kept) (trace : List Event) (steps : List (Option Step)) (e : Event) (step : Step) → StandsFor kept trace steps → Contains (steps_looked_up kept e) step ↔ IsStepOf trace steps e step
+pub steps_looked_up-are : (kept : Kept) (trace : List Event) (steps : List (Option Step)) (e : Event) (step : Step) → HasLastSteps kept trace steps → Contains (steps_looked_up kept e) step ↔ IsStepOf trace steps e step
 steps_looked_up-are kept trace steps e step stands = (
   (λ w.
       let p = steps_looked_up-from kept e step w in
-      let k = StandsFor-step kept trace steps p.0 step stands p.2 in
+      let k = HasLastSteps-step kept trace steps p.0 step stands p.2 in
       record { place = p.0; at = k.0; looked = p.1; last = k.1; given = k.2 }),
-  (λ s. steps_looked_up-contains kept e s.place step s.looked (StandsFor-at kept trace steps s.place s.at stands s.last ∙ s.given)),
+  (λ s. steps_looked_up-contains kept e s.place step s.looked (HasLastSteps-at kept trace steps s.place s.at stands s.last ∙ s.given)),
 )
 
 -- ---- the threads of an event that may follow

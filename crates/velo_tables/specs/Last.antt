@@ -17,6 +17,6 @@ last_at p trace = last_position (λ e. is_recorded e p) trace
 
 -- The tables stand for the trace, whose event at each position was recorded with the step, or none, that is given for it:
 -- each place has the step of its last event.
-pub record StandsFor (kept : Kept) (trace : List Event) (steps : List (Option Step)) : Type 0 where
+pub record HasLastSteps (kept : Kept) (trace : List Event) (steps : List (Option Step)) : Type 0 where
   pub same_length : length steps ≡ length trace
   pub each : (p : Place) → entry kept p ≡ option_map_or (λ i. slice_index_or steps i None) (last_at p trace) None

@@ -4,3 +4,5 @@ pub mod Readers
 pub mod Kept
 pub mod Recorded
 pub mod Last
+pub mod Clocks
+pub mod Noted

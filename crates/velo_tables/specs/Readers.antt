@@ -1,12 +1,13 @@
 -- Which threads have a read of a variable: one bit of a number for each.
 use Rattle.std.specs.Prelude.{◌≡◌, ℕ, ◌-◌, ◌≤◌, List, ◌++◌, Option, None, length, slice_index_or, replicate}
 use Rattle.std.specs.Int.{bit_at}
+use Rattle.velo_events.specs.declared.limits.TheConstants.{MOST_THREADS}
 
 -- the list, filled up with blanks until it has n elements
 unfoldable pub filled_up : {X : Type 0} → X → ℕ → List X → List X
 filled_up blank n xs = xs ++ replicate (n - length xs) blank
 
--- there are at most 64 entries, and each that is filled has its bit
+-- there is at most one entry for each thread of a run, and each that is filled has its bit
 pub record AreReaders {X : Type 0} (readers : ℕ) (reads : List (Option X)) : Type 0 where
-  pub few : length reads ≤ 64
+  pub few : length reads ≤ MOST_THREADS
   pub covers : (t : ℕ) → bit_at readers t ≡ 0 → slice_index_or reads t None ≡ None

@@ -28,13 +28,13 @@ abbrev pub with_lock : Kept → ℕ → Option Step → Kept
 with_lock kept m step = record { threads = kept.threads; variables = kept.variables; locks = slice_set kept.locks m step }
 
 -- after what the operation of thread t records beside the last event of t
-abbrev pub recorded_beside : Kept → ℕ → Kind → Option Step → Kept
-recorded_beside kept t (Read x v) step = with_variable kept x.0 (with_read (accesses_of kept x.0) t step)
-recorded_beside kept t (Write x v) step = with_variable kept x.0 (with_write (accesses_of kept x.0) step)
-recorded_beside kept t (Acquire m) step = with_lock kept m.0 step
-recorded_beside kept t (Release m) step = with_lock kept m.0 step
-recorded_beside kept t (Fork u) step = with_thread kept u.0 step
-recorded_beside kept t _ step = kept
+abbrev pub kept_after_beside : Kept → ℕ → Kind → Option Step → Kept
+kept_after_beside kept t (Read x v) step = with_variable kept x.0 (with_read (accesses_of kept x.0) t step)
+kept_after_beside kept t (Write x v) step = with_variable kept x.0 (with_write (accesses_of kept x.0) step)
+kept_after_beside kept t (Acquire m) step = with_lock kept m.0 step
+kept_after_beside kept t (Release m) step = with_lock kept m.0 step
+kept_after_beside kept t (Fork u) step = with_thread kept u.0 step
+kept_after_beside kept t _ step = kept
 
-unfoldable pub recorded : Kept → Event → Option Step → Kept
-recorded kept e step = recorded_beside (with_thread kept (thread_of e) step) (thread_of e) e.kind step
+unfoldable pub kept_after : Kept → Event → Option Step → Kept
+kept_after kept e step = kept_after_beside (with_thread kept (thread_of e) step) (thread_of e) e.kind step

@@ -4,7 +4,7 @@ use std::marker::Model;
 use velo_arena::Step;
 
 /// A step or none, in eight bytes.
-#[derive(Clone, Copy)]
+#[derive(Clone, Copy, Debug)]
 pub(crate) struct Entry {
     slot: u16,
     is_there: bool,

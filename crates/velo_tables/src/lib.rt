@@ -1,11 +1,16 @@
-//! The steps of the last accesses: from them the predecessors of the next event are looked up.
+//! What a run remembers of its last accesses: their steps, from which the predecessors of the next event are looked up, and
+//! how far they know each thread, from which blame is told.
 #![tactic(auto)]
 
+mod clock_place;
+mod clock_places;
+mod clocks;
 mod entry;
 mod tables;
 mod variable;
 
-pub use tables::Tables;
+pub use clocks::ClockTables;
+pub use tables::{MOST_PREDECESSORS, Tables};
 
 #[cfg(test)]
 mod tests;

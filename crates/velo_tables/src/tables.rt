@@ -2,10 +2,12 @@ ghost use Rattle.velo_events.specs.Refusals.{GrowthRefused};
 ghost use Rattle.std.specs.Prelude.{◌≡◌, ◌+◌, ◌^◌, ◌<◌, ◌≤◌, ◌++◌, ◌∷◌, None, length, map, slice_index_or, slice_set, IsTrue, ◌↔◌, IfOk, OnOk, OnErr};
 ghost use Rattle.std.specs.List.{filter_map};
 ghost use Rattle.smallvec.specs.SmallVec.{HasRoomFor as HasSpace};
+ghost use Rattle.velo_events.specs.declared.limits.TheConstants.{MOST_THREADS};
+ghost use Rattle.velo_tables.specs.declared.tables.TheConstants.{MOST_PREDECESSORS};
 ghost use Rattle.velo_tables.specs.Place.{LastOf, LastWrite, LastRead, LastOn, thread_numbers};
 ghost use Rattle.velo_tables.specs.Readers.{filled_up};
 ghost use Rattle.velo_tables.specs.Kept.{entry, no_accesses, steps_looked_up, HasItsThreads, HasRoomFor, HasRoomToRead, HasRoomBeside, CoverReaders, IsBlank, IsUnchanged, IsRecorded};
-ghost use Rattle.velo_tables.specs.Recorded.{recorded, with_reads_of};
+ghost use Rattle.velo_tables.specs.Recorded.{kept_after, with_reads_of};
 
 use crate::entry::{Entry, entry_at};
 use crate::variable::{Variable, push_step};
@@ -14,11 +16,14 @@ use std::alloc::Global;
 use std::marker::Model;
 use velo_arena::Step;
 use velo_events::growth::{reserve, resize};
-use velo_events::{Config, Event, Kind, LockId, Memory, ThreadId, VarId};
+use velo_events::{Config, Event, Kind, LockId, MOST_THREADS, Memory, ThreadId, VarId};
+
+/// The most steps that an event looks up: of its thread, of the last write, and of a read by each thread.
+pub const MOST_PREDECESSORS: usize = MOST_THREADS as usize + 2;
 
 /// The step of the last event at each place: of each thread, of each lock, the last write of each variable, and its last
 /// read by each thread. There is room for what was accessed, and for the threads.
-#[derive(Drop)]
+#[derive(Debug, Drop)]
 pub struct Tables {
     threads: Vec<Entry>,
     variables: Vec<Variable>,
@@ -27,13 +32,14 @@ pub struct Tables {
 
 impl Model for Tables {
     ghost use Rattle.std.specs.Prelude.{◌≤◌, length};
+    ghost use Rattle.velo_events.specs.declared.limits.TheConstants.{MOST_THREADS};
     ghost use Rattle.velo_tables.specs.Kept.{Kept};
 
     ghost Value = { Kept };
 
     ghost view = { λ s. record { threads = s.threads.items; variables = s.variables.items; locks = s.locks.items } };
 
-    ghost invariant = { λ s. length s.threads.items ≤ 64 };
+    ghost invariant = { λ s. length s.threads.items ≤ MOST_THREADS };
 }
 
 /// Makes room for the entry with this number.
@@ -73,7 +79,7 @@ fn grow_variables(variables: &mut Vec<Variable>, number: usize) -> Result<(), Me
 /// Makes room for the reads of the variable with this number by so many threads.
 fn grow_reads(variables: &mut Vec<Variable>, number: usize, threads: usize) -> Result<(), Memory>
     requires there { number < length variables.old.items }
-    requires few { threads ≤ 64 }
+    requires few { threads ≤ MOST_THREADS }
     ensures ok { OnOk result (variables.new.items ≡ slice_set variables.old.items number (with_reads_of threads (slice_index_or variables.old.items number no_accesses))) }
     ensures err { OnErr result (variables.new.items ≡ variables.old.items) }
     ensures memory { OnErr result GrowthRefused }
@@ -222,7 +228,7 @@ impl Tables {
     }
 
     /// Keeps the step, or none, as that of the last event at each place that the event records.
-    #[tactic(auto, unfolding(crate::specs::Recorded::recorded))]
+    #[tactic(auto, unfolding(crate::specs::Recorded::kept_after))]
     pub fn record(&mut self, event: &Event, step: Option<Step>)
         requires { HasRoomFor self.old event.now }
         ensures recorded { IsRecorded self.old event.now step self.new }
@@ -231,10 +237,10 @@ impl Tables {
         self.record_in_place(event, step);
     }
 
-    #[tactic(auto, unfolding(crate::specs::Recorded::recorded))]
+    #[tactic(auto, unfolding(crate::specs::Recorded::kept_after))]
     fn record_in_place(&mut self, event: &Event, step: Option<Step>)
         requires { HasRoomFor self.old event.now }
-        ensures { self.new ≡ recorded self.old event.now step }
+        ensures { self.new ≡ kept_after self.old event.now step }
     {
         let entry = Entry::new(step);
         self.threads[event.thread.0 as usize] = entry;
@@ -256,8 +262,8 @@ impl Tables {
     /// Puts the steps that the event looks up into the list, in place of what it had: first that of the thread's last
     /// event, and a write's reads in the order of their threads.
     #[tactic(auto, unfolding(crate::specs::Kept::steps_looked_up))]
-    pub fn predecessors_into(&self, event: &Event, list: &mut SmallVec<Step, 66>)
-        requires { 66 ≤ list.old.capacity }
+    pub fn predecessors_into(&self, event: &Event, list: &mut SmallVec<Step, MOST_PREDECESSORS>)
+        requires { MOST_PREDECESSORS ≤ list.old.capacity }
         ensures items { list.new.items ≡ steps_looked_up self.now event.now }
         ensures capacity { list.new.capacity ≡ list.old.capacity }
     {
@@ -273,8 +279,8 @@ impl Tables {
     }
 
     /// Appends the steps of the variable's last write and reads.
-    fn push_accesses(&self, x: VarId, list: &mut SmallVec<Step, 66>)
-        requires { HasSpace list.old 65 }
+    fn push_accesses(&self, x: VarId, list: &mut SmallVec<Step, MOST_PREDECESSORS>)
+        requires { HasSpace list.old (1 + MOST_THREADS) }
         ensures items { list.new.items ≡ list.old.items ++ filter_map (entry self.now) (LastWrite x.0 ∷ map (LastRead x.0) thread_numbers) }
         ensures capacity { list.new.capacity ≡ list.old.capacity }
     {
@@ -287,7 +293,7 @@ impl Tables {
 
     /// The steps that the event looks up: first that of the thread's last event, and a write's reads in the order of their
     /// threads.
-    pub fn predecessors(&self, event: &Event) -> SmallVec<Step, 66>
+    pub fn predecessors(&self, event: &Event) -> SmallVec<Step, MOST_PREDECESSORS>
         ensures { result.items ≡ steps_looked_up self.now event.now }
     {
         let mut list = SmallVec::new(*self.threads.allocator());

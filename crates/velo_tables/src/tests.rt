@@ -1,22 +1,24 @@
-ghost use Rattle.std.specs.Prelude.{◌≡◌, length, IfOk};
+ghost use Rattle.std.specs.Prelude.{◌≡◌, ◌<◌, length, IfOk};
 ghost use Rattle.velo_tables.specs.Kept.{HasItsThreads};
+ghost use Rattle.velo_tables.specs.Noted.{IsOfThreads};
 
-use crate::Tables;
+use crate::{ClockTables, Tables};
 use std::alloc::Global;
 use std::test::Fail;
 use velo_arena::Step;
 use velo_events::{Bounds, Config, Event, Kind, Label, LockId, ThreadId, VarId};
 
+const BOUNDS: Bounds = Bounds {
+    threads: 4,
+    variables: 3,
+    locks: 2,
+};
+
 /// The tables of a run of four threads.
-fn opened(alloc: Global) -> Result<Tables, Fail>
+fn tables_of_four(alloc: Global) -> Result<Tables, Fail>
     ensures { IfOk result (λ tables. length tables.threads ≡ 4) }
 {
-    let bounds = Bounds {
-        threads: 4,
-        variables: 3,
-        locks: 2,
-    };
-    let config = Config::new(1, bounds, 100, 10, false)?;
+    let config = Config::new(1, BOUNDS, 100, 10, false)?;
     let tables = Tables::new(alloc, &config)?;
     Ok(tables)
 }
@@ -51,7 +53,7 @@ const Y: VarId = VarId(1);
 
 #[test]
 fn a_write_finds_every_reader(rt: HostRuntime) -> Result<(), Fail> {
-    let mut tables = opened(rt.alloc())?;
+    let mut tables = tables_of_four(rt.alloc())?;
     note(&mut tables, by(0, Kind::Read(X, 0)), Some(at(1)))?;
     note(&mut tables, by(2, Kind::Read(X, 0)), Some(at(2)))?;
     note(&mut tables, by(1, Kind::Read(X, 0)), Some(at(3)))?;
@@ -85,7 +87,7 @@ fn a_write_finds_every_reader(rt: HostRuntime) -> Result<(), Fail> {
 
 #[test]
 fn a_fork_leads_to_the_child_and_a_join_from_it(rt: HostRuntime) -> Result<(), Fail> {
-    let mut tables = opened(rt.alloc())?;
+    let mut tables = tables_of_four(rt.alloc())?;
     note(&mut tables, by(0, Kind::Fork(ThreadId(1))), Some(at(1)))?;
     let first = by(1, Kind::Begin(Label(0)));
     assert_eq!(rt; tables.predecessors(&first).as_slice(), [at(1)].as_slice());
@@ -105,7 +107,7 @@ fn a_fork_leads_to_the_child_and_a_join_from_it(rt: HostRuntime) -> Result<(), F
 
 #[test]
 fn a_lock_has_one_last_event(rt: HostRuntime) -> Result<(), Fail> {
-    let mut tables = opened(rt.alloc())?;
+    let mut tables = tables_of_four(rt.alloc())?;
     note(&mut tables, by(0, Kind::Acquire(LockId(1))), Some(at(1)))?;
     note(&mut tables, by(0, Kind::Release(LockId(1))), Some(at(2)))?;
     assert_eq!(rt;
@@ -123,5 +125,33 @@ fn a_lock_has_one_last_event(rt: HostRuntime) -> Result<(), Fail> {
     assert_eq!(rt; tables.last_on(LockId(1)), Some(at(2)));
     assert_eq!(rt; tables.last_write(X), None);
     assert_eq!(rt; tables.last_read(X, ThreadId(3)), None);
+    Ok(())
+}
+
+/// Makes room in the clocks for the event and notes it.
+fn note_clock(clocks: &mut ClockTables, position: u32, event: Event) -> Result<(), Fail>
+    requires known { IsOfThreads (length clocks.old.threads) event }
+    requires early { position < 100 }
+    ensures { length clocks.new.threads ≡ length clocks.old.threads }
+{
+    clocks.reserve_for(&event)?;
+    clocks.note(position, &event);
+    Ok(())
+}
+
+#[test]
+fn the_own_thread_is_known_through_others(rt: HostRuntime) -> Result<(), Fail> {
+    let config = Config::new(1, BOUNDS, 100, 10, false)?;
+    let mut clocks = ClockTables::new(rt.alloc(), &config)?;
+    note_clock(&mut clocks, 0, by(0, Kind::Fork(ThreadId(1))))?;
+    note_clock(&mut clocks, 1, by(0, Kind::Begin(Label(1))))?;
+    note_clock(&mut clocks, 2, by(0, Kind::Write(X, 1)))?;
+    note_clock(&mut clocks, 3, by(0, Kind::Begin(Label(2))))?;
+    note_clock(&mut clocks, 4, by(0, Kind::Write(Y, 1)))?;
+    assert_eq!(rt; clocks.bound(&by(0, Kind::Write(X, 2))), 0);
+    note_clock(&mut clocks, 5, by(1, Kind::Read(X, 1)))?;
+    assert_eq!(rt; clocks.bound(&by(0, Kind::Write(X, 2))), 3);
+    note_clock(&mut clocks, 6, by(1, Kind::Exit))?;
+    assert_eq!(rt; clocks.bound(&by(0, Kind::Join(ThreadId(1)))), 3);
     Ok(())
 }

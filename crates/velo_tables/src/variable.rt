@@ -3,12 +3,14 @@ ghost use Rattle.std.specs.Prelude.{◌≡◌, ◌<◌, ◌≤◌, ◌++◌, Non
 ghost use Rattle.std.specs.List.{filter_map};
 ghost use Rattle.std.specs.Option.{option_to_list};
 ghost use Rattle.smallvec.specs.SmallVec.{HasRoomFor};
+ghost use Rattle.velo_events.specs.declared.limits.TheConstants.{MOST_THREADS};
 ghost use Rattle.velo_tables.specs.Place.{thread_numbers};
 ghost use Rattle.velo_tables.specs.Readers.{AreReaders};
 ghost use Rattle.velo_tables.specs.Kept.{no_accesses};
 ghost use Rattle.velo_tables.specs.Recorded.{with_write, with_read, with_reads_of};
 
 use crate::entry::{Entry, entry_at};
+use crate::tables::MOST_PREDECESSORS;
 use smallvec::SmallVec;
 use std::alloc::Global;
 use std::marker::Model;
@@ -17,7 +19,7 @@ use velo_events::growth::resize;
 use velo_events::{Memory, ThreadId};
 
 /// The last accesses of one variable.
-#[derive(Drop)]
+#[derive(Debug, Drop)]
 pub(crate) struct Variable {
     write: Entry,
     /// A bit for each thread whose last read has a step, so that a write looks at no other thread.
@@ -38,7 +40,7 @@ impl Model for Variable {
 }
 
 /// Appends the step, if there is one.
-pub(crate) fn push_step(list: &mut SmallVec<Step, 66>, step: Option<Step>)
+pub(crate) fn push_step(list: &mut SmallVec<Step, MOST_PREDECESSORS>, step: Option<Step>)
     requires { HasRoomFor list.old 1 }
     ensures items { list.new.items ≡ list.old.items ++ option_to_list step }
     ensures capacity { list.new.capacity ≡ list.old.capacity }
@@ -49,9 +51,9 @@ pub(crate) fn push_step(list: &mut SmallVec<Step, 66>, step: Option<Step>)
 }
 
 /// Appends the steps of the reads, in the order of their threads.
-fn push_reads_of(reads: &[Entry], readers: u64, list: &mut SmallVec<Step, 66>)
+fn push_reads_of(reads: &[Entry], readers: u64, list: &mut SmallVec<Step, MOST_PREDECESSORS>)
     requires covered { AreReaders readers reads.now }
-    requires room { HasRoomFor list.old 64 }
+    requires room { HasRoomFor list.old MOST_THREADS }
     ensures items { list.new.items ≡ list.old.items ++ filter_map (λ t. slice_index_or reads.now t None) thread_numbers }
     ensures capacity { list.new.capacity ≡ list.old.capacity }
 {
@@ -100,8 +102,8 @@ impl Variable {
     }
 
     /// Appends the steps of the last reads, in the order of their threads.
-    pub fn push_reads(&self, list: &mut SmallVec<Step, 66>)
-        requires { HasRoomFor list.old 64 }
+    pub fn push_reads(&self, list: &mut SmallVec<Step, MOST_PREDECESSORS>)
+        requires { HasRoomFor list.old MOST_THREADS }
         ensures items { list.new.items ≡ list.old.items ++ filter_map (λ t. slice_index_or self.now.reads t None) thread_numbers }
         ensures capacity { list.new.capacity ≡ list.old.capacity }
     {
@@ -110,7 +112,7 @@ impl Variable {
 
     /// Makes room for the reads of that many threads.
     pub fn reserve_reads(&mut self, threads: usize) -> Result<(), Memory>
-        requires { threads ≤ 64 }
+        requires { threads ≤ MOST_THREADS }
         ensures ok { OnOk result (self.new ≡ with_reads_of threads self.old) }
         ensures err { OnErr result (self.new ≡ self.old) }
         ensures refused { OnErr result (length self.old.reads < threads) }

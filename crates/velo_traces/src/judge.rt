@@ -7,10 +7,9 @@ ghost use Rattle.velo_events.specs.WellFormed.{IsWellFormed};
 ghost use Rattle.velo_traces.specs.Flaws.{flaw_of, IsFirstFlaw};
 
 use crate::Trace;
-use velo_events::{Bounds, Event, Kind, LockId, Refusal, Status, ThreadId, VarId};
-
-/// How many blocks a thread may have open.
-const MOST_OPEN_BLOCKS: usize = 32;
+use velo_events::{
+    Bounds, Event, Kind, LockId, MOST_OPEN_BLOCKS, Refusal, Status, ThreadId, VarId,
+};
 
 /// Why an event can't stand where it does in a trace.
 #[derive(Clone, Copy, Debug, PartialEq, Eq)]

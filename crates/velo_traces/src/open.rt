@@ -1,5 +1,6 @@
 //! The open blocks of a thread, found in one pass from the end of a trace to its start.
 ghost use Rattle.std.specs.Prelude.{◌≡◌, ◌≤◌, ◌<◌, ◌+◌, [], ◌∷◌, length, map};
+ghost use Rattle.velo_events.specs.declared.limits.TheConstants.{MOST_OPEN_BLOCKS};
 ghost use Rattle.velo_events.specs.Block.{open_blocks};
 ghost use Rattle.velo_events.specs.Scan.{LeavesEnds, open_from};
 ghost use Rattle.velo_traces.specs.Blocks.{block_at};
@@ -7,14 +8,14 @@ ghost use Rattle.velo_traces.specs.Blocks.{block_at};
 use crate::block::Block;
 use smallvec::SmallVec;
 use std::alloc::Global;
-use velo_events::{Event, Kind, ThreadId};
+use velo_events::{Event, Kind, MOST_OPEN_BLOCKS, ThreadId};
 
 /// Puts a block before the others. There is room for it.
-fn put_first(blocks: &mut SmallVec<Block, 32>, block: Block)
-    requires room { length blocks.old.items < 32 }
-    requires inline { blocks.old.capacity ≡ 32 }
+fn put_first(blocks: &mut SmallVec<Block, MOST_OPEN_BLOCKS>, block: Block)
+    requires room { length blocks.old.items < MOST_OPEN_BLOCKS }
+    requires inline { blocks.old.capacity ≡ MOST_OPEN_BLOCKS }
     ensures items { blocks.new.items ≡ block ∷ blocks.old.items }
-    ensures inline { blocks.new.capacity ≡ 32 }
+    ensures inline { blocks.new.capacity ≡ MOST_OPEN_BLOCKS }
 {
     match blocks.insert(0, block) {
         Ok(()) => {}
@@ -29,18 +30,18 @@ fn take_in(
     thread: ThreadId,
     at: usize,
     ends: usize,
-    blocks: &mut SmallVec<Block, 32>,
+    blocks: &mut SmallVec<Block, MOST_OPEN_BLOCKS>,
 ) -> usize
     requires within { at < length events.now }
     requires few_ends { ends + at < length events.now }
-    requires few_blocks { length (open_blocks events.now thread.0) ≤ 32 }
+    requires few_blocks { length (open_blocks events.now thread.0) ≤ MOST_OPEN_BLOCKS }
     requires ends { LeavesEnds events.now thread.0 (at + 1) ends }
     requires blocks { blocks.old.items ≡ map (block_at events.now) (open_from events.now thread.0 (at + 1)) }
-    requires inline { blocks.old.capacity ≡ 32 }
+    requires inline { blocks.old.capacity ≡ MOST_OPEN_BLOCKS }
     ensures few_ends { result + at ≤ length events.now }
     ensures ends { LeavesEnds events.now thread.0 at result }
     ensures blocks { blocks.new.items ≡ map (block_at events.now) (open_from events.now thread.0 at) }
-    ensures inline { blocks.new.capacity ≡ 32 }
+    ensures inline { blocks.new.capacity ≡ MOST_OPEN_BLOCKS }
 {
     let event = events[at];
     if event.thread != thread {
@@ -60,8 +61,12 @@ fn take_in(
 }
 
 /// The blocks of a thread that are open at the end of the events, outermost first.
-pub fn open_blocks_in(events: &[Event], thread: ThreadId, alloc: Global) -> SmallVec<Block, 32>
-    requires { length (open_blocks events.now thread.0) ≤ 32 }
+pub fn open_blocks_in(
+    events: &[Event],
+    thread: ThreadId,
+    alloc: Global,
+) -> SmallVec<Block, MOST_OPEN_BLOCKS>
+    requires { length (open_blocks events.now thread.0) ≤ MOST_OPEN_BLOCKS }
     ensures { result.items ≡ map (block_at events.now) (open_blocks events.now thread.0) }
 {
     let mut blocks = SmallVec::new(alloc);

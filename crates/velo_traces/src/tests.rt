@@ -9,7 +9,7 @@ use std::alloc::Global;
 use std::mem::size_of;
 use std::process::Abort;
 use std::test::Fail;
-use velo_events::{Bounds, Event, Label, Memory, Refusal, ThreadId};
+use velo_events::{Bounds, Event, Label, MOST_OPEN_BLOCKS, Memory, Refusal, ThreadId};
 
 /// Two threads, two variables, one lock.
 const BOUNDS: Bounds = Bounds {
@@ -42,7 +42,7 @@ struct Known<'a> {
 }
 
 /// The open blocks of a thread at the end of a trace, which is well-formed.
-fn open_at_end(rt: &impl Abort, trace: &Trace, t: ThreadId) -> SmallVec<Block, 32> {
+fn open_at_end(rt: &impl Abort, trace: &Trace, t: ThreadId) -> SmallVec<Block, MOST_OPEN_BLOCKS> {
     match well_formed(trace, BOUNDS) {
         Ok(()) => trace.open_blocks(t),
         Err((position, _)) => panic!(rt; "not well-formed at {position}"),

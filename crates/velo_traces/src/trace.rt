@@ -1,3 +1,4 @@
+ghost use Rattle.velo_events.specs.declared.limits.TheConstants.{MOST_OPEN_BLOCKS};
 ghost use Rattle.velo_events.specs.Block.{owner, open_blocks};
 ghost use Rattle.velo_traces.specs.Blocks.{block_at};
 ghost use Rattle.velo_events.specs.Refusals.{GrowthRefused};
@@ -10,10 +11,10 @@ use smallvec::SmallVec;
 use std::alloc::Global;
 use std::marker::Model;
 use velo_events::growth::reserve;
-use velo_events::{Event, Kind, Memory, ThreadId};
+use velo_events::{Event, Kind, MOST_OPEN_BLOCKS, Memory, ThreadId};
 
 /// The events that threads performed over a shared heap, in order. It stores whatever is pushed: `well_formed` judges it.
-#[derive(Drop)]
+#[derive(Debug, Drop)]
 pub struct Trace {
     items: Vec<Event>,
 }
@@ -97,10 +98,10 @@ impl Trace {
         self.items.as_slice()
     }
 
-    /// The blocks of a thread that are open at the end, outermost first. At most 32 are open, as in every trace that is
-    /// well-formed. It takes no memory, and one pass over the trace.
-    pub fn open_blocks(&self, t: ThreadId) -> SmallVec<Block, 32>
-        requires { length (open_blocks self.now.events t.0) ≤ 32 }
+    /// The blocks of a thread that are open at the end, outermost first. So few are open that they fit, as in every trace
+    /// that is well-formed. It takes no memory, and one pass over the trace.
+    pub fn open_blocks(&self, t: ThreadId) -> SmallVec<Block, MOST_OPEN_BLOCKS>
+        requires { length (open_blocks self.now.events t.0) ≤ MOST_OPEN_BLOCKS }
         ensures { result.items ≡ map (block_at self.now.events) (open_blocks self.now.events t.0) }
     {
         open_blocks_in(self.as_slice(), t, *self.items.allocator())

@@ -1,12 +1,9 @@
-pub mod Places
-pub mod OnMarks
-pub mod OnSearches
-pub mod OnEntries
 pub mod OnAlarms
+pub mod OnRuns
 pub mod OnAnswers
-pub mod OnStatuses
 pub mod OnHoldings
 pub mod OnSteps
+pub mod OnWorlds
 pub mod OnSequences
 pub mod OnClosing
 pub mod OnReadiness

@@ -1,16 +1,49 @@
 -- The alarm of a log with one more event.
-use Rattle.std.proofs.Common.{◌≡◌, List, [], ◌∷◌, ◌++◌, length, Option, Some, None, refl, sym, ap, ◌∙◌, subst}
-use Rattle.std.specs.Prelude.{ℕ, IsTrue, IsFalse, IfNone, IfSome, is_some, ◌↔◌}
+use Rattle.std.proofs.Common.{◌≡◌, ℕ, zero, suc, ◌+◌, ◌<◌, List, [], ◌∷◌, ◌++◌, length, take, take_all, map, Option, Some, None, refl, sym, ap, ◌∙◌, subst, arith}
+use Rattle.std.specs.Prelude.{IsTrue, IsFalse, IfNone, IfSome, is_some, ◌↔◌, Contains}
+use Rattle.std.specs.Option.{option_map_or}
+use Rattle.std.proofs.lemmas.List.{take-append-le, length-take-le}
 use Rattle.std.proofs.lemmas.Bool.{false≢true}
 use Rattle.velo_events.specs.declared.event.Event.{Event}
 use Rattle.velo_events.specs.Block.{owner}
 use Rattle.velo_events.specs.Graph.{HasCycle, IsClosing}
-use Rattle.velo_events.specs.Reordering.{IsSerializable}
+use Rattle.velo_events.specs.Event.{thread_of}
+use Rattle.velo_events.specs.Reordering.{IsSerializable, AreBlamed}
 use Rattle.velo_events.proofs.OnBlocks.{owner-append}
+use Rattle.velo_events.proofs.OnOwners.{is_open_at-within}
+use Rattle.velo_events.proofs.OnTraces.{slice_get-append}
+use Rattle.velo_events.proofs.OnUnfinished.{Contains-open_blocks}
+use Rattle.velo_traces.specs.Blocks.{block_at, label_of}
+use Rattle.velo_blame.specs.Blamed.{AreBlamedAt, begins_of, thread_at}
 use Rattle.velo_events.proofs.OnGraphs.{IsClosing-push, IsClosing-append, HasCycle-from_closing}
 use Rattle.velo_events.proofs.OnSerializing.{serializable_law, serializable_law-none}
 use Rattle.velo_world.specs.declared.run.Alarm.{Alarm}
-use Rattle.velo_world.specs.Alarms.{IsAlarm, AlarmOf}
+use Rattle.velo_world.specs.World.{IsAlarm, AlarmOf}
+use Rattle.velo_world.specs.Run.{IsWatched}
+
+-- ---- the blocks of an alarm in a longer log
+
+blocks-push : (log : List Event) (e : Event) (xs : List ℕ) → ((b : ℕ) → Contains xs b → b < length log) → map (block_at (log ++ e ∷ [])) xs ≡ map (block_at log) xs
+blocks-push log e [] within = refl
+blocks-push log e (x ∷ xs) within =
+    let first : block_at (log ++ e ∷ []) x ≡ block_at log x = ap (λ (o : Option Event). record { first = x; label = option_map_or (λ f. label_of f.kind) o (record { 0 = 0 }) }) (slice_get-append log (e ∷ []) x (within x (0, omega arith, refl))) in
+    ap (λ b. b ∷ map (block_at (log ++ e ∷ [])) xs) first
+    ∙ ap (λ ys. block_at log x ∷ ys) (blocks-push log e xs (λ b w. within b (suc w.0, omega (arith, w.1), w.2)))
+
+blamed-within : (log : List Event) (p : ℕ) (blamed : List ℕ) → p < length log → AreBlamedAt log p blamed → (b : ℕ) → Contains blamed b → b < length log
+blamed-within log p blamed lt are b w =
+    let opened = (Contains-open_blocks (take (p + 1) log) (thread_at log p) b).0 ((are.which b).0 w).0 in
+    let inside = is_open_at-within (take (p + 1) log) (thread_at log p) b (length (take (p + 1) log)) opened in
+    let long = length-take-le (p + 1) log (omega (arith, lt)) in
+    omega (arith, inside, long)
+
+AreBlamedAt-push : (log : List Event) (e : Event) (p : ℕ) (blamed : List ℕ) → p < length log → AreBlamedAt log p blamed → AreBlamedAt (log ++ e ∷ []) p blamed
+AreBlamedAt-push log e p blamed lt are =
+    let events : take (p + 1) (log ++ e ∷ []) ≡ take (p + 1) log = take-append-le (p + 1) log (e ∷ []) (omega arith) in
+    let thread : thread_at (log ++ e ∷ []) p ≡ thread_at log p = ap (λ (o : Option Event). option_map_or thread_of o 0) (slice_get-append log (e ∷ []) p lt) in
+    subst (λ t. AreBlamed (take (p + 1) (log ++ e ∷ [])) t blamed) (sym thread) (subst (λ xs. AreBlamed xs (thread_at log p) blamed) (sym events) are)
+
+-- ---- the alarm
 
 -- an alarm stays
 pub AlarmOf-stays : (log : List Event) (e : Event) (alarm : Option Alarm) → IsTrue (is_some alarm) → AlarmOf log alarm → AlarmOf (log ++ e ∷ []) alarm
@@ -18,14 +51,14 @@ AlarmOf-stays log e None some h = absurd (false≢true some)
 AlarmOf-stays log e (Some a) some h = record {
   closing = IsClosing-append log (e ∷ []) a.position h.closing;
   transaction = h.transaction ∙ sym (owner-append log (e ∷ []) a.position h.closing.in_trace);
+  blamed = AreBlamedAt-push log e a.position (begins_of a.blamed.items) h.closing.in_trace h.blamed;
+  blocks = h.blocks ∙ sym (blocks-push log e (begins_of a.blamed.items) (blamed-within log a.position (begins_of a.blamed.items) h.closing.in_trace h.blamed));
 }
 
--- it comes with the event that closes the first cycle
-pub IsAlarm-raised : (log : List Event) (e : Event) (position transaction : ℕ) → ¬ HasCycle log → HasCycle (log ++ e ∷ []) → position ≡ length log → transaction ≡ owner (log ++ e ∷ []) (length log) → IsAlarm (log ++ e ∷ []) (record { position = position; transaction = transaction })
-IsAlarm-raised log e position transaction none some at of = record {
-  closing = subst (IsClosing (log ++ e ∷ [])) (sym at) (IsClosing-push log e none some);
-  transaction = of ∙ ap (owner (log ++ e ∷ [])) (sym at);
-}
+-- the event that closes the first cycle
+pub IsWatched-closing : (log : List Event) (e : Event) (alarm : Option Alarm) (transaction : ℕ) → ¬ HasCycle log → HasCycle (log ++ e ∷ []) → transaction ≡ owner (log ++ e ∷ []) (length log) → IsWatched (log ++ e ∷ []) alarm (length log) (Some transaction)
+IsWatched-closing log e alarm transaction none some of =
+    (IsClosing-push log e none some, subst (λ xs. ¬ HasCycle xs) (sym (take-append-le (length log) log (e ∷ []) (omega arith) ∙ take_all (length log) log (omega arith))) none, of)
 
 pub no_alarm : (log : List Event) (alarm : Option Alarm) → IsFalse (is_some alarm) → AlarmOf log alarm → ¬ HasCycle log
 no_alarm log None none h = h
@@ -41,3 +74,8 @@ AlarmOf-serializable log None None h same = ((serializable_law-none log).0 h, tt
 AlarmOf-serializable log None (Some r) h same = absurd (false≢true (sym same))
 AlarmOf-serializable log (Some a) None h same = absurd (false≢true same)
 AlarmOf-serializable log (Some a) (Some r) h same = (tt, (serializable_law log).0 (HasCycle-from_closing log a.position h.closing))
+
+-- without a cycle no alarm is that of the log
+pub AlarmOf-quiet : (log : List Event) (alarm : Option Alarm) → IsFalse (is_some alarm) → ¬ HasCycle log → AlarmOf log alarm
+AlarmOf-quiet log None none acyclic = acyclic
+AlarmOf-quiet log (Some a) none acyclic = absurd (false≢true (sym none))

@@ -12,20 +12,8 @@ use Rattle.velo_events.specs.declared.event.Status.TheVariants.{Unborn, Live, Ex
 use Rattle.velo_events.specs.Heap.{status_in}
 use Rattle.velo_events.specs.WellFormed.{MayFollow, IsWellFormed}
 use Rattle.velo_events.specs.Meaning.{kind_for, event_for, refusal_of, HasItsValue, is_live}
-use Rattle.velo_events.proofs.OnMeaning.{MayFollow-refusal_of}
-use Rattle.velo_world.specs.Worlds.{WorldState, meaning}
-use Rattle.velo_world.specs.Holdings.{IsLiveThread}
-
-its_value : (log : List Event) (action : Action) → HasItsValue log (kind_for log action)
-its_value log (Action.Read x) = refl
-its_value log (Action.Write x v) = tt
-its_value log (Action.Acquire m) = tt
-its_value log (Action.Release m) = tt
-its_value log (Action.Begin l) = tt
-its_value log Action.End = tt
-its_value log (Action.Fork u) = tt
-its_value log (Action.Join u) = tt
-its_value log Action.Exit = tt
+use Rattle.velo_events.proofs.OnMeaning.{MayFollow-refusal_of, HasItsValue-kind_for}
+use Rattle.velo_world.specs.World.{WorldState, meaning, IsLiveThread}
 
 refused : (halted : Bool) (r : Refusal) (e : Event) → ◌≡◌ {A = Result Event Refusal} (if halted then Err Halted else Err r) (Ok e) → ⊥
 refused true r e h = cc
@@ -43,7 +31,7 @@ MayFollow-meaning w t action e well h = at (refusal_of w.config.bounds w.log t.0
     at (Some r) is = absurd (refused w.halted r e (rw is at h))
     at None is =
         subst (MayFollow w.config.bounds w.log) (event_is w.halted (nat_le w.config.events (length w.log)) (event_for w.log t action) e (rw is at h))
-        ((MayFollow-refusal_of w.config.bounds w.log (event_for w.log t action) well).1 (is, its_value w.log action))
+        ((MayFollow-refusal_of w.config.bounds w.log (event_for w.log t action) well).1 (is, HasItsValue-kind_for w.log action))
 
 -- it is the action's event
 pub event-meaning : (w : WorldState) (t : ThreadId) (action : Action) (e : Event) → meaning w t action ≡ Ok e → e ≡ event_for w.log t action
@@ -82,3 +70,15 @@ meaning-not_live w t action going not_live =
 
 pub meaning-halted : (w : WorldState) (t : ThreadId) (action : Action) → IsTrue w.halted → meaning w t action ≡ Err Halted
 meaning-halted w t action h = rw h refl
+
+-- where an event is due, the world is not halted
+going_by : (halted full : Bool) (x e : Event) → ◌≡◌ {A = Result Event Refusal} (if halted then Err Halted else (if full then Err LogFull else Ok x)) (Ok e) → IsFalse halted
+going_by true full x e h = cc
+going_by false full x e h = refl
+
+pub meaning-going : (w : WorldState) (t : ThreadId) (action : Action) (e : Event) → meaning w t action ≡ Ok e → IsFalse w.halted
+meaning-going w t action e h = at (refusal_of w.config.bounds w.log t.0 (kind_for w.log action)) refl
+  where
+    at : (o : Option Refusal) → refusal_of w.config.bounds w.log t.0 (kind_for w.log action) ≡ o → IsFalse w.halted
+    at (Some r) is = absurd (refused w.halted r e (rw is at h))
+    at None is = going_by w.halted (nat_le w.config.events (length w.log)) (event_for w.log t action) e (rw is at h)

@@ -10,8 +10,8 @@ use Rattle.velo_ledger.specs.Views.{Accounts, Holding}
 use Rattle.velo_ledger.specs.Shares.{AreInPlace, events_in, events_in_all, share_at}
 use Rattle.velo_ledger.specs.Logs.{tally_of}
 use Rattle.velo_ledger.proofs.Places.{sum_by-matching}
-use Rattle.velo_world.specs.Worlds.{WorldState}
-use Rattle.velo_world.specs.Holdings.{FitsLog, IsBookOf, KeepsUnborn, IsBorn, HasShare, CompletesShares, PlaceIsRight}
+use Rattle.velo_world.specs.World.{WorldState, FitsLog, IsBookOf, IsBorn, HasShare, CompletesShares}
+use Rattle.velo_world.specs.Kept.{KeepsUnborn, PlaceIsRight}
 
 no_share : (place : Option (Option Holding)) (share : Holding) → place ≡ None → place ≡ Some (Some share) → ⊥
 no_share place share none some = let same : ◌≡◌ {A = Option (Option Holding)} None (Some (Some share)) = sym none ∙ some in cc

@@ -3,6 +3,7 @@ use Rattle.std.proofs.Common.{◌≡◌, ◌≢◌, ℕ, zero, suc, ◌<◌, ◌
 use Rattle.std.specs.Prelude.{slice_get, ◌⊎◌, if◌then◌else◌, IsTrue, IsFalse}
 use Rattle.std.proofs.lemmas.Bool.{cases_eq, eq-eqb, ne_eqb, false≢true}
 use Rattle.std.proofs.lemmas.List.{length-replicate}
+use Rattle.std.proofs.lemmas.Option.{slice_get_within, same_Some}
 use Rattle.velo_events.specs.declared.config.Bounds.{Bounds}
 use Rattle.velo_events.specs.declared.config.Config.{Config}
 use Rattle.velo_events.specs.declared.event.Event.{Event}
@@ -18,12 +19,12 @@ use Rattle.velo_ledger.specs.Tally.{blank, with_event}
 use Rattle.velo_ledger.specs.Views.{Accounts, Holding}
 use Rattle.velo_ledger.specs.Book.{FitsBook, with_row, with_tally, opening_accounts}
 use Rattle.velo_ledger.specs.Shares.{opening_share, AreOpening}
-use Rattle.velo_ledger.specs.Logs.{IsOfThreadsBelow, events_below}
-use Rattle.velo_ledger.proofs.Places.{slice_get-set_same, slice_get-set_other}
+use Rattle.velo_ledger.specs.Logs.{IsOfThreadsBelow, events_below, tally_of}
+use Rattle.velo_events.proofs.OnLists.{slice_get-set_same, slice_get-set_other}
 use Rattle.velo_ledger.proofs.OnLogs.{tally_of-nil, tally_of-own, tally_of-other, next_of-le, opening-rows, with_event-rows, sum_by-rows, events_below-all}
-use Rattle.velo_world.specs.Worlds.{WorldState, opening}
-use Rattle.velo_world.specs.Holdings.{FitsLog, IsBookOf, KeptAt, KeepsUnborn}
-use Rattle.velo_world.proofs.OnStatuses.{first-born, others-unborn, unborn-before, unborn-same, actor-born, forked-after, forked-before}
+use Rattle.velo_world.specs.World.{WorldState, opening, FitsLog, IsBookOf}
+use Rattle.velo_world.specs.Kept.{KeptAt, KeepsUnborn}
+use Rattle.velo_events.proofs.OnStatuses.{first-born, others-unborn, unborn-before, unborn-same, actor-born, forked-after, forked-before}
 
 -- the world with one event more
 abbrev pub longer : WorldState → Event → Bool → WorldState
@@ -44,6 +45,15 @@ FitsBook-from w book share is fits = record {
   run = fits.run ∙ sym is.run;
   row = is.rows.each share.thread.0 (let lt = fits.thread in let count = is.count in omega arith) ∙ ap Some (sym fits.tally);
 }
+
+pub FitsLog-from : (w : WorldState) (book : Accounts) (share : Holding) → IsBookOf w book → FitsBook book share → FitsLog w share
+FitsLog-from w book share is fits =
+    let lt = slice_get_within book.rows share.thread.0 share.tally fits.row in
+    record {
+      run = fits.run ∙ is.run;
+      thread = (let count = is.count in omega arith);
+      tally = same_Some share.tally (tally_of w.log share.thread.0) (sym fits.row ∙ is.rows.each share.thread.0 lt);
+    }
 
 pub FitsLog-next_le : (w : WorldState) (share : Holding) → FitsLog w share → share.tally.next ≤ length w.log
 FitsLog-next_le w share fits = subst (λ (tally : Tally). tally.next ≤ length w.log) (sym fits.tally) (next_of-le w.log share.thread.0)
@@ -154,3 +164,9 @@ KeepsUnborn-fork w t child halted kept follows keeps = record {
     at u lt (inr other) =
         kept_at-same w (fork_by t child) halted u (slice_get (set kept child.0 None) u) (unborn-same w.config.bounds w.log (fork_by t child) u follows (ne_eqb child.0 u (λ is. other (sym is))))
         (slice_get-set_other kept child.0 u None (λ is. other (sym is)) ∙ keeps.each u lt)
+
+-- and it fits the longer log
+pub FitsLog-forked : (w : WorldState) (t child : ThreadId) (halted : Bool) (kept : List (Option Holding)) → IsWellFormed w.config.bounds w.log → MayFollow w.config.bounds w.log (fork_by t child) → KeepsUnborn w kept → FitsLog (longer w (fork_by t child) halted) (opening_share w.config.run child.0)
+FitsLog-forked w t child halted kept well follows keeps =
+    let unborn = forked-before w.config.bounds w.log (fork_by t child) child.0 well follows (eq-eqb child.0 child.0 refl) in
+    FitsLog-other w (fork_by t child) halted (opening_share w.config.run child.0) (other_acts w.config.bounds w.log (fork_by t child) child.0 follows unborn) (keeps.fit child.0 follows.known_names unborn)

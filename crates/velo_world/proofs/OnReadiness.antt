@@ -11,11 +11,10 @@ use Rattle.velo_events.specs.Heap.{status_in}
 use Rattle.velo_events.specs.Meaning.{is_unborn}
 use Rattle.velo_ledger.specs.Views.{Holding}
 use Rattle.velo_ledger.specs.Shares.{opening_share}
-use Rattle.velo_ledger.proofs.Places.{slice_get-set_same, slice_get-set_other, slice_get-replicate}
+use Rattle.velo_events.proofs.OnLists.{slice_get-set_same, slice_get-set_other, slice_get-replicate}
 use Rattle.velo_ledger.proofs.OnLogs.{tally_of-nil}
-use Rattle.velo_world.specs.Worlds.{WorldState, opening, halted_world}
-use Rattle.velo_world.specs.Holdings.{HasShare, HoldsLiveShares, CompletesShares}
-use Rattle.velo_world.proofs.OnStatuses.{first-born, others-unborn, is_Unborn}
+use Rattle.velo_world.specs.World.{WorldState, opening, halted_world, HasShare, HoldsLiveShares, CompletesShares}
+use Rattle.velo_events.proofs.OnStatuses.{first-born, others-unborn, is_Unborn}
 
 -- thread 0's share is at its place, and every other place is empty
 module _ (config : Config) where

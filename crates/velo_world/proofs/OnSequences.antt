@@ -21,15 +21,14 @@ use Rattle.velo_ledger.specs.Tally.{with_event}
 use Rattle.velo_ledger.specs.Views.{Holding}
 use Rattle.velo_ledger.specs.Book.{IsFilled, with_tally}
 use Rattle.velo_ledger.specs.Shares.{opening_share, share_at}
-use Rattle.velo_ledger.proofs.Places.{slice_get-set_same, slice_get-set_other}
+use Rattle.velo_events.proofs.OnLists.{slice_get-set_same, slice_get-set_other}
 use Rattle.velo_world.specs.declared.run.Reply.{Reply}
-use Rattle.velo_world.specs.Worlds.{WorldState}
-use Rattle.velo_world.specs.Holdings.{FitsLog, KeepsUnborn, IsUnborn, IsLiveThread, HasShare, HoldsLiveShares, CompletesShares}
-use Rattle.velo_world.specs.Steps.{Acts}
-use Rattle.velo_world.specs.Sequences.{with_born, with_share, born_by, StepsTo, RunsTo}
+use Rattle.velo_world.specs.World.{WorldState, FitsLog, IsUnborn, IsLiveThread, HasShare, HoldsLiveShares, CompletesShares, Acts, with_born, StepsTo, RunsTo}
+use Rattle.velo_world.specs.Kept.{KeepsUnborn, with_share, born_by, Performs}
 use Rattle.velo_world.proofs.OnAnswers.{MayFollow-meaning}
-use Rattle.velo_world.proofs.OnStatuses.{is_Unborn, unborn-before, live-before, unborn-same, actor-born, forked-after, forked-before}
+use Rattle.velo_events.proofs.OnStatuses.{is_Unborn, unborn-before, live-before, unborn-same, actor-born, forked-after, forked-before}
 use Rattle.velo_world.proofs.OnHoldings.{longer, FitsLog-own, FitsLog-other}
+use Rattle.velo_world.proofs.OnSteps.{world_is}
 
 -- ---- places
 
@@ -190,10 +189,7 @@ module _ (w : WorldState) (places : List (Option Holding)) (share : Holding) (ac
 
 -- ---- a step
 
-world_is : (w w' : WorldState) (x : Event) → w'.config ≡ w.config → w'.log ≡ w.log ++ x ∷ [] → w' ≡ longer w x w'.halted
-world_is w w' x config log = rw (← config, ← log) refl
-
-born_by-err : (run : ℕ) (action : Action) (refusal : Refusal) → born_by run action (Err refusal) ≡ None
+pub born_by-err : (run : ℕ) (action : Action) (refusal : Refusal) → born_by run action (Err refusal) ≡ None
 born_by-err run (Action.Read x) refusal = refl
 born_by-err run (Action.Write x v) refusal = refl
 born_by-err run (Action.Acquire m) refusal = refl
@@ -334,6 +330,20 @@ module _ (w w' : WorldState) (places : List (Option Holding)) (t : ThreadId) (sh
       subst (λ u. Stepped w places u action outcome w' places2) taken.own
       (Stepped-next w w' places share share' action taken.well taken.opening_fits taken.ready live_own there_own fits_own outcome born places2 acts born_is
       (places2_is ∙ ap (λ ps. with_share ps born) (places1_is ∙ ap (λ ps. with_share ps (Some share')) rest_is)))
+
+-- an action's outcome without the share that it hands out
+abbrev pub outcome_of : Result (Reply × Option Holding) Refusal → Result Reply Refusal
+outcome_of (Ok done) = Ok done.0
+outcome_of (Err refusal) = Err refusal
+
+pub Acts-performed : (w w' : WorldState) (share share' : Holding) (action : Action) (performed : Result (Reply × Option Holding) Refusal) → Performs w share action performed w' share' → Acts w share action (outcome_of performed) w' share'
+Acts-performed w w' share share' action (Ok done) performs = performs.0
+Acts-performed w w' share share' action (Err refusal) performs = performs
+
+-- a refused step leaves the share at its place
+pub Stepped-refused : (w w' : WorldState) (places rest places' : List (Option Holding)) (t : ThreadId) (share share' : Holding) (action : Action) (refusal : Refusal) → Taken w places t share rest → Acts w share action (Err refusal) w' share' → places' ≡ with_share rest (Some share') → Stepped w places t action (Err refusal) w' places'
+Stepped-refused w w' places rest places' t share share' action refusal taken acts is =
+    Stepped-taken w w' places t share share' rest action (Err refusal) taken acts None places' places' (sym (born_by-err w.config.run action refusal)) is refl
 
 -- ---- steps one after another
 

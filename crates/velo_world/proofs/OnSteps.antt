@@ -1,6 +1,7 @@
 -- What an event that was taken in makes of a world.
 use Rattle.std.proofs.Common.{◌≡◌, ℕ, Bool, List, [], ◌∷◌, ◌++◌, length, set, Option, Some, None, Ok, refl, sym, ap, ◌∙◌, subst, arith}
-use Rattle.std.specs.Prelude.{◌&&◌, IsFalse}
+use Rattle.std.specs.Prelude.{◌&&◌, IsFalse, IfSome}
+use Rattle.std.proofs.lemmas.Option.{same_Some}
 use Rattle.velo_events.specs.declared.config.Config.{Config}
 use Rattle.velo_events.specs.declared.event.Event.{Event}
 use Rattle.velo_events.specs.declared.event.Action.{Action}
@@ -13,11 +14,10 @@ use Rattle.velo_ledger.specs.Views.{Accounts, Holding}
 use Rattle.velo_ledger.specs.Book.{with_row, with_tally}
 use Rattle.velo_ledger.specs.Shares.{opening_share, share_at}
 use Rattle.velo_world.specs.declared.run.Reply.{Reply}
-use Rattle.velo_world.specs.Worlds.{WorldState, meaning}
-use Rattle.velo_world.specs.Holdings.{FitsLog, IsBookOf, KeepsUnborn}
-use Rattle.velo_world.specs.Steps.{IsNoFork, Replies, AddsEvent, Acts}
+use Rattle.velo_world.specs.World.{WorldState, meaning, FitsLog, OthersStillFit, IsBookOf, IsNoFork, Replies, AddsEvent, Acts}
+use Rattle.velo_world.specs.Kept.{KeepsUnborn, taken_by, left_by, born_by}
 use Rattle.velo_world.proofs.OnAnswers.{MayFollow-meaning, event-meaning}
-use Rattle.velo_world.proofs.OnHoldings.{FitsLog-next_le, IsBookOf-next, KeepsUnborn-next, KeepsUnborn-fork, kept-born, fork_by}
+use Rattle.velo_world.proofs.OnHoldings.{longer, FitsLog-next_le, FitsLog-own, FitsLog-other, FitsLog-forked, IsBookOf-next, KeepsUnborn-next, KeepsUnborn-fork, kept-born, fork_by}
 
 forks_none : (log : List Event) (t : ThreadId) (action : Action) (u : ℕ) → IsNoFork action → IsFalse (is_fork_of u (event_for log t action))
 forks_none log t (Action.Read x) u h = refl
@@ -56,6 +56,49 @@ module _ (w : WorldState) (t child : ThreadId) (e : Event) (well : IsWellFormed 
   kept-forked halted log log' kept' log_is log'_is kept'_is =
       rw (log'_is, kept'_is, log_is, event-meaning w t (Action.Fork child) e due) (KeepsUnborn-fork w t child halted kept fork_follows keeps)
 
+-- an action leaves the kept shares but for that of a thread that it forks
+pub kept-performed : (w : WorldState) (t : ThreadId) (action : Action) (e : Event) (halted : Bool) (log log' : List Event) (kept kept' : List (Option Holding)) → IsWellFormed w.config.bounds w.log → meaning w t action ≡ Ok e → KeepsUnborn w kept → log ≡ w.log → log' ≡ log ++ e ∷ [] → kept' ≡ left_by kept action → KeepsUnborn (record { config = w.config; halted = halted; log = log' }) kept'
+kept-performed w t (Action.Read x) e halted log log' kept kept' well due keeps log_is log'_is kept'_is = rw kept'_is (kept-committed w t (Action.Read x) e halted log log' kept tt well due keeps log_is log'_is)
+kept-performed w t (Action.Write x v) e halted log log' kept kept' well due keeps log_is log'_is kept'_is = rw kept'_is (kept-committed w t (Action.Write x v) e halted log log' kept tt well due keeps log_is log'_is)
+kept-performed w t (Action.Acquire m) e halted log log' kept kept' well due keeps log_is log'_is kept'_is = rw kept'_is (kept-committed w t (Action.Acquire m) e halted log log' kept tt well due keeps log_is log'_is)
+kept-performed w t (Action.Release m) e halted log log' kept kept' well due keeps log_is log'_is kept'_is = rw kept'_is (kept-committed w t (Action.Release m) e halted log log' kept tt well due keeps log_is log'_is)
+kept-performed w t (Action.Begin l) e halted log log' kept kept' well due keeps log_is log'_is kept'_is = rw kept'_is (kept-committed w t (Action.Begin l) e halted log log' kept tt well due keeps log_is log'_is)
+kept-performed w t Action.End e halted log log' kept kept' well due keeps log_is log'_is kept'_is = rw kept'_is (kept-committed w t Action.End e halted log log' kept tt well due keeps log_is log'_is)
+kept-performed w t (Action.Fork u) e halted log log' kept kept' well due keeps log_is log'_is kept'_is = kept-forked w t u e well due kept keeps halted log log' kept' log_is log'_is kept'_is
+kept-performed w t (Action.Join u) e halted log log' kept kept' well due keeps log_is log'_is kept'_is = rw kept'_is (kept-committed w t (Action.Join u) e halted log log' kept tt well due keeps log_is log'_is)
+kept-performed w t Action.Exit e halted log log' kept kept' well due keeps log_is log'_is kept'_is = rw kept'_is (kept-committed w t Action.Exit e halted log log' kept tt well due keeps log_is log'_is)
+
+-- what it takes out is the share that the forked thread begins with
+pub taken-performed : (w : WorldState) (t : ThreadId) (action : Action) (e : Event) (reply : Reply) (kept : List (Option Holding)) → IsWellFormed w.config.bounds w.log → meaning w t action ≡ Ok e → KeepsUnborn w kept → taken_by kept action ≡ born_by w.config.run action (Ok reply)
+taken-performed w t (Action.Read x) e reply kept well due keeps = refl
+taken-performed w t (Action.Write x v) e reply kept well due keeps = refl
+taken-performed w t (Action.Acquire m) e reply kept well due keeps = refl
+taken-performed w t (Action.Release m) e reply kept well due keeps = refl
+taken-performed w t (Action.Begin l) e reply kept well due keeps = refl
+taken-performed w t Action.End e reply kept well due keeps = refl
+taken-performed w t (Action.Fork u) e reply kept well due keeps = born-committed w t u e well due kept keeps
+taken-performed w t (Action.Join u) e reply kept well due keeps = refl
+taken-performed w t Action.Exit e reply kept well due keeps = refl
+
+-- and this share fits the longer log
+born_fits : (w : WorldState) (t : ThreadId) (action : Action) (e : Event) (halted : Bool) (reply : Reply) (kept : List (Option Holding)) (born : Holding) → IsWellFormed w.config.bounds w.log → meaning w t action ≡ Ok e → KeepsUnborn w kept → born_by w.config.run action (Ok reply) ≡ Some born → FitsLog (longer w e halted) born
+born_fits w t (Action.Read x) e halted reply kept born well due keeps is = cc
+born_fits w t (Action.Write x v) e halted reply kept born well due keeps is = cc
+born_fits w t (Action.Acquire m) e halted reply kept born well due keeps is = cc
+born_fits w t (Action.Release m) e halted reply kept born well due keeps is = cc
+born_fits w t (Action.Begin l) e halted reply kept born well due keeps is = cc
+born_fits w t Action.End e halted reply kept born well due keeps is = cc
+born_fits w t (Action.Fork u) e halted reply kept born well due keeps is =
+    rw (sym (same_Some (opening_share w.config.run u.0) born is), event-meaning w t (Action.Fork u) e due)
+    (FitsLog-forked w t u halted kept well (subst (MayFollow w.config.bounds w.log) (event-meaning w t (Action.Fork u) e due) (MayFollow-meaning w t (Action.Fork u) e well due)) keeps)
+born_fits w t (Action.Join u) e halted reply kept born well due keeps is = cc
+born_fits w t Action.Exit e halted reply kept born well due keeps is = cc
+
+pub born-performed : (w : WorldState) (t : ThreadId) (action : Action) (e : Event) (halted : Bool) (reply : Reply) (log log' : List Event) (kept : List (Option Holding)) (born : Option Holding) → IsWellFormed w.config.bounds w.log → meaning w t action ≡ Ok e → KeepsUnborn w kept → log ≡ w.log → log' ≡ log ++ e ∷ [] → born ≡ taken_by kept action → IfSome born (λ share. FitsLog (record { config = w.config; halted = halted; log = log' }) share)
+born-performed w t action e halted reply log log' kept None well due keeps log_is log'_is born_is = tt
+born-performed w t action e halted reply log log' kept (Some born) well due keeps log_is log'_is born_is =
+    rw (log'_is, log_is) (born_fits w t action e halted reply kept born well due keeps (sym (taken-performed w t action e reply kept well due keeps) ∙ sym born_is))
+
 -- ---- what the caller learns
 
 pub Acts-committed : (w : WorldState) (share share' : Holding) (action : Action) (e : Event) (reply : Reply) (config : Config) (halted : Bool) (log log' : List Event) → meaning w share.thread action ≡ Ok e → FitsLog w share → config ≡ w.config → halted ≡ (config.stop && reply.alarmed) → log ≡ w.log → log' ≡ log ++ e ∷ [] → Replies log e reply → share' ≡ with_tally share (with_event share.tally (length log) e) → Acts w share action (Ok reply) (record { config = config; halted = halted; log = log' }) share'
@@ -71,3 +114,19 @@ Acts-committed w share share' action e reply config halted log log' due fits con
         later = (let le = FitsLog-next_le w share fits in let at = replies.position in let same : length log ≡ length w.log = ap length log_is in omega arith);
       },
     )
+
+-- the world after an event has one event more
+pub world_is : (w w' : WorldState) (x : Event) → w'.config ≡ w.config → w'.log ≡ w.log ++ x ∷ [] → w' ≡ longer w x w'.halted
+world_is w w' x config log = rw (← config, ← log) refl
+
+-- the share fits again
+pub FitsLog-acts : (w w' : WorldState) (share share' : Holding) (action : Action) (reply : Reply) → FitsLog w share → Acts w share action (Ok reply) w' share' → FitsLog w' share'
+FitsLog-acts w w' share share' action reply fits acts =
+    let event : Event = event_for w.log share.thread action in
+    rw (world_is w w' (event_for w.log share.thread action) acts.1.config acts.1.log, acts.1.holding) (FitsLog-own w (event_for w.log share.thread action) w'.halted share refl fits)
+
+-- and so do the shares of other threads
+pub OthersStillFit-acts : (w w' : WorldState) (share share' : Holding) (action : Action) (reply : Reply) → Acts w share action (Ok reply) w' share' → OthersStillFit w share.thread w'
+OthersStillFit-acts w w' share share' action reply acts = record {
+  each = λ other apart fits. rw (world_is w w' (event_for w.log share.thread action) acts.1.config acts.1.log) (FitsLog-other w (event_for w.log share.thread action) w'.halted other (λ is. apart (sym is)) fits);
+}

@@ -1,18 +1,51 @@
--- What the type World keeps.
-use Rattle.std.specs.Prelude.{◌≡◌, ◌≤◌, length}
-use Rattle.velo_heap.specs.Contents.{bounds_of}
-use Rattle.velo_world.specs.Worlds.{WorldState}
-use Rattle.velo_world.specs.Runs.{Follows}
-use Rattle.velo_world.specs.Holdings.{IsBookOf, KeepsUnborn}
-use Rattle.velo_world.specs.declared.world.World.TheInside.{Inside}
+-- The shares that a world keeps, and what an action takes out of them. Private contracts cite these words.
+use Rattle.std.specs.Prelude.{◌≡◌, ◌<◌, ℕ, List, length, Option, Some, None, Result, Ok, Err, IsTrue, IfSome, if◌then◌else◌, slice_get, slice_set}
+use Rattle.velo_events.specs.declared.event.Action.{Action}
+use Rattle.velo_events.specs.declared.event.Action.TheVariants.{Fork}
+use Rattle.velo_events.specs.declared.refusal.Refusal.{Refusal}
+use Rattle.velo_events.specs.Heap.{status_in}
+use Rattle.velo_events.specs.Meaning.{is_unborn}
+use Rattle.velo_ledger.specs.Shares.{opening_share, share_at}
+use Rattle.velo_ledger.specs.Views.{Holding}
+use Rattle.velo_world.specs.World.{WorldState, meaning, FitsLog, IsBorn, Acts, Refuses}
+use Rattle.velo_world.specs.declared.run.Reply.{Reply}
 
-abbrev pub seen : Inside → WorldState
-seen w = record { config = w.config; halted = w.halted; log = w.run.log.events }
+-- what the world keeps at the place of a thread: the share that an unborn thread begins with, and no other
+abbrev pub KeptAt : WorldState → ℕ → Option (Option Holding) → Type 0
+KeptAt w t place = place ≡ Some (if is_unborn (status_in w.log t) then Some (opening_share w.config.run t) else None)
 
--- the log is within its limit, and the run within its bounds; heap, graph, alarm, book and kept shares follow from the log
-pub record IsKept (w : Inside) : Type 0 where
-  pub short : length w.run.log.events ≤ w.config.events
-  pub bounds : bounds_of w.run.heap ≡ w.config.bounds
-  pub follows : Follows w.run
-  pub book : IsBookOf (seen w) w.book
-  pub keeps : KeepsUnborn (seen w) w.kept
+-- the world keeps the fitting share of each unborn thread, and no other share
+pub record KeepsUnborn (w : WorldState) (kept : List (Option Holding)) : Type 0 where
+  pub count : length kept ≡ w.config.bounds.threads
+  pub each : (t : ℕ) → t < w.config.bounds.threads → KeptAt w t (slice_get kept t)
+  pub fit : (t : ℕ) → t < w.config.bounds.threads → IsTrue (is_unborn (status_in w.log t)) → FitsLog w (opening_share w.config.run t)
+
+-- what is right at a place of the given shares, whether or not such a thread is there
+abbrev pub PlaceIsRight : WorldState → ℕ → Option Holding → Type 0
+PlaceIsRight w t None = ¬ IsBorn w t
+PlaceIsRight w t (Some share) = IsBorn w t × FitsLog w share
+
+-- the share that an action takes out of the places: that of the thread that it forks
+abbrev pub taken_by : List (Option Holding) → Action → Option Holding
+taken_by places (Fork child) = share_at places child
+taken_by places _ = None
+
+-- and the places without it
+abbrev pub left_by : List (Option Holding) → Action → List (Option Holding)
+left_by places (Fork child) = slice_set places child.0 None
+left_by places _ = places
+
+-- the share that such an action hands out, if it is done
+abbrev pub born_by : ℕ → Action → Result Reply Refusal → Option Holding
+born_by run (Fork child) (Ok reply) = Some (opening_share run child.0)
+born_by run _ _ = None
+
+-- the places with the share at its own, if there is one
+abbrev pub with_share : List (Option Holding) → Option Holding → List (Option Holding)
+with_share places None = places
+with_share places (Some share) = slice_set places share.thread.0 (Some share)
+
+-- an action, a fork or any other, which also gives the share that a forked thread begins with
+abbrev pub Performs : WorldState → Holding → Action → Result (Reply × Option Holding) Refusal → WorldState → Holding → Type 0
+Performs w share action (Ok done) w' share' = Acts w share action (Ok done.0) w' share' × (done.1 ≡ born_by w.config.run action (Ok done.0))
+Performs w share action (Err refusal) w' share' = Refuses w share (meaning w share.thread action) refusal w' share'

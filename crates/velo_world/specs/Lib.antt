@@ -1,11 +1,4 @@
-pub mod Owners
-pub mod Marks
-pub mod GraphState
-pub mod Observed
-pub mod Alarms
-pub mod Runs
-pub mod Worlds
-pub mod Holdings
-pub mod Steps
-pub mod Sequences
+pub mod World
 pub mod Kept
+pub mod Run
+pub mod Inside

@@ -4,7 +4,7 @@ ghost use Rattle.velo_events.specs.Reordering.{IsSerializable};
 ghost use Rattle.velo_events.specs.WellFormed.{IsWellFormed};
 ghost use Rattle.velo_heap.specs.Contents.{bounds_of, IsHeapOf};
 ghost use Rattle.velo_ledger.specs.Logs.{tally_of, events_below};
-ghost use Rattle.velo_world.specs.Alarms.{IsAlarm};
+ghost use Rattle.velo_world.specs.World.{IsAlarm};
 
 use crate::run::Alarm;
 use crate::world::World;
@@ -15,13 +15,13 @@ use velo_ledger::Tally;
 use velo_traces::Trace;
 
 /// A world after its end, in which nobody acts any more.
-#[derive(Drop)]
+#[derive(Drop, Debug)]
 pub struct Closed {
     pub(crate) world: World,
 }
 
 impl Model for Closed {
-    ghost use Rattle.velo_world.specs.Worlds.{WorldState};
+    ghost use Rattle.velo_world.specs.World.{WorldState};
 
     ghost Value = { WorldState };
 

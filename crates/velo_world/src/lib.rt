@@ -2,8 +2,6 @@
 #![tactic(auto)]
 
 mod closed;
-mod full_graph;
-mod reach;
 mod run;
 mod world;
 

@@ -1,26 +1,32 @@
 //! The course of a run: its log, and what follows from it.
 ghost use Rattle.velo_events.specs.Refusals.{GrowthRefused};
-ghost use Rattle.std.specs.Prelude.{◌≡◌, [], ◌∷◌, ◌++◌, length, None, IsTrue, ◌↔◌, IfOk, OnOk, OnErr, ◌⊎◌};
+ghost use Rattle.std.specs.Prelude.{◌≡◌, ◌<◌, [], ◌∷◌, ◌++◌, length, IsTrue, IsFalse, IfOk, OnOk, OnErr};
+ghost use Rattle.velo_events.specs.declared.limits.TheConstants.{MOST_EVENTS};
 ghost use Rattle.velo_events.specs.WellFormed.{MayFollow};
+ghost use Rattle.velo_arena.specs.Slots.{limit_of};
 ghost use Rattle.velo_heap.specs.Contents.{bounds_of, IsHeapOf};
-ghost use Rattle.velo_world.specs.Owners.{AreOwners};
-ghost use Rattle.velo_world.specs.Alarms.{AlarmOf};
-ghost use Rattle.velo_world.specs.Runs.{Follows, HasRoom};
-ghost use Rattle.velo_world.specs.Steps.{value_read, Replies};
+ghost use Rattle.velo_monitor.specs.Watched.{IsMonitorOf};
+ghost use Rattle.velo_world.specs.World.{AlarmOf, value_read, FindsNoNode, Replies};
+ghost use Rattle.velo_world.specs.Run.{IsRunOfItsLog, HasSlotFor, HasRoomForNext, IsWatched, events_watched, events_taken_in};
 
-use crate::full_graph::{FullGraph, Seen};
+use smallvec::SmallVec;
 use std::alloc::Global;
-use velo_events::{Config, Event, Kind, Memory, Refusal};
+use velo_blame::Scan;
+use velo_events::{Config, Event, Kind, MOST_OPEN_BLOCKS, Memory};
 use velo_heap::Heap;
-use velo_traces::Trace;
+use velo_monitor::{Monitor, Seen};
+use velo_traces::{Block, Trace};
 
 /// The first event that closed a cycle.
-#[derive(Clone, Copy, Debug, PartialEq, Eq)]
+#[derive(Drop, Debug, PartialEq, Eq)]
 pub struct Alarm {
     /// Its position in the log.
     pub position: usize,
     /// The first position of its transaction.
     pub transaction: usize,
+    /// The blocks to blame: those that its thread has open there and that are not self-serializable in the events up to
+    /// it, outermost first.
+    pub blamed: SmallVec<Block, MOST_OPEN_BLOCKS>,
 }
 
 /// What an action came to.
@@ -34,14 +40,15 @@ pub struct Reply {
     pub alarmed: bool,
 }
 
-/// A log, and heap, graph and alarm as they follow from it.
+/// A log, and heap, monitor and alarm as they follow from it.
 #[derive(Drop)]
 pub struct Run {
     pub log: Trace,
     pub heap: Heap,
-    /// The graph of the events before the alarm.
-    pub graph: FullGraph,
+    /// The monitor of the events before the alarm.
+    pub monitor: Monitor,
     pub alarm: Option<Alarm>,
+    scan: Scan,
 }
 
 impl Run {
@@ -49,47 +56,75 @@ impl Run {
     pub fn new(alloc: Global, config: &Config) -> Result<Run, Memory>
         ensures log { IfOk result (λ run. run.log.events ≡ []) }
         ensures bounds { IfOk result (λ run. bounds_of run.heap ≡ config.now.bounds) }
-        ensures follows { IfOk result (λ run. Follows run) }
+        ensures nodes { IfOk result (λ run. limit_of run.monitor.nodes.slots ≡ config.now.nodes) }
+        ensures follows { IfOk result (λ run. IsRunOfItsLog run) }
         ensures memory { OnErr result GrowthRefused }
     {
         let heap = Heap::new(alloc, config)?;
+        let monitor = Monitor::new(alloc, config)?;
+        let scan = Scan::new(alloc, config)?;
         Ok(Run {
             log: Trace::new(alloc),
             heap,
-            graph: FullGraph::new(alloc),
+            monitor,
             alarm: None,
+            scan,
         })
     }
 
-    /// Makes room for one more event.
-    pub fn reserve_one(&mut self) -> Result<(), Memory>
+    /// Whether the next event needs a node, and all that there may be are in use. After an alarm no event needs one.
+    pub fn has_no_node_for(&self, event: &Event, nodes: u16) -> bool
+        requires follows { IsRunOfItsLog self.now }
+        requires admitted { MayFollow (bounds_of self.now.heap) self.now.log.events event.now }
+        requires limit { limit_of self.now.monitor.nodes.slots ≡ nodes }
+        ensures slot { IsFalse result → HasSlotFor self.now event.now }
+        ensures full { IsTrue result → FindsNoNode self.now.log.events event.now nodes }
+    {
+        if self.alarm.is_some() {
+            return false;
+        }
+        if self.monitor.used() < nodes {
+            return false;
+        }
+        self.monitor.needs_node(event)
+    }
+
+    /// Makes room for the next event.
+    pub fn reserve_for(&mut self, event: &Event) -> Result<(), Memory>
+        requires follows { IsRunOfItsLog self.old }
+        requires admitted { MayFollow (bounds_of self.old.heap) self.old.log.events event.now }
+        requires slot { HasSlotFor self.old event.now }
         ensures log { self.new.log.events ≡ self.old.log.events }
         ensures heap { self.new.heap ≡ self.old.heap }
-        ensures owners { self.new.graph.owners ≡ self.old.graph.owners }
-        ensures alarm { self.new.alarm ≡ self.old.alarm }
-        ensures room { OnOk result (HasRoom self.new) }
-        ensures err { OnErr result ((self.old.log.room ≡ 0) ⊎ (self.old.graph.room ≡ 0)) }
+        ensures nodes { self.new.monitor.nodes ≡ self.old.monitor.nodes }
+        ensures follows { IsRunOfItsLog self.new }
+        ensures room { OnOk result (HasRoomForNext self.new event.now) }
         ensures memory { OnErr result GrowthRefused }
     {
         self.log.reserve_one()?;
-        self.graph.reserve_one()?;
-        Ok(())
+        if self.alarm.is_some() {
+            return Ok(());
+        }
+        self.monitor.reserve(event)
     }
 
     /// Takes in an admitted event for which there is room.
     pub fn commit(&mut self, event: Event) -> Reply
-        requires follows { Follows self.old }
-        requires room { HasRoom self.old }
+        requires follows { IsRunOfItsLog self.old }
+        requires room { HasRoomForNext self.old event }
         requires admitted { MayFollow (bounds_of self.old.heap) self.old.log.events event }
+        requires short { length self.old.log.events < MOST_EVENTS }
         ensures log { self.new.log.events ≡ self.old.log.events ++ event ∷ [] }
         ensures bounds { bounds_of self.new.heap ≡ bounds_of self.old.heap }
-        ensures follows { Follows self.new }
+        ensures nodes { limit_of self.new.monitor.nodes.slots ≡ limit_of self.old.monitor.nodes.slots }
+        ensures follows { IsRunOfItsLog self.new }
         ensures reply { Replies self.old.log.events event result }
     {
         let position = self.log.len();
-        self.watch(&event);
+        let closed = self.watch(position, &event);
         self.log.push_reserved(event);
         self.heap.apply(&event);
+        self.raise(position, closed);
         Reply {
             position,
             value: value_read(event.kind),
@@ -97,23 +132,49 @@ impl Run {
         }
     }
 
-    /// Lets the graph see the next event, unless an alarm is kept already.
-    fn watch(&mut self, event: &Event)
-        requires follows { Follows self.old }
-        requires room { HasRoom self.old }
+    /// Lets the monitor see the next event, unless an alarm is kept already, and gives the transaction of an event that
+    /// closes the first cycle.
+    fn watch(&mut self, position: usize, event: &Event) -> Option<usize>
+        requires follows { IsRunOfItsLog self.old }
+        requires room { HasRoomForNext self.old event.now }
         requires admitted { MayFollow (bounds_of self.old.heap) self.old.log.events event.now }
+        requires short { length self.old.log.events < MOST_EVENTS }
+        requires at_end { position ≡ length self.old.log.events }
         ensures log { self.new.log ≡ self.old.log }
         ensures heap { self.new.heap ≡ self.old.heap }
-        ensures alarm { AlarmOf (self.old.log.events ++ event.now ∷ []) self.new.alarm }
-        ensures graph { self.new.alarm ≡ None → AreOwners self.new.graph.owners (self.old.log.events ++ event.now ∷ []) }
+        ensures alarm { self.new.alarm ≡ self.old.alarm }
+        ensures scan { self.new.scan ≡ self.old.scan }
+        ensures nodes { limit_of self.new.monitor.nodes.slots ≡ limit_of self.old.monitor.nodes.slots }
+        ensures watched { IsWatched (self.old.log.events ++ event.now ∷ []) self.old.alarm position result }
+        ensures monitor { IsMonitorOf (bounds_of self.old.heap) self.new.monitor (events_taken_in (self.old.log.events ++ event.now ∷ []) self.old.alarm position result) }
     {
         if self.alarm.is_some() {
-            return;
+            return None;
         }
-        if let Seen::Closes { transaction } = self.graph.observe(&self.log, event) {
+        match self.monitor.observe(position, event) {
+            Seen::Quiet => None,
+            Seen::Closes { transaction } => Some(transaction),
+        }
+    }
+
+    /// Raises the alarm of the event at the position, if it closed the first cycle.
+    fn raise(&mut self, position: usize, closed: Option<usize>)
+        requires watched { IsWatched self.old.log.events self.old.alarm position closed }
+        requires heap { IsHeapOf self.old.heap self.old.log.events }
+        requires scan { self.old.scan ≡ bounds_of self.old.heap }
+        ensures log { self.new.log ≡ self.old.log }
+        ensures heap { self.new.heap ≡ self.old.heap }
+        ensures monitor { self.new.monitor ≡ self.old.monitor }
+        ensures scan { self.new.scan ≡ self.old.scan }
+        ensures alarm { AlarmOf self.old.log.events self.new.alarm }
+        ensures events { events_watched self.old.log.events self.new.alarm ≡ events_taken_in self.old.log.events self.old.alarm position closed }
+    {
+        if let Some(transaction) = closed {
+            let blamed = self.scan.blamed(&self.log, position);
             self.alarm = Some(Alarm {
-                position: self.log.len(),
+                position,
                 transaction,
+                blamed,
             });
         }
     }

@@ -1,12 +1,16 @@
-ghost use Rattle.std.specs.Prelude.{◌≡◌, IfOk};
-ghost use Rattle.velo_world.specs.Holdings.{HoldsLiveShares};
+ghost use Rattle.std.specs.Prelude.{IfOk};
+ghost use Rattle.velo_world.specs.World.{HoldsLiveShares};
 
 use crate::{Alarm, Reply, World};
 use std::alloc::Global;
-use std::process::Abort;
 use std::test::Fail;
-use velo_events::{Action, Bounds, Config, Label, LockId, Memory, Refusal, ThreadId, VarId};
-use velo_ledger::{Shares, Tally};
+use velo_events::{Action, Bounds, Config, Label, LockId, Refusal, ThreadId, VarId};
+use velo_ledger::Shares;
+use velo_traces::Block;
+
+type Step = (ThreadId, Action);
+
+type Outcome = Result<Reply, Refusal>;
 
 const X: VarId = VarId(0);
 
@@ -16,39 +20,60 @@ const MAIN: ThreadId = ThreadId(0);
 
 const OTHER: ThreadId = ThreadId(1);
 
-/// Two threads that update one variable: the second writes between the first one's read and write.
-const LOST_UPDATE: [(ThreadId, Action); 5] = [
+/// Two threads that update one variable: the second writes between the first one's read and write. Then both go on.
+const LOST_UPDATE: [Step; 8] = [
     (MAIN, Action::Fork(OTHER)),
     (MAIN, Action::Begin(Label(7))),
     (MAIN, Action::Read(X)),
     (OTHER, Action::Write(X, 5)),
     (MAIN, Action::Write(X, 1)),
+    (MAIN, Action::End),
+    (OTHER, Action::Begin(Label(1))),
+    (MAIN, Action::Begin(Label(2))),
 ];
 
-const ALARM: Alarm = Alarm {
-    position: 4,
-    transaction: 1,
-};
+/// Whether the alarm is that of the lost update, for which the block of the reader is to blame.
+fn is_the_alarm(alarm: Option<&Alarm>) -> bool {
+    let blamed = [Block {
+        first: 1,
+        label: Label(7),
+    }];
+    alarm.is_some_and(|alarm| {
+        alarm.position == 4 && alarm.transaction == 1 && alarm.blamed.as_slice() == blamed.as_slice()
+    })
+}
 
-/// A world of so many threads, one variable and one lock, with thread 0's share at its place.
-fn opened(alloc: Global, threads: u8, events: u32, stop: bool) -> Result<(World, Shares), Fail>
+/// A world of two threads, one variable and one lock, with thread 0's share at its place.
+fn opened(alloc: Global, nodes: u16, stop: bool) -> Result<(World, Shares), Fail>
     ensures { IfOk result (λ opened. HoldsLiveShares opened.0 opened.1) }
 {
     let bounds = Bounds {
-        threads,
+        threads: 2,
         variables: 1,
         locks: 1,
     };
-    let config = Config::new(1, bounds, events, 1024, stop)?;
+    let config = Config::new(1, bounds, 100, nodes, stop)?;
     let (world, share) = World::new(alloc, config)?;
-    let mut shares = Shares::none(alloc, threads)?;
+    let mut shares = Shares::none(alloc, 2)?;
     if shares.put(share).is_err() {
         return Err("no place".into());
     }
     Ok((world, shares))
 }
 
-fn replied(position: usize, value: Option<u64>, alarmed: bool) -> Result<Reply, Refusal> {
+/// A world in which the steps were done, and their outcomes.
+fn played(
+    alloc: Global,
+    nodes: u16,
+    stop: bool,
+    steps: &[Step],
+) -> Result<(World, Vec<Outcome>), Fail> {
+    let (mut world, mut shares) = opened(alloc, nodes, stop)?;
+    let outcomes = world.run(&mut shares, steps)?;
+    Ok((world, outcomes))
+}
+
+fn replied(position: usize, value: Option<u64>, alarmed: bool) -> Outcome {
     Ok(Reply {
         position,
         value,
@@ -57,119 +82,24 @@ fn replied(position: usize, value: Option<u64>, alarmed: bool) -> Result<Reply, 
 }
 
 /// The outcome of an action that reads nothing, before an alarm.
-fn done(position: usize) -> Result<Reply, Refusal> {
+fn done(position: usize) -> Outcome {
     replied(position, None, false)
-}
-
-/// The outcomes of 33 begins and 32 ends.
-fn of_nested_blocks(i: usize) -> Result<Reply, Refusal> {
-    match i {
-        0..32 => done(i),
-        32 => Err(Refusal::TooDeep),
-        _ => done(i - 1),
-    }
 }
 
 #[test]
 fn blocks_nest_32_deep(rt: HostRuntime) -> Result<(), Fail> {
-    let (mut world, mut shares) = opened(rt.alloc(), 1, 100, false)?;
     let mut steps = [(MAIN, Action::End); 65];
-    for i in 0..33 {
+    let mut wanted = [done(32); 65];
+    wanted[32] = Err(Refusal::TooDeep);
+    for i in 0..32 {
         steps[i] = (MAIN, Action::Begin(Label(0)));
+        wanted[i] = done(i);
+        wanted[i + 33] = done(i + 32);
     }
-    let outcomes = world.run(&mut shares, &steps)?;
-    assert_eq!(rt; outcomes.len(), 65);
-    for (i, outcome) in outcomes.iter().enumerate() {
-        assert_eq!(rt; *outcome, of_nested_blocks(i), "outcome {i}");
-    }
+    steps[32] = (MAIN, Action::Begin(Label(0)));
+    let (_, outcomes) = played(rt.alloc(), 1, false, &steps)?;
+    assert_eq!(rt; outcomes.as_slice(), wanted.as_slice());
     Ok(())
-}
-
-/// The log's length, the variable's value, the book's row of thread 0, and the events that its share counts.
-fn state_of(rt: &impl Abort, world: &World, shares: &Shares) -> (usize, u64, Tally, u64) {
-    assert!(rt; world.bounds().variables == 1);
-    let tally = world.book().tally(MAIN);
-    let events = shares.get(MAIN).map_or(0, |share| share.events());
-    (world.log().len(), world.heap().value(X), tally, events)
-}
-
-/// Does the steps, each of which is refused as said beside it and then changes nothing, or is done.
-fn refuse(
-    rt: &impl Abort,
-    world: &mut World,
-    shares: &mut Shares,
-    steps: &[(u8, Action, Option<Refusal>)],
-)
-    requires { HoldsLiveShares world.old shares.old }
-    ensures { HoldsLiveShares world.new shares.new }
-{
-    for i in 0..steps.len() {
-        let (thread, action, wanted) = steps[i];
-        let before = state_of(rt, world, shares);
-        let outcome = world.step(shares, ThreadId(thread), action);
-        assert_eq!(rt; outcome.err(), wanted, "step {i}");
-        if wanted.is_some() {
-            assert_eq!(rt; state_of(rt, world, shares), before, "step {i}");
-        }
-    }
-}
-
-#[test]
-fn refusals_change_nothing(rt: HostRuntime) -> Result<(), Fail> {
-    let (mut world, mut shares) = opened(rt.alloc(), 2, 8, false)?;
-    let steps = [
-        (1, Action::Write(X, 1), Some(Refusal::NotLive)),
-        (9, Action::Exit, Some(Refusal::NotLive)),
-        (0, Action::Read(VarId(1)), Some(Refusal::NoSuchVariable)),
-        (0, Action::Acquire(LockId(1)), Some(Refusal::NoSuchLock)),
-        (0, Action::Fork(ThreadId(2)), Some(Refusal::NoSuchThread)),
-        (0, Action::Join(OTHER), Some(Refusal::NotForked)),
-        (0, Action::Fork(OTHER), None),
-        (0, Action::Fork(OTHER), Some(Refusal::AlreadyForked)),
-        (0, Action::Join(OTHER), Some(Refusal::NotExited)),
-        (0, Action::Release(M), Some(Refusal::NotHolder)),
-        (0, Action::Acquire(M), None),
-        (0, Action::Acquire(M), Some(Refusal::AlreadyHeld)),
-        (1, Action::Acquire(M), Some(Refusal::Busy)),
-        (0, Action::End, Some(Refusal::NoOpenBlock)),
-        (0, Action::Begin(Label(0)), None),
-        (0, Action::Write(X, 5), None),
-        (0, Action::Exit, Some(Refusal::BlockOpen)),
-        (0, Action::End, None),
-        (0, Action::Exit, Some(Refusal::LockHeld)),
-        (0, Action::Release(M), None),
-        (1, Action::Exit, None),
-        (0, Action::Join(OTHER), None),
-        (0, Action::Join(OTHER), Some(Refusal::AlreadyJoined)),
-        // the log is full
-        (0, Action::Read(X), Some(Refusal::LogFull)),
-        (0, Action::Read(VarId(1)), Some(Refusal::NoSuchVariable)),
-    ];
-    refuse(&rt, &mut world, &mut shares, &steps);
-    world.halt();
-    let steps = [
-        (0, Action::Read(X), Some(Refusal::Halted)),
-        (0, Action::Read(VarId(1)), Some(Refusal::Halted)),
-        (9, Action::Exit, Some(Refusal::Halted)),
-    ];
-    refuse(&rt, &mut world, &mut shares, &steps);
-    Ok(())
-}
-
-/// What comes of the step after thread 0 forked thread 1 and acquired the lock.
-fn third_outcome(
-    alloc: Global,
-    thread: ThreadId,
-    action: Action,
-) -> Result<Option<Result<Reply, Refusal>>, Fail> {
-    let (mut world, mut shares) = opened(alloc, 2, 100, false)?;
-    let steps = [
-        (MAIN, Action::Fork(OTHER)),
-        (MAIN, Action::Acquire(M)),
-        (thread, action),
-    ];
-    let outcomes = world.run(&mut shares, &steps)?;
-    Ok(outcomes.get(2).copied())
 }
 
 #[test]
@@ -180,81 +110,90 @@ fn refused_at_the_third_step(rt: HostRuntime) -> Result<(), Fail> {
         (MAIN, Action::Exit, Refusal::LockHeld),
         (MAIN, Action::Join(OTHER), Refusal::NotExited),
     ] {
-        let outcome = third_outcome(rt.alloc(), thread, action)?;
-        assert_eq!(rt; outcome, Some(Err(refusal)));
+        let steps = [
+            (MAIN, Action::Fork(OTHER)),
+            (MAIN, Action::Acquire(M)),
+            (thread, action),
+        ];
+        let (_, outcomes) = played(rt.alloc(), 1, false, &steps)?;
+        let wanted = [done(0), done(1), Err(refusal)];
+        assert_eq!(rt; outcomes.as_slice(), wanted.as_slice());
     }
     Ok(())
 }
 
-/// The lost update closes a cycle with its last step, and raises the alarm there.
-fn lose_the_update(rt: &impl Abort, world: &mut World, shares: &mut Shares) -> Result<(), Memory>
-    requires { HoldsLiveShares world.old shares.old }
-    ensures { HoldsLiveShares world.new shares.new }
-{
-    let outcomes = world.run(shares, &LOST_UPDATE)?;
+#[test]
+fn an_alarm_stays_and_needs_no_node(rt: HostRuntime) -> Result<(), Fail> {
+    let (world, outcomes) = played(rt.alloc(), 2, false, &LOST_UPDATE)?;
     let wanted = [
         done(0),
         done(1),
         replied(2, Some(0), false),
         done(3),
         replied(4, None, true),
+        replied(5, None, true),
+        replied(6, None, true),
+        replied(7, None, true),
     ];
     assert_eq!(rt; outcomes.as_slice(), wanted.as_slice());
-    assert_eq!(rt; world.alarm().copied(), Some(ALARM));
-    Ok(())
-}
-
-#[test]
-fn an_alarm_stays(rt: HostRuntime) -> Result<(), Fail> {
-    let (mut world, mut shares) = opened(rt.alloc(), 2, 100, false)?;
-    lose_the_update(&rt, &mut world, &mut shares)?;
-    let outcome = world.step(&mut shares, MAIN, Action::End);
-    assert_eq!(rt; outcome, replied(5, None, true));
-    assert_eq!(rt; world.alarm().copied(), Some(ALARM));
+    assert!(rt; is_the_alarm(world.alarm()));
     assert!(rt; !world.is_halted());
     Ok(())
 }
 
 #[test]
 fn an_alarm_stops_the_world(rt: HostRuntime) -> Result<(), Fail> {
-    let (mut world, mut shares) = opened(rt.alloc(), 2, 100, true)?;
-    lose_the_update(&rt, &mut world, &mut shares)?;
+    let (world, outcomes) = played(rt.alloc(), 4096, true, &LOST_UPDATE)?;
+    assert_eq!(rt; outcomes.get(5).copied(), Some(Err(Refusal::Halted)));
+    assert!(rt; is_the_alarm(world.alarm()));
     assert!(rt; world.is_halted());
-    let outcome = world.step(&mut shares, MAIN, Action::End);
-    assert_eq!(rt; outcome, Err(Refusal::Halted));
+    Ok(())
+}
+
+/// The second block finds no node while the first is open, and the log goes on.
+#[test]
+fn a_full_graph_refuses_a_block(rt: HostRuntime) -> Result<(), Fail> {
+    let steps = [
+        (MAIN, Action::Fork(OTHER)),
+        (MAIN, Action::Begin(Label(1))),
+        (OTHER, Action::Begin(Label(2))),
+        (MAIN, Action::Write(X, 1)),
+        (MAIN, Action::End),
+        (OTHER, Action::Begin(Label(2))),
+    ];
+    let (world, outcomes) = played(rt.alloc(), 1, false, &steps)?;
+    let wanted = [
+        done(0),
+        done(1),
+        Err(Refusal::GraphFull),
+        done(2),
+        done(3),
+        done(4),
+    ];
+    assert_eq!(rt; outcomes.as_slice(), wanted.as_slice());
+    assert_eq!(rt; world.monitor().used(), 1);
     Ok(())
 }
 
 #[test]
 fn a_share_is_missing(rt: HostRuntime) -> Result<(), Fail> {
-    let (mut world, mut given) = opened(rt.alloc(), 2, 100, false)?;
+    let (mut world, mut given) = opened(rt.alloc(), 1, false)?;
     let Some(mut main) = given.take(MAIN) else {
         return Err("no share".into());
     };
     assert!(rt; world.fits(&main));
-    let (forked, mut other) = world.fork(&mut main, OTHER)?;
+    let (forked, other) = world.fork(&mut main, OTHER)?;
     assert_eq!(rt; forked.position, 0);
-    assert!(rt; world.fits(&main));
-    world.act(&mut main, Action::Begin(Label(7)))?;
-    assert!(rt; world.fits(&main));
     assert_eq!(rt; world.act(&mut main, Action::Read(X))?.value, Some(0));
-    assert!(rt; world.fits(&other));
-    world.act(&mut other, Action::Write(X, 5))?;
-    assert!(rt; world.fits(&main));
-    assert!(rt; world.act(&mut main, Action::Write(X, 1))?.alarmed);
-
     let first = given.put(main).is_ok();
     assert!(rt; first);
     let Err((world, mut given)) = world.close(given) else {
         return Err("closed without a share".into());
     };
-    assert_eq!(rt; (world.log().len(), given.get(MAIN).is_some()), (5, true));
     let second = given.put(other).is_ok();
     assert!(rt; second);
     let closed = world.close(given).ok().ok_or("not closed")?;
-    assert_eq!(rt; closed.total(), 5);
-    assert_eq!(rt; closed.alarm().copied(), Some(ALARM));
-    assert_eq!(rt; closed.bounds().threads, 2);
-    assert_eq!(rt; closed.log().len(), 5);
+    assert_eq!(rt; closed.total(), 2);
+    assert!(rt; closed.alarm().is_none());
     Ok(())
 }

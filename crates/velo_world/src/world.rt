@@ -1,6 +1,10 @@
 ghost use Rattle.velo_events.specs.Refusals.{GrowthRefused};
-ghost use Rattle.std.specs.Prelude.{◌≡◌, ◌≤◌, ◌<◌, ◌↔◌, ◌∷◌, ◌++◌, [], ℕ, length, None, Some, IfOk, IfSome, IfNone, OnErr, IsTrue, slice_get, slice_set};
+ghost use Rattle.std.specs.Prelude.{◌≡◌, List, ◌≤◌, ◌<◌, ◌↔◌, ◌∷◌, ◌++◌, [], ℕ, length, None, Some, IfOk, IfSome, IfNone, OnErr, IsTrue, slice_get, slice_set};
 ghost use Rattle.velo_events.specs.declared.event.Action.TheVariants.{Fork};
+ghost use Rattle.velo_events.specs.declared.limits.TheConstants.{MOST_EVENTS};
+ghost use Rattle.velo_events.specs.declared.event.Event.{Event as EventOf};
+ghost use Rattle.velo_events.specs.Block.{IsTransaction};
+ghost use Rattle.velo_events.specs.Collection.{IsAccountedFor, IsGivenUp, IsHarmless};
 ghost use Rattle.velo_events.specs.Graph.{HasCycle};
 ghost use Rattle.velo_events.specs.Reordering.{IsSerializable};
 ghost use Rattle.velo_events.specs.WellFormed.{IsWellFormed, MayFollow};
@@ -8,21 +12,23 @@ ghost use Rattle.velo_heap.specs.Contents.{bounds_of, IsHeapOf};
 ghost use Rattle.velo_ledger.specs.Tally.{with_event};
 ghost use Rattle.velo_ledger.specs.Book.{FitsBook, IsFilled, with_row, with_tally};
 ghost use Rattle.velo_ledger.specs.Shares.{AreInPlace, events_in_all, opening_share, share_at};
-ghost use Rattle.velo_world.specs.Alarms.{IsAlarm};
-ghost use Rattle.velo_world.specs.Runs.{Follows, HasRoom};
-ghost use Rattle.velo_world.specs.Worlds.{opening, halted_world, meaning};
-ghost use Rattle.velo_world.specs.Holdings.{FitsLog, IsBookOf, IsBorn, IsLiveThread, HoldsLiveShares, CompletesShares, PlaceIsRight};
-ghost use Rattle.velo_world.specs.Steps.{IsNoFork, Replies, Acts, Forks, Closes};
-ghost use Rattle.velo_world.specs.Sequences.{StepsTo, RunsTo, born_by, with_share};
+ghost use Rattle.velo_arena.specs.Slots.{limit_of};
+ghost use Rattle.velo_arena.specs.Stamps.{stamps_in};
+ghost use Rattle.velo_monitor.specs.Watched.{IsMonitorOf};
+ghost use Rattle.velo_world.specs.World.{IsAlarm, IsWatchedPart, opening, halted_world, meaning, FitsLog, OthersStillFit, IsBookOf, IsBorn, IsLiveThread, HoldsLiveShares, CompletesShares, IsNoFork, Replies, Acts, Forks, Closes, StepsTo, RunsTo};
+ghost use Rattle.velo_world.specs.Kept.{PlaceIsRight, Performs, left_by, taken_by, with_share};
+ghost use Rattle.velo_world.specs.Run.{IsRunOfItsLog, HasRoomForNext};
 
 use crate::closed::Closed;
 use crate::run::{Alarm, Reply, Run};
 use std::alloc::Global;
+use std::fmt;
 use std::marker::Model;
 use velo_events::growth::reserve;
 use velo_events::{Action, Bounds, Config, Event, Memory, Refusal, Status, ThreadId};
 use velo_heap::Heap;
 use velo_ledger::{Book, Share, Shares};
+use velo_monitor::Monitor;
 use velo_traces::Trace;
 
 /// The log of a run with the heap that it leaves, an alarm once the log has a cycle, and a book of the threads' events.
@@ -41,15 +47,26 @@ pub struct World {
 }
 
 impl Model for World {
-    ghost use Rattle.velo_world.specs.Worlds.{WorldState};
+    ghost use Rattle.velo_world.specs.World.{WorldState};
 
     ghost Value = { WorldState };
 
-    ghost use Rattle.velo_world.specs.Kept.{seen, IsKept};
+    ghost use Rattle.velo_world.specs.Inside.{state_of, IsWorldOfItsLog};
 
-    ghost view = { seen };
+    ghost view = { state_of };
 
-    ghost invariant = { IsKept };
+    ghost invariant = { IsWorldOfItsLog };
+}
+
+impl fmt::Debug for World {
+    fn fmt<W: fmt::Write>(&self, f: &mut fmt::Formatter<W>) -> fmt::Result {
+        f.debug_struct("World")
+            .field("config", &self.config)
+            .field("halted", &self.halted)
+            .field("events", &self.run.log.len())
+            .field("alarm", &self.run.alarm)
+            .finish_non_exhaustive()
+    }
 }
 
 impl World {
@@ -78,43 +95,39 @@ impl World {
         Ok((world, share))
     }
 
-    /// Does an action of the share's thread, which is one event at the end of the log.
+    /// Does an action of the share's thread, which is one event at the end of the log. The shares that fitted fit again.
     ///
     /// # Errors
-    /// The first refusal that applies: `Halted` (1), those of the heap (2 to 16), `LogFull` (17), `Memory` (19). Nothing
-    /// changes then, the share neither.
+    /// The first refusal that applies: `Halted` (1), those of the heap (2 to 16), `LogFull` (17), `GraphFull` (18), which an
+    /// event inside a block or after an alarm never meets, `Memory` (19). Nothing changes then, the share neither.
     pub fn act(&mut self, share: &mut Share, action: Action) -> Result<Reply, Refusal>
         requires fork { IsNoFork action }
         requires fits { FitsLog self.old share.old }
-        ensures { Acts self.old share.old action result self.new share.new }
+        ensures outcome { Acts self.old share.old action result self.new share.new }
+        ensures fits { FitsLog self.new share.new }
+        ensures others { OthersStillFit self.old share.old.thread self.new }
     {
-        let event = self.decide(share.thread(), action)?;
-        if self.run.reserve_one().is_err() {
-            return Err(Refusal::Memory);
-        }
-        let reply = commit(&mut self.run, &mut self.book, share, event);
-        self.halted = self.config.stop && reply.alarmed;
+        let (reply, _) = self.perform(share, action)?;
         Ok(reply)
     }
 
-    /// Forks a thread, which is one event of the share's thread, and hands out the share that the child begins with.
+    /// Forks a thread, which is one event of the share's thread, and hands out the share that the child begins with. It
+    /// fits, and the shares that fitted fit again.
     ///
     /// # Errors
     /// The first refusal that applies, as for `act`. Nothing changes then, the share neither.
     pub fn fork(&mut self, share: &mut Share, child: ThreadId) -> Result<(Reply, Share), Refusal>
         requires { FitsLog self.old share.old }
-        ensures { Forks self.old share.old child result self.new share.new }
+        ensures outcome { Forks self.old share.old child result self.new share.new }
+        ensures fits { FitsLog self.new share.new }
+        ensures born { IfOk result (λ forked. FitsLog self.new forked.1) }
+        ensures others { OthersStillFit self.old share.old.thread self.new }
     {
-        let event = self.decide(share.thread(), Action::Fork(child))?;
-        if self.run.reserve_one().is_err() {
-            return Err(Refusal::Memory);
+        let (reply, born) = self.perform(share, Action::Fork(child))?;
+        match born {
+            Some(born) => Ok((reply, born)),
+            None => unreachable!(),
         }
-        let Some(born) = self.kept.take(child) else {
-            unreachable!()
-        };
-        let forked = commit(&mut self.run, &mut self.book, share, event);
-        self.halted = self.config.stop && forked.alarmed;
-        Ok((forked, born))
     }
 
     /// Does the steps one after another, each by the share of its thread, and answers one outcome for each. The share of
@@ -171,10 +184,15 @@ impl World {
         let Some(mut share) = shares.take(thread) else {
             unreachable!()
         };
-        let (outcome, born) = self.act_or_fork(&mut share, action);
+        let performed = self.perform(&mut share, action);
         put(shares, Some(share));
-        put(shares, born);
-        outcome
+        match performed {
+            Ok((reply, born)) => {
+                put(shares, born);
+                Ok(reply)
+            }
+            Err(refusal) => Err(refusal),
+        }
     }
 
     /// How many threads, variables and locks there are.
@@ -208,6 +226,17 @@ impl World {
         &self.run.heap
     }
 
+    /// The graph of the log's transactions; with an alarm, of those before it. A transaction that it gave up is on no cycle,
+    /// however the run goes on.
+    pub fn monitor(&self) -> &Monitor
+        ensures stands { (trace : List EventOf) → IsWatchedPart self.now.log trace → IsMonitorOf self.now.config.bounds result.now trace }
+        ensures accounted { (trace : List EventOf) → IsWatchedPart self.now.log trace → (a : ℕ) → IsTransaction trace a → IsAccountedFor trace (stamps_in result.now.nodes.slots) a }
+        ensures given_up { (trace : List EventOf) → IsWatchedPart self.now.log trace → (a : ℕ) → IsGivenUp trace (stamps_in result.now.nodes.slots) a → IsHarmless self.now.config.bounds trace a }
+        ensures limit { limit_of result.now.nodes.slots ≡ self.now.config.nodes }
+    {
+        &self.run.monitor
+    }
+
     /// The book of the log, with a row for each thread.
     pub fn book(&self) -> &Book
         ensures { IsBookOf self.now result.now }
@@ -233,7 +262,7 @@ impl World {
         self.halted = true;
     }
 
-    /// Whether every action is refused.
+    /// Whether every action is refused: after `halt`, and after an alarm where the configuration says `stop`.
     pub fn is_halted(&self) -> bool
         ensures { result ≡ self.now.halted }
     {
@@ -254,17 +283,10 @@ impl World {
         ensures sum { IfOk result (λ closed. events_in_all given ≡ length closed.log) }
     {
         if self.is_complete(&given) {
-            Ok(self.into_closed())
+            Ok(Closed { world: self })
         } else {
             Err((self, given))
         }
-    }
-
-    /// Ends the run, whoever has the shares.
-    pub fn into_closed(self) -> Closed
-        ensures { result ≡ self }
-    {
-        Closed { world: self }
     }
 
     /// The event that an action is, or the first refusal that applies.
@@ -281,23 +303,31 @@ impl World {
         Ok(event)
     }
 
-    /// Acts or forks by the share, and hands out the share of a forked thread.
-    fn act_or_fork(
+    /// Does an action of the share's thread, a fork or any other, and hands out the share of a forked thread.
+    fn perform(
         &mut self,
         share: &mut Share,
         action: Action,
-    ) -> (Result<Reply, Refusal>, Option<Share>)
+    ) -> Result<(Reply, Option<Share>), Refusal>
         requires { FitsLog self.old share.old }
-        ensures acts { Acts self.old share.old action result.0 self.new share.new }
-        ensures born { result.1 ≡ born_by self.old.config.run action result.0 }
+        ensures outcome { Performs self.old share.old action result self.new share.new }
+        ensures fits { FitsLog self.new share.new }
+        ensures born { IfOk result (λ done. IfSome done.1 (λ born. FitsLog self.new born)) }
+        ensures others { OthersStillFit self.old share.old.thread self.new }
     {
-        let Action::Fork(child) = action else {
-            return (self.act(share, action), None);
-        };
-        match self.fork(share, child) {
-            Ok((reply, born)) => (Ok(reply), Some(born)),
-            Err(refusal) => (Err(refusal), None),
+        let event = self.decide(share.thread(), action)?;
+        if self.run.has_no_node_for(&event, self.config.nodes) {
+            return Err(Refusal::GraphFull);
         }
+        if self.run.reserve_for(&event).is_err() {
+            return Err(Refusal::Memory);
+        }
+        let born = take_forked(&mut self.kept, action);
+        let reply = commit(&mut self.run, &mut self.book, share, event);
+        if self.config.stop && reply.alarmed {
+            self.halt();
+        }
+        Ok((reply, born))
     }
 
     /// Whether the thread is there and may act.
@@ -314,26 +344,19 @@ impl World {
         thread.0 < self.threads() && !matches!(self.run.heap.status(thread), Status::Unborn)
     }
 
-    /// Whether the place of a thread has a fitting share if the thread was born, and else none.
-    fn is_right_at(&self, given: &Shares, thread: ThreadId) -> bool
-        ensures right { IsTrue result ↔ PlaceIsRight self.now thread.0 (share_at given.now thread) }
-        ensures in_place { AreInPlace given.now }
-    {
-        match given.get(thread) {
-            None => !self.is_born(thread),
-            Some(share) => self.is_born(thread) && self.fits(share),
-        }
-    }
-
-    /// Whether the shares that the world keeps and those given are one fitting share of each thread.
+    /// Whether the shares that the world keeps and those given are one fitting share of each thread: at the place of each
+    /// thread that was born is its fitting share, and at no other place is any.
     fn is_complete(&self, given: &Shares) -> bool
         ensures complete { IsTrue result ↔ CompletesShares self.now given.now }
         ensures sum { IsTrue result → events_in_all given.now ≡ length self.now.log }
     {
-        // the sum follows from what the type keeps of its book
-        let _ = &self.config;
+        let book = &self.book;
         for thread in 0..u8::MAX {
-            if !self.is_right_at(given, ThreadId(thread)) {
+            let is_right = match given.get(ThreadId(thread)) {
+                None => !self.is_born(ThreadId(thread)),
+                Some(share) => self.is_born(ThreadId(thread)) && book.fits(share),
+            };
+            if !is_right {
                 return false;
             }
         }
@@ -343,16 +366,17 @@ impl World {
 
 /// Takes in an admitted event of the share's thread, for which there is room, and enters it in book and share.
 fn commit(run: &mut Run, book: &mut Book, share: &mut Share, event: Event) -> Reply
-    requires follows { Follows run.old }
-    requires room { HasRoom run.old }
+    requires follows { IsRunOfItsLog run.old }
+    requires room { HasRoomForNext run.old event }
     requires admitted { MayFollow (bounds_of run.old.heap) run.old.log.events event }
     requires fits { FitsBook book.old share.old }
     requires own { event.thread ≡ share.old.thread }
     requires later { share.old.tally.next ≤ length run.old.log.events }
-    requires short { length run.old.log.events < 16777216 }
+    requires short { length run.old.log.events < MOST_EVENTS }
     ensures log { run.new.log.events ≡ run.old.log.events ++ event ∷ [] }
     ensures bounds { bounds_of run.new.heap ≡ bounds_of run.old.heap }
-    ensures follows { Follows run.new }
+    ensures nodes { limit_of run.new.monitor.nodes.slots ≡ limit_of run.old.monitor.nodes.slots }
+    ensures follows { IsRunOfItsLog run.new }
     ensures reply { Replies run.old.log.events event result }
     ensures book { book.new ≡ with_row book.old share.old.thread
         (with_event share.old.tally (length run.old.log.events) event) }
@@ -362,6 +386,17 @@ fn commit(run: &mut Run, book: &mut Book, share: &mut Share, event: Event) -> Re
     let reply = run.commit(event);
     book.enter(share, reply.position, &event);
     reply
+}
+
+/// Takes out the share of the thread that the action forks, if it is a fork.
+fn take_forked(kept: &mut Shares, action: Action) -> Option<Share>
+    ensures share { result ≡ taken_by kept.old action }
+    ensures after { kept.new ≡ left_by kept.old action }
+{
+    match action {
+        Action::Fork(child) => kept.take(child),
+        _ => None,
+    }
 }
 
 /// Puts a share, if there is one, at its thread's place, which is there and empty.

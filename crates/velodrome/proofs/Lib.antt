@@ -1,4 +1,3 @@
-pub mod OnReports
-pub mod OnFollowing
-pub mod OnStops
+pub mod OnNextEvents
+pub mod OnFaults
 pub mod OnVerdicts

@@ -1,31 +1,45 @@
 -- The verdict of a log that was done to its end.
 use Rattle.std.proofs.Common.{◌≡◌, ℕ, ◌≤◌, List, length, Option, Some, None, Ok, Err, refl, subst}
-use Rattle.std.specs.Prelude.{◌↔◌, IfSome, Result}
+use Rattle.std.specs.Prelude.{IfSome, Result}
 use Rattle.velo_events.specs.declared.config.Bounds.{Bounds}
-use Rattle.velo_events.specs.declared.config.Config.{Config}
 use Rattle.velo_events.specs.declared.event.Event.{Event}
 use Rattle.velo_events.specs.WellFormed.{IsWellFormed}
-use Rattle.velo_events.specs.Graph.{HasCycle}
+use Rattle.velo_events.specs.Graph.{HasCycle, IsClosing}
+use Rattle.velo_events.specs.Reordering.{IsSerializable}
 use Rattle.velo_events.proofs.OnGraphs.{HasCycle-from_closing}
 use Rattle.velo_logtext.specs.Finding.{Answers}
-use Rattle.velo_world.specs.declared.run.Alarm.{Alarm}
-use Rattle.velo_world.specs.Alarms.{AlarmOf}
-use Rattle.velo_world.specs.Worlds.{WorldState}
+use Rattle.velo_world.specs.World.{WorldState}
 use Rattle.velodrome.specs.declared.check.Verdict.{Verdict}
 use Rattle.velodrome.specs.declared.check.Verdict.TheVariants as verdict
 use Rattle.velodrome.specs.declared.check.CheckFault.{CheckFault}
 use Rattle.velodrome.specs.declared.check.CheckFault.TheVariants.{Log, Refused, WrongValue, Write, Memory}
-use Rattle.velodrome.specs.Check.{IsInput, IsReported, Checks, Reports, verdict_of}
-use Rattle.velodrome.specs.Report.{IsReport}
-use Rattle.velodrome.specs.Following.{world_of}
+use Rattle.velodrome.specs.Check.{IsInput, IsReported, IsVerdict, Checks, Reports}
+use Rattle.velo_report.specs.declared.names.Names.TheVariants.{Numbers}
+use Rattle.velo_report.specs.Report.{IsReport}
 
 no_alarm : verdict.Clean ≡ verdict.Alarm → ⊥
 no_alarm h = cc
 
--- the verdict of the alarm of a log is an alarm exactly where the log has a cycle
-pub verdict_by_cycles : (log : List Event) (alarm : Option Alarm) → AlarmOf log alarm → (verdict_of alarm ≡ verdict.Alarm) ↔ HasCycle log
-verdict_by_cycles log (Some alarm) exact = (λ _. HasCycle-from_closing log alarm.position exact.closing, λ _. refl)
-verdict_by_cycles log None exact = (λ h. absurd (no_alarm h), λ cycle. absurd (exact cycle))
+not_clean : verdict.Alarm ≡ verdict.Clean → ⊥
+not_clean h = cc
+
+-- a closing event, and no serial reordering
+pub IsVerdict-alarm : (log : List Event) (p : ℕ) → IsClosing log p → ¬ IsSerializable log → IsVerdict log verdict.Alarm
+IsVerdict-alarm log p closing no_order =
+    record {
+      cycle = (λ _. HasCycle-from_closing log p closing, λ _. refl);
+      no_order = (λ _. no_order, λ _. refl);
+      order = (λ h. absurd (not_clean h), λ order. absurd (no_order order));
+    }
+
+-- no cycle, and a serial reordering
+pub IsVerdict-clean : (log : List Event) → ¬ HasCycle log → IsSerializable log → IsVerdict log verdict.Clean
+IsVerdict-clean log no_cycle order =
+    record {
+      cycle = (λ h. absurd (no_alarm h), λ cycle. absurd (no_cycle cycle));
+      no_order = (λ h. absurd (no_alarm h), λ none. absurd (none order));
+      order = (λ _. order, λ _. refl);
+    }
 
 -- what a reader found is the input
 pub input_found : (read : Option (List ℕ)) (limit : ℕ) (bounds : Bounds) (log : List Event) → IfSome read (λ bytes. Answers limit bytes (Ok (bounds, log))) → IsInput read bounds log
@@ -34,7 +48,7 @@ input_found None limit bounds log found = tt
 
 abbrev reported_log : (limit : ℕ) (read : Option (List ℕ)) (w : WorldState) (text : List ℕ)
     → w.config.events ≡ limit → IsInput read w.config.bounds w.log → IsWellFormed w.config.bounds w.log → length w.log ≤ w.config.events
-    → IsReport w.config.bounds.threads w.log text → IsReported limit read text
+    → IsReport Numbers w.config.bounds.threads w.log text → IsReported limit read text
 reported_log limit read w text is input well short report =
     record {
       bounds = w.config.bounds;
@@ -50,10 +64,10 @@ pub checked_by : (limit : ℕ) (read : Option (List ℕ)) (w : WorldState) (old 
     → w.config.events ≡ limit → IsInput read w.config.bounds w.log → IsWellFormed w.config.bounds w.log → length w.log ≤ w.config.events
     → Reports w old new result → Checks limit read old new result
 checked_by limit read w old new (Ok answer) is input well short reports =
-    (reports.0, (reported_log limit read w reports.0 is input well short reports.1, reports.2), reports.3)
+    (reports.1.text, (reported_log limit read w reports.1.text is input well short reports.1.is_report, reports.0), reports.1.appends)
 checked_by limit read w old new (Err Write) is input well short reports =
-    (reports.0, reported_log limit read w reports.0 is input well short reports.1, reports.2)
-checked_by limit read w old new (Err Memory) is input well short reports = reports
+    (reports.text, reported_log limit read w reports.text is input well short reports.is_report, reports.appends)
+checked_by limit read w old new (Err Memory) is input well short reports = absurd reports
 checked_by limit read w old new (Err (Log fault)) is input well short reports = absurd reports
 checked_by limit read w old new (Err (Refused p refusal)) is input well short reports = absurd reports
 checked_by limit read w old new (Err (WrongValue p)) is input well short reports = absurd reports

@@ -1,28 +1,27 @@
 -- What checking an input answers, by its bytes and by the definitions.
-use Rattle.std.specs.Prelude.{◌≡◌, ℕ, ◌≤◌, ◌↔◌, List, length, Option, Some, None, IfSome, Result, Ok, Err}
+use Rattle.std.specs.Prelude.{◌≡◌, ℕ, ◌≤◌, ◌↔◌, List, length, Option, IfSome, Result, Ok, Err}
 use Rattle.std.specs.Io.KnownBytes.{Appends}
 use Rattle.velo_events.specs.declared.config.Bounds.{Bounds}
 use Rattle.velo_events.specs.declared.event.Event.{Event}
+use Rattle.velo_events.specs.declared.limits.TheConstants.{MOST_EVENTS}
 use Rattle.velo_events.specs.declared.refusal.Refusal.{Refusal}
+use Rattle.velo_events.specs.Refusals.{GrowthRefused}
+use Rattle.velo_events.specs.Reordering.{IsSerializable}
 use Rattle.velo_events.specs.Graph.{HasCycle}
 use Rattle.velo_events.specs.WellFormed.{IsWellFormed}
-use Rattle.velo_logtext.specs.declared.fault.LogFault.{LogFault}
 use Rattle.velo_logtext.specs.declared.fault.LogFault.TheVariants.{Read}
+use Rattle.velo_logtext.specs.declared.fault.LogFault.TheVariants as log_fault
 use Rattle.velo_logtext.specs.Device.{one_more, AppendsBeginning}
 use Rattle.velo_logtext.specs.Text.{IsLogText}
 use Rattle.velo_logtext.specs.Finding.{Answers}
-use Rattle.velo_world.specs.declared.run.Alarm.{Alarm}
-use Rattle.velo_world.specs.Worlds.{WorldState}
+use Rattle.velo_world.specs.World.{WorldState}
 use Rattle.velodrome.specs.declared.check.Verdict.{Verdict}
 use Rattle.velodrome.specs.declared.check.Verdict.TheVariants as verdict
 use Rattle.velodrome.specs.declared.check.CheckFault.{CheckFault}
 use Rattle.velodrome.specs.declared.check.CheckFault.TheVariants.{Log, Refused, WrongValue, Write, Memory}
-use Rattle.velodrome.specs.Following.{IsRefusedAt, IsWrongValueAt}
-use Rattle.velodrome.specs.Report.{IsReport}
-
--- the most events of a text
-abbrev pub most_events : ℕ
-most_events = 16777216
+use Rattle.velodrome.specs.Faults.{IsRefusedAt, IsWrongValueAt}
+use Rattle.velo_report.specs.declared.names.Names.TheVariants.{Numbers}
+use Rattle.velo_report.specs.Report.{IsReport, AppendsReport, AppendsPartOfReport}
 
 -- the bytes, where they are known, are the text of these bounds and events
 abbrev pub IsInput : Option (List ℕ) → Bounds → List Event → Type 0
@@ -35,7 +34,7 @@ pub record IsReported (limit : ℕ) (read : Option (List ℕ)) (text : List ℕ)
   pub input : IsInput read bounds trace
   pub well_formed : IsWellFormed bounds trace
   pub room : length trace ≤ limit
-  pub report : IsReport bounds.threads trace text
+  pub report : IsReport Numbers bounds.threads trace text
 
 -- the log stops at an event that is refused, or that reads a wrong value
 pub record IsRefused (limit : ℕ) (read : Option (List ℕ)) (p : ℕ) (refusal : Refusal) : Type 0 where
@@ -50,29 +49,29 @@ pub record IsWrongValue (limit : ℕ) (read : Option (List ℕ)) (p : ℕ) : Typ
   pub input : IsInput read bounds trace
   pub reason : IsWrongValueAt limit bounds trace p
 
-abbrev pub verdict_of : Option Alarm → Verdict
-verdict_of (Some alarm) = verdict.Alarm
-verdict_of None = verdict.Clean
+-- an alarm exactly where the graph of the trace has a cycle, which is where no serial reordering of it exists
+pub record IsVerdict (trace : List Event) (answer : Verdict) : Type 0 where
+  pub cycle : (answer ≡ verdict.Alarm) ↔ HasCycle trace
+  pub no_order : (answer ≡ verdict.Alarm) ↔ (¬ IsSerializable trace)
+  pub order : (answer ≡ verdict.Clean) ↔ IsSerializable trace
 
 -- what is written of a world, and the verdict with it
 abbrev pub Reports : WorldState → Option (List ℕ) → Option (List ℕ) → Result Verdict CheckFault → Type 0
-Reports w old new (Ok answer) =
-    (text : List ℕ) × IsReport w.config.bounds.threads w.log text × ((answer ≡ verdict.Alarm) ↔ HasCycle w.log) × Appends old new text
-Reports w old new (Err Write) = (text : List ℕ) × IsReport w.config.bounds.threads w.log text × AppendsBeginning old new text
-Reports w old new (Err Memory) = new ≡ old
+Reports w old new (Ok answer) = IsVerdict w.log answer × AppendsReport old new Numbers w.config.bounds.threads w.log
+Reports w old new (Err Write) = AppendsPartOfReport old new Numbers w.config.bounds.threads w.log
 Reports w old new (Err fault) = ⊥
 
--- What a check answers, by the bytes that were to be read and those written before and after, where they are known. The
--- verdict is an alarm exactly where the graph of the log has a cycle. Every fault but a failed write has written nothing,
--- and after that a beginning of the report was written.
+-- What a check answers, by the bytes that were to be read and those written before and after, where they are known. Every
+-- fault but a failed write has written nothing, and after that a beginning of the report was written. Want of memory is
+-- answered only where a growth was refused.
 abbrev pub Checks : ℕ → Option (List ℕ) → Option (List ℕ) → Option (List ℕ) → Result Verdict CheckFault → Type 0
 Checks limit read old new (Ok answer) =
-    (text : List ℕ) × ((log : IsReported limit read text) × ((answer ≡ verdict.Alarm) ↔ HasCycle log.trace)) × Appends old new text
+    (text : List ℕ) × ((log : IsReported limit read text) × IsVerdict log.trace answer) × Appends old new text
 Checks limit read old new (Err Write) = (text : List ℕ) × IsReported limit read text × AppendsBeginning old new text
-Checks limit read old new (Err (Log fault)) = IfSome read (λ bytes. Answers most_events bytes (Err fault)) × (new ≡ old)
+Checks limit read old new (Err (Log fault)) = IfSome read (λ bytes. Answers MOST_EVENTS bytes (Err fault)) × (fault ≡ log_fault.Memory → GrowthRefused) × (new ≡ old)
 Checks limit read old new (Err (Refused p refusal)) = IsRefused limit read p refusal × (new ≡ old)
 Checks limit read old new (Err (WrongValue p)) = IsWrongValue limit read p × (new ≡ old)
-Checks limit read old new (Err Memory) = new ≡ old
+Checks limit read old new (Err Memory) = GrowthRefused × (new ≡ old)
 
 -- the counts of failures of the source and of the sink after the answer
 abbrev pub read_failures : Result Verdict CheckFault → ℕ → ℕ

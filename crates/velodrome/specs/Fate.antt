@@ -1,15 +1,21 @@
 -- How the program ends: its status, and the line on standard error, if there is one.
-use Rattle.std.specs.Prelude.{ℕ, ◌++◌, [], List, decimal, codes, Bool, if◌then◌else◌, nat_le}
+use Rattle.std.specs.Prelude.{◌≡◌, ◌⊎◌, ℕ, ◌++◌, [], List, decimal, codes, true, false, if◌then◌else◌, nat_le, Option, Result, Ok, Err}
+use Rattle.std.specs.Io.KnownBytes.{Appends}
+use Rattle.clap.specs.declared.error.kind.ErrorKind.{ErrorKind}
+use Rattle.clap.specs.declared.error.kind.ErrorKind.TheVariants.{DisplayHelp, DisplayVersion, OutOfMemory}
 use Rattle.velo_events.specs.declared.refusal.Refusal.{Refusal}
 use Rattle.velo_events.specs.declared.refusal.Refusal.TheVariants.{Halted, NotLive, NoSuchVariable, NoSuchLock, NoSuchThread, Busy, AlreadyHeld, NotHolder, NoOpenBlock, TooDeep, AlreadyForked, NotForked, NotExited, AlreadyJoined, BlockOpen, LockHeld, LogFull, GraphFull, WouldDeadlock, RuntimeMemory, Foreign}
 use Rattle.velo_events.specs.declared.refusal.Refusal.TheVariants as refusal
 use Rattle.velo_logtext.specs.declared.fault.LogFault.{LogFault}
 use Rattle.velo_logtext.specs.declared.fault.LogFault.TheVariants.{BadHeader, BadLine, Truncated, TooLong, Read}
 use Rattle.velo_logtext.specs.declared.fault.LogFault.TheVariants as log_fault
+use Rattle.velo_logtext.specs.Device.{one_more}
+use Rattle.velodrome.specs.declared.check.Verdict.{Verdict}
+use Rattle.velodrome.specs.declared.check.Verdict.TheVariants as verdict
 use Rattle.velodrome.specs.declared.check.CheckFault.{CheckFault}
 use Rattle.velodrome.specs.declared.check.CheckFault.TheVariants.{Log, Refused, WrongValue, Write, Memory}
 use Rattle.velodrome.specs.declared.fate.Fate.{Fate}
-use Rattle.velodrome.specs.declared.fate.Fate.TheVariants.{Finished, Check, CannotOpen}
+use Rattle.velodrome.specs.declared.fate.Fate.TheVariants.{Finished, Check, CannotOpen, WriteFailed}
 use Rattle.velodrome.specs.declared.fate.Fate.TheVariants as fate
 
 abbrev pub number_of : Refusal → ℕ
@@ -54,6 +60,7 @@ abbrev pub status_of : Fate → ℕ
 status_of (Finished alarm) = if alarm then 3 else 0
 status_of (Check fault) = status_of_check fault
 status_of CannotOpen = 5
+status_of WriteFailed = 5
 status_of fate.Memory = 5
 
 abbrev pub line_of_log : LogFault → List ℕ
@@ -76,4 +83,23 @@ abbrev pub line_of : Fate → List ℕ
 line_of (Finished alarm) = []
 line_of (Check fault) = line_of_check fault
 line_of CannotOpen = codes "cannot open\n"
+line_of WriteFailed = codes "write failed\n"
 line_of fate.Memory = codes "out of memory\n"
+
+-- the status of what the command line came to where nothing was done
+abbrev pub status_of_usage : ErrorKind → ℕ
+status_of_usage DisplayHelp = 0
+status_of_usage DisplayVersion = 0
+status_of_usage OutOfMemory = 5
+status_of_usage _ = 2
+
+-- what a check came to
+abbrev pub fate_of : Result Verdict CheckFault → Fate
+fate_of (Ok verdict.Alarm) = Finished true
+fate_of (Ok verdict.Clean) = Finished false
+fate_of (Err fault) = Check fault
+
+-- the text went out and this is the status, or the device failed once and the status is 5
+abbrev pub Ends : ℕ → List ℕ → Option (List ℕ) → Option (List ℕ) → ℕ → ℕ → ℕ → Type 0
+Ends status text old new before after result =
+    ((result ≡ status) × Appends old new text × (after ≡ before)) ⊎ ((result ≡ 5) × (after ≡ one_more before))

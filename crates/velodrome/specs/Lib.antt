@@ -1,4 +1,4 @@
 pub mod Check
 pub mod Fate
-pub mod Following
-pub mod Report
+pub mod Faults
+pub mod Program

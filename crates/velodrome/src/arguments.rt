@@ -1,15 +1,12 @@
 //! The words of the command line.
-ghost use Rattle.std.specs.Prelude.{◌≤◌};
+ghost use Rattle.std.specs.Prelude.{◌≤◌, OnErr};
+ghost use Rattle.velo_events.specs.Refusals.{GrowthRefused};
+ghost use Rattle.velo_events.specs.declared.limits.TheConstants.{MOST_EVENTS, MOST_NODES};
 
+use crate::growth::{with_argument, with_subcommand};
 use clap::{Arg, ArgAction, ArgMatches, Command, value_parser};
-use std::alloc::{AllocError, Global};
-use velo_events::Memory;
-
-/// The most events that the log of a run can be limited to.
-pub const MOST_EVENTS: u32 = 16_777_216;
-
-/// The most nodes that the graph of a run can be limited to.
-pub const MOST_NODES: u16 = 4096;
+use std::alloc::Global;
+use velo_events::{MOST_EVENTS, MOST_NODES, Memory};
 
 /// What `velodrome check` was asked for.
 #[derive(Clone, Copy, Debug)]
@@ -21,54 +18,55 @@ pub struct CheckOptions<'a> {
     /// The most nodes that the graph may have at one time.
     pub nodes: u16,
     ghost some_event: { 1 ≤ events },
-    ghost few_events: { events ≤ 16777216 },
+    ghost few_events: { events ≤ MOST_EVENTS },
     ghost some_node: { 1 ≤ nodes },
-    ghost few_nodes: { nodes ≤ 4096 },
+    ghost few_nodes: { nodes ≤ MOST_NODES },
 }
 
 /// The command line of the program: a word of no subcommand, or a number out of its range, is a fault of usage.
 ///
 /// # Errors
 /// `Memory` where a growth was refused.
-pub fn command<'a>(alloc: Global) -> Result<Command<'a>, Memory> {
-    Ok(velodrome(alloc)?)
-}
-
-fn velodrome<'a>(alloc: Global) -> Result<Command<'a>, AllocError> {
-    Command::new(alloc, "velodrome")
+pub fn command<'a>(alloc: Global) -> Result<Command<'a>, Memory>
+    ensures memory { OnErr result GrowthRefused }
+{
+    let program = Command::new(alloc, "velodrome")
         .about("Tells whether the atomic blocks of an observed run can be serialized")
-        .subcommand_required(true)
-        .subcommand(check(alloc)?)
+        .subcommand_required(true);
+    with_subcommand(program, check_command(alloc)?)
 }
 
-fn check<'a>(alloc: Global) -> Result<Command<'a>, AllocError> {
-    Command::new(alloc, "check")
-        .about("Reads a recorded log and reports the verdict")
-        .arg(
-            Arg::new(alloc, "LOG")
-                .help("The path of the log")
-                .required(true)
-                .action(ArgAction::Set),
-        )?
-        .arg(events(alloc))?
-        .arg(nodes(alloc))
+fn check_command<'a>(alloc: Global) -> Result<Command<'a>, Memory>
+    ensures memory { OnErr result GrowthRefused }
+{
+    let check = Command::new(alloc, "check").about("Reads a recorded log and reports the verdict");
+    let check = with_argument(check, log_argument(alloc))?;
+    let check = with_argument(check, events_argument(alloc))?;
+    with_argument(check, nodes_argument(alloc))
 }
 
-fn events<'a>(alloc: Global) -> Arg<'a> {
+fn log_argument<'a>(alloc: Global) -> Arg<'a> {
+    Arg::new(alloc, "LOG")
+        .help("The path of the log")
+        .required(true)
+        .action(ArgAction::Set)
+}
+
+fn events_argument<'a>(alloc: Global) -> Arg<'a> {
     Arg::new(alloc, "events")
         .long("events")
         .value_name("N")
         .help("The most events that the log may have, 1 to 16777216")
-        .value_parser(value_parser!(u32).range(1..=16_777_216))
+        .value_parser(value_parser!(u32).range(1..=i64::from(MOST_EVENTS)))
         .default_value("1048576")
 }
 
-fn nodes<'a>(alloc: Global) -> Arg<'a> {
+fn nodes_argument<'a>(alloc: Global) -> Arg<'a> {
     Arg::new(alloc, "nodes")
         .long("nodes")
         .value_name("N")
         .help("The most nodes that the graph may have at one time, 1 to 4096")
-        .value_parser(value_parser!(u16).range(1..=4096))
+        .value_parser(value_parser!(u16).range(1..=i64::from(MOST_NODES)))
         .default_value("1024")
 }
 

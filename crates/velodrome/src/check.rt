@@ -1,22 +1,23 @@
 //! Checking a recorded log.
-ghost use Rattle.std.specs.Prelude.{◌≡◌, ◌≤◌, ◌<◌, [], ◌∷◌, ◌++◌, None, false, IfOk, IfErr, OnOk, length};
+ghost use Rattle.std.specs.Prelude.{◌≡◌, ◌≤◌, ◌<◌, [], ◌∷◌, ◌++◌, None, false, IfOk, IfErr, OnOk, OnErr, length};
 ghost use Rattle.velo_events.specs.Meaning.{action_of, has_its_value};
 ghost use Rattle.velo_events.specs.WellFormed.{IsWellFormed, NamesKnown};
+ghost use Rattle.velo_events.specs.Refusals.{GrowthRefused};
+ghost use Rattle.velo_events.specs.declared.limits.TheConstants.{MOST_EVENTS, MOST_NODES};
 ghost use Rattle.velo_traces.specs.Flaws.{flaw_of};
 ghost use Rattle.velo_logtext.specs.Text.{AreBounds};
-ghost use Rattle.velo_world.specs.Worlds.{meaning, opening};
-ghost use Rattle.velo_world.specs.Holdings.{HoldsLiveShares};
-ghost use Rattle.velo_world.specs.Alarms.{AlarmOf};
-ghost use Rattle.velodrome.specs.Check.{Checks, Reports, verdict_of, read_failures, write_failures};
-ghost use Rattle.velodrome.specs.Following.{world_of, Stops, StopsIn, IsRefusal, is_as_logged};
+ghost use Rattle.velo_world.specs.World.{meaning, opening};
+ghost use Rattle.velo_world.specs.World.{CompletesShares, HoldsLiveShares};
+ghost use Rattle.velodrome.specs.Check.{Checks, IsVerdict, Reports, read_failures, write_failures};
+ghost use Rattle.velodrome.specs.Faults.{world_of, IsFaultAtEvent, IsFaultOfLog, IsRefusal, is_as_logged};
 
-use crate::report::report_of;
 use std::alloc::Global;
 use velo_events::{Action, Bounds, Config, Event, Kind, Memory, Refusal};
 use velo_ledger::Shares;
-use velo_logtext::{LogFault, Sink, Source, WriteFault, read_log, write_all};
+use velo_logtext::{LogFault, Sink, Source, WriteFault, read_log};
+use velo_report::{Names, report};
 use velo_traces::Trace;
-use velo_world::{Alarm, World};
+use velo_world::{Closed, World};
 
 /// What a log shows.
 #[derive(Clone, Copy, Debug, PartialEq, Eq)]
@@ -85,7 +86,7 @@ fn is_as_logged(kind: Kind, value: Option<u64>) -> bool
 fn fault_of(world: &World, event: &Event, refusal: Refusal) -> CheckFault
     requires running { world.now.halted ≡ false }
     requires refused { IsRefusal (meaning world.now event.now.thread (action_of event.now.kind)) refusal }
-    ensures { Stops world.now.config world.now.log event.now result }
+    ensures { IsFaultAtEvent world.now.config world.now.log event.now result }
 {
     let position = world.log().len();
     match refusal {
@@ -102,9 +103,11 @@ fn fault_of(world: &World, event: &Event, refusal: Refusal) -> CheckFault
 }
 
 /// A world without events, and a place for each thread's share.
-fn opened(alloc: Global, config: Config) -> Result<(World, Shares), Memory>
+pub fn open_world(alloc: Global, config: Config) -> Result<(World, Shares), Memory>
     ensures world { IfOk result (λ opened. opened.0 ≡ opening config) }
     ensures ready { IfOk result (λ opened. HoldsLiveShares opened.0 opened.1) }
+    ensures complete { IfOk result (λ opened. CompletesShares opened.0 opened.1) }
+    ensures memory { OnErr result GrowthRefused }
 {
     let (world, share) = World::new(alloc, config)?;
     let mut shares = Shares::none(alloc, config.bounds.threads)?;
@@ -115,16 +118,17 @@ fn opened(alloc: Global, config: Config) -> Result<(World, Shares), Memory>
 }
 
 /// Lets the world do what the next event of a log says.
-fn follow(world: &mut World, shares: &mut Shares, event: &Event) -> Result<(), CheckFault>
+fn do_event(world: &mut World, shares: &mut Shares, event: &Event) -> Result<(), CheckFault>
     requires running { world.old.halted ≡ false }
     requires goes_on { world.old.config.stop ≡ false }
     requires ready { HoldsLiveShares world.old shares.old }
     ensures ready { HoldsLiveShares world.new shares.new }
+    ensures complete { CompletesShares world.old shares.old → CompletesShares world.new shares.new }
     ensures before { IsWellFormed world.old.config.bounds world.old.log }
     ensures short { length world.old.log ≤ world.old.config.events }
     ensures ok { OnOk result (world.new ≡ world_of world.old.config (world.old.log ++ event.now ∷ [])) }
     ensures follows { OnOk result (flaw_of world.old.config.bounds world.old.log event.now ≡ None) }
-    ensures err { IfErr result (λ fault. Stops world.old.config world.old.log event.now fault) }
+    ensures err { IfErr result (λ fault. IsFaultAtEvent world.old.config world.old.log event.now fault) }
 {
     let position = world.log().len();
     match world.step(shares, event.thread, action_of(event.kind)) {
@@ -134,27 +138,35 @@ fn follow(world: &mut World, shares: &mut Shares, event: &Event) -> Result<(), C
     }
 }
 
-/// The world of a log, all of whose events were done in it.
-fn followed(alloc: Global, config: Config, log: &Trace) -> Result<World, CheckFault>
+/// The world of a log, all of whose events were done in it, after its end.
+fn do_log(alloc: Global, config: Config, log: &Trace) -> Result<Closed, CheckFault>
     requires goes_on { config.stop ≡ false }
-    ensures ok { IfOk result (λ world. world ≡ world_of config log.now.events) }
-    ensures err { IfErr result (λ fault. StopsIn config log.now.events fault) }
+    ensures ok { IfOk result (λ closed. closed ≡ world_of config log.now.events) }
+    ensures well_formed { IfOk result (λ closed. IsWellFormed closed.config.bounds closed.log) }
+    ensures short { IfOk result (λ closed. length closed.log ≤ closed.config.events) }
+    ensures err { IfErr result (λ fault. IsFaultOfLog config log.now.events fault) }
 {
-    let Ok((mut world, mut shares)) = opened(alloc, config) else {
+    let Ok((mut world, mut shares)) = open_world(alloc, config) else {
         return Err(CheckFault::Memory);
     };
     let events = log.as_slice();
     for event in events {
-        follow(&mut world, &mut shares, event)?;
+        do_event(&mut world, &mut shares, event)?;
     }
-    Ok(world)
+    match world.close(shares) {
+        Ok(closed) => {
+            prove!(closed.log().len() == events.len());
+            Ok(closed)
+        }
+        Err(_) => unreachable!(),
+    }
 }
 
 /// The configuration of a check: it goes on after an alarm.
-fn configured(bounds: Bounds, events: u32, nodes: u16) -> Config
+pub fn config_of(bounds: Bounds, events: u32, nodes: u16) -> Config
     requires bounds { AreBounds bounds }
-    requires events { (1 ≤ events) × (events ≤ 16777216) }
-    requires nodes { (1 ≤ nodes) × (nodes ≤ 4096) }
+    requires events { (1 ≤ events) × (events ≤ MOST_EVENTS) }
+    requires nodes { (1 ≤ nodes) × (nodes ≤ MOST_NODES) }
     ensures bounds { result.bounds ≡ bounds }
     ensures events { result.events ≡ events }
     ensures goes_on { result.stop ≡ false }
@@ -165,35 +177,24 @@ fn configured(bounds: Bounds, events: u32, nodes: u16) -> Config
     }
 }
 
-/// The alarm that a world keeps.
-fn alarm_of(world: &World) -> Option<Alarm>
-    ensures { AlarmOf world.now.log result }
+/// What the log of a closed world shows.
+fn verdict_of(closed: &Closed) -> Verdict
+    ensures { IsVerdict closed.now.log result }
 {
-    world.alarm().copied()
-}
-
-fn verdict_of(alarm: Option<Alarm>) -> Verdict
-    ensures { result ≡ verdict_of alarm }
-{
-    match alarm {
+    match closed.alarm() {
         Some(_) => Verdict::Alarm,
         None => Verdict::Clean,
     }
 }
 
-/// Writes the report of a world's log, which is made before the first byte goes out.
-fn reported<O: Sink>(alloc: Global, world: &World, sink: &mut O) -> Result<Verdict, CheckFault>
-    ensures well_formed { IsWellFormed world.now.config.bounds world.now.log }
-    ensures short { length world.now.log ≤ world.now.config.events }
-    ensures answer { Reports world.now (O.contents sink.old) (O.contents sink.new) result }
+/// Writes the report of a closed world.
+fn write_report<O: Sink>(closed: &Closed, sink: &mut O) -> Result<Verdict, CheckFault>
+    ensures answer { Reports closed.now (O.contents sink.old) (O.contents sink.new) result }
     ensures written { O.failures sink.new ≡ write_failures result (O.failures sink.old) }
 {
-    let alarm = alarm_of(world);
-    let Ok(text) = report_of(alloc, world, alarm) else {
-        return Err(CheckFault::Memory);
-    };
-    match write_all(sink, text.as_bytes()) {
-        Ok(()) => Ok(verdict_of(alarm)),
+    let verdict = verdict_of(closed);
+    match report(closed, &Names::Numbers, sink) {
+        Ok(()) => Ok(verdict),
         Err(WriteFault) => Err(CheckFault::Write),
     }
 }
@@ -214,8 +215,8 @@ pub fn check_run<I: Source, O: Sink>(
     events: u32,
     nodes: u16,
 ) -> Result<Verdict, CheckFault>
-    requires events { (1 ≤ events) × (events ≤ 16777216) }
-    requires nodes { (1 ≤ nodes) × (nodes ≤ 4096) }
+    requires events { (1 ≤ events) × (events ≤ MOST_EVENTS) }
+    requires nodes { (1 ≤ nodes) × (nodes ≤ MOST_NODES) }
     ensures answer { Checks events (I.remaining source.old) (O.contents sink.old) (O.contents sink.new) result }
     ensures read { I.failures source.new ≡ read_failures result (I.failures source.old) }
     ensures written { O.failures sink.new ≡ write_failures result (O.failures sink.old) }
@@ -224,6 +225,6 @@ pub fn check_run<I: Source, O: Sink>(
         Ok(read) => read,
         Err(fault) => return Err(CheckFault::Log(fault)),
     };
-    let world = followed(alloc, configured(bounds, events, nodes), &log)?;
-    reported(alloc, &world, sink)
+    let closed = do_log(alloc, config_of(bounds, events, nodes), &log)?;
+    write_report(&closed, sink)
 }

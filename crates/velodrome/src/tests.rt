@@ -1,18 +1,43 @@
-ghost use Rattle.std.specs.Prelude.{◌≤◌};
+//! The program over logs and devices in memory.
+mod slow;
 
-use crate::arguments::{MOST_EVENTS, check_options, command};
 use crate::check::{CheckFault, Verdict, check_run};
-use crate::fate::{Fate, end_line};
+use crate::fate::{Fate, end_with};
+use crate::program::{Logs, end_without_words, run};
+use crate::tests::slow::{BOUNDS, first_lines, world_by_chance};
 use std::alloc::Global;
+use std::io::{ErrorKind, Write};
 use std::test::Fail;
-use velo_logtext::{Bytes, LogFault, Text};
+use velo_events::{Bounds, Event, Kind, Label, MOST_EVENTS, Refusal, ThreadId, VarId};
+use velo_logtext::{Bytes, LogFault, Text, WriterSink, write_log};
+use velo_traces::Trace;
 
 const LOST_UPDATE: &str = "vlog 1 2 1 0\n0 fork 1\n0 begin 7\n0 rd 0 0\n1 wr 0 5\n0 wr 0 1\n";
 
 const LOST_UPDATE_REPORT: &str =
-    "events 5\nthread 0 4\nthread 1 1\nverdict alarm 4\ntransaction 1\n";
+    "events 5\nthread 0 4\nthread 1 1\nverdict alarm 4\ntransaction 1\nblame 1 7\n";
 
-/// What `velodrome check` shows of a log: standard output, standard error and the status.
+/// Logs by their paths, which come so many bytes at a time.
+#[derive(Drop)]
+struct Folder<'a> {
+    files: &'a [(&'a str, &'a str)],
+    step: usize,
+}
+
+impl<'a> Logs for Folder<'a> {
+    type Log = Bytes<'a>;
+
+    fn open(&self, path: &str) -> Option<Bytes<'a>> {
+        for (name, log) in self.files {
+            if *name == path {
+                return Some(Bytes::new(log.as_bytes()).in_steps(self.step));
+            }
+        }
+        None
+    }
+}
+
+/// Standard output, standard error and the status of a run.
 #[derive(Drop)]
 struct Shown {
     out: Text,
@@ -20,40 +45,46 @@ struct Shown {
     status: u8,
 }
 
-/// Checks a log that comes and goes so many bytes at a time.
-fn show(alloc: Global, log: &str, events: u32, step: usize) -> Result<Shown, Fail>
-    requires { (1 ≤ events) × (events ≤ 16777216) }
-{
-    let mut source = Bytes::new(log.as_bytes()).in_steps(step);
-    let mut out = Text::new(alloc).in_steps(step);
-    let fate = match check_run(alloc, &mut source, &mut out, events, 1024) {
-        Ok(verdict) => Fate::Finished {
-            alarm: verdict == Verdict::Alarm,
-        },
-        Err(fault) => Fate::Check(fault),
-    };
-    let mut err = Text::new(alloc);
-    let status = end_line(&fate, &mut err)?;
-    Ok(Shown { out, err, status })
+/// Runs the program on these words. Both outputs take so many bytes at a time as the logs give.
+fn show(alloc: Global, words: &[&str], folder: &Folder) -> Shown {
+    let mut out = Text::new(alloc).in_steps(folder.step);
+    let mut err = Text::new(alloc).in_steps(folder.step);
+    let status = run(alloc, words, folder, &mut out, &mut err);
+    Shown { out, err, status }
 }
 
 /// Logs with their report and status.
-const REPORTED: [(&str, &str, u8); 6] = [
+const REPORTED: [(&str, &str, u8); 9] = [
     ("vlog 1 1 0 0\n", "events 0\nthread 0 0\nverdict clean\n", 0),
     (LOST_UPDATE, LOST_UPDATE_REPORT, 3),
     (
         "vlog 1 2 2 0\n0 fork 1\n0 begin 1\n0 wr 0 1\n1 begin 2\n1 wr 1 1\n0 rd 1 1\n1 rd 0 1\n",
-        "events 7\nthread 0 4\nthread 1 3\nverdict alarm 6\ntransaction 3\n",
+        "events 7\nthread 0 4\nthread 1 3\nverdict alarm 6\ntransaction 3\nblame none\n",
         3,
     ),
     (
         "vlog 1 2 0 0\n0 begin 1\n0 fork 1\n1 exit\n0 join 1\n",
-        "events 4\nthread 0 3\nthread 1 1\nverdict alarm 3\ntransaction 0\n",
+        "events 4\nthread 0 3\nthread 1 1\nverdict alarm 3\ntransaction 0\nblame 0 1\n",
+        3,
+    ),
+    (
+        "vlog 1 2 1 0\n0 fork 1\n0 begin 1\n0 rd 0 0\n0 begin 2\n1 wr 0 3\n0 wr 0 4\n",
+        "events 6\nthread 0 5\nthread 1 1\nverdict alarm 5\ntransaction 1\nblame 1 1\n",
+        3,
+    ),
+    (
+        "vlog 1 2 1 0\n0 fork 1\n0 begin 1\n0 begin 2\n0 rd 0 0\n1 wr 0 3\n0 wr 0 4\n",
+        "events 6\nthread 0 5\nthread 1 1\nverdict alarm 5\ntransaction 1\nblame 1 1\nblame 2 2\n",
+        3,
+    ),
+    (
+        "vlog 1 2 1 0\n0 fork 1\n0 begin 1\n0 wr 0 1\n1 rd 0 1\n0 wr 0 2\n",
+        "events 5\nthread 0 4\nthread 1 1\nverdict alarm 4\ntransaction 1\nblame 1 1\n",
         3,
     ),
     (
         "vlog 1 2 1 1\n0 fork 1\n0 begin 1\n0 acq 0\n0 rd 0 0\n0 rel 0\n1 acq 0\n1 wr 0 9\n1 rel 0\n0 acq 0\n",
-        "events 9\nthread 0 6\nthread 1 3\nverdict alarm 8\ntransaction 1\n",
+        "events 9\nthread 0 6\nthread 1 3\nverdict alarm 8\ntransaction 1\nblame 1 1\n",
         3,
     ),
     (
@@ -64,75 +95,161 @@ const REPORTED: [(&str, &str, u8); 6] = [
 ];
 
 #[test]
-fn logs_are_reported(rt: HostRuntime) -> Result<(), Fail> {
+fn logs_are_reported(rt: HostRuntime) {
     for (log, report, status) in REPORTED {
         for step in [1, usize::MAX] {
-            let shown = show(rt.alloc(), log, MOST_EVENTS, step)?;
+            let files = [("a.log", log)];
+            let folder = Folder {
+                files: &files,
+                step,
+            };
+            let shown = show(rt.alloc(), &["velodrome", "check", "a.log"], &folder);
             assert_eq!(rt; shown.out.as_slice(), report.as_bytes(), "{log}");
             assert_eq!(rt; shown.err.as_slice(), b"".as_slice());
             assert_eq!(rt; shown.status, status);
         }
     }
-    Ok(())
 }
 
 /// Logs without a report, with a limit of events, the line on standard error and the status.
-const REFUSED: [(&str, u32, &str, u8); 13] = [
-    (LOST_UPDATE, 3, "refused 17 at 3\n", 4),
-    ("vlog 1 2 1 0\n1 wr 0 1\n", 9, "refused 2 at 0\n", 2),
+const REFUSED: [(&str, &str, &str, u8); 16] = [
+    (LOST_UPDATE, "3", "refused 17 at 3\n", 4),
+    (LOST_UPDATE, "4", "refused 17 at 4\n", 4),
+    ("vlog 1 2 1 0\n1 wr 0 1\n", "9", "refused 2 at 0\n", 2),
     (
         "vlog 1 1 1 0\n0 wr 0 5\n0 rd 0 4\n",
-        9,
+        "9",
         "wrong value at 1\n",
         2,
     ),
     (
         "vlog 1 1 1 0\n0 wr 0 5\n0 rd 0 4\n",
-        1,
+        "1",
         "wrong value at 1\n",
         2,
     ),
-    ("vlog 1 1 0 0\n0 fork 0\n", 9, "refused 11 at 0\n", 2),
-    ("vlog 1 1 1 0\n0 rd 0 01\n", 9, "log fault 2 line 2\n", 2),
-    ("vlog 1 1 1 0\n0 wr 0 1", 9, "log fault 3 line 2\n", 2),
-    ("vlog 1 0 0 0\n", 9, "log fault 1\n", 2),
-    ("", 9, "log fault 1\n", 2),
+    ("vlog 1 1 0 0\n0 fork 0\n", "9", "refused 11 at 0\n", 2),
+    ("vlog 1 1 1 0\n0 rd 0 01\n", "9", "log fault 2 line 2\n", 2),
+    ("vlog 1 1 1 0\n0 wr 0 1", "9", "log fault 3 line 2\n", 2),
+    ("vlog 1 0 0 0\n", "9", "log fault 1\n", 2),
+    ("", "9", "log fault 1\n", 2),
     (
         "vlog 1 2 0 1\n0 fork 1\n0 acq 0\n1 acq 0\n",
-        9,
+        "9",
         "refused 6 at 2\n",
         2,
     ),
     (
         "vlog 1 2 0 1\n0 fork 1\n0 acq 0\n0 acq 0\n",
-        9,
+        "9",
         "refused 7 at 2\n",
         2,
     ),
     (
         "vlog 1 2 0 1\n0 fork 1\n0 acq 0\n0 exit\n",
-        9,
+        "9",
         "refused 16 at 2\n",
         2,
     ),
     (
         "vlog 1 2 0 1\n0 fork 1\n0 acq 0\n0 join 1\n",
-        9,
+        "9",
         "refused 13 at 2\n",
+        2,
+    ),
+    ("vlog 1 1 0 0\n0 end\n", "1", "refused 9 at 0\n", 2),
+    (
+        "vlog 1 1 1 0\n0 rd 0 0\n0 end\n",
+        "1",
+        "refused 9 at 1\n",
         2,
     ),
 ];
 
 #[test]
-fn logs_are_refused(rt: HostRuntime) -> Result<(), Fail> {
+fn logs_are_refused(rt: HostRuntime) {
     for (log, events, line, status) in REFUSED {
-        let limit = events.clamp(1, MOST_EVENTS);
-        let shown = show(rt.alloc(), log, limit, usize::MAX)?;
+        let files = [("a.log", log)];
+        let folder = Folder {
+            files: &files,
+            step: usize::MAX,
+        };
+        let words = ["velodrome", "check", "--events", events, "a.log"];
+        let shown = show(rt.alloc(), &words, &folder);
         assert_eq!(rt; shown.out.as_slice(), b"".as_slice(), "{log}");
         assert_eq!(rt; shown.err.as_slice(), line.as_bytes(), "{log}");
         assert_eq!(rt; shown.status, status);
     }
-    Ok(())
+}
+
+/// Right words, with the status: of the two logs one raises an alarm at its last event.
+const RIGHT_WORDS: [(&[&str], u8); 7] = [
+    (&["velodrome", "check", "a.log"], 3),
+    (&["velodrome", "check", "b.log"], 0),
+    (&["velodrome", "check", "c.log"], 5),
+    (
+        &[
+            "velodrome",
+            "check",
+            "--events",
+            "5",
+            "a.log",
+            "--nodes",
+            "1",
+        ],
+        3,
+    ),
+    (
+        &["velodrome", "check", "a.log", "--nodes=4096", "--events=4"],
+        4,
+    ),
+    (
+        &[
+            "velodrome",
+            "check",
+            "--events=16777216",
+            "--nodes=4096",
+            "b.log",
+        ],
+        0,
+    ),
+    (&["velodrome", "--help"], 0),
+];
+
+const WRONG_WORDS: [&[&str]; 8] = [
+    &["velodrome"],
+    &["velodrome", "check"],
+    &["velodrome", "race", "a.log"],
+    &["velodrome", "check", "a.log", "b.log"],
+    &["velodrome", "check", "a.log", "--events", "0"],
+    &["velodrome", "check", "a.log", "--events", "16777217"],
+    &["velodrome", "check", "a.log", "--nodes", "0"],
+    &["velodrome", "check", "a.log", "--nodes", "4097"],
+];
+
+const FILES: [(&str, &str); 2] = [("a.log", LOST_UPDATE), ("b.log", "vlog 1 1 0 0\n")];
+
+#[test]
+fn command_lines(rt: HostRuntime) {
+    let folder = Folder {
+        files: &FILES,
+        step: usize::MAX,
+    };
+    for (words, status) in RIGHT_WORDS {
+        let shown = show(rt.alloc(), words, &folder);
+        assert_eq!(rt; shown.status, status);
+        assert_eq!(rt; shown.out.as_slice().is_empty(), status > 3);
+        assert_eq!(rt; shown.err.as_slice().is_empty(), status <= 3);
+        if status == 5 {
+            assert_eq!(rt; shown.err.as_slice(), b"cannot open\n".as_slice());
+        }
+    }
+    for words in WRONG_WORDS {
+        let shown = show(rt.alloc(), words, &folder);
+        assert_eq!(rt; shown.status, 2);
+        assert!(rt; shown.out.as_slice().is_empty());
+        assert!(rt; shown.err.as_slice().starts_with(b"error: "));
+    }
 }
 
 #[test]
@@ -158,66 +275,150 @@ fn devices_fail(rt: HostRuntime) {
         assert_eq!(rt; answer, Err(CheckFault::Write));
         assert_eq!(rt; sink.as_slice(), &report[..count]);
     }
+    let folder = Folder {
+        files: &FILES,
+        step: usize::MAX,
+    };
+    for words in [["velodrome", "--help"], ["velodrome", "help"]] {
+        let mut full = Text::new(rt.alloc()).failing_after(9);
+        let mut err = Text::new(rt.alloc());
+        let status = run(rt.alloc(), words.as_slice(), &folder, &mut full, &mut err);
+        assert_eq!(rt; status, 5);
+        assert_eq!(rt; err.as_slice(), b"write failed\n".as_slice());
+    }
+    let mut out = Text::new(rt.alloc());
+    let mut closed = Text::new(rt.alloc()).failing_after(0);
+    let status = run(rt.alloc(), &["velodrome"], &folder, &mut out, &mut closed);
+    assert_eq!(rt; status, 5);
 }
 
-/// The limits that a command line asks for, or the status of its fault.
-fn limits_of(alloc: Global, words: &[&str]) -> Result<(u32, u16), i32> {
-    let Ok(command) = command(alloc) else {
-        return Err(5);
-    };
-    match command.try_get_matches_from(words) {
-        Ok(matches) => match matches.subcommand() {
-            Some((_, found)) => match check_options(found) {
-                Some(options) => Ok((options.events, options.nodes)),
-                None => Err(2),
-            },
-            None => Err(2),
-        },
-        Err(error) => Err(error.exit_code()),
+/// A writer that counts its calls.
+#[derive(Drop)]
+struct Calls(u64);
+
+impl Write for Calls {
+    fn write(&mut self, piece: &[u8]) -> std::io::Result<usize> {
+        self.0 = self.0.wrapping_add(1);
+        Ok(piece.len())
     }
+
+    fn flush(&mut self) -> std::io::Result<()> {
+        Ok(())
+    }
+}
+
+/// A line goes out in one write, so that lines of programs that run side by side stay whole.
+#[test]
+fn one_write_for_a_line(rt: HostRuntime) {
+    let fates = [
+        Fate::Check(CheckFault::Log(LogFault::BadLine(usize::MAX))),
+        Fate::Check(CheckFault::Refused {
+            position: usize::MAX,
+            refusal: Refusal::Foreign,
+        }),
+        Fate::Check(CheckFault::WrongValue { position: 7 }),
+        Fate::Check(CheckFault::Memory),
+    ];
+    for fate in fates {
+        let mut err = WriterSink::new(Calls(0));
+        let _status = end_with(&fate, &mut err);
+        assert_eq!(rt; err.writer.0, 1);
+    }
+    let folder = Folder {
+        files: &FILES,
+        step: usize::MAX,
+    };
+    let mut out = WriterSink::new(Calls(0));
+    let mut err = WriterSink::new(Calls(0));
+    let _status = run(
+        rt.alloc(),
+        &["velodrome", "race"],
+        &folder,
+        &mut out,
+        &mut err,
+    );
+    assert_eq!(rt; (out.writer.0, err.writer.0), (0, 1));
+    let _status = run(
+        rt.alloc(),
+        &["velodrome", "--help"],
+        &folder,
+        &mut out,
+        &mut err,
+    );
+    assert_eq!(rt; (out.writer.0, err.writer.0), (1, 1));
 }
 
 #[test]
-fn usage(rt: HostRuntime) {
-    let good: [(&[&str], (u32, u16)); 3] = [
-        (&["velodrome", "check", "a.log"], (1_048_576, 1024)),
+fn words_that_are_missing(rt: HostRuntime) {
+    let cases = [
+        (ErrorKind::OutOfMemory, "out of memory\n", 5),
         (
-            &[
-                "velodrome",
-                "check",
-                "--events",
-                "1",
-                "a.log",
-                "--nodes",
-                "1",
-            ],
-            (1, 1),
-        ),
-        (
-            &[
-                "velodrome",
-                "check",
-                "--events=16777216",
-                "--nodes=4096",
-                "a.log",
-            ],
-            (16_777_216, 4096),
+            ErrorKind::InvalidData,
+            "error: a word of the command line is not UTF-8\n",
+            2,
         ),
     ];
-    for (words, limits) in good {
-        assert_eq!(rt; limits_of(rt.alloc(), words), Ok(limits));
+    for (kind, line, status) in cases {
+        let mut err = Text::new(rt.alloc());
+        assert_eq!(rt; end_without_words(kind, &mut err), status);
+        assert_eq!(rt; err.as_slice(), line.as_bytes());
+        let mut closed = Text::new(rt.alloc()).failing_after(0);
+        assert_eq!(rt; end_without_words(kind, &mut closed), 5);
     }
-    let bad: [&[&str]; 8] = [
-        &["velodrome"],
-        &["velodrome", "check"],
-        &["velodrome", "race", "a.log"],
-        &["velodrome", "check", "a.log", "b.log"],
-        &["velodrome", "check", "a.log", "--events", "0"],
-        &["velodrome", "check", "a.log", "--events", "16777217"],
-        &["velodrome", "check", "a.log", "--nodes", "0"],
-        &["velodrome", "check", "a.log", "--nodes", "4097"],
-    ];
-    for words in bad {
-        assert_eq!(rt; limits_of(rt.alloc(), words), Err(2));
+}
+
+/// The log comes in four pieces, and its last event closes the first cycle.
+#[test]
+fn ten_thousand_lines(rt: HostRuntime) -> Result<(), Fail> {
+    let mut trace = Trace::new(rt.alloc());
+    let first = ThreadId(0);
+    let second = ThreadId(1);
+    let x = VarId(0);
+    trace.push(event(first, Kind::Fork(second)))?;
+    for i in 0..9_995u64 {
+        trace.push(event(second, Kind::Write(x, u64::MAX - i)))?;
     }
+    trace.push(event(first, Kind::Begin(Label(7))))?;
+    trace.push(event(first, Kind::Read(x, u64::MAX - 9_994)))?;
+    trace.push(event(second, Kind::Write(x, 5)))?;
+    trace.push(event(first, Kind::Write(x, 1)))?;
+    assert_eq!(rt; trace.len(), 10_000);
+    let bounds = Bounds {
+        threads: 2,
+        variables: 1,
+        locks: 0,
+    };
+    let mut log = Text::new(rt.alloc());
+    write_log(bounds, &trace, &mut log)?;
+    let mut source = Bytes::new(log.as_slice());
+    let mut sink = Text::new(rt.alloc());
+    let answer = check_run(rt.alloc(), &mut source, &mut sink, 10_000, 1024);
+    assert_eq!(rt; answer, Ok(Verdict::Alarm));
+    let lines =
+        "events 10000\nthread 0 4\nthread 1 9996\nverdict alarm 9999\ntransaction 9996\nblame 9996 7\n";
+    assert_eq!(rt; sink.as_slice(), lines.as_bytes());
+    Ok(())
+}
+
+fn event(thread: ThreadId, kind: Kind) -> Event {
+    Event { thread, kind }
+}
+
+/// Logs by chance, about half of them with an alarm, are reported as the definitions say.
+#[test]
+fn reports_are_those_of_the_definitions(rt: HostRuntime) -> Result<(), Fail> {
+    for seed in 0..400u64 {
+        let world = world_by_chance(rt.alloc(), seed)?;
+        let trace = world.log();
+        assert!(rt; trace.len() <= 48);
+        let mut log = Text::new(rt.alloc());
+        write_log(BOUNDS, trace, &mut log)?;
+        let mut source = Bytes::new(log.as_slice());
+        let mut sink = Text::new(rt.alloc());
+        let answer = check_run(rt.alloc(), &mut source, &mut sink, 48, 1024);
+        assert!(rt; answer.is_ok());
+        let lines = first_lines(rt.alloc(), trace)?;
+        assert!(rt; sink.as_slice().starts_with(lines.as_bytes()), "{lines}");
+    }
+    Ok(())
 }

@@ -9,4 +9,4 @@ returns c =
     let share = c.in_ok-world.share in
     let after : c.put.new.self ≡ set c.in_ok-shares.shares share.thread.0 (Some share) = grind (arith, common_steps) in
     let threads = ap (λ (b : Bounds). b.threads) c.in_ok-config.ensures.bounds in
-    rw (after, c.in_ok-world.ensures.share, c.in_ok-world.ensures.world, c.in_ok-shares.ensures, ← threads) (HoldsLiveShares-opened c.in_ok-config.config)
+    rw (after, c.in_ok-world.ensures.share, c.in_ok-world.ensures.world, c.in_ok-shares.ensures.empty, ← threads) (HoldsLiveShares-opened c.in_ok-config.config)

@@ -1,5 +1,5 @@
-use Rattle.std.proofs.Common.{◌≡◌, ◌∙◌, ap, sym, subst}
-use Rattle.velo_world.specs.Worlds.{WorldState}
+use Rattle.std.proofs.Common.{◌∙◌, ap, sym, subst}
+use Rattle.velo_world.specs.World.{WorldState}
 use Rattle.velodrome.specs.Check.{IsInput}
 use Rattle.velodrome.proofs.OnVerdicts.{input_found, checked_by}
 use Rattle.velodrome.proofs.check.check_run.Goals as goal
@@ -7,11 +7,11 @@ use Rattle.velodrome.proofs.check.check_run.Goals as goal
 pub returns-clause-answer : goal.returns-clause-answer
 returns-clause-answer g c =
     let known = g.I.Source.remaining c.args.source.now in
-    let world = c.in_ok-world.ensures.ok in
+    let world = c.in_ok-closed.ensures.ok in
     let input : IsInput known c.in-Ok.read.0 c.in-Ok.read.1.events = input_found known _ _ _ c.in-Ok.ensures.found in
-    let configured : IsInput known c.configured.result.bounds c.in-Ok.read.1.events =
-    subst (λ b. IsInput known b c.in-Ok.read.1.events) (sym c.configured.ensures.bounds) input in
-    checked_by c.args.events known c.in_ok-world.world _ _ c.reported.result
-    (ap (λ w. w.config.events) world ∙ c.configured.ensures.events)
+    let configured : IsInput known c.config_of.result.bounds c.in-Ok.read.1.events =
+    subst (λ b. IsInput known b c.in-Ok.read.1.events) (sym c.config_of.ensures.bounds) input in
+    checked_by c.args.events known c.in_ok-closed.closed _ _ c.write_report.result
+    (ap (λ w. w.config.events) world ∙ c.config_of.ensures.events)
     (subst (λ (w : WorldState). IsInput known w.config.bounds w.log) (sym world) configured)
-    c.reported.ensures.well_formed c.reported.ensures.short c.reported.ensures.answer
+    c.in_ok-closed.ensures.well_formed c.in_ok-closed.ensures.short c.write_report.ensures.answer

@@ -1,9 +1,5 @@
-use Rattle.std.proofs.Common.{◌≡◌, ◌∙◌, ap, sym, length}
-use Rattle.velo_events.specs.declared.refusal.Refusal.TheVariants.{LogFull}
-use Rattle.velo_events.specs.Meaning.{action_of}
-use Rattle.velo_world.specs.Worlds.{meaning}
-use Rattle.velodrome.specs.Following.{IsRefusal}
-use Rattle.velodrome.proofs.OnFollowing.{full_names, full_wrong, refused_flaw}
+use Rattle.std.proofs.Common.{◌∙◌, ap, sym, length}
+use Rattle.velodrome.proofs.OnNextEvents.{full_names, full_wrong, refused_flaw, refused_memory}
 use Rattle.velodrome.proofs.check.fault_of.Goals as goal
 
 pub has_its_value-requires : goal.has_its_value-requires
@@ -21,3 +17,7 @@ returns-in_default c = (
   c.len-position.ensures ∙ ap length c.log.ensures.events,
   refused_flaw c.args.world.now c.args.event.now c.args.refusal c.requires.running c.requires.refused c.in_default.not-Memory (λ is. absurd (c.in_default.not-LogFull is)),
 )
+
+pub returns-in-Memory : goal.returns-in-Memory
+returns-in-Memory c =
+    refused_memory c.args.world.now c.args.event.now c.requires.running (rw c.in-Memory.is at c.requires.refused)

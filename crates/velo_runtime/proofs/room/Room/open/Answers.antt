@@ -1,5 +1,5 @@
 use Rattle.std.proofs.Common.{◌≡◌, ap}
-use Rattle.velo_world.specs.Worlds.{WorldState}
+use Rattle.velo_world.specs.World.{WorldState}
 use Rattle.velo_runtime.proofs.OnTurns.{AreWaitsWithin-open}
 use Rattle.velo_runtime.proofs.room.Room.open.Goals as goal
 

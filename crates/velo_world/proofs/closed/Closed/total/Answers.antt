@@ -1,6 +1,6 @@
 use Rattle.std.proofs.Common.{length, ap, sym, ◌∙◌}
 use Rattle.velo_ledger.specs.Logs.{events_below}
-use Rattle.velo_world.specs.Worlds.{WorldState}
+use Rattle.velo_world.specs.World.{WorldState}
 use Rattle.velo_world.proofs.OnHoldings.{events_below-log}
 use Rattle.velo_world.proofs.closed.Closed.total.Goals as goal
 

@@ -1,6 +1,6 @@
 use Rattle.std.proofs.Common.{ℕ, ◌<◌}
 use Rattle.velo_ledger.specs.Shares.{AreInPlace, share_at}
-use Rattle.velo_world.specs.Holdings.{PlaceIsRight}
+use Rattle.velo_world.specs.Kept.{PlaceIsRight}
 use Rattle.velo_world.proofs.world.World.is_complete.Given as goal
 
 abbrev pub invariant-loop-thread : goal.invariant-loop-thread

@@ -8,7 +8,8 @@ invariant_of-world c =
     record {
       short = (let none : length c.in_ok-run.run'.log.events ≡ 0 = ap length log_is in omega (arith, none));
       bounds = c.in_ok-run.ensures.bounds;
-      follows = c.in_ok-run.ensures.follows;
+      nodes = c.in_ok-run.ensures.nodes;
+      run = c.in_ok-run.ensures.follows;
       book = rw (log_is, c.in_ok-book.ensures.book) (IsBookOf-opening c.args.config);
       keeps = rw (log_is, c.take.ensures.after) (KeepsUnborn-opening c.args.config c.in_ok-book.kept c.args.config.some_thread c.in_ok-book.ensures.shares);
     }

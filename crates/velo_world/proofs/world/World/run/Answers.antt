@@ -3,7 +3,7 @@ use Rattle.std.proofs.lemmas.Grind.{common_steps}
 use Rattle.velo_events.specs.declared.event.Action.{Action}
 use Rattle.velo_events.specs.declared.event.Action.TheVariants.{Read}
 use Rattle.velo_events.specs.declared.event.ThreadId.{ThreadId}
-use Rattle.velo_world.specs.Sequences.{RunsTo}
+use Rattle.velo_world.specs.World.{RunsTo}
 use Rattle.velo_world.proofs.OnSequences.{RunsTo-nil, RunsTo-more}
 use Rattle.velo_world.proofs.world.World.run.Goals as goal
 

@@ -1,7 +1,6 @@
 use Rattle.std.proofs.Common.{◌≡◌, ◌≤◌, ◌+◌, ℕ, length, take, vec_capacity, vec_len}
 use Rattle.velo_ledger.specs.Book.{IsFilled}
-use Rattle.velo_world.specs.Holdings.{HoldsLiveShares, CompletesShares}
-use Rattle.velo_world.specs.Sequences.{RunsTo}
+use Rattle.velo_world.specs.World.{HoldsLiveShares, CompletesShares, RunsTo}
 use Rattle.velo_world.proofs.world.World.run.Given as goal
 
 abbrev pub invariant-loop-thread : goal.invariant-loop-thread

@@ -1,0 +1,174 @@
+-- The rows of a table: what is looked up in them, and what they have with one more number.
+use Rattle.std.proofs.Common.{◌≡◌, ℕ, ◌+◌, ◌<◌, max, Bool, List, length, get_or, set, Option, Some, None, refl, sym, ap, ◌∙◌, subst, ⊎_elim}
+use Rattle.std.specs.Prelude.{⊤, ◌⊎◌, ◌||◌, slice_get}
+use Rattle.std.proofs.lemmas.List.{get_or_default}
+use Rattle.velo_events.specs.declared.event.Event.{Event}
+use Rattle.velo_events.specs.declared.event.VarId.{VarId}
+use Rattle.velo_events.specs.declared.event.LockId.{LockId}
+use Rattle.velo_events.specs.declared.event.ThreadId.{ThreadId}
+use Rattle.velo_events.specs.declared.event.Kind.{Kind}
+use Rattle.velo_events.specs.declared.event.Kind.TheVariants.{Read, Write, Acquire, Release, Begin, End, Fork, Join, Exit}
+use Rattle.velo_events.specs.Event.{thread_of, handled_by, lock_of}
+use Rattle.velo_events.specs.Conflict.{conflict}
+use Rattle.velo_certify.specs.declared.table.Table.{Table}
+use Rattle.velo_certify.specs.Table.{IsGreatest, IsNumbered, numbers_before, numbers_from, written_by, read_by, thread_in, handled_in, written_in, read_in, lock_in, is_about, IsRow, AreBlank, Tabulates, sizes, HasPlaces, NamesRows, IsLookedUp, IsNoted, TakesIn}
+use Rattle.velo_certify.proofs.OnGreatest.{IsGreatest-or, IsGreatest-same, IsRow-noted, IsRow-passed, IsRow-none, IsNumbered-before, IsNumbered-from, IsGreatestBefore-by, IsGreatestAfter-by}
+use Rattle.velo_certify.proofs.OnConflicts.{is_near, IsPlain, conflict-read, conflict-write, conflict-acquire, conflict-release, conflict-fork, conflict-join, conflict-plain}
+
+-- a blank table, before there are numbers
+pub Tabulates-none : (trace : List Event) (numbers : ℕ → ℕ) (table : Table) → ((i : ℕ) → i < length trace → numbers i ≡ 0) → AreBlank table → Tabulates trace numbers table
+Tabulates-none trace numbers table none blank = record {
+  threads = IsRow-none trace numbers none thread_in table.threads.items blank.threads;
+  handles = IsRow-none trace numbers none handled_in table.handles.items blank.handles;
+  writes = IsRow-none trace numbers none written_in table.writes.items blank.writes;
+  reads = IsRow-none trace numbers none read_in table.reads.items blank.reads;
+  locks = IsRow-none trace numbers none lock_in table.locks.items blank.locks;
+}
+
+-- ---- what is looked up
+
+-- the number that was read in a row
+IsRow-at : (trace : List Event) (numbers : ℕ → ℕ) (named : Event → Option ℕ) (row : List ℕ) (x a : ℕ) → x < length row → a ≡ get_or row x a → IsRow trace numbers named row → IsGreatest trace numbers (is_about named x) a
+IsRow-at trace numbers named row x a within is w = subst (IsGreatest trace numbers (is_about named x)) (sym (is ∙ get_or_default row x a 0 within)) (w.each x within)
+
+-- the kinds that name nothing to look up
+pub plain_kind : (k : Kind) → ((x : VarId) (v : ℕ) → k ≡ Read x v → ⊥) → ((x : VarId) (v : ℕ) → k ≡ Write x v → ⊥) → ((m : LockId) → k ≡ Acquire m → ⊥) → ((m : LockId) → k ≡ Release m → ⊥) → ((u : ThreadId) → k ≡ Fork u → ⊥) → ((u : ThreadId) → k ≡ Join u → ⊥) → IsPlain k
+plain_kind (Read x v) r w a l f j = absurd (r x v refl)
+plain_kind (Write x v) r w a l f j = absurd (w x v refl)
+plain_kind (Acquire m) r w a l f j = absurd (a m refl)
+plain_kind (Release m) r w a l f j = absurd (l m refl)
+plain_kind (Fork u) r w a l f j = absurd (f u refl)
+plain_kind (Join u) r w a l f j = absurd (j u refl)
+plain_kind (Begin l) r w a b f j = tt
+plain_kind End r w a l f j = tt
+plain_kind Exit r w a l f j = tt
+
+-- a and b are the numbers at the event's thread, and `near` the greater of them
+module _ (table : Table) (e : Event) (names : NamesRows (sizes table) e) (a b near : ℕ) (first : a ≡ get_or table.threads.items (thread_of e) a) (second : b ≡ get_or table.handles.items (thread_of e) b) (both : near ≡ max a b) where
+  IsGreatest-near : (trace : List Event) (numbers : ℕ → ℕ) → Tabulates trace numbers table → IsGreatest trace numbers (is_near e) near
+  IsGreatest-near trace numbers has =
+      subst (IsGreatest trace numbers (is_near e)) (sym both)
+      (IsGreatest-or trace numbers (is_about thread_in (thread_of e)) (is_about handled_in (thread_of e)) a b
+      (IsRow-at trace numbers thread_in table.threads.items (thread_of e) a names.thread first has.threads)
+      (IsRow-at trace numbers handled_in table.handles.items (thread_of e) b names.handle second has.handles))
+
+  -- and with one number more
+  looked_up-with : (test : Event → Bool) (c result : ℕ) → ((f : Event) → (is_near e f || test f) ≡ conflict f e) → result ≡ max near c → ((trace : List Event) (numbers : ℕ → ℕ) → Tabulates trace numbers table → IsGreatest trace numbers test c) → IsLookedUp table e result
+  looked_up-with test c result same is third = record {
+    each = λ trace numbers has.
+        IsGreatest-same trace numbers (λ f. is_near e f || test f) (λ f. conflict f e) result same
+        (subst (IsGreatest trace numbers (λ f. is_near e f || test f)) (sym is) (IsGreatest-or trace numbers (is_near e) test near c (IsGreatest-near trace numbers has) (third trace numbers has)));
+  }
+
+  pub looked_up-plain : IsPlain e.kind → IsLookedUp table e near
+  looked_up-plain plain = record {
+    each = λ trace numbers has. IsGreatest-same trace numbers (is_near e) (λ f. conflict f e) near (λ f. conflict-plain f e plain) (IsGreatest-near trace numbers has);
+  }
+
+  pub looked_up-read : (x : VarId) (v : ℕ) (c result : ℕ) → e.kind ≡ Read x v → c ≡ get_or table.writes.items x.0 c → result ≡ max near c → IsLookedUp table e result
+  looked_up-read x v c result kind there is =
+      let places = subst (HasPlaces (sizes table)) kind names.names in
+      looked_up-with (is_about written_in x.0) c result (λ f. conflict-read f e x.0 v kind) is (λ trace numbers has. IsRow-at trace numbers written_in table.writes.items x.0 c places.0 there has.writes)
+
+  pub looked_up-write : (x : VarId) (v : ℕ) (c some d result : ℕ) → e.kind ≡ Write x v → c ≡ get_or table.writes.items x.0 c → some ≡ max near c → d ≡ get_or table.reads.items x.0 d → result ≡ max some d → IsLookedUp table e result
+  looked_up-write x v c some d result kind there is also all_is = record {
+    each = λ trace numbers has.
+        let places = subst (HasPlaces (sizes table)) kind names.names in
+        let writes = subst (IsGreatest trace numbers (λ f. is_near e f || is_about written_in x.0 f)) (sym is)
+        (IsGreatest-or trace numbers (is_near e) (is_about written_in x.0) near c (IsGreatest-near trace numbers has) (IsRow-at trace numbers written_in table.writes.items x.0 c places.0 there has.writes)) in
+        IsGreatest-same trace numbers (λ f. (is_near e f || is_about written_in x.0 f) || is_about read_in x.0 f) (λ f. conflict f e) result (λ f. conflict-write f e x.0 v kind)
+        (subst (IsGreatest trace numbers (λ f. (is_near e f || is_about written_in x.0 f) || is_about read_in x.0 f)) (sym all_is)
+        (IsGreatest-or trace numbers (λ f. is_near e f || is_about written_in x.0 f) (is_about read_in x.0) some d writes (IsRow-at trace numbers read_in table.reads.items x.0 d places.1 also has.reads)));
+  }
+
+  pub looked_up-lock : (m : LockId) (c result : ℕ) → (e.kind ≡ Acquire m) ⊎ (e.kind ≡ Release m) → c ≡ get_or table.locks.items m.0 c → result ≡ max near c → IsLookedUp table e result
+  looked_up-lock m c result kind there is = ⊎_elim
+      (λ k. let place : m.0 < length table.locks.items = subst (HasPlaces (sizes table)) k names.names in
+      looked_up-with (is_about lock_in m.0) c result (λ f. conflict-acquire f e m.0 k) is (λ trace numbers has. IsRow-at trace numbers lock_in table.locks.items m.0 c place there has.locks))
+      (λ k. let place : m.0 < length table.locks.items = subst (HasPlaces (sizes table)) k names.names in
+      looked_up-with (is_about lock_in m.0) c result (λ f. conflict-release f e m.0 k) is (λ trace numbers has. IsRow-at trace numbers lock_in table.locks.items m.0 c place there has.locks))
+      kind
+
+  pub looked_up-handled : (u : ThreadId) (c result : ℕ) → (e.kind ≡ Fork u) ⊎ (e.kind ≡ Join u) → c ≡ get_or table.threads.items u.0 c → result ≡ max near c → IsLookedUp table e result
+  looked_up-handled u c result kind there is = ⊎_elim
+      (λ k. let places = subst (HasPlaces (sizes table)) k names.names in
+      looked_up-with (is_about thread_in u.0) c result (λ f. conflict-fork f e u.0 k) is (λ trace numbers has. IsRow-at trace numbers thread_in table.threads.items u.0 c places.0 there has.threads))
+      (λ k. let places = subst (HasPlaces (sizes table)) k names.names in
+      looked_up-with (is_about thread_in u.0) c result (λ f. conflict-join f e u.0 k) is (λ trace numbers has. IsRow-at trace numbers thread_in table.threads.items u.0 c places.0 there has.threads))
+      kind
+
+-- ---- one more number
+
+-- the row after an event with this number: it is taken at the thing that the event is about, if there is one
+abbrev pub row_after : List ℕ → Option ℕ → ℕ → List ℕ
+row_after row (Some x) number = set row x (max (get_or row x 0) number)
+row_after row None number = row
+
+-- the thing is in the row
+abbrev IsPlaced : List ℕ → Option ℕ → Type 0
+IsPlaced row (Some x) = x < length row
+IsPlaced row None = ⊤
+
+IsRow-after : (trace : List Event) (n : ℕ) (e : Event) → slice_get trace n ≡ Some e → (before after : ℕ → ℕ) (number : ℕ) → IsNumbered before after n number → (named : Event → Option ℕ) (o : Option ℕ) → named e ≡ o → (row new : List ℕ) → IsPlaced row o → new ≡ row_after row o number → IsRow trace before named row → IsRow trace after named new
+IsRow-after trace n e here before after number step named (Some x) about row new within is w = subst (IsRow trace after named) (sym is) (IsRow-noted trace n e here before after number step named row x about within w)
+IsRow-after trace n e here before after number step named None about row new within is w = subst (IsRow trace after named) (sym is) (IsRow-passed trace n e here before after number step named row about w)
+
+places-handled : (s : Table) (k : Kind) → HasPlaces (sizes s) k → IsPlaced s.handles.items (handled_by k)
+places-handled s (Fork u) h = h.1
+places-handled s (Join u) h = h.1
+places-handled s _ h = tt
+
+places-written : (s : Table) (k : Kind) → HasPlaces (sizes s) k → IsPlaced s.writes.items (written_by k)
+places-written s (Write x v) h = h.0
+places-written s _ h = tt
+
+places-read : (s : Table) (k : Kind) → HasPlaces (sizes s) k → IsPlaced s.reads.items (read_by k)
+places-read s (Read x v) h = h.1
+places-read s _ h = tt
+
+places-lock : (s : Table) (k : Kind) → HasPlaces (sizes s) k → IsPlaced s.locks.items (lock_of k)
+places-lock s (Acquire m) h = h
+places-lock s (Release m) h = h
+places-lock s _ h = tt
+
+-- the rows after an event of this kind
+pub record AreAfter (old : Table) (t : ℕ) (k : Kind) (number : ℕ) (new : Table) : Type 0 where
+  pub threads : new.threads.items ≡ set old.threads.items t (max (get_or old.threads.items t 0) number)
+  pub handles : new.handles.items ≡ row_after old.handles.items (handled_by k) number
+  pub writes : new.writes.items ≡ row_after old.writes.items (written_by k) number
+  pub reads : new.reads.items ≡ row_after old.reads.items (read_by k) number
+  pub locks : new.locks.items ≡ row_after old.locks.items (lock_of k) number
+
+pub IsNoted-after : (old : Table) (e : Event) (number : ℕ) (new : Table) → NamesRows (sizes old) e → (k : Kind) → e.kind ≡ k → AreAfter old (thread_of e) k number new → IsNoted old e number new
+IsNoted-after old e number new names k kind is = record {
+  each = λ trace n before after here step has.
+      let places = subst (HasPlaces (sizes old)) kind names.names in
+      record {
+        threads = IsRow-after trace n e here before after number step thread_in (Some (thread_of e)) refl old.threads.items new.threads.items names.thread is.threads has.threads;
+        handles = IsRow-after trace n e here before after number step handled_in (handled_by k) (ap handled_by kind) old.handles.items new.handles.items (places-handled old k places) is.handles has.handles;
+        writes = IsRow-after trace n e here before after number step written_in (written_by k) (ap written_by kind) old.writes.items new.writes.items (places-written old k places) is.writes has.writes;
+        reads = IsRow-after trace n e here before after number step read_in (read_by k) (ap read_by kind) old.reads.items new.reads.items (places-read old k places) is.reads has.reads;
+        locks = IsRow-after trace n e here before after number step lock_in (lock_of k) (ap lock_of kind) old.locks.items new.locks.items (places-lock old k places) is.locks has.locks;
+      };
+}
+
+-- a plain kind is about its thread alone
+pub AreAfter-plain : (old : Table) (t : ℕ) (k : Kind) (number : ℕ) (new : Table) → IsPlain k → new.threads.items ≡ set old.threads.items t (max (get_or old.threads.items t 0) number) → new.handles.items ≡ old.handles.items → new.writes.items ≡ old.writes.items → new.reads.items ≡ old.reads.items → new.locks.items ≡ old.locks.items → AreAfter old t k number new
+AreAfter-plain old t (Begin l) number new h a b c d f = record { threads = a; handles = b; writes = c; reads = d; locks = f }
+AreAfter-plain old t End number new h a b c d f = record { threads = a; handles = b; writes = c; reads = d; locks = f }
+AreAfter-plain old t Exit number new h a b c d f = record { threads = a; handles = b; writes = c; reads = d; locks = f }
+AreAfter-plain old t _ number new h a b c d f = absurd h
+
+-- ---- both in one
+
+pub TakesIn-by : (trace : List Event) (n : ℕ) (e : Event) (number : ℕ) (old new : Table) (m : ℕ) → slice_get trace n ≡ Some e → IsLookedUp old e m → IsNoted old e number new → TakesIn trace n number old new m
+TakesIn-by trace n e number old new m here looked noted = record {
+  forward = λ numbers is has. (
+    noted.each trace n (numbers_before numbers n) (numbers_before numbers (n + 1)) here (IsNumbered-before numbers n number is) has,
+    IsGreatestBefore-by trace n e here numbers m (looked.each trace (numbers_before numbers n) has),
+  );
+  backward = λ numbers is has. (
+    noted.each trace n (numbers_from numbers (n + 1)) (numbers_from numbers n) here (IsNumbered-from numbers n number is) has,
+    IsGreatestAfter-by trace n e here numbers m (looked.each trace (numbers_from numbers (n + 1)) has),
+  );
+}

@@ -1,0 +1,12 @@
+use Rattle.std.proofs.Common.{◌≡◌, ◌≢◌, ℕ, ◌<◌}
+use Rattle.velo_events.specs.Block.{owner}
+use Rattle.velo_certify.specs.Table.{Tabulates, numbers_before, sizes}
+use Rattle.velo_certify.specs.Nearest.{own_positions, LeadsInto}
+use Rattle.velo_certify.proofs.nearest.has_edge.Given as goal
+
+abbrev pub invariant-loop-at : goal.invariant-loop-at
+invariant-loop-at l = record {
+  sizes : sizes l.table ≡ sizes l.fn.table;
+  tabulates : Tabulates l.events (numbers_before (own_positions l.events l.from) l.at) l.table;
+  none : (i : ℕ) → i < l.at → LeadsInto l.events l.from i → owner l.events i ≢ l.to;
+}

@@ -1,0 +1,12 @@
+use Rattle.std.proofs.Common.{◌≡◌, ◌<◌, length}
+use Rattle.std.specs.Prelude.{IfSome}
+use Rattle.velo_certify.specs.Table.{Tabulates, numbers_before, sizes}
+use Rattle.velo_certify.specs.Nearest.{own_positions, IsNearestSoFar}
+use Rattle.velo_certify.proofs.nearest.nearest_next.Given as goal
+
+abbrev pub invariant-loop-at : goal.invariant-loop-at
+invariant-loop-at l = record {
+  sizes : sizes l.table ≡ sizes l.fn.table;
+  tabulates : Tabulates l.events (numbers_before (own_positions l.events l.from) l.at) l.table;
+  nearest : IsNearestSoFar l.events l.far l.from l.at l.nearest;
+}

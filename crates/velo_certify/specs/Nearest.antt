@@ -1,0 +1,40 @@
+-- The edges out of one transaction, and the nearest one that they lead to.
+use Rattle.std.specs.Prelude.{◌≡◌, ◌≢◌, ℕ, ◌<◌, ◌≤◌, ◌==◌, ◌⊎◌, cond, List, slice_index, Option, Some, None, MatchOption, IfSome, IsTrue}
+use Rattle.velo_events.specs.declared.event.Event.{Event}
+use Rattle.velo_events.specs.Block.{owner}
+use Rattle.velo_events.specs.Graph.{conflict_at, Edge}
+
+-- 1 for the positions of the transaction
+unfoldable pub own_positions : List Event → ℕ → ℕ → ℕ
+own_positions trace a i = cond (owner trace i == a) 1 0
+
+-- an operation of the transaction conflicts with the later one at a position, which is of another transaction
+pub record LeadsInto (trace : List Event) (a n : ℕ) : Type 0 where
+  pub place : ℕ
+  pub before : place < n
+  pub in_conflict : IsTrue (conflict_at trace place n)
+  pub of_place : owner trace place ≡ a
+  pub differ : a ≢ owner trace n
+
+-- of what the transaction has an edge to and has a distance, this is the nearest
+pub record IsNearest (trace : List Event) (far : List ℕ) (a b : ℕ) : Type 0 where
+  pub edge : Edge trace a b
+  pub reached : 0 < slice_index far b
+  pub nearest : (c : ℕ) → Edge trace a c → 0 < slice_index far c → slice_index far b ≤ slice_index far c
+
+-- the same of the edges that lead into positions below n
+pub record IsNearestBelow (trace : List Event) (far : List ℕ) (a n b : ℕ) : Type 0 where
+  pub edge : Edge trace a b
+  pub reached : 0 < slice_index far b
+  pub nearest : (i : ℕ) → i < n → LeadsInto trace a i → 0 < slice_index far (owner trace i) → slice_index far b ≤ slice_index far (owner trace i)
+
+pub record IsNoneBelow (trace : List Event) (far : List ℕ) (a n : ℕ) : Type 0 where
+  pub none : (i : ℕ) → i < n → LeadsInto trace a i → slice_index far (owner trace i) ≡ 0
+
+abbrev pub IsNearestSoFar : List Event → List ℕ → ℕ → ℕ → Option ℕ → Type 0
+IsNearestSoFar trace far a n nearest = MatchOption nearest (IsNoneBelow trace far a n) (IsNearestBelow trace far a n)
+
+-- a transaction without a distance changes nothing; otherwise the answer is as near as both
+pub record IsWithNext (far : List ℕ) (nearest : Option ℕ) (next : ℕ) (result : Option ℕ) : Type 0 where
+  pub without : slice_index far next ≡ 0 → result ≡ nearest
+  pub with_distance : 0 < slice_index far next → (r : ℕ) × (result ≡ Some r) × (slice_index far r ≤ slice_index far next) × IfSome nearest (λ b. slice_index far r ≤ slice_index far b) × ((r ≡ next) ⊎ (nearest ≡ Some r))

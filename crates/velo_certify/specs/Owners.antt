@@ -1,0 +1,26 @@
+-- The transactions of a trace, position by position.
+use Rattle.std.specs.Prelude.{◌≡◌, ℕ, ◌<◌, ◌≤◌, List, length, slice_index, slice_index_or}
+use Rattle.velo_events.specs.declared.event.Event.{Event}
+use Rattle.velo_events.specs.declared.event.Kind.TheVariants.{Read}
+use Rattle.velo_events.specs.Block.{owner}
+use Rattle.velo_events.specs.Scan.{IsScanned}
+use Rattle.velo_certify.specs.declared.owners.Scan.{Scan}
+
+-- the numbers are the first positions of the transactions of the trace's positions
+pub record AreOwners (owners : List ℕ) (trace : List Event) : Type 0 where
+  pub count : length owners ≡ length trace
+  pub each : (i : ℕ) → i < length trace → slice_index owners i ≡ owner trace i
+
+-- the event at a position that is there
+abbrev pub event_at : List Event → ℕ → Event
+event_at trace i = slice_index_or trace i (record { thread = record { 0 = 0 }; kind = Read (record { 0 = 0 }) 0 })
+
+-- nothing is known
+abbrev pub no_scan : Scan
+no_scan = record { depth = 0; first = 0 }
+
+-- each thread number has what is known of its blocks before position n
+pub record AreScanned (trace : List Event) (n : ℕ) (scans : List Scan) : Type 0 where
+  pub count : length scans ≡ 256
+  pub small : (t : ℕ) → t < 256 → (slice_index_or scans t no_scan).depth ≤ n
+  pub scanned : (t : ℕ) → t < 256 → IsScanned trace t n (slice_index_or scans t no_scan).depth (slice_index_or scans t no_scan).first

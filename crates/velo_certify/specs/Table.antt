@@ -1,0 +1,148 @@
+-- Numbers of positions, and the greatest of those whose events pass a test.
+use Rattle.std.specs.Prelude.{◌≡◌, ◌≢◌, ℕ, ◌+◌, ◌<◌, ◌≤◌, Bool, cond, nat_lt, nat_le, List, length, Option, Some, None, ⊤, slice_get, slice_index, IsTrue}
+use Rattle.velo_events.specs.declared.event.Event.{Event}
+use Rattle.velo_events.specs.declared.event.Kind.{Kind}
+use Rattle.velo_events.specs.declared.event.Kind.TheVariants.{Read, Write, Acquire, Release, Fork, Join}
+use Rattle.velo_events.specs.Event.{are_same, thread_of, lock_of, handled_by}
+use Rattle.velo_events.specs.Conflict.{conflict}
+use Rattle.velo_events.specs.Block.{passes_at}
+use Rattle.velo_events.specs.Graph.{conflict_at}
+use Rattle.velo_certify.specs.declared.table.Table.{Table}
+
+-- ---- the greatest number
+
+-- m is the greatest number of a position whose event passes the test, or 0 where none has one
+pub record IsGreatest (trace : List Event) (numbers : ℕ → ℕ) (test : Event → Bool) (m : ℕ) : Type 0 where
+  pub covers : (i : ℕ) → IsTrue (passes_at trace test i) → numbers i ≤ m
+  pub reached : 0 < m → (i : ℕ) × IsTrue (passes_at trace test i) × (numbers i ≡ m)
+
+-- the same of the positions before j whose events conflict with the one there
+pub record IsGreatestBefore (trace : List Event) (numbers : ℕ → ℕ) (j m : ℕ) : Type 0 where
+  pub covers : (i : ℕ) → i < j → IsTrue (conflict_at trace i j) → numbers i ≤ m
+  pub reached : 0 < m → (i : ℕ) × (i < j) × IsTrue (conflict_at trace i j) × (numbers i ≡ m)
+
+-- and of those after it
+pub record IsGreatestAfter (trace : List Event) (numbers : ℕ → ℕ) (j m : ℕ) : Type 0 where
+  pub covers : (i : ℕ) → j < i → IsTrue (conflict_at trace j i) → numbers i ≤ m
+  pub reached : 0 < m → (i : ℕ) × (j < i) × IsTrue (conflict_at trace j i) × (numbers i ≡ m)
+
+-- ---- what the rows are numbered by
+
+abbrev pub written_by : Kind → Option ℕ
+written_by (Write x v) = Some x.0
+written_by _ = None
+
+abbrev pub read_by : Kind → Option ℕ
+read_by (Read x v) = Some x.0
+read_by _ = None
+
+-- its thread, the thread that it forks or joins, the variable that it writes, that it reads, its lock
+abbrev pub thread_in : Event → Option ℕ
+thread_in e = Some (thread_of e)
+
+abbrev pub handled_in : Event → Option ℕ
+handled_in e = handled_by e.kind
+
+abbrev pub written_in : Event → Option ℕ
+written_in e = written_by e.kind
+
+abbrev pub read_in : Event → Option ℕ
+read_in e = read_by e.kind
+
+abbrev pub lock_in : Event → Option ℕ
+lock_in e = lock_of e.kind
+
+-- the event is about the thing with this number
+abbrev pub is_about : (Event → Option ℕ) → ℕ → Event → Bool
+is_about named x e = are_same (named e) (Some x)
+
+-- ---- the rows
+
+-- the row has, for each thing, the greatest number of the events that are about it
+pub record IsRow (trace : List Event) (numbers : ℕ → ℕ) (named : Event → Option ℕ) (row : List ℕ) : Type 0 where
+  pub each : (x : ℕ) → x < length row → IsGreatest trace numbers (is_about named x) (slice_index row x)
+
+pub record IsBlank (row : List ℕ) : Type 0 where
+  pub each : (x : ℕ) → x < length row → slice_index row x ≡ 0
+
+pub record Tabulates (trace : List Event) (numbers : ℕ → ℕ) (table : Table) : Type 0 where
+  pub threads : IsRow trace numbers thread_in table.threads.items
+  pub handles : IsRow trace numbers handled_in table.handles.items
+  pub writes : IsRow trace numbers written_in table.writes.items
+  pub reads : IsRow trace numbers read_in table.reads.items
+  pub locks : IsRow trace numbers lock_in table.locks.items
+
+pub record AreBlank (table : Table) : Type 0 where
+  pub threads : IsBlank table.threads.items
+  pub handles : IsBlank table.handles.items
+  pub writes : IsBlank table.writes.items
+  pub reads : IsBlank table.reads.items
+  pub locks : IsBlank table.locks.items
+
+-- how many things each row has
+pub record Sizes : Type 0 where
+  pub threads : ℕ
+  pub handles : ℕ
+  pub writes : ℕ
+  pub reads : ℕ
+  pub locks : ℕ
+
+abbrev pub sizes : Table → Sizes
+sizes table = record {
+  threads = length table.threads.items;
+  handles = length table.handles.items;
+  writes = length table.writes.items;
+  reads = length table.reads.items;
+  locks = length table.locks.items;
+}
+
+-- the sizes for so many threads, variables and locks
+abbrev pub sizes_of : ℕ → ℕ → ℕ → Sizes
+sizes_of threads variables locks = record { threads = threads; handles = threads; writes = variables; reads = variables; locks = locks }
+
+-- what the operation names is in its rows
+abbrev pub HasPlaces : Sizes → Kind → Type 0
+HasPlaces s (Read x v) = (x.0 < s.writes) × (x.0 < s.reads)
+HasPlaces s (Write x v) = (x.0 < s.writes) × (x.0 < s.reads)
+HasPlaces s (Acquire m) = m.0 < s.locks
+HasPlaces s (Release m) = m.0 < s.locks
+HasPlaces s (Fork u) = (u.0 < s.threads) × (u.0 < s.handles)
+HasPlaces s (Join u) = (u.0 < s.threads) × (u.0 < s.handles)
+HasPlaces s _ = ⊤
+
+-- and so is the event's thread
+pub record NamesRows (s : Sizes) (e : Event) : Type 0 where
+  pub thread : thread_of e < s.threads
+  pub handle : thread_of e < s.handles
+  pub names : HasPlaces s e.kind
+
+-- the same of each of the first n events
+pub record AllNameRows (s : Sizes) (trace : List Event) (n : ℕ) : Type 0 where
+  pub each : (i : ℕ) (e : Event) → i < n → slice_get trace i ≡ Some e → NamesRows s e
+
+-- ---- the calls
+
+-- the number is the greatest of the events that conflict with the given one, of whatever positions the table has the numbers
+pub record IsLookedUp (table : Table) (e : Event) (m : ℕ) : Type 0 where
+  pub each : (trace : List Event) (numbers : ℕ → ℕ) → Tabulates trace numbers table → IsGreatest trace numbers (λ f. conflict f e) m
+
+-- position n, which had no number, has this one now
+pub record IsNumbered (old new : ℕ → ℕ) (n number : ℕ) : Type 0 where
+  pub before : old n ≡ 0
+  pub after : new n ≡ number
+  pub others : (i : ℕ) → i ≢ n → new i ≡ old i
+
+pub record IsNoted (old : Table) (e : Event) (number : ℕ) (new : Table) : Type 0 where
+  pub each : (trace : List Event) (n : ℕ) (before after : ℕ → ℕ) → slice_get trace n ≡ Some e → IsNumbered before after n number → Tabulates trace before old → Tabulates trace after new
+
+-- the numbers of the positions before j, or from j on
+abbrev pub numbers_before : (ℕ → ℕ) → ℕ → ℕ → ℕ
+numbers_before numbers j i = cond (nat_lt i j) (numbers i) 0
+
+abbrev pub numbers_from : (ℕ → ℕ) → ℕ → ℕ → ℕ
+numbers_from numbers j i = cond (nat_le j i) (numbers i) 0
+
+-- the position at hand is taken in after those before it, or after those behind it
+pub record TakesIn (trace : List Event) (at_hand number : ℕ) (old new : Table) (greatest : ℕ) : Type 0 where
+  pub forward : (numbers : ℕ → ℕ) → numbers at_hand ≡ number → Tabulates trace (numbers_before numbers at_hand) old → Tabulates trace (numbers_before numbers (at_hand + 1)) new × IsGreatestBefore trace numbers at_hand greatest
+  pub backward : (numbers : ℕ → ℕ) → numbers at_hand ≡ number → Tabulates trace (numbers_from numbers (at_hand + 1)) old → Tabulates trace (numbers_from numbers at_hand) new × IsGreatestAfter trace numbers at_hand greatest

@@ -1,0 +1,152 @@
+//! A shortest cycle through the transaction of a position, and whether a list is one.
+ghost use Rattle.std.specs.Prelude.{◌≡◌, ◌-◌, ◌<◌, ◌↔◌, length, IfOk, IfErr, OnErr, IsTrue};
+ghost use Rattle.velo_events.specs.Block.{owner};
+ghost use Rattle.velo_events.specs.Certificate.{IsShortestCycleAt};
+ghost use Rattle.velo_events.specs.Refusals.{GrowthRefused};
+ghost use Rattle.velo_certify.specs.Owners.{AreOwners};
+ghost use Rattle.velo_certify.specs.Table.{AllNameRows, sizes};
+ghost use Rattle.velo_certify.specs.Distances.{AreDistances};
+ghost use Rattle.velo_certify.specs.Nearest.{IsNearest};
+ghost use Rattle.velo_certify.specs.Cycle.{IsCycleFault, IsLastFault, IsCycleFrom, IsShortestFrom, IsLinked, next_in};
+
+use crate::CertFault;
+use crate::distances::distances;
+use crate::nearest::{has_edge, nearest_next};
+use crate::owners::{owner_of, owners_of};
+use crate::table::Table;
+use std::alloc::Global;
+use velo_events::growth::reserve;
+use velo_events::{Event, Memory};
+use velo_traces::Trace;
+
+/// Walks from the first transaction of a cycle by way of the second back to the first, each time to the nearest next one.
+fn walk(
+    alloc: Global,
+    events: &[Event],
+    owners: &[usize],
+    table: &mut Table,
+    far: &[usize],
+    start: usize,
+    second: usize,
+) -> Result<Vec<usize>, Memory>
+    requires owners { AreOwners owners.now events.now }
+    requires names { AllNameRows (sizes table.old) events.now (length events.now) }
+    requires far { AreDistances events.now start far.now }
+    requires second { IsNearest events.now far.now start second }
+    ensures cycle { IfOk result (λ cycle. IsShortestFrom events.now start cycle.items) }
+    ensures memory { OnErr result GrowthRefused }
+{
+    let mut cycle = Vec::new(alloc);
+    reserve(&mut cycle, 1)?;
+    cycle.push_reserved(start);
+    let mut present = second;
+    while present != start {
+        reserve(&mut cycle, 1)?;
+        cycle.push_reserved(present);
+        match nearest_next(events, owners, table, far, present) {
+            Some(next) => present = next,
+            None => unreachable!(),
+        }
+    }
+    Ok(cycle)
+}
+
+/// A shortest cycle that begins with the transaction of the last of the events.
+fn last_cycle(alloc: Global, events: &[Event]) -> Result<Vec<usize>, CertFault>
+    requires { 0 < length events.now }
+    ensures cycle { IfOk result (λ cycle. IsShortestFrom events.now (owner events.now (length events.now - 1)) cycle.items) }
+    ensures fault { IfErr result (IsLastFault events.now (owner events.now (length events.now - 1))) }
+{
+    let owners = owners_of(alloc, events)?;
+    let start = owner_of(events, &owners, events.len() - 1);
+    let far = distances(alloc, events, &owners, start)?;
+    let mut table = Table::new(alloc, events)?;
+    match nearest_next(events, &owners, &mut table, &far, start) {
+        Some(second) => Ok(walk(
+            alloc, events, &owners, &mut table, &far, start, second,
+        )?),
+        None => Err(CertFault::NoCycle),
+    }
+}
+
+/// A shortest cycle of the events up to the position that begins with the transaction of the position. Each transaction is
+/// named by its first position; of several shortest cycles the least list is given.
+///
+/// Its time grows with the number of events times the length of the longest of the shortest paths to the transaction.
+pub fn cycle_of(alloc: Global, trace: &Trace, position: usize) -> Result<Vec<usize>, CertFault>
+    ensures cycle { IfOk result (λ cycle. IsShortestCycleAt trace.now.events position cycle.items) }
+    ensures fault { IfErr result (IsCycleFault trace.now.events position) }
+{
+    let events = trace.as_slice();
+    if position >= events.len() {
+        return Err(CertFault::NotThere);
+    }
+    last_cycle(alloc, &events[..position + 1])
+}
+
+/// What comes next in a list, where its first comes after its last.
+fn next_in(cycle: &[usize], k: usize) -> usize
+    requires { k < length cycle.now }
+    ensures { result ≡ next_in cycle.now k }
+{
+    if k + 1 < cycle.len() {
+        cycle[k + 1]
+    } else {
+        cycle[0]
+    }
+}
+
+/// Whether each transaction of the list has an edge to what comes next.
+fn is_linked(events: &[Event], owners: &[usize], table: &mut Table, cycle: &[usize]) -> bool
+    requires owners { AreOwners owners.now events.now }
+    requires names { AllNameRows (sizes table.old) events.now (length events.now) }
+    ensures yes { IsTrue result → IsLinked events.now cycle.now (length cycle.now) }
+    ensures no { IsLinked events.now cycle.now (length cycle.now) → IsTrue result }
+{
+    for k in 0..cycle.len() {
+        if !has_edge(events, owners, table, cycle[k], next_in(cycle, k)) {
+            return false;
+        }
+    }
+    true
+}
+
+/// Whether the list is a cycle that begins with the transaction of the last of the events.
+fn is_last_cycle(alloc: Global, events: &[Event], cycle: &[usize]) -> Result<bool, Memory>
+    requires { 0 < length events.now }
+    ensures cycle { IfOk result (λ yes. IsTrue yes ↔ IsCycleFrom events.now (owner events.now (length events.now - 1)) cycle.now) }
+    ensures memory { OnErr result GrowthRefused }
+{
+    if cycle.len() < 2 {
+        return Ok(false);
+    }
+    let owners = owners_of(alloc, events)?;
+    if cycle[0] != owner_of(events, &owners, events.len() - 1) {
+        return Ok(false);
+    }
+    let mut table = Table::new(alloc, events)?;
+    Ok(is_linked(events, &owners, &mut table, cycle))
+}
+
+/// Whether the list is a cycle of the events up to the position that begins with the transaction of the position and is no
+/// longer than any other such cycle. It trusts nobody: any list and any position may be given.
+pub fn check_cycle(
+    alloc: Global,
+    trace: &Trace,
+    position: usize,
+    cycle: &[usize],
+) -> Result<bool, Memory>
+    ensures shortest { IfOk result (λ yes. IsTrue yes ↔ IsShortestCycleAt trace.now.events position cycle.now) }
+    ensures memory { OnErr result GrowthRefused }
+{
+    let shortest = match cycle_of(alloc, trace, position) {
+        Ok(shortest) => shortest.len(),
+        Err(CertFault::Memory) => return Err(Memory),
+        Err(_) => return Ok(false),
+    };
+    if cycle.len() != shortest {
+        return Ok(false);
+    }
+    let events = trace.as_slice();
+    is_last_cycle(alloc, &events[..position + 1], cycle)
+}

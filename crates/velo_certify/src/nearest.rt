@@ -1,0 +1,112 @@
+//! The edges out of one transaction.
+ghost use Rattle.std.specs.Prelude.{◌≡◌, ◌≤◌, ◌<◌, ◌+◌, ◌↔◌, ◌⊎◌, ℕ, length, slice_index, IfSome, MatchOption, IsTrue};
+ghost use Rattle.velo_events.specs.Graph.{Edge};
+ghost use Rattle.velo_certify.specs.Owners.{AreOwners};
+ghost use Rattle.velo_certify.specs.Table.{Tabulates, numbers_before, AllNameRows, sizes};
+ghost use Rattle.velo_certify.specs.Nearest.{own_positions, LeadsInto, IsWithNext, IsNearest};
+
+use crate::owners::owner_of;
+use crate::table::Table;
+use velo_events::Event;
+
+/// Takes in the event at a position, where those before it were taken in. Whether it makes an edge from the transaction to
+/// its own.
+fn makes_edge(
+    events: &[Event],
+    owners: &[usize],
+    table: &mut Table,
+    from: usize,
+    at: usize,
+) -> bool
+    requires within { at < length events.now }
+    requires owners { AreOwners owners.now events.now }
+    requires names { AllNameRows (sizes table.old) events.now (length events.now) }
+    requires tabulates { Tabulates events.now (numbers_before (own_positions events.now from) at) table.old }
+    ensures names { sizes table.new ≡ sizes table.old }
+    ensures tabulates { Tabulates events.now (numbers_before (own_positions events.now from) (at + 1)) table.new }
+    ensures edge { IsTrue result ↔ LeadsInto events.now from at }
+{
+    let transaction = owner_of(events, owners, at);
+    let number = if transaction == from { 1 } else { 0 };
+    let found = table.take_in(events, at, number);
+    found > 0 && transaction != from
+}
+
+/// Whether an edge leads from one transaction to the other.
+pub(crate) fn has_edge(
+    events: &[Event],
+    owners: &[usize],
+    table: &mut Table,
+    from: usize,
+    to: usize,
+) -> bool
+    requires owners { AreOwners owners.now events.now }
+    requires names { AllNameRows (sizes table.old) events.now (length events.now) }
+    ensures names { sizes table.new ≡ sizes table.old }
+    ensures yes { IsTrue result → Edge events.now from to }
+    ensures no { Edge events.now from to → IsTrue result }
+{
+    table.clear();
+    for at in 0..events.len() {
+        if makes_edge(events, owners, table, from, at) && owner_of(events, owners, at) == to {
+            return true;
+        }
+    }
+    false
+}
+
+/// The nearer of two transactions; of two at one distance the one with the lower number.
+fn nearer(far: &[usize], a: usize, b: usize) -> usize
+    requires first { a < length far.now }
+    requires second { b < length far.now }
+    ensures first { slice_index far.now result ≤ slice_index far.now a }
+    ensures second { slice_index far.now result ≤ slice_index far.now b }
+    ensures either { (result ≡ a) ⊎ (result ≡ b) }
+{
+    if far[a] < far[b] {
+        return a;
+    }
+    if far[b] < far[a] {
+        return b;
+    }
+    a.min(b)
+}
+
+/// The nearest so far, with one more transaction, which may have no distance.
+fn with_next(far: &[usize], nearest: Option<usize>, next: usize) -> Option<usize>
+    requires nearest { IfSome nearest (λ b. b < length far.now) }
+    requires next { next < length far.now }
+    ensures { IsWithNext far.now nearest next result }
+{
+    if far[next] == 0 {
+        return nearest;
+    }
+    match nearest {
+        Some(b) => Some(nearer(far, b, next)),
+        None => Some(next),
+    }
+}
+
+/// Of the transactions to which an edge leads the nearest one.
+pub(crate) fn nearest_next(
+    events: &[Event],
+    owners: &[usize],
+    table: &mut Table,
+    far: &[usize],
+    from: usize,
+) -> Option<usize>
+    requires owners { AreOwners owners.now events.now }
+    requires names { AllNameRows (sizes table.old) events.now (length events.now) }
+    requires count { length far.now ≡ length events.now }
+    ensures names { sizes table.new ≡ sizes table.old }
+    ensures nearest { MatchOption result ((b : ℕ) → Edge events.now from b → slice_index far.now b ≡ 0) (IsNearest events.now far.now from) }
+{
+    table.clear();
+    let mut nearest = None;
+    for at in 0..events.len() {
+        if makes_edge(events, owners, table, from, at) {
+            nearest = with_next(far, nearest, owner_of(events, owners, at));
+        }
+    }
+    nearest
+}

@@ -1,0 +1,90 @@
+//! The transactions of all positions of a trace, found in one pass.
+ghost use Rattle.std.specs.Prelude.{◌≡◌, ◌≤◌, ◌<◌, ◌+◌, ◌++◌, ◌∷◌, [], length, IfOk, OnErr};
+ghost use Rattle.velo_events.specs.Block.{owner};
+ghost use Rattle.velo_events.specs.Refusals.{GrowthRefused};
+ghost use Rattle.velo_events.specs.Scan.{IsScanned};
+ghost use Rattle.velo_certify.specs.Owners.{AreOwners, AreScanned, event_at};
+
+use std::alloc::Global;
+use velo_events::growth::{filled, with_capacity};
+use velo_events::{Event, Kind, Memory};
+
+/// How many numbers a thread can have.
+const THREAD_NUMBERS: usize = 256;
+
+/// What is known of a thread's open blocks before some position of a trace.
+#[derive(Clone, Copy)]
+pub(crate) struct Scan {
+    /// How many are open.
+    depth: usize,
+    /// Where the outermost begins, if one is open.
+    first: usize,
+}
+
+/// Takes the event at a position in, which is of the scanned thread.
+fn advance(events: &[Event], at: usize, scan: Scan) -> Scan
+    requires within { at < length events.now }
+    requires small { scan.depth ≤ at }
+    requires scanned { IsScanned events.now (event_at events.now at).thread.0 at scan.depth scan.first }
+    ensures small { result.depth ≤ at + 1 }
+    ensures scanned { IsScanned events.now (event_at events.now at).thread.0 (at + 1) result.depth result.first }
+{
+    match events[at].kind {
+        Kind::Begin(_) => {
+            if scan.depth == 0 {
+                Scan {
+                    depth: 1,
+                    first: at,
+                }
+            } else {
+                Scan {
+                    depth: scan.depth + 1,
+                    ..scan
+                }
+            }
+        }
+        Kind::End => Scan {
+            depth: scan.depth.saturating_sub(1),
+            ..scan
+        },
+        _ => scan,
+    }
+}
+
+/// The transaction of a position, after which its thread is scanned one event further.
+fn next_owner(events: &[Event], at: usize, scans: &mut [Scan]) -> usize
+    requires within { at < length events.now }
+    requires scanned { AreScanned events.now at scans.old }
+    ensures owner { result ≡ owner events.now at }
+    ensures scanned { AreScanned events.now (at + 1) scans.new }
+{
+    let thread = events[at].thread.0 as usize;
+    let scan = scans[thread];
+    scans[thread] = advance(events, at, scan);
+    if scan.depth > 0 { scan.first } else { at }
+}
+
+/// The first positions of the transactions of all positions.
+pub(crate) fn owners_of(alloc: Global, events: &[Event]) -> Result<Vec<usize>, Memory>
+    ensures owners { IfOk result (λ owners. AreOwners owners.items events.now) }
+    ensures memory { OnErr result GrowthRefused }
+{
+    let mut owners = with_capacity(alloc, events.len())?;
+    let blank = Scan { depth: 0, first: 0 };
+    let mut scans = filled(alloc, blank, THREAD_NUMBERS)?;
+    for at in 0..events.len() {
+        owners.push_reserved(next_owner(events, at, &mut scans));
+    }
+    Ok(owners)
+}
+
+/// The transaction of a position.
+pub(crate) fn owner_of(events: &[Event], owners: &[usize], at: usize) -> usize
+    requires within { at < length events.now }
+    requires owners { AreOwners owners.now events.now }
+    ensures owner { result ≡ owner events.now at }
+    ensures small { result < length events.now }
+    ensures earlier { result ≤ at }
+{
+    owners[at]
+}

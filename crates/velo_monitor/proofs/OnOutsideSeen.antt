@@ -1,0 +1,182 @@
+-- What the monitor is after an outermost begin, and after an event outside blocks. Neither closes a cycle.
+use Rattle.std.proofs.Common.{◌≡◌, ◌≢◌, ℕ, ◌+◌, ◌-◌, ◌<◌, ◌≤◌, Bool, true, false, List, [], ◌∷◌, ◌++◌, length, Option, Some, None, refl, sym, ap, ◌∙◌, subst, ⊎_elim, inl, inr, arith}
+use Rattle.std.specs.Prelude.{◌⊎◌, IsTrue, IsFalse, IsSomeAnd, Contains}
+use Rattle.std.proofs.lemmas.Bool.{cases_Bool, both_ways, false≢true}
+use Rattle.velo_events.specs.declared.config.Bounds.{Bounds}
+use Rattle.velo_events.specs.declared.event.Event.{Event}
+use Rattle.velo_events.specs.declared.event.Label.{Label}
+use Rattle.velo_events.specs.declared.event.Kind.{Kind}
+use Rattle.velo_events.specs.declared.event.Kind.TheVariants.{Begin}
+use Rattle.velo_events.specs.Event.{thread_of, is_begin, is_end}
+use Rattle.velo_events.specs.Heap.{depth_in}
+use Rattle.velo_events.specs.WellFormed.{MayFollow}
+use Rattle.velo_events.specs.Graph.{HasCycle}
+use Rattle.velo_events.specs.Collection.{IsLive, IsCovered}
+use Rattle.velo_events.specs.Merge.{GetsNone, GoesInto, GetsNew}
+use Rattle.velo_events.proofs.OnGraphs.{newest}
+use Rattle.velo_events.proofs.OnReaching.{HasCycle-push_alone}
+use Rattle.velo_arena.specs.declared.step.Step.{Step}
+use Rattle.velo_arena.specs.Slots.{Slots, node_in, bears, is_finished_in}
+use Rattle.velo_arena.proofs.OnSlots.{node_of_stamp}
+use Rattle.velo_graph.specs.Nodes.{Nodes, is_ancestor}
+use Rattle.velo_merge.specs.Named.{Bears, live_stamps, HasFinished, IsAncestor}
+use Rattle.velo_merge.proofs.OnStamps.{step_of_stamp, stamp_of_step}
+use Rattle.velo_tables.specs.Kept.{steps_looked_up, IsRecorded}
+use Rattle.velo_monitor.specs.Watched.{Watched, IsEntryFor, IsAccountedIn, AreDepths, IsMonitorOf}
+use Rattle.velo_monitor.specs.Steps.{live_slots}
+use Rattle.velo_monitor.specs.Changed.{BeginsBlock, GetsNoNode, GoesIntoNode, GetsOwnNode, Operates}
+use Rattle.velo_monitor.proofs.OnNodes.{one_slot}
+use Rattle.velo_monitor.proofs.OnLooks.{Names}
+use Rattle.velo_monitor.proofs.OnCurrent.{outside-depth, fresh-opens}
+use Rattle.velo_monitor.proofs.OnOpening.{HasFresh}
+use Rattle.velo_monitor.proofs.OnNaming.{names-at, step-borne, flags-opens, are-named-opened}
+use Rattle.velo_monitor.proofs.OnBegin.{stands-begun}
+use Rattle.velo_monitor.proofs.OnOutside.{stands-outside}
+use Rattle.velo_monitor.proofs.OnMerging.{none-dead, merged-covered}
+use Rattle.velo_monitor.proofs.OnPlaced.{stands-placed}
+use Rattle.velo_monitor.proofs.OnEnding.{Finishes, finishes}
+use Rattle.velo_monitor.proofs.OnCounts.{end-deep, depths-same, depths-begun}
+
+-- what is no begin is none
+pub not-begin : (k : Kind) → ((l : Label) → k ≡ Begin l → ⊥) → IsFalse (is_begin k)
+not-begin (Begin l) none = absurd (none l refl)
+not-begin _ none = refl
+
+module _ (bounds : Bounds) (w : Watched) (trace : List Event) (e : Event) (stands : IsMonitorOf bounds w trace) (follows : MayFollow bounds trace e) (shallow : depth_in trace (thread_of e) ≡ 0) where
+  outer : newest trace e ≡ length trace
+  outer = outside-depth bounds trace e stands.well_formed shallow
+
+  pub no-cycle : ¬ HasCycle (trace ++ e ∷ [])
+  no-cycle cycle = stands.acyclic (HasCycle-push_alone trace e outer cycle)
+
+  pub stands-begins : (new : Watched) (position : ℕ) → position ≡ length trace → IsTrue (is_begin e.kind) → BeginsBlock w position e new → IsMonitorOf bounds new (trace ++ e ∷ [])
+  stands-begins new position at begun begins =
+      let by = subst (λ p. BeginsBlock w p e new) at begins in
+      let fresh : HasFresh w.nodes by.opened.mid by.own.slot (length trace) = fresh-opens w.nodes by.opened.mid by.own.slot (length trace) by.opened.opens by.opened.rows by.opened.alone in
+      stands-begun bounds w trace e stands follows outer begun by.opened.mid new (live_slots by.opened.mid (steps_looked_up w.kept e)) by.own.slot by.own (are-named-opened bounds w trace e stands by.opened.mid by.own.slot fresh) fresh
+      (flags-opens w.nodes by.opened.mid by.own.slot (length trace) by.opened.opens) by.opened.adds by.opened.sound refl by.opened.stamped by.recorded by.threads
+      (subst (λ (d : List ℕ). AreDepths bounds d (trace ++ e ∷ [])) (sym by.depths) (depths-begun bounds trace e stands.well_formed follows w.depths stands.depths begun))
+
+  module _ (no_begin : IsFalse (is_begin e.kind)) where
+    -- an event outside blocks ends none
+    no_end : IsFalse (is_end e.kind)
+    no_end = ⊎_elim (λ (ended : is_end e.kind ≡ true). absurd (omega (arith, shallow, end-deep bounds trace e stands.well_formed follows ended))) (λ (not : is_end e.kind ≡ false). not) (cases_Bool (is_end e.kind))
+
+    depths-are : AreDepths bounds w.depths (trace ++ e ∷ [])
+    depths-are = depths-same bounds trace e stands.well_formed follows w.depths stands.depths no_begin no_end
+
+    abbrev steps : List Step
+    steps = steps_looked_up w.kept e
+
+    stamp-named : (k b : ℕ) → Names w.nodes w.kept e k b → Contains (live_stamps w.nodes steps) b
+    stamp-named k b names = subst (Contains (live_stamps w.nodes steps)) names.stamp (stamp_of_step w.nodes steps names.step names.among (step-borne w e k b names))
+
+    module _ (new : Watched) (step : Option Step) (recorded : IsRecorded w.kept e step new.kept) (threads : length new.kept.threads ≡ length w.kept.threads) (depths : new.depths ≡ w.depths) where
+      depths-new : AreDepths bounds new.depths (trace ++ e ∷ [])
+      depths-new = subst (λ (d : List ℕ). AreDepths bounds d (trace ++ e ∷ [])) (sym depths) depths-are
+
+      -- without a live predecessor it gets no node
+      nowhere : GetsNone (live_stamps w.nodes steps) → step ≡ None → new.nodes ≡ w.nodes → IsMonitorOf bounds new (trace ++ e ∷ [])
+      nowhere none is same =
+          let dead = none-dead bounds w trace e stands follows outer no_begin (λ k b names. nothing (live_stamps w.nodes steps) b none (stamp-named k b names)) in
+          stands-outside bounds w trace e stands follows outer no_begin new step same recorded threads
+          (subst (λ o. IsEntryFor w.nodes (trace ++ e ∷ []) o (newest trace e)) (sym is) (subst (λ a. ¬ IsLive (trace ++ e ∷ []) a) (sym outer) dead))
+          (λ s h. absurd (none_some s (sym is ∙ h)))
+          (inr (inr dead)) depths-new
+        where
+          nothing : (xs : List ℕ) (b : ℕ) → xs ≡ [] → Contains xs b → ⊥
+          nothing xs b none among = let l = subst (λ (ys : List ℕ). Contains ys b) none among in omega (arith, l.1)
+
+          none_some : (s : Step) → None ≡ Some s → ⊥
+          none_some s h = cc
+
+      -- it goes into a node that has finished
+      module _ (goes : GoesIntoNode w.nodes steps step new.nodes) where
+        abbrev c : ℕ
+        c = goes.into.slot
+
+        abbrev n : ℕ
+        n = goes.into.stamp
+
+        same_some : (a b : Step) → Some a ≡ Some b → a ≡ b
+        same_some a b h = cc
+
+        given : IsSomeAnd w.nodes.slots.newest (λ newest. n ≤ newest)
+        given =
+            let node = node_of_stamp (node_in w.nodes.slots c) n goes.borne in
+            subst (λ x. IsSomeAnd w.nodes.slots.newest (λ z. x ≤ z)) node.2 (stands.sound.own_stamps.up_to_newest c node.0 node.1)
+
+        one : (j k a : ℕ) → Bears w.nodes j a → Bears w.nodes k a → j ≡ k
+        one j k a first second = one_slot w.nodes j k a stands.sound.own_stamps first second
+
+        named : Names w.nodes w.kept e c n
+        named =
+            let s = step_of_stamp w.nodes steps n goes.goes.takes_all.among in
+            let borne : Bears w.nodes s.0.slot n = subst (Bears w.nodes s.0.slot) s.2 s.1.borne in
+            record { step = s.0; among = s.1.among; slot = one s.0.slot c n borne goes.borne; stamp = s.2; borne = goes.borne }
+
+        finished : IsTrue (is_finished_in w.nodes.slots c)
+        finished = let done = goes.goes.takes_all.is_finished in ap (is_finished_in w.nodes.slots) (one c done.slot n goes.borne done.borne) ∙ done.finished
+
+        others : (m d : ℕ) → Names w.nodes w.kept e m d → m ≢ c → IsTrue (is_ancestor w.nodes m c)
+        others m d names apart =
+            let before = goes.goes.takes_all.others d (stamp-named m d names) (λ (same : d ≡ n). apart (one m c n (subst (Bears w.nodes m) same names.borne) goes.borne)) in
+            ap (λ k. is_ancestor w.nodes k c) (one m before.of d names.borne before.borne_of) ∙ ap (is_ancestor w.nodes before.of) (one c before.at n goes.borne before.borne_at) ∙ before.before
+
+        covered : IsCovered (trace ++ e ∷ []) (length trace) n
+        covered = merged-covered bounds w trace e stands follows outer no_begin c n named finished others
+
+        into : IsMonitorOf bounds new (trace ++ e ∷ [])
+        into =
+            stands-outside bounds w trace e stands follows outer no_begin new step goes.same recorded threads
+            (subst (λ o. IsEntryFor w.nodes (trace ++ e ∷ []) o (newest trace e)) (sym goes.is)
+            (record { alive = λ borne. inr (subst (λ a. IsCovered (trace ++ e ∷ []) a n) (sym outer) covered); dead = λ gone. absurd (both_ways (bears w.nodes.slots c n) gone goes.borne) }))
+            (λ s h. subst (λ (z : Step). IsSomeAnd w.nodes.slots.newest (λ newest. z.stamp ≤ newest)) (same_some goes.into s (sym goes.is ∙ h)) given)
+            (inr (inl (c, n, goes.borne, covered))) depths-new
+
+      -- it gets a node of its own
+      module _ (gets : GetsOwnNode w.nodes steps (length trace) step new.nodes) where
+        abbrev own_slot : ℕ
+        own_slot = gets.own.slot
+
+        abbrev mid : Nodes
+        mid = gets.placed.opens.mid
+
+        abbrev opened : Nodes
+        opened = gets.placed.opened
+
+        fresh : HasFresh w.nodes mid own_slot (length trace)
+        fresh = fresh-opens w.nodes mid own_slot (length trace) gets.placed.opens.opens gets.placed.opens.rows gets.placed.opens.alone
+
+        some : (k b : ℕ) × Names w.nodes w.kept e k b
+        some = first (live_stamps w.nodes steps) gets.gets.some (λ b among. named b among)
+          where
+            named : (b : ℕ) → Contains (live_stamps w.nodes steps) b → (k b : ℕ) × Names w.nodes w.kept e k b
+            named b among = let s = step_of_stamp w.nodes steps b among in (s.0.slot, s.0.stamp, names-at w e s.0.slot s.0 s.1.among s.1.borne refl)
+
+            first : (xs : List ℕ) → xs ≢ [] → ((b : ℕ) → Contains xs b → (k b : ℕ) × Names w.nodes w.kept e k b) → (k b : ℕ) × Names w.nodes w.kept e k b
+            first [] not_none from = absurd (not_none refl)
+            first (x ∷ xs) not_none from = from x (0, omega arith, refl)
+
+        done : Finishes opened new.nodes own_slot (length trace)
+        done =
+            subst (λ s. Finishes opened new.nodes own_slot s) gets.placed.opens.stamped
+            (finishes opened new.nodes own_slot gets.own.stamp (subst (λ z. Bears opened own_slot z) (sym gets.placed.opens.stamped) (ap (λ (s : Slots). bears s own_slot (length trace)) gets.placed.opens.adds.slots ∙ fresh.fresh)) gets.placed.marks.slots gets.placed.marks.ancestors)
+
+        own-node : IsMonitorOf bounds new (trace ++ e ∷ [])
+        own-node =
+            stands-placed bounds w trace e stands follows outer no_begin mid opened new (live_slots mid steps) own_slot gets.own some (are-named-opened bounds w trace e stands mid own_slot fresh) fresh
+            (flags-opens w.nodes mid own_slot (length trace) gets.placed.opens.opens) gets.placed.opens.adds done gets.placed.marks.sound refl gets.placed.opens.stamped
+            (subst (λ o. IsRecorded w.kept e o new.kept) gets.is recorded) threads depths-new
+
+    pub stands-operates : (new : Watched) (position : ℕ) → position ≡ length trace → Operates w position e new → IsMonitorOf bounds new (trace ++ e ∷ [])
+    stands-operates new position at operates =
+        let by = subst (λ p. Operates w p e new) at operates in
+        ⊎_elim
+        (λ (none : GetsNoNode w.nodes steps by.step new.nodes). nowhere new by.step by.recorded by.threads by.depths none.0 none.1 none.2)
+        (λ (others : GoesIntoNode w.nodes steps by.step new.nodes ⊎ GetsOwnNode w.nodes steps (length trace) by.step new.nodes).
+        ⊎_elim
+        (λ (goes : GoesIntoNode w.nodes steps by.step new.nodes). into new by.step by.recorded by.threads by.depths goes)
+        (λ (gets : GetsOwnNode w.nodes steps (length trace) by.step new.nodes). own-node new by.step by.recorded by.threads by.depths gets)
+        others)
+        by.placed

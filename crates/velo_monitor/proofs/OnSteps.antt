@@ -1,0 +1,133 @@
+-- The slots of the nodes that steps name, one step after another.
+use Rattle.std.proofs.Common.{◌≡◌, ◌≢◌, ℕ, ◌+◌, ◌<◌, ◌≤◌, Bool, true, false, cond, eqb, not, ◌&&◌, ◌||◌, List, [], ◌∷◌, ◌++◌, length, get_or, take, Option, Some, None, refl, sym, ap, ◌∙◌, subst, ⊎_elim, inl, inr, arith}
+use Rattle.std.specs.Prelude.{IsTrue, IsFalse, Contains, ◌⊎◌, ◌↔◌, filter_map}
+use Rattle.std.specs.List.{cons_option}
+use Rattle.std.proofs.lemmas.Bool.{cases_Bool, cases_eq, both_ways, false_from_ne_true}
+use Rattle.std.proofs.lemmas.List.{take_more, take_all, take-append-drop, get_or_default, append-nil}
+use Rattle.std.proofs.lemmas.List.Elements.{Contains-push, Contains-push_cases, Contains-append_left, filter_map-append}
+use Rattle.velo_arena.specs.declared.step.Step.{Step}
+use Rattle.velo_arena.specs.Slots.{Slots, bears, is_used, node_in}
+use Rattle.velo_arena.proofs.OnSlots.{node_of_stamp, used_from_node}
+use Rattle.velo_graph.specs.declared.graph.Edge.{Edge}
+use Rattle.velo_graph.specs.declared.graph.Edge.TheVariants.{Same, Known, Added, Closes}
+use Rattle.velo_graph.specs.Nodes.{Nodes, is_ancestor, reaches, IsSound, AddsEdge, AddsEdges}
+use Rattle.velo_graph.proofs.OnEdges.{adds-none, adds-more, adds-same, adds-known, target_reaches}
+use Rattle.velo_tables.proofs.OnSteps.{filter_map-contains, filter_map-from}
+use Rattle.velo_merge.specs.Named.{Bears}
+use Rattle.velo_monitor.specs.Steps.{live_slot, live_slots, ReachesSome}
+
+-- a node that is named is in use
+pub borne-used : (slots : Slots) (k a : ℕ) → IsTrue (bears slots k a) → IsTrue (is_used slots k)
+borne-used slots k a borne = let n = node_of_stamp (node_in slots k) a borne in used_from_node (node_in slots k) n.0 n.1
+
+-- what a step resolves to
+pub resolved_to : (b : Bool) (slot from : ℕ) → Some from ≡ cond b (Some slot) None → (b ≡ true) × (slot ≡ from)
+resolved_to true slot from h = (refl, cc)
+resolved_to false slot from h = absurd (cc)
+
+pub resolved_none : (b : Bool) (slot : ℕ) → None ≡ cond b (Some slot) None → b ≡ false
+resolved_none true slot h = absurd (cc)
+resolved_none false slot h = refl
+
+-- ---- the slots in the list
+
+pub in_live_slots : (nodes : Nodes) (steps : List Step) (k : ℕ) → Contains (live_slots nodes steps) k → (step : Step) × Contains steps step × Bears nodes step.slot step.stamp × (step.slot ≡ k)
+unfolding live_slots
+in_live_slots nodes steps k among =
+    let s = filter_map-from (live_slot nodes) steps k among in
+    let at = resolved_to (bears nodes.slots s.0.slot s.0.stamp) s.0.slot k (sym s.2) in
+    (s.0, s.1, at.0, at.1)
+
+pub of_live_slot : (nodes : Nodes) (steps : List Step) (step : Step) → Contains steps step → Bears nodes step.slot step.stamp → Contains (live_slots nodes steps) step.slot
+unfolding live_slots
+of_live_slot nodes steps step among borne =
+    filter_map-contains (live_slot nodes) steps step step.slot among (ap (λ b. cond b (Some step.slot) None) borne)
+
+-- ---- the first steps, one more at a time
+
+slots-more : (nodes : Nodes) (steps : List Step) (i : ℕ) (x d : Step) → i < length steps → x ≡ get_or steps i d → live_slots nodes (take (i + 1) steps) ≡ live_slots nodes (take i steps) ++ cons_option (live_slot nodes x) []
+unfolding live_slots
+slots-more nodes steps i x d inside is =
+    ap (λ (xs : List Step). filter_map (live_slot nodes) xs) (take_more steps i d inside)
+    ∙ filter_map-append (live_slot nodes) (take i steps) (get_or steps i d ∷ [])
+    ∙ ap (λ (z : Step). filter_map (live_slot nodes) (take i steps) ++ cons_option (live_slot nodes z) []) (sym is)
+
+slots-live : (nodes : Nodes) (steps : List Step) (i : ℕ) (x d : Step) → i < length steps → x ≡ get_or steps i d → Bears nodes x.slot x.stamp → live_slots nodes (take (i + 1) steps) ≡ live_slots nodes (take i steps) ++ x.slot ∷ []
+slots-live nodes steps i x d inside is borne =
+    slots-more nodes steps i x d inside is ∙ ap (λ b. live_slots nodes (take i steps) ++ cons_option (cond b (Some x.slot) None) []) borne
+
+slots-dead : (nodes : Nodes) (steps : List Step) (i : ℕ) (x d : Step) → i < length steps → x ≡ get_or steps i d → bears nodes.slots x.slot x.stamp ≡ false → live_slots nodes (take (i + 1) steps) ≡ live_slots nodes (take i steps)
+slots-dead nodes steps i x d inside is gone =
+    slots-more nodes steps i x d inside is
+    ∙ ap (λ b. live_slots nodes (take i steps) ++ cons_option (cond b (Some x.slot) None) []) gone
+    ∙ append-nil (live_slots nodes (take i steps))
+
+-- ---- whether the slot reaches one of them
+
+pub reaches-none : (nodes : Nodes) (slot : ℕ) (steps : List Step) → ¬ ReachesSome nodes slot (take 0 steps)
+reaches-none nodes slot steps some = absurd (omega (arith, some.among.1))
+
+pub reaches-next : (nodes : Nodes) (slot : ℕ) (steps : List Step) (i : ℕ) (x d : Step) → i < length steps → x ≡ get_or steps i d → (Bears nodes x.slot x.stamp → x.slot ≢ slot → IsTrue (reaches nodes slot x.slot) → ⊥) → ¬ ReachesSome nodes slot (take i steps) → ¬ ReachesSome nodes slot (take (i + 1) steps)
+reaches-next nodes slot steps i x d inside is not_this before some =
+    ⊎_elim
+    (λ (earlier : Contains (take i steps) some.step). before (record { step = some.step; among = earlier; borne = some.borne; other = some.other; reached = some.reached }))
+    (λ (here : get_or steps i d ≡ some.step).
+    let same : x ≡ some.step = is ∙ here in
+    not_this (subst (λ (s : Step). Bears nodes s.slot s.stamp) (sym same) some.borne) (λ (at : x.slot ≡ slot). some.other (ap (λ (s : Step). s.slot) (sym same) ∙ at)) (subst (λ (s : Step). IsTrue (reaches nodes slot s.slot)) (sym same) some.reached))
+    (Contains-push_cases (take i steps) (get_or steps i d) some.step (subst (λ (xs : List Step). Contains xs some.step) (take_more steps i d inside) some.among))
+
+pub reaches-all : (nodes : Nodes) (slot : ℕ) (steps : List Step) (i : ℕ) → length steps ≤ i → ¬ ReachesSome nodes slot (take i steps) → ¬ ReachesSome nodes slot steps
+reaches-all nodes slot steps i all before some = before (subst (λ (xs : List Step). ReachesSome nodes slot xs) (sym (take_all i steps all)) some)
+
+pub reaches-this : (nodes : Nodes) (slot : ℕ) (steps : List Step) (i : ℕ) (x d : Step) → i < length steps → x ≡ get_or steps i d → Bears nodes x.slot x.stamp → x.slot ≢ slot → IsTrue (reaches nodes slot x.slot) → ReachesSome nodes slot steps
+reaches-this nodes slot steps i x d inside is borne other reached = record { step = x; among = (i, inside, get_or_default steps i x d inside ∙ sym is); borne = borne; other = other; reached = reached }
+
+-- ---- the edges, one more at a time
+
+pub record AddsFirst (old now : Nodes) (steps : List Step) (i to : ℕ) : Type 0 where
+  pub adds : AddsEdges old now (live_slots old (take i steps)) to
+  pub sound : IsSound now
+
+pub first-none : (nodes : Nodes) (steps : List Step) (to : ℕ) → IsSound nodes → AddsFirst nodes nodes steps 0 to
+unfolding live_slots
+first-none nodes steps to sound = record { adds = adds-none nodes to; sound = sound }
+
+pub first-all : (old now : Nodes) (steps : List Step) (i to : ℕ) → length steps ≤ i → AddsFirst old now steps i to → AddsEdges old now (live_slots old steps) to
+first-all old now steps i to all first = subst (λ (xs : List Step). AddsEdges old now (live_slots old xs) to) (take_all i steps all) first.adds
+
+pub first-dead : (old now : Nodes) (steps : List Step) (i to : ℕ) (x d : Step) → i < length steps → x ≡ get_or steps i d → bears now.slots x.slot x.stamp ≡ false → AddsFirst old now steps i to → AddsFirst old now steps (i + 1) to
+first-dead old now steps i to x d inside is gone first = record {
+  adds = subst (λ (froms : List ℕ). AddsEdges old now froms to) (sym (slots-dead old steps i x d inside is (ap (λ (s : Slots). bears s x.slot x.stamp) (sym first.adds.slots) ∙ gone))) first.adds;
+  sound = first.sound;
+}
+
+module _ (old now new : Nodes) (steps : List Step) (i to : ℕ) (x d : Step) (inside : i < length steps) (is : x ≡ get_or steps i d) (borne : Bears now x.slot x.stamp) (none : ¬ ReachesSome old to steps) (first : AddsFirst old now steps i to) (sound : IsSound new) where
+  there : Bears old x.slot x.stamp
+  there = ap (λ (s : Slots). bears s x.slot x.stamp) (sym first.adds.slots) ∙ borne
+
+  more : AddsEdges old new (live_slots old (take i steps) ++ x.slot ∷ []) to → AddsFirst old new steps (i + 1) to
+  more adds = record { adds = subst (λ (froms : List ℕ). AddsEdges old new froms to) (sym (slots-live old steps i x d inside is there)) adds; sound = sound }
+
+  apart : x.slot ≢ to → reaches old to x.slot ≡ false
+  apart other = false_from_ne_true (reaches old to x.slot) (λ reached. none (reaches-this old to steps i x d inside is there other reached))
+
+  pub first-more : (edge : Edge) → (edge ≡ Same) ↔ (x.slot ≡ to) → (edge ≡ Known) ↔ ((x.slot ≢ to) × IsTrue (reaches now x.slot to)) → (edge ≡ Closes) ↔ ((x.slot ≢ to) × IsTrue (reaches now to x.slot)) → (edge ≡ Added → AddsEdge now new x.slot to) → (edge ≢ Added → new ≡ now) → AddsFirst old new steps (i + 1) to
+  first-more Same same known closes added unchanged =
+      more (adds-same old new (live_slots old (take i steps)) x.slot to (subst (λ (n : Nodes). AddsEdges old n (live_slots old (take i steps)) to) (sym (unchanged (λ differ. cc))) first.adds) (same.0 refl))
+  first-more Known same known closes added unchanged =
+      let both = known.0 refl in
+      let stays : new ≡ now = unchanged (λ differ. cc) in
+      more (adds-more old now new (live_slots old (take i steps)) x.slot to first.adds both.0 (apart both.0) (subst (λ (n : Nodes). AddsEdge now n x.slot to) (sym stays) (adds-known now x.slot to first.sound both.0 both.1)))
+  first-more Added same known closes added unchanged =
+      let other : x.slot ≢ to = λ (at : x.slot ≡ to). added_same (same.1 at) in
+      more (adds-more old now new (live_slots old (take i steps)) x.slot to first.adds other (apart other) (added refl))
+    where
+      added_same : Added ≡ Same → ⊥
+      added_same h = cc
+  first-more Closes same known closes added unchanged =
+      let both = closes.0 refl in
+      absurd (both_ways (reaches old to x.slot) (apart both.0) (sym (target_reaches old now (live_slots old (take i steps)) to x.slot first.adds) ∙ both.1))
+
+  pub first-from : (edge : Edge) (from : ℕ) → x.slot ≡ from → (edge ≡ Same) ↔ (from ≡ to) → (edge ≡ Known) ↔ ((from ≢ to) × IsTrue (reaches now from to)) → (edge ≡ Closes) ↔ ((from ≢ to) × IsTrue (reaches now to from)) → (edge ≡ Added → AddsEdge now new from to) → (edge ≢ Added → new ≡ now) → AddsFirst old new steps (i + 1) to
+  first-from edge from at =
+      subst (λ z. (edge ≡ Same) ↔ (z ≡ to) → (edge ≡ Known) ↔ ((z ≢ to) × IsTrue (reaches now z to)) → (edge ≡ Closes) ↔ ((z ≢ to) × IsTrue (reaches now to z)) → (edge ≡ Added → AddsEdge now new z to) → (edge ≢ Added → new ≡ now) → AddsFirst old new steps (i + 1) to) at (first-more edge)

@@ -1,0 +1,5 @@
+pub mod Watched
+pub mod Codes
+pub mod Steps
+pub mod Changed
+pub mod Answers

@@ -1,0 +1,296 @@
+ghost use Rattle.velo_events.specs.Refusals.{GrowthRefused};
+ghost use Rattle.std.specs.Prelude.{◌≡◌, ◌≤◌, ◌<◌, ℕ, [], ◌∷◌, ◌++◌, List, length, IsTrue, IsFalse, IfOk, OnOk, OnErr, ◌↔◌, Some};
+ghost use Rattle.std.specs.Option.{ForSome};
+ghost use Rattle.velo_events.specs.declared.config.Bounds.{Bounds as BoundsOf};
+ghost use Rattle.velo_events.specs.declared.event.Event.{Event as EventOf};
+ghost use Rattle.velo_events.specs.Event.{thread_of};
+ghost use Rattle.velo_events.specs.Heap.{depth_in};
+ghost use Rattle.velo_events.specs.WellFormed.{MayFollow};
+ghost use Rattle.velo_events.specs.Merge.{GetsNew};
+ghost use Rattle.velo_events.specs.Block.{IsTransaction};
+ghost use Rattle.velo_events.specs.Collection.{HasManyLive, IsAccountedFor, IsGivenUp, IsHarmless};
+ghost use Rattle.velo_arena.specs.declared.step.Step.{Step as StepOf};
+ghost use Rattle.velo_arena.specs.Slots.{used_in, limit_of};
+ghost use Rattle.velo_arena.specs.Stamps.{stamps_in};
+ghost use Rattle.velo_graph.specs.Nodes.{IsSound, AddsEdges};
+ghost use Rattle.velo_graph.specs.Collects.{HasNothingLeft};
+ghost use Rattle.velo_merge.specs.Named.{Bears, live_stamps, HasFinished, IsAncestor};
+ghost use Rattle.velo_tables.specs.Place.{Place as PlaceOf, LastOf};
+ghost use Rattle.velo_tables.specs.Kept.{entry, steps_looked_up, HasRoomFor};
+ghost use Rattle.velo_monitor.specs.Watched.{IsMonitorOf};
+ghost use Rattle.velo_monitor.specs.Answers.{NeedsNode, GetsNewNode, IsNext, IsSeen};
+ghost use Rattle.velo_monitor.specs.Steps.{live_slots, ReachesSome};
+ghost use Rattle.velo_monitor.specs.Changed.{depth_of, CanCount, AfterInside, EndsBlock, CountsBlocks, BeginsBlock, IsPlaced, Operates};
+
+use crate::edges::{add_edges, open_after, reaches_some};
+use smallvec::SmallVec;
+use std::alloc::Global;
+use std::marker::Model;
+use velo_arena::Step;
+use velo_collect::{Freed, collect};
+use velo_events::growth::filled;
+use velo_events::{Config, Event, Kind, Memory, ThreadId};
+use velo_graph::Graph;
+use velo_merge::{Placed, place};
+use velo_rows::BitRow;
+use velo_tables::{MOST_PREDECESSORS, Tables};
+
+/// What one more event does to the graph.
+#[derive(Clone, Copy, Debug, PartialEq, Eq)]
+pub enum Seen {
+    /// It closes no cycle.
+    Quiet,
+    /// It closes a cycle, and its transaction is on it.
+    Closes { transaction: usize },
+}
+
+/// The transactions of a run that can still be on a cycle, and the last accesses.
+///
+/// A monitor keeps no log. It is that of the trace of the events that it took in.
+#[derive(Drop)]
+pub struct Monitor {
+    graph: Graph<BitRow>,
+    tables: Tables,
+    /// How many blocks each thread has open.
+    depths: Vec<u8>,
+    /// The steps that the present event looks up.
+    steps: SmallVec<Step, MOST_PREDECESSORS>,
+    freed: Freed,
+}
+
+impl Model for Monitor {
+    ghost use Rattle.std.specs.Prelude.{◌≤◌};
+    ghost use Rattle.velo_arena.specs.Slots.{limit_of};
+    ghost use Rattle.velo_tables.specs.declared.tables.TheConstants.{MOST_PREDECESSORS};
+    ghost use Rattle.velo_monitor.specs.Watched.{Watched};
+    ghost use Rattle.velo_monitor.specs.Codes.{watched_code};
+
+    ghost Value = { Watched };
+
+    ghost coded = { watched_code };
+
+    ghost view = { λ m. record { nodes = m.graph; kept = m.tables; depths = m.depths.items } };
+
+    ghost invariant = { λ m. (MOST_PREDECESSORS ≤ m.steps.capacity) × (limit_of m.graph.slots ≤ m.freed.room) };
+}
+
+impl Monitor {
+    /// The monitor of the empty trace.
+    ///
+    /// # Errors
+    /// `Memory` where a growth was refused.
+    pub fn new(alloc: Global, config: &Config) -> Result<Monitor, Memory>
+        ensures start { IfOk result (λ monitor. IsMonitorOf config.now.bounds monitor []) }
+        ensures limit { IfOk result (λ monitor. limit_of monitor.nodes.slots ≡ config.now.nodes) }
+        ensures memory { OnErr result GrowthRefused }
+    {
+        let graph = Graph::new(alloc, config.nodes)?;
+        let freed = Freed::new(alloc, config.nodes)?;
+        let tables = Tables::new(alloc, config)?;
+        let depths = filled(alloc, 0, config.bounds.threads as usize)?;
+        Ok(Monitor {
+            graph,
+            tables,
+            depths,
+            steps: SmallVec::new(alloc),
+            freed,
+        })
+    }
+
+    /// Makes room for what the next event leaves. The nodes stay as they are and the monitor is that of the same trace, also
+    /// where it is refused.
+    ///
+    /// # Errors
+    /// `Memory` where a growth was refused.
+    pub fn reserve(&mut self, event: &Event) -> Result<(), Memory>
+        ensures nodes { self.new.nodes ≡ self.old.nodes }
+        ensures entries { (p : PlaceOf) → entry self.new.kept p ≡ entry self.old.kept p }
+        ensures same { (bounds : BoundsOf) (trace : List EventOf) → IsMonitorOf bounds self.old trace → IsMonitorOf bounds self.new trace }
+        ensures room { OnOk result ((bounds : BoundsOf) (trace : List EventOf) → IsMonitorOf bounds self.old trace → MayFollow bounds trace event.now → HasRoomFor self.new.kept event.now) }
+        ensures full { OnErr result (¬ HasRoomFor self.old.kept event.now) }
+        ensures memory { OnErr result GrowthRefused }
+    {
+        self.tables.reserve_for(event)
+    }
+
+    /// Whether the next event needs a slot of its own.
+    pub fn needs_node(&self, event: &Event) -> bool
+        ensures exact { (bounds : BoundsOf) (trace : List EventOf) → IsMonitorOf bounds self.now trace → MayFollow bounds trace event.now → IsTrue result ↔ NeedsNode self.now trace event.now }
+        ensures outside { (bounds : BoundsOf) (trace : List EventOf) → IsMonitorOf bounds self.now trace → MayFollow bounds trace event.now → IsTrue result → depth_in trace (thread_of event.now) ≡ 0 }
+    {
+        if self.depth(event.thread) > 0 {
+            return false;
+        }
+        match event.kind {
+            Kind::Begin(_) => true,
+            _ => {
+                let steps = self.tables.predecessors(event);
+                place(&self.graph, &steps) == Placed::New
+            }
+        }
+    }
+
+    /// Takes in the next event, unless it closes a cycle. Afterwards nothing is left that could be collected.
+    pub fn observe(&mut self, position: usize, event: &Event) -> Seen
+        requires { IsNext self.old position event.now }
+        ensures limit { limit_of self.new.nodes.slots ≡ limit_of self.old.nodes.slots }
+        ensures seen { (bounds : BoundsOf) (trace : List EventOf) → IsMonitorOf bounds self.old trace → position ≡ length trace → MayFollow bounds trace event.now → IsSeen bounds self.old trace event.now result self.new }
+        ensures nothing_left { HasNothingLeft self.new.nodes }
+    {
+        if self.depth(event.thread) > 0 {
+            return self.observe_inside(event);
+        }
+        match event.kind {
+            Kind::Begin(_) => self.begin_block(position as u32, event),
+            _ => self.operate(position as u32, event),
+        }
+        Seen::Quiet
+    }
+
+    /// How many slots are in use: at most as many as there are live transactions. Every transaction founds the node of one,
+    /// is covered by one, or is not live, and no continuation brings one that is given up into a cycle.
+    pub fn used(&self) -> u16
+        ensures used { result ≡ used_in self.now.nodes.slots }
+        ensures live { (bounds : BoundsOf) (trace : List EventOf) → IsMonitorOf bounds self.now trace → HasManyLive trace result }
+        ensures accounted { (bounds : BoundsOf) (trace : List EventOf) → IsMonitorOf bounds self.now trace → (a : ℕ) → IsTransaction trace a → IsAccountedFor trace (stamps_in self.now.nodes.slots) a }
+        ensures given_up { (bounds : BoundsOf) (trace : List EventOf) → IsMonitorOf bounds self.now trace → (a : ℕ) → IsGivenUp trace (stamps_in self.now.nodes.slots) a → IsHarmless bounds trace a }
+    {
+        self.graph.used()
+    }
+}
+
+/// Where an event outside blocks goes by the merge rule: the step that stands for it, if any does.
+fn place_operation(graph: &mut Graph<BitRow>, steps: &[Step], position: u32) -> Option<Step>
+    requires stamp { ForSome graph.old.slots.newest (λ newest. newest < position) }
+    requires slot { GetsNew (HasFinished graph.old) (IsAncestor graph.old) (live_stamps graph.old steps.now) → used_in graph.old.slots < limit_of graph.old.slots }
+    ensures placed { IsPlaced graph.old steps.now position result graph.new }
+    ensures limit { limit_of graph.new.slots ≡ limit_of graph.old.slots }
+{
+    match place(graph, steps) {
+        Placed::None => None,
+        Placed::In(step) => Some(step),
+        Placed::New => {
+            let own = open_after(graph, steps, position);
+            graph.finish(own);
+            Some(own)
+        }
+    }
+}
+
+impl Monitor {
+    /// How many blocks the thread has open.
+    fn depth(&self, t: ThreadId) -> u8
+        ensures { result ≡ depth_of self.now t.0 }
+    {
+        match self.depths.get(t.0 as usize) {
+            Some(depth) => *depth,
+            None => 0,
+        }
+    }
+
+    /// Takes in an event of a thread that has blocks open, unless it closes a cycle.
+    fn observe_inside(&mut self, event: &Event) -> Seen
+        requires room { HasRoomFor self.old.kept event.now }
+        requires sound { IsSound self.old.nodes }
+        requires current { (own : StepOf) × (entry self.old.kept (LastOf (thread_of event.now)) ≡ Some own) × Bears self.old.nodes own.slot own.stamp }
+        requires depth { CanCount self.old (thread_of event.now) event.now.kind }
+        ensures inside { AfterInside self.old event.now result self.new }
+        ensures limit { limit_of self.new.nodes.slots ≡ limit_of self.old.nodes.slots }
+    {
+        let Some(own) = self.tables.last_of(event.thread) else {
+            unreachable!()
+        };
+        if self.closes_or_extends(event, own) {
+            return Seen::Closes {
+                transaction: own.stamp as usize,
+            };
+        }
+        self.tables.record(event, Some(own));
+        self.count_blocks(event, own);
+        Seen::Quiet
+    }
+
+    /// Adds the event's edges into the node of the step, unless one of them closes a cycle.
+    fn closes_or_extends(&mut self, event: &Event, own: Step) -> bool
+        requires current { entry self.old.kept (LastOf (thread_of event.now)) ≡ Some own }
+        requires borne { Bears self.old.nodes own.slot own.stamp }
+        requires sound { IsSound self.old.nodes }
+        ensures closes { IsTrue result ↔ ReachesSome self.old.nodes own.slot (steps_looked_up self.old.kept event.now) }
+        ensures same { IsTrue result → self.new ≡ self.old }
+        ensures adds { IsFalse result → AddsEdges self.old.nodes self.new.nodes (live_slots self.old.nodes (steps_looked_up self.old.kept event.now)) own.slot }
+        ensures kept { self.new.kept ≡ self.old.kept }
+        ensures depths { self.new.depths ≡ self.old.depths }
+        ensures sound { IsSound self.new.nodes }
+    {
+        self.tables.predecessors_into(event, &mut self.steps);
+        if reaches_some(&self.graph, own.slot, &self.steps) {
+            return true;
+        }
+        add_edges(&mut self.graph, &self.steps, own.slot);
+        false
+    }
+
+    /// Counts a begin or an end inside a block. The end of the outermost one finishes its node.
+    fn count_blocks(&mut self, event: &Event, own: Step)
+        requires borne { Bears self.old.nodes own.slot own.stamp }
+        requires depth { CanCount self.old (thread_of event.now) event.now.kind }
+        ensures counts { CountsBlocks self.old event.now.kind (thread_of event.now) own self.new }
+        ensures kept { self.new.kept ≡ self.old.kept }
+        ensures limit { limit_of self.new.nodes.slots ≡ limit_of self.old.nodes.slots }
+    {
+        let t = event.thread.0 as usize;
+        match event.kind {
+            Kind::Begin(_) => self.depths[t] += 1,
+            Kind::End => {
+                self.depths[t] -= 1;
+                if self.depths[t] == 0 {
+                    self.end_block(own);
+                }
+            }
+            _ => {}
+        }
+    }
+
+    /// Finishes the node of the step. Where it has no ancestors, others may be unneeded with it.
+    fn end_block(&mut self, own: Step)
+        requires { Bears self.old.nodes own.slot own.stamp }
+        ensures ends { EndsBlock self.old.nodes self.new.nodes own }
+        ensures kept { self.new.kept ≡ self.old.kept }
+        ensures depths { self.new.depths ≡ self.old.depths }
+        ensures limit { limit_of self.new.nodes.slots ≡ limit_of self.old.nodes.slots }
+    {
+        let is_root = self.graph.is_root(own.slot);
+        self.graph.finish(own);
+        if is_root {
+            collect(&mut self.graph, &mut self.freed);
+        }
+    }
+
+    /// Takes in an outermost begin.
+    fn begin_block(&mut self, position: u32, event: &Event)
+        requires room { HasRoomFor self.old.kept event.now }
+        requires stamp { ForSome self.old.nodes.slots.newest (λ newest. newest < position) }
+        requires slot { used_in self.old.nodes.slots < limit_of self.old.nodes.slots }
+        requires depth { CanCount self.old (thread_of event.now) (Kind.Begin (record { 0 = 0 })) }
+        ensures begins { BeginsBlock self.old position event.now self.new }
+        ensures limit { limit_of self.new.nodes.slots ≡ limit_of self.old.nodes.slots }
+    {
+        self.tables.predecessors_into(event, &mut self.steps);
+        let own = open_after(&mut self.graph, &self.steps, position);
+        self.tables.record(event, Some(own));
+        self.depths[event.thread.0 as usize] += 1;
+    }
+
+    /// Takes in an event outside blocks.
+    fn operate(&mut self, position: u32, event: &Event)
+        requires room { HasRoomFor self.old.kept event.now }
+        requires stamp { ForSome self.old.nodes.slots.newest (λ newest. newest < position) }
+        requires slot { GetsNewNode self.old event.now → used_in self.old.nodes.slots < limit_of self.old.nodes.slots }
+        ensures operates { Operates self.old position event.now self.new }
+        ensures limit { limit_of self.new.nodes.slots ≡ limit_of self.old.nodes.slots }
+    {
+        self.tables.predecessors_into(event, &mut self.steps);
+        let step = place_operation(&mut self.graph, &self.steps, position);
+        self.tables.record(event, step);
+    }
+}

@@ -1,0 +1,3 @@
+pub mod OnPassing
+pub mod OnLines
+pub mod OnReports

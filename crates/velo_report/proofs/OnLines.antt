@@ -1,0 +1,75 @@
+-- A line, word by word.
+use Rattle.std.proofs.Common.{◌≡◌, ℕ, ◌+◌, List, [], ◌∷◌, ◌++◌, take, drop, sym, ap, ◌∙◌, append_assoc}
+use Rattle.std.specs.Prelude.{codes}
+use Rattle.std.specs.List.{flat_map}
+use Rattle.std.proofs.lemmas.Grind.{flat_map-append}
+use Rattle.std.proofs.lemmas.List.{append-nil, take-append-drop, map-append}
+use Rattle.velo_report.specs.declared.lines.Word.{Word}
+use Rattle.velo_report.specs.declared.lines.Word.TheVariants.{Text}
+use Rattle.velo_report.specs.Lines.{spaced, line_of, word_text, words_text}
+
+-- what is read past the end of some words
+abbrev pub no_word : Word
+no_word = Text (record { ref_ptr = (0, 0); now = [] })
+
+-- words behind spaces
+abbrev pub spaced_words : List Word → List ℕ
+spaced_words words = flat_map spaced (words_text words)
+
+spaced_words-append : (xs ys : List Word) → spaced_words (xs ++ ys) ≡ spaced_words xs ++ spaced_words ys
+spaced_words-append xs ys = ap (flat_map spaced) (map-append word_text xs ys) ∙ flat_map-append spaced (words_text xs) (words_text ys)
+
+-- a line with its first words
+abbrev pub begun : List ℕ → List Word → ℕ → List ℕ
+begun first words i = first ++ spaced_words (take i words)
+
+pub begun-start : (first : List ℕ) (words : List Word) → first ≡ begun first words 0
+begun-start first words = sym (append-nil first)
+
+pub begun-next : (first : List ℕ) (words : List Word) (i : ℕ) (w : Word) → take (i + 1) words ≡ take i words ++ w ∷ [] → begun first words i ++ spaced (word_text w) ≡ begun first words (i + 1)
+begun-next first words i w is =
+    append_assoc first (spaced_words (take i words)) (spaced (word_text w))
+    ∙ ap (λ (t : List ℕ). first ++ t)
+    (ap (λ (t : List ℕ). spaced_words (take i words) ++ t) (sym (append-nil (spaced (word_text w))))
+    ∙ sym (spaced_words-append (take i words) (w ∷ []))
+    ∙ ap spaced_words (sym is))
+
+-- what comes behind them
+abbrev pub rest_of : List Word → ℕ → List ℕ
+rest_of words i = spaced_words (drop i words) ++ codes "\n"
+
+pub line-split : (first : List ℕ) (words : List Word) (i : ℕ) → line_of first (words_text words) ≡ begun first words i ++ rest_of words i
+line-split first words i =
+    ap (λ (ws : List Word). first ++ (spaced_words ws ++ codes "\n")) (sym (take-append-drop i words))
+    ∙ ap (λ (t : List ℕ). first ++ (t ++ codes "\n")) (spaced_words-append (take i words) (drop i words))
+    ∙ ap (λ (t : List ℕ). first ++ t) (append_assoc (spaced_words (take i words)) (spaced_words (drop i words)) (codes "\n"))
+    ∙ sym (append_assoc first (spaced_words (take i words)) (rest_of words i))
+
+-- with one word more
+pub line-split-next : (first : List ℕ) (words : List Word) (i : ℕ) (w : Word) → take (i + 1) words ≡ take i words ++ w ∷ [] → line_of first (words_text words) ≡ begun first words i ++ (spaced (word_text w) ++ rest_of words (i + 1))
+line-split-next first words i w is =
+    line-split first words (i + 1)
+    ∙ ap (λ (t : List ℕ). t ++ rest_of words (i + 1)) (sym (begun-next first words i w is))
+    ∙ append_assoc (begun first words i) (spaced (word_text w)) (rest_of words (i + 1))
+
+-- with all words the newline is left
+pub line-end : (first : List ℕ) (words : List Word) (i : ℕ) → take i words ≡ words → line_of first (words_text words) ≡ begun first words i ++ codes "\n"
+line-end first words i is =
+    ap (λ (ws : List Word). first ++ (spaced_words ws ++ codes "\n")) (sym is)
+    ∙ sym (append_assoc first (spaced_words (take i words)) (codes "\n"))
+
+-- ---- a line for each of some things
+
+module _ {X : Type 0} (line : X → List ℕ) (xs : List X) (i : ℕ) (x : X) (is : take (i + 1) xs ≡ take i xs ++ x ∷ []) where
+  pub lines-more : flat_map line (take i xs) ++ line x ≡ flat_map line (take (i + 1) xs)
+  lines-more =
+      ap (λ (t : List ℕ). flat_map line (take i xs) ++ t) (sym (append-nil (line x)))
+      ∙ sym (flat_map-append line (take i xs) (x ∷ []))
+      ∙ ap (flat_map line) (sym is)
+
+  pub lines-split : flat_map line xs ≡ flat_map line (take i xs) ++ (line x ++ flat_map line (drop (i + 1) xs))
+  lines-split =
+      ap (flat_map line) (sym (take-append-drop (i + 1) xs))
+      ∙ flat_map-append line (take (i + 1) xs) (drop (i + 1) xs)
+      ∙ ap (λ (t : List ℕ). t ++ flat_map line (drop (i + 1) xs)) (sym lines-more)
+      ∙ append_assoc (flat_map line (take i xs)) (line x) (flat_map line (drop (i + 1) xs))

@@ -1,0 +1,156 @@
+//! The report of a closed world.
+ghost use Rattle.std.specs.Prelude.{◌≡◌, ◌<◌, ◌++◌, ◌∷◌, [], codes, decimal, length, Some, OnOk, OnErr};
+ghost use Rattle.std.specs.Option.{option_copied};
+ghost use Rattle.velo_logtext.specs.Device.{one_more, AppendsBeginning};
+ghost use Rattle.velo_report.specs.Lines.{Passes};
+ghost use Rattle.velo_report.specs.Report.{thread_line, thread_lines, blame_line, blame_lines, verdict_lines, AppendsReport, AppendsPartOfReport};
+
+use crate::lines::{Lines, Word};
+use crate::names::Names;
+use velo_events::ThreadId;
+use velo_logtext::{Sink, WriteFault};
+use velo_traces::Block;
+use velo_world::{Alarm, Closed};
+
+/// Adds the line of a thread.
+fn add_thread<S: Sink>(
+    lines: &mut Lines,
+    sink: &mut S,
+    names: &Names,
+    closed: &Closed,
+    thread: ThreadId,
+) -> Result<(), WriteFault>
+    requires { thread.0 < closed.now.config.bounds.threads }
+    ensures ok { OnOk result (Passes (S.contents sink.old) (S.contents sink.new) lines.old lines.new (thread_line names.now closed.now.log thread.0)) }
+    ensures err { OnErr result (AppendsBeginning (S.contents sink.old) (S.contents sink.new) (lines.old ++ thread_line names.now closed.now.log thread.0)) }
+    ensures no_failure { OnOk result (S.failures sink.new ≡ S.failures sink.old) }
+    ensures failure { OnErr result (S.failures sink.new ≡ one_more (S.failures sink.old)) }
+{
+    let number = u64::from(thread.0);
+    let count = closed.tally(thread).events;
+    match names.of_thread(thread) {
+        Some(name) => lines.add_line(
+            sink,
+            "thread",
+            &[Word::Number(number), Word::Text(name), Word::Number(count)],
+        ),
+        None => lines.add_line(sink, "thread", &[Word::Number(number), Word::Number(count)]),
+    }
+}
+
+/// Adds the line of each thread.
+fn add_threads<S: Sink>(
+    lines: &mut Lines,
+    sink: &mut S,
+    names: &Names,
+    closed: &Closed,
+) -> Result<(), WriteFault>
+    ensures ok { OnOk result (Passes (S.contents sink.old) (S.contents sink.new) lines.old lines.new (thread_lines names.now closed.now.log closed.now.config.bounds.threads)) }
+    ensures err { OnErr result (AppendsBeginning (S.contents sink.old) (S.contents sink.new) (lines.old ++ thread_lines names.now closed.now.log closed.now.config.bounds.threads)) }
+    ensures no_failure { OnOk result (S.failures sink.new ≡ S.failures sink.old) }
+    ensures failure { OnErr result (S.failures sink.new ≡ one_more (S.failures sink.old)) }
+{
+    for t in 0..closed.bounds().threads {
+        add_thread(lines, sink, names, closed, ThreadId(t))?;
+    }
+    Ok(())
+}
+
+/// Adds the line of a blamed block.
+fn add_block<S: Sink>(
+    lines: &mut Lines,
+    sink: &mut S,
+    names: &Names,
+    block: Block,
+) -> Result<(), WriteFault>
+    ensures ok { OnOk result (Passes (S.contents sink.old) (S.contents sink.new) lines.old lines.new (blame_line names.now block)) }
+    ensures err { OnErr result (AppendsBeginning (S.contents sink.old) (S.contents sink.new) (lines.old ++ blame_line names.now block)) }
+    ensures no_failure { OnOk result (S.failures sink.new ≡ S.failures sink.old) }
+    ensures failure { OnErr result (S.failures sink.new ≡ one_more (S.failures sink.old)) }
+{
+    let first = block.first as u64;
+    match names.of_label(block.label) {
+        Word::Text(name) => lines.add_line(sink, "blame", &[Word::Number(first), Word::Text(name)]),
+        Word::Number(label) => {
+            lines.add_line(sink, "blame", &[Word::Number(first), Word::Number(label)])
+        }
+    }
+}
+
+/// Adds the line of each blamed block, or the one that says that there is none.
+fn add_blame<S: Sink>(
+    lines: &mut Lines,
+    sink: &mut S,
+    names: &Names,
+    blamed: &[Block],
+) -> Result<(), WriteFault>
+    ensures ok { OnOk result (Passes (S.contents sink.old) (S.contents sink.new) lines.old lines.new (blame_lines names.now blamed.now)) }
+    ensures err { OnErr result (AppendsBeginning (S.contents sink.old) (S.contents sink.new) (lines.old ++ blame_lines names.now blamed.now)) }
+    ensures no_failure { OnOk result (S.failures sink.new ≡ S.failures sink.old) }
+    ensures failure { OnErr result (S.failures sink.new ≡ one_more (S.failures sink.old)) }
+{
+    if blamed.is_empty() {
+        return lines.add_line(sink, "blame", &[Word::Text("none")]);
+    }
+    for block in blamed {
+        add_block(lines, sink, names, *block)?;
+    }
+    Ok(())
+}
+
+/// Adds the lines of an alarm.
+fn add_alarm<S: Sink>(
+    lines: &mut Lines,
+    sink: &mut S,
+    names: &Names,
+    alarm: &Alarm,
+) -> Result<(), WriteFault>
+    ensures ok { OnOk result (Passes (S.contents sink.old) (S.contents sink.new) lines.old lines.new (verdict_lines names.now (Some alarm.now))) }
+    ensures err { OnErr result (AppendsBeginning (S.contents sink.old) (S.contents sink.new) (lines.old ++ verdict_lines names.now (Some alarm.now))) }
+    ensures no_failure { OnOk result (S.failures sink.new ≡ S.failures sink.old) }
+    ensures failure { OnErr result (S.failures sink.new ≡ one_more (S.failures sink.old)) }
+{
+    let position = Word::Number(alarm.position as u64);
+    lines.add_line(sink, "verdict", &[Word::Text("alarm"), position])?;
+    let transaction = Word::Number(alarm.transaction as u64);
+    lines.add_line(sink, "transaction", &[transaction])?;
+    add_blame(lines, sink, names, alarm.blamed.as_slice())
+}
+
+/// Adds the verdict, and what belongs to an alarm.
+fn add_verdict<S: Sink>(
+    lines: &mut Lines,
+    sink: &mut S,
+    names: &Names,
+    alarm: Option<&Alarm>,
+) -> Result<(), WriteFault>
+    ensures ok { OnOk result (Passes (S.contents sink.old) (S.contents sink.new) lines.old lines.new (verdict_lines names.now (option_copied alarm.entry))) }
+    ensures err { OnErr result (AppendsBeginning (S.contents sink.old) (S.contents sink.new) (lines.old ++ verdict_lines names.now (option_copied alarm.entry))) }
+    ensures no_failure { OnOk result (S.failures sink.new ≡ S.failures sink.old) }
+    ensures failure { OnErr result (S.failures sink.new ≡ one_more (S.failures sink.old)) }
+{
+    match alarm {
+        None => lines.add_line(sink, "verdict", &[Word::Text("clean")]),
+        Some(alarm) => add_alarm(lines, sink, names, alarm),
+    }
+}
+
+/// Writes the report of a closed world: how many events there are, how many of each thread, and the verdict; with an alarm
+/// its position, the first position of its transaction, and the blocks to blame.
+///
+/// # Errors
+/// `WriteFault` where the sink failed. A beginning of the report was written then.
+pub fn report<S: Sink>(closed: &Closed, names: &Names, sink: &mut S) -> Result<(), WriteFault>
+    ensures ok { OnOk result (AppendsReport (S.contents sink.old) (S.contents sink.new) names.now closed.now.config.bounds.threads closed.now.log) }
+    ensures err { OnErr result (AppendsPartOfReport (S.contents sink.old) (S.contents sink.new) names.now closed.now.config.bounds.threads closed.now.log) }
+    ensures no_failure { OnOk result (S.failures sink.new ≡ S.failures sink.old) }
+    ensures failure { OnErr result (S.failures sink.new ≡ one_more (S.failures sink.old)) }
+{
+    let alarm = closed.alarm();
+    let total = closed.total();
+    let mut lines = Lines::new();
+    lines.add_line(sink, "events", &[Word::Number(total)])?;
+    add_threads(&mut lines, sink, names, closed)?;
+    add_verdict(&mut lines, sink, names, alarm)?;
+    lines.flush(sink)
+}

@@ -1,0 +1,137 @@
+//! Lines on their way to a sink, which sees few writes.
+ghost use Rattle.std.specs.Prelude.{◌≡◌, ◌≤◌, ◌+◌, ◌++◌, [], ◌∷◌, codes, length, take, OnOk, OnErr};
+ghost use Rattle.std.specs.Io.KnownBytes.{Appends};
+ghost use Rattle.velo_logtext.specs.Device.{one_more, AppendsBeginning};
+ghost use Rattle.velo_report.specs.Lines.{word_text, spaced, words_text, line_of, Passes};
+
+use itoa::Buffer;
+use std::marker::Model;
+use velo_logtext::{Sink, WriteFault, write_all};
+
+/// How many bytes are gathered before they are written.
+const ROOM: usize = 1_024;
+
+/// A word of a line.
+#[derive(Clone, Copy, Debug)]
+pub(crate) enum Word<'a> {
+    Text(&'a str),
+    Number(u64),
+}
+
+/// The bytes of lines that are still to be written.
+#[derive(Drop)]
+pub(crate) struct Lines {
+    bytes: [u8; ROOM],
+    used: usize,
+}
+
+impl Model for Lines {
+    ghost use Rattle.std.specs.Prelude.{◌≤◌, ℕ, List, take, length};
+    ghost use Rattle.velo_report.specs.declared.lines.TheConstants.{ROOM};
+
+    ghost Value = { List ℕ };
+
+    ghost view = { λ l. take l.used l.bytes };
+
+    ghost invariant = { λ l. l.used ≤ ROOM };
+}
+
+impl Lines {
+    /// None so far.
+    pub fn new() -> Lines
+        ensures { result ≡ [] }
+    {
+        Lines {
+            bytes: [0; ROOM],
+            used: 0,
+        }
+    }
+
+    /// Gathers bytes for which there is room.
+    fn gather(&mut self, piece: &[u8])
+        requires { length self.old + length piece.now ≤ ROOM }
+        ensures { self.new ≡ self.old ++ piece.now }
+    {
+        let end = self.used + piece.len();
+        self.bytes[self.used..end].copy_from_slice(piece);
+        self.used = end;
+    }
+
+    /// Writes what was gathered.
+    pub fn flush<S: Sink>(&mut self, sink: &mut S) -> Result<(), WriteFault>
+        ensures ok { OnOk result (Appends (S.contents sink.old) (S.contents sink.new) self.old) }
+        ensures empty { OnOk result (self.new ≡ []) }
+        ensures err { OnErr result (AppendsBeginning (S.contents sink.old) (S.contents sink.new) self.old) }
+        ensures no_failure { OnOk result (S.failures sink.new ≡ S.failures sink.old) }
+        ensures failure { OnErr result (S.failures sink.new ≡ one_more (S.failures sink.old)) }
+    {
+        write_all(sink, &self.bytes[..self.used])?;
+        self.used = 0;
+        Ok(())
+    }
+
+    /// Adds bytes: they are gathered, and what is too long for that is written.
+    fn add<S: Sink>(&mut self, sink: &mut S, piece: &[u8]) -> Result<(), WriteFault>
+        ensures ok { OnOk result (Passes (S.contents sink.old) (S.contents sink.new) self.old self.new piece.now) }
+        ensures err { OnErr result (AppendsBeginning (S.contents sink.old) (S.contents sink.new) (self.old ++ piece.now)) }
+        ensures no_failure { OnOk result (S.failures sink.new ≡ S.failures sink.old) }
+        ensures failure { OnErr result (S.failures sink.new ≡ one_more (S.failures sink.old)) }
+    {
+        if piece.len() <= ROOM - self.used {
+            self.gather(piece);
+            return Ok(());
+        }
+        self.flush(sink)?;
+        if piece.len() <= ROOM {
+            self.gather(piece);
+            return Ok(());
+        }
+        write_all(sink, piece)
+    }
+
+    /// Adds a word.
+    fn add_word<S: Sink>(&mut self, sink: &mut S, word: Word) -> Result<(), WriteFault>
+        ensures ok { OnOk result (Passes (S.contents sink.old) (S.contents sink.new) self.old self.new (word_text word.entry)) }
+        ensures err { OnErr result (AppendsBeginning (S.contents sink.old) (S.contents sink.new) (self.old ++ word_text word.entry)) }
+        ensures no_failure { OnOk result (S.failures sink.new ≡ S.failures sink.old) }
+        ensures failure { OnErr result (S.failures sink.new ≡ one_more (S.failures sink.old)) }
+    {
+        match word {
+            Word::Text(text) => self.add(sink, text.as_bytes()),
+            Word::Number(number) => {
+                let mut digits = Buffer::new();
+                self.add(sink, digits.format(number).as_bytes())
+            }
+        }
+    }
+
+    /// Adds a space and a word.
+    fn add_spaced<S: Sink>(&mut self, sink: &mut S, word: Word) -> Result<(), WriteFault>
+        ensures ok { OnOk result (Passes (S.contents sink.old) (S.contents sink.new) self.old self.new (spaced (word_text word.entry))) }
+        ensures err { OnErr result (AppendsBeginning (S.contents sink.old) (S.contents sink.new) (self.old ++ spaced (word_text word.entry))) }
+        ensures no_failure { OnOk result (S.failures sink.new ≡ S.failures sink.old) }
+        ensures failure { OnErr result (S.failures sink.new ≡ one_more (S.failures sink.old)) }
+    {
+        self.add(sink, b" ")?;
+        self.add_word(sink, word)
+    }
+
+    /// Adds a line: its first word, the others, each behind a space, and a newline.
+    pub fn add_line<S: Sink>(
+        &mut self,
+        sink: &mut S,
+        first: &str,
+        others: &[Word],
+    ) -> Result<(), WriteFault>
+        ensures ok { OnOk result (Passes (S.contents sink.old) (S.contents sink.new) self.old self.new (line_of first.now (words_text others.now))) }
+        ensures err { OnErr result (AppendsBeginning (S.contents sink.old) (S.contents sink.new) (self.old ++ line_of first.now (words_text others.now))) }
+        ensures no_failure { OnOk result (S.failures sink.new ≡ S.failures sink.old) }
+        ensures failure { OnErr result (S.failures sink.new ≡ one_more (S.failures sink.old)) }
+    {
+        self.add_word(sink, Word::Text(first))?;
+        for word in others {
+            self.add_spaced(sink, *word)?;
+        }
+        self.add(sink, b"\n")
+    }
+}

@@ -1,0 +1,141 @@
+-- What clocks remember of a trace: how far the events at each place know each thread.
+use Rattle.std.specs.Prelude.{◌≡◌, ℕ, ◌+◌, ◌<◌, ◌||◌, ◌==◌, max, Bool, List, [], ◌∷◌, map, Some, IsTrue, IsFalse, slice_index_or, if◌then◌else◌}
+use Rattle.velo_events.specs.declared.event.Event.{Event}
+use Rattle.velo_events.specs.declared.event.Kind.{Kind}
+use Rattle.velo_events.specs.declared.event.Kind.TheVariants.{Read, Write, Acquire, Release, Join}
+use Rattle.velo_events.specs.Event.{thread_of, is_by, is_write_of, is_on_lock, is_fork_of}
+use Rattle.velo_events.specs.Block.{passes_at}
+use Rattle.velo_events.specs.Graph.{Reaches, ConflictsInOrder}
+use Rattle.velo_tables.specs.Place.{LastOf, LastWrite, LastOn, is_read_of}
+use Rattle.velo_tables.specs.Last.{last_at}
+
+-- i is b, or happens after it: a chain of conflicts leads from b to i along rising positions
+abbrev pub IsFrom : List Event → ℕ → ℕ → Type 0
+IsFrom trace b i = Reaches (ConflictsInOrder trace) b i
+
+-- ---- places
+
+-- The reads of a variable are one place: a write conflicts with all of them. The others have one event, the last.
+pub data ClockPlace : Type 0 where
+  -- the last event of thread t, or its fork while it has none
+  OfLast : (t : ℕ) → ClockPlace
+  -- the last write of variable x
+  OfWrite : (x : ℕ) → ClockPlace
+  -- all reads of variable x
+  OfReads : (x : ℕ) → ClockPlace
+  -- the last event of lock m
+  OfLock : (m : ℕ) → ClockPlace
+
+-- the event at position i is one of the place
+abbrev pub IsAt : List Event → ClockPlace → ℕ → Type 0
+IsAt trace (OfLast t) i = last_at (LastOf t) trace ≡ Some i
+IsAt trace (OfWrite x) i = last_at (LastWrite x) trace ≡ Some i
+IsAt trace (OfReads x) i = IsTrue (passes_at trace (is_read_of x) i)
+IsAt trace (OfLock m) i = last_at (LastOn m) trace ≡ Some i
+
+-- and is not of thread u
+abbrev pub IsForeignAt : List Event → ClockPlace → ℕ → ℕ → Type 0
+IsForeignAt trace p u i = IsAt trace p i × IsFalse (passes_at trace (is_by u) i)
+
+-- ---- what is known of a thread
+
+-- the event at n - 1 is of thread u, and is, or happens before, one of these positions
+pub record IsKnown (trace : List Event) (these : ℕ → Type 0) (u n : ℕ) : Type 0 where
+  pub at : ℕ
+  pub by : ℕ
+  pub next : n ≡ at + 1
+  pub own : IsTrue (passes_at trace (is_by u) at)
+  pub among : these by
+  pub from : IsFrom trace at by
+
+-- n is the position plus one of the latest event of thread u that is, or happens before, one of these positions; 0 for none
+pub record IsLatest (trace : List Event) (these : ℕ → Type 0) (u n : ℕ) : Type 0 where
+  pub none_later : (k i : ℕ) → these i → IsTrue (passes_at trace (is_by u) k) → IsFrom trace k i → k < n
+  pub latest : 0 < n → IsKnown trace these u n
+
+-- ---- the value of the clocks
+
+-- by number of a thread: what the events of a place know of it, and what those of other threads know of it
+pub record Clock : Type 0 where
+  pub known : List ℕ
+  pub foreign : List ℕ
+
+abbrev pub blank_clock : Clock
+blank_clock = record { known = []; foreign = [] }
+
+-- by number: what is kept of each thread, and of each variable and lock for which there is room
+pub record ClockState : Type 0 where
+  pub threads : List Clock
+  pub writes : List Clock
+  pub reads : List Clock
+  pub locks : List Clock
+
+abbrev pub clock_at : ClockState → ClockPlace → Clock
+clock_at s (OfLast t) = slice_index_or s.threads t blank_clock
+clock_at s (OfWrite x) = slice_index_or s.writes x blank_clock
+clock_at s (OfReads x) = slice_index_or s.reads x blank_clock
+clock_at s (OfLock m) = slice_index_or s.locks m blank_clock
+
+abbrev pub known_at : ClockState → ClockPlace → ℕ → ℕ
+known_at s p u = slice_index_or (clock_at s p).known u 0
+
+abbrev pub foreign_at : ClockState → ClockPlace → ℕ → ℕ
+foreign_at s p u = slice_index_or (clock_at s p).foreign u 0
+
+-- The clocks stand for the trace.
+pub record AreClocksOf (s : ClockState) (trace : List Event) : Type 0 where
+  pub known : (p : ClockPlace) (u : ℕ) → IsLatest trace (IsAt trace p) u (known_at s p u)
+  pub foreign : (p : ClockPlace) (u : ℕ) → IsLatest trace (IsForeignAt trace p u) u (foreign_at s p u)
+
+-- ---- what the calls do, with no trace
+
+abbrev pub greatest_of : List ℕ → ℕ
+greatest_of [] = 0
+greatest_of (n ∷ ns) = max n (greatest_of ns)
+
+-- the places whose events conflict with an operation, beside the last of the own thread
+abbrev pub beside : Kind → List ClockPlace
+beside (Read x v) = OfWrite x.0 ∷ []
+beside (Write x v) = OfWrite x.0 ∷ OfReads x.0 ∷ []
+beside (Acquire m) = OfLock m.0 ∷ []
+beside (Release m) = OfLock m.0 ∷ []
+beside (Join u) = OfLast u.0 ∷ []
+beside _ = []
+
+-- what the event at the position knows of thread u
+abbrev pub clock_of : ClockState → ℕ → Event → ℕ → ℕ
+clock_of s position e u =
+    if u == thread_of e then position + 1 else greatest_of (map (λ p. known_at s p u) (OfLast (thread_of e) ∷ beside e.kind))
+
+-- the block of the event's thread that begins at b is blamed where b is below
+abbrev pub blame_bound : ClockState → Event → ℕ
+blame_bound s e = greatest_of (map (λ p. foreign_at s p (thread_of e)) (beside e.kind))
+
+-- the event is one of the place's
+abbrev pub is_noted : Event → ClockPlace → Bool
+is_noted e (OfLast t) = (thread_of e == t) || is_fork_of t e
+is_noted e (OfWrite x) = is_write_of x e
+is_noted e (OfReads x) = is_read_of x e
+is_noted e (OfLock m) = is_on_lock m e
+
+-- reads add up, and the events of other places replace one another
+abbrev pub stays : ClockPlace → ℕ → ℕ
+stays (OfReads x) n = n
+stays _ n = 0
+
+-- the event was noted at the position
+pub record IsNoted (old : ClockState) (position : ℕ) (e : Event) (new : ClockState) : Type 0 where
+  pub known : (p : ClockPlace) (u : ℕ) → known_at new p u
+      ≡ (if is_noted e p then max (stays p (known_at old p u)) (clock_of old position e u) else known_at old p u)
+  pub foreign : (p : ClockPlace) (u : ℕ) → foreign_at new p u
+      ≡ (if is_noted e p then max (stays p (foreign_at old p u)) (if u == thread_of e then 0 else clock_of old position e u) else foreign_at old p u)
+
+-- nothing is known
+pub record KnowsNothing (s : ClockState) : Type 0 where
+  pub known : (p : ClockPlace) (u : ℕ) → known_at s p u ≡ 0
+  pub foreign : (p : ClockPlace) (u : ℕ) → foreign_at s p u ≡ 0
+
+-- room was made
+pub record KnowsTheSame (old new : ClockState) : Type 0 where
+  pub known : (p : ClockPlace) (u : ℕ) → known_at new p u ≡ known_at old p u
+  pub foreign : (p : ClockPlace) (u : ℕ) → foreign_at new p u ≡ foreign_at old p u

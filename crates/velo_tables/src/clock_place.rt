@@ -1,0 +1,141 @@
+ghost use Rattle.velo_events.specs.Refusals.{GrowthRefused};
+ghost use Rattle.std.specs.Prelude.{◌≡◌, ◌<◌, ◌≤◌, ◌+◌, ◌^◌, length, slice_index_or, vec_capacity, OnOk, OnErr};
+ghost use Rattle.velo_tables.specs.Readers.{filled_up};
+ghost use Rattle.velo_tables.specs.Clocks.{blank_clock};
+ghost use Rattle.velo_tables.specs.Noted.{maxima, alone_at, joint_at, with_room};
+
+use std::alloc::Global;
+use std::marker::Model;
+use velo_events::growth::reserve;
+use velo_events::{Memory, ThreadId};
+
+/// What the events of one place know of each thread, and what those of other threads than this one know of it. The lists
+/// are empty until the first event.
+#[derive(Debug, Drop)]
+pub(crate) struct PlaceClock {
+    known: Vec<u32>,
+    foreign: Vec<u32>,
+}
+
+impl Model for PlaceClock {
+    ghost use Rattle.velo_tables.specs.Clocks.{Clock};
+
+    ghost Value = { Clock };
+
+    ghost view = { λ p. record { known = p.known.items; foreign = p.foreign.items } };
+}
+
+/// Raises each number to that of the other list.
+pub(crate) fn raise(numbers: &mut [u32], others: &[u32])
+    requires { length others.now ≤ length numbers.old }
+    ensures { numbers.new ≡ maxima numbers.old others.now }
+{
+    for i in 0..others.len() {
+        numbers[i] = numbers[i].max(others[i]);
+    }
+}
+
+/// Fills the list up with zeros.
+fn fill_up(numbers: &mut Vec<u32>, count: usize)
+    requires { count ≤ vec_capacity numbers.old }
+    ensures { numbers.new.items ≡ filled_up 0 count numbers.old.items }
+{
+    if count <= numbers.len() {
+        return;
+    }
+    let missing = count - numbers.len();
+    for _ in 0..missing {
+        numbers.push_reserved(0);
+    }
+}
+
+/// Makes room for so many numbers.
+fn reserve_up(numbers: &mut Vec<u32>, count: usize) -> Result<(), Memory>
+    ensures items { numbers.new.items ≡ numbers.old.items }
+    ensures ok { OnOk result (count ≤ vec_capacity numbers.new) }
+    ensures refused { OnErr result (length numbers.old.items < count) }
+    ensures memory { OnErr result GrowthRefused }
+{
+    if numbers.len() < count {
+        let missing = count - numbers.len();
+        reserve(numbers, missing)?;
+    }
+    Ok(())
+}
+
+impl PlaceClock {
+    pub fn new(alloc: Global) -> PlaceClock
+        ensures { result ≡ blank_clock }
+    {
+        PlaceClock {
+            known: Vec::new(alloc),
+            foreign: Vec::new(alloc),
+        }
+    }
+
+    /// Makes room for the numbers of that many threads.
+    pub fn reserve(&mut self, threads: usize) -> Result<(), Memory>
+        ensures ok { OnOk result (self.new ≡ with_room threads self.old) }
+        ensures err { OnErr result (self.new ≡ self.old) }
+        ensures refused { OnErr result (threads ≤ length self.old.known → length self.old.foreign < threads) }
+        ensures memory { OnErr result GrowthRefused }
+    {
+        reserve_up(&mut self.known, threads)?;
+        reserve_up(&mut self.foreign, threads)?;
+        fill_up(&mut self.known, threads);
+        fill_up(&mut self.foreign, threads);
+        Ok(())
+    }
+
+    /// What the events of other threads know of this one.
+    pub fn foreign(&self, t: ThreadId) -> u32
+        ensures { result ≡ slice_index_or self.now.foreign t.0 0 }
+    {
+        if (t.0 as usize) < self.foreign.len() {
+            self.foreign[t.0 as usize]
+        } else {
+            0
+        }
+    }
+
+    /// Writes down what the events know.
+    pub fn copy_to(&self, clock: &mut [u32])
+        requires { length self.now.known ≡ length clock.old }
+        ensures { clock.new ≡ self.now.known }
+    {
+        clock.copy_from_slice(&self.known);
+    }
+
+    /// Raises what an event knows by what the events here know.
+    pub fn join_to(&self, clock: &mut [u32])
+        requires { length self.now.known ≤ length clock.old }
+        ensures { clock.new ≡ maxima clock.old self.now.known }
+    {
+        raise(clock, &self.known);
+    }
+
+    /// An event of the thread stands here alone.
+    pub fn replace(&mut self, clock: &[u32], by: ThreadId)
+        requires known { length self.old.known ≡ length clock.now }
+        requires foreign { length self.old.foreign ≡ length clock.now }
+        requires by { by.0 < length clock.now }
+        ensures { self.new ≡ alone_at clock.now by.0 }
+    {
+        self.known.copy_from_slice(clock);
+        self.foreign.copy_from_slice(clock);
+        self.foreign[by.0 as usize] = 0;
+    }
+
+    /// An event of the thread stands here too.
+    pub fn add(&mut self, clock: &[u32], by: ThreadId)
+        requires known { length self.old.known ≡ length clock.now }
+        requires foreign { length self.old.foreign ≡ length clock.now }
+        requires by { by.0 < length clock.now }
+        ensures { self.new ≡ joint_at self.old clock.now by.0 }
+    {
+        let own = self.foreign[by.0 as usize];
+        raise(&mut self.known, clock);
+        raise(&mut self.foreign, clock);
+        self.foreign[by.0 as usize] = own;
+    }
+}

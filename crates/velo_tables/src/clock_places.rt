@@ -1,0 +1,228 @@
+ghost use Rattle.velo_events.specs.Refusals.{GrowthRefused};
+ghost use Rattle.std.specs.Prelude.{◌≡◌, ◌<◌, ◌≤◌, ◌+◌, ◌^◌, [], length, slice_index_or, slice_set, replicate, IfOk, OnOk, OnErr};
+ghost use Rattle.velo_tables.specs.Readers.{filled_up};
+ghost use Rattle.velo_events.specs.Event.{thread_of};
+ghost use Rattle.velo_tables.specs.Clocks.{blank_clock, blame_bound, KnowsNothing, KnowsTheSame};
+ghost use Rattle.velo_tables.specs.Noted.{maxima, alone_at, joint_at, with_room, joined_clock, state_after, HasRoomAt, AreWithin, KeepNumbers, IsSized, HasRoomToNote, IsOfThreads};
+
+use crate::clock_place::PlaceClock;
+use std::alloc::Global;
+use std::marker::Model;
+use velo_events::growth::{reserve, with_capacity};
+use velo_events::{Event, Kind, Memory, ThreadId};
+
+/// What is known at the places of a run, by number.
+#[derive(Debug, Drop)]
+pub(crate) struct PlaceClocks {
+    threads: Vec<PlaceClock>,
+    writes: Vec<PlaceClock>,
+    reads: Vec<PlaceClock>,
+    locks: Vec<PlaceClock>,
+}
+
+impl Model for PlaceClocks {
+    ghost use Rattle.velo_tables.specs.Clocks.{ClockState};
+
+    ghost Value = { ClockState };
+
+    ghost view = { λ s. record { threads = s.threads.items; writes = s.writes.items; reads = s.reads.items; locks = s.locks.items } };
+}
+
+/// The places of that many threads, with room for what their events know.
+fn blank_threads(alloc: Global, threads: usize) -> Result<Vec<PlaceClock>, Memory>
+    ensures blank { IfOk result (λ places. places.items ≡ replicate threads (with_room threads blank_clock)) }
+    ensures memory { OnErr result GrowthRefused }
+{
+    let mut places = with_capacity(alloc, threads)?;
+    for _ in 0..threads {
+        let mut place = PlaceClock::new(alloc);
+        place.reserve(threads)?;
+        places.push_reserved(place);
+    }
+    Ok(places)
+}
+
+/// Makes room for the place with this number.
+fn grow(places: &mut Vec<PlaceClock>, number: usize) -> Result<(), Memory>
+    requires { number < 2 ^ 32 }
+    ensures ok { OnOk result (places.new.items ≡ filled_up blank_clock (number + 1) places.old.items) }
+    ensures err { OnErr result (places.new.items ≡ places.old.items) }
+    ensures refused { OnErr result (length places.old.items ≤ number) }
+    ensures memory { OnErr result GrowthRefused }
+{
+    if number < places.len() {
+        return Ok(());
+    }
+    let missing = number + 1 - places.len();
+    reserve(places, missing)?;
+    let alloc = *places.allocator();
+    for _ in 0..missing {
+        places.push_reserved(PlaceClock::new(alloc));
+    }
+    Ok(())
+}
+
+/// Makes room for the numbers of so many threads at the place.
+fn grow_place(places: &mut Vec<PlaceClock>, number: usize, threads: usize) -> Result<(), Memory>
+    requires { number < length places.old.items }
+    ensures ok { OnOk result (places.new.items ≡ slice_set places.old.items number (with_room threads (slice_index_or places.old.items number blank_clock))) }
+    ensures err { OnErr result (places.new.items ≡ places.old.items) }
+    ensures refused { OnErr result (¬ HasRoomAt threads places.old.items number) }
+    ensures memory { OnErr result GrowthRefused }
+{
+    let place = &mut places[number];
+    place.reserve(threads)
+}
+
+/// Makes room for an event of one of so many threads at the place with this number.
+fn make_room(places: &mut Vec<PlaceClock>, number: usize, threads: usize) -> Result<(), Memory>
+    requires fits { number < 2 ^ 32 }
+    requires within { AreWithin threads places.old.items }
+    ensures same { KeepNumbers places.old.items places.new.items }
+    ensures within { AreWithin threads places.new.items }
+    ensures ok { OnOk result (HasRoomAt threads places.new.items number) }
+    ensures refused { OnErr result (0 < threads → ¬ HasRoomAt threads places.old.items number) }
+    ensures memory { OnErr result GrowthRefused }
+{
+    grow(places, number)?;
+    grow_place(places, number, threads)
+}
+
+/// What the events of other threads than this one, at the place with this number, know of it.
+fn foreign_at(places: &[PlaceClock], number: usize, t: ThreadId) -> u32
+    ensures { result ≡ slice_index_or (slice_index_or places.now number blank_clock).foreign t.0 0 }
+{
+    if number < places.len() {
+        places[number].foreign(t)
+    } else {
+        0
+    }
+}
+
+/// Raises what an event knows by what the events of the place with this number know.
+fn join_place(clock: &mut [u32], places: &[PlaceClock], number: usize)
+    requires { AreWithin (length clock.old) places.now }
+    ensures { clock.new ≡ maxima clock.old (slice_index_or places.now number blank_clock).known }
+{
+    if number < places.len() {
+        places[number].join_to(clock);
+    }
+}
+
+/// An event of the thread stands alone at the place with this number.
+fn replace_place(places: &mut [PlaceClock], number: usize, clock: &[u32], by: ThreadId)
+    requires room { HasRoomAt (length clock.now) places.old number }
+    requires by { by.0 < length clock.now }
+    ensures { places.new ≡ slice_set places.old number (alone_at clock.now by.0) }
+{
+    let place = &mut places[number];
+    place.replace(clock, by);
+}
+
+/// An event of the thread stands at the place with this number too.
+fn add_place(places: &mut [PlaceClock], number: usize, clock: &[u32], by: ThreadId)
+    requires room { HasRoomAt (length clock.now) places.old number }
+    requires by { by.0 < length clock.now }
+    ensures { places.new ≡ slice_set places.old number (joint_at (slice_index_or places.old number blank_clock) clock.now by.0) }
+{
+    let place = &mut places[number];
+    place.add(clock, by);
+}
+
+impl PlaceClocks {
+    /// Places of that many threads, at which nothing is known.
+    pub fn new(alloc: Global, threads: usize) -> Result<PlaceClocks, Memory>
+        ensures sized { IfOk result (IsSized threads) }
+        ensures blank { IfOk result KnowsNothing }
+        ensures memory { OnErr result GrowthRefused }
+    {
+        let blanks = blank_threads(alloc, threads)?;
+        Ok(PlaceClocks {
+            threads: blanks,
+            writes: Vec::new(alloc),
+            reads: Vec::new(alloc),
+            locks: Vec::new(alloc),
+        })
+    }
+
+    /// Makes room for what the event notes.
+    pub fn reserve_for(&mut self, event: &Event, threads: usize) -> Result<(), Memory>
+        requires { IsSized threads self.old }
+        ensures unchanged { KnowsTheSame self.old self.new }
+        ensures sized { IsSized threads self.new }
+        ensures ok { OnOk result (IsOfThreads threads event.now → HasRoomToNote threads self.new event.now) }
+        ensures err { OnErr result (¬ HasRoomToNote threads self.old event.now) }
+        ensures memory { OnErr result GrowthRefused }
+    {
+        match event.kind {
+            Kind::Read(x, _) => make_room(&mut self.reads, x.0 as usize, threads),
+            Kind::Write(x, _) => make_room(&mut self.writes, x.0 as usize, threads),
+            Kind::Acquire(m) | Kind::Release(m) => {
+                make_room(&mut self.locks, m.0 as usize, threads)
+            }
+            _ => Ok(()),
+        }
+    }
+
+    /// Writes down what the event at the position knows.
+    #[tactic(auto, unfolding(crate::specs::Noted::joined_clock))]
+    pub fn join(&self, clock: &mut [u32], position: u32, event: &Event)
+        requires sized { IsSized (length clock.old) self.now }
+        requires own { thread_of event.now < length clock.old }
+        requires fits { position + 1 < 2 ^ 32 }
+        ensures { clock.new ≡ joined_clock self.now position event.now }
+    {
+        self.threads[event.thread.0 as usize].copy_to(clock);
+        match event.kind {
+            Kind::Read(x, _) => join_place(clock, &self.writes, x.0 as usize),
+            Kind::Write(x, _) => {
+                join_place(clock, &self.writes, x.0 as usize);
+                join_place(clock, &self.reads, x.0 as usize);
+            }
+            Kind::Acquire(m) | Kind::Release(m) => join_place(clock, &self.locks, m.0 as usize),
+            Kind::Join(u) => join_place(clock, &self.threads, u.0 as usize),
+            _ => {}
+        }
+        clock[event.thread.0 as usize] = position + 1;
+    }
+
+    /// Notes the event, which knows this.
+    #[tactic(auto, unfolding(crate::specs::Noted::state_after))]
+    pub fn note(&mut self, clock: &[u32], event: &Event)
+        requires sized { IsSized (length clock.now) self.old }
+        requires room { HasRoomToNote (length clock.now) self.old event.now }
+        ensures { self.new ≡ state_after self.old clock.now event.now }
+    {
+        let by = event.thread;
+        replace_place(&mut self.threads, by.0 as usize, clock, by);
+        match event.kind {
+            Kind::Read(x, _) => add_place(&mut self.reads, x.0 as usize, clock, by),
+            Kind::Write(x, _) => replace_place(&mut self.writes, x.0 as usize, clock, by),
+            Kind::Acquire(m) | Kind::Release(m) => {
+                replace_place(&mut self.locks, m.0 as usize, clock, by)
+            }
+            Kind::Fork(u) => replace_place(&mut self.threads, u.0 as usize, clock, by),
+            _ => {}
+        }
+    }
+
+    /// The open blocks of the event's thread that begin below it are to blame.
+    pub fn bound(&self, event: &Event) -> usize
+        ensures { result ≡ blame_bound self.now event.now }
+    {
+        let t = event.thread;
+        match event.kind {
+            Kind::Read(x, _) => foreign_at(&self.writes, x.0 as usize, t) as usize,
+            Kind::Write(x, _) => {
+                let writes = foreign_at(&self.writes, x.0 as usize, t);
+                let reads = foreign_at(&self.reads, x.0 as usize, t);
+                writes.max(reads) as usize
+            }
+            Kind::Acquire(m) | Kind::Release(m) => {
+                foreign_at(&self.locks, m.0 as usize, t) as usize
+            }
+            Kind::Join(u) => foreign_at(&self.threads, u.0 as usize, t) as usize,
+            _ => 0,
+        }
+    }
+}

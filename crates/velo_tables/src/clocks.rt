@@ -1,0 +1,75 @@
+ghost use Rattle.velo_events.specs.Refusals.{GrowthRefused};
+ghost use Rattle.std.specs.Prelude.{◌≡◌, ◌+◌, ◌<◌, ◌^◌, length, IfOk, OnOk, OnErr};
+ghost use Rattle.velo_tables.specs.Clocks.{blame_bound, KnowsNothing, IsNoted, KnowsTheSame};
+ghost use Rattle.velo_tables.specs.Noted.{IsSized, HasRoomToNote, IsOfThreads};
+
+use crate::clock_places::PlaceClocks;
+use std::alloc::Global;
+use std::marker::Model;
+use velo_events::growth::filled;
+use velo_events::{Config, Event, Memory};
+
+/// How far the events at each place know each thread: the last event of each thread, the last write of each variable, all
+/// its reads so far, and the last event of each lock.
+#[derive(Debug, Drop)]
+pub struct ClockTables {
+    places: PlaceClocks,
+    /// The clock of the event that is being noted, so that noting takes no memory.
+    clock: Vec<u32>,
+}
+
+impl Model for ClockTables {
+    ghost use Rattle.std.specs.Prelude.{length};
+    ghost use Rattle.velo_tables.specs.Clocks.{ClockState};
+    ghost use Rattle.velo_tables.specs.Noted.{IsSized};
+
+    ghost Value = { ClockState };
+
+    ghost view = { λ t. t.places };
+
+    ghost invariant = { λ t. IsSized (length t.clock.items) t.places };
+}
+
+impl ClockTables {
+    /// Tables of a run's threads, at which nothing is known.
+    pub fn new(alloc: Global, config: &Config) -> Result<ClockTables, Memory>
+        ensures blank { IfOk result KnowsNothing }
+        ensures threads { IfOk result (λ tables. length tables.threads ≡ config.now.bounds.threads) }
+        ensures memory { OnErr result GrowthRefused }
+    {
+        let threads = config.bounds.threads as usize;
+        let clock = filled(alloc, 0u32, threads)?;
+        let places = PlaceClocks::new(alloc, threads)?;
+        Ok(ClockTables { places, clock })
+    }
+
+    /// Makes room for what the event notes. Nothing that is known changes, also where it is refused.
+    pub fn reserve_for(&mut self, event: &Event) -> Result<(), Memory>
+        ensures unchanged { KnowsTheSame self.old self.new }
+        ensures threads { length self.new.threads ≡ length self.old.threads }
+        ensures ok { OnOk result (IsOfThreads (length self.old.threads) event.now → HasRoomToNote (length self.new.threads) self.new event.now) }
+        ensures err { OnErr result (¬ HasRoomToNote (length self.old.threads) self.old event.now) }
+        ensures memory { OnErr result GrowthRefused }
+    {
+        let threads = self.clock.len();
+        self.places.reserve_for(event, threads)
+    }
+
+    /// Notes the event at the position.
+    pub fn note(&mut self, position: u32, event: &Event)
+        requires room { HasRoomToNote (length self.old.threads) self.old event.now }
+        requires fits { position + 1 < 2 ^ 32 }
+        ensures noted { IsNoted self.old position event.now self.new }
+        ensures threads { length self.new.threads ≡ length self.old.threads }
+    {
+        self.places.join(&mut self.clock, position, event);
+        self.places.note(&self.clock, event);
+    }
+
+    /// The open blocks of the event's thread that begin below it are to blame.
+    pub fn bound(&self, event: &Event) -> usize
+        ensures { result ≡ blame_bound self.now event.now }
+    {
+        self.places.bound(event)
+    }
+}

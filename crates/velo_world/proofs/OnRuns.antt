@@ -1,0 +1,85 @@
+-- The events that the monitor of a run took in.
+use Rattle.std.proofs.Common.{◌≡◌, ℕ, ◌+◌, ◌<◌, ◌≤◌, List, [], ◌∷◌, ◌++◌, length, take, take_all, map, Option, Some, None, Result, Ok, Err, refl, sym, ap, ◌∙◌, subst, arith, inl, inr, ⊎_elim}
+use Rattle.std.specs.Prelude.{IsTrue, IsFalse, is_some, filter_map, OnOk}
+use Rattle.std.proofs.lemmas.Bool.{false≢true}
+use Rattle.std.proofs.lemmas.List.{take-append-le}
+use Rattle.std.proofs.lemmas.List.Sums.{count_by-le-length}
+use Rattle.velo_events.specs.declared.config.Bounds.{Bounds}
+use Rattle.velo_events.specs.declared.event.Event.{Event}
+use Rattle.velo_events.specs.Collection.{HasManyLive}
+use Rattle.velo_events.specs.Graph.{HasCycle, IsClosing}
+use Rattle.velo_events.specs.WellFormed.{MayFollow}
+use Rattle.velo_events.proofs.OnGraphs.{IsClosing-unique, HasCycle-from_closing}
+use Rattle.velo_events.specs.Merge.{GetsNew}
+use Rattle.velo_arena.specs.Slots.{Slots, used_in, limit_of}
+use Rattle.velo_tables.specs.Place.{Place, looked_up}
+use Rattle.velo_tables.specs.Kept.{Kept, entry, steps_looked_up, HasRoomFor}
+use Rattle.velo_graph.specs.Nodes.{Nodes}
+use Rattle.velo_merge.specs.Named.{live_stamps, HasFinished, IsAncestor}
+use Rattle.velo_monitor.specs.Watched.{Watched, IsMonitorOf}
+use Rattle.velo_monitor.specs.Answers.{NeedsNode}
+use Rattle.velo_world.specs.declared.run.Alarm.{Alarm}
+use Rattle.velo_world.specs.World.{AlarmOf, IsWatchedPart}
+use Rattle.velo_world.specs.Run.{events_watched, HasSlotFor, HasRoomForNext}
+use Rattle.velo_world.specs.declared.run.Run.{Run}
+
+pub alarm-none : (alarm : Option Alarm) → IsFalse (is_some alarm) → alarm ≡ None
+alarm-none None is = refl
+alarm-none (Some a) is = absurd (false≢true (sym is))
+
+pub alarm-not_none : (alarm : Option Alarm) → IsTrue (is_some alarm) → alarm ≡ None → ⊥
+alarm-not_none None some is = false≢true some
+alarm-not_none (Some a) some is = cc
+
+-- after an alarm nothing is taken in
+pub events_watched-stays : (log : List Event) (e : Event) (alarm : Option Alarm) → IsTrue (is_some alarm) → AlarmOf log alarm → events_watched (log ++ e ∷ []) alarm ≡ events_watched log alarm
+events_watched-stays log e None some are = absurd (false≢true some)
+events_watched-stays log e (Some a) some are = let lt = are.closing.in_trace in take-append-le a.position log (e ∷ []) (omega (arith, lt))
+
+-- before it all is
+pub events_watched-none : (log : List Event) (alarm : Option Alarm) → IsFalse (is_some alarm) → events_watched log alarm ≡ log
+events_watched-none log None none = refl
+events_watched-none log (Some a) none = absurd (false≢true (sym none))
+
+pub take-before : (log : List Event) (e : Event) → take (length log) (log ++ e ∷ []) ≡ log
+take-before log e = take-append-le (length log) log (e ∷ []) (omega arith) ∙ take_all (length log) log (omega arith)
+
+-- the events watched, as the log alone tells them
+pub events_watched-part : (log trace : List Event) (alarm : Option Alarm) → AlarmOf log alarm → IsWatchedPart log trace → trace ≡ events_watched log alarm
+events_watched-part log trace None are part = ⊎_elim (λ whole. whole.1) (λ front. absurd (are (HasCycle-from_closing log front.0 front.1))) part.part
+events_watched-part log trace (Some a) are part =
+    ⊎_elim (λ whole. absurd (whole.0 (HasCycle-from_closing log a.position are.closing))) (λ front. front.2 ∙ ap (λ n. take n log) (IsClosing-unique log front.0 a.position front.1 are.closing)) part.part
+
+-- ---- room
+
+pub used-le : (slots : Slots) → used_in slots ≤ limit_of slots
+used-le slots = count_by-le-length is_some slots.nodes
+
+pub many-live : (trace : List Event) (slots : Slots) (used nodes : ℕ) → limit_of slots ≡ nodes → used ≡ used_in slots → nodes ≤ used → HasManyLive trace used → HasManyLive trace nodes
+many-live trace slots used nodes limit is full live = subst (HasManyLive trace) (let le = used-le slots in omega (arith, le, limit, is, full)) live
+
+filter_map-same : {X Y : Type 0} (f g : X → Option Y) (xs : List X) → ((x : X) → f x ≡ g x) → filter_map f xs ≡ filter_map g xs
+filter_map-same f g [] same = refl
+filter_map-same f g (x ∷ xs) same = rw (same x, filter_map-same f g xs same) refl
+
+steps-reserved : (old new : Kept) (e : Event) → ((p : Place) → entry new p ≡ entry old p) → steps_looked_up new e ≡ steps_looked_up old e
+unfolding steps_looked_up
+steps-reserved old new e same = filter_map-same (entry new) (entry old) (looked_up e) same
+
+-- a monitor that made room looks up the same steps
+pub NeedsNode-reserved : (old new : Watched) (trace : List Event) (e : Event) → new.nodes ≡ old.nodes → ((p : Place) → entry new.kept p ≡ entry old.kept p) → NeedsNode new trace e → NeedsNode old trace e
+NeedsNode-reserved old new trace e nodes same needs =
+    ⊎_elim inl (λ outside. inr (outside.0,
+      subst (λ (n : Nodes). GetsNew (HasFinished n) (IsAncestor n) (live_stamps n (steps_looked_up old.kept e))) nodes
+      (subst (λ steps. GetsNew (HasFinished new.nodes) (IsAncestor new.nodes) (live_stamps new.nodes steps)) (steps-reserved old.kept new.kept e same) outside.1))) needs
+
+pub room-reserved : {T E : Type 0} (old new : Run) (e : Event) (bounds : Bounds) (reserved : Result T E) → new.alarm ≡ old.alarm → new.log.events ≡ old.log.events → 0 < new.log.room → new.monitor.nodes ≡ old.monitor.nodes → ((p : Place) → entry new.monitor.kept p ≡ entry old.monitor.kept p) → HasSlotFor old e → IsMonitorOf bounds old.monitor old.log.events → MayFollow bounds old.log.events e → OnOk reserved ((b : Bounds) (trace : List Event) → IsMonitorOf b old.monitor trace → MayFollow b trace e → HasRoomFor new.monitor.kept e) → OnOk reserved (HasRoomForNext new e)
+room-reserved old new e bounds (Err x) alarm log room nodes entries slot stands follows made = tt
+room-reserved old new e bounds (Ok x) alarm log room nodes entries slot stands follows made = record {
+  log = room;
+  monitor = λ _. made bounds old.log.events stands follows;
+  slot = record {
+    slot = λ none needs.
+        rw nodes (slot.slot (sym alarm ∙ none) (NeedsNode-reserved old.monitor new.monitor old.log.events e nodes entries (subst (λ trace. NeedsNode new.monitor trace e) log needs)));
+  };
+}

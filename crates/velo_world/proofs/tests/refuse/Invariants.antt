@@ -1,5 +1,0 @@
-use Rattle.velo_world.specs.Holdings.{HoldsLiveShares}
-use Rattle.velo_world.proofs.tests.refuse.Given as goal
-
-abbrev pub invariant-loop-i : goal.invariant-loop-i
-invariant-loop-i g l = HoldsLiveShares l.world l.shares

@@ -1,0 +1,30 @@
+//! Growing calls of `clap`, each with the fact that its refusal leaves. No other code of this
+//! crate can show this fact.
+ghost use Rattle.std.specs.Prelude.{OnErr};
+ghost use Rattle.velo_events.specs.Refusals.{GrowthRefused};
+
+use clap::{Arg, Command};
+use velo_events::Memory;
+
+/// The command with one more argument.
+pub fn with_argument<'a>(command: Command<'a>, argument: Arg<'a>) -> Result<Command<'a>, Memory>
+    ensures memory { OnErr result GrowthRefused }
+{
+    match command.arg(argument) {
+        Ok(command) => Ok(command),
+        Err(_) => Err(Memory),
+    }
+}
+
+/// The command with one more subcommand.
+pub fn with_subcommand<'a>(
+    command: Command<'a>,
+    subcommand: Command<'a>,
+) -> Result<Command<'a>, Memory>
+    ensures memory { OnErr result GrowthRefused }
+{
+    match command.subcommand(subcommand) {
+        Ok(command) => Ok(command),
+        Err(_) => Err(Memory),
+    }
+}

@@ -1,0 +1,129 @@
+//! Logs by chance, and their reports by the definitions in the slowest way.
+ghost use Rattle.std.specs.Prelude.{◌≤◌};
+
+use crate::check::{config_of, open_world};
+use std::alloc::{AllocError, Global};
+use std::test::Fail;
+use velo_events::{
+    Action, Bounds, Label, LockId, MOST_EVENTS, MOST_NODES, Memory, ThreadId, VarId, conflicts,
+};
+use velo_traces::Trace;
+use velo_world::World;
+
+/// The bounds of logs by chance.
+pub const BOUNDS: Bounds = Bounds {
+    threads: 4,
+    variables: 2,
+    locks: 1,
+};
+
+/// An action by a throw of the dice.
+fn action_by(dice: u64) -> Action {
+    let x = VarId(((dice >> 5) % 2) as u16);
+    match dice % 32 {
+        0..=8 => Action::Read(x),
+        9..=17 => Action::Write(x, dice >> 58),
+        18 | 19 => Action::Acquire(LockId(0)),
+        20 | 21 => Action::Release(LockId(0)),
+        22..=24 => Action::Begin(Label(1)),
+        25..=27 => Action::End,
+        28 => Action::Fork(ThreadId(3)),
+        29 => Action::Join(ThreadId(2)),
+        30 => Action::Join(ThreadId(3)),
+        _ => Action::Exit,
+    }
+}
+
+/// A world whose log came about by chance: of 48 actions those that were not refused.
+pub fn world_by_chance(alloc: Global, seed: u64) -> Result<World, Fail> {
+    let config = config_of(BOUNDS, MOST_EVENTS, MOST_NODES);
+    let (mut world, mut shares) = open_world(alloc, config)?;
+    let mut dice = seed;
+    for i in 0..48u8 {
+        dice = dice
+            .wrapping_mul(6_364_136_223_846_793_005)
+            .wrapping_add(1_442_695_040_888_963_407);
+        let thread = if i < 2 { 0 } else { (dice >> 33) % 4 };
+        let action = match i {
+            0 => Action::Fork(ThreadId(1)),
+            1 => Action::Fork(ThreadId(2)),
+            _ => action_by(dice >> 35),
+        };
+        let _outcome = world.step(&mut shares, ThreadId(thread as u8), action);
+    }
+    Ok(world)
+}
+
+/// Joins to the pairs, where the first reaches the second, all that one more edge makes reachable.
+fn add_edge(
+    alloc: Global,
+    reaches: &mut Vec<(usize, usize)>,
+    from: usize,
+    to: usize,
+) -> Result<(), Memory> {
+    let mut sources: Vec<usize> = Vec::new(alloc);
+    let mut targets: Vec<usize> = Vec::new(alloc);
+    sources.push(from)?;
+    targets.push(to)?;
+    for (a, b) in reaches.iter() {
+        if *b == from {
+            sources.push(*a)?;
+        }
+        if *a == to {
+            targets.push(*b)?;
+        }
+    }
+    for a in sources.iter() {
+        for b in targets.iter() {
+            if !reaches.contains(&(*a, *b)) {
+                reaches.push((*a, *b))?;
+            }
+        }
+    }
+    Ok(())
+}
+
+/// The first position up to which the events have a cycle, by all pairs of events.
+fn first_closing(alloc: Global, trace: &Trace) -> Result<Option<usize>, Memory> {
+    let mut reaches: Vec<(usize, usize)> = Vec::new(alloc);
+    let events = trace.as_slice();
+    for at in 0..events.len() {
+        for before in 0..at {
+            let from = trace.owner_of(before);
+            let to = trace.owner_of(at);
+            if from != to && conflicts(&events[before], &events[at]) {
+                if reaches.contains(&(to, from)) {
+                    return Ok(Some(at));
+                }
+                add_edge(alloc, &mut reaches, from, to)?;
+            }
+        }
+    }
+    Ok(None)
+}
+
+/// The first lines of the report of a trace, up to the transaction of an alarm.
+pub fn first_lines(alloc: Global, trace: &Trace) -> Result<String, Fail> {
+    let mut text = format!(in alloc; "events {}\n", trace.len())?;
+    for t in 0..BOUNDS.threads {
+        let mut count = 0usize;
+        for event in trace.as_slice() {
+            if event.thread == ThreadId(t) {
+                count = count.wrapping_add(1);
+            }
+        }
+        writeln!(text, "thread {t} {count}")?;
+    }
+    match first_closing(alloc, trace)? {
+        Some(at) => {
+            let transaction = if at < trace.len() {
+                trace.owner_of(at)
+            } else {
+                at
+            };
+            writeln!(text, "verdict alarm {at}\ntransaction {transaction}")?;
+        }
+        None => writeln!(text, "verdict clean")?,
+    }
+    Ok(text)
+}
