@@ -283,9 +283,12 @@ fn is_awaited(room: &Room, caller: ThreadId, thread: ThreadId) -> bool {
     thread.0 < room.bounds().threads && comes_back(room, caller, Wanted::Thread(thread))
 }
 
+/// How often a test looks at a room before it gives up.
+const MOST_LOOKS: u32 = 300_000;
+
 /// Looks at the room until the thread waits for the caller, or until it does not. Answers false after many looks.
 fn sees(rt: &impl Wait, shared: &Shared, caller: u8, thread: u8, waiting: bool) -> bool {
-    for _ in 0..1_000_000u32 {
+    for _ in 0..MOST_LOOKS {
         {
             let room = shared.room.lock(rt);
             if is_awaited(&room, ThreadId(caller), ThreadId(thread)) == waiting {
