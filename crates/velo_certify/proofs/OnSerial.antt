@@ -2,7 +2,7 @@
 use Rattle.std.proofs.Common.{◌≡◌, ◌≢◌, ℕ, zero, suc, ◌+◌, ◌-◌, ◌<◌, ◌≤◌, Bool, true, false, cond, not, List, [], ◌∷◌, ◌++◌, length, get_or, set, replicate, refl, sym, ap, ◌∙◌, subst, arith, ⊎_elim, inl, inr}
 use Rattle.std.specs.Prelude.{◌⊎◌, ◌↔◌, ◌==◌, ◌||◌, filter, count_by, slice_index, slice_index_or, IsTrue, IsFalse, Contains}
 use Rattle.std.specs.List.{range_with_len, list_any}
-use Rattle.std.proofs.lemmas.Bool.{cases_Bool, cases_eq, cases_lt, eq-eqb, eqb-true, ne_eqb, or_left, or_right, or_from, or_cases, le-ltb, both_ways, false≢true, false_from_ne_true}
+use Rattle.std.proofs.lemmas.Bool.{cases_Bool, cases_eq, cases_lt, eq-eqb, eqb-true, ne_eqb, or_left, or_right, or_from, or_cases, le-ltb, lt-ltb, both_ways, false≢true, false_from_ne_true}
 use Rattle.std.proofs.lemmas.List.{append-nil, length-set, get_or-set_same, get_or-set_other, get_or_past, length-replicate, get_or-replicate, flat_map_more}
 use Rattle.std.proofs.lemmas.List.Elements.{filter-append}
 use Rattle.std.proofs.lemmas.List.Folds.{list_any-append}
@@ -268,3 +268,16 @@ left-set listed a within new =
 -- what was listed stays so
 pub has-set : (listed : List Bool) (a b : ℕ) → a < length listed → IsTrue (has listed b) → IsTrue (has (set listed a true) b)
 has-set listed a b within h = ⊎_elim (λ e. ap (has (set listed a true)) e ∙ get_or-set_same listed a true false within) (λ e. get_or-set_other listed a b true false e ∙ h) (cases_eq b a)
+
+-- positions with a number stand from the first one that is not of a listed transaction on
+pub others_left-between : (trace : List Event) (listed : List Bool) (a first end : ℕ) → ((i : ℕ) → i < first → i < length trace → IsTrue (has listed (owner trace i))) → first ≤ length trace → (i : ℕ) → 0 < numbers_before (others_left trace listed a) end i → (first ≤ i) × (i < end)
+others_left-between trace listed a first end h within i some = (
+  ⊎_elim (λ l. absurd (let none = others_left-listed trace listed a i (h i l (omega (arith, l, within))) in let is = number_is before in omega (arith, none, is, some))) (λ g. g) (cases_lt i first),
+  before,
+)
+  where
+    before : i < end
+    before = ⊎_elim (λ l. l) (λ g. absurd (let none : numbers_before (others_left trace listed a) end i ≡ 0 = ap (λ b. cond {A = ℕ} b (others_left trace listed a i) 0) (le-ltb i end g) in omega (arith, none, some))) (cases_lt i end)
+
+    number_is : i < end → numbers_before (others_left trace listed a) end i ≡ others_left trace listed a i
+    number_is l = ap (λ b. cond {A = ℕ} b (others_left trace listed a i) 0) (lt-ltb i end l)

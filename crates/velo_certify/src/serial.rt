@@ -9,7 +9,7 @@ ghost use Rattle.velo_events.specs.WellFormed.{IsWellFormed};
 ghost use Rattle.velo_events.specs.declared.config.Bounds.{Bounds};
 ghost use Rattle.velo_certify.specs.Reordered.{LeavesSameHeap};
 ghost use Rattle.velo_certify.specs.Owners.{AreOwners};
-ghost use Rattle.velo_certify.specs.Table.{HasNumbers, numbers_before, AllNameRows, sizes};
+ghost use Rattle.velo_certify.specs.Table.{HasNumbers, numbers_before, AllNameRows, AreBlank, sizes};
 ghost use Rattle.velo_certify.specs.Serial.{has, number_left, others_left, HoldsBack, IsFreeAt, IsFree, IsCandidate, AreLast, IsNext, IsOrderFault};
 
 use crate::CertFault;
@@ -91,17 +91,21 @@ fn is_free(
     requires first { (i : ℕ) → i < first → i < length events.now → IsTrue (has listed.now (owner events.now i)) }
     requires last { (i : ℕ) → i < length events.now → owner events.now i ≡ a → i ≤ last }
     requires here { first ≤ a }
+    requires upto { a ≤ last }
+    requires blank { AreBlank table.old }
     ensures names { sizes table.new ≡ sizes table.old }
+    ensures blank { AreBlank table.new }
     ensures yes { IsTrue result → IsFree events.now listed.now a }
     ensures no { IsFalse result → ¬ IsFree events.now listed.now a }
 {
-    table.clear();
-    for at in first..last + 1 {
-        if holds_back(events, owners, listed, table, a, at) {
-            return false;
-        }
+    let mut held = false;
+    let mut end = first;
+    while end <= last && !held {
+        held = holds_back(events, owners, listed, table, a, end);
+        end += 1;
     }
-    true
+    table.forget_all(events, first, end);
+    !held
 }
 
 /// The last position of each transaction.
@@ -131,7 +135,9 @@ fn next_ready(
     requires count { length listed.now ≡ length events.now }
     requires names { AllNameRows (sizes table.old) events.now (length events.now) }
     requires first { (i : ℕ) → i < first → i < length events.now → IsTrue (has listed.now (owner events.now i)) }
+    requires blank { AreBlank table.old }
     ensures names { sizes table.new ≡ sizes table.old }
+    ensures blank { AreBlank table.new }
     ensures next { IsNext events.now listed.now result }
 {
     let mut stuck = false;

@@ -13,6 +13,7 @@ rounds-preserved c =
     let next = subst (λ xs. IsNext trace xs (Ready a)) c.deref-in-rounds-3.ensures.value c.in-Ready.ensures.next in
     record {
       names = subst (λ s. AllNameRows s trace (length trace)) (sym c.next_ready.ensures.names) c.rounds.invariant.names;
+      blank = c.next_ready.ensures.blank;
       lists = ListsSoFar-next trace listed order c.rounds.invariant.lists a next.0 next.1 next.2 c.append_positions.new.order.items c.in_ok-append_positions-in-Ready.ensures.ok;
       first = subst (λ xs. (i : ℕ) → i < c.first_left-first.result → i < length trace → IsTrue (has xs (owner trace i))) c.deref-in-Ready-3.ensures.value c.first_left-first.ensures;
     }
