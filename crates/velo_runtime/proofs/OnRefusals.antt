@@ -11,7 +11,7 @@ use Rattle.velo_events.specs.declared.event.Kind.TheVariants as kind
 use Rattle.velo_events.specs.declared.event.LockId.{LockId}
 use Rattle.velo_events.specs.declared.event.ThreadId.{ThreadId}
 use Rattle.velo_events.specs.declared.refusal.Refusal.{Refusal}
-use Rattle.velo_events.specs.declared.refusal.Refusal.TheVariants.{Halted, NotLive, NoSuchVariable, NoSuchLock, NoSuchThread, Busy, AlreadyHeld, NotHolder, NoOpenBlock, TooDeep, AlreadyForked, NotForked, NotExited, AlreadyJoined, BlockOpen, LockHeld, LogFull, GraphFull, Memory, WouldDeadlock, RuntimeMemory, Foreign}
+use Rattle.velo_events.specs.declared.refusal.Refusal.TheVariants.{Halted, NotLive, NoSuchVariable, NoSuchLock, NoSuchThread, Busy, AlreadyHeld, NotHolder, NoOpenBlock, TooDeep, AlreadyForked, NotForked, NotExited, AlreadyJoined, BlockOpen, LockHeld, LogFull, Memory, WouldDeadlock, RuntimeMemory, Foreign}
 use Rattle.velo_events.specs.Meaning.{kind_for, event_for, refusal_of}
 use Rattle.velo_events.specs.Refusals.{GrowthRefused}
 use Rattle.velo_ledger.specs.Views.{Holding}
@@ -73,7 +73,10 @@ pub record WorldRefuses (r : Refusal) : Type 0 where
 
 refuses-cause : {X : Type 0} (w w' : WorldState) (held held' : X) (t : ThreadId) (action : Action) (r : Refusal) → Refuses w held (meaning w t action) r w' held' → WorldRefuses r
 refuses-cause w w' held held' t action r refuses = record {
-  cause = ⊎_elim (λ due. inl (meaning-refusal w t action r due)) (λ memory. inr (memory.0, memory.1.1)) refuses.cause;
+  cause = ⊎_elim
+      (λ due. inl (meaning-refusal w t action r due))
+      (λ other. ⊎_elim (λ memory. inr (memory.0, memory.1.1)) (λ full. inl (rw full.0 refl)) other)
+      refuses.cause;
 }
 
 same_refusal : {X : Type 0} (r r' : Refusal) → ◌≡◌ {A = Result X Refusal} (Err r) (Err r') → r ≡ r'
@@ -160,7 +163,7 @@ due_there w t action _ h = tt
 
 refuses-there : (w w' : WorldState) (share share' : Holding) (action : Action) (r : Refusal) → Refuses w share (meaning w share.thread action) r w' share' → IfSome (wanted_by action r) (IsThere w'.config.bounds)
 refuses-there w w' share share' action r refuses =
-    rw refuses.world (⊎_elim (λ due. due_there w share.thread action r due) (λ memory. rw memory.0 tt) refuses.cause)
+    rw refuses.world (⊎_elim (λ due. due_there w share.thread action r due) (λ other. ⊎_elim (λ memory. rw memory.0 tt) (λ full. rw full.0 tt) other) refuses.cause)
 
 pub acts-there : (room room' : RoomState) (share share' : Holding) (action : Action) (outcome : Result Reply Refusal) → ActsIn room share action outcome room' share' → IfErr outcome (λ r. IfSome (wanted_by action r) (IsThere room'.world.config.bounds))
 acts-there room room' share share' action (Ok reply) acts = tt

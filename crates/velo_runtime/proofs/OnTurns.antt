@@ -1,7 +1,6 @@
 -- What follows from a turn: for its room, and for its seat.
-use Rattle.std.proofs.Common.{◌≡◌, ◌⊎◌, inl, inr, ⊎_elim, refl, ℕ, ap, ◌∙◌, sym, Ok, Err, List, length, set, replicate, false, true}
-use Rattle.std.specs.Prelude.{Result, Option, Some, None, Bool, All, IfSome, IsTrue, ◌↔◌}
-use Rattle.std.proofs.lemmas.Bool.{false≢true}
+use Rattle.std.proofs.Common.{◌≡◌, ◌⊎◌, inl, inr, ⊎_elim, refl, ℕ, ap, ◌∙◌, sym, Ok, Err, List, length, set, replicate}
+use Rattle.std.specs.Prelude.{Result, Option, Some, None, IfSome, ◌↔◌}
 use Rattle.std.proofs.lemmas.List.{length-set, length-replicate}
 use Rattle.std.proofs.lemmas.List.Elements.{All-same, All-set, All-replicate}
 use Rattle.velo_events.specs.declared.config.Bounds.{Bounds}
@@ -19,7 +18,6 @@ use Rattle.velo_runtime.specs.declared.wait.Wanted.{Wanted}
 use Rattle.velo_runtime.specs.declared.wait.Turn.{Turn}
 use Rattle.velo_runtime.specs.declared.wait.Turn.TheVariants.{Done, Refused, Wait}
 use Rattle.velo_runtime.specs.Rooms.{RoomState, IsThere, AreWaitsWithin}
-use Rattle.velo_runtime.specs.Waits.{ComesBackIn}
 use Rattle.velo_runtime.specs.Steps.{ActsIn}
 use Rattle.velo_runtime.specs.Turns.{wanted_by, RefusedFor, TurnOf, TakesTurn, TurnsIn}
 use Rattle.velo_runtime.specs.Seats.{GainsEventBy}

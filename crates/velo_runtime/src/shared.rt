@@ -17,7 +17,7 @@ use velo_world::Closed;
 /// A room under its lock, for any number of threads.
 #[derive(Drop)]
 pub struct Shared {
-    /// Whoever has the guard may do several actions in one hold, by `step_in` and its like.
+    /// Whoever has the guard may do several actions in one hold, by `step_in`, `fork_in` and `turn_in`. They wake nobody.
     pub room: Mutex<Room>,
     /// Notified when a waiting thread may go on.
     changed: Condvar,

@@ -6,6 +6,7 @@ use std::alloc::Global;
 use std::process::Abort;
 use std::sync::Wait;
 use std::thread;
+use std::time::{Clock, Duration};
 use velo_events::{Action, Bounds, Config, Event, Kind, Label, LockId, Refusal, ThreadId, VarId};
 use velo_world::{Closed, Reply};
 
@@ -283,11 +284,11 @@ fn is_awaited(room: &Room, caller: ThreadId, thread: ThreadId) -> bool {
     thread.0 < room.bounds().threads && comes_back(room, caller, Wanted::Thread(thread))
 }
 
-/// How often a test looks at a room before it gives up.
-const MOST_LOOKS: u32 = 300_000;
+/// How often a test looks at a room, once a millisecond, before it gives up.
+const MOST_LOOKS: u32 = 3_000;
 
-/// Looks at the room until the thread waits for the caller, or until it does not. Answers false after many looks.
-fn sees(rt: &impl Wait, shared: &Shared, caller: u8, thread: u8, waiting: bool) -> bool {
+/// Looks at the room until the thread waits for the caller, or until it does not.
+fn sees(rt: &(impl Wait + Clock), shared: &Shared, caller: u8, thread: u8, waiting: bool) -> bool {
     for _ in 0..MOST_LOOKS {
         {
             let room = shared.room.lock(rt);
@@ -295,35 +296,41 @@ fn sees(rt: &impl Wait, shared: &Shared, caller: u8, thread: u8, waiting: bool) 
                 return true;
             }
         }
-        thread::yield_now();
+        thread::sleep(rt, Duration::from_millis(1));
     }
     false
 }
 
-/// Whether the thread, which waited for the caller, goes on by itself. Else it is woken, so that no test waits forever.
-fn goes_on(rt: &impl Wait, shared: &Shared, caller: u8, thread: u8) -> bool {
-    let went_on = sees(rt, shared, caller, thread, false);
-    if !went_on {
-        shared.wake_all();
+/// Whether the log comes to so many events by itself. Else all are woken, so that no test waits forever.
+fn comes_to(rt: &(impl Wait + Clock), shared: &Shared, events: usize) -> bool {
+    for _ in 0..MOST_LOOKS {
+        {
+            let room = shared.room.lock(rt);
+            if room.count_events() >= events {
+                return true;
+            }
+        }
+        thread::sleep(rt, Duration::from_millis(1));
     }
-    went_on
+    shared.wake_all();
+    false
 }
 
-/// Releases the lock once the second thread waits for it, and joins that thread.
-fn release_and_join(rt: &impl Wait, shared: &Shared, first: &mut Seat) -> bool {
+/// Releases the lock once the second thread waits for it, and joins that thread once it has released the lock too.
+fn release_and_join(rt: &(impl Wait + Clock), shared: &Shared, first: &mut Seat) -> bool {
     let awaited = sees(rt, shared, 0, 1, true);
     let released = first.release(rt, shared, LOCK).is_ok();
-    let woken = goes_on(rt, shared, 0, 1);
+    let woken = comes_to(rt, shared, 5);
     awaited && released && woken && first.join(rt, shared, ThreadId(1)).is_ok()
 }
 
 /// Acquires the lock and releases it, and exits once the first thread waits for the exit.
-fn acquire_and_exit(rt: &impl Wait, shared: &Shared, second: &mut Seat) -> bool {
+fn acquire_and_exit(rt: &(impl Wait + Clock), shared: &Shared, second: &mut Seat) -> bool {
     let acquired = second.acquire(rt, shared, LOCK).is_ok();
     let released = second.release(rt, shared, LOCK).is_ok();
     let awaited = sees(rt, shared, 1, 0, true);
     let exited = second.exit(rt, shared).is_ok();
-    acquired && released && awaited && exited && goes_on(rt, shared, 1, 0)
+    acquired && released && awaited && exited && comes_to(rt, shared, 7)
 }
 
 #[test]
@@ -342,16 +349,26 @@ fn a_release_and_an_exit_wake(rt: HostRuntime) {
     assert!(rt; close(shared, seats).expect(&rt, "closed").total() == 7);
 }
 
-/// Halts the world once the second thread waits: by an alarm, or outright.
-fn halt_once_awaited(rt: &impl Wait, shared: &Shared, first: &mut Seat, by_alarm: bool) -> bool {
+/// Halts the world once the second thread waits, by an alarm or outright, and tells whether that thread goes on by itself.
+/// Else it is let go, so that no test waits forever.
+fn halt_once_awaited(
+    rt: &(impl Wait + Clock),
+    shared: &Shared,
+    first: &mut Seat,
+    by_alarm: bool,
+) -> bool {
     let awaited = sees(rt, shared, 0, 1, true);
     if by_alarm {
-        let written = first.write(rt, shared, X, 1);
-        awaited && written.is_ok() && goes_on(rt, shared, 0, 1)
+        let _ = first.write(rt, shared, X, 1);
     } else {
         shared.halt(rt);
-        awaited && goes_on(rt, shared, 0, 1)
     }
+    let woken = sees(rt, shared, 0, 1, false);
+    if !woken {
+        let _ = first.release(rt, shared, LOCK);
+        shared.wake_all();
+    }
+    awaited && woken
 }
 
 #[test]

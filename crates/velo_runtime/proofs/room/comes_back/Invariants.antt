@@ -1,4 +1,4 @@
-use Rattle.std.proofs.Common.{◌≡◌, ◌+◌, ◌-◌, length}
+use Rattle.std.proofs.Common.{◌+◌, ◌-◌, length}
 use Rattle.std.specs.Prelude.{◌↔◌, IfSome}
 use Rattle.velo_runtime.specs.Rooms.{IsThere}
 use Rattle.velo_runtime.specs.Waits.{ComesBackIn}
