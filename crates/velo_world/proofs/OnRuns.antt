@@ -69,9 +69,11 @@ steps-reserved old new e same = filter_map-same (entry new) (entry old) (looked_
 -- a monitor that made room looks up the same steps
 pub NeedsNode-reserved : (old new : Watched) (trace : List Event) (e : Event) → new.nodes ≡ old.nodes → ((p : Place) → entry new.kept p ≡ entry old.kept p) → NeedsNode new trace e → NeedsNode old trace e
 NeedsNode-reserved old new trace e nodes same needs =
-    ⊎_elim inl (λ outside. inr (outside.0,
+    ⊎_elim inl (λ outside. inr (
+      outside.0,
       subst (λ (n : Nodes). GetsNew (HasFinished n) (IsAncestor n) (live_stamps n (steps_looked_up old.kept e))) nodes
-      (subst (λ steps. GetsNew (HasFinished new.nodes) (IsAncestor new.nodes) (live_stamps new.nodes steps)) (steps-reserved old.kept new.kept e same) outside.1))) needs
+          (subst (λ steps. GetsNew (HasFinished new.nodes) (IsAncestor new.nodes) (live_stamps new.nodes steps)) (steps-reserved old.kept new.kept e same) outside.1),
+    )) needs
 
 pub room-reserved : {T E : Type 0} (old new : Run) (e : Event) (bounds : Bounds) (reserved : Result T E) → new.alarm ≡ old.alarm → new.log.events ≡ old.log.events → 0 < new.log.room → new.monitor.nodes ≡ old.monitor.nodes → ((p : Place) → entry new.monitor.kept p ≡ entry old.monitor.kept p) → HasSlotFor old e → IsMonitorOf bounds old.monitor old.log.events → MayFollow bounds old.log.events e → OnOk reserved ((b : Bounds) (trace : List Event) → IsMonitorOf b old.monitor trace → MayFollow b trace e → HasRoomFor new.monitor.kept e) → OnOk reserved (HasRoomForNext new e)
 room-reserved old new e bounds (Err x) alarm log room nodes entries slot stands follows made = tt

@@ -63,9 +63,9 @@ module _ (old : Inside) (t : ThreadId) (action : Action) (e : Event) (share : Ho
   pub IsWorldOfItsLog-performed : (halted : Bool) (run : Run) (book : Accounts) (kept : List (Option Holding)) → run.log.events ≡ log ++ e ∷ [] → bounds_of run.heap ≡ old.config.bounds → limit_of run.monitor.nodes.slots ≡ old.config.nodes → IsRunOfItsLog run → book ≡ with_row old.book share.thread (with_event share.tally (length log) e) → kept ≡ left_by old.kept action → IsWorldOfItsLog (record old { halted = halted; run = run; book = book; kept = kept })
   IsWorldOfItsLog-performed halted run book kept events_is bounds_is nodes_is run_is book_is kept_is = record {
     short =
-      (let room = meaning-room (state_of old) t action e due.due in
-      let long : length run.log.events ≡ length (old.run.log.events ++ e ∷ []) = ap length events_is ∙ ap (λ (l : List Event). length (l ++ e ∷ [])) log_is in
-      omega (arith, long, room, length-append old.run.log.events (e ∷ [])));
+        (let room = meaning-room (state_of old) t action e due.due in
+        let long : length run.log.events ≡ length (old.run.log.events ++ e ∷ []) = ap length events_is ∙ ap (λ (l : List Event). length (l ++ e ∷ [])) log_is in
+        omega (arith, long, room, length-append old.run.log.events (e ∷ [])));
     bounds = bounds_is;
     nodes = nodes_is;
     run = run_is;
@@ -112,5 +112,5 @@ pub IsMonitorOf-part : (old : Inside) (w : WorldState) (trace : List Event) → 
 IsMonitorOf-part old w trace same was part =
     let inside : IsWatchedPart old.run.log.events trace = subst (λ (v : WorldState). IsWatchedPart v.log trace) (sym same) part in
     let stands : IsMonitorOf old.config.bounds old.run.monitor trace =
-        rw (events_watched-part old.run.log.events trace old.run.alarm was.run.alarm inside) (subst (λ b. IsMonitorOf b old.run.monitor (events_watched old.run.log.events old.run.alarm)) was.bounds was.run.monitor) in
+    rw (events_watched-part old.run.log.events trace old.run.alarm was.run.alarm inside) (subst (λ b. IsMonitorOf b old.run.monitor (events_watched old.run.log.events old.run.alarm)) was.bounds was.run.monitor) in
     subst (λ (v : WorldState). IsMonitorOf v.config.bounds old.run.monitor trace) same stands

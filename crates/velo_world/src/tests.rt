@@ -1,11 +1,11 @@
 ghost use Rattle.std.specs.Prelude.{IfOk};
-ghost use Rattle.velo_world.specs.World.{HoldsLiveShares};
+ghost use Rattle.velo_world.specs.World.{FitsLog, HoldsLiveShares};
 
 use crate::{Alarm, Reply, World};
 use std::alloc::Global;
 use std::test::Fail;
 use velo_events::{Action, Bounds, Config, Label, LockId, Refusal, ThreadId, VarId};
-use velo_ledger::Shares;
+use velo_ledger::{Share, Shares};
 use velo_traces::Block;
 
 type Step = (ThreadId, Action);
@@ -39,7 +39,9 @@ fn is_the_alarm(alarm: Option<&Alarm>) -> bool {
         label: Label(7),
     }];
     alarm.is_some_and(|alarm| {
-        alarm.position == 4 && alarm.transaction == 1 && alarm.blamed.as_slice() == blamed.as_slice()
+        alarm.position == 4
+            && alarm.transaction == 1
+            && alarm.blamed.as_slice() == blamed.as_slice()
     })
 }
 
@@ -192,23 +194,34 @@ fn a_full_graph_refuses_a_block(rt: HostRuntime) -> Result<(), Fail> {
 
 #[test]
 fn a_share_is_missing(rt: HostRuntime) -> Result<(), Fail> {
-    let (mut world, mut given) = opened(rt.alloc(), 2, 1, false)?;
-    let Some(mut main) = given.take(MAIN) else {
+    let (world, shares) = opened(rt.alloc(), 2, 1, false)?;
+    let none = Shares::none(rt.alloc(), 2)?;
+    let Err((world, _)) = world.close(none) else {
+        return Err("closed without a share".into());
+    };
+    let closed = world.close(shares).ok().ok_or("not closed")?;
+    assert_eq!(rt; closed.total(), 0);
+    Ok(())
+}
+
+/// Forks the other thread, reads, and answers what the read came to.
+fn forks_and_reads(world: &mut World, main: &mut Share) -> Outcome
+    requires { FitsLog world.old main.old }
+{
+    world.fork(main, OTHER)?;
+    world.act(main, Action::Read(X))
+}
+
+#[test]
+fn a_share_acts_again(rt: HostRuntime) -> Result<(), Fail> {
+    let (mut world, mut shares) = opened(rt.alloc(), 2, 1, false)?;
+    let Some(mut main) = shares.take(MAIN) else {
         return Err("no share".into());
     };
     assert!(rt; world.fits(&main));
-    let (forked, other) = world.fork(&mut main, OTHER)?;
-    assert_eq!(rt; forked.position, 0);
-    assert_eq!(rt; world.act(&mut main, Action::Read(X))?.value, Some(0));
-    let first = given.put(main).is_ok();
-    assert!(rt; first);
-    let Err((world, mut given)) = world.close(given) else {
-        return Err("closed without a share".into());
-    };
-    let second = given.put(other).is_ok();
-    assert!(rt; second);
-    let closed = world.close(given).ok().ok_or("not closed")?;
-    assert_eq!(rt; closed.total(), 2);
-    assert!(rt; closed.alarm().is_none());
+    assert_eq!(rt;
+        forks_and_reads(&mut world, &mut main),
+        replied(1, Some(0), false)
+    );
     Ok(())
 }

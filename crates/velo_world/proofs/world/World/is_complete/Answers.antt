@@ -17,12 +17,12 @@ not_both false right is h g = false≢true g
 pub loop-thread-preserved : goal.loop-thread-preserved
 loop-thread-preserved c =
     let here : PlaceIsRight c.args.self.now c.loop-thread.thread (share_at c.args.given.now (record { 0 = c.loop-thread.thread })) =
-        subst (PlaceIsRight c.args.self.now c.loop-thread.thread) c.get.ensures.share (elim c.match-get.branch [
-          in-None w ↦ rw w.in-None.is (λ born. not_both _ _ w.is_right-is c.if-not-is_right.false (w.is_born.ensures.1 born))
-        | in-Some+then-is_born w ↦
-            rw w.in-Some.is (w.is_born-in-Some.ensures.0 w.if-is_born.true, subst (λ (v : WorldState). FitsLog v w.in-Some.share.now) c.self.view_is (FitsLog-from _ _ _ c.self.invariant.book (w.fits.ensures.0 (sym w.is_right-is ∙ c.if-not-is_right.false))))
-        | in-Some+else-is_born w ↦ absurd (false≢true (sym w.if-is_born.false ∙ (sym w.is_right-is ∙ c.if-not-is_right.false)))
-        ]) in
+    subst (PlaceIsRight c.args.self.now c.loop-thread.thread) c.get.ensures.share (elim c.match-get.branch [
+      | in-None w ↦ rw w.in-None.is (λ born. not_both _ _ w.is_right-is c.if-not-is_right.false (w.is_born.ensures.1 born))
+      | in-Some+then-is_born w ↦
+          rw w.in-Some.is (w.is_born-in-Some.ensures.0 w.if-is_born.true, subst (λ (v : WorldState). FitsLog v w.in-Some.share.now) c.self.view_is (FitsLog-from _ _ _ c.self.invariant.book (w.fits.ensures.0 (sym w.is_right-is ∙ c.if-not-is_right.false))))
+      | in-Some+else-is_born w ↦ absurd (false≢true (sym w.if-is_born.false ∙ (sym w.is_right-is ∙ c.if-not-is_right.false)))
+    ]) in
     record { right = below_more (λ t. PlaceIsRight c.args.self.now t (share_at c.args.given.now (record { 0 = t }))) c.loop-thread.thread c.loop-thread.invariant.right here; in_place = λ _. c.get.ensures.in_place }
 
 pub returns-clause-complete : goal.returns-clause-complete

@@ -53,12 +53,12 @@ returns c =
     let due = IsDue-from c.self.inside c.args.self.now _ c.args.action c.in_ok-event.event c.args.share.now c.decide.result c.self.view_is c.self.invariant c.decide.ensures c.in_ok-event.was c.thread.ensures c.requires in
     let world_by : Bool → WorldState = λ h. record { config = c.self.inside.config; halted = h; log = c.commit-reply.new.run.log.events } in
     let world : c.if-self.self ≡ world_by (c.self.inside.config.stop && c.commit-reply.result.alarmed) =
-        elim c.if-self.branch [
-          then-self+then-reply w ↦ w.self-is ∙ (w.halt.ensures ∙ ap world_by (halted_now _ _ w.if-self.true w.if-reply.true))
-        | else-self w ↦ elim w.else-self.branch [
-          else-self-via-then-self+else-reply w' ↦ w.self-is ∙ (w'.self-is ∙ ap world_by (halted_as_before _ _ _ _ _ _ due (rw (w'.if-self.true, w'.if-reply.false) refl)))
+    elim c.if-self.branch [
+      | then-self+then-reply w ↦ w.self-is ∙ (w.halt.ensures ∙ ap world_by (halted_now _ _ w.if-self.true w.if-reply.true))
+      | else-self w ↦ elim w.else-self.branch [
+        | else-self-via-then-self+else-reply w' ↦ w.self-is ∙ (w'.self-is ∙ ap world_by (halted_as_before _ _ _ _ _ _ due (rw (w'.if-self.true, w'.if-reply.false) refl)))
         | else-self-via-else-self w' ↦ w.self-is ∙ (w'.self-is ∙ ap world_by (halted_as_before _ _ _ _ _ _ due (rw w'.if-self.false refl)))
-        ]
-        ] in
+      ]
+    ] in
     let done = Performed-from _ _ _ _ _ _ _ _ _ _ _ _ _ due c.self.view_is c.reserve_for.ensures.log c.commit-reply.ensures.log world refl c.commit-reply.ensures.reply c.commit-reply.ensures.share c.take_forked-born.ensures.share in
     record { outcome = done.outcome_is; fits = done.own_fits; born = done.born_fits; others = done.others_fit }
