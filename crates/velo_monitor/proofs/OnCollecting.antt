@@ -1,21 +1,19 @@
 -- What collecting takes away is not live, so the tables still tell the truth.
-use Rattle.std.proofs.Common.{◌≡◌, ◌≢◌, ℕ, ◌<◌, Bool, true, false, not, ◌&&◌, ◌||◌, eqb, List, Option, Some, None, refl, sym, ap, ◌∙◌, subst, ⊎_elim, inl, inr}
-use Rattle.std.specs.Prelude.{◌⊎◌, IsTrue, IsFalse}
-use Rattle.std.proofs.lemmas.Bool.{cases_Bool, cases_eq, or_cases, both_ways, not_from_true, eqb-true, false_from_ne_true, and_parts, and_from, false≢true}
+use Rattle.std.proofs.Common.{◌≡◌, ◌≢◌, ℕ, false, List, Option, Some, None, sym, ap, ◌∙◌, subst, ⊎_elim}
+use Rattle.std.specs.Prelude.{◌⊎◌, IsTrue}
+use Rattle.std.proofs.lemmas.Bool.{cases_Bool, cases_eq, both_ways, not_from_true, false≢true}
 use Rattle.velo_events.specs.declared.event.Event.{Event}
-use Rattle.velo_events.specs.Block.{is_open, IsUnfinished}
-use Rattle.velo_events.specs.Graph.{Edge, Reaches}
+use Rattle.velo_events.specs.Block.{is_open}
 use Rattle.velo_events.specs.Collection.{IsLive, IsCovered}
 use Rattle.velo_events.proofs.OnCollection.{not_live-covered}
 use Rattle.velo_arena.specs.declared.step.Step.{Step}
-use Rattle.velo_arena.specs.declared.step.Node.{Node}
-use Rattle.velo_arena.specs.Slots.{Slots, node_in, has_stamp, is_used, bears, limit_of, is_finished_in}
-use Rattle.velo_graph.specs.Nodes.{Nodes, is_ancestor, reaches, IsSound, IsRoot}
+use Rattle.velo_arena.specs.Slots.{node_in, has_stamp, bears, limit_of, is_finished_in}
+use Rattle.velo_graph.specs.Nodes.{Nodes, is_ancestor, IsSound, IsRoot}
 use Rattle.velo_graph.proofs.OnNodes.{used_in_range}
 use Rattle.velo_merge.specs.Named.{Bears}
-use Rattle.velo_monitor.specs.Watched.{Watched, AreFounded, AreAncestors, IsStepFor, IsEntryFor}
+use Rattle.velo_monitor.specs.Watched.{AreFounded, AreAncestors, IsEntryFor}
 use Rattle.velo_graph.specs.Collects.{IsUnneeded, Collects}
-use Rattle.velo_monitor.proofs.OnNodes.{one_slot, one_stamp}
+use Rattle.velo_monitor.proofs.OnNodes.{one_slot}
 use Rattle.velo_monitor.proofs.OnRoots.{root-of}
 
 -- what is unneeded is not live
