@@ -15,7 +15,7 @@ ghost use Rattle.velo_arena.specs.Stamps.{stamps_in};
 ghost use Rattle.velo_graph.specs.Nodes.{IsSound, AddsEdges};
 ghost use Rattle.velo_graph.specs.Collects.{HasNothingLeft};
 ghost use Rattle.velo_merge.specs.Named.{Bears, live_stamps, HasFinished, IsAncestor};
-ghost use Rattle.velo_tables.specs.Place.{LastOf};
+ghost use Rattle.velo_tables.specs.Place.{Place as PlaceOf, LastOf};
 ghost use Rattle.velo_tables.specs.Kept.{entry, steps_looked_up, HasRoomFor};
 ghost use Rattle.velo_monitor.specs.Watched.{IsMonitorOf};
 ghost use Rattle.velo_monitor.specs.Answers.{NeedsNode, GetsNewNode, IsNext, IsSeen};
@@ -104,6 +104,7 @@ impl Monitor {
     /// `Memory` where a growth was refused.
     pub fn reserve(&mut self, event: &Event) -> Result<(), Memory>
         ensures nodes { self.new.nodes ≡ self.old.nodes }
+        ensures entries { (p : PlaceOf) → entry self.new.kept p ≡ entry self.old.kept p }
         ensures same { (bounds : BoundsOf) (trace : List EventOf) → IsMonitorOf bounds self.old trace → IsMonitorOf bounds self.new trace }
         ensures room { OnOk result ((bounds : BoundsOf) (trace : List EventOf) → IsMonitorOf bounds self.old trace → MayFollow bounds trace event.now → HasRoomFor self.new.kept event.now) }
         ensures full { OnErr result (¬ HasRoomFor self.old.kept event.now) }

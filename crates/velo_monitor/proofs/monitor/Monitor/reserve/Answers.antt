@@ -1,4 +1,5 @@
-use Rattle.std.proofs.Common.{refl, subst, sym}
+use Rattle.std.proofs.Common.{ap, ◌∙◌, refl, subst, sym}
+use Rattle.velo_tables.specs.Kept.{entry}
 use Rattle.velo_monitor.specs.Watched.{Watched, IsMonitorOf}
 use Rattle.velo_monitor.proofs.OnStart.{makes-room}
 use Rattle.velo_monitor.proofs.monitor.Monitor.reserve.Goals as goal
@@ -6,3 +7,6 @@ use Rattle.velo_monitor.proofs.monitor.Monitor.reserve.Goals as goal
 pub returns-clause-same : goal.returns-clause-same
 returns-clause-same c bounds trace stands =
     makes-room bounds _ _ trace refl refl c.reserve_for.ensures.unchanged c.reserve_for.ensures.threads (subst (λ (w : Watched). IsMonitorOf bounds w trace) (sym c.self.view_is) stands)
+
+pub returns-clause-entries : goal.returns-clause-entries
+returns-clause-entries c p = c.reserve_for.ensures.unchanged.each p ∙ ap (λ (w : Watched). entry w.kept p) c.self.view_is
