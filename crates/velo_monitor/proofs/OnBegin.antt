@@ -1,15 +1,13 @@
 -- An outermost begin, with its new node: the monitor stands for the longer trace.
-use Rattle.std.proofs.Common.{◌≡◌, ◌≢◌, ℕ, suc, ◌+◌, ◌<◌, ◌≤◌, Bool, true, false, not, ◌||◌, ◌&&◌, List, [], ◌∷◌, ◌++◌, length, Option, Some, None, refl, sym, ap, ◌∙◌, subst, ⊎_elim, inl, inr, arith}
-use Rattle.std.specs.Prelude.{◌⊎◌, IsTrue, IsFalse, IsSomeAnd}
+use Rattle.std.proofs.Common.{◌≡◌, ◌≢◌, ℕ, ◌<◌, ◌≤◌, false, not, ◌&&◌, List, [], ◌∷◌, ◌++◌, length, Option, Some, None, refl, sym, ap, ◌∙◌, subst, ⊎_elim, inl, inr, arith}
+use Rattle.std.specs.Prelude.{IsTrue, IsSomeAnd}
 use Rattle.std.proofs.lemmas.Bool.{cases_eq, cases_lt, both_ways, or_left}
 use Rattle.std.proofs.lemmas.List.{length_push}
 use Rattle.velo_events.specs.declared.config.Bounds.{Bounds}
 use Rattle.velo_events.specs.declared.event.Event.{Event}
 use Rattle.velo_events.specs.Event.{is_begin}
 use Rattle.velo_events.specs.WellFormed.{MayFollow}
-use Rattle.velo_events.specs.Block.{owner, is_open, IsTransaction, IsUnfinished, IsFinished}
-use Rattle.velo_events.specs.Graph.{Edge, HasCycle}
-use Rattle.velo_events.specs.Collection.{IsLive, IsCovered}
+use Rattle.velo_events.specs.Block.{is_open, IsTransaction, IsUnfinished, IsFinished}
 use Rattle.velo_events.proofs.OnWellFormed.{IsWellFormed-push}
 use Rattle.velo_events.proofs.OnGraphs.{newest}
 use Rattle.velo_events.proofs.OnReaching.{HasCycle-push_alone}
@@ -23,7 +21,7 @@ use Rattle.velo_merge.specs.Named.{Bears}
 use Rattle.velo_monitor.specs.Watched.{Watched, IsAccountedIn, AreDepths, IsMonitorOf}
 use Rattle.velo_monitor.proofs.OnNodes.{one_stamp}
 use Rattle.velo_monitor.proofs.OnInside.{AreNamed}
-use Rattle.velo_monitor.proofs.OnTables.{KeepsOld, entries-recorded}
+use Rattle.velo_monitor.proofs.OnTables.{entries-recorded}
 use Rattle.velo_monitor.proofs.OnOpening.{HasFresh, ancestors-opened}
 
 -- the fresh node has not finished, the others are as they were, and its stamp is the newest

@@ -1,6 +1,6 @@
 -- When the next event closes a cycle: the test that a monitor makes is exact.
-use Rattle.std.proofs.Common.{◌≡◌, ◌≢◌, ℕ, ◌<◌, ◌≤◌, List, [], ◌∷◌, ◌++◌, length, refl, sym, ap, ◌∙◌, subst, ⊎_elim, inl, inr, arith}
-use Rattle.std.specs.Prelude.{◌⊎◌, IsTrue}
+use Rattle.std.proofs.Common.{◌≢◌, ℕ, ◌<◌, ◌≤◌, List, [], ◌∷◌, ◌++◌, length, refl, sym, ◌∙◌, subst, ⊎_elim}
+use Rattle.std.specs.Prelude.{IsTrue}
 use Rattle.std.proofs.lemmas.Bool.{cases_lt}
 use Rattle.velo_events.specs.declared.config.Bounds.{Bounds}
 use Rattle.velo_events.specs.declared.event.Event.{Event}
@@ -11,11 +11,11 @@ use Rattle.velo_events.proofs.OnGraphs.{newest, Reaches-trans}
 use Rattle.velo_events.proofs.OnReaching.{Reaches-from_absent}
 use Rattle.velo_events.proofs.OnUnfinished.{newest-unfinished}
 use Rattle.velo_graph.specs.Nodes.{reaches}
-use Rattle.velo_tables.proofs.OnGraphLookUps.{IsFound, HasCycle-push_found, HasCycle-from_found}
+use Rattle.velo_tables.proofs.OnGraphLookUps.{HasCycle-push_found, HasCycle-from_found}
 use Rattle.velo_merge.specs.Named.{Bears}
 use Rattle.velo_monitor.specs.Watched.{Watched, IsMonitorOf}
 use Rattle.velo_monitor.proofs.OnNodes.{reaches-sound}
-use Rattle.velo_monitor.proofs.OnLooks.{Names, StandsAt, stamp-reaches, stamp-newest, stamp-other, looked_up-unfinished, named}
+use Rattle.velo_monitor.proofs.OnLooks.{Names, stamp-reaches, stamp-newest, stamp-other, looked_up-unfinished, named}
 
 -- a node that the event looks up, another than its own, which its own reaches
 pub record ClosesBy (w : Watched) (trace : List Event) (e : Event) : Type 0 where

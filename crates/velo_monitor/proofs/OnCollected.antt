@@ -1,27 +1,24 @@
 -- After collecting the monitor stands for the trace.
-use Rattle.std.proofs.Common.{◌≡◌, ◌≢◌, ℕ, suc, ◌+◌, ◌<◌, ◌≤◌, Bool, true, false, not, ◌||◌, ◌&&◌, List, [], ◌∷◌, ◌++◌, length, Option, Some, None, refl, sym, ap, ◌∙◌, subst, ⊎_elim, inl, inr, arith}
-use Rattle.std.specs.Prelude.{◌⊎◌, IsTrue, IsFalse, IsSomeAnd, is_some}
+use Rattle.std.proofs.Common.{◌≡◌, ℕ, ◌<◌, ◌≤◌, true, false, not, ◌&&◌, List, length, Option, Some, None, refl, sym, ap, ◌∙◌, subst, ⊎_elim, inl, inr}
+use Rattle.std.specs.Prelude.{IsTrue, IsSomeAnd, is_some}
 use Rattle.std.specs.Option.{ForSome}
-use Rattle.std.proofs.lemmas.Bool.{cases_Bool, cases_eq, cases_lt, both_ways, and_parts, and_from, not-true, not_from_true, not_from_false, false≢true}
+use Rattle.std.proofs.lemmas.Bool.{cases_Bool, both_ways, and_parts, and_from, not-true, not_from_true, not_from_false, false≢true}
 use Rattle.velo_events.specs.declared.limits.TheConstants.{MOST_THREADS}
 use Rattle.velo_events.specs.declared.config.Bounds.{Bounds}
 use Rattle.velo_events.specs.declared.event.Event.{Event}
 use Rattle.velo_events.specs.WellFormed.{IsWellFormed}
-use Rattle.velo_events.specs.Block.{owner, is_open, IsTransaction, IsUnfinished}
-use Rattle.velo_events.specs.Graph.{Edge, Reaches, HasCycle}
-use Rattle.velo_events.specs.Collection.{IsLive, IsCovered}
+use Rattle.velo_events.specs.Block.{owner, is_open, IsTransaction}
+use Rattle.velo_events.specs.Graph.{HasCycle}
 use Rattle.velo_events.proofs.OnCollection.{not_live-covered}
-use Rattle.velo_arena.specs.declared.step.Step.{Step}
 use Rattle.velo_arena.specs.declared.step.Node.{Node}
-use Rattle.velo_arena.specs.Slots.{Slots, node_in, has_stamp, has_finished, bears, is_used, limit_of, is_finished_in}
-use Rattle.velo_arena.proofs.OnSlots.{node_of_stamp, node_of_used}
+use Rattle.velo_arena.specs.Slots.{node_in, has_stamp, has_finished, is_used, limit_of, is_finished_in}
 use Rattle.velo_graph.specs.Nodes.{Nodes, is_ancestor, IsSound}
 use Rattle.velo_graph.proofs.OnNodes.{used_in_range}
-use Rattle.velo_tables.specs.Kept.{Kept, entry}
+use Rattle.velo_tables.specs.Kept.{entry}
 use Rattle.velo_merge.specs.Named.{Bears}
-use Rattle.velo_monitor.specs.Watched.{Watched, AreFounded, AreAncestors, AreEntries, IsAccountedIn, IsEntryFor, AreDepths, IsMonitorOf}
+use Rattle.velo_monitor.specs.Watched.{Watched, AreFounded, AreAncestors, AreEntries, IsAccountedIn, AreDepths, IsMonitorOf}
 use Rattle.velo_graph.specs.Collects.{IsUnneeded, Collects}
-use Rattle.velo_monitor.proofs.OnRoots.{some_below}
+use Rattle.velo_monitor.proofs.OnNumbers.{some_below}
 use Rattle.velo_monitor.proofs.OnCollecting.{unneeded-dead, collects-before, entry-collected}
 
 -- all that it is to stand for a trace, but that something may be left to collect

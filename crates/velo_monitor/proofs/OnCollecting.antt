@@ -1,22 +1,18 @@
 -- What collecting takes away is not live, so the tables still tell the truth.
-use Rattle.std.proofs.Common.{◌≡◌, ◌≢◌, ℕ, ◌<◌, Bool, true, false, not, ◌&&◌, ◌||◌, eqb, List, Option, Some, None, refl, sym, ap, ◌∙◌, subst, ⊎_elim, inl, inr}
-use Rattle.std.specs.Prelude.{◌⊎◌, IsTrue, IsFalse}
-use Rattle.std.proofs.lemmas.Bool.{cases_Bool, cases_eq, or_cases, both_ways, not_from_true, eqb-true, false_from_ne_true, and_parts, and_from, false≢true}
+use Rattle.std.proofs.Common.{◌≡◌, ◌≢◌, ℕ, false, List, Option, Some, None, sym, ap, ◌∙◌, subst, ⊎_elim}
+use Rattle.std.specs.Prelude.{◌⊎◌}
+use Rattle.std.proofs.lemmas.Bool.{cases_Bool, cases_eq, both_ways, not_from_true, false≢true}
 use Rattle.velo_events.specs.declared.event.Event.{Event}
-use Rattle.velo_events.specs.Block.{is_open, IsUnfinished}
-use Rattle.velo_events.specs.Graph.{Edge, Reaches}
+use Rattle.velo_events.specs.Block.{is_open}
 use Rattle.velo_events.specs.Collection.{IsLive, IsCovered}
 use Rattle.velo_events.proofs.OnCollection.{not_live-covered}
 use Rattle.velo_arena.specs.declared.step.Step.{Step}
-use Rattle.velo_arena.specs.declared.step.Node.{Node}
-use Rattle.velo_arena.specs.Slots.{Slots, node_in, has_stamp, is_used, bears, limit_of, is_finished_in}
-use Rattle.velo_graph.specs.Nodes.{Nodes, is_ancestor, reaches, IsSound, IsRoot}
-use Rattle.velo_graph.proofs.OnNodes.{used_in_range}
+use Rattle.velo_arena.specs.Slots.{node_in, has_stamp, bears, is_finished_in}
+use Rattle.velo_graph.specs.Nodes.{Nodes, IsSound}
 use Rattle.velo_merge.specs.Named.{Bears}
-use Rattle.velo_monitor.specs.Watched.{Watched, AreFounded, AreAncestors, IsStepFor, IsEntryFor}
+use Rattle.velo_monitor.specs.Watched.{AreFounded, AreAncestors, IsEntryFor}
 use Rattle.velo_graph.specs.Collects.{IsUnneeded, Collects}
-use Rattle.velo_monitor.proofs.OnNodes.{one_slot, one_stamp}
-use Rattle.velo_monitor.proofs.OnRoots.{root-of}
+use Rattle.velo_monitor.proofs.OnNodes.{one_slot}
 
 -- what is unneeded is not live
 pub unneeded-dead : (nodes : Nodes) (trace : List Event) (k a : ℕ) → IsSound nodes → AreFounded nodes trace → AreAncestors nodes trace → Bears nodes k a → IsUnneeded nodes k → ¬ IsLive trace a
@@ -64,12 +60,3 @@ entry-collected old new trace (Some step) x sound founded ancestors collects is 
         (collects.each step.slot))
         (λ (absent : bears old.slots step.slot step.stamp ≡ false). is.dead absent)
         (cases_Bool (bears old.slots step.slot step.stamp))
-
--- where no finished node is without ancestors, each finished one has an unfinished ancestor, or all its ancestors have
--- finished, and then one of these is without ancestors: nothing is left to collect
-pub nothing-left : (nodes : Nodes) (k : ℕ) → IsSound nodes → ((r : ℕ) → IsTrue (is_finished_in nodes.slots r) → ¬ IsRoot nodes r) → ¬ IsUnneeded nodes k
-nothing-left nodes k sound none gone =
-    let r = root-of (is_ancestor nodes) (limit_of nodes.slots) sound.order (λ m n before. used_in_range nodes.slots m (sound.ancestor_used m n before)) k in
-    none r.0
-    (⊎_elim (λ (same : r.0 ≡ k). subst (λ z. IsTrue (is_finished_in nodes.slots z)) (sym same) gone.finished) (λ (before : IsTrue (is_ancestor nodes r.0 k)). gone.ancestors r.0 before) r.1.reached)
-    (record { no_ancestor = r.1.first })

@@ -1,11 +1,11 @@
 -- The list of depths after one more event.
-use Rattle.std.proofs.Common.{◌≡◌, ◌≢◌, ℕ, ◌+◌, ◌-◌, ◌<◌, ◌≤◌, Bool, true, false, eqb, ◌&&◌, List, [], ◌∷◌, ◌++◌, length, get_or, set, refl, sym, ap, ◌∙◌, subst, ⊎_elim, arith, get_or-set_same, get_or-set_other, length-set}
+use Rattle.std.proofs.Common.{◌≡◌, ◌≢◌, ℕ, ◌+◌, ◌-◌, ◌<◌, ◌&&◌, List, [], ◌∷◌, ◌++◌, get_or, set, refl, sym, ap, ◌∙◌, ⊎_elim, arith, get_or-set_same, get_or-set_other, length-set}
 use Rattle.std.specs.Prelude.{IsTrue, IsFalse, slice_index_or, slice_set}
 use Rattle.std.proofs.lemmas.Bool.{cases_eq, and_right, eq-eqb, ne_eqb, false≢true, and_from}
 use Rattle.velo_events.specs.declared.config.Bounds.{Bounds}
 use Rattle.velo_events.specs.declared.event.Event.{Event}
 use Rattle.velo_events.specs.declared.event.Kind.{Kind}
-use Rattle.velo_events.specs.declared.event.Kind.TheVariants.{Read, Write, Acquire, Release, Begin, End, Fork, Join, Exit}
+use Rattle.velo_events.specs.declared.event.Kind.TheVariants.{Begin, End}
 use Rattle.velo_events.specs.Event.{thread_of, is_by, is_begin, is_end, is_begin_by, is_end_by}
 use Rattle.velo_events.specs.Heap.{times, depth_in}
 use Rattle.velo_events.specs.WellFormed.{IsWellFormed, IsInTurn, MayFollow}

@@ -1,16 +1,16 @@
 -- Inside a block, the step of the thread's last event names the thread's own node.
-use Rattle.std.proofs.Common.{◌≡◌, ◌≢◌, ℕ, suc, ◌+◌, ◌-◌, ◌<◌, ◌≤◌, Bool, true, false, not, ◌||◌, eqb, List, [], ◌∷◌, ◌++◌, length, get_or, Option, Some, None, refl, sym, ap, ◌∙◌, subst, ⊎_elim, inl, inr, arith, get_or-set_same, get_or-set_other, length-set}
-use Rattle.std.specs.Prelude.{◌⊎◌, ◌↔◌, IsTrue, IsFalse, Contains, slice_index_or}
+use Rattle.std.proofs.Common.{◌≡◌, ◌≢◌, ℕ, ◌<◌, ◌≤◌, false, List, length, get_or, Option, Some, None, refl, sym, ap, ◌∙◌, subst, ⊎_elim, arith, get_or-set_same, get_or-set_other}
+use Rattle.std.specs.Prelude.{slice_index_or}
 use Rattle.std.specs.Ordering.{nat_cmp}
 use Rattle.std.specs.FinSet as set
 use Rattle.std.specs.FinSet.{FinSet}
-use Rattle.std.proofs.lemmas.Bool.{cases_lt, cases_eq, both_ways, eq-eqb, false≢true, ne_eqb}
+use Rattle.std.proofs.lemmas.Bool.{cases_lt, both_ways, eq-eqb, false≢true}
 use Rattle.velo_events.specs.declared.config.Bounds.{Bounds}
 use Rattle.velo_events.specs.declared.event.Event.{Event}
 use Rattle.velo_events.specs.Event.{thread_of}
 use Rattle.velo_events.specs.Heap.{depth_in}
 use Rattle.velo_events.specs.WellFormed.{IsWellFormed, MayFollow}
-use Rattle.velo_events.specs.Block.{owner, IsUnfinished, IsFinished}
+use Rattle.velo_events.specs.Block.{owner, IsFinished}
 use Rattle.velo_events.specs.Collection.{IsLive, IsCovered}
 use Rattle.velo_events.proofs.OnGraphs.{newest}
 use Rattle.velo_events.proofs.OnOwners.{newest-le, newest-alone, newest-not_alone}
@@ -18,10 +18,9 @@ use Rattle.velo_events.proofs.OnUnfinished.{newest-unfinished, depth_in-none, de
 use Rattle.velo_events.proofs.OnCollection.{IsLive-unfinished, IsCovered-transaction}
 use Rattle.velo_arena.specs.declared.step.Step.{Step}
 use Rattle.velo_arena.specs.declared.step.Node.{Node}
-use Rattle.velo_arena.specs.Slots.{Slots, node_in, has_stamp, Opens, bears}
-use Rattle.velo_arena.proofs.OnSlots.{in_range, node_of_stamp}
+use Rattle.velo_arena.specs.Slots.{node_in, has_stamp, Opens, bears}
 use Rattle.velo_graph.specs.Nodes.{Nodes, is_ancestor, IsAlone}
-use Rattle.velo_tables.specs.Place.{LastOf, looked_up}
+use Rattle.velo_tables.specs.Place.{LastOf}
 use Rattle.velo_tables.specs.Kept.{entry}
 use Rattle.velo_tables.proofs.OnGraphLookUps.{current}
 use Rattle.velo_merge.specs.Named.{Bears}

@@ -1,33 +1,31 @@
 -- The end of an outermost block: once its node is marked as finished, only collecting is left to do.
-use Rattle.std.proofs.Common.{◌≡◌, ◌≢◌, ℕ, suc, ◌+◌, ◌<◌, ◌≤◌, Bool, true, false, not, ◌||◌, ◌&&◌, List, [], ◌∷◌, ◌++◌, length, get_or, Option, Some, None, refl, sym, ap, ◌∙◌, subst, ⊎_elim, inl, inr, arith, get_or-set_same, get_or-set_other}
-use Rattle.std.specs.Prelude.{◌⊎◌, ◌==◌, IsTrue, IsFalse, IsSomeAnd, slice_index_or}
+use Rattle.std.proofs.Common.{◌≡◌, ◌≢◌, ℕ, ◌<◌, ◌≤◌, true, not, List, [], ◌∷◌, ◌++◌, length, Option, Some, None, refl, sym, ap, ◌∙◌, subst, ⊎_elim, inl, inr, arith, get_or-set_same, get_or-set_other}
+use Rattle.std.specs.Prelude.{◌==◌, IsTrue, IsSomeAnd, slice_index_or}
 use Rattle.std.specs.Ordering.{nat_cmp}
 use Rattle.std.specs.FinSet as set
 use Rattle.std.specs.FinSet.{FinSet}
-use Rattle.std.proofs.lemmas.Bool.{cases_eq, cases_lt, both_ways, eq-eqb, eqb-true, not_from_false}
+use Rattle.std.proofs.lemmas.Bool.{cases_eq, cases_lt, both_ways}
 use Rattle.std.proofs.lemmas.List.{length_push}
 use Rattle.velo_events.specs.declared.config.Bounds.{Bounds}
 use Rattle.velo_events.specs.declared.event.Event.{Event}
 use Rattle.velo_events.specs.Event.{is_begin}
 use Rattle.velo_events.specs.WellFormed.{MayFollow}
 use Rattle.velo_events.specs.Block.{owner, is_open, IsTransaction, IsUnfinished, IsFinished}
-use Rattle.velo_events.specs.Graph.{Edge, HasCycle}
-use Rattle.velo_events.specs.Collection.{IsLive, IsCovered}
+use Rattle.velo_events.specs.Graph.{HasCycle}
 use Rattle.velo_events.proofs.OnWellFormed.{IsWellFormed-push}
 use Rattle.velo_events.proofs.OnGraphs.{newest}
 use Rattle.velo_events.proofs.OnUnfinished.{IsTransaction-append, IsTransaction-before, IsFinished-append, IsUnfinished-push, IsUnfinished-push_cases, cases_unfinished, unfinished-not_finished}
 use Rattle.velo_events.proofs.OnCollection.{not_live-append, IsCovered-push}
 use Rattle.velo_arena.specs.declared.step.Step.{Step}
-use Rattle.velo_arena.specs.declared.step.Node.{Node}
 use Rattle.velo_arena.specs.Slots.{Slots, node_in, has_stamp, has_finished, bears, is_finished_in, with_node}
 use Rattle.velo_arena.proofs.OnSlots.{node_of_stamp, in_range}
 use Rattle.velo_graph.specs.Nodes.{Nodes, is_ancestor, IsSound, AddsEdges}
 use Rattle.velo_tables.specs.Kept.{IsRecorded}
 use Rattle.velo_merge.specs.Named.{Bears}
-use Rattle.velo_monitor.specs.Watched.{Watched, AreFounded, AreAncestors, IsAccountedIn, AreDepths, IsMonitorOf}
+use Rattle.velo_monitor.specs.Watched.{Watched, AreAncestors, AreDepths, IsMonitorOf}
 use Rattle.velo_monitor.proofs.OnNodes.{one_slot, one_stamp}
 use Rattle.velo_monitor.proofs.OnInside.{AreNamed, ancestors-inside}
-use Rattle.velo_monitor.proofs.OnTables.{KeepsOld, entries-recorded}
+use Rattle.velo_monitor.proofs.OnTables.{entries-recorded}
 use Rattle.velo_monitor.proofs.OnCollected.{IsUncollected}
 
 -- the node c of stamp s is marked as finished, and nothing else changes

@@ -1,14 +1,13 @@
 -- The ancestors after an event inside a block that closes no cycle.
-use Rattle.std.proofs.Common.{◌≡◌, ◌≢◌, ℕ, ◌<◌, ◌≤◌, Bool, true, false, not, ◌&&◌, ◌||◌, eqb, List, [], ◌∷◌, ◌++◌, length, get_or, refl, sym, ap, ◌∙◌, subst, ⊎_elim, inl, inr, arith}
-use Rattle.std.specs.Prelude.{◌⊎◌, IsTrue, Contains}
-use Rattle.std.specs.List.{list_any}
-use Rattle.std.proofs.lemmas.Bool.{cases_lt, cases_eq, or_cases, or_left, or_right, and_parts, and_from, not-true, not_from_false, ne_eqb, eq-eqb, both_ways}
+use Rattle.std.proofs.Common.{◌≡◌, ◌≢◌, ℕ, ◌<◌, true, not, ◌&&◌, eqb, List, [], ◌∷◌, ◌++◌, length, refl, sym, ◌∙◌, subst, ⊎_elim, inr}
+use Rattle.std.specs.Prelude.{IsTrue, Contains}
+use Rattle.std.proofs.lemmas.Bool.{or_cases, or_left, or_right, and_parts, and_from, not-true, not_from_false, ne_eqb, eq-eqb, both_ways}
 use Rattle.std.proofs.lemmas.List.Folds.{Any-from_list_any, list_any_at}
 use Rattle.velo_events.specs.declared.config.Bounds.{Bounds}
 use Rattle.velo_events.specs.declared.event.Event.{Event}
 use Rattle.velo_events.specs.WellFormed.{MayFollow}
 use Rattle.velo_events.specs.Block.{owner, IsUnfinished}
-use Rattle.velo_events.specs.Graph.{Edge, Reaches, HasCycle}
+use Rattle.velo_events.specs.Graph.{Edge, Reaches}
 use Rattle.velo_events.proofs.OnGraphs.{newest, Reaches-trans}
 use Rattle.velo_events.proofs.OnReaching.{Reaches-old}
 use Rattle.velo_events.proofs.OnUnfinished.{newest-unfinished, IsUnfinished-before}
@@ -17,7 +16,7 @@ use Rattle.velo_tables.proofs.OnGraphLookUps.{IsFound, ReachesByFound, Reaches-p
 use Rattle.velo_merge.specs.Named.{Bears}
 use Rattle.velo_monitor.specs.Watched.{Watched, AreAncestors, IsMonitorOf}
 use Rattle.velo_monitor.proofs.OnNodes.{one_slot, one_stamp, reaches-sound, reaches-unfinished}
-use Rattle.velo_monitor.proofs.OnLooks.{Names, StandsAt, stamp-reaches, stamp-newest, stamp-other, looked_up-unfinished, named}
+use Rattle.velo_monitor.proofs.OnLooks.{Names, stamp-reaches, stamp-newest, stamp-other, looked_up-unfinished, named}
 
 -- the slots are those that the event's steps name
 pub record AreNamed (w : Watched) (e : Event) (froms : List ℕ) : Type 0 where

@@ -1,6 +1,6 @@
 -- What the monitor answers to an event inside a block, and what it is then.
-use Rattle.std.proofs.Common.{◌≡◌, ◌≢◌, ℕ, ◌+◌, ◌-◌, ◌<◌, ◌≤◌, Bool, true, false, List, [], ◌∷◌, ◌++◌, length, Option, Some, None, refl, sym, ap, ◌∙◌, subst, ⊎_elim, inl, inr, arith}
-use Rattle.std.specs.Prelude.{IsTrue, IsFalse, slice_index_or, slice_set}
+use Rattle.std.proofs.Common.{◌≡◌, ◌≢◌, ℕ, ◌+◌, ◌-◌, ◌<◌, List, [], ◌∷◌, ◌++◌, length, refl, sym, ap, ◌∙◌, subst, ⊎_elim, arith}
+use Rattle.std.specs.Prelude.{IsTrue, IsFalse, slice_set}
 use Rattle.std.proofs.lemmas.Bool.{cases_eq}
 use Rattle.velo_monitor.specs.declared.monitor.Seen.{Seen}
 use Rattle.velo_monitor.specs.declared.monitor.Seen.TheVariants.{Quiet, Closes}
@@ -14,9 +14,8 @@ use Rattle.velo_events.specs.WellFormed.{IsWellFormed, MayFollow}
 use Rattle.velo_events.specs.Graph.{HasCycle}
 use Rattle.velo_events.proofs.OnGraphs.{newest}
 use Rattle.velo_events.proofs.OnWellFormed.{IsWellFormed-push}
-use Rattle.velo_arena.specs.declared.step.Step.{Step}
 use Rattle.velo_arena.specs.Slots.{Slots, bears}
-use Rattle.velo_graph.specs.Nodes.{Nodes, IsSound, IsRoot}
+use Rattle.velo_graph.specs.Nodes.{Nodes, IsRoot}
 use Rattle.velo_graph.specs.Collects.{Collects, HasNothingLeft}
 use Rattle.velo_merge.specs.Named.{Bears}
 use Rattle.velo_tables.specs.Kept.{steps_looked_up}
@@ -29,7 +28,7 @@ use Rattle.velo_monitor.proofs.OnStep.{stands-inside}
 use Rattle.velo_monitor.proofs.OnEnding.{Finishes, finishes, stands-ended}
 use Rattle.velo_monitor.proofs.OnCollected.{IsUncollected, stands-collected}
 use Rattle.velo_monitor.proofs.OnQuiet.{nothing_left-added, nothing_left-ended, stands-whole}
-use Rattle.velo_monitor.proofs.OnCounts.{end-deep, depth-same, depth-begun, depth-ended, depth-now, depths-same, depths-begun, depths-ended}
+use Rattle.velo_monitor.proofs.OnCounts.{depth-same, depth-begun, depth-ended, depth-now, depths-same, depths-begun, depths-ended}
 use Rattle.velo_monitor.proofs.OnDepthsAfter.{ended-finished, still-unfinished}
 use Rattle.velo_monitor.proofs.OnCurrent.{inside-depth}
 

@@ -1,7 +1,7 @@
 -- The nodes in use are live transactions, so there are at most as many as these.
-use Rattle.std.proofs.Common.{◌≡◌, ◌≢◌, ℕ, ◌<◌, Bool, true, false, not, List, length, Option, Some, None, refl, sym, ap, ◌∙◌, subst, ⊎_elim, inl, inr, arith}
-use Rattle.std.specs.Prelude.{◌⊎◌, IsTrue, Contains, AllPairs}
-use Rattle.std.proofs.lemmas.Bool.{cases_Bool, eq-eqb, not-true, not_from_true}
+use Rattle.std.proofs.Common.{◌≡◌, ℕ, Bool, true, false, not, List, Some, refl, sym, ap, ◌∙◌, subst, ⊎_elim, inl, inr, arith}
+use Rattle.std.specs.Prelude.{◌⊎◌, Contains}
+use Rattle.std.proofs.lemmas.Bool.{cases_Bool, eq-eqb}
 use Rattle.std.proofs.lemmas.List.Kept.{AllPairs-from_increasing}
 use Rattle.velo_events.specs.declared.config.Bounds.{Bounds}
 use Rattle.velo_events.specs.declared.event.Event.{Event}
@@ -9,7 +9,7 @@ use Rattle.velo_events.specs.Block.{is_open, IsTransaction, IsUnfinished}
 use Rattle.velo_events.specs.Collection.{IsLive, IsCovered, IsAccountedFor, IsGivenUp, IsHarmless, HasManyLive}
 use Rattle.velo_events.proofs.OnCollection.{IsLive-unfinished, HasManyLive-by, IsGivenUp-harmless}
 use Rattle.velo_arena.specs.declared.step.Node.{Node}
-use Rattle.velo_arena.specs.Slots.{Slots, node_in, bears, has_stamp, is_finished_in, used_in}
+use Rattle.velo_arena.specs.Slots.{Slots, node_in, has_stamp, is_finished_in, used_in}
 use Rattle.velo_arena.specs.Stamps.{stamps_in}
 use Rattle.velo_arena.proofs.OnSlots.{node_of_used, node_of_stamp}
 use Rattle.velo_arena.proofs.OnStamps.{length-stamps_in, IsStrictlyIncreasing-stamps_in, slot_of_stamp, Contains-stamp}

@@ -1,10 +1,10 @@
 -- What the steps that the next event looks up tell of the trace.
-use Rattle.std.proofs.Common.{◌≡◌, ◌≢◌, ℕ, ◌<◌, ◌≤◌, Bool, true, false, List, [], ◌∷◌, ◌++◌, length, Option, Some, None, refl, sym, ap, ◌∙◌, subst, ⊎_elim, inl, inr, arith}
+use Rattle.std.proofs.Common.{◌≡◌, ℕ, false, List, Option, Some, None, refl, sym, ◌∙◌, subst, ⊎_elim, inl}
 use Rattle.std.specs.Prelude.{◌⊎◌, IsTrue, Contains}
 use Rattle.std.proofs.lemmas.Bool.{cases_Bool}
 use Rattle.velo_events.specs.declared.config.Bounds.{Bounds}
 use Rattle.velo_events.specs.declared.event.Event.{Event}
-use Rattle.velo_events.specs.Block.{owner, IsUnfinished, IsTransaction}
+use Rattle.velo_events.specs.Block.{owner, IsUnfinished}
 use Rattle.velo_events.specs.Graph.{Edge, Reaches}
 use Rattle.velo_events.specs.Collection.{IsLive, IsCovered}
 use Rattle.velo_events.proofs.OnGraphs.{newest}
@@ -12,14 +12,13 @@ use Rattle.velo_events.proofs.OnUnfinished.{newest-not_finished, IsOutside-finis
 use Rattle.velo_events.proofs.OnCollection.{IsCovered-transaction}
 use Rattle.velo_arena.specs.declared.step.Step.{Step}
 use Rattle.velo_arena.specs.Slots.{bears}
-use Rattle.velo_graph.specs.Nodes.{Nodes, reaches, IsSound}
+use Rattle.velo_graph.specs.Nodes.{Nodes, reaches}
 use Rattle.velo_tables.specs.Place.{Place, looked_up}
 use Rattle.velo_tables.specs.Kept.{Kept, entry, steps_looked_up}
 use Rattle.velo_tables.specs.Last.{last_at}
 use Rattle.velo_tables.proofs.OnSteps.{steps_looked_up-contains, steps_looked_up-from}
-use Rattle.velo_tables.proofs.OnGraphLookUps.{IsFound}
 use Rattle.velo_merge.specs.Named.{Bears}
-use Rattle.velo_monitor.specs.Watched.{Watched, AreAncestors, AreEntries, IsEntryFor, IsStepFor, IsMonitorOf}
+use Rattle.velo_monitor.specs.Watched.{Watched, IsEntryFor, IsStepFor, IsMonitorOf}
 use Rattle.velo_monitor.proofs.OnNodes.{reaches-unfinished}
 
 -- a step that the event looks up names the node with stamp b in slot k

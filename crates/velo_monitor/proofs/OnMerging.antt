@@ -1,12 +1,12 @@
 -- An event outside blocks that goes into a node is covered by it, and one without a live predecessor is not live.
-use Rattle.std.proofs.Common.{◌≡◌, ◌≢◌, ℕ, ◌<◌, ◌≤◌, Bool, true, false, not, ◌||◌, eqb, List, [], ◌∷◌, ◌++◌, length, refl, sym, ap, ◌∙◌, subst, ⊎_elim, inl, inr, arith}
-use Rattle.std.specs.Prelude.{◌⊎◌, IsTrue, IsFalse}
-use Rattle.std.proofs.lemmas.Bool.{cases_lt, cases_eq, or_cases, or_right, eqb-true, both_ways, not-true}
+use Rattle.std.proofs.Common.{◌≡◌, ◌≢◌, ℕ, eqb, List, [], ◌∷◌, ◌++◌, length, refl, sym, ◌∙◌, subst, ⊎_elim, inr, arith}
+use Rattle.std.specs.Prelude.{IsTrue, IsFalse}
+use Rattle.std.proofs.lemmas.Bool.{cases_eq, or_right, both_ways, not-true}
 use Rattle.velo_events.specs.declared.config.Bounds.{Bounds}
 use Rattle.velo_events.specs.declared.event.Event.{Event}
 use Rattle.velo_events.specs.Event.{is_begin}
 use Rattle.velo_events.specs.WellFormed.{MayFollow}
-use Rattle.velo_events.specs.Block.{owner, is_open, IsTransaction, IsUnfinished, IsFinished}
+use Rattle.velo_events.specs.Block.{owner, is_open, IsUnfinished}
 use Rattle.velo_events.specs.Graph.{Edge, Reaches}
 use Rattle.velo_events.specs.Collection.{IsLive, IsCovered}
 use Rattle.velo_events.proofs.OnGraphs.{newest, Reaches-trans}
@@ -18,8 +18,8 @@ use Rattle.velo_graph.proofs.OnOrders.{up_before}
 use Rattle.velo_tables.proofs.OnGraphLookUps.{IsFound, ReachesByFound, IsFound-predecessor, Reaches-push_found}
 use Rattle.velo_merge.specs.Named.{Bears}
 use Rattle.velo_monitor.specs.Watched.{Watched, IsMonitorOf}
-use Rattle.velo_monitor.proofs.OnNodes.{one_slot, reaches-sound}
-use Rattle.velo_monitor.proofs.OnLooks.{Names, StandsAt, stamp-reaches, stamp-other, looked_up-unfinished, named}
+use Rattle.velo_monitor.proofs.OnNodes.{reaches-sound}
+use Rattle.velo_monitor.proofs.OnLooks.{Names, stamp-reaches, stamp-other, looked_up-unfinished, named}
 
 module _ (bounds : Bounds) (w : Watched) (trace : List Event) (e : Event) (stands : IsMonitorOf bounds w trace) (follows : MayFollow bounds trace e) (alone : newest trace e ≡ length trace) (no_begin : IsFalse (is_begin e.kind)) where
   -- whatever is unfinished and reaches the event reaches, in the graph of nodes, a node that is named

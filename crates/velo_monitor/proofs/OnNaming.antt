@@ -1,20 +1,18 @@
 -- The slots of the live predecessors are those that the event's steps name; whether one of them closes a cycle.
-use Rattle.std.proofs.Common.{◌≡◌, ◌≢◌, ℕ, ◌<◌, ◌≤◌, Bool, true, false, List, [], ◌∷◌, ◌++◌, length, get_or, set, Option, Some, None, refl, sym, ap, ◌∙◌, subst, ⊎_elim, inl, inr, arith, get_or-set_same, get_or-set_other}
-use Rattle.std.specs.Prelude.{IsTrue, IsFalse, IsSomeAnd, Contains}
+use Rattle.std.proofs.Common.{◌≡◌, ◌≢◌, ℕ, ◌<◌, ◌≤◌, false, List, [], ◌∷◌, ◌++◌, length, get_or, Option, Some, None, refl, sym, ap, ◌∙◌, subst, arith, get_or-set_same, get_or-set_other}
+use Rattle.std.specs.Prelude.{IsTrue, IsSomeAnd, Contains}
 use Rattle.std.specs.Option.{ForSome}
-use Rattle.std.proofs.lemmas.Bool.{cases_eq, both_ways}
 use Rattle.velo_events.specs.declared.config.Bounds.{Bounds}
 use Rattle.velo_events.specs.declared.event.Event.{Event}
 use Rattle.velo_events.specs.Event.{thread_of}
 use Rattle.velo_events.specs.WellFormed.{MayFollow}
-use Rattle.velo_events.specs.Block.{owner}
 use Rattle.velo_events.specs.Graph.{HasCycle}
 use Rattle.velo_events.proofs.OnGraphs.{newest}
 use Rattle.velo_arena.specs.declared.step.Step.{Step}
 use Rattle.velo_arena.specs.declared.step.Node.{Node}
-use Rattle.velo_arena.specs.Slots.{Slots, node_in, bears, has_finished, is_finished_in, Opens}
+use Rattle.velo_arena.specs.Slots.{has_finished, Opens}
 use Rattle.velo_graph.specs.Nodes.{Nodes, reaches}
-use Rattle.velo_tables.specs.Place.{Place, LastOf}
+use Rattle.velo_tables.specs.Place.{LastOf}
 use Rattle.velo_tables.specs.Kept.{entry, steps_looked_up}
 use Rattle.velo_tables.proofs.OnSteps.{steps_looked_up-from}
 use Rattle.velo_merge.specs.Named.{Bears}
@@ -23,7 +21,7 @@ use Rattle.velo_monitor.specs.Steps.{live_slots, ReachesSome}
 use Rattle.velo_monitor.proofs.OnNodes.{one_slot, one_stamp}
 use Rattle.velo_monitor.proofs.OnLooks.{Names}
 use Rattle.velo_monitor.proofs.OnInside.{AreNamed}
-use Rattle.velo_monitor.proofs.OnClosing.{ClosesBy, closes-by, closes-from}
+use Rattle.velo_monitor.proofs.OnClosing.{closes-by, closes-from}
 use Rattle.velo_monitor.proofs.OnOpening.{HasFresh}
 use Rattle.velo_monitor.proofs.OnBegin.{HasFlags}
 use Rattle.velo_monitor.proofs.OnCurrent.{current-node}

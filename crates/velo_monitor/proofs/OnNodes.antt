@@ -1,12 +1,12 @@
 -- Nodes by their stamps.
-use Rattle.std.proofs.Common.{◌≡◌, ◌≢◌, ℕ, List, Bool, true, false, ◌||◌, eqb, Option, Some, None, refl, sym, ap, ◌∙◌, subst, ⊎_elim, inl}
+use Rattle.std.proofs.Common.{◌≡◌, ℕ, List, true, eqb, sym, ap, ◌∙◌, subst, ⊎_elim, inl}
 use Rattle.std.specs.Prelude.{IsTrue}
 use Rattle.std.proofs.lemmas.Bool.{cases_eq, eq-eqb, eqb-true, or_left, or_right, or_cases}
 use Rattle.velo_events.specs.declared.event.Event.{Event}
 use Rattle.velo_events.specs.Block.{IsUnfinished}
 use Rattle.velo_events.specs.Graph.{Edge, Reaches}
 use Rattle.velo_arena.specs.declared.step.Node.{Node}
-use Rattle.velo_arena.specs.Slots.{Slots, node_in, bears, HasOwnStamps}
+use Rattle.velo_arena.specs.Slots.{node_in, HasOwnStamps}
 use Rattle.velo_arena.proofs.OnSlots.{node_of_stamp, same_node}
 use Rattle.velo_graph.specs.Nodes.{Nodes, is_ancestor, reaches, IsSound}
 use Rattle.velo_merge.specs.Named.{Bears}

@@ -1,7 +1,7 @@
 -- The ancestors after an event that gets a new node: an outermost begin, or an event outside blocks.
-use Rattle.std.proofs.Common.{◌≡◌, ◌≢◌, ℕ, ◌<◌, ◌≤◌, Bool, true, false, not, ◌&&◌, ◌||◌, eqb, List, [], ◌∷◌, ◌++◌, length, get_or, Option, Some, None, refl, sym, ap, ◌∙◌, subst, ⊎_elim, inl, inr, arith}
-use Rattle.std.specs.Prelude.{◌⊎◌, IsTrue, IsFalse, Contains}
-use Rattle.std.proofs.lemmas.Bool.{cases_lt, cases_eq, or_cases, or_left, or_right, and_parts, and_from, not-true, not_from_false, ne_eqb, eq-eqb, eqb-true, both_ways}
+use Rattle.std.proofs.Common.{◌≡◌, ◌≢◌, ℕ, ◌<◌, ◌≤◌, true, not, ◌&&◌, ◌||◌, eqb, List, [], ◌∷◌, ◌++◌, length, refl, sym, ap, ◌∙◌, subst, ⊎_elim, inl, inr, arith}
+use Rattle.std.specs.Prelude.{IsTrue}
+use Rattle.std.proofs.lemmas.Bool.{cases_lt, cases_eq, or_cases, or_left, or_right, and_parts, and_from, not_from_false, ne_eqb, eq-eqb, eqb-true, both_ways}
 use Rattle.std.proofs.lemmas.List.Folds.{Any-from_list_any, list_any_at}
 use Rattle.velo_events.specs.declared.config.Bounds.{Bounds}
 use Rattle.velo_events.specs.declared.event.Event.{Event}
@@ -16,7 +16,7 @@ use Rattle.velo_tables.proofs.OnGraphLookUps.{IsFound, ReachesByFound, Reaches-p
 use Rattle.velo_merge.specs.Named.{Bears}
 use Rattle.velo_monitor.specs.Watched.{Watched, AreAncestors, IsMonitorOf}
 use Rattle.velo_monitor.proofs.OnNodes.{one_stamp, reaches-sound}
-use Rattle.velo_monitor.proofs.OnLooks.{Names, StandsAt, stamp-reaches, stamp-other, looked_up-unfinished, named}
+use Rattle.velo_monitor.proofs.OnLooks.{Names, stamp-reaches, stamp-other, looked_up-unfinished, named}
 use Rattle.velo_monitor.proofs.OnInside.{AreNamed}
 
 -- the graph with a fresh node c, which bears the stamp p, without ancestors and descendants

@@ -1,28 +1,24 @@
 -- An event outside blocks that gets no node, or goes into one that is there: the monitor stands for the longer trace.
-use Rattle.std.proofs.Common.{◌≡◌, ◌≢◌, ℕ, suc, ◌+◌, ◌<◌, ◌≤◌, Bool, true, false, not, ◌||◌, ◌&&◌, List, [], ◌∷◌, ◌++◌, length, Option, Some, None, refl, sym, ap, ◌∙◌, subst, ⊎_elim, inl, inr, arith}
-use Rattle.std.specs.Prelude.{◌⊎◌, IsTrue, IsFalse, IsSomeAnd}
+use Rattle.std.proofs.Common.{◌≡◌, ℕ, ◌<◌, ◌≤◌, not, List, [], ◌∷◌, ◌++◌, length, Option, Some, None, refl, sym, ap, ◌∙◌, subst, ⊎_elim, inl, inr, arith}
+use Rattle.std.specs.Prelude.{IsTrue, IsFalse, IsSomeAnd}
 use Rattle.std.specs.Option.{ForSome}
-use Rattle.std.proofs.lemmas.Bool.{cases_eq, cases_lt, both_ways}
+use Rattle.std.proofs.lemmas.Bool.{cases_lt, both_ways}
 use Rattle.std.proofs.lemmas.List.{length_push}
 use Rattle.velo_events.specs.declared.config.Bounds.{Bounds}
 use Rattle.velo_events.specs.declared.event.Event.{Event}
 use Rattle.velo_events.specs.Event.{is_begin}
 use Rattle.velo_events.specs.WellFormed.{MayFollow}
-use Rattle.velo_events.specs.Block.{owner, is_open, IsTransaction, IsUnfinished, IsFinished}
-use Rattle.velo_events.specs.Graph.{Edge, Reaches, HasCycle}
-use Rattle.velo_events.specs.Collection.{IsLive, IsCovered}
+use Rattle.velo_events.specs.Block.{is_open, IsTransaction, IsUnfinished, IsFinished}
 use Rattle.velo_events.proofs.OnWellFormed.{IsWellFormed-push}
 use Rattle.velo_events.proofs.OnGraphs.{newest}
 use Rattle.velo_events.proofs.OnReaching.{Reaches-old, Reaches-push_alone, HasCycle-push_alone}
 use Rattle.velo_events.proofs.OnUnfinished.{IsTransaction-append, IsTransaction-before, IsFinished-append, IsUnfinished-push, IsUnfinished-push_cases, cases_unfinished}
 use Rattle.velo_events.proofs.OnCollection.{not_live-append, IsCovered-push}
 use Rattle.velo_arena.specs.declared.step.Step.{Step}
-use Rattle.velo_arena.specs.Slots.{Slots, bears, is_finished_in}
-use Rattle.velo_graph.specs.Nodes.{Nodes, is_ancestor}
-use Rattle.velo_tables.specs.Kept.{Kept, IsRecorded}
-use Rattle.velo_merge.specs.Named.{Bears}
+use Rattle.velo_graph.specs.Nodes.{Nodes}
+use Rattle.velo_tables.specs.Kept.{IsRecorded}
 use Rattle.velo_monitor.specs.Watched.{Watched, AreAncestors, IsEntryFor, IsAccountedIn, AreDepths, IsMonitorOf}
-use Rattle.velo_monitor.proofs.OnTables.{KeepsOld, entries-recorded}
+use Rattle.velo_monitor.proofs.OnTables.{entries-recorded}
 
 below : (o : Option ℕ) (s n : ℕ) → IsSomeAnd o (λ z. s ≤ z) → ForSome o (λ z. z < n) → s < n
 below None s n h f = absurd h

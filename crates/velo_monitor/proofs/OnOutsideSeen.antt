@@ -1,7 +1,7 @@
 -- What the monitor is after an outermost begin, and after an event outside blocks. Neither closes a cycle.
-use Rattle.std.proofs.Common.{◌≡◌, ◌≢◌, ℕ, ◌+◌, ◌-◌, ◌<◌, ◌≤◌, Bool, true, false, List, [], ◌∷◌, ◌++◌, length, Option, Some, None, refl, sym, ap, ◌∙◌, subst, ⊎_elim, inl, inr, arith}
+use Rattle.std.proofs.Common.{◌≡◌, ◌≢◌, ℕ, ◌≤◌, true, false, List, [], ◌∷◌, ◌++◌, length, Option, Some, None, refl, sym, ap, ◌∙◌, subst, ⊎_elim, inl, inr, arith}
 use Rattle.std.specs.Prelude.{◌⊎◌, IsTrue, IsFalse, IsSomeAnd, Contains}
-use Rattle.std.proofs.lemmas.Bool.{cases_Bool, both_ways, false≢true}
+use Rattle.std.proofs.lemmas.Bool.{cases_Bool, both_ways}
 use Rattle.velo_events.specs.declared.config.Bounds.{Bounds}
 use Rattle.velo_events.specs.declared.event.Event.{Event}
 use Rattle.velo_events.specs.declared.event.Label.{Label}
@@ -12,17 +12,17 @@ use Rattle.velo_events.specs.Heap.{depth_in}
 use Rattle.velo_events.specs.WellFormed.{MayFollow}
 use Rattle.velo_events.specs.Graph.{HasCycle}
 use Rattle.velo_events.specs.Collection.{IsLive, IsCovered}
-use Rattle.velo_events.specs.Merge.{GetsNone, GoesInto, GetsNew}
+use Rattle.velo_events.specs.Merge.{GetsNone}
 use Rattle.velo_events.proofs.OnGraphs.{newest}
 use Rattle.velo_events.proofs.OnReaching.{HasCycle-push_alone}
 use Rattle.velo_arena.specs.declared.step.Step.{Step}
 use Rattle.velo_arena.specs.Slots.{Slots, node_in, bears, is_finished_in}
 use Rattle.velo_arena.proofs.OnSlots.{node_of_stamp}
 use Rattle.velo_graph.specs.Nodes.{Nodes, is_ancestor}
-use Rattle.velo_merge.specs.Named.{Bears, live_stamps, HasFinished, IsAncestor}
+use Rattle.velo_merge.specs.Named.{Bears, live_stamps}
 use Rattle.velo_merge.proofs.OnStamps.{step_of_stamp, stamp_of_step}
 use Rattle.velo_tables.specs.Kept.{steps_looked_up, IsRecorded}
-use Rattle.velo_monitor.specs.Watched.{Watched, IsEntryFor, IsAccountedIn, AreDepths, IsMonitorOf}
+use Rattle.velo_monitor.specs.Watched.{Watched, IsEntryFor, AreDepths, IsMonitorOf}
 use Rattle.velo_monitor.specs.Steps.{live_slots}
 use Rattle.velo_monitor.specs.Changed.{BeginsBlock, GetsNoNode, GoesIntoNode, GetsOwnNode, Operates}
 use Rattle.velo_monitor.proofs.OnNodes.{one_slot}

@@ -1,15 +1,13 @@
 -- An event outside blocks that gets a node of its own, finished at once: the monitor stands for the longer trace.
-use Rattle.std.proofs.Common.{◌≡◌, ◌≢◌, ℕ, suc, ◌+◌, ◌<◌, ◌≤◌, Bool, true, false, not, ◌||◌, ◌&&◌, eqb, List, [], ◌∷◌, ◌++◌, length, Option, Some, None, refl, sym, ap, ◌∙◌, subst, ⊎_elim, inl, inr, arith}
-use Rattle.std.specs.Prelude.{◌⊎◌, IsTrue, IsFalse, IsSomeAnd}
+use Rattle.std.proofs.Common.{◌≡◌, ◌≢◌, ℕ, ◌<◌, ◌≤◌, true, false, not, ◌||◌, ◌&&◌, eqb, List, [], ◌∷◌, ◌++◌, length, Option, Some, None, refl, sym, ap, ◌∙◌, subst, ⊎_elim, inl, inr, arith}
+use Rattle.std.specs.Prelude.{IsTrue, IsFalse, IsSomeAnd}
 use Rattle.std.proofs.lemmas.Bool.{cases_eq, cases_lt, both_ways, or_left}
 use Rattle.std.proofs.lemmas.List.{length_push}
 use Rattle.velo_events.specs.declared.config.Bounds.{Bounds}
 use Rattle.velo_events.specs.declared.event.Event.{Event}
 use Rattle.velo_events.specs.Event.{is_begin}
 use Rattle.velo_events.specs.WellFormed.{MayFollow}
-use Rattle.velo_events.specs.Block.{owner, is_open, IsTransaction, IsUnfinished, IsFinished}
-use Rattle.velo_events.specs.Graph.{Edge, HasCycle}
-use Rattle.velo_events.specs.Collection.{IsLive, IsCovered}
+use Rattle.velo_events.specs.Block.{is_open, IsTransaction, IsUnfinished, IsFinished}
 use Rattle.velo_events.proofs.OnWellFormed.{IsWellFormed-push}
 use Rattle.velo_events.proofs.OnGraphs.{newest}
 use Rattle.velo_events.proofs.OnReaching.{HasCycle-push_alone}
@@ -23,13 +21,13 @@ use Rattle.velo_merge.specs.Named.{Bears}
 use Rattle.velo_monitor.specs.Watched.{Watched, AreAncestors, IsAccountedIn, AreDepths, IsMonitorOf}
 use Rattle.velo_monitor.proofs.OnNodes.{one_stamp}
 use Rattle.velo_monitor.proofs.OnInside.{AreNamed}
-use Rattle.velo_monitor.proofs.OnTables.{KeepsOld, entries-recorded}
+use Rattle.velo_monitor.proofs.OnTables.{entries-recorded}
 use Rattle.velo_monitor.proofs.OnOpening.{HasFresh, ancestors-opened}
 use Rattle.velo_monitor.proofs.OnBegin.{HasFlags}
 use Rattle.velo_monitor.proofs.OnEnding.{Finishes}
 use Rattle.velo_monitor.proofs.OnLooks.{Names}
 use Rattle.velo_graph.proofs.OnOrders.{up_itself}
-use Rattle.std.proofs.lemmas.Bool.{cases_Bool, and_from, or_right, not_from_false, ne_eqb, eq-eqb}
+use Rattle.std.proofs.lemmas.Bool.{cases_Bool, and_from, or_right, not_from_false, ne_eqb}
 use Rattle.std.proofs.lemmas.List.Folds.{list_any_at}
 
 below : (o : Option ℕ) (s n : ℕ) → IsSomeAnd o (λ z. s ≤ z) → ((z : ℕ) → o ≡ Some z → z < n) → s < n

@@ -1,7 +1,7 @@
 -- Where nothing was left to collect, nothing is after more edges, nor after the end of a node that has ancestors.
-use Rattle.std.proofs.Common.{◌≡◌, ◌≢◌, ℕ, ◌<◌, ◌≤◌, Bool, true, false, ◌&&◌, ◌||◌, List, refl, sym, ap, ◌∙◌, subst, ⊎_elim, inl, inr, arith}
-use Rattle.std.specs.Prelude.{IsTrue, IsFalse}
-use Rattle.std.proofs.lemmas.Bool.{cases_Bool, cases_eq, cases_lt, both_ways, or_left, false_from_ne_true}
+use Rattle.std.proofs.Common.{◌≡◌, ◌≢◌, ℕ, ◌<◌, true, false, ◌&&◌, List, sym, ap, ◌∙◌, subst, ⊎_elim}
+use Rattle.std.specs.Prelude.{IsTrue}
+use Rattle.std.proofs.lemmas.Bool.{cases_Bool, cases_eq, both_ways, or_left, false_from_ne_true}
 use Rattle.velo_events.specs.declared.config.Bounds.{Bounds}
 use Rattle.velo_events.specs.declared.event.Event.{Event}
 use Rattle.velo_arena.specs.Slots.{Slots, limit_of, is_finished_in}
@@ -9,7 +9,7 @@ use Rattle.velo_graph.specs.Nodes.{Nodes, is_ancestor, reaches, leads_on, IsSoun
 use Rattle.velo_graph.specs.Collects.{HasNothingLeft}
 use Rattle.velo_graph.proofs.OnNodes.{used_in_range}
 use Rattle.velo_monitor.specs.Watched.{Watched, IsMonitorOf}
-use Rattle.velo_monitor.proofs.OnRoots.{some_below}
+use Rattle.velo_monitor.proofs.OnNumbers.{some_below}
 use Rattle.velo_monitor.proofs.OnCollected.{IsUncollected}
 use Rattle.velo_monitor.proofs.OnEnding.{Finishes}
 

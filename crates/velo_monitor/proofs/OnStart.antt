@@ -1,20 +1,18 @@
 -- With no node in use, no step and no open block, the monitor is that of the empty trace. Room that is made changes nothing.
-use Rattle.std.proofs.Common.{◌≡◌, ◌≢◌, ℕ, ◌+◌, ◌<◌, ◌≤◌, Bool, true, false, List, [], ◌∷◌, length, get_or, replicate, Option, Some, None, refl, sym, ap, ◌∙◌, subst, ⊎_elim, inl, inr, arith}
-use Rattle.std.specs.Prelude.{IsTrue, IsFalse, slice_index_or}
-use Rattle.std.proofs.lemmas.Bool.{cases_lt, both_ways, false≢true}
+use Rattle.std.proofs.Common.{◌≡◌, ℕ, ◌<◌, ◌≤◌, false, List, [], ◌∷◌, length, get_or, replicate, Option, Some, None, refl, sym, ap, ◌∙◌, subst, ⊎_elim, arith}
+use Rattle.std.specs.Prelude.{slice_index_or}
+use Rattle.std.proofs.lemmas.Bool.{cases_lt, false≢true}
 use Rattle.std.proofs.lemmas.List.{get_or-replicate, get_or_past, length-replicate}
 use Rattle.velo_events.specs.declared.limits.TheConstants.{MOST_THREADS}
 use Rattle.velo_events.specs.declared.config.Bounds.{Bounds}
 use Rattle.velo_events.specs.declared.event.Event.{Event}
 use Rattle.velo_events.specs.Heap.{times, depth_in}
-use Rattle.velo_events.specs.Block.{IsTransaction}
 use Rattle.velo_events.specs.Graph.{Edge, IsCycle, HasCycle}
 use Rattle.velo_arena.specs.declared.step.Step.{Step}
 use Rattle.velo_arena.specs.declared.step.Node.{Node}
-use Rattle.velo_arena.specs.Slots.{Slots, node_in, bears, has_stamp, has_finished, is_finished_in}
+use Rattle.velo_arena.specs.Slots.{node_in, has_stamp, has_finished}
 use Rattle.velo_graph.specs.Nodes.{Nodes, is_ancestor, IsSound}
-use Rattle.velo_tables.specs.Place.{Place}
-use Rattle.velo_tables.specs.Kept.{Kept, entry, IsBlank, IsUnchanged}
+use Rattle.velo_tables.specs.Kept.{IsBlank, IsUnchanged}
 use Rattle.velo_tables.proofs.OnLast.{last_at-within}
 use Rattle.velo_merge.specs.Named.{Bears}
 use Rattle.velo_monitor.specs.Watched.{Watched, IsMonitorOf}

@@ -1,29 +1,27 @@
 -- An event inside a block that closes no cycle and leaves its block open: the monitor stands for the longer trace.
-use Rattle.std.proofs.Common.{◌≡◌, ◌≢◌, ℕ, suc, ◌+◌, ◌<◌, ◌≤◌, Bool, true, false, not, ◌||◌, ◌&&◌, List, [], ◌∷◌, ◌++◌, length, Option, Some, None, refl, sym, ap, ◌∙◌, subst, ⊎_elim, inl, inr, arith}
-use Rattle.std.specs.Prelude.{◌⊎◌, IsTrue, IsFalse, IsSomeAnd}
+use Rattle.std.proofs.Common.{◌≡◌, ℕ, ◌<◌, ◌≤◌, true, not, ◌&&◌, List, [], ◌∷◌, ◌++◌, length, Option, Some, None, refl, sym, ap, ◌∙◌, subst, ⊎_elim, inl, inr, arith}
+use Rattle.std.specs.Prelude.{IsTrue, IsSomeAnd}
 use Rattle.std.specs.Option.{ForSome}
-use Rattle.std.proofs.lemmas.Bool.{cases_Bool, cases_eq, cases_lt, both_ways, or_left}
+use Rattle.std.proofs.lemmas.Bool.{cases_eq, cases_lt, both_ways, or_left}
 use Rattle.std.proofs.lemmas.List.{length_push}
 use Rattle.velo_events.specs.declared.config.Bounds.{Bounds}
 use Rattle.velo_events.specs.declared.event.Event.{Event}
 use Rattle.velo_events.specs.WellFormed.{MayFollow}
 use Rattle.velo_events.specs.Block.{owner, is_open, IsTransaction, IsUnfinished, IsFinished}
-use Rattle.velo_events.specs.Graph.{Edge, Reaches, HasCycle}
-use Rattle.velo_events.specs.Collection.{IsLive, IsCovered}
+use Rattle.velo_events.specs.Graph.{HasCycle}
 use Rattle.velo_events.proofs.OnWellFormed.{IsWellFormed-push}
 use Rattle.velo_events.proofs.OnGraphs.{newest}
-use Rattle.velo_events.proofs.OnUnfinished.{IsTransaction-append, IsTransaction-before, IsFinished-append, IsUnfinished-before, IsUnfinished-push, IsUnfinished-push_cases, cases_unfinished, newest-unfinished}
+use Rattle.velo_events.proofs.OnUnfinished.{IsTransaction-append, IsTransaction-before, IsFinished-append, IsUnfinished-push, IsUnfinished-push_cases, cases_unfinished, newest-unfinished}
 use Rattle.velo_events.proofs.OnCollection.{not_live-append, IsCovered-push}
 use Rattle.velo_arena.specs.declared.step.Step.{Step}
 use Rattle.velo_arena.specs.Slots.{Slots, node_in, bears, is_finished_in}
 use Rattle.velo_arena.proofs.OnSlots.{node_of_stamp}
-use Rattle.velo_graph.specs.Nodes.{Nodes, is_ancestor, reaches, leads_on, IsSound, AddsEdges}
+use Rattle.velo_graph.specs.Nodes.{is_ancestor, reaches, leads_on, IsSound, AddsEdges}
 use Rattle.velo_tables.specs.Kept.{IsRecorded}
 use Rattle.velo_merge.specs.Named.{Bears}
-use Rattle.velo_monitor.specs.Watched.{Watched, AreFounded, AreAncestors, IsAccountedIn, AreDepths, IsMonitorOf}
-use Rattle.velo_monitor.proofs.OnNodes.{one_slot}
+use Rattle.velo_monitor.specs.Watched.{Watched, AreDepths, IsMonitorOf}
 use Rattle.velo_monitor.proofs.OnInside.{AreNamed, ancestors-inside}
-use Rattle.velo_monitor.proofs.OnTables.{KeepsOld, entries-recorded}
+use Rattle.velo_monitor.proofs.OnTables.{entries-recorded}
 
 below : (o : Option ℕ) (s n : ℕ) → IsSomeAnd o (λ z. s ≤ z) → ForSome o (λ z. z < n) → s < n
 below None s n h f = absurd h

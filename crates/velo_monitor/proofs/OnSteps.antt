@@ -1,16 +1,16 @@
 -- The slots of the nodes that steps name, one step after another.
-use Rattle.std.proofs.Common.{◌≡◌, ◌≢◌, ℕ, ◌+◌, ◌<◌, ◌≤◌, Bool, true, false, cond, eqb, not, ◌&&◌, ◌||◌, List, [], ◌∷◌, ◌++◌, length, get_or, take, Option, Some, None, refl, sym, ap, ◌∙◌, subst, ⊎_elim, inl, inr, arith}
-use Rattle.std.specs.Prelude.{IsTrue, IsFalse, Contains, ◌⊎◌, ◌↔◌, filter_map}
+use Rattle.std.proofs.Common.{◌≡◌, ◌≢◌, ℕ, ◌+◌, ◌<◌, ◌≤◌, Bool, true, false, cond, List, [], ◌∷◌, ◌++◌, length, get_or, take, Some, None, refl, sym, ap, ◌∙◌, subst, ⊎_elim, arith}
+use Rattle.std.specs.Prelude.{IsTrue, Contains, ◌↔◌, filter_map}
 use Rattle.std.specs.List.{cons_option}
-use Rattle.std.proofs.lemmas.Bool.{cases_Bool, cases_eq, both_ways, false_from_ne_true}
-use Rattle.std.proofs.lemmas.List.{take_more, take_all, take-append-drop, get_or_default, append-nil}
-use Rattle.std.proofs.lemmas.List.Elements.{Contains-push, Contains-push_cases, Contains-append_left, filter_map-append}
+use Rattle.std.proofs.lemmas.Bool.{both_ways, false_from_ne_true}
+use Rattle.std.proofs.lemmas.List.{take_more, take_all, get_or_default, append-nil}
+use Rattle.std.proofs.lemmas.List.Elements.{Contains-push_cases, filter_map-append}
 use Rattle.velo_arena.specs.declared.step.Step.{Step}
 use Rattle.velo_arena.specs.Slots.{Slots, bears, is_used, node_in}
 use Rattle.velo_arena.proofs.OnSlots.{node_of_stamp, used_from_node}
 use Rattle.velo_graph.specs.declared.graph.Edge.{Edge}
 use Rattle.velo_graph.specs.declared.graph.Edge.TheVariants.{Same, Known, Added, Closes}
-use Rattle.velo_graph.specs.Nodes.{Nodes, is_ancestor, reaches, IsSound, AddsEdge, AddsEdges}
+use Rattle.velo_graph.specs.Nodes.{Nodes, reaches, IsSound, AddsEdge, AddsEdges}
 use Rattle.velo_graph.proofs.OnEdges.{adds-none, adds-more, adds-same, adds-known, target_reaches}
 use Rattle.velo_tables.proofs.OnSteps.{filter_map-contains, filter_map-from}
 use Rattle.velo_merge.specs.Named.{Bears}

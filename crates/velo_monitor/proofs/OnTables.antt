@@ -1,10 +1,10 @@
 -- The tables after one more event was recorded.
-use Rattle.std.proofs.Common.{◌≡◌, ◌≢◌, ℕ, suc, ◌+◌, ◌<◌, ◌≤◌, Bool, true, false, cond, List, [], ◌∷◌, ◌++◌, length, Option, Some, None, refl, sym, ap, ◌∙◌, subst, ⊎_elim, inl, inr, arith}
-use Rattle.std.specs.Prelude.{◌⊎◌, IsTrue, IsFalse, IsSomeAnd, if◌then◌else◌}
-use Rattle.std.proofs.lemmas.Bool.{cases_Bool, both_ways, false_from_ne_true}
+use Rattle.std.proofs.Common.{◌≡◌, ℕ, ◌<◌, ◌≤◌, Bool, true, false, List, [], ◌∷◌, ◌++◌, length, Option, Some, None, refl, sym, ◌∙◌, subst, ⊎_elim, inl, inr}
+use Rattle.std.specs.Prelude.{IsSomeAnd, if◌then◌else◌}
+use Rattle.std.proofs.lemmas.Bool.{both_ways, false_from_ne_true}
 use Rattle.velo_events.specs.declared.event.Event.{Event}
 use Rattle.velo_events.specs.Block.{owner, IsTransaction}
-use Rattle.velo_events.specs.Collection.{IsLive, IsCovered}
+use Rattle.velo_events.specs.Collection.{IsCovered}
 use Rattle.velo_events.proofs.OnBlocks.{owner-append}
 use Rattle.velo_events.proofs.OnGraphs.{newest}
 use Rattle.velo_events.proofs.OnUnfinished.{IsTransaction-owner}
@@ -17,7 +17,7 @@ use Rattle.velo_tables.specs.Kept.{Kept, entry, IsRecorded, IsUnchanged}
 use Rattle.velo_tables.specs.Last.{last_at}
 use Rattle.velo_tables.proofs.OnLast.{last_at-push, last_at-within}
 use Rattle.velo_merge.specs.Named.{Bears}
-use Rattle.velo_monitor.specs.Watched.{IsEntryFor, IsStepFor, AreEntries}
+use Rattle.velo_monitor.specs.Watched.{IsEntryFor, AreEntries}
 
 -- nodes stay, and no node with a stamp of the trace comes
 pub record KeepsOld (old new : Nodes) (trace : List Event) : Type 0 where

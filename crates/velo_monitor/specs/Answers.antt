@@ -1,5 +1,5 @@
 -- What a monitor answers to the next event of its trace.
-use Rattle.std.specs.Prelude.{◌≡◌, ℕ, ◌<◌, ◌≤◌, ◌⊎◌, List, [], ◌∷◌, ◌++◌, length, IsTrue, IsFalse, Contains}
+use Rattle.std.specs.Prelude.{◌≡◌, ℕ, ◌<◌, ◌⊎◌, List, [], ◌∷◌, ◌++◌, length, IsTrue, IsFalse}
 use Rattle.velo_monitor.specs.declared.monitor.Seen.{Seen}
 use Rattle.velo_monitor.specs.declared.monitor.Seen.TheVariants.{Quiet, Closes}
 use Rattle.velo_events.specs.declared.limits.TheConstants.{MOST_EVENTS}

@@ -1,5 +1,5 @@
 -- What an event leaves of the nodes, the tables and the depths. Words of private contracts.
-use Rattle.std.specs.Prelude.{◌≡◌, ◌≢◌, ℕ, ◌+◌, ◌-◌, ◌<◌, ⊤, ◌⊎◌, List, length, Option, Some, None, true, IsTrue, slice_index_or, slice_set}
+use Rattle.std.specs.Prelude.{◌≡◌, ◌≢◌, ℕ, ◌+◌, ◌-◌, ◌<◌, ⊤, ◌⊎◌, List, length, Option, Some, None, true, slice_index_or, slice_set}
 use Rattle.velo_monitor.specs.declared.monitor.Seen.{Seen}
 use Rattle.velo_monitor.specs.declared.monitor.Seen.TheVariants.{Quiet, Closes}
 use Rattle.velo_events.specs.declared.event.Event.{Event}
@@ -8,12 +8,12 @@ use Rattle.velo_events.specs.declared.event.Kind.TheVariants.{Begin, End}
 use Rattle.velo_events.specs.Event.{thread_of}
 use Rattle.velo_events.specs.Merge.{GetsNone, GoesInto, GetsNew}
 use Rattle.velo_arena.specs.declared.step.Step.{Step}
-use Rattle.velo_arena.specs.Slots.{Opens, with_node, bears}
+use Rattle.velo_arena.specs.Slots.{Opens, with_node}
 use Rattle.velo_graph.specs.Nodes.{Nodes, IsRoot, IsAlone, IsSound, AddsEdges}
 use Rattle.velo_graph.specs.Collects.{Collects}
 use Rattle.velo_merge.specs.Named.{Bears, live_stamps, HasFinished, IsAncestor}
 use Rattle.velo_tables.specs.Place.{LastOf}
-use Rattle.velo_tables.specs.Kept.{Kept, entry, steps_looked_up, IsRecorded}
+use Rattle.velo_tables.specs.Kept.{entry, steps_looked_up, IsRecorded}
 use Rattle.velo_monitor.specs.Watched.{Watched}
 use Rattle.velo_monitor.specs.Steps.{live_slots, ReachesSome}
 

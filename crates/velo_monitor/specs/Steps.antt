@@ -1,5 +1,5 @@
 -- The slots of the nodes that steps name. Words of private contracts.
-use Rattle.std.specs.Prelude.{◌≡◌, ◌≢◌, ℕ, List, Option, Some, None, IsTrue, Contains, filter_map, if◌then◌else◌}
+use Rattle.std.specs.Prelude.{◌≢◌, ℕ, List, Option, Some, None, IsTrue, Contains, filter_map, if◌then◌else◌}
 use Rattle.velo_arena.specs.declared.step.Step.{Step}
 use Rattle.velo_arena.specs.Slots.{bears}
 use Rattle.velo_graph.specs.Nodes.{Nodes, reaches}

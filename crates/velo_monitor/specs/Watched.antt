@@ -1,5 +1,5 @@
 -- What callers see of a monitor, and the traces that it stands for.
-use Rattle.std.specs.Prelude.{◌≡◌, ◌≢◌, ℕ, ◌<◌, ◌≤◌, Bool, false, not, ◌⊎◌, List, length, Option, Some, None, IsTrue, IsSomeAnd, slice_index_or}
+use Rattle.std.specs.Prelude.{◌≡◌, ◌≢◌, ℕ, ◌<◌, ◌≤◌, false, not, ◌⊎◌, List, length, Option, Some, None, IsTrue, IsSomeAnd, slice_index_or}
 use Rattle.std.specs.Option.{ForSome}
 use Rattle.velo_events.specs.declared.limits.TheConstants.{MOST_THREADS}
 use Rattle.velo_events.specs.declared.config.Bounds.{Bounds}

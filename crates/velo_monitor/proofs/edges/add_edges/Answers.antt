@@ -1,6 +1,6 @@
 use Rattle.std.proofs.Common.{refl, sym, ◌∙◌, ◌+◌, subst}
 use Rattle.velo_graph.specs.Nodes.{Nodes}
-use Rattle.velo_monitor.proofs.OnSteps.{AddsFirst, first-none, first-dead, first-from, first-all, resolved_to, resolved_none}
+use Rattle.velo_monitor.proofs.OnSteps.{AddsFirst, first-none, first-dead, first-from, resolved_to, resolved_none}
 use Rattle.velo_monitor.proofs.edges.add_edges.Goals as goal
 use Rattle.velo_monitor.proofs.edges.add_edges.Goals.{in-Some, in_default}
 

@@ -1,4 +1,3 @@
-use Rattle.std.proofs.Common.{◌≡◌, replicate}
 use Rattle.velo_monitor.proofs.OnStart.{starts}
 use Rattle.velo_monitor.proofs.monitor.Monitor.new.Goals as goal
 

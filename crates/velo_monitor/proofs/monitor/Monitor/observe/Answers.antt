@@ -1,4 +1,4 @@
-use Rattle.std.proofs.Common.{◌≡◌, ◌<◌, sym, ap, ◌∙◌, subst, arith}
+use Rattle.std.proofs.Common.{◌≡◌, ◌<◌, ap, arith}
 use Rattle.velo_events.specs.Event.{thread_of, is_begin}
 use Rattle.velo_events.specs.Heap.{depth_in}
 use Rattle.velo_monitor.proofs.OnCounts.{depth-now}
