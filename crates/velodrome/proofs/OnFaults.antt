@@ -16,7 +16,7 @@ use Rattle.velo_traces.proofs.OnFlaws.{flaw-not_MayFollow, MayFollow-from_no_fla
 use Rattle.velodrome.specs.declared.check.CheckFault.{CheckFault}
 use Rattle.velodrome.specs.declared.check.CheckFault.TheVariants.{Log, Refused, WrongValue, Write, Memory}
 use Rattle.velo_world.specs.World.{WorldState}
-use Rattle.velodrome.specs.Faults.{world_of, IsFaultAtEvent, IsFaultOfLog, IsLimit, IsGraphFullAt}
+use Rattle.velodrome.specs.Faults.{world_of, IsFaultAtEvent, IsFaultOfLog, IsLimit, FindsNoNodeAt}
 
 -- so many events stand before a position
 before_length : (log : List Event) (i : ℕ) (e : Event) → slice_get log i ≡ Some e → length (take i log) ≡ i
@@ -32,13 +32,13 @@ first_flaw bounds log i p e flaw here well at flawed =
 
 -- which limit was met
 limit_in_log : (config : Config) (log : List Event) (i : ℕ) (e : Event) (p : ℕ) (refusal : Refusal) → slice_get log i ≡ Some e → i ≡ p → length (take i log) ≤ config.events
-    → IsLimit config (take i log) e refusal → ((refusal ≡ LogFull) × (p ≡ config.events)) ⊎ ((refusal ≡ GraphFull) × (p < config.events) × IsGraphFullAt config.nodes log p)
+    → IsLimit config (take i log) e refusal → ((refusal ≡ LogFull) × (p ≡ config.events)) ⊎ ((refusal ≡ GraphFull) × (p < config.events) × FindsNoNodeAt config.nodes log p)
 limit_in_log config log i e p refusal here same short (inl (full, limit)) =
     let count : length (take i log) ≡ i = before_length log i e here in
     inl (full, omega (arith, same, count, short, limit))
 limit_in_log config log i e p refusal here same short (inr (full, room, graph)) =
     let count : length (take i log) ≡ i = before_length log i e here in
-    inr (full, omega (arith, same, count, room), subst (λ n. IsGraphFullAt config.nodes log n) same (record { event = e; here = here; full = graph }))
+    inr (full, omega (arith, same, count, room), subst (λ n. FindsNoNodeAt config.nodes log n) same (record { event = e; here = here; finds_none = graph }))
 
 pub fault_in_log : (config : Config) (log : List Event) (i : ℕ) (e : Event) (fault : CheckFault) → slice_get log i ≡ Some e
     → IsWellFormed config.bounds (take i log) → length (take i log) ≤ config.events → IsFaultAtEvent config (take i log) e fault → IsFaultOfLog config log fault

@@ -1,5 +1,5 @@
 -- What a world says of the next event of a log.
-use Rattle.std.proofs.Common.{arith, ◌<◌, ◌≡◌, ℕ, ◌≤◌, Bool, true, false, List, length, Option, Some, None, Ok, Err, refl, sym, ap, ◌∙◌, inl, inr}
+use Rattle.std.proofs.Common.{arith, ◌<◌, ◌≡◌, ℕ, ◌≤◌, Bool, true, false, List, length, Option, Some, None, Ok, Err, refl, sym, subst, ap, ◌∙◌, inl, inr}
 use Rattle.std.specs.Prelude.{IsOk, ◌&&◌, ◌==◌, nat_lt, if◌then◌else◌, nat_le, not, Result, IsTrue, ◌⊎◌}
 use Rattle.std.proofs.lemmas.Bool.{leb-true, eqb-true, false≢true}
 use Rattle.std.proofs.lemmas.Bool.Decides.{nat_tests}
@@ -13,13 +13,13 @@ use Rattle.velo_events.specs.declared.refusal.Refusal.{Refusal}
 use Rattle.velo_events.specs.declared.refusal.Refusal.TheVariants.{Halted, NotLive, NoSuchVariable, NoSuchLock, NoSuchThread, Busy, AlreadyHeld, NotHolder, NoOpenBlock, TooDeep, AlreadyForked, NotForked, NotExited, AlreadyJoined, BlockOpen, LockHeld, LogFull, GraphFull}
 use Rattle.velo_events.specs.declared.refusal.Refusal.TheVariants as refusal_case
 use Rattle.velo_events.specs.WellFormed.{MayFollow, NamesKnown, IsWellFormed}
-use Rattle.velo_events.specs.Event.{are_same}
+use Rattle.velo_events.specs.Event.{are_same, thread_of}
 use Rattle.velo_events.specs.Heap.{holder_in, status_in, depth_in}
 use Rattle.velo_events.specs.Meaning.{is_another, is_unborn, is_live, is_joined, holds_a_lock, kind_for, event_for, action_of, refusal_of, has_its_value}
 use Rattle.velo_events.proofs.OnMeaning.{HasItsValue-kind_for, MayFollow-refusal_of}
 use Rattle.velo_traces.specs.declared.judge.Flaw.TheVariants.{Refused, WrongValue}
 use Rattle.velo_traces.specs.Flaws.{flaw_by, flaw_of}
-use Rattle.velo_world.specs.World.{WorldState, meaning}
+use Rattle.velo_world.specs.World.{WorldState, FindsNoNode, meaning}
 use Rattle.velo_world.specs.World.{value_read}
 use Rattle.velodrome.specs.Faults.{IsLimit, IsRefusal, is_as_logged}
 
@@ -207,13 +207,13 @@ no_limit_due w e r running limit not_full is = at (refused_cases w e r running i
     at (inl bad) = refusal_of-no_limit w.config.bounds w.log e.thread.0 e.kind r limit bad
     at (inr full) = not_full full.1
 
-refused_due : (w : WorldState) (t : ThreadId) (due : Result Event Refusal) (r : Refusal) → (r ≡ refusal_case.Memory → ⊥) → (r ≡ GraphFull → ⊥) → IsRefusal w t due r → due ≡ Err r
-refused_due w t due r not_memory not_graph (inl is) = is
-refused_due w t due r not_memory not_graph (inr (inl memory)) = absurd (not_memory memory.0)
-refused_due w t due r not_memory not_graph (inr (inr full)) = absurd (not_graph full.0)
+refused_due : (w : WorldState) (due : Result Event Refusal) (r : Refusal) → (r ≡ refusal_case.Memory → ⊥) → (r ≡ GraphFull → ⊥) → IsRefusal w due r → due ≡ Err r
+refused_due w due r not_memory not_graph (inl is) = is
+refused_due w due r not_memory not_graph (inr (inl memory)) = absurd (not_memory memory.0)
+refused_due w due r not_memory not_graph (inr (inr full)) = absurd (not_graph full.0)
 
 -- memory is wanted only where a growth was refused
-pub refused_memory : (w : WorldState) (e : Event) → w.halted ≡ false → IsRefusal w e.thread (meaning w e.thread (action_of e.kind)) refusal_case.Memory → GrowthRefused
+pub refused_memory : (w : WorldState) (e : Event) → w.halted ≡ false → IsRefusal w (meaning w e.thread (action_of e.kind)) refusal_case.Memory → GrowthRefused
 refused_memory w e running (inr (inl memory)) = memory.1.1
 refused_memory w e running (inr (inr full)) = let same = full.0 in absurd cc
 refused_memory w e running (inl is) = absurd (no_limit_due w e refusal_case.Memory running refl (λ h. cc) is)
@@ -227,9 +227,9 @@ known_names w e well none =
     names_asked w.config.bounds w.log e.kind may.known_names
 
 -- a full log
-pub full_log : (w : WorldState) (e : Event) → w.halted ≡ false → IsRefusal w e.thread (meaning w e.thread (action_of e.kind)) LogFull
+pub full_log : (w : WorldState) (e : Event) → w.halted ≡ false → IsRefusal w (meaning w e.thread (action_of e.kind)) LogFull
     → (refusal_of w.config.bounds w.log e.thread.0 e.kind ≡ None) × IsLimit w.config w.log e LogFull
-full_log w e running refused = at (refused_cases w e LogFull running (refused_due w e.thread _ LogFull (λ h. cc) (λ h. cc) refused))
+full_log w e running refused = at (refused_cases w e LogFull running (refused_due w _ LogFull (λ h. cc) (λ h. cc) refused))
   where
     at : (refusal_of w.config.bounds w.log e.thread.0 e.kind ≡ Some LogFull)
         ⊎ ((refusal_of w.config.bounds w.log e.thread.0 e.kind ≡ None) × (LogFull ≡ LogFull) × (w.config.events ≤ length w.log))
@@ -253,17 +253,20 @@ room_due w e due h = at (refusal_of w.config.bounds w.log e.thread.0 (kind_for w
     at (Some s) is = absurd (not_due w.halted s due (rw is at h))
     at None is = room_when_due w.halted w.config.events (length w.log) (event_for w.log e.thread (action_of e.kind)) due (rw is at h)
 
+FindsNoNode-same : (log : List Event) (nodes : ℕ) (x e : Event) → thread_of x ≡ thread_of e → FindsNoNode log x nodes → FindsNoNode log e nodes
+FindsNoNode-same log nodes x e same finds =
+    record { no_alarm = finds.no_alarm; outside = subst (λ t. depth_in log t ≡ 0) same finds.outside; many_live = finds.many_live }
+
 -- a full graph
-pub full_graph : (w : WorldState) (e : Event) → w.halted ≡ false → IsRefusal w e.thread (meaning w e.thread (action_of e.kind)) GraphFull
+pub full_graph : (w : WorldState) (e : Event) → w.halted ≡ false → IsRefusal w (meaning w e.thread (action_of e.kind)) GraphFull
     → (refusal_of w.config.bounds w.log e.thread.0 e.kind ≡ None) × IsLimit w.config w.log e GraphFull
 full_graph w e running (inl is) = absurd (no_limit_due w e GraphFull running refl (λ h. cc) is)
 full_graph w e running (inr (inl memory)) = let same = memory.0 in absurd cc
-full_graph w e running (inr (inr full)) = at (meaning w e.thread (action_of e.kind)) refl full.1.0
-  where
-    at : (due : Result Event Refusal) → meaning w e.thread (action_of e.kind) ≡ due → IsOk due
-        → (refusal_of w.config.bounds w.log e.thread.0 e.kind ≡ None) × IsLimit w.config w.log e GraphFull
-    at (Ok due) is ok = ((due_cases w e due is).0, inr (refl, room_due w e due is, full.1.1))
-    at (Err r) is ok = absurd (false≢true ok)
+full_graph w e running (inr (inr (_, fills))) =
+    let cases = due_cases w e fills.event fills.is_due in (
+      cases.0,
+      inr (refl, room_due w e fills.event fills.is_due, FindsNoNode-same w.log w.config.nodes fills.event e (ap thread_of (sym cases.1)) fills.finds_none),
+    )
 
 -- a read with a wrong value comes before a limit
 pub limit_wrong : (w : WorldState) (e : Event) → refusal_of w.config.bounds w.log e.thread.0 e.kind ≡ None → has_its_value w.log e.kind ≡ false → flaw_of w.config.bounds w.log e ≡ Some WrongValue
@@ -273,9 +276,9 @@ pub limit_right : (w : WorldState) (e : Event) → refusal_of w.config.bounds w.
 limit_right w e none right = flaw_by-none (refusal_of w.config.bounds w.log e.thread.0 e.kind) (has_its_value w.log e.kind) none right
 
 -- any other refusal
-pub refused_flaw : (w : WorldState) (e : Event) (r : Refusal) → w.halted ≡ false → IsRefusal w e.thread (meaning w e.thread (action_of e.kind)) r
+pub refused_flaw : (w : WorldState) (e : Event) (r : Refusal) → w.halted ≡ false → IsRefusal w (meaning w e.thread (action_of e.kind)) r
     → (r ≡ refusal_case.Memory → ⊥) → (r ≡ GraphFull → ⊥) → (r ≡ LogFull → ⊥) → flaw_of w.config.bounds w.log e ≡ Some (Refused r)
-refused_flaw w e r running refused not_memory not_graph not_full = at (refused_cases w e r running (refused_due w e.thread _ r not_memory not_graph refused))
+refused_flaw w e r running refused not_memory not_graph not_full = at (refused_cases w e r running (refused_due w _ r not_memory not_graph refused))
   where
     at : (refusal_of w.config.bounds w.log e.thread.0 e.kind ≡ Some r)
         ⊎ ((refusal_of w.config.bounds w.log e.thread.0 e.kind ≡ None) × (r ≡ LogFull) × (w.config.events ≤ length w.log))

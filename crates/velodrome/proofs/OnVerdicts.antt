@@ -13,7 +13,7 @@ use Rattle.velodrome.specs.declared.check.Verdict.{Verdict}
 use Rattle.velodrome.specs.declared.check.Verdict.TheVariants as verdict
 use Rattle.velodrome.specs.declared.check.CheckFault.{CheckFault}
 use Rattle.velodrome.specs.declared.check.CheckFault.TheVariants.{Log, Refused, WrongValue, Write, Memory}
-use Rattle.velodrome.specs.Check.{IsInput, IsReported, IsVerdict, Checks, Reports}
+use Rattle.velodrome.specs.Check.{IsInput, IsReported, IsVerdict, Checks, Reports, read_failures}
 use Rattle.velo_report.specs.declared.names.Names.TheVariants.{Numbers}
 use Rattle.velo_report.specs.Report.{IsReport}
 
@@ -71,3 +71,12 @@ checked_by limit nodes read w old new (Err Memory) is input well short reports =
 checked_by limit nodes read w old new (Err (Log fault)) is input well short reports = absurd reports
 checked_by limit nodes read w old new (Err (Refused p refusal)) is input well short reports = absurd reports
 checked_by limit nodes read w old new (Err (WrongValue p)) is input well short reports = absurd reports
+
+-- a report reads nothing
+pub reads_nothing : (w : WorldState) (old new : Option (List ℕ)) (result : Result Verdict CheckFault) (n : ℕ) → Reports w old new result → read_failures result n ≡ n
+reads_nothing w old new (Ok answer) n reports = refl
+reads_nothing w old new (Err Write) n reports = refl
+reads_nothing w old new (Err Memory) n reports = refl
+reads_nothing w old new (Err (Log fault)) n reports = absurd reports
+reads_nothing w old new (Err (Refused p refusal)) n reports = refl
+reads_nothing w old new (Err (WrongValue p)) n reports = refl

@@ -4,11 +4,7 @@ use Rattle.velo_events.specs.declared.config.Config.{Config}
 use Rattle.velo_events.specs.declared.event.Event.{Event}
 use Rattle.velo_events.specs.declared.event.Kind.{Kind}
 use Rattle.velo_events.specs.declared.event.Kind.TheVariants.{Read}
-use Rattle.velo_events.specs.declared.event.ThreadId.{ThreadId}
 use Rattle.velo_events.specs.Event.{are_same}
-use Rattle.velo_events.specs.Graph.{HasCycle}
-use Rattle.velo_events.specs.Heap.{depth_in}
-use Rattle.velo_events.specs.Collection.{HasManyLive}
 use Rattle.velo_events.specs.Refusals.{GrowthRefused}
 use Rattle.velo_events.specs.declared.refusal.Refusal.{Refusal}
 use Rattle.velo_events.specs.declared.refusal.Refusal.TheVariants.{LogFull, GraphFull}
@@ -17,7 +13,7 @@ use Rattle.velo_traces.specs.declared.judge.Flaw.TheVariants as flaw
 use Rattle.velo_events.specs.declared.config.Bounds.{Bounds}
 use Rattle.velo_events.specs.WellFormed.{IsWellFormed}
 use Rattle.velo_traces.specs.Flaws.{flaw_of, IsFirstFlaw}
-use Rattle.velo_world.specs.World.{WorldState}
+use Rattle.velo_world.specs.World.{WorldState, FindsNoNode, FillsGraph}
 use Rattle.velodrome.specs.declared.check.CheckFault.{CheckFault}
 use Rattle.velodrome.specs.declared.check.CheckFault.TheVariants.{Log, Refused, WrongValue, Write, Memory}
 
@@ -30,22 +26,15 @@ abbrev pub is_as_logged : Kind → Option ℕ → Bool
 is_as_logged (Read x v) value = are_same (Some v) value
 is_as_logged _ value = true
 
--- the log has no alarm, the thread is outside blocks, and at least so many transactions are live
-pub record IsGraphFull (nodes : ℕ) (log : List Event) (t : ℕ) : Type 0 where
-  pub no_alarm : ¬ HasCycle log
-  pub outside : depth_in log t ≡ 0
-  pub many : HasManyLive log nodes
+-- the refusal is due, or the event is due and a growth was refused for it or it finds no node
+abbrev pub IsRefusal : WorldState → Result Event Refusal → Refusal → Type 0
+IsRefusal w due refusal = (due ≡ Err refusal)
+    ⊎ (((refusal ≡ refusal_case.Memory) × (IsOk due × GrowthRefused)) ⊎ ((refusal ≡ GraphFull) × FillsGraph w due))
 
--- the refusal is due, or the event is due and a growth was refused for it or the graph is full
-abbrev pub IsRefusal : WorldState → ThreadId → Result Event Refusal → Refusal → Type 0
-IsRefusal w t due refusal = (due ≡ Err refusal)
-    ⊎ (((refusal ≡ refusal_case.Memory) × (IsOk due × GrowthRefused))
-    ⊎ ((refusal ≡ GraphFull) × (IsOk due × IsGraphFull w.config.nodes w.log t.0)))
-
--- the log is full, or it is not and the graph is
+-- the log is full, or it is not and the event finds no node
 abbrev pub IsLimit : Config → List Event → Event → Refusal → Type 0
 IsLimit config log e refusal = ((refusal ≡ LogFull) × (config.events ≤ length log))
-    ⊎ ((refusal ≡ GraphFull) × (length log < config.events) × IsGraphFull config.nodes log e.thread.0)
+    ⊎ ((refusal ≡ GraphFull) × (length log < config.events) × FindsNoNode log e config.nodes)
 
 -- why the event does not come next: a refusal, a wrong value, or a limit, in this order; or a growth was refused
 abbrev pub IsFaultAtEvent : Config → List Event → Event → CheckFault → Type 0
@@ -57,11 +46,11 @@ IsFaultAtEvent config log e Memory = GrowthRefused
 IsFaultAtEvent config log e (Log fault) = ⊥
 IsFaultAtEvent config log e Write = ⊥
 
--- the graph is full for the event at position p
-pub record IsGraphFullAt (nodes : ℕ) (log : List Event) (p : ℕ) : Type 0 where
+-- the event at position p finds no node
+pub record FindsNoNodeAt (nodes : ℕ) (log : List Event) (p : ℕ) : Type 0 where
   pub event : Event
   pub here : slice_get log p ≡ Some event
-  pub full : IsGraphFull nodes (take p log) event.thread.0
+  pub finds_none : FindsNoNode (take p log) event nodes
 
 -- The first event that can't come about, at position p within the limit, is refused for this reason; or the events up to p
 -- came about, and p is at the limit of events or, before it, at the limit of nodes.
@@ -69,7 +58,7 @@ abbrev pub IsRefusedAt : ℕ → ℕ → Bounds → List Event → ℕ → Refus
 IsRefusedAt limit nodes bounds log p refusal =
     (IsFirstFlaw bounds log p (flaw.Refused refusal) × (p ≤ limit))
     ⊎ ((p < length log) × IsWellFormed bounds (take (p + 1) log)
-    × (((refusal ≡ LogFull) × (p ≡ limit)) ⊎ ((refusal ≡ GraphFull) × (p < limit) × IsGraphFullAt nodes log p)))
+    × (((refusal ≡ LogFull) × (p ≡ limit)) ⊎ ((refusal ≡ GraphFull) × (p < limit) × FindsNoNodeAt nodes log p)))
 
 -- the first event that can't come about, at position p within the limit, reads a value that its variable does not have
 pub record IsWrongValueAt (limit : ℕ) (bounds : Bounds) (log : List Event) (p : ℕ) : Type 0 where

@@ -99,7 +99,7 @@ fn fault_at_limit(world: &World, event: &Event, refusal: Refusal) -> CheckFault
 /// Why the next event of a log can't be done in the world, which has refused it.
 fn fault_of(world: &World, event: &Event, refusal: Refusal) -> CheckFault
     requires running { world.now.halted ≡ false }
-    requires refused { IsRefusal world.now event.now.thread (meaning world.now event.now.thread (action_of event.now.kind)) refusal }
+    requires refused { IsRefusal world.now (meaning world.now event.now.thread (action_of event.now.kind)) refusal }
     ensures { IsFaultAtEvent world.now.config world.now.log event.now result }
 {
     match refusal {

@@ -182,6 +182,62 @@ fn logs_are_refused(rt: HostRuntime) {
     }
 }
 
+/// Logs with a limit of nodes, the first line on standard output, that on standard error, and the status.
+const WITH_NODES: [(&str, &str, &str, &str, u8); 5] = [
+    (
+        "vlog 1 2 1 0\n0 fork 1\n0 begin 1\n0 wr 0 1\n0 end\n1 begin 2\n0 rd 0 1\n1 wr 0 2\n1 end\n",
+        "1",
+        "events 8\n",
+        "",
+        0,
+    ),
+    (
+        "vlog 1 2 0 0\n0 fork 1\n0 begin 1\n1 begin 2\n",
+        "1",
+        "",
+        "refused 18 at 2\n",
+        4,
+    ),
+    (
+        "vlog 1 2 1 0\n0 fork 1\n0 begin 1\n0 wr 0 1\n1 rd 0 1\n1 rd 0 1\n1 rd 0 1\n0 end\n",
+        "2",
+        "events 7\n",
+        "",
+        0,
+    ),
+    (
+        "vlog 1 2 1 0\n0 fork 1\n0 begin 1\n0 wr 0 1\n1 rd 0 1\n1 rd 0 1\n1 rd 0 1\n0 end\n",
+        "1",
+        "",
+        "refused 18 at 3\n",
+        4,
+    ),
+    (
+        "vlog 1 2 1 0\n0 fork 1\n0 begin 1\n0 wr 0 1\n1 rd 0 2\n",
+        "1",
+        "",
+        "wrong value at 3\n",
+        2,
+    ),
+];
+
+#[test]
+fn graphs_are_full(rt: HostRuntime) {
+    for (log, nodes, first, line, status) in WITH_NODES {
+        let files = [("a.log", log)];
+        let folder = Folder {
+            files: &files,
+            step: usize::MAX,
+        };
+        let words = ["velodrome", "check", "--nodes", nodes, "a.log"];
+        let shown = show(rt.alloc(), &words, &folder);
+        assert!(rt; shown.out.as_slice().starts_with(first.as_bytes()), "{log}");
+        assert_eq!(rt; shown.out.as_slice().is_empty(), first.is_empty());
+        assert_eq!(rt; shown.err.as_slice(), line.as_bytes(), "{log}");
+        assert_eq!(rt; shown.status, status);
+    }
+}
+
 /// Right words, with the status: of the two logs one raises an alarm at its last event.
 const RIGHT_WORDS: [(&[&str], u8); 7] = [
     (&["velodrome", "check", "a.log"], 3),
@@ -195,7 +251,7 @@ const RIGHT_WORDS: [(&[&str], u8); 7] = [
             "5",
             "a.log",
             "--nodes",
-            "1",
+            "2",
         ],
         3,
     ),

@@ -1,7 +1,7 @@
 use Rattle.std.proofs.Common.{◌∙◌, ap, sym, subst}
 use Rattle.velo_world.specs.World.{WorldState}
 use Rattle.velodrome.specs.Check.{IsInput}
-use Rattle.velodrome.proofs.OnVerdicts.{input_found, checked_by}
+use Rattle.velodrome.proofs.OnVerdicts.{input_found, checked_by, reads_nothing}
 use Rattle.velodrome.proofs.check.check_run.Goals as goal
 
 pub returns-clause-answer : goal.returns-clause-answer
@@ -15,3 +15,7 @@ returns-clause-answer g c =
     (ap (λ w. w.config.events) world ∙ c.config_of.ensures.events)
     (subst (λ (w : WorldState). IsInput known w.config.bounds w.log) (sym world) configured)
     c.in_ok-closed.ensures.well_formed c.in_ok-closed.ensures.short c.write_report.ensures.answer
+
+pub returns-clause-read : goal.returns-clause-read
+returns-clause-read g c =
+    c.in-Ok.ensures.failures ∙ sym (reads_nothing c.in_ok-closed.closed _ _ c.write_report.result _ c.write_report.ensures.answer)
