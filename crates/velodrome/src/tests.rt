@@ -460,7 +460,7 @@ fn event(thread: ThreadId, kind: Kind) -> Event {
     Event { thread, kind }
 }
 
-/// Logs by chance, about half of them with an alarm, are reported as the definitions say.
+/// Logs by chance are reported as the definitions say.
 #[test]
 fn reports_are_those_of_the_definitions(rt: HostRuntime) -> Result<(), Fail> {
     for seed in 0..400u64 {
