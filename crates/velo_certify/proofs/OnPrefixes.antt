@@ -9,7 +9,7 @@ use Rattle.std.proofs.lemmas.List.Sums.{sum_by-le}
 use Rattle.std.proofs.lemmas.List.Filters.{sum_by-filter_both}
 use Rattle.velo_events.specs.declared.event.Event.{Event}
 use Rattle.velo_events.specs.Event.{thread_of}
-use Rattle.velo_events.specs.Block.{passes_at, is_open_at, is_in_block}
+use Rattle.velo_events.specs.Block.{passes_at, is_begin_at, is_open_at, is_in_block}
 use Rattle.velo_events.specs.Graph.{conflict_at}
 use Rattle.velo_events.specs.Reordering.{IsReordering, StandTogether, IsSelfSerializable}
 use Rattle.velo_events.proofs.OnBlocks.{is_in_block-append}
@@ -110,9 +110,10 @@ module _ (trace more : List Event) where
           (λ g. rw (le-ltb i (length trace) g) refl)
           (cases_lt i (length trace))
 
--- a block that is self-serializable in a longer trace is so in its beginning
-pub IsSelfSerializable-early : (trace more : List Event) (b : ℕ) → IsSelfSerializable (trace ++ more) b → IsSelfSerializable trace b
-IsSelfSerializable-early trace more b s = record {
+-- a block that begins in a trace and is self-serializable in a longer one is so in the trace
+pub IsSelfSerializable-early : (trace more : List Event) (b : ℕ) → IsTrue (is_begin_at trace b) → IsSelfSerializable (trace ++ more) b → IsSelfSerializable trace b
+IsSelfSerializable-early trace more b begun s = record {
+  begun = begun;
   order = filter (λ i. nat_lt i (length trace)) s.order;
   reorders = IsReordering-early trace more s.order s.reorders;
   together = λ k l m before behind within first last.

@@ -19,7 +19,7 @@ use Rattle.velo_events.specs.Event.{are_same, thread_of, variable_of, lock_of, f
 use Rattle.velo_events.specs.Conflict.{conflict}
 use Rattle.velo_events.specs.Graph.{conflict_at}
 use Rattle.velo_events.specs.Heap.{latest, happened, times, value_in, holder_in, was_born, status_in, depth_in}
-use Rattle.velo_events.specs.Reordering.{IsReordering, reordered}
+use Rattle.velo_events.specs.Reordering.{IsReordering, events_in_order}
 use Rattle.velo_events.specs.WellFormed.{IsInTurn, MayFollow, IsWellFormed}
 use Rattle.velo_events.proofs.OnScans.{take-next, take-take_le}
 use Rattle.velo_events.proofs.OnPositions.{Contains-filter}
@@ -428,11 +428,11 @@ module _ (bounds : Bounds) (trace : List Event) (well : IsWellFormed bounds trac
           in_turn = turn here.kind refl w.in_turn;
         }
 
-  reordered-is : reordered trace order ≡ map (E trace) order
+  reordered-is : events_in_order trace order ≡ map (E trace) order
   reordered-is = filter_map-is trace order (inside trace order r)
 
   -- every reordering of a well-formed trace is well-formed
-  pub IsWellFormed-reordered : IsWellFormed bounds (reordered trace order)
+  pub IsWellFormed-reordered : IsWellFormed bounds (events_in_order trace order)
   IsWellFormed-reordered = subst (IsWellFormed bounds) (sym reordered-is) (record {
     each = λ k e at_k.
         let long = length-map order (E trace) in
@@ -447,13 +447,13 @@ module _ (trace : List Event) (order : List ℕ) (r : IsReordering trace order) 
   everywhere : (y : ℕ) → y < length trace → Contains (take (length order) order) y ↔ (y < length trace)
   everywhere y l = ((λ w. l), (λ h. let a = IsReordering-place trace order r y l in in_take trace order r (length order) a.0 y (omega arith) a.1 a.2))
 
-  told_whole : (test : Event → Bool) → ((f g : Event) → IsTrue (test f) → IsTrue (test g) → IsTrue (conflict f g)) → TellTheSame test (reordered trace order) trace
+  told_whole : (test : Event → Bool) → ((f g : Event) → IsTrue (test f) → IsTrue (test g) → IsTrue (conflict f g)) → TellTheSame test (events_in_order trace order) trace
   told_whole test pairs =
       let same = told_same trace order r test (λ x y h l p q. pairs (E trace x) (E trace y) p q) (length order) (length trace) (omega arith) (omega arith) (λ y l h. everywhere y l) in
       subst (λ es. TellTheSame test es trace) (sym (filter_map-is trace order (inside trace order r)))
       (subst (TellTheSame test (map (E trace) order)) (sym (all-is trace)) (subst (λ xs. TellTheSame test (map (E trace) xs) (map (E trace) (range_with_len 0 (length trace)))) (take-length order) same))
 
-  happened_whole : (test : Event → Bool) → happened test (reordered trace order) ≡ happened test trace
+  happened_whole : (test : Event → Bool) → happened test (events_in_order trace order) ≡ happened test trace
   happened_whole test =
       ap (happened test) (filter_map-is trace order (inside trace order r)) ∙ (⊎_elim both none (cases_Bool (happened test trace)))
     where
@@ -474,13 +474,13 @@ module _ (trace : List Event) (order : List ℕ) (r : IsReordering trace order) 
       none h = false_from_ne_true _ (λ k. both_ways _ h (there k)) ∙ sym h
 
   -- every reordering leaves the same heap
-  pub LeavesSameHeap-reordered : LeavesSameHeap trace (reordered trace order)
+  pub LeavesSameHeap-reordered : LeavesSameHeap trace (events_in_order trace order)
   LeavesSameHeap-reordered = record {
     values = λ x. ap (λ o. option_map_or (λ e. value_of e.kind) o 0) (told_whole (is_write_of x) (writes-pair x)).last;
     holders = λ m. ap (option_and_then (λ e. if is_acquire e.kind then Some (thread_of e) else None)) (told_whole (is_on_lock m) (locks-pair m)).last;
     statuses = λ t. rw (happened_whole (is_join_of t), happened_whole (is_exit_by t), happened_whole (is_fork_of t)) refl;
     depths = λ t.
-        let begins : times (is_begin_by t) (reordered trace order) ≡ times (is_begin_by t) trace = (told_whole (is_begin_by t) (own-pair t (λ e. is_begin e.kind))).count in
-        let ends : times (is_end_by t) (reordered trace order) ≡ times (is_end_by t) trace = (told_whole (is_end_by t) (own-pair t (λ e. is_end e.kind))).count in
+        let begins : times (is_begin_by t) (events_in_order trace order) ≡ times (is_begin_by t) trace = (told_whole (is_begin_by t) (own-pair t (λ e. is_begin e.kind))).count in
+        let ends : times (is_end_by t) (events_in_order trace order) ≡ times (is_end_by t) trace = (told_whole (is_end_by t) (own-pair t (λ e. is_end e.kind))).count in
         rw (begins, ends) refl;
   }

@@ -1,6 +1,6 @@
 //! A shortest cycle through the transaction of a position, and whether a list is one.
 ghost use Rattle.std.specs.Prelude.{◌≡◌, ◌-◌, ◌<◌, ◌↔◌, ◌++◌, ℕ, List, length, IfOk, IfErr, OnErr, IsTrue};
-ghost use Rattle.velo_events.specs.Block.{owner};
+ghost use Rattle.velo_events.specs.Block.{is_begin_at, owner};
 ghost use Rattle.velo_events.specs.Certificate.{IsShortestCycleAt};
 ghost use Rattle.velo_events.specs.Refusals.{GrowthRefused};
 ghost use Rattle.velo_events.specs.Reordering.{IsSelfSerializable};
@@ -78,7 +78,7 @@ fn last_cycle(alloc: Global, events: &[Event]) -> Result<Vec<usize>, CertFault>
 pub fn cycle_of(alloc: Global, trace: &Trace, position: usize) -> Result<Vec<usize>, CertFault>
     ensures cycle { IfOk result (λ cycle. IsShortestCycleAt trace.now.events position cycle.items) }
     ensures fault { IfErr result (IsCycleFault trace.now.events position) }
-    ensures stays { (more : List Event) (b : ℕ) → ¬ IsSelfSerializable trace.now.events b → ¬ IsSelfSerializable (trace.now.events ++ more) b }
+    ensures stays { (more : List Event) (b : ℕ) → IsTrue (is_begin_at trace.now.events b) → ¬ IsSelfSerializable trace.now.events b → ¬ IsSelfSerializable (trace.now.events ++ more) b }
 {
     let events = trace.as_slice();
     if position >= events.len() {

@@ -4,7 +4,7 @@ ghost use Rattle.velo_events.specs.Block.{owner};
 ghost use Rattle.velo_events.specs.Certificate.{positions_of, IsSerialOrder};
 ghost use Rattle.velo_events.specs.Graph.{HasCycle};
 ghost use Rattle.velo_events.specs.Refusals.{GrowthRefused};
-ghost use Rattle.velo_events.specs.Reordering.{IsReordering, reordered};
+ghost use Rattle.velo_events.specs.Reordering.{IsReordering, events_in_order};
 ghost use Rattle.velo_events.specs.WellFormed.{IsWellFormed};
 ghost use Rattle.velo_events.specs.declared.config.Bounds.{Bounds};
 ghost use Rattle.velo_certify.specs.Reordered.{LeavesSameHeap};
@@ -238,8 +238,8 @@ pub fn serial_order(alloc: Global, trace: &Trace) -> Result<Vec<usize>, CertFaul
     ensures order { IfOk result (λ order. IsSerialOrder trace.now.events order.items) }
     ensures acyclic { OnOk result (¬ HasCycle trace.now.events) }
     ensures fault { IfErr result (IsOrderFault trace.now.events) }
-    ensures well_formed { (bounds : Bounds) (order : List ℕ) → IsWellFormed bounds trace.now.events → IsReordering trace.now.events order → IsWellFormed bounds (reordered trace.now.events order) }
-    ensures same_heap { (order : List ℕ) → IsReordering trace.now.events order → LeavesSameHeap trace.now.events (reordered trace.now.events order) }
+    ensures well_formed { (bounds : Bounds) (order : List ℕ) → IsWellFormed bounds trace.now.events → IsReordering trace.now.events order → IsWellFormed bounds (events_in_order trace.now.events order) }
+    ensures same_heap { (order : List ℕ) → IsReordering trace.now.events order → LeavesSameHeap trace.now.events (events_in_order trace.now.events order) }
 {
     list_all(alloc, trace.as_slice())
 }

@@ -25,7 +25,7 @@ returns-clause-fault c =
     (subst (λ xs. IfErr c.last_cycle.result (IsLastFault (take (p + 1) xs) (owner (take (p + 1) xs) (length (take (p + 1) xs) - 1)))) c.as_slice-events.ensures c.last_cycle.ensures.fault)
 
 pub returns-then-position-events-clause-stays : goal.returns-then-position-events-clause-stays
-returns-then-position-events-clause-stays c = λ more b not_self longer. not_self (IsSelfSerializable-early c.args.trace.now.events more b longer)
+returns-then-position-events-clause-stays c = λ more b begun not_self longer. not_self (IsSelfSerializable-early c.args.trace.now.events more b begun longer)
 
 pub returns-clause-stays : goal.returns-clause-stays
-returns-clause-stays c = λ more b not_self longer. not_self (IsSelfSerializable-early c.args.trace.now.events more b longer)
+returns-clause-stays c = λ more b begun not_self longer. not_self (IsSelfSerializable-early c.args.trace.now.events more b begun longer)
