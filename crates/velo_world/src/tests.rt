@@ -161,7 +161,17 @@ fn an_alarm_stays_and_needs_no_node(rt: HostRuntime) -> Result<(), Fail> {
 #[test]
 fn an_alarm_stops_the_world(rt: HostRuntime) -> Result<(), Fail> {
     let (world, outcomes) = played(rt.alloc(), 4096, true, &LOST_UPDATE)?;
-    assert_eq!(rt; outcomes.get(5).copied(), Some(Err(Refusal::Halted)));
+    let wanted = [
+        done(0),
+        done(1),
+        replied(2, Some(0), false),
+        done(3),
+        replied(4, None, true),
+        Err(Refusal::Halted),
+        Err(Refusal::Halted),
+        Err(Refusal::Halted),
+    ];
+    assert_eq!(rt; outcomes.as_slice(), wanted.as_slice());
     assert!(rt; is_the_alarm(world.alarm()));
     assert!(rt; world.is_halted());
     Ok(())
