@@ -17,6 +17,9 @@ const LOST_UPDATE: &str = "vlog 1 2 1 0\n0 fork 1\n0 begin 7\n0 rd 0 0\n1 wr 0 5
 const LOST_UPDATE_REPORT: &str =
     "events 5\nthread 0 4\nthread 1 1\nverdict alarm 4\ntransaction 1\nblame 1 7\n";
 
+const LOST_UPDATE_CERTIFIED: &str =
+    "events 5\nthread 0 4\nthread 1 1\nverdict alarm 4\ntransaction 1\nblame 1 7\ncycle 1 3\n";
+
 /// Logs by their paths, which come so many bytes at a time.
 #[derive(Drop)]
 struct Folder<'a> {
@@ -108,6 +111,35 @@ fn logs_are_reported(rt: HostRuntime) {
             assert_eq!(rt; shown.err.as_slice(), b"".as_slice());
             assert_eq!(rt; shown.status, status);
         }
+    }
+}
+
+/// Logs with their report and the certificate behind it.
+const CERTIFIED: [(&str, &str); 5] = [
+    ("vlog 1 1 0 0\n", "events 0\nthread 0 0\nverdict clean\n"),
+    (LOST_UPDATE, LOST_UPDATE_CERTIFIED),
+    (
+        "vlog 1 2 2 0\n0 fork 1\n0 begin 1\n0 wr 0 1\n1 begin 2\n1 wr 1 1\n0 rd 1 1\n1 rd 0 1\n",
+        "events 7\nthread 0 4\nthread 1 3\nverdict alarm 6\ntransaction 3\nblame none\ncycle 3 1\n",
+    ),
+    (
+        "vlog 1 2 0 0\n0 begin 1\n0 fork 1\n1 exit\n0 join 1\n",
+        "events 4\nthread 0 3\nthread 1 1\nverdict alarm 3\ntransaction 0\nblame 0 1\ncycle 0 2\n",
+    ),
+    (
+        "vlog 1 2 1 0\n0 fork 1\n0 begin 1\n1 wr 0 2\n0 rd 0 2\n0 end\n",
+        "events 5\nthread 0 4\nthread 1 1\nverdict clean\nserial 0\nserial 2\nserial 1 3 4\n",
+    ),
+];
+
+#[test]
+fn certificates_are_written(rt: HostRuntime) {
+    for (log, written) in CERTIFIED {
+        let mut sink = Text::new(rt.alloc()).in_steps(1);
+        let mut source = Bytes::new(log.as_bytes());
+        let answer = check_run(rt.alloc(), &mut source, &mut sink, MOST_EVENTS, 1024, true);
+        assert!(rt; answer.is_ok(), "{log}");
+        assert_eq!(rt; sink.as_slice(), written.as_bytes(), "{log}");
     }
 }
 
@@ -239,7 +271,8 @@ fn graphs_are_full(rt: HostRuntime) {
 }
 
 /// Right words, with the status: of the two logs one raises an alarm at its last event.
-const RIGHT_WORDS: [(&[&str], u8); 7] = [
+const RIGHT_WORDS: [(&[&str], u8); 8] = [
+    (&["velodrome", "check", "--certificate", "a.log"], 3),
     (&["velodrome", "check", "a.log"], 3),
     (&["velodrome", "check", "b.log"], 0),
     (&["velodrome", "check", "c.log"], 5),
@@ -314,12 +347,12 @@ fn devices_fail(rt: HostRuntime) {
     for count in 0..=log.len() {
         let mut source = Bytes::new(log).in_steps(1).failing_after(count);
         let mut sink = Text::new(rt.alloc());
-        let answer = check_run(rt.alloc(), &mut source, &mut sink, MOST_EVENTS, 1024);
+        let answer = check_run(rt.alloc(), &mut source, &mut sink, MOST_EVENTS, 1024, false);
         assert_eq!(rt; answer, Err(CheckFault::Log(LogFault::Read)));
         assert_eq!(rt; sink.as_slice(), b"".as_slice());
     }
-    let report = LOST_UPDATE_REPORT.as_bytes();
-    for count in 0..report.len() {
+    let written = LOST_UPDATE_CERTIFIED.as_bytes();
+    for count in 0..written.len() {
         let mut sink = Text::new(rt.alloc()).failing_after(count);
         let answer = check_run(
             rt.alloc(),
@@ -327,9 +360,10 @@ fn devices_fail(rt: HostRuntime) {
             &mut sink,
             MOST_EVENTS,
             1024,
+            true,
         );
         assert_eq!(rt; answer, Err(CheckFault::Write));
-        assert_eq!(rt; sink.as_slice(), &report[..count]);
+        assert_eq!(rt; sink.as_slice(), &written[..count]);
     }
     let folder = Folder {
         files: &FILES,
@@ -448,10 +482,10 @@ fn ten_thousand_lines(rt: HostRuntime) -> Result<(), Fail> {
     write_log(bounds, &trace, &mut log)?;
     let mut source = Bytes::new(log.as_slice());
     let mut sink = Text::new(rt.alloc());
-    let answer = check_run(rt.alloc(), &mut source, &mut sink, 10_000, 1024);
+    let answer = check_run(rt.alloc(), &mut source, &mut sink, 10_000, 1024, true);
     assert_eq!(rt; answer, Ok(Verdict::Alarm));
     let lines =
-        "events 10000\nthread 0 4\nthread 1 9996\nverdict alarm 9999\ntransaction 9996\nblame 9996 7\n";
+        "events 10000\nthread 0 4\nthread 1 9996\nverdict alarm 9999\ntransaction 9996\nblame 9996 7\ncycle 9996 9998\n";
     assert_eq!(rt; sink.as_slice(), lines.as_bytes());
     Ok(())
 }
@@ -471,7 +505,7 @@ fn reports_are_those_of_the_definitions(rt: HostRuntime) -> Result<(), Fail> {
         write_log(BOUNDS, trace, &mut log)?;
         let mut source = Bytes::new(log.as_slice());
         let mut sink = Text::new(rt.alloc());
-        let answer = check_run(rt.alloc(), &mut source, &mut sink, 48, 1024);
+        let answer = check_run(rt.alloc(), &mut source, &mut sink, 48, 1024, false);
         assert!(rt; answer.is_ok());
         let lines = first_lines(rt.alloc(), trace)?;
         assert!(rt; sink.as_slice().starts_with(lines.as_bytes()), "{lines}");
