@@ -23,5 +23,6 @@ pub mod OnStart
 pub mod OnCounts
 pub mod OnNaming
 pub mod OnQuiet
+pub mod OnLone
 pub mod OnInsideSeen
 pub mod OnOutsideSeen

@@ -240,6 +240,7 @@ impl Monitor {
     fn observe_inside(&mut self, event: &Event) -> Seen
         requires room { HasRoomFor self.old.kept event.now }
         requires sound { IsSound self.old.nodes }
+        requires nothing { HasNothingLeft self.old.nodes }
         requires current { (own : StepOf) × (entry self.old.kept (LastOf (thread_of event.now)) ≡ Some own) × Bears self.old.nodes own.slot own.stamp }
         requires depth { CanCount self.old (thread_of event.now) event.now.kind }
         ensures inside { AfterInside self.old event.now result self.new }
@@ -302,6 +303,7 @@ impl Monitor {
     /// Counts a begin or an end inside a block. The end of the outermost one finishes its node.
     fn count_blocks(&mut self, event: &Event, own: Step)
         requires borne { Bears self.old.nodes own.slot own.stamp }
+        requires nothing { HasNothingLeft self.old.nodes }
         requires depth { CanCount self.old (thread_of event.now) event.now.kind }
         ensures counts { CountsBlocks self.old event.now.kind (thread_of event.now) own self.new }
         ensures kept { self.new.kept ≡ self.old.kept }
@@ -320,18 +322,26 @@ impl Monitor {
         }
     }
 
-    /// Finishes the node of the step. Where it has no ancestors, others may be unneeded with it.
+    /// Finishes the node of the step. Where it has no ancestors it is unneeded, and others may be with it if it leads to
+    /// some.
     fn end_block(&mut self, own: Step)
-        requires { Bears self.old.nodes own.slot own.stamp }
+        requires borne { Bears self.old.nodes own.slot own.stamp }
+        requires nothing { HasNothingLeft self.old.nodes }
         ensures ends { EndsBlock self.old.nodes self.new.nodes own }
         ensures kept { self.new.kept ≡ self.old.kept }
         ensures depths { self.new.depths ≡ self.old.depths }
         ensures limit { limit_of self.new.nodes.slots ≡ limit_of self.old.nodes.slots }
     {
         let is_root = self.graph.is_root(own.slot);
+        let leads = self.graph.leads(own.slot);
         self.graph.finish(own);
-        if is_root {
+        if !is_root {
+            return;
+        }
+        if leads {
             collect(&mut self.graph, &mut self.freed);
+        } else {
+            self.graph.free(own.slot);
         }
     }
 
