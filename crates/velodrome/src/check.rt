@@ -153,7 +153,7 @@ fn do_event(world: &mut World, shares: &mut Shares, event: &Event) -> Result<(),
 }
 
 /// The world of a log, all of whose events were done in it, after its end.
-fn do_log(alloc: Global, config: Config, log: &Trace) -> Result<Closed, CheckFault>
+pub fn do_log(alloc: Global, config: Config, log: &Trace) -> Result<Closed, CheckFault>
     requires goes_on { config.stop ≡ false }
     ensures ok { IfOk result (λ closed. closed ≡ world_of config log.now.events) }
     ensures well_formed { IfOk result (λ closed. IsWellFormed closed.config.bounds closed.log) }
