@@ -221,7 +221,7 @@ impl<A: Ancestors> Graph<A> {
         requires { IsTrue (is_used self.now.slots slot) }
         ensures { IsFalse result → (n : ℕ) → is_ancestor self.now slot n ≡ false }
     {
-        self.leads[slot as usize]
+        self.descendants_end(slot) > 0
     }
 
     /// Whether the first node is the second or an ancestor of it.

@@ -10,6 +10,7 @@ pub mod OnBeside
 pub mod OnClocks
 pub mod OnRaised
 pub mod OnClockRoom
+pub mod OnAlone
 pub mod OnNoted
 pub mod OnBlankClocks
 pub mod OnThreads
