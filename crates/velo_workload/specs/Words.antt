@@ -57,10 +57,7 @@ digits_on most n (c ∷ cs) =
 -- a number of decimal digits without leading zeros, up to most, which is at least 9
 abbrev pub number_of : ℕ → Word → Option ℕ
 number_of most [] = None
-number_of most (c ∷ []) = if is_ascii_digit c then Some (c - 48) else None
-number_of most (c ∷ d ∷ cs) =
-    if c == 48 then None
-    else (if is_ascii_digit c then digits_on most (c - 48) (d ∷ cs) else None)
+number_of most (c ∷ cs) = if is_ascii_digit c && not (c == 48 && is_word cs) then digits_on most (c - 48) cs else None
 
 -- ---- what a reader of words gives: the first two, each empty where it is not there, and whether there are more
 
