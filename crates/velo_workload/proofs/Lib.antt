@@ -1,2 +1,3 @@
-pub mod OnWords
+pub mod OnNames
 pub mod OnPhrases
+pub mod OnWords

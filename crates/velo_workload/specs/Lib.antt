@@ -1,2 +1,5 @@
 pub mod Words
 pub mod Phrase
+pub mod Names
+pub mod Outline
+pub mod Nesting

@@ -1,12 +1,17 @@
 //! The workload language: a text that declares variables, locks and threads and says what each thread does.
 #![tactic(auto)]
 
+mod fault;
+mod growth;
 mod limits;
 mod naming;
+mod nesting;
 mod numbers;
 mod phrase;
 mod words;
 
+pub use fault::WorkFault;
 pub use limits::{
-    MOST_COST, MOST_NAME_LENGTH, MOST_OPEN_REPEATS, MOST_STATEMENTS, MOST_WORKLOAD_BYTES,
+    MOST_COST, MOST_NAME_LENGTH, MOST_OPEN_REPEATS, MOST_STATEMENTS, MOST_VARIABLES,
+    MOST_WORKLOAD_BYTES,
 };

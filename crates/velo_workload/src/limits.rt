@@ -14,3 +14,6 @@ pub const MOST_STATEMENTS: usize = 1_000_000;
 
 /// The most that a body may cost.
 pub const MOST_COST: u64 = 16_777_216;
+
+/// The most variables of a text.
+pub const MOST_VARIABLES: usize = 65_535;
