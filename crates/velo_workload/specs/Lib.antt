@@ -3,3 +3,4 @@ pub mod Phrase
 pub mod Names
 pub mod Outline
 pub mod Nesting
+pub mod Known

@@ -6,7 +6,9 @@ mod growth;
 mod limits;
 mod naming;
 mod nesting;
+mod names;
 mod numbers;
+mod outline;
 mod phrase;
 mod words;
 
