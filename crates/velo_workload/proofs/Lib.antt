@@ -1,3 +1,4 @@
 pub mod OnNames
 pub mod OnPhrases
+pub mod OnReading
 pub mod OnWords

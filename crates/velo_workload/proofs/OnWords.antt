@@ -4,7 +4,7 @@ use Rattle.std.specs.Prelude.{not}
 use Rattle.std.specs.List.{slice_split, onto_first, position_or_len}
 use Rattle.std.proofs.lemmas.Bool.Decides.{nat_tests}
 use Rattle.std.proofs.lemmas.List.Splits.{slice_split-cons_yes, slice_split-cons_no}
-use Rattle.velo_workload.specs.Words.{AreWords, is_word, is_blank, is_no_blank, pieces}
+use Rattle.velo_workload.specs.Words.{AreWords, lines, is_newline, is_word, is_blank, is_no_blank, pieces}
 
 module _ (p : ℕ → Bool) where
   pub found_here : (b : ℕ) (bs : List ℕ) → p b ≡ true → position_or_len p (b ∷ bs) ≡ 0
@@ -41,6 +41,28 @@ module _ (p : ℕ → Bool) where
       by : (v : Bool) → p b ≡ v → Cut p bs → Cut p (b ∷ bs)
       by true e h = cut_yes b bs e
       by false e h = cut_no b bs e h
+
+pub no_bytes : (bs : List ℕ) → length bs ≡ 0 → bs ≡ []
+no_bytes [] none = refl
+no_bytes (b ∷ bs) none = absurd (omega arith)
+
+-- ---- the first line
+
+-- the lines behind the newline that stands in front
+abbrev pub lines_behind : List ℕ → List (List ℕ)
+lines_behind [] = []
+lines_behind (b ∷ bs) = lines bs
+
+pub first_line : (bs : List ℕ) → lines bs ≡ take (position_or_len is_newline bs) bs ∷ lines_behind (drop (position_or_len is_newline bs) bs)
+first_line [] = refl
+first_line (b ∷ bs) = by (is_newline b) refl (first_line bs)
+  where
+    by : (v : Bool) → is_newline b ≡ v → lines bs ≡ take (position_or_len is_newline bs) bs ∷ lines_behind (drop (position_or_len is_newline bs) bs) → lines (b ∷ bs) ≡ take (position_or_len is_newline (b ∷ bs)) (b ∷ bs) ∷ lines_behind (drop (position_or_len is_newline (b ∷ bs)) (b ∷ bs))
+    by true e h = slice_split-cons_yes is_newline b bs e ∙ ap (λ (n : ℕ). take n (b ∷ bs) ∷ lines_behind (drop n (b ∷ bs))) (sym (found_here is_newline b bs e))
+    by false e h = slice_split-cons_no is_newline b bs e ∙ ap (onto_first b) h ∙ ap (λ (n : ℕ). take n (b ∷ bs) ∷ lines_behind (drop n (b ∷ bs))) (sym (found_later is_newline b bs e))
+
+pub line_then : (bs line rest : List ℕ) → line ≡ take (position_or_len is_newline bs) bs → rest ≡ drop (position_or_len is_newline bs) bs → lines bs ≡ line ∷ lines_behind rest
+line_then bs line rest line-is rest-is = first_line bs ∙ (λ i. (sym line-is) i ∷ lines_behind ((sym rest-is) i))
 
 -- ---- the first word
 

@@ -1,7 +1,7 @@
 -- What a line says.
-use Rattle.std.specs.Prelude.{ℕ, ◌-◌, ◌^◌, List, [], ◌∷◌, codes, Option, Some, None, if◌then◌else◌}
+use Rattle.std.specs.Prelude.{ℕ, ◌-◌, ◌^◌, List, [], ◌∷◌, codes, map, Option, Some, None, if◌then◌else◌}
 use Rattle.std.specs.Str.{bytes_eq}
-use Rattle.velo_workload.specs.Words.{Word, words, is_name, number_of}
+use Rattle.velo_workload.specs.Words.{Word, lines, words, is_name, number_of}
 use Rattle.velo_workload.specs.declared.phrase.Verb.{Verb}
 use Rattle.velo_workload.specs.declared.phrase.Verb.TheVariants as verb
 use Rattle.velo_workload.specs.declared.phrase.Argument.{Argument}
@@ -130,6 +130,10 @@ phrase_of_words (w ∷ x ∷ y ∷ zs) = bad (verb_of w)
 
 abbrev pub phrase_of : List ℕ → Phrase
 phrase_of line = phrase_of_words (words line)
+
+-- what the lines of a text say
+abbrev pub phrases : List ℕ → List Phrase
+phrases text = map phrase_of (lines text)
 
 -- ---- what a value of the program says
 

@@ -1,16 +1,17 @@
 //! The first pass over a text: what it declares, and its faults but for undeclared names.
 ghost use Rattle.std.specs.Prelude.{◌≡◌, ◌<◌, [], OnOk, OnErr};
-ghost use Rattle.velo_workload.specs.Phrase.{said, spoken, Body, Thread};
-ghost use Rattle.velo_workload.specs.Outline.{Judges, known, fault_of_line, statement_fault, full_fault, fault_at_end};
+ghost use Rattle.velo_workload.specs.Phrase.{said, spoken, phrases, Body, Thread};
+ghost use Rattle.velo_workload.specs.Outline.{Judges, known, first_fault, fault_of_line, statement_fault, full_fault, fault_at_end};
 ghost use Rattle.velo_events.specs.Refusals.{GrowthRefused};
-ghost use Rattle.velo_workload.specs.Known.{known_of, with_line};
+ghost use Rattle.velo_workload.specs.Known.{known_of, kept_known, with_line};
 
 use crate::fault::WorkFault;
 use crate::growth::insert;
 use crate::limits::{MOST_OPEN_REPEATS, MOST_STATEMENTS, MOST_VARIABLES};
 use crate::names::{count, declare};
 use crate::nesting::Nesting;
-use crate::phrase::{Phrase, Spoken};
+use crate::phrase::{Phrase, Spoken, read_phrase};
+use crate::words::next_line;
 use indexmap::IndexSet;
 use std::alloc::Global;
 use velo_events::{Memory, MOST_LOCKS, MOST_THREADS};
@@ -28,7 +29,7 @@ pub struct Outline<'a> {
 
 impl<'a> Outline<'a> {
     /// Before the first line.
-    fn new(alloc: Global) -> Outline<'a>
+    pub fn new(alloc: Global) -> Outline<'a>
         ensures { known_of result ≡ known [] }
     {
         Outline {
@@ -150,5 +151,25 @@ impl<'a> Outline<'a> {
                 Ok(())
             }
         }
+    }
+
+    /// Reads a text's lines, before any other.
+    pub fn read(&mut self, text: &'a [u8]) -> Result<(), WorkFault>
+        requires { known_of self.old ≡ known [] }
+        ensures judged { Judges (first_fault (phrases text.now)) result }
+        ensures known { OnOk result (known_of self.new ≡ kept_known (known (phrases text.now))) }
+    {
+        let mut rest = Some(text);
+        let mut number = 0;
+        while let Some(bytes) = rest {
+            let (line, more) = next_line(bytes);
+            number += 1;
+            match self.take(read_phrase(line), number) {
+                Ok(()) => {}
+                Err(fault) => return Err(fault),
+            }
+            rest = more;
+        }
+        self.end()
     }
 }

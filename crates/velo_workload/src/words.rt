@@ -1,12 +1,14 @@
 //! Cutting a text into lines, and a line into words.
-ghost use Rattle.std.specs.Prelude.{◌≡◌, ◌<◌, ◌≤◌, ◌∷◌, [], length, take, drop};
+ghost use Rattle.std.specs.Prelude.{◌≡◌, ◌<◌, ◌≤◌, ◌∷◌, [], length, take, drop, IfSome, option_copied};
 ghost use Rattle.std.specs.List.{position_or_len, before_first, after_first};
-ghost use Rattle.velo_workload.specs.Words.{AreWords, is_newline, is_hash, is_blank, is_no_blank, pieces, words};
+ghost use Rattle.velo_workload.specs.Known.{lines_left};
+ghost use Rattle.velo_workload.specs.Words.{AreWords, lines, is_newline, is_hash, is_blank, is_no_blank, pieces, words};
 
 /// Where the first newline stands, or the length.
 #[inline(always)]
 fn line_end(bytes: &[u8]) -> usize
-    ensures { result ≡ position_or_len is_newline bytes.now }
+    ensures value { result ≡ position_or_len is_newline bytes.now }
+    ensures within { result ≤ length bytes.now }
 {
     for (i, byte) in bytes.iter().enumerate() {
         if *byte == b'\n' {
@@ -14,6 +16,18 @@ fn line_end(bytes: &[u8]) -> usize
         }
     }
     bytes.len()
+}
+
+/// The first line, and what follows its newline, if it has one.
+pub fn next_line(bytes: &[u8]) -> (&[u8], Option<&[u8]>)
+    ensures lines { lines bytes.now ≡ result.0.now ∷ lines_left (option_copied result.1) }
+    ensures shorter { IfSome result.1 (λ rest. length rest.now < length bytes.now) }
+{
+    let (line, rest) = bytes.split_at(line_end(bytes));
+    match rest.split_first() {
+        Some((_, rest)) => (line, Some(rest)),
+        None => (line, None),
+    }
 }
 
 /// The line without its comment.
