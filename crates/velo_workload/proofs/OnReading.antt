@@ -1,6 +1,6 @@
 -- What the first pass keeps of the lines is what is known of them.
-use Rattle.std.proofs.Common.{◌≡◌, ℕ, ◌+◌, ◌-◌, ◌*◌, ◌<◌, ◌≤◌, zero, suc, min, ltb, leb, eqb, Bool, true, false, cond, List, [], ◌∷◌, ◌++◌, length, map, take, slice_get, Option, Some, None, Result, Ok, Err, refl, sym, ap, subst, ◌∙◌, ⊎_elim, append-nil, append_assoc, add-zero, length-append, arith}
-use Rattle.std.specs.Prelude.{option_map}
+use Rattle.std.proofs.Common.{◌≡◌, ℕ, ◌+◌, ◌-◌, ◌*◌, ◌<◌, ◌≤◌, zero, suc, min, ltb, leb, eqb, Bool, true, false, cond, List, [], ◌∷◌, ◌++◌, length, map, take, slice_get, Option, Some, None, Result, Ok, Err, refl, sym, ap, subst, ◌∙◌, ⊎_elim, append-nil, append_assoc, add-zero, length-append, lit≤, arith}
+use Rattle.std.specs.Prelude.{option_map, OnOk}
 use Rattle.std.specs.Option.{option_map_or}
 use Rattle.std.specs.List.{flat_map}
 use Rattle.std.specs.Str.{bytes_eq}
@@ -12,7 +12,7 @@ use Rattle.std.proofs.lemmas.List.Concat.{flat_map-append}
 use Rattle.std.proofs.lemmas.List.Sums.{fold-append}
 use Rattle.std.proofs.lemmas.Option.{slice_get-map}
 use Rattle.indexmap.specs.IndexSet.{insert_all, insert_key}
-use Rattle.velo_workload.specs.declared.limits.TheConstants.{MOST_COST, MOST_OPEN_REPEATS}
+use Rattle.velo_workload.specs.declared.limits.TheConstants.{MOST_COST, MOST_OPEN_REPEATS, MOST_STATEMENTS}
 use Rattle.velo_events.specs.declared.limits.TheConstants.{MOST_THREADS}
 use Rattle.velo_workload.specs.declared.fault.WorkFault.{WorkFault}
 use Rattle.velo_workload.specs.declared.fault.WorkFault.TheVariants.{BadLine, Unknown, Twice, Unmatched, TooMany, Memory}
@@ -20,7 +20,7 @@ use Rattle.velo_workload.specs.declared.outline.Outline.{Outline}
 use Rattle.velo_workload.specs.declared.nesting.Open.{Open}
 use Rattle.velo_workload.specs.Words.{Word, lines}
 use Rattle.velo_workload.specs.Phrase.{phrase_of, phrases, Spoken, Read, Write, Set, Add, Acquire, Release, Begin, End, Fork, Join, Repeat, Done, Phrase, Blank, Bad, BadThread, Variable, Lock, Thread, Body}
-use Rattle.velo_workload.specs.Outline.{Judges, fault_from, first_fault, variable_in, lock_in, thread_in, label_in, label_of, statement_in, variables, locks, threads, labels, statements, Reading, new_body, last_open, statement_read, line_read, read_from, reading, Known, known, end_fault, first_of_two, fault_of_line, fault_at_end, declared_fault, statement_fault, full_fault, most_kept, kept_open, kept}
+use Rattle.velo_workload.specs.Outline.{AreFew, is_among, Judges, fault_from, first_fault, variable_in, lock_in, thread_in, label_in, label_of, statement_in, variables, locks, threads, labels, statements, Reading, new_body, last_open, statement_read, line_read, read_from, reading, Known, known, end_fault, first_of_two, fault_of_line, fault_at_end, declared_fault, statement_fault, full_fault, most_kept, kept_open, kept}
 use Rattle.velo_workload.specs.Known.{IsReadUpTo, lines_left, phrases_left, known_of, statement_kept, labelled, with_line, kept_known}
 
 -- an answer that is this fault
@@ -155,6 +155,76 @@ line_judged k p n = refl
 pub end_judged : (k : Known) → fault_at_end (kept_known k) ≡ fault_at_end k
 end_judged k = ap (λ (f : Option WorkFault). first_of_two f (cond (eqb (length k.threads) 0) (Some (BadLine 0)) None)) (end_kept k.body)
 
+-- ---- where no line has a fault there are few of each kind
+
+leb_false : (m n : ℕ) → leb m n ≡ false → n < m
+leb_false m n e = grind (arith, nat_tests)
+
+-- no fault behind a test
+behind : (b : Bool) (f : WorkFault) (g : Option WorkFault) → cond b (Some f) g ≡ None → (b ≡ false) × (g ≡ None)
+behind true f g e = absurd cc
+behind false f g e = (refl, e)
+
+before_test : (b : Bool) (f : WorkFault) (g : Option WorkFault) → cond b g (Some f) ≡ None → g ≡ None
+before_test true f g e = e
+before_test false f g e = absurd cc
+
+second : (f g : Option WorkFault) → first_of_two f g ≡ None → g ≡ None
+second None g e = e
+second (Some f) g e = absurd cc
+
+declared_few : (names : List Word) (most : ℕ) (w : Word) (n : ℕ) → declared_fault names most w n ≡ None → length (names ++ w ∷ []) ≤ most
+declared_few names most w n e =
+    let h = behind (is_among names w) (Twice n) _ e in
+    let k = behind (leb most (length names)) (TooMany n) None h.1 in
+    let lt = leb_false most (length names) k.0 in
+    omega (arith, lt, length-append names (w ∷ []))
+
+full_few : (count n : ℕ) → full_fault count n ≡ None → count + 1 ≤ MOST_STATEMENTS
+full_few count n e =
+    let k = behind (leb MOST_STATEMENTS count) (TooMany n) None e in
+    let lt = leb_false MOST_STATEMENTS count k.0 in
+    omega (arith, lt)
+
+statement_few : (k : Known) (s : Spoken) (n : ℕ) → statement_fault k s n ≡ None → k.statements + 1 ≤ MOST_STATEMENTS
+statement_few k Done n e = full_few k.statements n (behind (eqb (length k.body.open_repeats) 0) (Unmatched n) (full_fault k.statements n) e).1
+statement_few k (Repeat times) n e = full_few k.statements n (behind (leb MOST_OPEN_REPEATS (length k.body.open_repeats)) (TooMany n) (full_fault k.statements n) e).1
+statement_few k s n e = full_few k.statements n e
+
+one_label : (ls : List Word) (w : Word) → length (insert_key bytes_eq ls w) ≤ length ls + 1
+one_label ls w = by (is_among ls w) refl
+  where
+    by : (b : Bool) → is_among ls w ≡ b → length (insert_key bytes_eq ls w) ≤ length ls + 1
+    by true e = subst (λ (b : Bool). length (cond b ls (ls ++ w ∷ [])) ≤ length ls + 1) (sym e) (omega arith)
+    by false e = subst (λ (b : Bool). length (cond b ls (ls ++ w ∷ [])) ≤ length ls + 1) (sym e) (omega (arith, length-append ls (w ∷ [])))
+
+labels_few : (ls : List Word) (s : Spoken) → length (insert_all bytes_eq ls (label_of s)) ≤ length ls + 1
+labels_few ls (Begin w) = one_label ls w
+labels_few ls s = omega arith
+
+same : (xs : List Word) (most : ℕ) → length xs ≤ most → length (xs ++ []) ≤ most
+same xs most le = subst (λ (ys : List Word). length ys ≤ most) (none xs) le
+
+few_same : (k : Known) (r : Reading) → AreFew k → AreFew (record { variables = k.variables ++ []; locks = k.locks ++ []; threads = k.threads ++ []; labels = k.labels; statements = k.statements + 0; body = r })
+few_same k r few = record { variables = same k.variables _ few.variables; locks = same k.locks _ few.locks; threads = same k.threads _ few.threads; labels = omega (arith, few.labels); statements = omega (arith, few.statements) }
+
+pub few_more : (k : Known) (p : Phrase) (n : ℕ) → AreFew k → fault_of_line k p n ≡ None → AreFew (one_more k p n)
+few_more k (Variable name) n few e =
+    let fine = before_test (eqb (length k.threads) 0) (BadLine n) _ e in
+    record { variables = declared_few k.variables _ name n fine; locks = same k.locks _ few.locks; threads = same k.threads _ few.threads; labels = omega (arith, few.labels); statements = omega (arith, few.statements) }
+few_more k (Lock name) n few e =
+    let fine = before_test (eqb (length k.threads) 0) (BadLine n) _ e in
+    record { variables = same k.variables _ few.variables; locks = declared_few k.locks _ name n fine; threads = same k.threads _ few.threads; labels = omega (arith, few.labels); statements = omega (arith, few.statements) }
+few_more k (Thread name) n few e =
+    let fine = second (end_fault k.body) _ e in
+    record { variables = same k.variables _ few.variables; locks = same k.locks _ few.locks; threads = declared_few k.threads _ name n fine; labels = omega (arith, few.labels); statements = omega (arith, few.statements) }
+few_more k (Body s) n few e =
+    let fine = (behind (eqb (length k.threads) 0) (BadLine n) (statement_fault k s n) e).1 in
+    record { variables = same k.variables _ few.variables; locks = same k.locks _ few.locks; threads = same k.threads _ few.threads; labels = omega (arith, few.labels, labels_few k.labels s); statements = statement_few k s n fine }
+few_more k Blank n few e = few_same k k.body few
+few_more k Bad n few e = few_same k k.body few
+few_more k BadThread n few e = few_same k k.body few
+
 -- ---- the loop over the lines
 
 none_first : (f g : Option WorkFault) → f ≡ None → first_of_two f g ≡ g
@@ -174,7 +244,7 @@ judged_first f g Memory h = h
 
 module _ (text : List ℕ) where
   pub begun : (o : Outline) → known_of o ≡ known [] → IsReadUpTo text (Some text) o 0
-  begun o e = record { before = []; known = e; number = refl; all = refl; fault = refl }
+  begun o e = record { before = []; is_known = e; number = refl; few = record { variables = lit≤ tt; locks = lit≤ tt; threads = lit≤ tt; labels = lit≤ tt; statements = lit≤ tt }; all = refl; fault = refl }
 
   -- the fault of the text is that of the next line, if it has one, or else that of the lines behind it
   left_judged : (bytes line : List ℕ) (more : Option (List ℕ)) (o : Outline) (n : ℕ) (r : IsReadUpTo text (Some bytes) o n) → lines bytes ≡ line ∷ lines_left more
@@ -183,8 +253,13 @@ module _ (text : List ℕ) where
       let p = phrase_of line in
       let later = fault_from (r.before ++ p ∷ []) (phrases_left more) in
       let here : fault_of_line (known_of o) p (n + 1) ≡ fault_of_line (known r.before) p (length r.before + 1) =
-      ap (λ (k : Known). fault_of_line k p (n + 1)) r.known ∙ line_judged (known r.before) p (n + 1) ∙ ap (λ (m : ℕ). fault_of_line (known r.before) p (m + 1)) r.number in
+      ap (λ (k : Known). fault_of_line k p (n + 1)) r.is_known ∙ line_judged (known r.before) p (n + 1) ∙ ap (λ (m : ℕ). fault_of_line (known r.before) p (m + 1)) r.number in
       ap (λ (f : Option WorkFault). first_of_two f later) here ∙ ap (λ (ls : List (List ℕ)). fault_from r.before (map phrase_of ls)) (sym e) ∙ r.fault
+
+  -- the same of the next line alone, by what is known
+  here_judged : (p : Phrase) (bytes : List ℕ) (o : Outline) (n : ℕ) (r : IsReadUpTo text (Some bytes) o n) → fault_of_line (known_of o) p (n + 1) ≡ fault_of_line (known r.before) p (length r.before + 1)
+  here_judged p bytes o n r =
+      ap (λ (k : Known). fault_of_line k p (n + 1)) r.is_known ∙ line_judged (known r.before) p (n + 1) ∙ ap (λ (m : ℕ). fault_of_line (known r.before) p (m + 1)) r.number
 
   pub line_wrong : (bytes line : List ℕ) (more : Option (List ℕ)) (o : Outline) (n : ℕ) (f : WorkFault) → IsReadUpTo text (Some bytes) o n → lines bytes ≡ line ∷ lines_left more
       → Judges (fault_of_line (known_of o) (phrase_of line) (n + 1)) (wrong f) → Judges (first_fault (phrases text)) (wrong f)
@@ -198,7 +273,8 @@ module _ (text : List ℕ) where
       let p = phrase_of line in
       record {
         before = r.before ++ p ∷ [];
-        known = is ∙ ap (λ (k : Known). with_line k p (n + 1)) r.known ∙ kept_step (known r.before) p (n + 1) ∙ ap (λ (m : ℕ). kept_known (one_more (known r.before) p (m + 1))) r.number ∙ ap kept_known (sym (known_more r.before p));
+        is_known = is ∙ ap (λ (k : Known). with_line k p (n + 1)) r.is_known ∙ kept_step (known r.before) p (n + 1) ∙ ap (λ (m : ℕ). kept_known (one_more (known r.before) p (m + 1))) r.number ∙ ap kept_known (sym (known_more r.before p));
+        few = subst AreFew (sym (known_more r.before p)) (few_more (known r.before) p (length r.before + 1) r.few (sym (here_judged p bytes o n r) ∙ fine));
         number = ap (λ (m : ℕ). m + 1) r.number ∙ sym (length-append r.before (p ∷ []));
         all = append_assoc r.before (p ∷ []) (phrases_left more) ∙ ap (λ (ls : List (List ℕ)). r.before ++ map phrase_of ls) (sym e) ∙ r.all;
         fault = sym (none_first _ (fault_from (r.before ++ p ∷ []) (phrases_left more)) fine) ∙ left_judged bytes line more o n r e;
@@ -206,7 +282,14 @@ module _ (text : List ℕ) where
 
   -- at the end of the text
   pub all_known : (o : Outline) (n : ℕ) → IsReadUpTo text None o n → known_of o ≡ kept_known (known (phrases text))
-  all_known o n r = r.known ∙ ap (λ (ps : List Phrase). kept_known (known ps)) (sym (append-nil r.before) ∙ r.all)
+  all_known o n r = r.is_known ∙ ap (λ (ps : List Phrase). kept_known (known ps)) (sym (append-nil r.before) ∙ r.all)
 
   pub end_is : (o : Outline) (n : ℕ) → IsReadUpTo text None o n → fault_at_end (known_of o) ≡ first_fault (phrases text)
-  end_is o n r = ap fault_at_end r.known ∙ end_judged (known r.before) ∙ r.fault
+  end_is o n r = ap fault_at_end r.is_known ∙ end_judged (known r.before) ∙ r.fault
+
+  pub all_few : (o : Outline) (n : ℕ) → IsReadUpTo text None o n → AreFew (known (phrases text))
+  all_few o n r = subst (λ (ps : List Phrase). AreFew (known ps)) (sym (append-nil r.before) ∙ r.all) r.few
+
+pub on_ok : {X E P : Type 0} → P → (r : Result X E) → OnOk r P
+on_ok p (Ok x) = p
+on_ok p (Err e) = tt

@@ -7,7 +7,7 @@ use Rattle.velo_workload.specs.Words.{Word, lines}
 use Rattle.velo_workload.specs.Phrase.{phrase_of, phrases, Spoken, Repeat, Done, Begin, Phrase, Variable, Lock, Thread, Body}
 use Rattle.velo_workload.specs.Names.{names_of}
 use Rattle.velo_workload.specs.Nesting.{reading_of}
-use Rattle.velo_workload.specs.Outline.{Known, Reading, known, new_body, statement_read, most_kept, kept, fault_from, first_fault}
+use Rattle.velo_workload.specs.Outline.{AreFew, Known, Reading, known, new_body, statement_read, most_kept, kept, fault_from, first_fault}
 
 abbrev pub known_of : Outline → Known
 known_of o = record { variables = names_of o.variables; locks = names_of o.locks; threads = names_of o.threads; labels = names_of o.labels; statements = o.statements; body = reading_of o.body }
@@ -47,7 +47,8 @@ phrases_left rest = map phrase_of (lines_left rest)
 -- n lines of the text were read without a fault, and these are left
 pub record IsReadUpTo (text : List ℕ) (rest : Option (List ℕ)) (o : Outline) (n : ℕ) : Type 0 where
   pub before : List Phrase
-  pub known : known_of o ≡ kept_known (known before)
+  pub is_known : known_of o ≡ kept_known (known before)
   pub number : n ≡ length before
+  pub few : AreFew (known before)
   pub all : before ++ phrases_left rest ≡ phrases text
   pub fault : fault_from before (phrases_left rest) ≡ first_fault (phrases text)

@@ -4,3 +4,5 @@ pub mod Names
 pub mod Outline
 pub mod Nesting
 pub mod Known
+pub mod Program
+pub mod Building

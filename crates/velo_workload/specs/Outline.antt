@@ -1,5 +1,5 @@
 -- What is known of the lines before one, and the first fault of a text, but for undeclared names.
-use Rattle.std.specs.Prelude.{ℕ, ◌≡◌, ◌+◌, ◌-◌, ◌*◌, ◌==◌, Bool, nat_lt, nat_le, min, List, [], ◌∷◌, ◌++◌, length, take, map, slice_get, Option, Some, None, Result, Ok, Err, if◌then◌else◌}
+use Rattle.std.specs.Prelude.{ℕ, ◌≡◌, ◌≤◌, ◌+◌, ◌-◌, ◌*◌, ◌==◌, Bool, nat_lt, nat_le, min, List, [], ◌∷◌, ◌++◌, length, take, map, slice_get, Option, Some, None, Result, Ok, Err, if◌then◌else◌}
 use Rattle.std.specs.List.{flat_map, list_any}
 use Rattle.std.specs.Option.{option_map_or}
 use Rattle.std.specs.Str.{bytes_eq}
@@ -170,3 +170,12 @@ kept_open o = record { line = o.line; outside = min o.outside most_kept }
 
 abbrev pub kept : Reading → Reading
 kept b = record { thread_line = b.thread_line; open_repeats = map kept_open b.open_repeats; rounds = min b.rounds most_kept; cost = min b.cost most_kept }
+
+-- ---- how many there are where no line has a fault
+
+pub record AreFew (k : Known) : Type 0 where
+  pub variables : length k.variables ≤ MOST_VARIABLES
+  pub locks : length k.locks ≤ MOST_LOCKS
+  pub threads : length k.threads ≤ MOST_THREADS
+  pub labels : length k.labels ≤ k.statements
+  pub statements : k.statements ≤ MOST_STATEMENTS

@@ -1,6 +1,7 @@
 //! The workload language: a text that declares variables, locks and threads and says what each thread does.
 #![tactic(auto)]
 
+mod bodies;
 mod fault;
 mod growth;
 mod limits;
@@ -10,6 +11,8 @@ mod names;
 mod numbers;
 mod outline;
 mod phrase;
+mod resolving;
+mod statement;
 mod words;
 
 pub use fault::WorkFault;
@@ -17,3 +20,4 @@ pub use limits::{
     MOST_COST, MOST_NAME_LENGTH, MOST_OPEN_REPEATS, MOST_STATEMENTS, MOST_VARIABLES,
     MOST_WORKLOAD_BYTES,
 };
+pub use statement::Statement;

@@ -1,7 +1,7 @@
 //! The first pass over a text: what it declares, and its faults but for undeclared names.
 ghost use Rattle.std.specs.Prelude.{◌≡◌, ◌<◌, [], OnOk, OnErr};
 ghost use Rattle.velo_workload.specs.Phrase.{said, spoken, phrases, Body, Thread};
-ghost use Rattle.velo_workload.specs.Outline.{Judges, known, first_fault, fault_of_line, statement_fault, full_fault, fault_at_end};
+ghost use Rattle.velo_workload.specs.Outline.{AreFew, Judges, known, first_fault, fault_of_line, statement_fault, full_fault, fault_at_end};
 ghost use Rattle.velo_events.specs.Refusals.{GrowthRefused};
 ghost use Rattle.velo_workload.specs.Known.{known_of, kept_known, with_line};
 
@@ -158,6 +158,7 @@ impl<'a> Outline<'a> {
         requires { known_of self.old ≡ known [] }
         ensures judged { Judges (first_fault (phrases text.now)) result }
         ensures known { OnOk result (known_of self.new ≡ kept_known (known (phrases text.now))) }
+        ensures few { OnOk result (AreFew (known (phrases text.now))) }
     {
         let mut rest = Some(text);
         let mut number = 0;

@@ -3,7 +3,7 @@ use Rattle.std.specs.Prelude.{option_copied}
 use Rattle.velo_workload.specs.Phrase.{phrase_of, Phrase}
 use Rattle.velo_workload.specs.Outline.{Judges, fault_of_line}
 use Rattle.velo_workload.specs.Known.{IsReadUpTo, known_of, with_line}
-use Rattle.velo_workload.proofs.OnReading.{begun, line_wrong, line_right, all_known, end_is, wrong}
+use Rattle.velo_workload.proofs.OnReading.{line_wrong, line_right, all_few, end_is, on_ok, wrong}
 use Rattle.velo_workload.proofs.outline.Outline.read.Goals as goal
 
 pub returns-in-Err-clause-judged : goal.returns-in-Err-clause-judged
@@ -32,3 +32,8 @@ pub returns-clause-judged : goal.returns-clause-judged
 returns-clause-judged c =
     let read = subst (λ r. IsReadUpTo c.args.text.now (option_copied r) c.loop-rest.self c.loop-rest.number) c.in_default.is c.loop-rest.invariant.read in
     subst (λ f. Judges f c.end.result) (end_is c.args.text.now c.loop-rest.self c.loop-rest.number read) c.end.ensures
+
+pub returns-clause-few : goal.returns-clause-few
+returns-clause-few c =
+    let read = subst (λ r. IsReadUpTo c.args.text.now (option_copied r) c.loop-rest.self c.loop-rest.number) c.in_default.is c.loop-rest.invariant.read in
+    on_ok (all_few c.args.text.now c.loop-rest.self c.loop-rest.number read) c.end.result
