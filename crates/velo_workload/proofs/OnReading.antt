@@ -227,7 +227,7 @@ few_more k BadThread n few e = few_same k k.body few
 
 -- ---- the loop over the lines
 
-none_first : (f g : Option WorkFault) → f ≡ None → first_of_two f g ≡ g
+pub none_first : (f g : Option WorkFault) → f ≡ None → first_of_two f g ≡ g
 none_first f g e = ap (λ (f : Option WorkFault). first_of_two f g) e
 
 some_first : (f g : Option WorkFault) (e : WorkFault) → f ≡ Some e → first_of_two f g ≡ Some e

@@ -104,6 +104,16 @@ pub record Known : Type 0 where
 abbrev pub known : List Phrase → Known
 known ps = record { variables = variables ps; locks = locks ps; threads = threads ps; labels = labels ps; statements = length (statements ps); body = reading ps }
 
+-- the names that a text declares, and its labels
+pub record Names : Type 0 where
+  pub variables : List Word
+  pub locks : List Word
+  pub threads : List Word
+  pub labels : List Word
+
+abbrev pub names_in : Known → Names
+names_in k = record { variables = k.variables; locks = k.locks; threads = k.threads; labels = k.labels }
+
 -- the first of two, if it is there
 abbrev pub first_of_two : Option WorkFault → Option WorkFault → Option WorkFault
 first_of_two (Some f) other = Some f

@@ -2,7 +2,7 @@
 ghost use Rattle.std.specs.Prelude.{◌≡◌, ◌++◌, ◌∷◌, [], OnOk, OnErr};
 ghost use Rattle.velo_events.specs.Refusals.{GrowthRefused};
 ghost use Rattle.velo_workload.specs.Phrase.{said, phrases};
-ghost use Rattle.velo_workload.specs.Outline.{AreFew, Judges};
+ghost use Rattle.velo_workload.specs.Outline.{AreFew, names_in, Judges};
 ghost use Rattle.velo_workload.specs.Known.{known_of};
 ghost use Rattle.velo_workload.specs.Program.{unknown_in, first_unknown, body_from, bodies};
 ghost use Rattle.velo_workload.specs.Building.{built_of, with_phrase};
@@ -62,8 +62,8 @@ impl Bodies {
     /// Takes in a line of this number.
     fn take(&mut self, outline: &Outline, phrase: Phrase, line: usize) -> Result<(), WorkFault>
         requires { AreFew (known_of outline.now) }
-        ensures judged { Judges (unknown_in (known_of outline.now) (said phrase.entry) line) result }
-        ensures built { OnOk result (built_of self.new ≡ with_phrase (known_of outline.now) (built_of self.old) (said phrase.entry)) }
+        ensures judged { Judges (unknown_in (names_in (known_of outline.now)) (said phrase.entry) line) result }
+        ensures built { OnOk result (built_of self.new ≡ with_phrase (names_in (known_of outline.now)) (built_of self.old) (said phrase.entry)) }
     {
         match phrase {
             Phrase::Thread(_) => match self.finish() {
@@ -85,8 +85,8 @@ impl Bodies {
     pub fn read(&mut self, outline: &Outline, text: &[u8]) -> Result<(), WorkFault>
         requires few { AreFew (known_of outline.now) }
         requires none { built_of self.old ≡ record { whole = []; current = [] } }
-        ensures judged { Judges (first_unknown (known_of outline.now) 0 (phrases text.now)) result }
-        ensures bodies { OnOk result ((built_of self.new).whole ≡ body_from (known_of outline.now) (phrases text.now) ∷ bodies (known_of outline.now) (phrases text.now)) }
+        ensures judged { Judges (first_unknown (names_in (known_of outline.now)) 0 (phrases text.now)) result }
+        ensures bodies { OnOk result ((built_of self.new).whole ≡ body_from (names_in (known_of outline.now)) (phrases text.now) ∷ bodies (names_in (known_of outline.now)) (phrases text.now)) }
     {
         let mut rest = Some(text);
         let mut number = 0;

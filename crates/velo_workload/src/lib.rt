@@ -14,6 +14,7 @@ mod phrase;
 mod resolving;
 mod statement;
 mod words;
+mod workload;
 
 pub use fault::WorkFault;
 pub use limits::{
@@ -21,3 +22,4 @@ pub use limits::{
     MOST_WORKLOAD_BYTES,
 };
 pub use statement::Statement;
+pub use workload::{Workload, parse, text_of};

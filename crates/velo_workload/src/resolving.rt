@@ -2,7 +2,7 @@
 ghost use Rattle.std.specs.Prelude.{◌≡◌, ◌≤◌, length, option_map};
 ghost use Rattle.velo_workload.specs.Names.{names_of};
 ghost use Rattle.velo_workload.specs.Known.{known_of};
-ghost use Rattle.velo_workload.specs.Outline.{AreFew};
+ghost use Rattle.velo_workload.specs.Outline.{AreFew, names_in};
 ghost use Rattle.velo_workload.specs.Phrase.{spoken};
 ghost use Rattle.velo_workload.specs.Program.{number_of, statement_of};
 
@@ -48,7 +48,7 @@ fn label(names: &IndexSet<&str>, name: &str) -> Option<Label>
 /// The statement of the program, unless it uses a name that the text does not declare.
 pub fn statement(outline: &Outline, said: Spoken) -> Option<Statement>
     requires { AreFew (known_of outline.now) }
-    ensures { result ≡ statement_of (known_of outline.now) (spoken said.entry) }
+    ensures { result ≡ statement_of (names_in (known_of outline.now)) (spoken said.entry) }
 {
     match said {
         Spoken::Read(name) => Some(Statement::Read(variable(&outline.variables, name)?)),
