@@ -60,23 +60,23 @@ outside_kept (Some o) = refl
 
 pub statement_step : (b : Reading) (n : ℕ) (s : Spoken) → statement_kept (kept b) n s ≡ kept (statement_read b n s)
 statement_step b n (Repeat times) = λ i. record {
-    thread_line = b.thread_line;
-    open_repeats = (sym (map-append kept_open b.open_repeats (record { line = n; outside = b.rounds } ∷ []))) i;
-    rounds = (product_kept most_kept b.rounds times) i;
-    cost = (repeat_kept most_kept b.cost b.rounds (min b.rounds most_kept * times) (b.rounds * times) (product_kept most_kept b.rounds times)) i;
-  }
+  thread_line = b.thread_line;
+  open_repeats = (sym (map-append kept_open b.open_repeats (record { line = n; outside = b.rounds } ∷ []))) i;
+  rounds = (product_kept most_kept b.rounds times) i;
+  cost = (repeat_kept most_kept b.cost b.rounds (min b.rounds most_kept * times) (b.rounds * times) (product_kept most_kept b.rounds times)) i;
+}
 statement_step b n Done = λ i. record {
-    thread_line = b.thread_line;
-    open_repeats = (ap (λ (m : ℕ). take (m - 1) (map kept_open b.open_repeats)) (length-map b.open_repeats kept_open) ∙ take-map kept_open (length b.open_repeats - 1) b.open_repeats) i;
-    rounds = (ap (λ (o : Option Open). option_map_or (λ o. o.outside) o 1) (last_kept b.open_repeats) ∙ outside_kept (last_open b.open_repeats)) i;
-    cost = min b.cost most_kept;
-  }
+  thread_line = b.thread_line;
+  open_repeats = (ap (λ (m : ℕ). take (m - 1) (map kept_open b.open_repeats)) (length-map b.open_repeats kept_open) ∙ take-map kept_open (length b.open_repeats - 1) b.open_repeats) i;
+  rounds = (ap (λ (o : Option Open). option_map_or (λ o. o.outside) o 1) (last_kept b.open_repeats) ∙ outside_kept (last_open b.open_repeats)) i;
+  cost = min b.cost most_kept;
+}
 statement_step b n s = λ i. record {
-    thread_line = b.thread_line;
-    open_repeats = map kept_open b.open_repeats;
-    rounds = min b.rounds most_kept;
-    cost = (sum_kept most_kept b.cost b.rounds) i;
-  }
+  thread_line = b.thread_line;
+  open_repeats = map kept_open b.open_repeats;
+  rounds = min b.rounds most_kept;
+  cost = (sum_kept most_kept b.cost b.rounds) i;
+}
 
 labels_step : (ls : List Word) (s : Spoken) → labelled ls s ≡ insert_all bytes_eq ls (label_of s)
 labels_step ls (Begin name) = refl

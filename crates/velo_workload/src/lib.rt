@@ -5,9 +5,9 @@ mod bodies;
 mod fault;
 mod growth;
 mod limits;
+mod names;
 mod naming;
 mod nesting;
-mod names;
 mod numbers;
 mod outline;
 mod phrase;
@@ -23,3 +23,6 @@ pub use limits::{
 };
 pub use statement::Statement;
 pub use workload::{Workload, parse, text_of};
+
+#[cfg(test)]
+mod tests;

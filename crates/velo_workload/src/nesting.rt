@@ -46,7 +46,11 @@ fn kept_product(a: u64, b: u64) -> u64
     ensures { result ≡ min (a * b) most_kept }
 {
     let product = a.saturating_mul(b);
-    if product > MOST_KEPT { MOST_KEPT } else { product }
+    if product > MOST_KEPT {
+        MOST_KEPT
+    } else {
+        product
+    }
 }
 
 impl Nesting {

@@ -14,7 +14,7 @@ use crate::phrase::{Phrase, Spoken, read_phrase};
 use crate::words::next_line;
 use indexmap::IndexSet;
 use std::alloc::Global;
-use velo_events::{Memory, MOST_LOCKS, MOST_THREADS};
+use velo_events::{MOST_LOCKS, MOST_THREADS, Memory};
 
 /// What is known of the lines that are read.
 #[derive(Drop)]
