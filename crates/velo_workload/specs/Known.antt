@@ -1,0 +1,54 @@
+-- What the first pass keeps of the lines that it has read.
+use Rattle.std.specs.Prelude.{◌≡◌, ℕ, ◌+◌, ◌*◌, min, List, [], ◌∷◌, ◌++◌, length, map, Option, Some, None}
+use Rattle.std.specs.Str.{bytes_eq}
+use Rattle.indexmap.specs.IndexSet.{insert_key}
+use Rattle.velo_workload.specs.declared.outline.Outline.{Outline}
+use Rattle.velo_workload.specs.Words.{Word, lines}
+use Rattle.velo_workload.specs.Phrase.{phrase_of, phrases, Spoken, Repeat, Done, Begin, Phrase, Variable, Lock, Thread, Body}
+use Rattle.velo_workload.specs.Names.{names_of}
+use Rattle.velo_workload.specs.Nesting.{reading_of}
+use Rattle.velo_workload.specs.Outline.{AreFew, Known, Reading, known, new_body, statement_read, most_kept, kept, fault_from, first_fault}
+
+abbrev pub known_of : Outline → Known
+known_of o = record { variables = names_of o.variables; locks = names_of o.locks; threads = names_of o.threads; labels = names_of o.labels; statements = o.statements; body = reading_of o.body }
+
+abbrev pub statement_kept : Reading → ℕ → Spoken → Reading
+statement_kept b n (Repeat times) =
+    record b { open_repeats = b.open_repeats ++ record { line = n; outside = b.rounds } ∷ []; rounds = min (b.rounds * times) most_kept; cost = min (b.cost + (b.rounds + min (b.rounds * times) most_kept)) most_kept }
+statement_kept b n Done = statement_read b n Done
+statement_kept b n s = record b { cost = min (b.cost + b.rounds) most_kept }
+
+abbrev pub labelled : List Word → Spoken → List Word
+labelled ls (Begin name) = insert_key bytes_eq ls name
+labelled ls s = ls
+
+-- what is kept after one more line, which has this number
+abbrev pub with_line : Known → Phrase → ℕ → Known
+with_line k (Variable name) n = record k { variables = k.variables ++ name ∷ [] }
+with_line k (Lock name) n = record k { locks = k.locks ++ name ∷ [] }
+with_line k (Thread name) n = record k { threads = k.threads ++ name ∷ []; body = new_body n }
+with_line k (Body s) n = record k { labels = labelled k.labels s; statements = k.statements + 1; body = statement_kept k.body n s }
+with_line k p n = k
+
+-- what is kept of what is known
+abbrev pub kept_known : Known → Known
+kept_known k = record k { body = kept k.body }
+
+-- ---- how far the first pass has come
+
+-- the lines that are left, if any
+abbrev pub lines_left : Option (List ℕ) → List (List ℕ)
+lines_left None = []
+lines_left (Some bytes) = lines bytes
+
+abbrev pub phrases_left : Option (List ℕ) → List Phrase
+phrases_left rest = map phrase_of (lines_left rest)
+
+-- n lines of the text were read without a fault, and these are left
+pub record IsReadUpTo (text : List ℕ) (rest : Option (List ℕ)) (o : Outline) (n : ℕ) : Type 0 where
+  pub before : List Phrase
+  pub is_known : known_of o ≡ kept_known (known before)
+  pub number : n ≡ length before
+  pub few : AreFew (known before)
+  pub all : before ++ phrases_left rest ≡ phrases text
+  pub fault : fault_from before (phrases_left rest) ≡ first_fault (phrases text)
