@@ -18,6 +18,7 @@ pub use cycle::{check_cycle, cycle_of};
 pub use edges::{Edge, edges_of};
 pub use fault::CertFault;
 pub use order::check_order;
+pub use owners::owners_of;
 pub use serial::serial_order;
 pub use witness::witness_of;
 
