@@ -1,11 +1,13 @@
 -- What an explanation stands on.
 use Rattle.std.specs.Prelude.{◌≡◌, ℕ, ◌+◌, ◌<◌, ◌≤◌, List, length, take, slice_index_or, Contains}
 use Rattle.velo_events.specs.declared.event.Event.{Event}
+use Rattle.velo_events.specs.Block.{open_blocks}
 use Rattle.velo_events.specs.Certificate.{IsShortestCycleAt}
+use Rattle.velo_events.specs.Reordering.{IsSelfSerializable}
 use Rattle.velo_traces.specs.declared.block.Block.{Block}
 use Rattle.velo_certify.specs.declared.edges.Edge.{Edge}
 use Rattle.velo_certify.specs.Edges.{AreEdges, edge_at}
-use Rattle.velo_certify.specs.Witness.{IsWitness}
+use Rattle.velo_certify.specs.Witness.{thread_at, IsWitness}
 use Rattle.velo_explain.specs.declared.spans.Span.{Span}
 use Rattle.velo_explain.specs.declared.evidence.Blame.{Blame}
 use Rattle.velo_explain.specs.declared.evidence.Evidence.{Evidence}
@@ -54,6 +56,11 @@ pub record IsEvidence (trace : List Event) (p : ℕ) (blamed : List Block) (evid
 pub record IsEvidenceAt (trace : List Event) (p : ℕ) (evidence : Evidence) : Type 0 where
   pub blamed : List Block
   pub is_evidence : IsEvidence trace p blamed evidence
+
+-- Each block that is to blame by the definition (open at p in its thread, and not self-serializable in the events up to p)
+-- has its witness
+pub record HaveReasons (trace : List Event) (p : ℕ) (blamed : List Block) (evidence : Evidence) : Type 0 where
+  pub each : (j : ℕ) → j < length blamed → Contains (open_blocks (take (p + 1) trace) (thread_at trace p)) (slice_index_or blamed j no_block).first → ¬ IsSelfSerializable (take (p + 1) trace) (slice_index_or blamed j no_block).first → HasBlame evidence.blames.items (slice_index_or blamed j no_block)
 
 -- ---- positions that are there. Private contracts cite these words.
 

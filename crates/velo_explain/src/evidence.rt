@@ -1,8 +1,9 @@
 //! What an explanation stands on: a cycle with its events, and the blocks to blame, each with an event that parts it.
-ghost use Rattle.std.specs.Prelude.{◌≡◌, ◌<◌, length, IfOk, IfErr, OnErr};
+ghost use Rattle.std.specs.Prelude.{◌≡◌, ◌<◌, length, take, IfOk, IfErr, OnErr};
+ghost use Rattle.velo_events.specs.Graph.{HasCycle};
 ghost use Rattle.velo_events.specs.Refusals.{GrowthRefused};
 ghost use Rattle.velo_certify.specs.Cycle.{IsCycleFault};
-ghost use Rattle.velo_explain.specs.Evidence.{AreBlames, IsEvidence, IsEvidenceAt};
+ghost use Rattle.velo_explain.specs.Evidence.{AreBlames, IsEvidence, IsEvidenceAt, HaveReasons};
 
 use crate::spans::{Span, spans_of};
 use std::alloc::Global;
@@ -65,6 +66,8 @@ pub fn evidence_of(
 ) -> Result<Evidence, CertFault>
     ensures evidence { IfOk result (λ evidence. IsEvidence trace.now.events position blamed.now evidence) }
     ensures some { IfOk result (λ evidence. IsEvidenceAt trace.now.events position evidence) }
+    // Where the events before the position have no cycle, no block that is to blame is left out.
+    ensures reasons { IfOk result (λ evidence. ¬ HasCycle (take position trace.now.events) → HaveReasons trace.now.events position blamed.now evidence) }
     ensures fault { IfErr result (IsCycleFault trace.now.events position) }
 {
     let cycle = cycle_of(alloc, trace, position)?;
