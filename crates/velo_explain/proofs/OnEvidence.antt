@@ -1,6 +1,6 @@
 -- The lists of an explanation, one item more, and that their positions are there.
-use Rattle.std.proofs.Common.{◌≡◌, ℕ, ◌+◌, ◌<◌, ◌≤◌, List, [], ◌∷◌, ◌++◌, length, take, Option, Some, None, refl, sym, ap, ◌∙◌, subst, arith, ⊎_elim}
-use Rattle.std.specs.Prelude.{slice_index, slice_index_or, Contains, MatchOption}
+use Rattle.std.proofs.Common.{◌≡◌, ℕ, ◌+◌, ◌<◌, List, [], ◌∷◌, ◌++◌, length, take, refl, sym, ap, ◌∙◌, subst, arith, ⊎_elim}
+use Rattle.std.specs.Prelude.{slice_index, slice_index_or}
 use Rattle.std.proofs.lemmas.Bool.{cases_lt}
 use Rattle.std.proofs.lemmas.List.{length_push, get_or_append_left, get_or_push, get_or_default, length-take-le}
 use Rattle.velo_events.specs.declared.event.Event.{Event}
@@ -15,7 +15,7 @@ use Rattle.velo_explain.specs.declared.spans.Span.{Span}
 use Rattle.velo_explain.specs.declared.evidence.Blame.{Blame}
 use Rattle.velo_explain.specs.declared.evidence.Evidence.{Evidence}
 use Rattle.velo_explain.specs.Spans.{IsSpan, AreSpansSoFar, span_at, AreTransactions}
-use Rattle.velo_explain.specs.Evidence.{no_block, blame_at, IsBlame, HasBlame, AreBlamesSoFar, IsEvidence, IsEvidenceAt, IsWithin}
+use Rattle.velo_explain.specs.Evidence.{no_block, blame_at, IsBlame, AreBlamesSoFar, IsEvidence, IsEvidenceAt, IsWithin}
 
 -- ---- spans
 

@@ -1,4 +1,4 @@
-use Rattle.std.proofs.Common.{◌≡◌, ◌++◌, ◌∷◌, [], length, take}
+use Rattle.std.proofs.Common.{◌≡◌, ◌++◌, length, take}
 use Rattle.velo_explain.specs.Text.{numbered}
 use Rattle.velo_explain.specs.Picture.{arrow_text}
 use Rattle.velo_explain.proofs.drawing.add_arrows.Given as goal

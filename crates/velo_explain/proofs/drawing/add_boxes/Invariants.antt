@@ -1,4 +1,4 @@
-use Rattle.std.proofs.Common.{◌≡◌, ◌++◌, ◌∷◌, [], length, take}
+use Rattle.std.proofs.Common.{◌≡◌, ◌++◌, take}
 use Rattle.velo_explain.specs.Text.{numbered}
 use Rattle.velo_explain.specs.Picture.{box_text}
 use Rattle.velo_explain.proofs.drawing.add_boxes.Given as goal

@@ -1,4 +1,4 @@
-use Rattle.std.proofs.Common.{◌≡◌, ℕ, Option, ◌+◌, ◌≤◌, List, length, get_or, refl, sym, subst, arith}
+use Rattle.std.proofs.Common.{ℕ, Option, ◌+◌, ◌≤◌, length, get_or, refl, sym, subst, arith}
 use Rattle.std.specs.Prelude.{MatchOption, vec_capacity}
 use Rattle.velo_explain.specs.declared.evidence.Blame.{Blame}
 use Rattle.velo_certify.specs.Witness.{IsWitness}

@@ -1,4 +1,4 @@
-use Rattle.std.proofs.Common.{◌≡◌, ◌≤◌, length}
+use Rattle.std.proofs.Common.{◌≤◌, length}
 use Rattle.std.specs.Prelude.{vec_capacity}
 use Rattle.velo_explain.specs.Spans.{AreSpansSoFar}
 use Rattle.velo_explain.proofs.spans.all_spans.Given as goal

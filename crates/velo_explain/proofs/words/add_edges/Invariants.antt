@@ -1,4 +1,4 @@
-use Rattle.std.proofs.Common.{◌≡◌, ◌++◌, ◌∷◌, [], length, take}
+use Rattle.std.proofs.Common.{◌≡◌, ◌++◌, length, take}
 use Rattle.velo_explain.specs.Text.{numbered, edge_text}
 use Rattle.velo_explain.proofs.words.add_edges.Given as goal
 
