@@ -1,4 +1,5 @@
 pub mod World
-pub mod Kept
 pub mod Run
+pub mod Course
+pub mod Kept
 pub mod Inside

@@ -2,6 +2,7 @@
 #![tactic(auto)]
 
 mod closed;
+mod course;
 mod run;
 mod world;
 
