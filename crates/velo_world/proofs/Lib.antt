@@ -1,5 +1,6 @@
 pub mod OnAlarms
 pub mod OnRuns
+pub mod OnCourses
 pub mod OnAnswers
 pub mod OnHoldings
 pub mod OnSteps
