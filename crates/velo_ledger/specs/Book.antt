@@ -3,7 +3,6 @@ use Rattle.std.specs.Prelude.{◌≡◌, ◌<◌, ◌≤◌, ℕ, MatchOption, L
 use Rattle.velo_events.specs.declared.event.ThreadId.{ThreadId}
 use Rattle.velo_ledger.specs.declared.tally.Tally.{Tally}
 use Rattle.velo_events.specs.declared.event.Event.{Event}
-use Rattle.velo_events.specs.declared.limits.TheConstants.{MOST_EVENTS}
 use Rattle.velo_ledger.specs.Tally.{blank, with_event}
 use Rattle.velo_ledger.specs.Views.{Accounts, Holding}
 
@@ -29,7 +28,6 @@ pub record CanEnterAt (book : Accounts) (places : List (Option Holding)) (positi
   pub there : slice_get places e.thread.0 ≡ Some (Some share)
   pub fits : FitsBook book share
   pub later : share.tally.next ≤ position
-  pub room : position < MOST_EVENTS
 
 -- the event was added to the row of its thread and to the share at its place
 pub record EntersAt (book : Accounts) (places : List (Option Holding)) (position : ℕ) (e : Event) (book' : Accounts) (places' : List (Option Holding)) : Type 0 where

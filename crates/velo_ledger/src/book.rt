@@ -98,6 +98,7 @@ impl Book {
     #[inline]
     pub fn enter_at(&mut self, shares: &mut Shares, position: usize, event: &Event)
         requires there { CanEnterAt self.old shares.old position event.now }
+        requires room { position < MOST_EVENTS }
         ensures entered { EntersAt self.old shares.old position event.now self.new shares.new }
     {
         let place = usize::from(event.thread.0);

@@ -77,6 +77,7 @@ impl World {
         ensures share { IfOk result (λ opened. opened.1 ≡ opening_share config.run 0) }
         ensures memory { OnErr result GrowthRefused }
     {
+        let log = Trace::new(alloc);
         let run = Run::new(alloc, &config)?;
         let (book, mut kept) = Book::open(alloc, config.run, config.bounds.threads)?;
         let Some(share) = kept.take(ThreadId(0)) else {
@@ -86,7 +87,7 @@ impl World {
             course: Course {
                 config,
                 halted: false,
-                log: Trace::new(alloc),
+                log,
                 run,
             },
             book,

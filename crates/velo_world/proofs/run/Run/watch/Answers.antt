@@ -1,13 +1,12 @@
 use Rattle.std.proofs.Common.{List, [], ◌∷◌, ◌++◌, take, sym, ap, ◌∙◌, subst, refl, arith}
 use Rattle.velo_events.specs.Block.{owner}
-use Rattle.velo_events.specs.Graph.{HasCycle}
 use Rattle.velo_events.specs.WellFormed.{IsWellFormed}
 use Rattle.velo_events.proofs.OnWellFormed.{IsWellFormed-push}
 use Rattle.velo_events.specs.declared.event.Event.{Event}
 use Rattle.velo_world.specs.declared.run.Run.{Run}
 use Rattle.velo_world.specs.Run.{ComesNext}
 use Rattle.velo_heap.specs.Contents.{bounds_of}
-use Rattle.velo_world.proofs.OnAlarms.{length-before, no_alarm}
+use Rattle.velo_world.proofs.OnAlarms.{length-before}
 use Rattle.velo_world.proofs.OnRuns.{alarm-none, IsWatched-stays, IsWatched-quiet, IsWatched-raised, monitor-quiet, clocks-quiet}
 use Rattle.velo_world.proofs.run.Run.watch.Goals as goal
 
