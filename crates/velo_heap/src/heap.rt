@@ -3,7 +3,8 @@ ghost use Rattle.std.specs.Prelude.{◌≡◌, ◌<◌, [], ◌∷◌, ◌++◌,
 ghost use Rattle.velo_events.specs.declared.event.Event.{Event};
 ghost use Rattle.velo_events.specs.Heap.{value_in, holder_in, status_in, depth_in};
 ghost use Rattle.velo_heap.specs.Contents.{bounds_of, IsHeapOf, admission, IsAdmitted};
-ghost use Rattle.velo_events.specs.Meaning.{refusal_of, action_of};
+ghost use Rattle.velo_events.specs.Meaning.{refusal_of, action_of, has_its_value};
+ghost use Rattle.velo_events.specs.WellFormed.{NamesKnown};
 ghost use Rattle.velo_heap.specs.Steps.{refusal_in, read_at, write_at, acquire_at, release_at, fork_at, join_at, kind_in, contents_after, CanChange};
 
 use crate::standing::Standing;
@@ -77,6 +78,18 @@ impl Heap {
             result ≡ refusal_of (bounds_of self.now) trace event.now.thread.0 event.now.kind }
     {
         self.reason(event)
+    }
+
+    /// Whether a read that names a variable has its value; so has any other operation.
+    #[inline]
+    pub fn has_its_value(&self, event: &Event) -> bool
+        ensures { (trace : List Event) → IsHeapOf self.now trace → NamesKnown (bounds_of self.now) event.now.kind →
+            result ≡ has_its_value trace event.now.kind }
+    {
+        match event.kind {
+            Kind::Read(x, value) => self.values.get(usize::from(x.0)).copied() == Some(value),
+            _ => true,
+        }
     }
 
     /// Does an admitted event.

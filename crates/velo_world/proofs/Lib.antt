@@ -8,3 +8,4 @@ pub mod OnWorlds
 pub mod OnSequences
 pub mod OnClosing
 pub mod OnReadiness
+pub mod OnRelived

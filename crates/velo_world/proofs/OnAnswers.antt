@@ -1,5 +1,5 @@
 -- The event that an action is may follow the log.
-use Rattle.std.proofs.Common.{◌≡◌, Bool, true, false, length, Option, Some, None, Ok, Err, refl, sym, subst}
+use Rattle.std.proofs.Common.{◌≡◌, List, Bool, true, false, length, Option, Some, None, Ok, Err, refl, sym, subst}
 use Rattle.std.specs.Prelude.{◌<◌, ◌&&◌, not, if◌then◌else◌, nat_le, nat_lt, Result, IsTrue, IsFalse}
 use Rattle.std.proofs.lemmas.Bool.{leb-false, ltb-true, not_from_false, false≢true}
 use Rattle.velo_events.proofs.OnStatuses.{is_Live}
@@ -12,7 +12,7 @@ use Rattle.velo_events.specs.declared.event.Status.{Status}
 use Rattle.velo_events.specs.declared.event.Status.TheVariants.{Unborn, Live, Exited, Joined}
 use Rattle.velo_events.specs.Heap.{status_in}
 use Rattle.velo_events.specs.WellFormed.{MayFollow, IsWellFormed}
-use Rattle.velo_events.specs.Meaning.{kind_for, event_for, refusal_of, is_live}
+use Rattle.velo_events.specs.Meaning.{action_of, kind_for, event_for, refusal_of, is_live}
 use Rattle.velo_events.proofs.OnMeaning.{MayFollow-refusal_of, HasItsValue-kind_for}
 use Rattle.velo_world.specs.World.{WorldState, meaning, IsLiveThread}
 
@@ -102,3 +102,15 @@ meaning-live w t action e h = at (refusal_of w.config.bounds w.log t.0 (kind_for
     at None is =
         let parts = both (nat_lt t.0 w.config.bounds.threads) (is_live (status_in w.log t.0)) (first_passed _ _ is) in
         (ltb-true _ _ parts.0, is_Live (status_in w.log t.0) parts.1)
+
+-- the action that asks for what an action means is this action
+pub action_of-kind_for : (log : List Event) (action : Action) → action_of (kind_for log action) ≡ action
+action_of-kind_for log (Action.Read x) = refl
+action_of-kind_for log (Action.Write x v) = refl
+action_of-kind_for log (Action.Acquire m) = refl
+action_of-kind_for log (Action.Release m) = refl
+action_of-kind_for log (Action.Begin l) = refl
+action_of-kind_for log Action.End = refl
+action_of-kind_for log (Action.Fork u) = refl
+action_of-kind_for log (Action.Join u) = refl
+action_of-kind_for log Action.Exit = refl

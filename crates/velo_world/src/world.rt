@@ -4,6 +4,7 @@ ghost use Rattle.velo_events.specs.declared.event.Action.TheVariants.{Fork};
 ghost use Rattle.velo_events.specs.declared.limits.TheConstants.{MOST_EVENTS};
 ghost use Rattle.velo_events.specs.declared.event.Event.{Event as EventOf};
 ghost use Rattle.velo_events.specs.Block.{IsTransaction};
+ghost use Rattle.velo_events.specs.Meaning.{action_of};
 ghost use Rattle.velo_events.specs.Collection.{IsAccountedFor, IsGivenUp, IsHarmless};
 ghost use Rattle.velo_events.specs.Graph.{HasCycle};
 ghost use Rattle.velo_events.specs.Reordering.{IsSerializable};
@@ -25,7 +26,7 @@ use std::alloc::Global;
 use std::fmt;
 use std::marker::Model;
 use velo_events::growth::reserve;
-use velo_events::{Action, Bounds, Config, Event, Memory, Refusal, Status, ThreadId};
+use velo_events::{Action, Bounds, Config, Event, Kind, Memory, Refusal, Status, ThreadId};
 use velo_heap::Heap;
 use velo_ledger::{Book, Share, Shares};
 use velo_monitor::Monitor;
@@ -37,11 +38,11 @@ use velo_traces::Trace;
 /// world keeps until the thread is forked.
 #[derive(Drop)]
 pub struct World {
-    course: Course,
-    book: Book,
+    pub(crate) course: Course,
+    pub(crate) book: Book,
     /// The shares of the threads that are not born yet.
-    kept: Shares,
-    alloc: Global,
+    pub(crate) kept: Shares,
+    pub(crate) alloc: Global,
 }
 
 impl Model for World {
@@ -190,7 +191,7 @@ impl World {
         match self.course.perform(thread, action) {
             Ok((event, reply)) => {
                 self.book.enter_at(shares, reply.position, &event);
-                hand_over(&mut self.kept, shares, action);
+                hand_over(&mut self.kept, shares, &event);
                 Ok(reply)
             }
             Err(refusal) => Err(refusal),
@@ -318,14 +319,14 @@ impl World {
     }
 }
 
-/// Puts the share of the thread that the action forks, if it is a fork, from the one places to the others, where none is.
+/// Puts the share of the thread that the event forks, if it is a fork, from the one places to the others, where none is.
 #[inline]
-fn hand_over(kept: &mut Shares, shares: &mut Shares, action: Action)
-    requires { IfSome (taken_by kept.old action) (λ share. slice_get shares.old share.thread.0 ≡ Some None) }
-    ensures kept { kept.new ≡ left_by kept.old action }
-    ensures shares { shares.new ≡ with_share shares.old (taken_by kept.old action) }
+pub fn hand_over(kept: &mut Shares, shares: &mut Shares, event: &Event)
+    requires { IfSome (taken_by kept.old (action_of event.now.kind)) (λ share. slice_get shares.old share.thread.0 ≡ Some None) }
+    ensures kept { kept.new ≡ left_by kept.old (action_of event.now.kind) }
+    ensures shares { shares.new ≡ with_share shares.old (taken_by kept.old (action_of event.now.kind)) }
 {
-    let Action::Fork(child) = action else {
+    let Kind::Fork(child) = event.kind else {
         return;
     };
     let Some(share) = kept.take(child) else {
