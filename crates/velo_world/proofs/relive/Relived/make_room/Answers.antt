@@ -13,11 +13,13 @@ returns-then-has_no_node_for-clause-fault c =
     let stands = c.requires.stands in
     let none = sym (c.flaw_in.ensures _ stands.run.heap) ∙ c.in-None.is in
     let follows = MayFollow-from_no_flaw _ _ c.args.event.now stands.run.heap.well_formed none in
-    let inside = c.if-position-config.false in
-    (sym here, inr (
-      flaw-by _ _ _ c.args.event.now stands.bounds none,
-      inr (refl, (let room = inside in omega (arith, here, room)), c.has_no_node_for.ensures.full c.if-has_no_node_for.true _ stands.run follows),
-    ))
+    let inside = c.if-position-config.false in (
+      sym here,
+      inr (
+        flaw-by _ _ _ c.args.event.now stands.bounds none,
+        inr (refl, (let room = inside in omega (arith, here, room)), c.has_no_node_for.ensures.full c.if-has_no_node_for.true _ stands.run follows),
+      ),
+    )
 
 pub returns-in-Ok-clause-stands : goal.returns-in-Ok-clause-stands
 returns-in-Ok-clause-stands c =
