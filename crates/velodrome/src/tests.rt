@@ -482,7 +482,7 @@ fn compare_named(rt: &impl Abort, alloc: Global, closed: &Closed) -> Result<(), 
 #[test]
 fn names_stand_for_numbers(rt: HostRuntime) -> Result<(), Fail> {
     let (bounds, log) = read_log(rt.alloc(), &mut Bytes::new(LOST_UPDATE.as_bytes()))?;
-    match do_log(rt.alloc(), config_of(bounds, 5, 2), &log) {
+    match do_log(rt.alloc(), config_of(bounds, 5, 2), log) {
         Ok(closed) => compare_named(&rt, rt.alloc(), &closed),
         Err(_) => Err("the log was not done".into()),
     }
