@@ -17,6 +17,8 @@ pub struct CheckOptions<'a> {
     pub events: u32,
     /// The most nodes that the graph may have at one time.
     pub nodes: u16,
+    /// Whether the certificate of the verdict is written behind the report.
+    pub certificate: bool,
     ghost some_event: { 1 ≤ events },
     ghost few_events: { events ≤ MOST_EVENTS },
     ghost some_node: { 1 ≤ nodes },
@@ -42,7 +44,8 @@ fn check_command<'a>(alloc: Global) -> Result<Command<'a>, Memory>
     let check = Command::new(alloc, "check").about("Reads a recorded log and reports the verdict");
     let check = with_argument(check, log_argument(alloc))?;
     let check = with_argument(check, events_argument(alloc))?;
-    with_argument(check, nodes_argument(alloc))
+    let check = with_argument(check, nodes_argument(alloc))?;
+    with_argument(check, certificate_argument(alloc))
 }
 
 fn log_argument<'a>(alloc: Global) -> Arg<'a> {
@@ -70,6 +73,13 @@ fn nodes_argument<'a>(alloc: Global) -> Arg<'a> {
         .default_value("1024")
 }
 
+fn certificate_argument<'a>(alloc: Global) -> Arg<'a> {
+    Arg::new(alloc, "certificate")
+        .long("certificate")
+        .help("Write a serial order, or with an alarm a shortest cycle, behind the report")
+        .action(ArgAction::SetTrue)
+}
+
 /// Reads the options of `check` from its matches; none where a word is missing or a number is out of its range, which
 /// the command has refused already.
 pub fn check_options<'a>(found: &ArgMatches<'a>) -> Option<CheckOptions<'a>> {
@@ -79,5 +89,10 @@ pub fn check_options<'a>(found: &ArgMatches<'a>) -> Option<CheckOptions<'a>> {
     if events < 1 || events > MOST_EVENTS || nodes < 1 || nodes > MOST_NODES {
         return None;
     }
-    Some(CheckOptions { log, events, nodes })
+    Some(CheckOptions {
+        log,
+        events,
+        nodes,
+        certificate: found.get_flag("certificate"),
+    })
 }

@@ -58,16 +58,23 @@ fn fate_of(answer: Result<Verdict, CheckFault>) -> Fate
     }
 }
 
-/// Checks a log within the limits that were asked for, and writes the report.
+/// Checks a log within the limits that were asked for, and writes the report, with its certificate if that was asked for.
 fn check_log<I: Source, O: Sink>(
     alloc: Global,
     options: &CheckOptions,
     log: &mut I,
     out: &mut O,
 ) -> Fate
-    ensures { IsChecked options.now.events options.now.nodes (I.remaining log.old) (O.contents out.old) (O.contents out.new) result }
+    ensures { IsChecked options.now.events options.now.nodes options.now.certificate (I.remaining log.old) (O.contents out.old) (O.contents out.new) result }
 {
-    let answer = check_run(alloc, log, out, options.events, options.nodes);
+    let answer = check_run(
+        alloc,
+        log,
+        out,
+        options.events,
+        options.nodes,
+        options.certificate,
+    );
     fate_of(answer)
 }
 
