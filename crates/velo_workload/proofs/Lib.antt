@@ -1,4 +1,6 @@
+pub mod OnCosts
 pub mod OnNames
+pub mod OnNumbers
 pub mod OnParsing
 pub mod OnPhrases
 pub mod OnReading

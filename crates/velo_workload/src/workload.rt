@@ -5,8 +5,8 @@ ghost use Rattle.std.specs.Str.{IsUtf8};
 ghost use Rattle.velo_events.specs.Refusals.{GrowthRefused};
 ghost use Rattle.velo_workload.specs.Names.{names_of};
 ghost use Rattle.velo_workload.specs.Phrase.{phrases};
-ghost use Rattle.velo_workload.specs.Outline.{AreFew, Judges, known, names_in};
-ghost use Rattle.velo_workload.specs.Known.{known_of};
+ghost use Rattle.velo_workload.specs.Outline.{AreFew, Judges, names_in};
+ghost use Rattle.velo_workload.specs.Known.{known_of, kept_of, whole};
 ghost use Rattle.velo_workload.specs.Program.{Program, bodies, first_unknown, meaning_of, Answers};
 ghost use Rattle.velo_workload.specs.declared.limits.TheConstants.{MOST_WORKLOAD_BYTES};
 
@@ -143,7 +143,7 @@ fn parse_into<'a>(
     outline: &mut Outline<'a>,
     text: &'a [u8],
 ) -> Result<Workload, WorkFault>
-    requires { known_of outline.old ≡ known [] }
+    requires { kept_of outline.old ≡ whole [] }
     ensures { Answers (meaning_of text.now) result }
 {
     match outline.read(text) {
