@@ -1,0 +1,4 @@
+//! Workloads that run.
+#![tactic(auto)]
+
+mod place;
