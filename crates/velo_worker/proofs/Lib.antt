@@ -1,1 +1,4 @@
 pub mod OnPlaces
+pub mod OnLevels
+pub mod OnEnds
+pub mod OnWalks

@@ -1,5 +1,5 @@
 -- Where a walk stands. Private contracts cite these words.
-use Rattle.std.specs.Prelude.{◌≡◌, ◌≤◌, ◌<◌, ⊤, ℕ, zero, suc, ◌+◌, List, [], ◌∷◌, ◌++◌, length, drop, IsTrue, slice_index_or, Some, slice_get}
+use Rattle.std.specs.Prelude.{◌≡◌, ◌≤◌, ◌<◌, ⊤, ℕ, zero, suc, ◌+◌, ◌-◌, List, [], ◌∷◌, ◌++◌, length, drop, IsTrue, slice_index_or}
 use Rattle.velo_workload.specs.declared.statement.Statement.{Statement}
 use Rattle.velo_workload.specs.declared.statement.Statement.TheVariants.{Repeat, Done}
 use Rattle.velo_workload.specs.Bodies.{is_nested}
@@ -67,12 +67,25 @@ behind zero (Done ∷ rest) = rest
 behind (suc n) (Done ∷ rest) = behind n rest
 behind n (statement ∷ rest) = behind n rest
 
--- the position behind the end of the repeat that is open behind position i
+-- the position behind the end of the repeat that is open at position i; behind the body where none is
 pub record IsEnd (body : List Statement) (i end : ℕ) : Type 0 where
   pub within : end ≤ length body
-  pub later : i < end
-  pub behind : drop end body ≡ behind 0 (drop (i + 1) body)
+  pub later : i ≤ end
+  pub behind : drop end body ≡ behind 0 (drop i body)
 
+-- of each statement, the end of the repeat that is open behind it
 pub record AreEnds (body : List Statement) (ends : List ℕ) : Type 0 where
   pub count : length ends ≡ length body
-  pub each : (i : ℕ) → i < length body → IsEnd body i (slice_index_or ends i 0)
+  pub each : (i : ℕ) → i < length body → IsEnd body (i + 1) (slice_index_or ends i 0)
+
+-- the end of the repeat that is open before the statement at position i, by the end of the one that is open behind it
+abbrev pub end_before : Statement → ℕ → List ℕ → ℕ → ℕ
+end_before Done i ends end = i + 1
+end_before (Repeat n) i ends end = slice_index_or ends (end - 1) 0
+end_before statement i ends end = end
+
+-- ---- a walk
+
+pub record IsWalk (body : List Statement) (ends : List ℕ) (at : Standing) : Type 0 where
+  pub are_ends : AreEnds body ends
+  pub stands : StandsIn body at
