@@ -35,6 +35,7 @@ AreEndsFrom-next body ends i end count within is from = record {
   where
     cases_le : (i j : ℕ) → i ≤ j → (j ≡ i) ⊎ (i + 1 ≤ j)
     cases_le i j h = ⊎_elim (λ l. inr (omega (arith, l))) (λ l. inl (omega (arith, l, h))) (cases_lt i j)
+
     at : (j : ℕ) → i ≤ j → j < length body → (j ≡ i) ⊎ (i + 1 ≤ j) → IsEnd body (j + 1) (get_or (set ends i end) j 0)
     at j after inside (inl same) =
         let room : i < length ends = omega (arith, count, within) in

@@ -1,14 +1,14 @@
 -- A place in a body and what is left there, past one statement.
-use Rattle.std.proofs.Common.{◌≡◌, ◌<◌, ◌≤◌, ℕ, zero, suc, ◌+◌, List, [], ◌∷◌, ◌++◌, length, drop, get_or, Some, refl, sym, ◌∙◌, ap, subst, arith, append_assoc}
-use Rattle.std.specs.Prelude.{slice_get, IsTrue}
+use Rattle.std.proofs.Common.{◌≡◌, ◌<◌, ◌≤◌, ℕ, zero, suc, ◌+◌, List, [], ◌∷◌, ◌++◌, length, drop, get_or, Some, None, inl, inr, refl, sym, ◌∙◌, ap, subst, arith, append_assoc}
+use Rattle.std.specs.Prelude.{slice_get, IsTrue, ◌⊎◌}
 use Rattle.std.proofs.Math.ListN.{drop_of_length-le}
-use Rattle.std.proofs.lemmas.Option.{slice_get_within}
+use Rattle.std.proofs.lemmas.Option.{slice_get_within, slice_get_cases}
 use Rattle.velo_workload.specs.declared.statement.Statement.{Statement}
 use Rattle.velo_workload.specs.declared.statement.Statement.TheVariants.{Repeat, Done}
 use Rattle.velo_workload.specs.Bodies.{is_nested}
 use Rattle.velo_worker.specs.declared.place.OpenRepeat.{OpenRepeat}
 use Rattle.velo_worker.specs.Walk.{times, first, others, with_statement, with_repeat, levels, walk_of}
-use Rattle.velo_worker.specs.Place.{Standing, passed, entered, turned, turned_again, left_by, left_at, AreOpen, StandsIn, IsEnd, behind}
+use Rattle.velo_worker.specs.Place.{Standing, passed, entered, turned, turned_again, left_by, left_at, AreOpen, StandsIn, IsEnd, IsWalk, MayPass, past, behind}
 use Rattle.velo_worker.proofs.OnLevels.{IsPlain, drop-at, levels-plain, levels-repeat, levels-done, nested-plain, nested-repeat, nested-done, nested-not_done, nested-end, levels-behind, nested-behind, left_by-front, AreOpen-same}
 
 -- ---- the start
@@ -146,3 +146,39 @@ StandsIn-turned body at here stands =
     stands-turned body at.position at.repeats (some_open body at here stands) (slice_get_within body at.position Done here)
     (subst (λ xs. IsTrue (is_nested (length at.repeats) xs)) next stands.nested)
     (subst (AreOpen body at.repeats) (ap levels next ∙ levels-done (drop (at.position + 1) body)) stands.are_open)
+
+-- ---- any statement
+
+pub MayPass-here : (body : List Statement) (at : Standing) (s : Statement) → slice_get body at.position ≡ Some s → StandsIn body at → MayPass s at
+MayPass-here body at (Repeat n) here stands = repeats_few body at n here stands
+MayPass-here body at Done here stands = some_open body at here stands
+MayPass-here body at s here stands = tt
+
+pub left_at-past : (body : List Statement) (ends : List ℕ) (at : Standing) (s : Statement) → slice_get body at.position ≡ Some s → IsWalk body ends at
+    → left_at body at ≡ s ∷ left_at body (past s at ends)
+left_at-past body ends at (Repeat n) here walk =
+    left_at-entered body at n (get_or ends at.position 0) here (walk.are_ends.each at.position (slice_get_within body at.position (Repeat n) here))
+left_at-past body ends at Done here walk = left_at-turned body at here walk.stands
+left_at-past body ends at s here walk = left_at-passed body at s here tt
+
+pub IsWalk-past : (body : List Statement) (ends : List ℕ) (at : Standing) (s : Statement) → slice_get body at.position ≡ Some s → IsWalk body ends at → IsWalk body ends (past s at ends)
+IsWalk-past body ends at (Repeat n) here walk = record {
+  are_ends = walk.are_ends;
+  stands = StandsIn-entered body at n (get_or ends at.position 0) here (walk.are_ends.each at.position (slice_get_within body at.position (Repeat n) here)) walk.stands;
+}
+IsWalk-past body ends at Done here walk = record { are_ends = walk.are_ends; stands = StandsIn-turned body at here walk.stands }
+IsWalk-past body ends at s here walk = record { are_ends = walk.are_ends; stands = StandsIn-passed body at s here tt walk.stands }
+
+-- the first of what is left is the statement at the place
+pub left_at-first : (body : List Statement) (ends : List ℕ) (at : Standing) → IsWalk body ends at → slice_get body at.position ≡ slice_get (left_at body at) 0
+left_at-first body ends at walk = by_cases (slice_get_cases body at.position)
+  where
+    by_cases : (slice_get body at.position ≡ slice_get body at.position) × (((x : Statement) × (at.position < length body) × (slice_get body at.position ≡ Some x) × (get_or body at.position x ≡ x)) ⊎ ((length body ≤ at.position) × (slice_get body at.position ≡ None)))
+        → slice_get body at.position ≡ slice_get (left_at body at) 0
+    by_cases (same, inl (x, within, here, got)) = rw (left_at-past body ends at x here walk) here
+    by_cases (same, inr (beyond, here)) = rw (left_at-end body at walk.stands beyond) here
+
+-- where there is no first statement, there is none to drop
+pub nothing_dropped : (xs : List Statement) → slice_get xs 0 ≡ None → xs ≡ drop 1 xs
+nothing_dropped [] h = refl
+nothing_dropped (x ∷ xs) h = cc

@@ -2,6 +2,7 @@
 use Rattle.std.specs.Prelude.{◌≡◌, ◌≤◌, ◌<◌, ⊤, ℕ, zero, suc, ◌+◌, ◌-◌, List, [], ◌∷◌, ◌++◌, length, drop, IsTrue, slice_index_or}
 use Rattle.velo_workload.specs.declared.statement.Statement.{Statement}
 use Rattle.velo_workload.specs.declared.statement.Statement.TheVariants.{Repeat, Done}
+use Rattle.velo_workload.specs.declared.workload.TheConstants.{MOST_NESTED}
 use Rattle.velo_workload.specs.Bodies.{is_nested}
 use Rattle.velo_worker.specs.declared.place.OpenRepeat.{OpenRepeat}
 use Rattle.velo_worker.specs.Walk.{times, first, others, levels}
@@ -85,6 +86,18 @@ end_before (Repeat n) i ends end = slice_index_or ends (end - 1) 0
 end_before statement i ends end = end
 
 -- ---- a walk
+
+-- past a statement, where the ends of the repeats are these
+abbrev pub past : Statement → Standing → List ℕ → Standing
+past (Repeat n) at ends = entered at n (slice_index_or ends at.position 0)
+past Done at ends = turned at.position at.repeats
+past statement at ends = passed at
+
+-- a repeat has room, and a `Done` its repeat
+abbrev pub MayPass : Statement → Standing → Type 0
+MayPass (Repeat n) at = length at.repeats < MOST_NESTED
+MayPass Done at = 0 < length at.repeats
+MayPass statement at = ⊤
 
 pub record IsWalk (body : List Statement) (ends : List ℕ) (at : Standing) : Type 0 where
   pub are_ends : AreEnds body ends
