@@ -2,3 +2,4 @@ pub mod OnPlaces
 pub mod OnLevels
 pub mod OnEnds
 pub mod OnWalks
+pub mod OnProgress

@@ -1,3 +1,4 @@
 pub mod Walk
 pub mod Place
 pub mod Inside
+pub mod Progress

@@ -2,4 +2,5 @@
 #![tactic(auto)]
 
 mod place;
+mod progress;
 mod walk;
