@@ -3,3 +3,4 @@ pub mod OnLevels
 pub mod OnEnds
 pub mod OnWalks
 pub mod OnProgress
+pub mod OnTurns
