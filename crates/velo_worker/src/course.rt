@@ -18,9 +18,10 @@ use velo_world::{Closed, World};
 /// A world in which the threads of a workload act in turn.
 #[derive(Drop)]
 pub struct Course<'a> {
-    world: World,
-    shares: Shares,
-    threads: Vec<Progress<'a>>,
+    pub world: World,
+    /// The share of each thread that was forked, at its place.
+    pub shares: Shares,
+    pub threads: Vec<Progress<'a>>,
 }
 
 impl<'a> Model for Course<'a> {

@@ -5,6 +5,8 @@ mod course;
 mod ending;
 mod place;
 mod progress;
+mod replaying;
 mod walk;
 
 pub use ending::Ending;
+pub use replaying::replay;
