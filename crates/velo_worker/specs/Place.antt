@@ -2,7 +2,7 @@
 use Rattle.std.specs.Prelude.{◌≡◌, ◌≤◌, ◌<◌, ⊤, ℕ, zero, suc, ◌+◌, ◌-◌, List, [], ◌∷◌, ◌++◌, length, drop, IsTrue, slice_index_or}
 use Rattle.velo_workload.specs.declared.statement.Statement.{Statement}
 use Rattle.velo_workload.specs.declared.statement.Statement.TheVariants.{Repeat, Done}
-use Rattle.velo_workload.specs.declared.workload.TheConstants.{MOST_NESTED}
+use Rattle.velo_workload.specs.declared.limits.TheConstants.{MOST_OPEN_REPEATS}
 use Rattle.velo_workload.specs.Bodies.{is_nested}
 use Rattle.velo_worker.specs.declared.place.OpenRepeat.{OpenRepeat}
 use Rattle.velo_worker.specs.Walk.{times, first, others, levels}
@@ -95,7 +95,7 @@ past statement at ends = passed at
 
 -- a repeat has room, and a `Done` its repeat
 abbrev pub MayPass : Statement → Standing → Type 0
-MayPass (Repeat n) at = length at.repeats < MOST_NESTED
+MayPass (Repeat n) at = length at.repeats < MOST_OPEN_REPEATS
 MayPass Done at = 0 < length at.repeats
 MayPass statement at = ⊤
 

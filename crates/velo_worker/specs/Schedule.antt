@@ -11,7 +11,7 @@ use Rattle.velo_events.specs.declared.refusal.Refusal.TheVariants as refusal
 use Rattle.velo_events.specs.Graph.{HasCycle}
 use Rattle.velo_events.specs.Heap.{status_in}
 use Rattle.velo_events.specs.Refusals.{GrowthRefused}
-use Rattle.velo_workload.specs.Bodies.{Program}
+use Rattle.velo_workload.specs.Program.{Program}
 use Rattle.velo_world.specs.World.{WorldState, meaning, opening, value_read, FillsGraph}
 use Rattle.velo_worker.specs.declared.ending.Ending.{Ending}
 use Rattle.velo_worker.specs.declared.ending.Ending.TheVariants.{Done, Stuck, Halted, Refused}

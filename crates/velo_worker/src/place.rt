@@ -3,7 +3,7 @@ ghost use Rattle.std.specs.Prelude.{◌≡◌, ◌<◌, ◌+◌, [], length};
 ghost use Rattle.velo_worker.specs.Place.{passed, entered, turned};
 
 use std::marker::Model;
-use velo_workload::MOST_NESTED;
+use velo_workload::MOST_OPEN_REPEATS;
 
 /// A repeat that is being done.
 #[derive(Clone, Copy, Debug)]
@@ -18,20 +18,20 @@ pub struct OpenRepeat {
 #[derive(Debug, Drop)]
 pub struct Place {
     position: usize,
-    repeats: [OpenRepeat; MOST_NESTED],
+    repeats: [OpenRepeat; MOST_OPEN_REPEATS],
     depth: usize,
 }
 
 impl Model for Place {
     ghost use Rattle.std.specs.Prelude.{◌≤◌};
-    ghost use Rattle.velo_workload.specs.declared.workload.TheConstants.{MOST_NESTED};
+    ghost use Rattle.velo_workload.specs.declared.limits.TheConstants.{MOST_OPEN_REPEATS};
     ghost use Rattle.velo_worker.specs.Place.{Standing, innermost_first};
 
     ghost Value = { Standing };
 
     ghost view = { λ p. record { position = p.position; repeats = innermost_first p.repeats p.depth } };
 
-    ghost invariant = { λ p. p.depth ≤ MOST_NESTED };
+    ghost invariant = { λ p. p.depth ≤ MOST_OPEN_REPEATS };
 }
 
 impl Place {
@@ -42,7 +42,7 @@ impl Place {
         let none = OpenRepeat { start: 0, again: 0 };
         Place {
             position: 0,
-            repeats: [none; MOST_NESTED],
+            repeats: [none; MOST_OPEN_REPEATS],
             depth: 0,
         }
     }
@@ -64,7 +64,7 @@ impl Place {
     /// Goes into a repeat, or to its end where it is to be done no time.
     pub fn enter(&mut self, times: u64, end: usize)
         requires within { self.old.position < usize.MAX }
-        requires room { length self.old.repeats < MOST_NESTED }
+        requires room { length self.old.repeats < MOST_OPEN_REPEATS }
         ensures { self.new ≡ entered self.old times end }
     {
         if times == 0 {

@@ -1,3 +1,5 @@
+//! The statements of a program.
+
 use velo_events::{Label, LockId, ThreadId, VarId};
 
 /// A statement of a thread's body. Each thread has one register, which is 0 at its start.
@@ -7,9 +9,9 @@ pub enum Statement {
     Read(VarId),
     /// An event; the variable takes the register's value.
     Write(VarId),
-    /// The register becomes the number.
+    /// The register becomes this number.
     Set(u64),
-    /// The number is added to the register, modulo 2^64.
+    /// The register grows by this number, and wraps at 64 bits.
     Add(u64),
     Acquire(LockId),
     Release(LockId),
@@ -17,7 +19,7 @@ pub enum Statement {
     End,
     Fork(ThreadId),
     Join(ThreadId),
-    /// The statements up to the `Done` that belongs to it are done so many times.
+    /// The statements up to the `Done` that matches it are done so many times.
     Repeat(u64),
     Done,
 }
