@@ -130,7 +130,7 @@ pub below-other : (trace : List Event) (a n : ℕ) → owner trace n ≢ a → p
 below-other trace a n other = below-step trace a n ∙ (ap (λ xs. positions_below trace a n ++ xs) (ap (λ b. cond b (n ∷ []) []) (ne_eqb _ a other)) ∙ append-nil (positions_below trace a n))
 
 -- where no position between is its own
-below-stays : (trace : List Event) (a n k : ℕ) → ((i : ℕ) → n ≤ i → i < n + k → owner trace i ≢ a) → positions_below trace a (n + k) ≡ positions_below trace a n
+pub below-stays : (trace : List Event) (a n k : ℕ) → ((i : ℕ) → n ≤ i → i < n + k → owner trace i ≢ a) → positions_below trace a (n + k) ≡ positions_below trace a n
 below-stays trace a n zero none = ap (positions_below trace a) (omega arith)
 below-stays trace a n (suc k) none =
     ap (positions_below trace a) (let more : n + suc k ≡ n + k + 1 = omega arith in more)

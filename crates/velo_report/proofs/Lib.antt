@@ -1,3 +1,5 @@
 pub mod OnPassing
 pub mod OnLines
 pub mod OnReports
+pub mod OnRuns
+pub mod OnCertificates

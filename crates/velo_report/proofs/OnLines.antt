@@ -1,62 +1,65 @@
 -- A line, word by word.
 use Rattle.std.proofs.Common.{◌≡◌, ℕ, ◌+◌, List, [], ◌∷◌, ◌++◌, take, drop, sym, ap, ◌∙◌, append_assoc}
-use Rattle.std.specs.Prelude.{codes}
+use Rattle.std.specs.Prelude.{codes, map}
 use Rattle.std.specs.List.{flat_map}
 use Rattle.std.proofs.lemmas.Grind.{flat_map-append}
 use Rattle.std.proofs.lemmas.List.{append-nil, take-append-drop, map-append}
 use Rattle.velo_report.specs.declared.lines.Word.{Word}
 use Rattle.velo_report.specs.declared.lines.Word.TheVariants.{Text}
-use Rattle.velo_report.specs.Lines.{spaced, line_of, word_text, words_text}
+use Rattle.velo_report.specs.Lines.{spaced, line_of}
 
 -- what is read past the end of some words
 abbrev pub no_word : Word
 no_word = Text (record { ref_ptr = (0, 0); now = [] })
 
--- words behind spaces
-abbrev pub spaced_words : List Word → List ℕ
-spaced_words words = flat_map spaced (words_text words)
+-- ---- a line of some things, each of which has its word
 
-spaced_words-append : (xs ys : List Word) → spaced_words (xs ++ ys) ≡ spaced_words xs ++ spaced_words ys
-spaced_words-append xs ys = ap (flat_map spaced) (map-append word_text xs ys) ∙ flat_map-append spaced (words_text xs) (words_text ys)
+module _ {X : Type 0} (text : X → List ℕ) where
+  -- words behind spaces
+  abbrev pub spaced_words : List X → List ℕ
+  spaced_words words = flat_map spaced (map text words)
 
--- a line with its first words
-abbrev pub begun : List ℕ → List Word → ℕ → List ℕ
-begun first words i = first ++ spaced_words (take i words)
+  spaced_words-append : (xs ys : List X) → spaced_words (xs ++ ys) ≡ spaced_words xs ++ spaced_words ys
+  spaced_words-append xs ys = ap (flat_map spaced) (map-append text xs ys) ∙ flat_map-append spaced (map text xs) (map text ys)
 
-pub begun-start : (first : List ℕ) (words : List Word) → first ≡ begun first words 0
-begun-start first words = sym (append-nil first)
+  -- a line with its first words
+  abbrev pub begun : List ℕ → List X → ℕ → List ℕ
+  begun first words i = first ++ spaced_words (take i words)
 
-pub begun-next : (first : List ℕ) (words : List Word) (i : ℕ) (w : Word) → take (i + 1) words ≡ take i words ++ w ∷ [] → begun first words i ++ spaced (word_text w) ≡ begun first words (i + 1)
-begun-next first words i w is =
-    append_assoc first (spaced_words (take i words)) (spaced (word_text w))
-    ∙ ap (λ (t : List ℕ). first ++ t)
-    (ap (λ (t : List ℕ). spaced_words (take i words) ++ t) (sym (append-nil (spaced (word_text w))))
-    ∙ sym (spaced_words-append (take i words) (w ∷ []))
-    ∙ ap spaced_words (sym is))
+  pub begun-start : (first : List ℕ) (words : List X) → first ≡ begun first words 0
+  begun-start first words = sym (append-nil first)
 
--- what comes behind them
-abbrev pub rest_of : List Word → ℕ → List ℕ
-rest_of words i = spaced_words (drop i words) ++ codes "\n"
+  pub begun-next : (first : List ℕ) (words : List X) (i : ℕ) (w : X) → take (i + 1) words ≡ take i words ++ w ∷ [] → begun first words i ++ spaced (text w) ≡ begun first words (i + 1)
+  begun-next first words i w is =
+      append_assoc first (spaced_words (take i words)) (spaced (text w))
+      ∙ ap (λ (t : List ℕ). first ++ t)
+      (ap (λ (t : List ℕ). spaced_words (take i words) ++ t) (sym (append-nil (spaced (text w))))
+      ∙ sym (spaced_words-append (take i words) (w ∷ []))
+      ∙ ap spaced_words (sym is))
 
-pub line-split : (first : List ℕ) (words : List Word) (i : ℕ) → line_of first (words_text words) ≡ begun first words i ++ rest_of words i
-line-split first words i =
-    ap (λ (ws : List Word). first ++ (spaced_words ws ++ codes "\n")) (sym (take-append-drop i words))
-    ∙ ap (λ (t : List ℕ). first ++ (t ++ codes "\n")) (spaced_words-append (take i words) (drop i words))
-    ∙ ap (λ (t : List ℕ). first ++ t) (append_assoc (spaced_words (take i words)) (spaced_words (drop i words)) (codes "\n"))
-    ∙ sym (append_assoc first (spaced_words (take i words)) (rest_of words i))
+  -- what comes behind them
+  abbrev pub rest_of : List X → ℕ → List ℕ
+  rest_of words i = spaced_words (drop i words) ++ codes "\n"
 
--- with one word more
-pub line-split-next : (first : List ℕ) (words : List Word) (i : ℕ) (w : Word) → take (i + 1) words ≡ take i words ++ w ∷ [] → line_of first (words_text words) ≡ begun first words i ++ (spaced (word_text w) ++ rest_of words (i + 1))
-line-split-next first words i w is =
-    line-split first words (i + 1)
-    ∙ ap (λ (t : List ℕ). t ++ rest_of words (i + 1)) (sym (begun-next first words i w is))
-    ∙ append_assoc (begun first words i) (spaced (word_text w)) (rest_of words (i + 1))
+  pub line-split : (first : List ℕ) (words : List X) (i : ℕ) → line_of first (map text words) ≡ begun first words i ++ rest_of words i
+  line-split first words i =
+      ap (λ (ws : List X). first ++ (spaced_words ws ++ codes "\n")) (sym (take-append-drop i words))
+      ∙ ap (λ (t : List ℕ). first ++ (t ++ codes "\n")) (spaced_words-append (take i words) (drop i words))
+      ∙ ap (λ (t : List ℕ). first ++ t) (append_assoc (spaced_words (take i words)) (spaced_words (drop i words)) (codes "\n"))
+      ∙ sym (append_assoc first (spaced_words (take i words)) (rest_of words i))
 
--- with all words the newline is left
-pub line-end : (first : List ℕ) (words : List Word) (i : ℕ) → take i words ≡ words → line_of first (words_text words) ≡ begun first words i ++ codes "\n"
-line-end first words i is =
-    ap (λ (ws : List Word). first ++ (spaced_words ws ++ codes "\n")) (sym is)
-    ∙ sym (append_assoc first (spaced_words (take i words)) (codes "\n"))
+  -- with one word more
+  pub line-split-next : (first : List ℕ) (words : List X) (i : ℕ) (w : X) → take (i + 1) words ≡ take i words ++ w ∷ [] → line_of first (map text words) ≡ begun first words i ++ (spaced (text w) ++ rest_of words (i + 1))
+  line-split-next first words i w is =
+      line-split first words (i + 1)
+      ∙ ap (λ (t : List ℕ). t ++ rest_of words (i + 1)) (sym (begun-next first words i w is))
+      ∙ append_assoc (begun first words i) (spaced (text w)) (rest_of words (i + 1))
+
+  -- with all words the newline is left
+  pub line-end : (first : List ℕ) (words : List X) (i : ℕ) → take i words ≡ words → line_of first (map text words) ≡ begun first words i ++ codes "\n"
+  line-end first words i is =
+      ap (λ (ws : List X). first ++ (spaced_words ws ++ codes "\n")) (sym is)
+      ∙ sym (append_assoc first (spaced_words (take i words)) (codes "\n"))
 
 -- ---- a line for each of some things
 

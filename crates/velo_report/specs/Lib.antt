@@ -1,3 +1,5 @@
+pub mod Certificate
 pub mod Lines
 pub mod Names
 pub mod Report
+pub mod Runs

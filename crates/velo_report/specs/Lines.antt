@@ -15,6 +15,10 @@ spaced word = codes " " ++ word
 abbrev pub line_of : List ℕ → List (List ℕ) → List ℕ
 line_of first others = first ++ (flat_map spaced others ++ codes "\n")
 
+-- a line of numbers behind its first word
+abbrev pub numbers_line : List ℕ → List ℕ → List ℕ
+numbers_line first numbers = line_of first (map decimal numbers)
+
 -- ---- the words of the code
 
 abbrev pub word_text : Word → List ℕ

@@ -2,7 +2,7 @@
 ghost use Rattle.std.specs.Prelude.{◌≡◌, ◌≤◌, ◌+◌, ◌++◌, [], ◌∷◌, codes, length, take, OnOk, OnErr};
 ghost use Rattle.std.specs.Io.KnownBytes.{Appends};
 ghost use Rattle.velo_logtext.specs.Device.{one_more, AppendsBeginning};
-ghost use Rattle.velo_report.specs.Lines.{word_text, spaced, words_text, line_of, Passes};
+ghost use Rattle.velo_report.specs.Lines.{word_text, spaced, words_text, line_of, numbers_line, Passes};
 
 use itoa::Buffer;
 use std::marker::Model;
@@ -131,6 +131,25 @@ impl Lines {
         self.add_word(sink, Word::Text(first))?;
         for word in others {
             self.add_spaced(sink, *word)?;
+        }
+        self.add(sink, b"\n")
+    }
+
+    /// Adds a line of numbers: its first word, the numbers, each behind a space, and a newline.
+    pub fn add_numbers<S: Sink>(
+        &mut self,
+        sink: &mut S,
+        first: &str,
+        numbers: &[usize],
+    ) -> Result<(), WriteFault>
+        ensures ok { OnOk result (Passes (S.contents sink.old) (S.contents sink.new) self.old self.new (numbers_line first.now numbers.now)) }
+        ensures err { OnErr result (AppendsBeginning (S.contents sink.old) (S.contents sink.new) (self.old ++ numbers_line first.now numbers.now)) }
+        ensures no_failure { OnOk result (S.failures sink.new ≡ S.failures sink.old) }
+        ensures failure { OnErr result (S.failures sink.new ≡ one_more (S.failures sink.old)) }
+    {
+        self.add_word(sink, Word::Text(first))?;
+        for number in numbers {
+            self.add_spaced(sink, Word::Number(*number as u64))?;
         }
         self.add(sink, b"\n")
     }

@@ -1,5 +1,5 @@
 -- What the first pass counts is what a body costs.
-use Rattle.std.proofs.Common.{◌≡◌, ℕ, ◌+◌, ◌-◌, ◌*◌, ◌⊎◌, inl, inr, Bool, cond, ltb, List, [], ◌∷◌, ◌++◌, length, map, take, reverse, slice_get, Option, Some, None, refl, sym, ap, subst, ◌∙◌, ⊎_elim, append-nil, append_assoc, length-append, arith}
+use Rattle.std.proofs.Common.{◌≡◌, ℕ, ◌+◌, ◌-◌, ◌*◌, ◌⊎◌, inl, inr, cond, ltb, List, [], ◌∷◌, ◌++◌, length, map, take, reverse, slice_get, Option, Some, None, refl, sym, ap, subst, ◌∙◌, ⊎_elim, append-nil, append_assoc, length-append, arith}
 use Rattle.std.specs.Prelude.{option_map}
 use Rattle.std.specs.Option.{option_map_or}
 use Rattle.std.proofs.lemmas.List.{map-append, take-map, length-map, reverse-append}
@@ -8,7 +8,7 @@ use Rattle.velo_workload.specs.declared.limits.TheConstants.{MOST_COST}
 use Rattle.velo_workload.specs.declared.fault.WorkFault.{WorkFault}
 use Rattle.velo_workload.specs.declared.fault.WorkFault.TheVariants.{Unmatched, TooMany}
 use Rattle.velo_workload.specs.declared.nesting.Open.{Open}
-use Rattle.velo_workload.specs.Phrase.{Spoken, Read, Write, Set, Add, Acquire, Release, Begin, End, Fork, Join, Repeat, Done, Phrase, Blank, Bad, BadThread, Variable, Lock, Thread, Body}
+use Rattle.velo_workload.specs.Phrase.{Spoken, Repeat, Done, Phrase, Blank, Bad, BadThread, Variable, Lock, Thread, Body}
 use Rattle.velo_workload.specs.Outline.{costs, total, cost_of, repeated, one_statement, Reading, new_body, opened, line_read, read_from, reading, end_fault}
 use Rattle.velo_workload.specs.Tally.{Tally, new_tally, last_open, statement_tallied, line_tallied, tally_from, tally, tally_fault}
 

@@ -1,10 +1,10 @@
 -- What a parser answers is what the text means.
-use Rattle.std.proofs.Common.{◌≡◌, ℕ, List, [], ◌∷◌, length, map, Option, Some, None, Result, Ok, Err, suc, refl, sym, ap, subst, ◌∙◌}
+use Rattle.std.proofs.Common.{◌≡◌, ℕ, List, [], ◌∷◌, length, Option, None, Result, Ok, Err, suc, refl, sym, ap, subst, ◌∙◌}
 use Rattle.velo_workload.specs.declared.fault.WorkFault.{WorkFault}
 use Rattle.velo_workload.specs.declared.fault.WorkFault.TheVariants.{BadLine, Unknown, Twice, Unmatched, TooMany, Memory}
 use Rattle.velo_workload.specs.declared.statement.Statement.{Statement}
 use Rattle.velo_workload.specs.Phrase.{phrases, Phrase, Blank, Bad, BadThread, Variable, Lock, Thread, Body}
-use Rattle.velo_workload.specs.Outline.{Judges, Names, names_in, known, threads, first_fault, first_of_two}
+use Rattle.velo_workload.specs.Outline.{Judges, Names, names_in, known, threads, first_fault}
 use Rattle.velo_workload.specs.Program.{Program, program, bodies, first_unknown, fault_in, unless_fault, meaning_of, Answers}
 use Rattle.velo_workload.proofs.OnReading.{wrong, judged_first, none_first}
 

@@ -1,12 +1,12 @@
 -- Names are text, and two words have the one phrase.
-use Rattle.std.proofs.Common.{◌≡◌, ℕ, ◌<◌, Bool, true, false, ◌&&◌, List, [], ◌∷◌, length, refl, sym, ap, subst, ◌∙◌, true≢false, arith}
+use Rattle.std.proofs.Common.{◌≡◌, ℕ, ◌<◌, Bool, true, false, ◌&&◌, List, [], ◌∷◌, length, refl, sym, ap, ◌∙◌, true≢false, arith}
 use Rattle.std.specs.List.{list_all}
 use Rattle.std.specs.Str.{IsAscii, IsUtf8}
 use Rattle.std.proofs.lemmas.Str.{IsUtf8-from_ascii}
 use Rattle.std.proofs.lemmas.Str.Ascii.{IsAscii-nil, IsAscii-cons}
 use Rattle.std.proofs.lemmas.Bool.Decides.{nat_tests}
 use Rattle.velo_workload.specs.Words.{Word, AreWords, is_name, is_name_byte}
-use Rattle.velo_workload.specs.Phrase.{Phrase, verb_of, argument_of, argued, phrase_of_words}
+use Rattle.velo_workload.specs.Phrase.{verb_of, argument_of, argued, phrase_of_words}
 
 small : (b : ℕ) → is_name_byte b ≡ true → b < 128
 small b e = grind (arith, nat_tests)

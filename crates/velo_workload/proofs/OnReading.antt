@@ -13,13 +13,12 @@ use Rattle.std.proofs.lemmas.List.Sums.{fold-append}
 use Rattle.std.proofs.lemmas.Option.{slice_get-map}
 use Rattle.indexmap.specs.IndexSet.{insert_all, insert_key}
 use Rattle.velo_workload.specs.declared.limits.TheConstants.{MOST_COST, MOST_OPEN_REPEATS, MOST_STATEMENTS}
-use Rattle.velo_events.specs.declared.limits.TheConstants.{MOST_THREADS}
 use Rattle.velo_workload.specs.declared.fault.WorkFault.{WorkFault}
 use Rattle.velo_workload.specs.declared.fault.WorkFault.TheVariants.{BadLine, Unknown, Twice, Unmatched, TooMany, Memory}
 use Rattle.velo_workload.specs.declared.outline.Outline.{Outline}
 use Rattle.velo_workload.specs.declared.nesting.Open.{Open}
 use Rattle.velo_workload.specs.Words.{Word, lines}
-use Rattle.velo_workload.specs.Phrase.{phrase_of, phrases, Spoken, Read, Write, Set, Add, Acquire, Release, Begin, End, Fork, Join, Repeat, Done, Phrase, Blank, Bad, BadThread, Variable, Lock, Thread, Body}
+use Rattle.velo_workload.specs.Phrase.{phrase_of, phrases, Spoken, Begin, Repeat, Done, Phrase, Blank, Bad, BadThread, Variable, Lock, Thread, Body}
 use Rattle.velo_workload.specs.Outline.{AreFew, is_among, Judges, fault_from, first_fault, variable_in, lock_in, thread_in, label_in, label_of, statement_in, variables, locks, threads, labels, statements, reading, Known, known, names_in, first_of_two, fault_of_line, fault_at_end, declared_fault, statement_fault, full_fault}
 use Rattle.velo_workload.specs.Tally.{Tally, new_tally, last_open, statement_tallied, line_tallied, tally_from, tally, tally_fault, most_kept, kept_open, kept}
 use Rattle.velo_workload.specs.Known.{IsReadUpTo, lines_left, phrases_left, Kept, kept_of, known_by, known_of, statement_kept, labelled, with_line, whole, up_to_most}

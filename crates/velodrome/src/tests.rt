@@ -1,23 +1,34 @@
 //! The program over logs and devices in memory.
 mod slow;
 
-use crate::check::{CheckFault, Verdict, check_run};
+use crate::check::{CheckFault, Verdict, check_run, config_of, do_log};
 use crate::fate::{Fate, end_with};
+use crate::help;
 use crate::program::{Logs, end_without_words, run};
 use crate::tests::slow::{BOUNDS, first_lines, world_by_chance};
 use std::alloc::Global;
 use std::io::{ErrorKind, Write};
+use std::process::Abort;
 use std::test::Fail;
 use velo_events::{Bounds, Event, Kind, Label, MOST_EVENTS, Refusal, ThreadId, VarId};
-use velo_logtext::{Bytes, LogFault, Text, WriterSink, write_log};
+use velo_logtext::{Bytes, LogFault, Text, WriterSink, read_log, write_log};
+use velo_report::{Names, report};
 use velo_traces::Trace;
+use velo_world::Closed;
 
 const LOST_UPDATE: &str = "vlog 1 2 1 0\n0 fork 1\n0 begin 7\n0 rd 0 0\n1 wr 0 5\n0 wr 0 1\n";
 
 const LOST_UPDATE_REPORT: &str =
     "events 5\nthread 0 4\nthread 1 1\nverdict alarm 4\ntransaction 1\nblame 1 7\n";
 
-/// Logs by their paths, which come so many bytes at a time.
+const LOST_UPDATE_CERTIFIED: &str =
+    "events 5\nthread 0 4\nthread 1 1\nverdict alarm 4\ntransaction 1\nblame 1 7\ncycle 1 3\n";
+
+/// Reads of one block's write by operations outside blocks.
+const MERGED: &str =
+    "vlog 1 2 1 0\n0 fork 1\n0 begin 1\n0 wr 0 1\n1 rd 0 1\n1 rd 0 1\n1 rd 0 1\n0 end\n";
+
+/// Logs by their paths, which come so many bytes at a time. Standard input is the first of them.
 #[derive(Drop)]
 struct Folder<'a> {
     files: &'a [(&'a str, &'a str)],
@@ -27,6 +38,8 @@ struct Folder<'a> {
 impl<'a> Logs for Folder<'a> {
     type Log = Bytes<'a>;
 
+    type Input = Bytes<'a>;
+
     fn open(&self, path: &str) -> Option<Bytes<'a>> {
         for (name, log) in self.files {
             if *name == path {
@@ -34,6 +47,14 @@ impl<'a> Logs for Folder<'a> {
             }
         }
         None
+    }
+
+    fn standard_input(&self) -> Bytes<'a> {
+        let log = match self.files.first() {
+            Some((_, log)) => *log,
+            None => "",
+        };
+        Bytes::new(log.as_bytes()).in_steps(self.step)
     }
 }
 
@@ -53,193 +74,285 @@ fn show(alloc: Global, words: &[&str], folder: &Folder) -> Shown {
     Shown { out, err, status }
 }
 
-/// Logs with their report and status.
-const REPORTED: [(&str, &str, u8); 9] = [
-    ("vlog 1 1 0 0\n", "events 0\nthread 0 0\nverdict clean\n", 0),
-    (LOST_UPDATE, LOST_UPDATE_REPORT, 3),
-    (
-        "vlog 1 2 2 0\n0 fork 1\n0 begin 1\n0 wr 0 1\n1 begin 2\n1 wr 1 1\n0 rd 1 1\n1 rd 0 1\n",
-        "events 7\nthread 0 4\nthread 1 3\nverdict alarm 6\ntransaction 3\nblame none\n",
-        3,
-    ),
-    (
-        "vlog 1 2 0 0\n0 begin 1\n0 fork 1\n1 exit\n0 join 1\n",
-        "events 4\nthread 0 3\nthread 1 1\nverdict alarm 3\ntransaction 0\nblame 0 1\n",
-        3,
-    ),
-    (
-        "vlog 1 2 1 0\n0 fork 1\n0 begin 1\n0 rd 0 0\n0 begin 2\n1 wr 0 3\n0 wr 0 4\n",
-        "events 6\nthread 0 5\nthread 1 1\nverdict alarm 5\ntransaction 1\nblame 1 1\n",
-        3,
-    ),
-    (
-        "vlog 1 2 1 0\n0 fork 1\n0 begin 1\n0 begin 2\n0 rd 0 0\n1 wr 0 3\n0 wr 0 4\n",
-        "events 6\nthread 0 5\nthread 1 1\nverdict alarm 5\ntransaction 1\nblame 1 1\nblame 2 2\n",
-        3,
-    ),
-    (
-        "vlog 1 2 1 0\n0 fork 1\n0 begin 1\n0 wr 0 1\n1 rd 0 1\n0 wr 0 2\n",
-        "events 5\nthread 0 4\nthread 1 1\nverdict alarm 4\ntransaction 1\nblame 1 1\n",
-        3,
-    ),
-    (
-        "vlog 1 2 1 1\n0 fork 1\n0 begin 1\n0 acq 0\n0 rd 0 0\n0 rel 0\n1 acq 0\n1 wr 0 9\n1 rel 0\n0 acq 0\n",
-        "events 9\nthread 0 6\nthread 1 3\nverdict alarm 8\ntransaction 1\nblame 1 1\n",
-        3,
-    ),
-    (
-        "vlog 1 2 1 1\n0 fork 1\n0 begin 1\n0 acq 0\n0 rd 0 0\n0 wr 0 1\n0 rel 0\n0 end\n1 begin 1\n1 acq 0\n1 rd 0 1\n1 wr 0 2\n1 rel 0\n1 end\n",
-        "events 13\nthread 0 7\nthread 1 6\nverdict clean\n",
-        0,
-    ),
+/// Words that check a log.
+const PLAIN: &[&str] = &["velodrome", "check", "a.log"];
+
+const ONE_EVENT: &[&str] = &["velodrome", "check", "--events", "1", "a.log"];
+
+const ONE_NODE: &[&str] = &["velodrome", "check", "--nodes", "1", "a.log"];
+
+/// What the program does with a log.
+struct Run {
+    words: &'static [&'static str],
+    log: &'static str,
+    out: &'static str,
+    err: &'static str,
+    status: u8,
+}
+
+static RUNS: [Run; 30] = [
+    Run {
+        words: PLAIN,
+        log: "vlog 1 1 0 0\n",
+        out: "events 0\nthread 0 0\nverdict clean\n",
+        err: "",
+        status: 0,
+    },
+    Run {
+        words: PLAIN,
+        log: LOST_UPDATE,
+        out: LOST_UPDATE_REPORT,
+        err: "",
+        status: 3,
+    },
+    Run {
+        words: PLAIN,
+        log: "vlog 1 2 2 0\n0 fork 1\n0 begin 1\n0 wr 0 1\n1 begin 2\n1 wr 1 1\n0 rd 1 1\n1 rd 0 1\n",
+        out: "events 7\nthread 0 4\nthread 1 3\nverdict alarm 6\ntransaction 3\nblame none\n",
+        err: "",
+        status: 3,
+    },
+    Run {
+        words: PLAIN,
+        log: "vlog 1 2 0 0\n0 begin 1\n0 fork 1\n1 exit\n0 join 1\n",
+        out: "events 4\nthread 0 3\nthread 1 1\nverdict alarm 3\ntransaction 0\nblame 0 1\n",
+        err: "",
+        status: 3,
+    },
+    Run {
+        words: PLAIN,
+        log: "vlog 1 2 1 0\n0 fork 1\n0 begin 1\n0 rd 0 0\n0 begin 2\n1 wr 0 3\n0 wr 0 4\n",
+        out: "events 6\nthread 0 5\nthread 1 1\nverdict alarm 5\ntransaction 1\nblame 1 1\n",
+        err: "",
+        status: 3,
+    },
+    Run {
+        words: PLAIN,
+        log: "vlog 1 2 1 0\n0 fork 1\n0 begin 1\n0 begin 2\n0 rd 0 0\n1 wr 0 3\n0 wr 0 4\n",
+        out: "events 6\nthread 0 5\nthread 1 1\nverdict alarm 5\ntransaction 1\nblame 1 1\nblame 2 2\n",
+        err: "",
+        status: 3,
+    },
+    Run {
+        words: PLAIN,
+        log: "vlog 1 2 1 0\n0 fork 1\n0 begin 1\n0 wr 0 1\n1 rd 0 1\n0 wr 0 2\n",
+        out: "events 5\nthread 0 4\nthread 1 1\nverdict alarm 4\ntransaction 1\nblame 1 1\n",
+        err: "",
+        status: 3,
+    },
+    Run {
+        words: PLAIN,
+        log: "vlog 1 2 1 1\n0 fork 1\n0 begin 1\n0 acq 0\n0 rd 0 0\n0 rel 0\n1 acq 0\n1 wr 0 9\n1 rel 0\n0 acq 0\n",
+        out: "events 9\nthread 0 6\nthread 1 3\nverdict alarm 8\ntransaction 1\nblame 1 1\n",
+        err: "",
+        status: 3,
+    },
+    Run {
+        words: PLAIN,
+        log: "vlog 1 2 1 1\n0 fork 1\n0 begin 1\n0 acq 0\n0 rd 0 0\n0 wr 0 1\n0 rel 0\n0 end\n1 begin 1\n1 acq 0\n1 rd 0 1\n1 wr 0 2\n1 rel 0\n1 end\n",
+        out: "events 13\nthread 0 7\nthread 1 6\nverdict clean\n",
+        err: "",
+        status: 0,
+    },
+    Run {
+        words: PLAIN,
+        log: "vlog 1 2 1 0\n1 wr 0 1\n",
+        out: "",
+        err: "refused 2 at 0\n",
+        status: 2,
+    },
+    Run {
+        words: PLAIN,
+        log: "vlog 1 1 1 0\n0 wr 0 5\n0 rd 0 4\n",
+        out: "",
+        err: "wrong value at 1\n",
+        status: 2,
+    },
+    Run {
+        words: PLAIN,
+        log: "vlog 1 1 0 0\n0 fork 0\n",
+        out: "",
+        err: "refused 11 at 0\n",
+        status: 2,
+    },
+    Run {
+        words: PLAIN,
+        log: "vlog 1 1 1 0\n0 rd 0 01\n",
+        out: "",
+        err: "log fault 2 line 2\n",
+        status: 2,
+    },
+    Run {
+        words: PLAIN,
+        log: "vlog 1 1 1 0\n0 wr 0 1",
+        out: "",
+        err: "log fault 3 line 2\n",
+        status: 2,
+    },
+    Run {
+        words: PLAIN,
+        log: "vlog 1 0 0 0\n",
+        out: "",
+        err: "log fault 1\n",
+        status: 2,
+    },
+    Run {
+        words: PLAIN,
+        log: "",
+        out: "",
+        err: "log fault 1\n",
+        status: 2,
+    },
+    Run {
+        words: PLAIN,
+        log: "vlog 1 2 0 1\n0 fork 1\n0 acq 0\n1 acq 0\n",
+        out: "",
+        err: "refused 6 at 2\n",
+        status: 2,
+    },
+    Run {
+        words: PLAIN,
+        log: "vlog 1 2 0 1\n0 fork 1\n0 acq 0\n0 acq 0\n",
+        out: "",
+        err: "refused 7 at 2\n",
+        status: 2,
+    },
+    Run {
+        words: PLAIN,
+        log: "vlog 1 2 0 1\n0 fork 1\n0 acq 0\n0 exit\n",
+        out: "",
+        err: "refused 16 at 2\n",
+        status: 2,
+    },
+    Run {
+        words: PLAIN,
+        log: "vlog 1 2 0 1\n0 fork 1\n0 acq 0\n0 join 1\n",
+        out: "",
+        err: "refused 13 at 2\n",
+        status: 2,
+    },
+    Run {
+        words: ONE_EVENT,
+        log: LOST_UPDATE,
+        out: "",
+        err: "refused 17 at 1\n",
+        status: 4,
+    },
+    Run {
+        words: ONE_EVENT,
+        log: "vlog 1 1 1 0\n0 wr 0 5\n0 rd 0 4\n",
+        out: "",
+        err: "wrong value at 1\n",
+        status: 2,
+    },
+    Run {
+        words: ONE_EVENT,
+        log: "vlog 1 1 0 0\n0 end\n",
+        out: "",
+        err: "refused 9 at 0\n",
+        status: 2,
+    },
+    Run {
+        words: ONE_EVENT,
+        log: "vlog 1 1 1 0\n0 rd 0 0\n0 end\n",
+        out: "",
+        err: "refused 9 at 1\n",
+        status: 2,
+    },
+    Run {
+        words: ONE_NODE,
+        log: "vlog 1 2 1 0\n0 fork 1\n0 begin 1\n0 wr 0 1\n0 end\n1 begin 2\n0 rd 0 1\n1 wr 0 2\n1 end\n",
+        out: "events 8\nthread 0 5\nthread 1 3\nverdict clean\n",
+        err: "",
+        status: 0,
+    },
+    Run {
+        words: ONE_NODE,
+        log: "vlog 1 2 0 0\n0 fork 1\n0 begin 1\n1 begin 2\n",
+        out: "",
+        err: "refused 18 at 2\n",
+        status: 4,
+    },
+    Run {
+        words: &["velodrome", "check", "--nodes", "2", "a.log"],
+        log: MERGED,
+        out: "events 7\nthread 0 4\nthread 1 3\nverdict clean\n",
+        err: "",
+        status: 0,
+    },
+    Run {
+        words: ONE_NODE,
+        log: MERGED,
+        out: "",
+        err: "refused 18 at 3\n",
+        status: 4,
+    },
+    Run {
+        words: ONE_NODE,
+        log: "vlog 1 2 1 0\n0 fork 1\n0 begin 1\n0 wr 0 1\n1 rd 0 2\n",
+        out: "",
+        err: "wrong value at 3\n",
+        status: 2,
+    },
+    Run {
+        words: &["velodrome", "check", "a.log", "--certificate"],
+        log: LOST_UPDATE,
+        out: LOST_UPDATE_CERTIFIED,
+        err: "",
+        status: 3,
+    },
 ];
 
 #[test]
-fn logs_are_reported(rt: HostRuntime) {
-    for (log, report, status) in REPORTED {
+fn logs_are_checked(rt: HostRuntime) {
+    for run in &RUNS {
         for step in [1, usize::MAX] {
-            let files = [("a.log", log)];
+            let files = [("a.log", run.log)];
             let folder = Folder {
                 files: &files,
                 step,
             };
-            let shown = show(rt.alloc(), &["velodrome", "check", "a.log"], &folder);
-            assert_eq!(rt; shown.out.as_slice(), report.as_bytes(), "{log}");
-            assert_eq!(rt; shown.err.as_slice(), b"".as_slice());
-            assert_eq!(rt; shown.status, status);
+            let shown = show(rt.alloc(), run.words, &folder);
+            assert_eq!(rt; shown.out.as_slice(), run.out.as_bytes(), "{}", run.log);
+            assert_eq!(rt; shown.err.as_slice(), run.err.as_bytes(), "{}", run.log);
+            assert_eq!(rt; shown.status, run.status);
         }
     }
 }
 
-/// Logs without a report, with a limit of events, the line on standard error and the status.
-const REFUSED: [(&str, &str, &str, u8); 16] = [
-    (LOST_UPDATE, "3", "refused 17 at 3\n", 4),
-    (LOST_UPDATE, "4", "refused 17 at 4\n", 4),
-    ("vlog 1 2 1 0\n1 wr 0 1\n", "9", "refused 2 at 0\n", 2),
+/// Logs with their report and the certificate behind it.
+const CERTIFIED: [(&str, &str); 5] = [
+    ("vlog 1 1 0 0\n", "events 0\nthread 0 0\nverdict clean\n"),
+    (LOST_UPDATE, LOST_UPDATE_CERTIFIED),
     (
-        "vlog 1 1 1 0\n0 wr 0 5\n0 rd 0 4\n",
-        "9",
-        "wrong value at 1\n",
-        2,
+        "vlog 1 2 2 0\n0 fork 1\n0 begin 1\n0 wr 0 1\n1 begin 2\n1 wr 1 1\n0 rd 1 1\n1 rd 0 1\n",
+        "events 7\nthread 0 4\nthread 1 3\nverdict alarm 6\ntransaction 3\nblame none\ncycle 3 1\n",
     ),
     (
-        "vlog 1 1 1 0\n0 wr 0 5\n0 rd 0 4\n",
-        "1",
-        "wrong value at 1\n",
-        2,
-    ),
-    ("vlog 1 1 0 0\n0 fork 0\n", "9", "refused 11 at 0\n", 2),
-    ("vlog 1 1 1 0\n0 rd 0 01\n", "9", "log fault 2 line 2\n", 2),
-    ("vlog 1 1 1 0\n0 wr 0 1", "9", "log fault 3 line 2\n", 2),
-    ("vlog 1 0 0 0\n", "9", "log fault 1\n", 2),
-    ("", "9", "log fault 1\n", 2),
-    (
-        "vlog 1 2 0 1\n0 fork 1\n0 acq 0\n1 acq 0\n",
-        "9",
-        "refused 6 at 2\n",
-        2,
+        "vlog 1 2 0 0\n0 begin 1\n0 fork 1\n1 exit\n0 join 1\n",
+        "events 4\nthread 0 3\nthread 1 1\nverdict alarm 3\ntransaction 0\nblame 0 1\ncycle 0 2\n",
     ),
     (
-        "vlog 1 2 0 1\n0 fork 1\n0 acq 0\n0 acq 0\n",
-        "9",
-        "refused 7 at 2\n",
-        2,
-    ),
-    (
-        "vlog 1 2 0 1\n0 fork 1\n0 acq 0\n0 exit\n",
-        "9",
-        "refused 16 at 2\n",
-        2,
-    ),
-    (
-        "vlog 1 2 0 1\n0 fork 1\n0 acq 0\n0 join 1\n",
-        "9",
-        "refused 13 at 2\n",
-        2,
-    ),
-    ("vlog 1 1 0 0\n0 end\n", "1", "refused 9 at 0\n", 2),
-    (
-        "vlog 1 1 1 0\n0 rd 0 0\n0 end\n",
-        "1",
-        "refused 9 at 1\n",
-        2,
+        "vlog 1 2 1 0\n0 fork 1\n0 begin 1\n1 wr 0 2\n0 rd 0 2\n0 end\n",
+        "events 5\nthread 0 4\nthread 1 1\nverdict clean\nserial 0\nserial 2\nserial 1 3 4\n",
     ),
 ];
 
 #[test]
-fn logs_are_refused(rt: HostRuntime) {
-    for (log, events, line, status) in REFUSED {
-        let files = [("a.log", log)];
-        let folder = Folder {
-            files: &files,
-            step: usize::MAX,
-        };
-        let words = ["velodrome", "check", "--events", events, "a.log"];
-        let shown = show(rt.alloc(), &words, &folder);
-        assert_eq!(rt; shown.out.as_slice(), b"".as_slice(), "{log}");
-        assert_eq!(rt; shown.err.as_slice(), line.as_bytes(), "{log}");
-        assert_eq!(rt; shown.status, status);
-    }
-}
-
-/// Logs with a limit of nodes, the first line on standard output, that on standard error, and the status.
-const WITH_NODES: [(&str, &str, &str, &str, u8); 5] = [
-    (
-        "vlog 1 2 1 0\n0 fork 1\n0 begin 1\n0 wr 0 1\n0 end\n1 begin 2\n0 rd 0 1\n1 wr 0 2\n1 end\n",
-        "1",
-        "events 8\n",
-        "",
-        0,
-    ),
-    (
-        "vlog 1 2 0 0\n0 fork 1\n0 begin 1\n1 begin 2\n",
-        "1",
-        "",
-        "refused 18 at 2\n",
-        4,
-    ),
-    (
-        "vlog 1 2 1 0\n0 fork 1\n0 begin 1\n0 wr 0 1\n1 rd 0 1\n1 rd 0 1\n1 rd 0 1\n0 end\n",
-        "2",
-        "events 7\n",
-        "",
-        0,
-    ),
-    (
-        "vlog 1 2 1 0\n0 fork 1\n0 begin 1\n0 wr 0 1\n1 rd 0 1\n1 rd 0 1\n1 rd 0 1\n0 end\n",
-        "1",
-        "",
-        "refused 18 at 3\n",
-        4,
-    ),
-    (
-        "vlog 1 2 1 0\n0 fork 1\n0 begin 1\n0 wr 0 1\n1 rd 0 2\n",
-        "1",
-        "",
-        "wrong value at 3\n",
-        2,
-    ),
-];
-
-#[test]
-fn graphs_are_full(rt: HostRuntime) {
-    for (log, nodes, first, line, status) in WITH_NODES {
-        let files = [("a.log", log)];
-        let folder = Folder {
-            files: &files,
-            step: usize::MAX,
-        };
-        let words = ["velodrome", "check", "--nodes", nodes, "a.log"];
-        let shown = show(rt.alloc(), &words, &folder);
-        assert!(rt; shown.out.as_slice().starts_with(first.as_bytes()), "{log}");
-        assert_eq!(rt; shown.out.as_slice().is_empty(), first.is_empty());
-        assert_eq!(rt; shown.err.as_slice(), line.as_bytes(), "{log}");
-        assert_eq!(rt; shown.status, status);
+fn certificates_are_written(rt: HostRuntime) {
+    for (log, written) in CERTIFIED {
+        let mut sink = Text::new(rt.alloc()).in_steps(1);
+        let mut source = Bytes::new(log.as_bytes());
+        let answer = check_run(rt.alloc(), &mut source, &mut sink, MOST_EVENTS, 1024, true);
+        assert!(rt; answer.is_ok(), "{log}");
+        assert_eq!(rt; sink.as_slice(), written.as_bytes(), "{log}");
     }
 }
 
 /// Right words, with the status: of the two logs one raises an alarm at its last event.
-const RIGHT_WORDS: [(&[&str], u8); 7] = [
+const RIGHT_WORDS: [(&[&str], u8); 9] = [
+    (&["velodrome", "check", "-"], 3),
+    (&["velodrome", "check", "--certificate", "a.log"], 3),
     (&["velodrome", "check", "a.log"], 3),
     (&["velodrome", "check", "b.log"], 0),
     (&["velodrome", "check", "c.log"], 5),
@@ -308,18 +421,85 @@ fn command_lines(rt: HostRuntime) {
     }
 }
 
+/// Words that ask for help, and what stands at its end.
+const HELP: [(&[&str], &str); 6] = [
+    (&["velodrome", "--help"], help::OF_PROGRAM),
+    (&["velodrome", "help"], help::OF_PROGRAM),
+    (&["velodrome", "check", "--help"], help::OF_CHECK),
+    (&["velodrome", "check", "-h"], help::OF_CHECK),
+    (&["velodrome", "help", "check"], help::OF_CHECK),
+    (&["velodrome", "--version"], help::VERSION),
+];
+
+#[test]
+fn help_goes_to_standard_output(rt: HostRuntime) {
+    let folder = Folder {
+        files: &FILES,
+        step: usize::MAX,
+    };
+    for (words, end) in HELP {
+        let shown = show(rt.alloc(), words, &folder);
+        assert_eq!(rt; shown.status, 0);
+        assert!(rt; shown.err.as_slice().is_empty());
+        assert!(rt;
+            shown
+                .out
+                .as_slice()
+                .trim_ascii_end()
+                .ends_with(end.as_bytes()),
+            "{end}"
+        );
+        let mut full = Text::new(rt.alloc()).failing_after(9);
+        let mut err = Text::new(rt.alloc());
+        assert_eq!(rt; run(rt.alloc(), words, &folder, &mut full, &mut err), 5);
+        assert_eq!(rt; err.as_slice(), b"write failed\n".as_slice());
+    }
+}
+
+/// The refusals that a check can answer.
+const REFUSALS: [Refusal; 17] = [
+    Refusal::NotLive,
+    Refusal::NoSuchVariable,
+    Refusal::NoSuchLock,
+    Refusal::NoSuchThread,
+    Refusal::Busy,
+    Refusal::AlreadyHeld,
+    Refusal::NotHolder,
+    Refusal::NoOpenBlock,
+    Refusal::TooDeep,
+    Refusal::AlreadyForked,
+    Refusal::NotForked,
+    Refusal::NotExited,
+    Refusal::AlreadyJoined,
+    Refusal::BlockOpen,
+    Refusal::LockHeld,
+    Refusal::LogFull,
+    Refusal::GraphFull,
+];
+
+/// What help says of a number is the text of its refusal.
+#[test]
+fn help_has_the_texts_of_refusals(rt: HostRuntime) -> Result<(), Fail> {
+    for refusal in REFUSALS {
+        let number = refusal as u8;
+        let line = format!(in rt.alloc(); "\n{number:>4}  {refusal}")?;
+        assert!(rt; help::OF_CHECK.contains(line.as_str()), "{line}");
+    }
+    Ok(())
+}
+
 #[test]
 fn devices_fail(rt: HostRuntime) {
     let log = LOST_UPDATE.as_bytes();
     for count in 0..=log.len() {
         let mut source = Bytes::new(log).in_steps(1).failing_after(count);
         let mut sink = Text::new(rt.alloc());
-        let answer = check_run(rt.alloc(), &mut source, &mut sink, MOST_EVENTS, 1024);
+        let answer = check_run(rt.alloc(), &mut source, &mut sink, MOST_EVENTS, 1024, false);
         assert_eq!(rt; answer, Err(CheckFault::Log(LogFault::Read)));
         assert_eq!(rt; sink.as_slice(), b"".as_slice());
     }
-    let report = LOST_UPDATE_REPORT.as_bytes();
-    for count in 0..report.len() {
+    let written = LOST_UPDATE_CERTIFIED.as_bytes();
+    for count in 0..written.len() {
         let mut sink = Text::new(rt.alloc()).failing_after(count);
         let answer = check_run(
             rt.alloc(),
@@ -327,25 +507,57 @@ fn devices_fail(rt: HostRuntime) {
             &mut sink,
             MOST_EVENTS,
             1024,
+            true,
         );
         assert_eq!(rt; answer, Err(CheckFault::Write));
-        assert_eq!(rt; sink.as_slice(), &report[..count]);
+        assert_eq!(rt; sink.as_slice(), &written[..count]);
     }
     let folder = Folder {
         files: &FILES,
         step: usize::MAX,
     };
-    for words in [["velodrome", "--help"], ["velodrome", "help"]] {
-        let mut full = Text::new(rt.alloc()).failing_after(9);
-        let mut err = Text::new(rt.alloc());
-        let status = run(rt.alloc(), words.as_slice(), &folder, &mut full, &mut err);
-        assert_eq!(rt; status, 5);
-        assert_eq!(rt; err.as_slice(), b"write failed\n".as_slice());
-    }
     let mut out = Text::new(rt.alloc());
     let mut closed = Text::new(rt.alloc()).failing_after(0);
     let status = run(rt.alloc(), &["velodrome"], &folder, &mut out, &mut closed);
     assert_eq!(rt; status, 5);
+}
+
+/// Reports by names: as far as there are any, they stand for the numbers.
+const NAMED: [(usize, usize, &str); 2] = [
+    (
+        1,
+        8,
+        "events 5\nthread 0 main 4\nthread 1 1\nverdict alarm 4\ntransaction 1\nblame 1 inc\n",
+    ),
+    (0, 1, LOST_UPDATE_REPORT),
+];
+
+/// Compares the reports by names.
+fn compare_named(rt: &impl Abort, alloc: Global, closed: &Closed) -> Result<(), Fail> {
+    let threads = vec![in alloc; String::from_str(alloc, "main")?]?;
+    let mut labels = Vec::new(alloc);
+    for _ in 0..8 {
+        labels.push(String::from_str(alloc, "inc")?)?;
+    }
+    for (threads_named, labels_named, wanted) in NAMED {
+        let names = Names::Words {
+            threads: &threads[..threads_named.min(threads.len())],
+            labels: &labels[..labels_named.min(labels.len())],
+        };
+        let mut sink = Text::new(alloc);
+        assert!(rt; report(closed, &names, &mut sink).is_ok());
+        assert_eq!(rt; sink.as_slice(), wanted.as_bytes());
+    }
+    Ok(())
+}
+
+#[test]
+fn names_stand_for_numbers(rt: HostRuntime) -> Result<(), Fail> {
+    let (bounds, log) = read_log(rt.alloc(), &mut Bytes::new(LOST_UPDATE.as_bytes()))?;
+    match do_log(rt.alloc(), config_of(bounds, 5, 2), log) {
+        Ok(closed) => compare_named(&rt, rt.alloc(), &closed),
+        Err(_) => Err("the log was not done".into()),
+    }
 }
 
 /// A writer that counts its calls.
@@ -448,10 +660,10 @@ fn ten_thousand_lines(rt: HostRuntime) -> Result<(), Fail> {
     write_log(bounds, &trace, &mut log)?;
     let mut source = Bytes::new(log.as_slice());
     let mut sink = Text::new(rt.alloc());
-    let answer = check_run(rt.alloc(), &mut source, &mut sink, 10_000, 1024);
+    let answer = check_run(rt.alloc(), &mut source, &mut sink, 10_000, 1024, true);
     assert_eq!(rt; answer, Ok(Verdict::Alarm));
     let lines =
-        "events 10000\nthread 0 4\nthread 1 9996\nverdict alarm 9999\ntransaction 9996\nblame 9996 7\n";
+        "events 10000\nthread 0 4\nthread 1 9996\nverdict alarm 9999\ntransaction 9996\nblame 9996 7\ncycle 9996 9998\n";
     assert_eq!(rt; sink.as_slice(), lines.as_bytes());
     Ok(())
 }
@@ -471,7 +683,7 @@ fn reports_are_those_of_the_definitions(rt: HostRuntime) -> Result<(), Fail> {
         write_log(BOUNDS, trace, &mut log)?;
         let mut source = Bytes::new(log.as_slice());
         let mut sink = Text::new(rt.alloc());
-        let answer = check_run(rt.alloc(), &mut source, &mut sink, 48, 1024);
+        let answer = check_run(rt.alloc(), &mut source, &mut sink, 48, 1024, false);
         assert!(rt; answer.is_ok());
         let lines = first_lines(rt.alloc(), trace)?;
         assert!(rt; sink.as_slice().starts_with(lines.as_bytes()), "{lines}");

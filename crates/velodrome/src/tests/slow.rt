@@ -1,7 +1,7 @@
 //! Logs by chance, and their reports by the definitions in the slowest way.
 ghost use Rattle.std.specs.Prelude.{◌≤◌};
 
-use crate::check::{config_of, open_world};
+use crate::check::config_of;
 use std::alloc::{AllocError, Global};
 use std::test::Fail;
 use velo_events::{
@@ -17,27 +17,59 @@ pub const BOUNDS: Bounds = Bounds {
     locks: 1,
 };
 
+const X: VarId = VarId(0);
+
+const Y: VarId = VarId(1);
+
+const LOCK: LockId = LockId(0);
+
+/// What a throw of the dice may say.
+const ACTIONS: [Action; 32] = [
+    Action::Read(X),
+    Action::Read(X),
+    Action::Read(X),
+    Action::Read(X),
+    Action::Read(X),
+    Action::Read(Y),
+    Action::Read(Y),
+    Action::Read(Y),
+    Action::Read(Y),
+    Action::Write(X, 1),
+    Action::Write(X, 2),
+    Action::Write(X, 3),
+    Action::Write(X, 4),
+    Action::Write(X, 5),
+    Action::Write(Y, 1),
+    Action::Write(Y, 2),
+    Action::Write(Y, 3),
+    Action::Write(Y, 4),
+    Action::Acquire(LOCK),
+    Action::Acquire(LOCK),
+    Action::Release(LOCK),
+    Action::Release(LOCK),
+    Action::Begin(Label(1)),
+    Action::Begin(Label(1)),
+    Action::Begin(Label(1)),
+    Action::End,
+    Action::End,
+    Action::End,
+    Action::Fork(ThreadId(3)),
+    Action::Join(ThreadId(2)),
+    Action::Join(ThreadId(3)),
+    Action::Exit,
+];
+
 /// An action by a throw of the dice.
 fn action_by(dice: u64) -> Action {
-    let x = VarId(((dice >> 5) % 2) as u16);
-    match dice % 32 {
-        0..=8 => Action::Read(x),
-        9..=17 => Action::Write(x, dice >> 58),
-        18 | 19 => Action::Acquire(LockId(0)),
-        20 | 21 => Action::Release(LockId(0)),
-        22..=24 => Action::Begin(Label(1)),
-        25..=27 => Action::End,
-        28 => Action::Fork(ThreadId(3)),
-        29 => Action::Join(ThreadId(2)),
-        30 => Action::Join(ThreadId(3)),
-        _ => Action::Exit,
-    }
+    ACTIONS[(dice % 32) as usize]
 }
 
 /// A world whose log came about by chance: of 48 actions those that were not refused.
 pub fn world_by_chance(alloc: Global, seed: u64) -> Result<World, Fail> {
     let config = config_of(BOUNDS, MOST_EVENTS, MOST_NODES);
-    let (mut world, mut shares) = open_world(alloc, config)?;
+    let Ok((mut world, mut shares)) = World::relive(alloc, config, Trace::new(alloc)) else {
+        return Err("no world".into());
+    };
     let mut dice = seed;
     for i in 0..48u8 {
         dice = dice

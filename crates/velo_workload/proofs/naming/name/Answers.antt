@@ -1,4 +1,4 @@
-use Rattle.std.proofs.Common.{◌≡◌, true, sym, ◌∙◌, rules}
+use Rattle.std.proofs.Common.{◌≡◌, true, sym, ◌∙◌}
 use Rattle.velo_workload.specs.Words.{is_name}
 use Rattle.velo_workload.proofs.OnPhrases.{name_text}
 use Rattle.velo_workload.proofs.naming.name.Goals as goal

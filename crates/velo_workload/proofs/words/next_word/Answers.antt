@@ -1,6 +1,5 @@
-use Rattle.std.proofs.Common.{arith, ◌≡◌, ◌<◌, length, ap, sym, subst, ◌∙◌, take, drop, ◌∷◌}
-use Rattle.velo_workload.proofs.OnWords.{some_word, no_word, no_rest, front, first_word}
-use Rattle.velo_workload.specs.Words.{is_blank, is_no_blank, pieces}
+use Rattle.std.proofs.Common.{arith}
+use Rattle.velo_workload.proofs.OnWords.{some_word, no_word, no_rest}
 use Rattle.velo_workload.proofs.words.next_word.Goals as goal
 
 pub returns-clause-some : goal.returns-clause-some

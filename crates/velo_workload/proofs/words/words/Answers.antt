@@ -1,6 +1,4 @@
-use Rattle.std.proofs.Common.{sym, ap, subst}
-use Rattle.std.specs.Prelude.{not}
-use Rattle.velo_workload.specs.Words.{AreWords, pieces}
+use Rattle.std.proofs.Common.{sym}
 use Rattle.velo_workload.proofs.OnWords.{IsNext, three_words}
 use Rattle.velo_workload.proofs.words.words.Goals as goal
 

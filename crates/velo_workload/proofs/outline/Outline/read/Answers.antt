@@ -1,6 +1,5 @@
-use Rattle.std.proofs.Common.{◌≡◌, ◌+◌, ◌∙◌, Some, None, Err, ap, sym, subst, arith, rules}
+use Rattle.std.proofs.Common.{◌+◌, ◌∙◌, ap, sym, subst, rules}
 use Rattle.std.specs.Prelude.{option_copied}
-use Rattle.velo_workload.specs.Phrase.{phrase_of, Phrase}
 use Rattle.velo_workload.specs.Outline.{Judges, fault_of_line}
 use Rattle.velo_workload.specs.Known.{IsReadUpTo, known_of, kept_of, with_line}
 use Rattle.velo_workload.proofs.OnReading.{line_wrong, line_right, all_names, all_few, end_is, on_ok, wrong}
