@@ -24,7 +24,7 @@ use Rattle.velo_events.specs.Meaning.{refusal_of, holds_a_lock, kind_for, event_
 use Rattle.velo_events.proofs.OnWellFormed.{Facts-from, count_below-zero, count_below-none, count_below, is_held_by}
 use Rattle.velo_events.proofs.OnMeaning.{MayFollow-refusal_of, HasItsValue-kind_for}
 use Rattle.velo_heap.specs.Contents.{Contents, bounds_of, Tabulates, thread_named, locks_in, standing_in, IsHeapOf, unless_refused, admission, IsAdmitted}
-use Rattle.velo_heap.specs.Steps.{read_at, write_at, acquire_at, release_at, fork_by, fork_at, join_by, join_at, live_kind, kind_in}
+use Rattle.velo_heap.specs.Steps.{refusal_in, read_at, write_at, acquire_at, release_at, fork_by, fork_at, join_by, join_at, live_kind, kind_in}
 
 -- the refusal if there is one, or else the operation
 abbrev kind_or : Kind → Option Refusal → Result Kind Refusal
@@ -140,6 +140,31 @@ pub admission-kind_in : (heap : Contents) (trace : List Event) (t : ThreadId) (a
 admission-kind_in heap trace t action stands = ap (event_by t) (kind_in-refusal_of heap trace stands t action) ∙ joined (refusal_of (bounds_of heap) trace t.0 (kind_for trace action))
   where
     joined : (o : Option Refusal) → event_by t (kind_or (kind_for trace action) o) ≡ unless_refused o (event_for trace t action)
+    joined (Some refusal) = refl
+    joined None = refl
+
+-- ---- why an operation is refused
+
+-- what a read read plays no part
+refusal_of-asked : (bounds : Bounds) (trace : List Event) (t : ℕ) (k : Kind) → refusal_of bounds trace t (kind_for trace (action_of k)) ≡ refusal_of bounds trace t k
+unfolding refusal_of
+refusal_of-asked bounds trace t (kind.Read x v) = refl
+refusal_of-asked bounds trace t (kind.Write x v) = refl
+refusal_of-asked bounds trace t (kind.Acquire m) = refl
+refusal_of-asked bounds trace t (kind.Release m) = refl
+refusal_of-asked bounds trace t (kind.Begin l) = refl
+refusal_of-asked bounds trace t kind.End = refl
+refusal_of-asked bounds trace t (kind.Fork u) = refl
+refusal_of-asked bounds trace t (kind.Join u) = refl
+refusal_of-asked bounds trace t kind.Exit = refl
+
+pub refusal_in-kind_in : (heap : Contents) (trace : List Event) (e : Event) → IsHeapOf heap trace → refusal_in (kind_in heap e.thread (action_of e.kind)) ≡ refusal_of (bounds_of heap) trace e.thread.0 e.kind
+refusal_in-kind_in heap trace e stands =
+    ap refusal_in (kind_in-refusal_of heap trace stands e.thread (action_of e.kind))
+    ∙ (joined (refusal_of (bounds_of heap) trace e.thread.0 (kind_for trace (action_of e.kind)))
+    ∙ refusal_of-asked (bounds_of heap) trace e.thread.0 e.kind)
+  where
+    joined : (o : Option Refusal) → refusal_in (kind_or (kind_for trace (action_of e.kind)) o) ≡ o
     joined (Some refusal) = refl
     joined None = refl
 

@@ -85,6 +85,11 @@ kind_if_live heap t None action = Err NotLive
 abbrev pub kind_in : Contents → ThreadId → Action → Result Kind Refusal
 kind_in heap t action = kind_if_live heap t (slice_get heap.threads t.0) action
 
+-- why it is refused, if it is
+abbrev pub refusal_in : Result Kind Refusal → Option Refusal
+refusal_in (Ok k) = None
+refusal_in (Err refusal) = Some refusal
+
 -- ---- how an operation changes the contents
 
 -- the operation makes no count of the thread wrap, where a thread may hold so many locks

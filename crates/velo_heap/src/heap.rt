@@ -3,7 +3,9 @@ ghost use Rattle.std.specs.Prelude.{◌≡◌, ◌<◌, [], ◌∷◌, ◌++◌,
 ghost use Rattle.velo_events.specs.declared.event.Event.{Event};
 ghost use Rattle.velo_events.specs.Heap.{value_in, holder_in, status_in, depth_in};
 ghost use Rattle.velo_heap.specs.Contents.{bounds_of, IsHeapOf, admission, IsAdmitted};
-ghost use Rattle.velo_heap.specs.Steps.{read_at, write_at, acquire_at, release_at, fork_at, join_at, kind_in, contents_after, CanChange};
+ghost use Rattle.velo_events.specs.Meaning.{refusal_of, action_of, has_its_value};
+ghost use Rattle.velo_events.specs.WellFormed.{NamesKnown};
+ghost use Rattle.velo_heap.specs.Steps.{refusal_in, read_at, write_at, acquire_at, release_at, fork_at, join_at, kind_in, contents_after, CanChange};
 
 use crate::standing::Standing;
 use std::alloc::Global;
@@ -68,7 +70,30 @@ impl Heap {
         Ok(Event { thread, kind })
     }
 
+    /// Why the event's thread may not do its operation now: the first refusal that applies, from `NotLive` (2) to
+    /// `LockHeld` (16). What a read read plays no part.
+    #[inline]
+    pub fn refusal(&self, event: &Event) -> Option<Refusal>
+        ensures { (trace : List Event) → IsHeapOf self.now trace →
+            result ≡ refusal_of (bounds_of self.now) trace event.now.thread.0 event.now.kind }
+    {
+        self.reason(event)
+    }
+
+    /// Whether a read that names a variable has its value; so has any other operation.
+    #[inline]
+    pub fn has_its_value(&self, event: &Event) -> bool
+        ensures { (trace : List Event) → IsHeapOf self.now trace → NamesKnown (bounds_of self.now) event.now.kind →
+            result ≡ has_its_value trace event.now.kind }
+    {
+        match event.kind {
+            Kind::Read(x, value) => self.values.get(usize::from(x.0)).copied() == Some(value),
+            _ => true,
+        }
+    }
+
     /// Does an admitted event.
+    #[inline]
     pub fn apply(&mut self, event: &Event)
         requires { IsAdmitted self.old event.now }
         ensures bounds { bounds_of self.new ≡ bounds_of self.old }
@@ -138,6 +163,31 @@ impl Heap {
         }
     }
 
+    /// Why the operation is refused, by what stands here.
+    #[inline]
+    fn reason(&self, event: &Event) -> Option<Refusal>
+        ensures { result ≡ refusal_in (kind_in self.now event.now.thread (action_of event.now.kind)) }
+    {
+        let Some(own) = self.threads.get(usize::from(event.thread.0)).copied() else {
+            return Some(Refusal::NotLive);
+        };
+        if !own.is_live() {
+            return Some(Refusal::NotLive);
+        }
+        match event.kind {
+            Kind::Read(x, _) => self.admit_read(x).err(),
+            Kind::Write(x, value) => self.admit_write(x, value).err(),
+            Kind::Acquire(m) => self.admit_acquire(event.thread, m).err(),
+            Kind::Release(m) => self.admit_release(event.thread, m).err(),
+            Kind::Begin(label) => own.admit_begin(label).err(),
+            Kind::End => own.admit_end().err(),
+            Kind::Fork(u) => self.admit_fork(u).err(),
+            Kind::Join(u) => self.admit_join(u).err(),
+            Kind::Exit => own.admit_exit().err(),
+        }
+    }
+
+    #[inline]
     fn admit_read(&self, x: VarId) -> Result<Kind, Refusal>
         ensures { result ≡ read_at x (slice_get self.now.values x.0) }
     {
@@ -147,6 +197,7 @@ impl Heap {
         }
     }
 
+    #[inline]
     fn admit_write(&self, x: VarId, value: u64) -> Result<Kind, Refusal>
         ensures { result ≡ write_at x value (slice_get self.now.values x.0) }
     {
@@ -156,6 +207,7 @@ impl Heap {
         }
     }
 
+    #[inline]
     fn admit_acquire(&self, thread: ThreadId, m: LockId) -> Result<Kind, Refusal>
         ensures { result ≡ acquire_at thread m (slice_get self.now.holders m.0) }
     {
@@ -170,6 +222,7 @@ impl Heap {
         }
     }
 
+    #[inline]
     fn admit_release(&self, thread: ThreadId, m: LockId) -> Result<Kind, Refusal>
         ensures { result ≡ release_at thread m (slice_get self.now.holders m.0) }
     {
@@ -186,6 +239,7 @@ impl Heap {
         }
     }
 
+    #[inline]
     fn admit_fork(&self, u: ThreadId) -> Result<Kind, Refusal>
         ensures { result ≡ fork_at u (slice_get self.now.threads u.0) }
     {
@@ -195,6 +249,7 @@ impl Heap {
         }
     }
 
+    #[inline]
     fn admit_join(&self, u: ThreadId) -> Result<Kind, Refusal>
         ensures { result ≡ join_at u (slice_get self.now.threads u.0) }
     {

@@ -1,3 +1,4 @@
 pub mod Places
 pub mod Complete
 pub mod OnLogs
+pub mod OnEntering

@@ -2,7 +2,8 @@
 use Rattle.std.specs.Prelude.{◌≡◌, ◌<◌, ◌≤◌, ℕ, MatchOption, List, length, Option, Some, slice_get, slice_set, replicate}
 use Rattle.velo_events.specs.declared.event.ThreadId.{ThreadId}
 use Rattle.velo_ledger.specs.declared.tally.Tally.{Tally}
-use Rattle.velo_ledger.specs.Tally.{blank}
+use Rattle.velo_events.specs.declared.event.Event.{Event}
+use Rattle.velo_ledger.specs.Tally.{blank, with_event}
 use Rattle.velo_ledger.specs.Views.{Accounts, Holding}
 
 -- a book without events
@@ -20,6 +21,18 @@ with_tally share tally = record share { tally = tally }
 pub record FitsBook (book : Accounts) (share : Holding) : Type 0 where
   pub run : share.run ≡ book.run
   pub row : slice_get book.rows share.thread.0 ≡ Some share.tally
+
+-- the fitting share of the event's thread is at its place, and knows of no event from the position on
+pub record CanEnterAt (book : Accounts) (places : List (Option Holding)) (position : ℕ) (e : Event) : Type 0 where
+  pub share : Holding
+  pub there : slice_get places e.thread.0 ≡ Some (Some share)
+  pub fits : FitsBook book share
+  pub later : share.tally.next ≤ position
+
+-- the event was added to the row of its thread and to the share at its place
+pub record EntersAt (book : Accounts) (places : List (Option Holding)) (position : ℕ) (e : Event) (book' : Accounts) (places' : List (Option Holding)) : Type 0 where
+  pub row : (share : Holding) → slice_get places e.thread.0 ≡ Some (Some share) → book' ≡ with_row book e.thread (with_event share.tally position e)
+  pub share : (share : Holding) → slice_get places e.thread.0 ≡ Some (Some share) → places' ≡ slice_set places e.thread.0 (Some (with_tally share (with_event share.tally position e)))
 
 -- no share is missing at the place, and the share fits
 abbrev pub PlaceFits : Accounts → ℕ → Option Holding → Type 0

@@ -4,7 +4,7 @@ ghost use Rattle.std.specs.Prelude.{◌≡◌, ◌<◌, ◌≤◌, ◌↔◌, So
 ghost use Rattle.std.specs.Option.{SomeIff};
 ghost use Rattle.velo_ledger.specs.Tally.{with_event};
 ghost use Rattle.velo_ledger.specs.Shares.{AreOpening, events_in, events_in_all};
-ghost use Rattle.velo_ledger.specs.Book.{FitsBook, PlaceFits, HasAllShares, with_row, with_tally, opening_accounts};
+ghost use Rattle.velo_ledger.specs.Book.{FitsBook, PlaceFits, HasAllShares, with_row, with_tally, opening_accounts, CanEnterAt, EntersAt};
 
 use crate::share::Share;
 use crate::shares::Shares;
@@ -79,6 +79,7 @@ impl Book {
     }
 
     /// Adds an event to the row and to the share of its thread.
+    #[inline]
     pub fn enter(&mut self, share: &mut Share, position: usize, event: &Event)
         requires fits { FitsBook self.old share.old }
         requires thread { event.now.thread ≡ share.old.thread }
@@ -89,9 +90,22 @@ impl Book {
         ensures fit { FitsBook self.new share.new }
     {
         let place = usize::from(share.thread.0);
-        let row = self.rows[place].with_event(position as u64, event);
-        self.rows[place] = row;
-        share.tally = row;
+        self.rows[place].add(position as u64, event);
+        share.tally.add(position as u64, event);
+    }
+
+    /// Adds an event to the row of its thread and to the share at its thread's place, which stays there.
+    #[inline]
+    pub fn enter_at(&mut self, shares: &mut Shares, position: usize, event: &Event)
+        requires there { CanEnterAt self.old shares.old position event.now }
+        requires room { position < MOST_EVENTS }
+        ensures entered { EntersAt self.old shares.old position event.now self.new shares.new }
+    {
+        let place = usize::from(event.thread.0);
+        match &mut shares.places[place] {
+            Some(share) => self.enter(share, position, event),
+            None => unreachable!(),
+        }
     }
 
     /// The events that the place counts, where no share is missing there and the share fits.

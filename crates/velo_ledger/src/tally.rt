@@ -1,4 +1,4 @@
-ghost use Rattle.std.specs.Prelude.{◌≡◌, ◌<◌, ◌↔◌, IsTrue};
+ghost use Rattle.std.specs.Prelude.{◌≡◌, ◌<◌, ◌≤◌, ◌↔◌, IsTrue};
 ghost use Rattle.velo_events.specs.declared.limits.TheConstants.{MOST_EVENTS};
 
 use velo_events::{Event, Kind};
@@ -34,20 +34,21 @@ impl Tally {
         }
     }
 
-    /// The tally with one event more.
-    pub(crate) fn with_event(&self, position: u64, event: &Event) -> Tally
-        requires small { IsSmall self.now }
+    /// Adds one event.
+    #[inline]
+    pub(crate) fn add(&mut self, position: u64, event: &Event)
+        requires small { IsSmall self.old }
+        requires later { self.old.next ≤ position }
         requires room { position < MOST_EVENTS }
-        ensures { result ≡ with_event self.now position event.now }
+        ensures event { self.new ≡ with_event self.old position event.now }
+        ensures small { IsSmall self.new }
     {
         let (read, written) = amounts(&event.kind);
-        Tally {
-            events: self.events + 1,
-            next: position + 1,
-            last: Some(*event),
-            read_total: self.read_total + u128::from(read),
-            written_total: self.written_total + u128::from(written),
-        }
+        self.events += 1;
+        self.next = position + 1;
+        self.last = Some(*event);
+        self.read_total += u128::from(read);
+        self.written_total += u128::from(written);
     }
 
     /// Whether all five numbers are the same.
@@ -59,6 +60,7 @@ impl Tally {
 }
 
 /// What an operation reads, and what it writes.
+#[inline]
 fn amounts(kind: &Kind) -> (u64, u64)
     ensures read { result.0 ≡ read_by kind.now }
     ensures written { result.1 ≡ written_by kind.now }

@@ -12,5 +12,6 @@ pub mod OnRaised
 pub mod OnClockRoom
 pub mod OnAlone
 pub mod OnNoted
+pub mod OnAdvance
 pub mod OnBlankClocks
 pub mod OnThreads

@@ -11,7 +11,7 @@ use Rattle.velo_tables.specs.Clocks.{Clock}
 abbrev nought : ℕ
 nought = 0
 
-set-again : (xs : List ℕ) (i v w : ℕ) → set (set xs i v) i w ≡ set xs i w
+pub set-again : {X : Type 0} (xs : List X) (i : ℕ) (v w : X) → set (set xs i v) i w ≡ set xs i w
 set-again [] i v w = refl
 set-again (x ∷ xs) zero v w = refl
 set-again (x ∷ xs) (suc i) v w = ap (λ zs. x ∷ zs) (set-again xs i v w)

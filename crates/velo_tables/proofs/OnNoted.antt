@@ -21,7 +21,7 @@ module _ (n : ℕ) (s : ClockState) (sized : IsSized n s) where
   raise-by : (clock : List ℕ) (places : List Clock) (i u : ℕ) → length clock ≡ n → AreWithin n places → get_or (maxima clock (get_or places i blank_clock).known) u 0 ≡ max (get_or clock u 0) (get_or (get_or places i blank_clock).known u 0)
   raise-by clock places i u long within = get_or-raised clock (get_or places i blank_clock).known u (omega (arith, long, within.known i))
 
-  length-joined : (k : Kind) (clock : List ℕ) → length clock ≡ n → length (clock_beside s k clock) ≡ n
+  pub length-joined : (k : Kind) (clock : List ℕ) → length clock ≡ n → length (clock_beside s k clock) ≡ n
   length-joined (Read x v) clock h = length-raised clock _ ∙ h
   length-joined (Write x v) clock h = length-raised (maxima clock (get_or s.writes x.0 blank_clock).known) _ ∙ (length-raised clock _ ∙ h)
   length-joined (Acquire m) clock h = length-raised clock _ ∙ h
@@ -227,7 +227,7 @@ set-within n xs j c within known foreign all = record {
 }
 
 module _ (n : ℕ) (clock : List ℕ) (by : ℕ) (long : length clock ≡ n) (own : by < n) where
-  thread-sized : (s : ClockState) (t : ℕ) → t < n → IsSized n s → IsSized n (with_thread s t (alone_at clock by))
+  pub thread-sized : (s : ClockState) (t : ℕ) → t < n → IsSized n s → IsSized n (with_thread s t (alone_at clock by))
   thread-sized s t there sized = record {
     count = length-set s.threads t (alone_at clock by) ∙ sized.count;
     each = λ u l. set-room n s.threads t u (alone_at clock by) (omega (arith, there, sized.count)) long (length-set clock by 0 ∙ long) (sized.each u l);
@@ -255,7 +255,7 @@ module _ (n : ℕ) (clock : List ℕ) (by : ℕ) (long : length clock ≡ n) (ow
   sized-beside s (Join u) room sized = sized
   sized-beside s Exit room sized = sized
 
-room-kept : (n : ℕ) (s : ClockState) (t : ℕ) (c : Clock) (k : Kind) → HasRoomToNoteBeside n s k → HasRoomToNoteBeside n (with_thread s t c) k
+pub room-kept : (n : ℕ) (s : ClockState) (t : ℕ) (c : Clock) (k : Kind) → HasRoomToNoteBeside n s k → HasRoomToNoteBeside n (with_thread s t c) k
 room-kept n s t c (Read x v) room = room
 room-kept n s t c (Write x v) room = room
 room-kept n s t c (Acquire m) room = room

@@ -152,6 +152,41 @@ impl PlaceClock {
         clock.copy_from_slice(&self.known);
     }
 
+    /// What the events know.
+    pub fn known(&self) -> &[u32]
+        ensures { result.now ≡ self.now.known }
+    {
+        &self.known
+    }
+
+    /// The next event of the thread stands here alone, and knows this too.
+    pub fn raise_by(&mut self, others: &[u32], by: ThreadId)
+        requires { length others.now ≤ length self.old.known }
+        ensures { self.new ≡ alone_at (maxima self.old.known others.now) by.0 }
+    {
+        raise(&mut self.known, others);
+        self.shared = false;
+        self.by = by;
+    }
+
+    /// The next event of the thread stands here alone.
+    pub fn stand_alone(&mut self, by: ThreadId)
+        ensures { self.new ≡ alone_at self.old.known by.0 }
+    {
+        self.shared = false;
+        self.by = by;
+    }
+
+    /// An event of the thread stands here alone, and knows itself by this number.
+    pub fn tick(&mut self, by: ThreadId, number: u32)
+        requires { by.0 < length self.old.known }
+        ensures { self.new ≡ alone_at (slice_set self.old.known by.0 number) by.0 }
+    {
+        self.known[by.0 as usize] = number;
+        self.shared = false;
+        self.by = by;
+    }
+
     /// Raises what an event knows by what the events here know.
     pub fn join_to(&self, clock: &mut [u32])
         requires { length self.now.known ≤ length clock.old }

@@ -2,8 +2,8 @@ ghost use Rattle.velo_events.specs.Refusals.{GrowthRefused};
 ghost use Rattle.std.specs.Prelude.{◌≡◌, ◌<◌, ◌≤◌, ◌+◌, ◌^◌, [], length, slice_index_or, slice_set, replicate, IfOk, OnOk, OnErr};
 ghost use Rattle.velo_tables.specs.Readers.{filled_up};
 ghost use Rattle.velo_events.specs.Event.{thread_of};
-ghost use Rattle.velo_tables.specs.Clocks.{blank_clock, blame_bound, KnowsNothing, KnowsTheSame};
-ghost use Rattle.velo_tables.specs.Noted.{maxima, alone_at, joint_at, with_room, joined_clock, state_after, HasRoomAt, AreWithin, KeepNumbers, IsSized, HasRoomToNote, IsOfThreads};
+ghost use Rattle.velo_tables.specs.Clocks.{blank_clock, clock_at, OfLast, blame_bound, KnowsNothing, KnowsTheSame};
+ghost use Rattle.velo_tables.specs.Noted.{maxima, alone_at, joint_at, with_room, with_thread, clock_beside, joined_clock, state_after_beside, state_after, HasRoomAt, AreWithin, KeepNumbers, IsSized, HasRoomToNote, IsOfThreads};
 
 use crate::clock_place::PlaceClock;
 use std::alloc::Global;
@@ -129,6 +129,71 @@ fn add_place(places: &mut [PlaceClock], number: usize, clock: &[u32], by: Thread
     place.add(clock, by);
 }
 
+/// The thread knows what the events of the place with this number know.
+fn raise_thread(threads: &mut [PlaceClock], t: ThreadId, places: &[PlaceClock], number: usize)
+    requires own { t.0 < length threads.old }
+    requires within { AreWithin (length (slice_index_or threads.old t.0 blank_clock).known) places.now }
+    ensures { threads.new ≡ slice_set threads.old t.0 (alone_at (maxima (slice_index_or threads.old t.0 blank_clock).known (slice_index_or places.now number blank_clock).known) t.0) }
+{
+    let own = &mut threads[t.0 as usize];
+    if number < places.len() {
+        own.raise_by(places[number].known(), t);
+    } else {
+        own.stand_alone(t);
+    }
+}
+
+/// The thread knows what the events of both places with this number know.
+fn raise_by_both(
+    threads: &mut [PlaceClock],
+    t: ThreadId,
+    writes: &[PlaceClock],
+    reads: &[PlaceClock],
+    number: usize,
+)
+    requires own { t.0 < length threads.old }
+    requires writes { AreWithin (length (slice_index_or threads.old t.0 blank_clock).known) writes.now }
+    requires reads { AreWithin (length (slice_index_or threads.old t.0 blank_clock).known) reads.now }
+    ensures { threads.new ≡ slice_set threads.old t.0 (alone_at (maxima (maxima (slice_index_or threads.old t.0 blank_clock).known (slice_index_or writes.now number blank_clock).known) (slice_index_or reads.now number blank_clock).known) t.0) }
+{
+    raise_thread(threads, t, writes, number);
+    raise_thread(threads, t, reads, number);
+}
+
+/// The thread's last event is one that it knows by this number.
+fn tick_thread(threads: &mut [PlaceClock], t: ThreadId, number: u32)
+    requires own { t.0 < length threads.old }
+    requires by { t.0 < length (slice_index_or threads.old t.0 blank_clock).known }
+    ensures { threads.new ≡ slice_set threads.old t.0 (alone_at (slice_set (slice_index_or threads.old t.0 blank_clock).known t.0 number) t.0) }
+{
+    threads[t.0 as usize].tick(t, number);
+}
+
+/// The thread knows what the other one knows.
+fn join_threads(threads: &mut [PlaceClock], t: ThreadId, u: ThreadId, list: &mut [u32])
+    requires own { t.0 < length threads.old }
+    requires room { HasRoomAt (length list.old) threads.old t.0 }
+    requires by { t.0 < length list.old }
+    requires within { AreWithin (length list.old) threads.old }
+    ensures { threads.new ≡ slice_set threads.old t.0 (alone_at (maxima (slice_index_or threads.old t.0 blank_clock).known (slice_index_or threads.old u.0 blank_clock).known) t.0) }
+{
+    threads[t.0 as usize].copy_to(list);
+    join_place(list, threads, u.0 as usize);
+    replace_place(threads, t.0 as usize, list, t);
+}
+
+/// The other thread knows what the thread knows.
+fn copy_thread(threads: &mut [PlaceClock], t: ThreadId, u: ThreadId, list: &mut [u32])
+    requires own { t.0 < length threads.old }
+    requires all { length (slice_index_or threads.old t.0 blank_clock).known ≡ length list.old }
+    requires room { HasRoomAt (length list.old) threads.old u.0 }
+    requires by { t.0 < length list.old }
+    ensures { threads.new ≡ slice_set threads.old u.0 (alone_at (slice_index_or threads.old t.0 blank_clock).known t.0) }
+{
+    threads[t.0 as usize].copy_to(list);
+    replace_place(threads, u.0 as usize, list, t);
+}
+
 impl PlaceClocks {
     /// Places of that many threads, at which nothing is known.
     pub fn new(alloc: Global, threads: usize) -> Result<PlaceClocks, Memory>
@@ -164,44 +229,67 @@ impl PlaceClocks {
         }
     }
 
-    /// Writes down what the event at the position knows.
-    #[tactic(auto, unfolding(crate::specs::Noted::joined_clock))]
-    pub fn join(&self, clock: &mut [u32], position: u32, event: &Event)
-        requires sized { IsSized (length clock.old) self.now }
-        requires own { thread_of event.now < length clock.old }
+    /// Notes the event at the position. The list is for what it needs to write down.
+    pub fn note(&mut self, list: &mut [u32], position: u32, event: &Event)
+        requires sized { IsSized (length list.old) self.old }
+        requires room { HasRoomToNote (length list.old) self.old event.now }
         requires fits { position + 1 < 2 ^ 32 }
-        ensures { clock.new ≡ joined_clock self.now position event.now }
+        ensures { self.new ≡ state_after self.old (joined_clock self.old position event.now) event.now }
     {
-        self.threads[event.thread.0 as usize].copy_to(clock);
-        match event.kind {
-            Kind::Read(x, _) => join_place(clock, &self.writes, x.0 as usize),
-            Kind::Write(x, _) => {
-                join_place(clock, &self.writes, x.0 as usize);
-                join_place(clock, &self.reads, x.0 as usize);
-            }
-            Kind::Acquire(m) | Kind::Release(m) => join_place(clock, &self.locks, m.0 as usize),
-            Kind::Join(u) => join_place(clock, &self.threads, u.0 as usize),
-            _ => {}
-        }
-        clock[event.thread.0 as usize] = position + 1;
+        self.advance(list, position, event);
+        self.spread(list, event);
     }
 
-    /// Notes the event, which knows this.
-    #[tactic(auto, unfolding(crate::specs::Noted::state_after))]
-    pub fn note(&mut self, clock: &[u32], event: &Event)
-        requires sized { IsSized (length clock.now) self.old }
-        requires room { HasRoomToNote (length clock.now) self.old event.now }
-        ensures { self.new ≡ state_after self.old clock.now event.now }
+    /// The thread of the event at the position knows what the event does.
+    fn advance(&mut self, list: &mut [u32], position: u32, event: &Event)
+        requires sized { IsSized (length list.old) self.old }
+        requires own { thread_of event.now < length list.old }
+        requires fits { position + 1 < 2 ^ 32 }
+        ensures { self.new ≡ with_thread self.old (thread_of event.now) (alone_at (joined_clock self.old position event.now) (thread_of event.now)) }
+    {
+        self.gather(list, event);
+        tick_thread(&mut self.threads, event.thread, position + 1);
+    }
+
+    /// The thread of the event knows what the events at the places beside know.
+    fn gather(&mut self, list: &mut [u32], event: &Event)
+        requires sized { IsSized (length list.old) self.old }
+        requires own { thread_of event.now < length list.old }
+        ensures { self.new ≡ with_thread self.old (thread_of event.now) (alone_at (clock_beside self.old event.now.kind (clock_at self.old (OfLast (thread_of event.now))).known) (thread_of event.now)) }
+    {
+        let t = event.thread;
+        match event.kind {
+            Kind::Read(x, _) => raise_thread(&mut self.threads, t, &self.writes, x.0 as usize),
+            Kind::Write(x, _) => raise_by_both(
+                &mut self.threads,
+                t,
+                &self.writes,
+                &self.reads,
+                x.0 as usize,
+            ),
+            Kind::Acquire(m) | Kind::Release(m) => {
+                raise_thread(&mut self.threads, t, &self.locks, m.0 as usize)
+            }
+            Kind::Join(u) => join_threads(&mut self.threads, t, u, list),
+            _ => self.threads[t.0 as usize].stand_alone(t),
+        }
+    }
+
+    /// The places beside know what the thread of the event knows.
+    fn spread(&mut self, list: &mut [u32], event: &Event)
+        requires sized { IsSized (length list.old) self.old }
+        requires room { HasRoomToNote (length list.old) self.old event.now }
+        ensures { self.new ≡ state_after_beside self.old (thread_of event.now) event.now.kind (clock_at self.old (OfLast (thread_of event.now))).known }
     {
         let by = event.thread;
-        replace_place(&mut self.threads, by.0 as usize, clock, by);
+        let clock = self.threads[by.0 as usize].known();
         match event.kind {
             Kind::Read(x, _) => add_place(&mut self.reads, x.0 as usize, clock, by),
             Kind::Write(x, _) => replace_place(&mut self.writes, x.0 as usize, clock, by),
             Kind::Acquire(m) | Kind::Release(m) => {
                 replace_place(&mut self.locks, m.0 as usize, clock, by)
             }
-            Kind::Fork(u) => replace_place(&mut self.threads, u.0 as usize, clock, by),
+            Kind::Fork(u) => copy_thread(&mut self.threads, by, u, list),
             _ => {}
         }
     }

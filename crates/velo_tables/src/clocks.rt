@@ -14,7 +14,7 @@ use velo_events::{Config, Event, Memory};
 #[derive(Debug, Drop)]
 pub struct ClockTables {
     places: PlaceClocks,
-    /// The clock of the event that is being noted, so that noting takes no memory.
+    /// For the clock of an event that forks or joins, so that noting takes no memory.
     clock: Vec<u32>,
 }
 
@@ -62,8 +62,7 @@ impl ClockTables {
         ensures noted { IsNoted self.old position event.now self.new }
         ensures threads { length self.new.threads ≡ length self.old.threads }
     {
-        self.places.join(&mut self.clock, position, event);
-        self.places.note(&self.clock, event);
+        self.places.note(&mut self.clock, position, event);
     }
 
     /// The open blocks of the event's thread that begin below it are to blame.

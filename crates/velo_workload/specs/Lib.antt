@@ -6,3 +6,4 @@ pub mod Tally
 pub mod Known
 pub mod Program
 pub mod Building
+pub mod Bodies

@@ -1,5 +1,6 @@
 pub mod OnAlarms
 pub mod OnRuns
+pub mod OnCourses
 pub mod OnAnswers
 pub mod OnHoldings
 pub mod OnSteps
@@ -7,3 +8,4 @@ pub mod OnWorlds
 pub mod OnSequences
 pub mod OnClosing
 pub mod OnReadiness
+pub mod OnRelived

@@ -1,9 +1,10 @@
 -- The alarm of a log with one more event.
-use Rattle.std.proofs.Common.{◌≡◌, ℕ, zero, suc, ◌+◌, ◌<◌, List, [], ◌∷◌, ◌++◌, length, take, take_all, map, Option, Some, None, refl, sym, ap, ◌∙◌, subst, arith}
-use Rattle.std.specs.Prelude.{IsTrue, IsFalse, IfNone, IfSome, is_some, ◌↔◌, Contains}
+use Rattle.std.proofs.Common.{◌≡◌, ℕ, suc, ◌+◌, ◌<◌, List, [], ◌∷◌, ◌++◌, length, take, length-take, map, Option, Some, None, refl, sym, ap, ◌∙◌, subst, arith}
+use Rattle.std.specs.Prelude.{slice_get, IsTrue, IsFalse, IfNone, IfSome, is_some, ◌↔◌, Contains}
 use Rattle.std.specs.Option.{option_map_or}
 use Rattle.std.proofs.lemmas.List.{take-append-le, length-take-le}
 use Rattle.std.proofs.lemmas.Bool.{false≢true}
+use Rattle.std.proofs.lemmas.Option.{slice_get_within}
 use Rattle.velo_events.specs.declared.event.Event.{Event}
 use Rattle.velo_events.specs.Block.{owner}
 use Rattle.velo_events.specs.Graph.{HasCycle, IsClosing}
@@ -19,7 +20,6 @@ use Rattle.velo_events.proofs.OnGraphs.{IsClosing-push, IsClosing-append, HasCyc
 use Rattle.velo_events.proofs.OnSerializing.{serializable_law, serializable_law-none}
 use Rattle.velo_world.specs.declared.run.Alarm.{Alarm}
 use Rattle.velo_world.specs.World.{IsAlarm, AlarmOf}
-use Rattle.velo_world.specs.Run.{IsWatched}
 
 -- ---- the blocks of an alarm in a longer log
 
@@ -55,10 +55,18 @@ AlarmOf-stays log e (Some a) some h = record {
   blocks = h.blocks ∙ sym (blocks-push log e (begins_of a.blamed.items) (blamed-within log a.position (begins_of a.blamed.items) h.closing.in_trace h.blamed));
 }
 
--- the event that closes the first cycle
-pub IsWatched-closing : (log : List Event) (e : Event) (alarm : Option Alarm) (transaction : ℕ) → ¬ HasCycle log → HasCycle (log ++ e ∷ []) → transaction ≡ owner (log ++ e ∷ []) (length log) → IsWatched (log ++ e ∷ []) alarm (length log) (Some transaction)
-IsWatched-closing log e alarm transaction none some of =
-    (IsClosing-push log e none some, subst (λ xs. ¬ HasCycle xs) (sym (take-append-le (length log) log (e ∷ []) (omega arith) ∙ take_all (length log) log (omega arith))) none, of)
+-- the alarm of the event that closes the first cycle
+pub IsAlarm-closing : (log : List Event) (e : Event) (alarm : Alarm) → ¬ HasCycle log → HasCycle (log ++ e ∷ []) → alarm.position ≡ length log → alarm.transaction ≡ owner (log ++ e ∷ []) alarm.position → AreBlamedAt (log ++ e ∷ []) alarm.position (begins_of alarm.blamed.items) → alarm.blamed.items ≡ map (block_at (log ++ e ∷ [])) (begins_of alarm.blamed.items) → IsAlarm (log ++ e ∷ []) alarm
+IsAlarm-closing log e alarm none some here of blamed blocks = record {
+  closing = subst (IsClosing (log ++ e ∷ [])) (sym here) (IsClosing-push log e none some);
+  transaction = of;
+  blamed = blamed;
+  blocks = blocks;
+}
+
+-- so many events stand before a position
+pub length-before : (log : List Event) (i : ℕ) (e : Event) → slice_get log i ≡ Some e → length (take i log) ≡ i
+length-before log i e here = let within : i < length log = slice_get_within log i e here in omega (arith, length-take i log, within)
 
 pub no_alarm : (log : List Event) (alarm : Option Alarm) → IsFalse (is_some alarm) → AlarmOf log alarm → ¬ HasCycle log
 no_alarm log None none h = h

@@ -1,7 +1,8 @@
 -- The event that an action is may follow the log.
-use Rattle.std.proofs.Common.{◌≡◌, Bool, true, false, List, length, Option, Some, None, Ok, Err, refl, sym, subst}
-use Rattle.std.specs.Prelude.{◌<◌, ◌&&◌, if◌then◌else◌, nat_le, nat_lt, Result, IsTrue, IsFalse}
-use Rattle.std.proofs.lemmas.Bool.{leb-false, ltb-true, not_from_false}
+use Rattle.std.proofs.Common.{◌≡◌, List, Bool, true, false, length, Option, Some, None, Ok, Err, refl, sym, subst}
+use Rattle.std.specs.Prelude.{◌<◌, ◌&&◌, not, if◌then◌else◌, nat_le, nat_lt, Result, IsTrue, IsFalse}
+use Rattle.std.proofs.lemmas.Bool.{leb-false, ltb-true, not_from_false, false≢true}
+use Rattle.velo_events.proofs.OnStatuses.{is_Live}
 use Rattle.velo_events.specs.declared.event.Action.{Action}
 use Rattle.velo_events.specs.declared.event.Event.{Event}
 use Rattle.velo_events.specs.declared.event.ThreadId.{ThreadId}
@@ -11,7 +12,7 @@ use Rattle.velo_events.specs.declared.event.Status.{Status}
 use Rattle.velo_events.specs.declared.event.Status.TheVariants.{Unborn, Live, Exited, Joined}
 use Rattle.velo_events.specs.Heap.{status_in}
 use Rattle.velo_events.specs.WellFormed.{MayFollow, IsWellFormed}
-use Rattle.velo_events.specs.Meaning.{kind_for, event_for, refusal_of, HasItsValue, is_live}
+use Rattle.velo_events.specs.Meaning.{action_of, kind_for, event_for, refusal_of, is_live}
 use Rattle.velo_events.proofs.OnMeaning.{MayFollow-refusal_of, HasItsValue-kind_for}
 use Rattle.velo_world.specs.World.{WorldState, meaning, IsLiveThread}
 
@@ -82,3 +83,34 @@ meaning-going w t action e h = at (refusal_of w.config.bounds w.log t.0 (kind_fo
     at : (o : Option Refusal) → refusal_of w.config.bounds w.log t.0 (kind_for w.log action) ≡ o → IsFalse w.halted
     at (Some r) is = absurd (refused w.halted r e (rw is at h))
     at None is = going_by w.halted (nat_le w.config.events (length w.log)) (event_for w.log t action) e (rw is at h)
+
+-- and its thread is live
+first_passed : (b : Bool) (rest : Option Refusal) → (if not b then Some NotLive else rest) ≡ None → IsTrue b
+first_passed true rest h = refl
+first_passed false rest h = cc
+
+both : (a b : Bool) → IsTrue (a && b) → IsTrue a × IsTrue b
+both true b h = (refl, h)
+both false b h = absurd (false≢true h)
+
+pub meaning-live : (w : WorldState) (t : ThreadId) (action : Action) (e : Event) → meaning w t action ≡ Ok e → IsLiveThread w t.0
+unfolding refusal_of
+meaning-live w t action e h = at (refusal_of w.config.bounds w.log t.0 (kind_for w.log action)) refl
+  where
+    at : (o : Option Refusal) → refusal_of w.config.bounds w.log t.0 (kind_for w.log action) ≡ o → IsLiveThread w t.0
+    at (Some r) is = absurd (refused w.halted r e (rw is at h))
+    at None is =
+        let parts = both (nat_lt t.0 w.config.bounds.threads) (is_live (status_in w.log t.0)) (first_passed _ _ is) in
+        (ltb-true _ _ parts.0, is_Live (status_in w.log t.0) parts.1)
+
+-- the action that asks for what an action means is this action
+pub action_of-kind_for : (log : List Event) (action : Action) → action_of (kind_for log action) ≡ action
+action_of-kind_for log (Action.Read x) = refl
+action_of-kind_for log (Action.Write x v) = refl
+action_of-kind_for log (Action.Acquire m) = refl
+action_of-kind_for log (Action.Release m) = refl
+action_of-kind_for log (Action.Begin l) = refl
+action_of-kind_for log Action.End = refl
+action_of-kind_for log (Action.Fork u) = refl
+action_of-kind_for log (Action.Join u) = refl
+action_of-kind_for log Action.Exit = refl

@@ -1,5 +1,5 @@
 -- The events that the monitor of a run took in.
-use Rattle.std.proofs.Common.{◌≡◌, ℕ, ◌+◌, ◌<◌, ◌≤◌, List, [], ◌∷◌, ◌++◌, length, take, take_all, map, Option, Some, None, Result, Ok, Err, refl, sym, ap, ◌∙◌, subst, arith, inl, inr, ⊎_elim}
+use Rattle.std.proofs.Common.{◌≡◌, ℕ, ◌≤◌, List, [], ◌∷◌, ◌++◌, length, take, take_all, Option, Some, None, Result, Ok, Err, refl, sym, ap, ◌∙◌, subst, arith, inl, inr, ⊎_elim}
 use Rattle.std.specs.Prelude.{IsTrue, IsFalse, is_some, filter_map, OnOk}
 use Rattle.std.proofs.lemmas.Bool.{false≢true}
 use Rattle.std.proofs.lemmas.List.{take-append-le}
@@ -7,8 +7,7 @@ use Rattle.std.proofs.lemmas.List.Sums.{count_by-le-length}
 use Rattle.velo_events.specs.declared.config.Bounds.{Bounds}
 use Rattle.velo_events.specs.declared.event.Event.{Event}
 use Rattle.velo_events.specs.Collection.{HasManyLive}
-use Rattle.velo_events.specs.Graph.{HasCycle, IsClosing}
-use Rattle.velo_events.specs.WellFormed.{MayFollow}
+use Rattle.velo_events.specs.Graph.{HasCycle}
 use Rattle.velo_events.proofs.OnGraphs.{IsClosing-unique, HasCycle-from_closing}
 use Rattle.velo_events.specs.Merge.{GetsNew}
 use Rattle.velo_arena.specs.Slots.{Slots, used_in, limit_of}
@@ -19,8 +18,11 @@ use Rattle.velo_merge.specs.Named.{live_stamps, HasFinished, IsAncestor}
 use Rattle.velo_monitor.specs.Watched.{Watched, IsMonitorOf}
 use Rattle.velo_monitor.specs.Answers.{NeedsNode}
 use Rattle.velo_world.specs.declared.run.Alarm.{Alarm}
-use Rattle.velo_world.specs.World.{AlarmOf, IsWatchedPart}
-use Rattle.velo_world.specs.Run.{events_watched, HasSlotFor, HasRoomForNext}
+use Rattle.velo_tables.specs.Clocks.{AreClocksOf}
+use Rattle.velo_tables.specs.Noted.{HasRoomToNote}
+use Rattle.velo_world.specs.World.{IsAlarm, AlarmOf, IsWatchedPart}
+use Rattle.velo_world.specs.Run.{events_watched, IsWatched, HasSlotFor, HasRoomForNext}
+use Rattle.velo_world.proofs.OnAlarms.{AlarmOf-stays, AlarmOf-quiet}
 use Rattle.velo_world.specs.declared.run.Run.{Run}
 
 pub alarm-none : (alarm : Option Alarm) → IsFalse (is_some alarm) → alarm ≡ None
@@ -75,13 +77,62 @@ NeedsNode-reserved old new trace e nodes same needs =
           (subst (λ steps. GetsNew (HasFinished new.nodes) (IsAncestor new.nodes) (live_stamps new.nodes steps)) (steps-reserved old.kept new.kept e same) outside.1),
     )) needs
 
-pub room-reserved : {T E : Type 0} (old new : Run) (e : Event) (bounds : Bounds) (reserved : Result T E) → new.alarm ≡ old.alarm → new.log.events ≡ old.log.events → 0 < new.log.room → new.monitor.nodes ≡ old.monitor.nodes → ((p : Place) → entry new.monitor.kept p ≡ entry old.monitor.kept p) → HasSlotFor old e → IsMonitorOf bounds old.monitor old.log.events → MayFollow bounds old.log.events e → OnOk reserved ((b : Bounds) (trace : List Event) → IsMonitorOf b old.monitor trace → MayFollow b trace e → HasRoomFor new.monitor.kept e) → OnOk reserved (HasRoomForNext new e)
-room-reserved old new e bounds (Err x) alarm log room nodes entries slot stands follows made = tt
-room-reserved old new e bounds (Ok x) alarm log room nodes entries slot stands follows made = record {
-  log = room;
-  monitor = λ _. made bounds old.log.events stands follows;
-  slot = record {
-    slot = λ none needs.
-        rw nodes (slot.slot (sym alarm ∙ none) (NeedsNode-reserved old.monitor new.monitor old.log.events e nodes entries (subst (λ trace. NeedsNode new.monitor trace e) log needs)));
-  };
+pub OnOk-then : {T E : Type 0} (result : Result T E) (P Q : Type 0) → OnOk result P → (P → Q) → OnOk result Q
+OnOk-then (Ok x) P Q h f = f h
+OnOk-then (Err x) P Q h f = tt
+
+-- the event that may come next finds room, where room was made for it
+pub room-reserved : (old new : Run) (trace : List Event) (e : Event) → new.alarm ≡ old.alarm → new.monitor.nodes ≡ old.monitor.nodes → ((p : Place) → entry new.monitor.kept p ≡ entry old.monitor.kept p) → HasSlotFor old trace e → HasRoomFor new.monitor.kept e → HasRoomToNote new.clocks.bounds.threads new.clocks.state e → HasRoomForNext new trace e
+room-reserved old new trace e alarm nodes entries slot monitor clocks = record {
+  monitor = λ _. monitor;
+  clocks = λ _. clocks;
+  slot = record { slot = λ none needs. rw nodes (slot.slot (sym alarm ∙ none) (NeedsNode-reserved old.monitor new.monitor trace e nodes entries needs)) };
 }
+
+pub room-alarmed : (run : Run) (trace : List Event) (e : Event) → IsTrue (is_some run.alarm) → HasRoomForNext run trace e
+room-alarmed run trace e some = record {
+  monitor = λ none. absurd (alarm-not_none run.alarm some none);
+  clocks = λ none. absurd (alarm-not_none run.alarm some none);
+  slot = record { slot = λ none. absurd (alarm-not_none run.alarm some none) };
+}
+
+-- ---- what monitor and clocks saw
+
+-- after an alarm they see nothing
+pub IsWatched-stays : (run : Run) (bounds : Bounds) (trace : List Event) (e : Event) → IsTrue (is_some run.alarm) → IsWatched run bounds trace → IsWatched run bounds (trace ++ e ∷ [])
+IsWatched-stays run bounds trace e some is =
+    let same = sym (events_watched-stays trace e run.alarm some is.alarm) in
+    record {
+      alarm = AlarmOf-stays trace e run.alarm some is.alarm;
+      monitor = subst (IsMonitorOf bounds run.monitor) same is.monitor;
+      clocks = subst (AreClocksOf run.clocks.state) same is.clocks;
+      bounds_are = is.bounds_are;
+    }
+
+-- before it they stand for the same events
+pub monitor-quiet : (run : Run) (bounds : Bounds) (trace : List Event) → IsFalse (is_some run.alarm) → IsWatched run bounds trace → IsMonitorOf bounds run.monitor trace
+monitor-quiet run bounds trace quiet is = subst (IsMonitorOf bounds run.monitor) (events_watched-none trace run.alarm quiet) is.monitor
+
+pub clocks-quiet : (run : Run) (bounds : Bounds) (trace : List Event) → IsFalse (is_some run.alarm) → IsWatched run bounds trace → AreClocksOf run.clocks.state trace
+clocks-quiet run bounds trace quiet is = subst (AreClocksOf run.clocks.state) (events_watched-none trace run.alarm quiet) is.clocks
+
+pub IsWatched-quiet : (run : Run) (bounds : Bounds) (trace : List Event) → IsFalse (is_some run.alarm) → ¬ HasCycle trace → IsMonitorOf bounds run.monitor trace → AreClocksOf run.clocks.state trace → run.clocks.bounds ≡ bounds → IsWatched run bounds trace
+IsWatched-quiet run bounds trace quiet acyclic monitor clocks bounds_are =
+    let same = sym (events_watched-none trace run.alarm quiet) in
+    record {
+      alarm = AlarmOf-quiet trace run.alarm quiet acyclic;
+      monitor = subst (IsMonitorOf bounds run.monitor) same monitor;
+      clocks = subst (AreClocksOf run.clocks.state) same clocks;
+      bounds_are = bounds_are;
+    }
+
+-- at it they stand for the events before
+pub IsWatched-raised : (run : Run) (bounds : Bounds) (trace : List Event) (e : Event) (alarm : Alarm) → run.alarm ≡ Some alarm → alarm.position ≡ length trace → IsAlarm (trace ++ e ∷ []) alarm → IsMonitorOf bounds run.monitor trace → AreClocksOf run.clocks.state trace → run.clocks.bounds ≡ bounds → IsWatched run bounds (trace ++ e ∷ [])
+IsWatched-raised run bounds trace e alarm raised here is monitor clocks bounds_are =
+    let part : events_watched (trace ++ e ∷ []) run.alarm ≡ trace = rw (raised, here) (take-before trace e) in
+    record {
+      alarm = rw raised is;
+      monitor = subst (IsMonitorOf bounds run.monitor) (sym part) monitor;
+      clocks = subst (AreClocksOf run.clocks.state) (sym part) clocks;
+      bounds_are = bounds_are;
+    }

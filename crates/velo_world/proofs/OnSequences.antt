@@ -1,9 +1,9 @@
 -- What a step leaves of the shares at their places, and steps one after another.
-use Rattle.std.proofs.Common.{◌≡◌, ◌≢◌, ℕ, zero, suc, ◌+◌, ◌<◌, Bool, List, [], ◌∷◌, ◌++◌, length, set, length-set, Option, Some, None, Ok, Err, refl, sym, ap, ◌∙◌, subst, arith, ⊎_elim, take, get_or}
+use Rattle.std.proofs.Common.{◌≡◌, ◌≢◌, ℕ, ◌+◌, ◌<◌, Bool, List, [], ◌∷◌, ◌++◌, length, set, length-set, Option, Some, None, Ok, refl, sym, ap, ◌∙◌, subst, arith, ⊎_elim, take, get_or}
 use Rattle.std.specs.Prelude.{slice_get, Result, IfSome, IsTrue, IsFalse}
 use Rattle.std.proofs.lemmas.Bool.{cases_Bool, cases_eq, eq-eqb, eqb-true, eqb-false, false≢true, false_from_ne_true}
-use Rattle.std.proofs.lemmas.List.{set-set, take_more}
-use Rattle.std.proofs.lemmas.Option.{slice_get_within, same_Some}
+use Rattle.std.proofs.lemmas.List.{take_more}
+use Rattle.std.proofs.lemmas.Option.{slice_get_within}
 use Rattle.velo_events.specs.declared.config.Bounds.{Bounds}
 use Rattle.velo_events.specs.declared.event.Event.{Event}
 use Rattle.velo_events.specs.declared.event.Action.{Action}
@@ -18,25 +18,20 @@ use Rattle.velo_events.specs.Heap.{status_in}
 use Rattle.velo_events.specs.WellFormed.{MayFollow, IsWellFormed, NamesKnown}
 use Rattle.velo_events.specs.Meaning.{is_unborn, event_for}
 use Rattle.velo_ledger.specs.Tally.{with_event}
-use Rattle.velo_ledger.specs.Views.{Holding}
-use Rattle.velo_ledger.specs.Book.{IsFilled, with_tally}
+use Rattle.velo_ledger.specs.Views.{Accounts, Holding}
+use Rattle.velo_ledger.specs.Book.{CanEnterAt, EntersAt, IsFilled, with_row, with_tally}
 use Rattle.velo_ledger.specs.Shares.{opening_share, share_at}
 use Rattle.velo_events.proofs.OnLists.{slice_get-set_same, slice_get-set_other}
 use Rattle.velo_world.specs.declared.run.Reply.{Reply}
-use Rattle.velo_world.specs.World.{WorldState, FitsLog, IsUnborn, IsLiveThread, HasShare, HoldsLiveShares, CompletesShares, Acts, with_born, StepsTo, RunsTo}
-use Rattle.velo_world.specs.Kept.{KeepsUnborn, with_share, born_by, Performs}
-use Rattle.velo_world.proofs.OnAnswers.{MayFollow-meaning}
+use Rattle.velo_world.specs.World.{WorldState, meaning, IsBookOf, FitsLog, IsUnborn, IsLiveThread, HasShare, HoldsLiveShares, CompletesShares, Acts, with_born, StepsTo, RunsTo}
+use Rattle.velo_world.specs.Course.{AddsToLog}
+use Rattle.velo_world.specs.Kept.{KeepsUnborn, with_share, taken_by}
+use Rattle.velo_world.proofs.OnAnswers.{event-meaning, meaning-live}
 use Rattle.velo_events.proofs.OnStatuses.{is_Unborn, unborn-before, live-before, unborn-same, actor-born, forked-after, forked-before}
 use Rattle.velo_world.proofs.OnHoldings.{longer, FitsLog-own, FitsLog-other}
-use Rattle.velo_world.proofs.OnSteps.{world_is}
+use Rattle.velo_world.proofs.OnSteps.{world_is, follows-added, thread-added, born-committed, CanEnter-added, IsBookOf-added, Acts-added}
 
 -- ---- places
-
--- a share that is put back where it was taken
-set-back : {X : Type 0} (xs : List X) (k : ℕ) (x : X) → slice_get xs k ≡ Some x → set xs k x ≡ xs
-set-back [] k x is = refl
-set-back (y ∷ xs) zero x is = let same : y ≡ x = same_Some y x is in rw same refl
-set-back (y ∷ xs) (suc k) x is = ap (λ zs. y ∷ zs) (set-back xs k x is)
 
 not_there : (places : List (Option Holding)) (u : ℕ) (share : Holding) → slice_get places u ≡ Some None → slice_get places u ≡ Some (Some share) → ⊥
 not_there places u share none some = let same : ◌≡◌ {A = Option (Option Holding)} (Some None) (Some (Some share)) = sym none ∙ some in cc
@@ -189,38 +184,16 @@ module _ (w : WorldState) (places : List (Option Holding)) (share : Holding) (ac
 
 -- ---- a step
 
-pub born_by-err : (run : ℕ) (action : Action) (refusal : Refusal) → born_by run action (Err refusal) ≡ None
-born_by-err run (Action.Read x) refusal = refl
-born_by-err run (Action.Write x v) refusal = refl
-born_by-err run (Action.Acquire m) refusal = refl
-born_by-err run (Action.Release m) refusal = refl
-born_by-err run (Action.Begin l) refusal = refl
-born_by-err run Action.End refusal = refl
-born_by-err run (Action.Fork u) refusal = refl
-born_by-err run (Action.Join u) refusal = refl
-born_by-err run Action.Exit refusal = refl
-
-born_by-ok : (run : ℕ) (action : Action) (reply : Reply) (places : List (Option Holding)) → with_share places (born_by run action (Ok reply)) ≡ with_born run action places
-born_by-ok run (Action.Read x) reply places = refl
-born_by-ok run (Action.Write x v) reply places = refl
-born_by-ok run (Action.Acquire m) reply places = refl
-born_by-ok run (Action.Release m) reply places = refl
-born_by-ok run (Action.Begin l) reply places = refl
-born_by-ok run Action.End reply places = refl
-born_by-ok run (Action.Fork u) reply places = refl
-born_by-ok run (Action.Join u) reply places = refl
-born_by-ok run Action.Exit reply places = refl
-
-forked_born : (run : ℕ) (action : Action) (reply : Reply) (born : Holding) (log : List Event) (t : ThreadId) → born_by run action (Ok reply) ≡ Some born → IsTrue (is_fork_of born.thread.0 (event_for log t action))
-forked_born run (Action.Read x) reply born log t is = cc
-forked_born run (Action.Write x v) reply born log t is = cc
-forked_born run (Action.Acquire m) reply born log t is = cc
-forked_born run (Action.Release m) reply born log t is = cc
-forked_born run (Action.Begin l) reply born log t is = cc
-forked_born run Action.End reply born log t is = cc
-forked_born run (Action.Fork u) reply born log t is = eq-eqb u.0 born.thread.0 (ap (λ (s : Holding). s.thread.0) (same_Some (opening_share run u.0) born is))
-forked_born run (Action.Join u) reply born log t is = cc
-forked_born run Action.Exit reply born log t is = cc
+with_share-born : (run : ℕ) (kept : List (Option Holding)) (action : Action) (places : List (Option Holding)) → ((child : ThreadId) → action ≡ Action.Fork child → share_at kept child ≡ Some (opening_share run child.0)) → with_share places (taken_by kept action) ≡ with_born run action places
+with_share-born run kept (Action.Read x) places born = refl
+with_share-born run kept (Action.Write x v) places born = refl
+with_share-born run kept (Action.Acquire m) places born = refl
+with_share-born run kept (Action.Release m) places born = refl
+with_share-born run kept (Action.Begin l) places born = refl
+with_share-born run kept Action.End places born = refl
+with_share-born run kept (Action.Fork u) places born = rw (born u refl) refl
+with_share-born run kept (Action.Join u) places born = refl
+with_share-born run kept Action.Exit places born = refl
 
 -- what a step leaves, beside its outcome
 pub record Stepped (w : WorldState) (places : List (Option Holding)) (t : ThreadId) (action : Action) (outcome : Result Reply Refusal) (w' : WorldState) (places' : List (Option Holding)) : Type 0 where
@@ -229,121 +202,98 @@ pub record Stepped (w : WorldState) (places : List (Option Holding)) (t : Thread
   pub filled : (u : ℕ) → IsFilled places u → IsFilled places' u
   pub complete : CompletesShares w places → CompletesShares w' places'
 
-pub Stepped-same : (w : WorldState) (places : List (Option Holding)) (t : ThreadId) (action : Action) (refusal : Refusal) → HoldsLiveShares w places → StepsTo w places t action (Err refusal) w places → Stepped w places t action (Err refusal) w places
-Stepped-same w places t action refusal ready is = record { outcome_is = is; ready = ready; filled = λ u filled. filled; complete = λ complete. complete }
+pub Stepped-from : (w w' : WorldState) (places places' : List (Option Holding)) (share share' : Holding) (action : Action) (reply : Reply) → IsWellFormed w.config.bounds w.log → ((u : ℕ) → u < w.config.bounds.threads → IsTrue (is_unborn (status_in w.log u)) → FitsLog w (opening_share w.config.run u)) → HoldsLiveShares w places → IsLiveThread w share.thread.0 → slice_get places share.thread.0 ≡ Some (Some share) → FitsLog w share → MayFollow w.config.bounds w.log (event_for w.log share.thread action) → Acts w share action (Ok reply) w' share' → places' ≡ with_born w.config.run action (set places share.thread.0 (Some share')) → Stepped w places share.thread action (Ok reply) w' places'
+Stepped-from w w' places places' share share' action reply well opening_fits ready live there fits follows acts put =
+    let world = world_is w w' (event_for w.log share.thread action) acts.1.config acts.1.log in
+    let own = acts.1.holding in
+    record {
+      outcome_is = record { share = share; share' = share'; there = there; own = refl; acts = acts; after = put };
+      ready = rw (put, own, world) (HoldsLiveShares-next w places share action w'.halted well opening_fits ready live there fits follows);
+      filled = rw (put, own) (IsFilled-next w places share action w'.halted well opening_fits ready live there fits follows);
+      complete = rw (put, own, world) (CompletesShares-next w places share action w'.halted well opening_fits ready live there fits follows);
+    }
 
-module _ (w w' : WorldState) (places : List (Option Holding)) (share share' : Holding) (action : Action) (well : IsWellFormed w.config.bounds w.log) (opening_fits : (u : ℕ) → u < w.config.bounds.threads → IsTrue (is_unborn (status_in w.log u)) → FitsLog w (opening_share w.config.run u)) (ready : HoldsLiveShares w places) (live : IsLiveThread w share.thread.0) (there : slice_get places share.thread.0 ≡ Some (Some share)) (fits : FitsLog w share) where
-  same_thread : (outcome : Result Reply Refusal) → Acts w share action outcome w' share' → share'.thread ≡ share.thread
-  same_thread (Ok reply) acts = ap (λ (s : Holding). s.thread) acts.1.holding
-  same_thread (Err refusal) acts = ap (λ (s : Holding). s.thread) acts.holding
-
-  -- the share can be put back where it was taken
-  pub place_of_own : (outcome : Result Reply Refusal) → Acts w share action outcome w' share' → slice_get (set places share.thread.0 None) share'.thread.0 ≡ Some None
-  place_of_own outcome acts =
-      subst (λ (t : ThreadId). slice_get (set places share.thread.0 None) t.0 ≡ Some None) (sym (same_thread outcome acts))
-      (slice_get-set_same places share.thread.0 None (slice_get_within places share.thread.0 (Some share) there))
-
-  put_own : (outcome : Result Reply Refusal) → Acts w share action outcome w' share' → with_share (set places share.thread.0 None) (Some share') ≡ set places share.thread.0 (Some share')
-  put_own outcome acts =
-      subst (λ (t : ThreadId). set (set places share.thread.0 None) t.0 (Some share') ≡ set places share.thread.0 (Some share')) (sym (same_thread outcome acts))
-      (set-set places share.thread.0 None (Some share'))
-
-  follows_in : (reply : Reply) → Acts w share action (Ok reply) w' share' → MayFollow w.config.bounds w.log (event_for w.log share.thread action)
-  follows_in reply acts = MayFollow-meaning w share.thread action (event_for w.log share.thread action) well acts.0
-
-  -- and the share of a forked thread where none is
-  pub place_of_born : (outcome : Result Reply Refusal) → Acts w share action outcome w' share' → (born : Holding) → born_by w.config.run action outcome ≡ Some born → slice_get (with_share (set places share.thread.0 None) (Some share')) born.thread.0 ≡ Some None
-  place_of_born (Err refusal) acts born is = let none = born_by-err w.config.run action refusal in let same : ◌≡◌ {A = Option Holding} None (Some born) = sym none ∙ is in cc
-  place_of_born (Ok reply) acts born is =
-      let fork = forked_born w.config.run action reply born w.log share.thread is in
-      rw (put_own (Ok reply) acts) (place-forked w places share action w'.halted well opening_fits ready live there fits (follows_in reply acts) born.thread.0 (Some share') fork)
-
-  pub Stepped-next : (outcome : Result Reply Refusal) (born : Option Holding) (places' : List (Option Holding)) → Acts w share action outcome w' share' → born ≡ born_by w.config.run action outcome → places' ≡ with_share (with_share (set places share.thread.0 None) (Some share')) born → Stepped w places share.thread action outcome w' places'
-  Stepped-next (Err refusal) born places' acts born_is places_is =
-      let back : places' ≡ places = places_is ∙ (rw (born_is, born_by-err w.config.run action refusal) (put_own (Err refusal) acts ∙ (ap (λ s. set places share.thread.0 (Some s)) acts.holding ∙ set-back places share.thread.0 (Some share) there))) in
-      rw (back, acts.world) (Stepped-same w places share.thread action refusal ready (record { world = refl; holding = refl; cause = acts.cause }))
-  Stepped-next (Ok reply) born places' acts born_is places_is =
-      let event : Event = event_for w.log share.thread action in
-      let follows = follows_in reply acts in
-      let put : places' ≡ with_born w.config.run action (set places share.thread.0 (Some share')) = places_is ∙ rw (born_is, put_own (Ok reply) acts) (born_by-ok w.config.run action reply (set places share.thread.0 (Some share'))) in
-      let world = world_is w w' (event_for w.log share.thread action) acts.1.config acts.1.log in
-      let own = acts.1.holding in
-      record {
-        outcome_is = record { share = share; share' = share'; there = there; own = refl; acts = acts; after = put };
-        ready = rw (put, own, world) (HoldsLiveShares-next w places share action w'.halted well opening_fits ready live there fits follows);
-        filled = rw (put, own) (IsFilled-next w places share action w'.halted well opening_fits ready live there fits follows);
-        complete = rw (put, own, world) (CompletesShares-next w places share action w'.halted well opening_fits ready live there fits follows);
-      }
-
--- the share of a live thread was taken out of its place
-pub record Taken (w : WorldState) (places : List (Option Holding)) (t : ThreadId) (share : Holding) (rest : List (Option Holding)) : Type 0 where
-  pub well : IsWellFormed w.config.bounds w.log
-  pub opening_fits : (u : ℕ) → u < w.config.bounds.threads → IsTrue (is_unborn (status_in w.log u)) → FitsLog w (opening_share w.config.run u)
-  pub ready : HoldsLiveShares w places
-  pub live : IsLiveThread w t.0
-  pub own : share.thread ≡ t
-  pub from_place : Some share ≡ share_at places t
-  pub without : rest ≡ set places t.0 None
-
-pub Taken-from : (w0 w : WorldState) (bounds : Bounds) (kept places rest : List (Option Holding)) (t : ThreadId) (share : Holding) → w0 ≡ w → IsWellFormed bounds w0.log → bounds ≡ w0.config.bounds → KeepsUnborn w0 kept → HoldsLiveShares w places → IsLiveThread w t.0 → share.thread ≡ t → Some share ≡ share_at places t → rest ≡ set places t.0 None → Taken w places t share rest
-Taken-from w0 w bounds kept places rest t share same well bounds_is keeps ready live own from_place without = record {
-  well = subst (λ (v : WorldState). IsWellFormed v.config.bounds v.log) same (subst (λ b. IsWellFormed b w0.log) bounds_is well);
-  opening_fits = subst (λ (v : WorldState). (u : ℕ) → u < v.config.bounds.threads → IsTrue (is_unborn (status_in v.log u)) → FitsLog v (opening_share v.config.run u)) same keeps.fit;
-  ready = ready;
-  live = live;
-  own = own;
-  from_place = from_place;
-  without = without;
-}
-
-module _ (w w' : WorldState) (places : List (Option Holding)) (t : ThreadId) (share share' : Holding) (rest : List (Option Holding)) (action : Action) (outcome : Result Reply Refusal) (taken : Taken w places t share rest) (acts : Acts w share action outcome w' share') where
-  live_own : IsLiveThread w share.thread.0
-  live_own = subst (λ (u : ThreadId). IsLiveThread w u.0) (sym taken.own) taken.live
+-- the event of a live thread was added, by the share at its place
+module _ (w w' : WorldState) (places kept : List (Option Holding)) (t : ThreadId) (action : Action) (e : Event) (reply : Reply) (well : IsWellFormed w.config.bounds w.log) (adds : AddsToLog w t action e reply w') (keeps : KeepsUnborn w kept) (ready : HoldsLiveShares w places) where
+  live_own : IsLiveThread w t.0
+  live_own = meaning-live w t action e adds.due
 
   has_own : HasShare w places t.0
-  has_own = taken.ready.live t.0 taken.live
+  has_own = ready.live t.0 live_own
 
-  share_is : has_own.share ≡ share
-  unfolding has_own
-  share_is = same_Some has_own.share share (sym (let at : share_at places t ≡ Some (taken.ready.live t.0 taken.live).share = rw (taken.ready.live t.0 taken.live).there refl in taken.from_place ∙ at))
+  abbrev own_share : Holding
+  own_share = has_own.share
 
-  there_own : slice_get places share.thread.0 ≡ Some (Some share)
-  unfolding has_own
-  there_own = subst (λ (u : ThreadId). slice_get places u.0 ≡ Some (Some share)) (sym taken.own) (has_own.there ∙ ap (λ (s : Holding). Some (Some s)) share_is)
+  own_is : has_own.share.thread ≡ t
+  own_is = ap (λ n. let named : ThreadId = record { 0 = n } in named) has_own.own
 
-  fits_own : FitsLog w share
-  unfolding has_own
-  fits_own = subst (FitsLog w) share_is has_own.fits
+  live_share : IsLiveThread w has_own.share.thread.0
+  live_share = subst (λ (u : ThreadId). IsLiveThread w u.0) (sym own_is) live_own
 
-  rest_is : rest ≡ set places share.thread.0 None
-  rest_is = taken.without ∙ ap (λ (u : ThreadId). set places u.0 None) (sym taken.own)
+  there_share : slice_get places has_own.share.thread.0 ≡ Some (Some has_own.share)
+  there_share = subst (λ (u : ThreadId). slice_get places u.0 ≡ Some (Some has_own.share)) (sym own_is) has_own.there
 
-  pub put-own : slice_get rest share'.thread.0 ≡ Some None
-  put-own = rw rest_is (place_of_own w w' places share share' action taken.well taken.opening_fits taken.ready live_own there_own fits_own outcome acts)
+  follows_share : MayFollow w.config.bounds w.log (event_for w.log has_own.share.thread action)
+  follows_share = subst (λ (u : ThreadId). MayFollow w.config.bounds w.log (event_for w.log u action)) (sym own_is) (subst (MayFollow w.config.bounds w.log) (event-meaning w t action e adds.due) (follows-added w w' t action e reply well adds))
 
-  pub put-born : (born : Option Holding) (places1 : List (Option Holding)) → born ≡ born_by w.config.run action outcome → places1 ≡ with_share rest (Some share') → IfSome born (λ s. slice_get places1 s.thread.0 ≡ Some None)
-  put-born None places1 born_is places1_is = tt
-  put-born (Some born) places1 born_is places1_is = rw (places1_is, rest_is) (place_of_born w w' places share share' action taken.well taken.opening_fits taken.ready live_own there_own fits_own outcome acts born (sym born_is))
+  thread_is : e.thread ≡ t
+  thread_is = thread-added w w' t action e reply well adds
 
-  pub Stepped-taken : (born : Option Holding) (places1 places2 : List (Option Holding)) → born ≡ born_by w.config.run action outcome → places1 ≡ with_share rest (Some share') → places2 ≡ with_share places1 born → Stepped w places t action outcome w' places2
-  Stepped-taken born places1 places2 born_is places1_is places2_is =
-      subst (λ u. Stepped w places u action outcome w' places2) taken.own
-      (Stepped-next w w' places share share' action taken.well taken.opening_fits taken.ready live_own there_own fits_own outcome born places2 acts born_is
-      (places2_is ∙ ap (λ ps. with_share ps born) (places1_is ∙ ap (λ ps. with_share ps (Some share')) rest_is)))
+  -- the book takes the event by the share at its place
+  pub CanEnterAt-added : (book : Accounts) → IsBookOf w book → CanEnterAt book places reply.position e
+  CanEnterAt-added book is =
+      let can = CanEnter-added w w' t action e reply well adds book has_own.share is has_own.fits (sym own_is) in
+      record {
+        share = has_own.share;
+        there = subst (λ (u : ThreadId). slice_get places u.0 ≡ Some (Some has_own.share)) (sym thread_is) has_own.there;
+        fits = can.0;
+        later = can.2;
+      }
 
--- an action's outcome without the share that it hands out
-abbrev pub outcome_of : Result (Reply × Option Holding) Refusal → Result Reply Refusal
-outcome_of (Ok done) = Ok done.0
-outcome_of (Err refusal) = Err refusal
+  entered : (book book' : Accounts) (places1 : List (Option Holding)) → EntersAt book places reply.position e book' places1 → (book' ≡ with_row book has_own.share.thread (with_event has_own.share.tally reply.position e)) × (places1 ≡ set places has_own.share.thread.0 (Some (with_tally has_own.share (with_event has_own.share.tally reply.position e))))
+  entered book book' places1 enters =
+      let at = subst (λ (u : ThreadId). slice_get places u.0 ≡ Some (Some has_own.share)) (sym thread_is) has_own.there in
+      let same : e.thread ≡ has_own.share.thread = thread_is ∙ sym own_is in (
+        enters.row has_own.share at ∙ ap (λ (u : ThreadId). with_row book u (with_event has_own.share.tally reply.position e)) same,
+        enters.share has_own.share at ∙ ap (λ (u : ThreadId). set places u.0 (Some (with_tally has_own.share (with_event has_own.share.tally reply.position e)))) same,
+      )
 
-pub Acts-performed : (w w' : WorldState) (share share' : Holding) (action : Action) (performed : Result (Reply × Option Holding) Refusal) → Performs w share action performed w' share' → Acts w share action (outcome_of performed) w' share'
-Acts-performed w w' share share' action (Ok done) performs = performs.0
-Acts-performed w w' share share' action (Err refusal) performs = performs
+  pub IsBookOf-stepped : (book book' : Accounts) (places1 : List (Option Holding)) → IsBookOf w book → EntersAt book places reply.position e book' places1 → IsBookOf w' book'
+  IsBookOf-stepped book book' places1 is enters =
+      IsBookOf-added w w' t action e reply well adds book book' has_own.share is has_own.fits (sym own_is) (entered book book' places1 enters).0
 
--- a refused step leaves the share at its place
-pub Stepped-refused : (w w' : WorldState) (places rest places' : List (Option Holding)) (t : ThreadId) (share share' : Holding) (action : Action) (refusal : Refusal) → Taken w places t share rest → Acts w share action (Err refusal) w' share' → places' ≡ with_share rest (Some share') → Stepped w places t action (Err refusal) w' places'
-Stepped-refused w w' places rest places' t share share' action refusal taken acts is =
-    Stepped-taken w w' places t share share' rest action (Err refusal) taken acts None places' places' (sym (born_by-err w.config.run action refusal)) is refl
+  kept_share : (child : ThreadId) → action ≡ Action.Fork child → share_at kept child ≡ Some (opening_share w.config.run child.0)
+  kept_share child is = born-committed w t child e well (subst (λ a. meaning w t a ≡ Ok e) is adds.due) kept keeps
+
+  -- the share of a thread that is forked comes where none is
+  pub place-born : (book book' : Accounts) (places1 : List (Option Holding)) → EntersAt book places reply.position e book' places1 → IfSome (taken_by kept action) (λ s. slice_get places1 s.thread.0 ≡ Some None)
+  place-born book book' places1 enters = by_action action refl
+    where
+      fork : (child : ThreadId) → action ≡ Action.Fork child → slice_get places1 child.0 ≡ Some None
+      fork child is =
+          rw (entered book book' places1 enters).1 (place-forked w places has_own.share action w'.halted well keeps.fit ready live_share there_share has_own.fits follows_share child.0 _
+          (subst (λ a. IsTrue (is_fork_of child.0 (event_for w.log has_own.share.thread a))) (sym is) (eq-eqb child.0 child.0 refl)))
+
+      by_action : (a : Action) → action ≡ a → IfSome (taken_by kept a) (λ s. slice_get places1 s.thread.0 ≡ Some None)
+      by_action (Action.Read x) is = tt
+      by_action (Action.Write x v) is = tt
+      by_action (Action.Acquire m) is = tt
+      by_action (Action.Release m) is = tt
+      by_action (Action.Begin l) is = tt
+      by_action Action.End is = tt
+      by_action (Action.Fork u) is = rw (kept_share u is) (fork u is)
+      by_action (Action.Join u) is = tt
+      by_action Action.Exit is = tt
+
+  pub Stepped-added : (book book' : Accounts) (places1 places2 : List (Option Holding)) → EntersAt book places reply.position e book' places1 → places2 ≡ with_share places1 (taken_by kept action) → Stepped w places t action (Ok reply) w' places2
+  Stepped-added book book' places1 places2 enters places_is =
+      let share = has_own.share in
+      let share' : Holding = with_tally has_own.share (with_event has_own.share.tally reply.position e) in
+      let acts = Acts-added w w' t action e reply well adds share share' has_own.fits (sym own_is) refl in
+      let put : places2 ≡ with_born w.config.run action (set places share.thread.0 (Some share')) =
+      places_is ∙ (with_share-born w.config.run kept action places1 kept_share ∙ ap (with_born w.config.run action) (entered book book' places1 enters).1) in
+      subst (λ u. Stepped w places u action (Ok reply) w' places2) own_is
+      (Stepped-from w w' places places2 share share' action reply well keeps.fit ready live_share there_share has_own.fits follows_share acts put)
 
 -- ---- steps one after another
 

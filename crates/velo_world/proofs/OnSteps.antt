@@ -1,8 +1,6 @@
 -- What an event that was taken in makes of a world.
-use Rattle.std.proofs.Common.{◌≡◌, ℕ, Bool, List, [], ◌∷◌, ◌++◌, length, set, Option, Some, None, Ok, refl, sym, ap, ◌∙◌, subst, arith}
-use Rattle.std.specs.Prelude.{◌&&◌, IsFalse, IfSome}
-use Rattle.std.proofs.lemmas.Option.{same_Some}
-use Rattle.velo_events.specs.declared.config.Config.{Config}
+use Rattle.std.proofs.Common.{◌≡◌, ℕ, ◌≤◌, Bool, List, [], ◌∷◌, ◌++◌, length, set, Option, Some, None, Ok, refl, sym, ap, ◌∙◌, subst, arith}
+use Rattle.std.specs.Prelude.{IsFalse}
 use Rattle.velo_events.specs.declared.event.Event.{Event}
 use Rattle.velo_events.specs.declared.event.Action.{Action}
 use Rattle.velo_events.specs.declared.event.ThreadId.{ThreadId}
@@ -11,13 +9,14 @@ use Rattle.velo_events.specs.WellFormed.{MayFollow, IsWellFormed}
 use Rattle.velo_events.specs.Meaning.{event_for}
 use Rattle.velo_ledger.specs.Tally.{with_event}
 use Rattle.velo_ledger.specs.Views.{Accounts, Holding}
-use Rattle.velo_ledger.specs.Book.{with_row, with_tally}
+use Rattle.velo_ledger.specs.Book.{FitsBook, with_row, with_tally}
 use Rattle.velo_ledger.specs.Shares.{opening_share, share_at}
 use Rattle.velo_world.specs.declared.run.Reply.{Reply}
-use Rattle.velo_world.specs.World.{WorldState, meaning, FitsLog, OthersStillFit, IsBookOf, IsNoFork, Replies, AddsEvent, Acts}
-use Rattle.velo_world.specs.Kept.{KeepsUnborn, taken_by, left_by, born_by}
+use Rattle.velo_world.specs.World.{WorldState, meaning, FitsLog, OthersStillFit, IsBookOf, IsNoFork, AddsEvent, Acts}
+use Rattle.velo_world.specs.Course.{AddsToLog}
+use Rattle.velo_world.specs.Kept.{KeepsUnborn, left_by}
 use Rattle.velo_world.proofs.OnAnswers.{MayFollow-meaning, event-meaning}
-use Rattle.velo_world.proofs.OnHoldings.{longer, FitsLog-next_le, FitsLog-own, FitsLog-other, FitsLog-forked, IsBookOf-next, KeepsUnborn-next, KeepsUnborn-fork, kept-born, fork_by}
+use Rattle.velo_world.proofs.OnHoldings.{longer, FitsBook-from, FitsLog-next_le, FitsLog-own, FitsLog-other, FitsLog-forked, IsBookOf-next, KeepsUnborn-next, KeepsUnborn-fork, kept-born, fork_by}
 
 forks_none : (log : List Event) (t : ThreadId) (action : Action) (u : ℕ) → IsNoFork action → IsFalse (is_fork_of u (event_for log t action))
 forks_none log t (Action.Read x) u h = refl
@@ -68,56 +67,75 @@ kept-performed w t (Action.Fork u) e halted log log' kept kept' well due keeps l
 kept-performed w t (Action.Join u) e halted log log' kept kept' well due keeps log_is log'_is kept'_is = rw kept'_is (kept-committed w t (Action.Join u) e halted log log' kept tt well due keeps log_is log'_is)
 kept-performed w t Action.Exit e halted log log' kept kept' well due keeps log_is log'_is kept'_is = rw kept'_is (kept-committed w t Action.Exit e halted log log' kept tt well due keeps log_is log'_is)
 
--- what it takes out is the share that the forked thread begins with
-pub taken-performed : (w : WorldState) (t : ThreadId) (action : Action) (e : Event) (reply : Reply) (kept : List (Option Holding)) → IsWellFormed w.config.bounds w.log → meaning w t action ≡ Ok e → KeepsUnborn w kept → taken_by kept action ≡ born_by w.config.run action (Ok reply)
-taken-performed w t (Action.Read x) e reply kept well due keeps = refl
-taken-performed w t (Action.Write x v) e reply kept well due keeps = refl
-taken-performed w t (Action.Acquire m) e reply kept well due keeps = refl
-taken-performed w t (Action.Release m) e reply kept well due keeps = refl
-taken-performed w t (Action.Begin l) e reply kept well due keeps = refl
-taken-performed w t Action.End e reply kept well due keeps = refl
-taken-performed w t (Action.Fork u) e reply kept well due keeps = born-committed w t u e well due kept keeps
-taken-performed w t (Action.Join u) e reply kept well due keeps = refl
-taken-performed w t Action.Exit e reply kept well due keeps = refl
-
--- and this share fits the longer log
-born_fits : (w : WorldState) (t : ThreadId) (action : Action) (e : Event) (halted : Bool) (reply : Reply) (kept : List (Option Holding)) (born : Holding) → IsWellFormed w.config.bounds w.log → meaning w t action ≡ Ok e → KeepsUnborn w kept → born_by w.config.run action (Ok reply) ≡ Some born → FitsLog (longer w e halted) born
-born_fits w t (Action.Read x) e halted reply kept born well due keeps is = cc
-born_fits w t (Action.Write x v) e halted reply kept born well due keeps is = cc
-born_fits w t (Action.Acquire m) e halted reply kept born well due keeps is = cc
-born_fits w t (Action.Release m) e halted reply kept born well due keeps is = cc
-born_fits w t (Action.Begin l) e halted reply kept born well due keeps is = cc
-born_fits w t Action.End e halted reply kept born well due keeps is = cc
-born_fits w t (Action.Fork u) e halted reply kept born well due keeps is =
-    rw (sym (same_Some (opening_share w.config.run u.0) born is), event-meaning w t (Action.Fork u) e due)
-    (FitsLog-forked w t u halted kept well (subst (MayFollow w.config.bounds w.log) (event-meaning w t (Action.Fork u) e due) (MayFollow-meaning w t (Action.Fork u) e well due)) keeps)
-born_fits w t (Action.Join u) e halted reply kept born well due keeps is = cc
-born_fits w t Action.Exit e halted reply kept born well due keeps is = cc
-
-pub born-performed : (w : WorldState) (t : ThreadId) (action : Action) (e : Event) (halted : Bool) (reply : Reply) (log log' : List Event) (kept : List (Option Holding)) (born : Option Holding) → IsWellFormed w.config.bounds w.log → meaning w t action ≡ Ok e → KeepsUnborn w kept → log ≡ w.log → log' ≡ log ++ e ∷ [] → born ≡ taken_by kept action → IfSome born (λ share. FitsLog (record { config = w.config; halted = halted; log = log' }) share)
-born-performed w t action e halted reply log log' kept None well due keeps log_is log'_is born_is = tt
-born-performed w t action e halted reply log log' kept (Some born) well due keeps log_is log'_is born_is =
-    rw (log'_is, log_is) (born_fits w t action e halted reply kept born well due keeps (sym (taken-performed w t action e reply kept well due keeps) ∙ sym born_is))
-
 -- ---- what the caller learns
-
-pub Acts-committed : (w : WorldState) (share share' : Holding) (action : Action) (e : Event) (reply : Reply) (config : Config) (halted : Bool) (log log' : List Event) → meaning w share.thread action ≡ Ok e → FitsLog w share → config ≡ w.config → halted ≡ (config.stop && reply.alarmed) → log ≡ w.log → log' ≡ log ++ e ∷ [] → Replies log e reply → share' ≡ with_tally share (with_event share.tally (length log) e) → Acts w share action (Ok reply) (record { config = config; halted = halted; log = log' }) share'
-Acts-committed w share share' action e reply config halted log log' due fits config_is halted_is log_is log'_is replies share'_is =
-    subst (λ f. (meaning w share.thread action ≡ Ok f) × AddsEvent w share f reply (record { config = config; halted = halted; log = log' }) share') (event-meaning w share.thread action e due) (
-      due,
-      record {
-        config = config_is;
-        log = log'_is ∙ ap (λ l. l ++ e ∷ []) log_is;
-        halted = halted_is ∙ ap (λ (k : Config). k.stop && reply.alarmed) config_is;
-        replies = subst (λ l. Replies l e reply) log_is replies;
-        holding = share'_is ∙ ap (λ l. with_tally share (with_event share.tally (length l) e)) log_is;
-        later = (let le = FitsLog-next_le w share fits in let at = replies.position in let same : length log ≡ length w.log = ap length log_is in omega arith);
-      },
-    )
 
 -- the world after an event has one event more
 pub world_is : (w w' : WorldState) (x : Event) → w'.config ≡ w.config → w'.log ≡ w.log ++ x ∷ [] → w' ≡ longer w x w'.halted
 world_is w w' x config log = rw (← config, ← log) refl
+
+-- an action that forks no thread takes no share out
+pub left_by-no_fork : (kept : List (Option Holding)) (action : Action) → IsNoFork action → kept ≡ left_by kept action
+left_by-no_fork kept (Action.Read x) h = refl
+left_by-no_fork kept (Action.Write x v) h = refl
+left_by-no_fork kept (Action.Acquire m) h = refl
+left_by-no_fork kept (Action.Release m) h = refl
+left_by-no_fork kept (Action.Begin l) h = refl
+left_by-no_fork kept Action.End h = refl
+left_by-no_fork kept (Action.Fork u) h = absurd h
+left_by-no_fork kept (Action.Join u) h = refl
+left_by-no_fork kept Action.Exit h = refl
+
+-- the event that is due was added to the log
+module _ (w w' : WorldState) (t : ThreadId) (action : Action) (e : Event) (reply : Reply) (well : IsWellFormed w.config.bounds w.log) (adds : AddsToLog w t action e reply w') where
+  event_is : e ≡ event_for w.log t action
+  event_is = event-meaning w t action e adds.due
+
+  after_is : w' ≡ longer w e w'.halted
+  after_is = world_is w w' e adds.config adds.log
+
+  pub follows-added : MayFollow w.config.bounds w.log e
+  follows-added = MayFollow-meaning w t action e well adds.due
+
+  pub thread-added : e.thread ≡ t
+  thread-added = own_event w t action e adds.due
+
+  -- the book has the event in its row
+  pub IsBookOf-added : (book book' : Accounts) (share : Holding) → IsBookOf w book → FitsLog w share → t ≡ share.thread → book' ≡ with_row book share.thread (with_event share.tally reply.position e) → IsBookOf w' book'
+  IsBookOf-added book book' share is fits own book_is =
+      rw (after_is, book_is, adds.replies.position) (IsBookOf-next w e w'.halted book share well follows-added is fits (thread-added ∙ own))
+
+  -- the kept shares are left but for that of a thread that is forked
+  pub KeepsUnborn-added : (kept kept' : List (Option Holding)) → KeepsUnborn w kept → kept' ≡ left_by kept action → KeepsUnborn w' kept'
+  KeepsUnborn-added kept kept' keeps kept_is =
+      rw after_is (kept-performed w t action e w'.halted w.log (w.log ++ e ∷ []) kept kept' well adds.due keeps refl refl kept_is)
+
+  -- and the caller learns what was done
+  pub Acts-added : (share share' : Holding) → FitsLog w share → t ≡ share.thread → share' ≡ with_tally share (with_event share.tally reply.position e) → Acts w share action (Ok reply) w' share'
+  Acts-added share share' fits own share_is =
+      let due : meaning w share.thread action ≡ Ok e = subst (λ u. meaning w u action ≡ Ok e) own adds.due in
+      subst (λ f. (meaning w share.thread action ≡ Ok f) × AddsEvent w share f reply w' share') (event-meaning w share.thread action e due) (
+        due,
+        record {
+          config = adds.config;
+          log = adds.log;
+          halted = adds.halted;
+          replies = adds.replies;
+          holding = share_is ∙ ap (λ n. with_tally share (with_event share.tally n e)) adds.replies.position;
+          later = (let le = FitsLog-next_le w share fits in let here = adds.replies.position in omega arith);
+        },
+      )
+
+  -- the share of a thread that is forked fits
+  pub FitsLog-forked-added : (kept : List (Option Holding)) (child : ThreadId) → action ≡ Action.Fork child → KeepsUnborn w kept → FitsLog w' (opening_share w.config.run child.0)
+  FitsLog-forked-added kept child is keeps =
+      let due : meaning w t (Action.Fork child) ≡ Ok e = subst (λ a. meaning w t a ≡ Ok e) is adds.due in
+      let event : e ≡ fork_by t child = event-meaning w t (Action.Fork child) e due in
+      rw (after_is, event) (FitsLog-forked w t child w'.halted kept well (subst (MayFollow w.config.bounds w.log) event follows-added) keeps)
+
+  -- the book takes the event
+  pub CanEnter-added : (book : Accounts) (share : Holding) → IsBookOf w book → FitsLog w share → t ≡ share.thread → FitsBook book share × (e.thread ≡ share.thread) × (share.tally.next ≤ reply.position)
+  CanEnter-added book share is fits own =
+      (FitsBook-from w book share is fits, thread-added ∙ own, (let le = FitsLog-next_le w share fits in let here = adds.replies.position in omega arith))
 
 -- the share fits again
 pub FitsLog-acts : (w w' : WorldState) (share share' : Holding) (action : Action) (reply : Reply) → FitsLog w share → Acts w share action (Ok reply) w' share' → FitsLog w' share'

@@ -1,116 +1,69 @@
 -- What an action's event makes of a world, seen from outside and inside.
-use Rattle.std.proofs.Common.{◌≡◌, ℕ, ◌≤◌, Bool, true, false, List, [], ◌∷◌, ◌++◌, length, length-append, Option, Result, Ok, refl, sym, ap, ◌∙◌, subst, arith}
-use Rattle.std.specs.Prelude.{◌&&◌, IfSome, IsTrue, IsFalse}
+use Rattle.std.proofs.Common.{◌≡◌, ◌≤◌, List, Option, Some, Ok, refl, sym, subst}
 use Rattle.velo_events.specs.declared.event.Action.{Action}
 use Rattle.velo_events.specs.declared.event.Event.{Event}
 use Rattle.velo_events.specs.declared.event.ThreadId.{ThreadId}
-use Rattle.velo_events.specs.declared.refusal.Refusal.{Refusal}
-use Rattle.velo_events.specs.WellFormed.{IsWellFormed, MayFollow}
-use Rattle.velo_arena.specs.Slots.{limit_of}
-use Rattle.velo_heap.specs.Contents.{bounds_of}
+use Rattle.velo_events.specs.WellFormed.{IsWellFormed}
 use Rattle.velo_ledger.specs.Book.{with_row, with_tally}
+use Rattle.velo_ledger.specs.Shares.{opening_share, share_at}
 use Rattle.velo_ledger.specs.Tally.{with_event}
 use Rattle.velo_ledger.specs.Views.{Accounts, Holding}
-use Rattle.velo_world.specs.declared.run.Reply.{Reply}
-use Rattle.velo_world.specs.declared.run.Run.{Run}
-use Rattle.velo_world.specs.declared.world.World.TheInside.{Inside}
-use Rattle.velo_world.specs.World.{WorldState, meaning, FitsLog, OthersStillFit, IsWatchedPart, FindsNoNode, FillsGraph, Replies, Acts}
-use Rattle.velo_world.specs.Kept.{left_by, taken_by, Performs}
-use Rattle.velo_world.specs.Run.{IsRunOfItsLog, events_watched}
 use Rattle.velo_monitor.specs.Watched.{IsMonitorOf}
+use Rattle.velo_world.specs.declared.course.Course.{Course}
+use Rattle.velo_world.specs.declared.run.Reply.{Reply}
+use Rattle.velo_world.specs.declared.world.World.TheInside.{Inside}
+use Rattle.velo_world.specs.World.{WorldState, meaning, FitsLog, OthersStillFit, IsWatchedPart, Acts}
+use Rattle.velo_world.specs.Course.{course_of, IsCourseOfItsLog, AddsToLog}
 use Rattle.velo_world.specs.Inside.{state_of, IsWorldOfItsLog}
+use Rattle.velo_world.specs.Kept.{left_by}
+use Rattle.velo_world.specs.Run.{events_watched}
+use Rattle.velo_world.proofs.OnCourses.{well_formed-course}
 use Rattle.velo_world.proofs.OnRuns.{events_watched-part}
-use Rattle.velo_world.proofs.OnAnswers.{MayFollow-meaning, meaning-room, meaning-going}
-use Rattle.velo_world.proofs.OnHoldings.{FitsLog-next_le}
-use Rattle.velo_world.proofs.OnSteps.{book-committed, kept-performed, taken-performed, born-performed, Acts-committed, FitsLog-acts, OthersStillFit-acts}
+use Rattle.velo_world.proofs.OnSteps.{CanEnter-added, IsBookOf-added, KeepsUnborn-added, Acts-added, FitsLog-acts, OthersStillFit-acts, born-committed, FitsLog-forked-added}
 
--- the event is what the action of the share's thread means, and the share fits
-pub record IsDue (old : Inside) (t : ThreadId) (action : Action) (e : Event) (share : Holding) : Type 0 where
-  pub was : IsWorldOfItsLog old
-  pub well : IsWellFormed old.config.bounds old.run.log.events
-  pub due : meaning (state_of old) t action ≡ Ok e
-  pub own : t ≡ share.thread
-  pub fits : FitsLog (state_of old) share
+-- an action added its event to the log
+module _ (old : Inside) (w : WorldState) (t : ThreadId) (share : Holding) (action : Action) (e : Event) (reply : Reply) (course : Course) (same : state_of old ≡ w) (was : IsWorldOfItsLog old) (own : t ≡ share.thread) (fits : FitsLog w share) (adds : AddsToLog (course_of old.course) t action e reply (course_of course)) where
+  well : IsWellFormed (state_of old).config.bounds (state_of old).log
+  well = well_formed-course old.course was.course
 
-pub IsDue-from : (old : Inside) (w : WorldState) (t : ThreadId) (action : Action) (e : Event) (share : Holding) (decided : Result Event Refusal) → state_of old ≡ w → IsWorldOfItsLog old → decided ≡ meaning w t action → decided ≡ Ok e → t ≡ share.thread → FitsLog w share → IsDue old t action e share
-IsDue-from old w t action e share decided same was means is own fits = record {
-  was = was;
-  well = subst (λ b. IsWellFormed b old.run.log.events) was.bounds was.run.heap.well_formed;
-  due = ap (λ v. meaning v t action) same ∙ (sym means ∙ is);
-  own = own;
-  fits = subst (λ v. FitsLog v share) (sym same) fits;
-}
+  fits_inside : FitsLog (state_of old) share
+  fits_inside = subst (λ v. FitsLog v share) (sym same) fits
 
--- where room was made for the event
-module _ (old : Inside) (t : ThreadId) (action : Action) (e : Event) (share : Holding) (run : Run) (due : IsDue old t action e share) (log_is : run.log.events ≡ old.run.log.events) where
-  pub admitted : run.heap ≡ old.run.heap → MayFollow (bounds_of run.heap) run.log.events e
-  admitted heap_is =
-      rw (heap_is, log_is, due.was.bounds) (MayFollow-meaning (state_of old) t action e due.well due.due)
+  pub later-added : share.tally.next ≤ reply.position
+  later-added = (CanEnter-added (state_of old) (course_of course) t action e reply well adds old.book share was.book fits_inside own).2
 
-  pub later : share.tally.next ≤ length run.log.events
-  later = rw log_is (FitsLog-next_le (state_of old) share due.fits)
-
--- where no node is left for it
-pub FillsGraph-from : (old : Inside) (w : WorldState) (t : ThreadId) (action : Action) (e : Event) (share : Holding) → IsDue old t action e share → state_of old ≡ w → FindsNoNode old.run.log.events e old.config.nodes → FillsGraph w (meaning w share.thread action)
-FillsGraph-from old w t action e share due same finds = record {
-  event = e;
-  is_due = subst (λ (v : WorldState). meaning v share.thread action ≡ Ok e) same (subst (λ u. meaning (state_of old) u action ≡ Ok e) due.own due.due);
-  finds_none = subst (λ (v : WorldState). FindsNoNode v.log e v.config.nodes) same finds;
-}
-
--- and the event was taken in
-module _ (old : Inside) (t : ThreadId) (action : Action) (e : Event) (share : Holding) (log : List Event) (due : IsDue old t action e share) (log_is : log ≡ old.run.log.events) where
-  pub IsWorldOfItsLog-performed : (halted : Bool) (run : Run) (book : Accounts) (kept : List (Option Holding)) → run.log.events ≡ log ++ e ∷ [] → bounds_of run.heap ≡ old.config.bounds → limit_of run.monitor.nodes.slots ≡ old.config.nodes → IsRunOfItsLog run → book ≡ with_row old.book share.thread (with_event share.tally (length log) e) → kept ≡ left_by old.kept action → IsWorldOfItsLog (record old { halted = halted; run = run; book = book; kept = kept })
-  IsWorldOfItsLog-performed halted run book kept events_is bounds_is nodes_is run_is book_is kept_is = record {
-    short =
-        (let room = meaning-room (state_of old) t action e due.due in
-        let long : length run.log.events ≡ length (old.run.log.events ++ e ∷ []) = ap length events_is ∙ ap (λ (l : List Event). length (l ++ e ∷ [])) log_is in
-        omega (arith, long, room, length-append old.run.log.events (e ∷ [])));
-    bounds = bounds_is;
-    nodes = nodes_is;
-    run = run_is;
-    book = book-committed (state_of old) t action e halted log run.log.events old.book book share due.well due.due due.was.book due.fits due.own log_is events_is book_is;
-    keeps = kept-performed (state_of old) t action e halted log run.log.events old.kept kept due.well due.due due.was.keeps log_is events_is kept_is;
+  pub IsWorldOfItsLog-added : (book : Accounts) (kept : List (Option Holding)) → IsCourseOfItsLog course → book ≡ with_row old.book share.thread (with_event share.tally reply.position e) → kept ≡ left_by old.kept action → IsWorldOfItsLog (record old { course = course; book = book; kept = kept })
+  IsWorldOfItsLog-added book kept stands book_is kept_is = record {
+    course = stands;
+    book = IsBookOf-added (state_of old) (course_of course) t action e reply well adds old.book book share was.book fits_inside own book_is;
+    keeps = KeepsUnborn-added (state_of old) (course_of course) t action e reply well adds old.kept kept was.keeps kept_is;
   }
 
--- ---- whether the world is halted then
+  acts_inside : (share' : Holding) → share' ≡ with_tally share (with_event share.tally reply.position e) → Acts (state_of old) share action (Ok reply) (course_of course) share'
+  acts_inside share' share_is = Acts-added (state_of old) (course_of course) t action e reply well adds share share' fits_inside own share_is
 
-going : (old : Inside) (t : ThreadId) (action : Action) (e : Event) (share : Holding) → IsDue old t action e share → IsFalse old.halted
-going old t action e share due = meaning-going (state_of old) t action e due.due
+  pub Acts-performed : (share' : Holding) → share' ≡ with_tally share (with_event share.tally reply.position e) → Acts w share action (Ok reply) (course_of course) share'
+  Acts-performed share' share_is = subst (λ v. Acts v share action (Ok reply) (course_of course) share') same (acts_inside share' share_is)
 
-pub halted_now : (stop alarmed : Bool) → IsTrue stop → IsTrue alarmed → true ≡ (stop && alarmed)
-halted_now true true h g = refl
-halted_now true false h g = cc
-halted_now false alarmed h g = cc
+  pub FitsLog-performed : (share' : Holding) → share' ≡ with_tally share (with_event share.tally reply.position e) → FitsLog (course_of course) share'
+  FitsLog-performed share' share_is = FitsLog-acts (state_of old) (course_of course) share share' action reply fits_inside (acts_inside share' share_is)
 
-pub halted_as_before : (old : Inside) (t : ThreadId) (action : Action) (e : Event) (share : Holding) (alarmed : Bool) → IsDue old t action e share → IsFalse (old.config.stop && alarmed) → old.halted ≡ (old.config.stop && alarmed)
-halted_as_before old t action e share alarmed due quiet = going old t action e share due ∙ sym quiet
+  pub OthersStillFit-performed : OthersStillFit w share.thread (course_of course)
+  OthersStillFit-performed = subst (λ v. OthersStillFit v share.thread (course_of course)) same (OthersStillFit-acts (state_of old) (course_of course) share _ action reply (acts_inside _ refl))
 
--- ---- what the caller learns
+  pub born-performed : (child : ThreadId) → action ≡ Action.Fork child → share_at old.kept child ≡ Some (opening_share w.config.run child.0)
+  born-performed child is = subst (λ (v : WorldState). share_at old.kept child ≡ Some (opening_share v.config.run child.0)) same (born-committed (state_of old) t child e well (subst (λ a. meaning (state_of old) t a ≡ Ok e) is adds.due) old.kept was.keeps)
 
-pub record Performed (w : WorldState) (share : Holding) (action : Action) (reply : Reply) (born : Option Holding) (w' : WorldState) (share' : Holding) : Type 0 where
-  pub outcome_is : Performs w share action (Ok (reply, born)) w' share'
-  pub own_fits : FitsLog w' share'
-  pub born_fits : IfSome born (λ s. FitsLog w' s)
-  pub others_fit : OthersStillFit w share.thread w'
-
-pub Performed-from : (old : Inside) (w w' : WorldState) (t : ThreadId) (action : Action) (e : Event) (share share' : Holding) (log log' : List Event) (halted : Bool) (reply : Reply) (born : Option Holding) → IsDue old t action e share → state_of old ≡ w → log ≡ old.run.log.events → log' ≡ log ++ e ∷ [] → w' ≡ record { config = old.config; halted = halted; log = log' } → halted ≡ (old.config.stop && reply.alarmed) → Replies log e reply → share' ≡ with_tally share (with_event share.tally (length log) e) → born ≡ taken_by old.kept action → Performed w share action reply born w' share'
-Performed-from old w w' t action e share share' log log' halted reply born due same log_is log'_is world halted_is replies share_is born_is =
-    let means : meaning (state_of old) share.thread action ≡ Ok e = subst (λ u. meaning (state_of old) u action ≡ Ok e) due.own due.due in
-    let acts = Acts-committed (state_of old) share share' action e reply old.config halted log log' means due.fits refl halted_is log_is log'_is replies share_is in
-    let born_fits = born-performed (state_of old) t action e halted reply log log' old.kept born due.well due.due due.was.keeps log_is log'_is born_is in
-    rw (world, ← same) (record {
-      outcome_is = (acts, born_is ∙ taken-performed (state_of old) t action e reply old.kept due.well due.due due.was.keeps);
-      own_fits = FitsLog-acts (state_of old) _ share share' action reply due.fits acts;
-      born_fits = born_fits;
-      others_fit = OthersStillFit-acts (state_of old) _ share share' action reply acts;
-    })
+  pub FitsLog-born : (child : ThreadId) → action ≡ Action.Fork child → FitsLog (course_of course) (opening_share w.config.run child.0)
+  FitsLog-born child is =
+      subst (λ (v : WorldState). FitsLog (course_of course) (opening_share v.config.run child.0)) same
+      (FitsLog-forked-added (state_of old) (course_of course) t action e reply well adds old.kept child is was.keeps)
 
 -- ---- the monitor
 
-pub IsMonitorOf-part : (old : Inside) (w : WorldState) (trace : List Event) → state_of old ≡ w → IsWorldOfItsLog old → IsWatchedPart w.log trace → IsMonitorOf w.config.bounds old.run.monitor trace
+pub IsMonitorOf-part : (old : Inside) (w : WorldState) (trace : List Event) → state_of old ≡ w → IsWorldOfItsLog old → IsWatchedPart w.log trace → IsMonitorOf w.config.bounds old.course.run.monitor trace
 IsMonitorOf-part old w trace same was part =
-    let inside : IsWatchedPart old.run.log.events trace = subst (λ (v : WorldState). IsWatchedPart v.log trace) (sym same) part in
-    let stands : IsMonitorOf old.config.bounds old.run.monitor trace =
-    rw (events_watched-part old.run.log.events trace old.run.alarm was.run.alarm inside) (subst (λ b. IsMonitorOf b old.run.monitor (events_watched old.run.log.events old.run.alarm)) was.bounds was.run.monitor) in
-    subst (λ (v : WorldState). IsMonitorOf v.config.bounds old.run.monitor trace) same stands
+    let inside : IsWatchedPart old.course.log.events trace = subst (λ (v : WorldState). IsWatchedPart v.log trace) (sym same) part in
+    let stands : IsMonitorOf old.course.config.bounds old.course.run.monitor trace =
+    rw (events_watched-part old.course.log.events trace old.course.run.alarm was.course.run.watched.alarm inside) (subst (λ b. IsMonitorOf b old.course.run.monitor (events_watched old.course.log.events old.course.run.alarm)) was.course.bounds was.course.run.watched.monitor) in
+    subst (λ (v : WorldState). IsMonitorOf v.config.bounds old.course.run.monitor trace) same stands

@@ -1,14 +1,12 @@
 -- The shares that a world keeps, and what an action takes out of them. Private contracts cite these words.
-use Rattle.std.specs.Prelude.{◌≡◌, ◌<◌, ℕ, List, length, Option, Some, None, Result, Ok, Err, IsTrue, IfSome, if◌then◌else◌, slice_get, slice_set}
+use Rattle.std.specs.Prelude.{◌≡◌, ◌<◌, ℕ, List, length, Option, Some, None, IsTrue, if◌then◌else◌, slice_get, slice_set}
 use Rattle.velo_events.specs.declared.event.Action.{Action}
 use Rattle.velo_events.specs.declared.event.Action.TheVariants.{Fork}
-use Rattle.velo_events.specs.declared.refusal.Refusal.{Refusal}
 use Rattle.velo_events.specs.Heap.{status_in}
 use Rattle.velo_events.specs.Meaning.{is_unborn}
 use Rattle.velo_ledger.specs.Shares.{opening_share, share_at}
 use Rattle.velo_ledger.specs.Views.{Holding}
-use Rattle.velo_world.specs.World.{WorldState, meaning, FitsLog, IsBorn, Acts, Refuses}
-use Rattle.velo_world.specs.declared.run.Reply.{Reply}
+use Rattle.velo_world.specs.World.{WorldState, FitsLog, IsBorn}
 
 -- what the world keeps at the place of a thread: the share that an unborn thread begins with, and no other
 abbrev pub KeptAt : WorldState → ℕ → Option (Option Holding) → Type 0
@@ -35,17 +33,7 @@ abbrev pub left_by : List (Option Holding) → Action → List (Option Holding)
 left_by places (Fork child) = slice_set places child.0 None
 left_by places _ = places
 
--- the share that such an action hands out, if it is done
-abbrev pub born_by : ℕ → Action → Result Reply Refusal → Option Holding
-born_by run (Fork child) (Ok reply) = Some (opening_share run child.0)
-born_by run _ _ = None
-
 -- the places with the share at its own, if there is one
 abbrev pub with_share : List (Option Holding) → Option Holding → List (Option Holding)
 with_share places None = places
 with_share places (Some share) = slice_set places share.thread.0 (Some share)
-
--- an action, a fork or any other, which also gives the share that a forked thread begins with
-abbrev pub Performs : WorldState → Holding → Action → Result (Reply × Option Holding) Refusal → WorldState → Holding → Type 0
-Performs w share action (Ok done) w' share' = Acts w share action (Ok done.0) w' share' × (done.1 ≡ born_by w.config.run action (Ok done.0))
-Performs w share action (Err refusal) w' share' = Refuses w share (meaning w share.thread action) refusal w' share'

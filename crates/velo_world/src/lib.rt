@@ -2,10 +2,13 @@
 #![tactic(auto)]
 
 mod closed;
+mod course;
+mod relive;
 mod run;
 mod world;
 
 pub use closed::Closed;
+pub use relive::ReliveFault;
 pub use run::{Alarm, Reply};
 pub use world::World;
 

@@ -1,21 +1,24 @@
-//! The course of a run: its log, and what follows from it.
+//! What follows from the events of a run.
 ghost use Rattle.velo_events.specs.Refusals.{GrowthRefused};
-ghost use Rattle.std.specs.Prelude.{◌≡◌, ◌<◌, [], ◌∷◌, ◌++◌, length, IsTrue, IsFalse, IfOk, OnOk, OnErr};
+ghost use Rattle.std.specs.Prelude.{◌≡◌, ◌<◌, [], ◌∷◌, ◌++◌, ℕ, List, Some, length, take, slice_get, IsTrue, IsFalse, IfOk, OnOk, OnErr};
 ghost use Rattle.velo_events.specs.declared.limits.TheConstants.{MOST_EVENTS};
-ghost use Rattle.velo_events.specs.WellFormed.{MayFollow};
+ghost use Rattle.velo_events.specs.declared.event.Event.{Event as EventOf};
+ghost use Rattle.velo_events.specs.Block.{owner};
+ghost use Rattle.velo_events.specs.Graph.{HasCycle};
+ghost use Rattle.velo_events.specs.WellFormed.{IsWellFormed, MayFollow};
 ghost use Rattle.velo_arena.specs.Slots.{limit_of};
-ghost use Rattle.velo_heap.specs.Contents.{bounds_of, IsHeapOf};
-ghost use Rattle.velo_monitor.specs.Watched.{IsMonitorOf};
-ghost use Rattle.velo_world.specs.World.{AlarmOf, value_read, FindsNoNode, Replies};
-ghost use Rattle.velo_world.specs.Run.{IsRunOfItsLog, HasSlotFor, HasRoomForNext, IsWatched, events_watched, events_taken_in};
+ghost use Rattle.velo_heap.specs.Contents.{bounds_of};
+ghost use Rattle.velo_tables.specs.Clocks.{AreClocksOf};
+ghost use Rattle.velo_world.specs.World.{FindsNoNode, IsAlarm};
+ghost use Rattle.velo_world.specs.Run.{ComesNext, HasRoomForNext, HasSlotFor, IsRunOf, IsWatched};
 
 use smallvec::SmallVec;
 use std::alloc::Global;
-use velo_blame::Scan;
-use velo_events::{Config, Event, Kind, MOST_OPEN_BLOCKS, Memory};
+use velo_blame::Clocks;
+use velo_events::{Config, Event, MOST_OPEN_BLOCKS, Memory};
 use velo_heap::Heap;
 use velo_monitor::{Monitor, Seen};
-use velo_traces::{Block, Trace};
+use velo_traces::{Block, open_blocks_in};
 
 /// The first event that closed a cycle.
 #[derive(Drop, Debug, PartialEq, Eq)]
@@ -40,45 +43,44 @@ pub struct Reply {
     pub alarmed: bool,
 }
 
-/// A log, and heap, monitor and alarm as they follow from it.
+/// What follows from the events of a run: heap, graph, clocks and alarm.
 #[derive(Drop)]
 pub struct Run {
-    pub log: Trace,
     pub heap: Heap,
     /// The monitor of the events before the alarm.
     pub monitor: Monitor,
+    /// The clocks of the events before the alarm.
+    clocks: Clocks,
     pub alarm: Option<Alarm>,
-    scan: Scan,
+    alloc: Global,
 }
 
 impl Run {
     /// A run without events.
     pub fn new(alloc: Global, config: &Config) -> Result<Run, Memory>
-        ensures log { IfOk result (λ run. run.log.events ≡ []) }
         ensures bounds { IfOk result (λ run. bounds_of run.heap ≡ config.now.bounds) }
         ensures nodes { IfOk result (λ run. limit_of run.monitor.nodes.slots ≡ config.now.nodes) }
-        ensures follows { IfOk result (λ run. IsRunOfItsLog run) }
+        ensures follows { IfOk result (λ run. IsRunOf run []) }
         ensures memory { OnErr result GrowthRefused }
     {
         let heap = Heap::new(alloc, config)?;
         let monitor = Monitor::new(alloc, config)?;
-        let scan = Scan::new(alloc, config)?;
+        let clocks = Clocks::new(alloc, config)?;
         Ok(Run {
-            log: Trace::new(alloc),
             heap,
             monitor,
+            clocks,
             alarm: None,
-            scan,
+            alloc,
         })
     }
 
     /// Whether the next event needs a node, and all that there may be are in use. After an alarm no event needs one.
+    #[inline]
     pub fn has_no_node_for(&self, event: &Event, nodes: u16) -> bool
-        requires follows { IsRunOfItsLog self.now }
-        requires admitted { MayFollow (bounds_of self.now.heap) self.now.log.events event.now }
         requires limit { limit_of self.now.monitor.nodes.slots ≡ nodes }
-        ensures slot { IsFalse result → HasSlotFor self.now event.now }
-        ensures full { IsTrue result → FindsNoNode self.now.log.events event.now nodes }
+        ensures slot { IsFalse result → (trace : List EventOf) → IsRunOf self.now trace → MayFollow (bounds_of self.now.heap) trace event.now → HasSlotFor self.now trace event.now }
+        ensures full { IsTrue result → (trace : List EventOf) → IsRunOf self.now trace → MayFollow (bounds_of self.now.heap) trace event.now → FindsNoNode trace event.now nodes }
     {
         if self.alarm.is_some() {
             return false;
@@ -89,103 +91,78 @@ impl Run {
         self.monitor.needs_node(event)
     }
 
-    /// Makes room for the next event.
+    /// Makes room for the next event, which finds a slot for its node if it needs one.
+    #[inline]
     pub fn reserve_for(&mut self, event: &Event) -> Result<(), Memory>
-        requires follows { IsRunOfItsLog self.old }
-        requires admitted { MayFollow (bounds_of self.old.heap) self.old.log.events event.now }
-        requires slot { HasSlotFor self.old event.now }
-        ensures log { self.new.log.events ≡ self.old.log.events }
         ensures heap { self.new.heap ≡ self.old.heap }
         ensures nodes { self.new.monitor.nodes ≡ self.old.monitor.nodes }
-        ensures follows { IsRunOfItsLog self.new }
-        ensures room { OnOk result (HasRoomForNext self.new event.now) }
+        ensures follows { (trace : List EventOf) → IsRunOf self.old trace → IsRunOf self.new trace }
+        ensures room { OnOk result ((trace : List EventOf) → IsRunOf self.old trace → MayFollow (bounds_of self.old.heap) trace event.now → HasSlotFor self.old trace event.now → HasRoomForNext self.new trace event.now) }
         ensures memory { OnErr result GrowthRefused }
     {
-        self.log.reserve_one()?;
         if self.alarm.is_some() {
             return Ok(());
         }
+        self.clocks.reserve_for(event)?;
         self.monitor.reserve(event)
     }
 
-    /// Takes in an admitted event for which there is room.
-    pub fn commit(&mut self, event: Event) -> Reply
-        requires follows { IsRunOfItsLog self.old }
-        requires room { HasRoomForNext self.old event }
-        requires admitted { MayFollow (bounds_of self.old.heap) self.old.log.events event }
-        requires short { length self.old.log.events < MOST_EVENTS }
-        ensures log { self.new.log.events ≡ self.old.log.events ++ event ∷ [] }
+    /// Takes in the event at the position, which may follow those before it and for which there is room.
+    #[inline]
+    pub fn take_in(&mut self, events: &[Event], position: usize, event: &Event)
+        requires here { slice_get events.now position ≡ Some event.now }
+        requires next { ComesNext self.old (take position events.now) event.now }
         ensures bounds { bounds_of self.new.heap ≡ bounds_of self.old.heap }
         ensures nodes { limit_of self.new.monitor.nodes.slots ≡ limit_of self.old.monitor.nodes.slots }
-        ensures follows { IsRunOfItsLog self.new }
-        ensures reply { Replies self.old.log.events event result }
+        ensures follows { IsRunOf self.new (take position events.now ++ event.now ∷ []) }
     {
-        let position = self.log.len();
-        let closed = self.watch(position, &event);
-        self.log.push_reserved(event);
-        self.heap.apply(&event);
-        self.raise(position, closed);
-        Reply {
-            position,
-            value: value_read(event.kind),
-            alarmed: self.alarm.is_some(),
-        }
+        self.watch(events, position, event);
+        self.heap.apply(event);
     }
 
-    /// Lets the monitor see the next event, unless an alarm is kept already, and gives the transaction of an event that
-    /// closes the first cycle.
-    fn watch(&mut self, position: usize, event: &Event) -> Option<usize>
-        requires follows { IsRunOfItsLog self.old }
-        requires room { HasRoomForNext self.old event.now }
-        requires admitted { MayFollow (bounds_of self.old.heap) self.old.log.events event.now }
-        requires short { length self.old.log.events < MOST_EVENTS }
-        requires at_end { position ≡ length self.old.log.events }
-        ensures log { self.new.log ≡ self.old.log }
+    /// Lets monitor and clocks see the event, unless an alarm is kept already, and raises the alarm if it closes a cycle.
+    #[inline]
+    fn watch(&mut self, events: &[Event], position: usize, event: &Event)
+        requires here { slice_get events.now position ≡ Some event.now }
+        requires next { ComesNext self.old (take position events.now) event.now }
         ensures heap { self.new.heap ≡ self.old.heap }
-        ensures alarm { self.new.alarm ≡ self.old.alarm }
-        ensures scan { self.new.scan ≡ self.old.scan }
         ensures nodes { limit_of self.new.monitor.nodes.slots ≡ limit_of self.old.monitor.nodes.slots }
-        ensures watched { IsWatched (self.old.log.events ++ event.now ∷ []) self.old.alarm position result }
-        ensures monitor { IsMonitorOf (bounds_of self.old.heap) self.new.monitor (events_taken_in (self.old.log.events ++ event.now ∷ []) self.old.alarm position result) }
+        ensures watched { IsWatched self.new (bounds_of self.old.heap) (take position events.now ++ event.now ∷ []) }
     {
         if self.alarm.is_some() {
-            return None;
+            return;
         }
         match self.monitor.observe(position, event) {
-            Seen::Quiet => None,
-            Seen::Closes { transaction } => Some(transaction),
+            Seen::Quiet => self.clocks.note(position, event),
+            Seen::Closes { transaction } => {
+                self.alarm = Some(self.alarm_at(events, position, event, transaction));
+            }
         }
     }
 
-    /// Raises the alarm of the event at the position, if it closed the first cycle.
-    fn raise(&mut self, position: usize, closed: Option<usize>)
-        requires watched { IsWatched self.old.log.events self.old.alarm position closed }
-        requires heap { IsHeapOf self.old.heap self.old.log.events }
-        requires scan { self.old.scan ≡ bounds_of self.old.heap }
-        ensures log { self.new.log ≡ self.old.log }
-        ensures heap { self.new.heap ≡ self.old.heap }
-        ensures monitor { self.new.monitor ≡ self.old.monitor }
-        ensures scan { self.new.scan ≡ self.old.scan }
-        ensures alarm { AlarmOf self.old.log.events self.new.alarm }
-        ensures events { events_watched self.old.log.events self.new.alarm ≡ events_taken_in self.old.log.events self.old.alarm position closed }
+    /// The alarm of the event at the position, which closes the first cycle.
+    fn alarm_at(
+        &self,
+        events: &[Event],
+        position: usize,
+        event: &Event,
+        transaction: usize,
+    ) -> Alarm
+        requires here { slice_get events.now position ≡ Some event.now }
+        requires clocks { AreClocksOf self.now.clocks.state (take position events.now) }
+        requires well_formed { IsWellFormed self.now.clocks.bounds (take position events.now ++ event.now ∷ []) }
+        requires acyclic { ¬ HasCycle (take position events.now) }
+        requires closes { HasCycle (take position events.now ++ event.now ∷ []) }
+        requires transaction { transaction ≡ owner (take position events.now ++ event.now ∷ []) position }
+        ensures alarm { IsAlarm (take position events.now ++ event.now ∷ []) result }
+        ensures position { result.position ≡ position }
     {
-        if let Some(transaction) = closed {
-            let blamed = self.scan.blamed(&self.log, position);
-            self.alarm = Some(Alarm {
-                position,
-                transaction,
-                blamed,
-            });
+        let blocks = open_blocks_in(&events[..position + 1], event.thread, self.alloc);
+        let blamed = self.clocks.blamed(&blocks, position, event);
+        Alarm {
+            position,
+            transaction,
+            blamed,
         }
-    }
-}
-
-/// The value that a read read.
-fn value_read(kind: Kind) -> Option<u64>
-    ensures { result ≡ value_read kind }
-{
-    match kind {
-        Kind::Read(_, value) => Some(value),
-        _ => None,
     }
 }

@@ -1,12 +1,12 @@
 ghost use Rattle.std.specs.Prelude.{IfOk};
 ghost use Rattle.velo_world.specs.World.{FitsLog, HoldsLiveShares};
 
-use crate::{Alarm, Reply, World};
+use crate::{Alarm, ReliveFault, Reply, World};
 use std::alloc::Global;
 use std::test::Fail;
-use velo_events::{Action, Bounds, Config, Label, LockId, Refusal, ThreadId, VarId};
+use velo_events::{Action, Bounds, Config, Event, Kind, Label, LockId, Refusal, ThreadId, VarId};
 use velo_ledger::{Share, Shares};
-use velo_traces::Block;
+use velo_traces::{Block, Trace};
 
 type Step = (ThreadId, Action);
 
@@ -63,16 +63,25 @@ fn opened(alloc: Global, threads: u8, nodes: u16, stop: bool) -> Result<(World, 
     Ok((world, shares))
 }
 
-/// A world in which the steps were done, and their outcomes.
-fn played(
-    alloc: Global,
-    nodes: u16,
-    stop: bool,
-    steps: &[Step],
-) -> Result<(World, Vec<Outcome>), Fail> {
+/// What became of a world in which steps were done.
+#[derive(Drop)]
+struct Played {
+    outcomes: Vec<Outcome>,
+    is_the_alarm: bool,
+    is_halted: bool,
+    used: u16,
+}
+
+/// Does the steps in a world of two threads.
+fn play(alloc: Global, nodes: u16, stop: bool, steps: &[Step]) -> Result<Played, Fail> {
     let (mut world, mut shares) = opened(alloc, 2, nodes, stop)?;
     let outcomes = world.run(&mut shares, steps)?;
-    Ok((world, outcomes))
+    Ok(Played {
+        outcomes,
+        is_the_alarm: is_the_alarm(world.alarm()),
+        is_halted: world.is_halted(),
+        used: world.monitor().used(),
+    })
 }
 
 fn replied(position: usize, value: Option<u64>, alarmed: bool) -> Outcome {
@@ -114,8 +123,8 @@ fn blocks_nest_32_deep(rt: HostRuntime) -> Result<(), Fail> {
         steps.push(nested_step(i))?;
         wanted.push(nested_outcome(i))?;
     }
-    let (_, outcomes) = played(rt.alloc(), 1, false, &steps)?;
-    assert_eq!(rt; outcomes.as_slice(), wanted.as_slice());
+    let played = play(rt.alloc(), 1, false, &steps)?;
+    assert_eq!(rt; played.outcomes.as_slice(), wanted.as_slice());
     Ok(())
 }
 
@@ -132,16 +141,16 @@ fn refused_at_the_third_step(rt: HostRuntime) -> Result<(), Fail> {
             (MAIN, Action::Acquire(M)),
             (thread, action),
         ];
-        let (_, outcomes) = played(rt.alloc(), 1, false, &steps)?;
+        let played = play(rt.alloc(), 1, false, &steps)?;
         let wanted = [done(0), done(1), Err(refusal)];
-        assert_eq!(rt; outcomes.as_slice(), wanted.as_slice());
+        assert_eq!(rt; played.outcomes.as_slice(), wanted.as_slice());
     }
     Ok(())
 }
 
 #[test]
 fn an_alarm_stays_and_needs_no_node(rt: HostRuntime) -> Result<(), Fail> {
-    let (world, outcomes) = played(rt.alloc(), 2, false, &LOST_UPDATE)?;
+    let played = play(rt.alloc(), 2, false, &LOST_UPDATE)?;
     let wanted = [
         done(0),
         done(1),
@@ -152,15 +161,15 @@ fn an_alarm_stays_and_needs_no_node(rt: HostRuntime) -> Result<(), Fail> {
         replied(6, None, true),
         replied(7, None, true),
     ];
-    assert_eq!(rt; outcomes.as_slice(), wanted.as_slice());
-    assert!(rt; is_the_alarm(world.alarm()));
-    assert!(rt; !world.is_halted());
+    assert_eq!(rt; played.outcomes.as_slice(), wanted.as_slice());
+    assert!(rt; played.is_the_alarm);
+    assert!(rt; !played.is_halted);
     Ok(())
 }
 
 #[test]
 fn an_alarm_stops_the_world(rt: HostRuntime) -> Result<(), Fail> {
-    let (world, outcomes) = played(rt.alloc(), 4096, true, &LOST_UPDATE)?;
+    let played = play(rt.alloc(), 4096, true, &LOST_UPDATE)?;
     let wanted = [
         done(0),
         done(1),
@@ -171,9 +180,9 @@ fn an_alarm_stops_the_world(rt: HostRuntime) -> Result<(), Fail> {
         Err(Refusal::Halted),
         Err(Refusal::Halted),
     ];
-    assert_eq!(rt; outcomes.as_slice(), wanted.as_slice());
-    assert!(rt; is_the_alarm(world.alarm()));
-    assert!(rt; world.is_halted());
+    assert_eq!(rt; played.outcomes.as_slice(), wanted.as_slice());
+    assert!(rt; played.is_the_alarm);
+    assert!(rt; played.is_halted);
     Ok(())
 }
 
@@ -188,7 +197,7 @@ fn a_full_graph_refuses_a_block(rt: HostRuntime) -> Result<(), Fail> {
         (MAIN, Action::End),
         (OTHER, Action::Begin(Label(2))),
     ];
-    let (world, outcomes) = played(rt.alloc(), 1, false, &steps)?;
+    let played = play(rt.alloc(), 1, false, &steps)?;
     let wanted = [
         done(0),
         done(1),
@@ -197,8 +206,77 @@ fn a_full_graph_refuses_a_block(rt: HostRuntime) -> Result<(), Fail> {
         done(3),
         done(4),
     ];
-    assert_eq!(rt; outcomes.as_slice(), wanted.as_slice());
-    assert_eq!(rt; world.monitor().used(), 1);
+    assert_eq!(rt; played.outcomes.as_slice(), wanted.as_slice());
+    assert_eq!(rt; played.used, 1);
+    Ok(())
+}
+
+/// A recorded lost update.
+const RECORDED: [(ThreadId, Kind); 8] = [
+    (MAIN, Kind::Fork(OTHER)),
+    (MAIN, Kind::Begin(Label(7))),
+    (MAIN, Kind::Read(X, 0)),
+    (OTHER, Kind::Write(X, 5)),
+    (MAIN, Kind::Write(X, 1)),
+    (MAIN, Kind::End),
+    (OTHER, Kind::Begin(Label(1))),
+    (MAIN, Kind::Read(X, 1)),
+];
+
+/// Relives the recorded events, the one at the place changed, and answers whether the world has the alarm and the whole log.
+fn relived(
+    alloc: Global,
+    events: u32,
+    nodes: u16,
+    place: usize,
+    kind: Kind,
+) -> Result<Result<bool, ReliveFault>, Fail> {
+    let mut log = Trace::new(alloc);
+    for (i, (thread, recorded)) in RECORDED.into_iter().enumerate() {
+        let kind = if i == place { kind } else { recorded };
+        log.push(Event { thread, kind })?;
+    }
+    let bounds = Bounds {
+        threads: 2,
+        variables: 1,
+        locks: 1,
+    };
+    let config = Config::new(1, bounds, events, nodes, false)?;
+    let (world, _shares) = match World::relive(alloc, config, log) {
+        Ok(relived) => relived,
+        Err(fault) => return Ok(Err(fault)),
+    };
+    Ok(Ok(is_the_alarm(world.alarm()) && world.log().len() == RECORDED.len()))
+}
+
+#[test]
+fn a_recorded_log_is_relived(rt: HostRuntime) -> Result<(), Fail> {
+    let refused = |position, refusal| Err(ReliveFault::Refused { position, refusal });
+    for (events, nodes, place, kind, wanted) in [
+        (100, 2, 0, Kind::Fork(OTHER), Ok(true)),
+        (8, 2, 0, Kind::Fork(OTHER), Ok(true)),
+        (7, 2, 0, Kind::Fork(OTHER), refused(7, Refusal::LogFull)),
+        (100, 1, 0, Kind::Fork(OTHER), refused(3, Refusal::GraphFull)),
+        (100, 2, 3, Kind::Write(X, 0), Ok(true)),
+        (100, 2, 5, Kind::Exit, refused(5, Refusal::BlockOpen)),
+        (
+            100,
+            2,
+            2,
+            Kind::Read(X, 9),
+            Err(ReliveFault::WrongValue { position: 2 }),
+        ),
+        (
+            7,
+            2,
+            7,
+            Kind::Read(X, 9),
+            Err(ReliveFault::WrongValue { position: 7 }),
+        ),
+    ] {
+        let outcome = relived(rt.alloc(), events, nodes, place, kind)?;
+        assert_eq!(rt; outcome, wanted);
+    }
     Ok(())
 }
 

@@ -4,6 +4,7 @@ ghost use Rattle.velo_events.specs.declared.event.Action.TheVariants.{Fork};
 ghost use Rattle.velo_events.specs.declared.limits.TheConstants.{MOST_EVENTS};
 ghost use Rattle.velo_events.specs.declared.event.Event.{Event as EventOf};
 ghost use Rattle.velo_events.specs.Block.{IsTransaction};
+ghost use Rattle.velo_events.specs.Meaning.{action_of};
 ghost use Rattle.velo_events.specs.Collection.{IsAccountedFor, IsGivenUp, IsHarmless};
 ghost use Rattle.velo_events.specs.Graph.{HasCycle};
 ghost use Rattle.velo_events.specs.Reordering.{IsSerializable};
@@ -16,16 +17,16 @@ ghost use Rattle.velo_arena.specs.Slots.{limit_of};
 ghost use Rattle.velo_arena.specs.Stamps.{stamps_in};
 ghost use Rattle.velo_monitor.specs.Watched.{IsMonitorOf};
 ghost use Rattle.velo_world.specs.World.{IsAlarm, IsWatchedPart, opening, halted_world, meaning, FitsLog, OthersStillFit, IsBookOf, IsBorn, IsLiveThread, HoldsLiveShares, CompletesShares, IsNoFork, Replies, Acts, Forks, Closes, StepsTo, RunsTo};
-ghost use Rattle.velo_world.specs.Kept.{PlaceIsRight, Performs, left_by, taken_by, with_share};
-ghost use Rattle.velo_world.specs.Run.{IsRunOfItsLog, HasRoomForNext};
+ghost use Rattle.velo_world.specs.Kept.{PlaceIsRight, left_by, taken_by, with_share};
 
 use crate::closed::Closed;
+use crate::course::Course;
 use crate::run::{Alarm, Reply, Run};
 use std::alloc::Global;
 use std::fmt;
 use std::marker::Model;
 use velo_events::growth::reserve;
-use velo_events::{Action, Bounds, Config, Event, Memory, Refusal, Status, ThreadId};
+use velo_events::{Action, Bounds, Config, Event, Kind, Memory, Refusal, Status, ThreadId};
 use velo_heap::Heap;
 use velo_ledger::{Book, Share, Shares};
 use velo_monitor::Monitor;
@@ -37,13 +38,11 @@ use velo_traces::Trace;
 /// world keeps until the thread is forked.
 #[derive(Drop)]
 pub struct World {
-    config: Config,
-    halted: bool,
-    run: Run,
-    book: Book,
+    pub(crate) course: Course,
+    pub(crate) book: Book,
     /// The shares of the threads that are not born yet.
-    kept: Shares,
-    alloc: Global,
+    pub(crate) kept: Shares,
+    pub(crate) alloc: Global,
 }
 
 impl Model for World {
@@ -61,10 +60,10 @@ impl Model for World {
 impl fmt::Debug for World {
     fn fmt<W: fmt::Write>(&self, f: &mut fmt::Formatter<W>) -> fmt::Result {
         f.debug_struct("World")
-            .field("config", &self.config)
-            .field("halted", &self.halted)
-            .field("events", &self.run.log.len())
-            .field("alarm", &self.run.alarm)
+            .field("config", &self.course.config)
+            .field("halted", &self.course.halted)
+            .field("events", &self.course.log.len())
+            .field("alarm", &self.course.run.alarm)
             .finish_non_exhaustive()
     }
 }
@@ -79,15 +78,19 @@ impl World {
         ensures share { IfOk result (λ opened. opened.1 ≡ opening_share config.run 0) }
         ensures memory { OnErr result GrowthRefused }
     {
+        let log = Trace::new(alloc);
         let run = Run::new(alloc, &config)?;
         let (book, mut kept) = Book::open(alloc, config.run, config.bounds.threads)?;
         let Some(share) = kept.take(ThreadId(0)) else {
             unreachable!()
         };
         let world = World {
-            config,
-            halted: false,
-            run,
+            course: Course {
+                config,
+                halted: false,
+                log,
+                run,
+            },
             book,
             kept,
             alloc,
@@ -107,8 +110,13 @@ impl World {
         ensures fits { FitsLog self.new share.new }
         ensures others { OthersStillFit self.old share.old.thread self.new }
     {
-        let (reply, _) = self.perform(share, action)?;
-        Ok(reply)
+        match self.course.perform(share.thread(), action) {
+            Ok((event, reply)) => {
+                self.book.enter(share, reply.position, &event);
+                Ok(reply)
+            }
+            Err(refusal) => Err(refusal),
+        }
     }
 
     /// Forks a thread, which is one event of the share's thread, and hands out the share that the child begins with. It
@@ -123,10 +131,15 @@ impl World {
         ensures born { IfOk result (λ forked. FitsLog self.new forked.1) }
         ensures others { OthersStillFit self.old share.old.thread self.new }
     {
-        let (reply, born) = self.perform(share, Action::Fork(child))?;
-        match born {
-            Some(born) => Ok((reply, born)),
-            None => unreachable!(),
+        match self.course.perform(share.thread(), Action::Fork(child)) {
+            Ok((event, reply)) => {
+                self.book.enter(share, reply.position, &event);
+                match self.kept.take(child) {
+                    Some(born) => Ok((reply, born)),
+                    None => unreachable!(),
+                }
+            }
+            Err(refusal) => Err(refusal),
         }
     }
 
@@ -175,20 +188,10 @@ impl World {
         ensures filled { (t : ℕ) → IsFilled shares.old t → IsFilled shares.new t }
         ensures complete { CompletesShares self.old shares.old → CompletesShares self.new shares.new }
     {
-        if self.halted {
-            return Err(Refusal::Halted);
-        }
-        if !self.is_live(thread) {
-            return Err(Refusal::NotLive);
-        }
-        let Some(mut share) = shares.take(thread) else {
-            unreachable!()
-        };
-        let performed = self.perform(&mut share, action);
-        put(shares, Some(share));
-        match performed {
-            Ok((reply, born)) => {
-                put(shares, born);
+        match self.course.perform(thread, action) {
+            Ok((event, reply)) => {
+                self.book.enter_at(shares, reply.position, &event);
+                hand_over(&mut self.kept, shares, &event);
                 Ok(reply)
             }
             Err(refusal) => Err(refusal),
@@ -199,7 +202,7 @@ impl World {
     pub fn bounds(&self) -> Bounds
         ensures { result ≡ self.now.config.bounds }
     {
-        self.config.bounds
+        self.course.config.bounds
     }
 
     /// How many threads there are.
@@ -215,7 +218,7 @@ impl World {
         ensures well_formed { IsWellFormed self.now.config.bounds self.now.log }
         ensures limit { length self.now.log ≤ self.now.config.events }
     {
-        &self.run.log
+        &self.course.log
     }
 
     /// The heap that the log leaves.
@@ -223,7 +226,7 @@ impl World {
         ensures stands { IsHeapOf result.now self.now.log }
         ensures bounds { bounds_of result.now ≡ self.now.config.bounds }
     {
-        &self.run.heap
+        &self.course.run.heap
     }
 
     /// The graph of the log's transactions; with an alarm, of those before it. A transaction that it gave up is on no cycle,
@@ -234,7 +237,7 @@ impl World {
         ensures given_up { (trace : List EventOf) → IsWatchedPart self.now.log trace → (a : ℕ) → IsGivenUp trace (stamps_in result.now.nodes.slots) a → IsHarmless self.now.config.bounds trace a }
         ensures limit { limit_of result.now.nodes.slots ≡ self.now.config.nodes }
     {
-        &self.run.monitor
+        &self.course.run.monitor
     }
 
     /// The book of the log, with a row for each thread.
@@ -252,21 +255,21 @@ impl World {
         ensures serial_none { IfNone result (IsSerializable self.now.log) }
         ensures serial_some { IfSome result (λ alarm. ¬ IsSerializable self.now.log) }
     {
-        self.run.alarm.as_ref()
+        self.course.run.alarm.as_ref()
     }
 
     /// Refuses every action from now on.
     pub fn halt(&mut self)
         ensures { self.new ≡ halted_world self.old }
     {
-        self.halted = true;
+        self.course.halted = true;
     }
 
     /// Whether every action is refused: after `halt`, and after an alarm where the configuration says `stop`.
     pub fn is_halted(&self) -> bool
         ensures { result ≡ self.now.halted }
     {
-        self.halted
+        self.course.halted
     }
 
     /// Whether the share is of this run and of a thread of this world, and says what the log says of it.
@@ -289,59 +292,11 @@ impl World {
         }
     }
 
-    /// The event that an action is, or the first refusal that applies.
-    fn decide(&self, thread: ThreadId, action: Action) -> Result<Event, Refusal>
-        ensures { result ≡ meaning self.now thread action }
-    {
-        if self.is_halted() {
-            return Err(Refusal::Halted);
-        }
-        let event = self.run.heap.admit(thread, action)?;
-        if self.run.log.len() >= self.config.events as usize {
-            return Err(Refusal::LogFull);
-        }
-        Ok(event)
-    }
-
-    /// Does an action of the share's thread, a fork or any other, and hands out the share of a forked thread.
-    fn perform(
-        &mut self,
-        share: &mut Share,
-        action: Action,
-    ) -> Result<(Reply, Option<Share>), Refusal>
-        requires { FitsLog self.old share.old }
-        ensures outcome { Performs self.old share.old action result self.new share.new }
-        ensures fits { FitsLog self.new share.new }
-        ensures born { IfOk result (λ done. IfSome done.1 (λ born. FitsLog self.new born)) }
-        ensures others { OthersStillFit self.old share.old.thread self.new }
-    {
-        let event = self.decide(share.thread(), action)?;
-        if self.run.has_no_node_for(&event, self.config.nodes) {
-            return Err(Refusal::GraphFull);
-        }
-        if self.run.reserve_for(&event).is_err() {
-            return Err(Refusal::Memory);
-        }
-        let born = take_forked(&mut self.kept, action);
-        let reply = commit(&mut self.run, &mut self.book, share, event);
-        if self.config.stop && reply.alarmed {
-            self.halt();
-        }
-        Ok((reply, born))
-    }
-
-    /// Whether the thread is there and may act.
-    fn is_live(&self, thread: ThreadId) -> bool
-        ensures { IsTrue result ↔ IsLiveThread self.now thread.0 }
-    {
-        thread.0 < self.threads() && matches!(self.run.heap.status(thread), Status::Live)
-    }
-
     /// Whether the thread is there and not unborn.
     fn is_born(&self, thread: ThreadId) -> bool
         ensures { IsTrue result ↔ IsBorn self.now thread.0 }
     {
-        thread.0 < self.threads() && !matches!(self.run.heap.status(thread), Status::Unborn)
+        thread.0 < self.threads() && !matches!(self.course.run.heap.status(thread), Status::Unborn)
     }
 
     /// Whether the shares that the world keeps and those given are one fitting share of each thread: at the place of each
@@ -364,47 +319,17 @@ impl World {
     }
 }
 
-/// Takes in an admitted event of the share's thread, for which there is room, and enters it in book and share.
-fn commit(run: &mut Run, book: &mut Book, share: &mut Share, event: Event) -> Reply
-    requires follows { IsRunOfItsLog run.old }
-    requires room { HasRoomForNext run.old event }
-    requires admitted { MayFollow (bounds_of run.old.heap) run.old.log.events event }
-    requires fits { FitsBook book.old share.old }
-    requires own { event.thread ≡ share.old.thread }
-    requires later { share.old.tally.next ≤ length run.old.log.events }
-    requires short { length run.old.log.events < MOST_EVENTS }
-    ensures log { run.new.log.events ≡ run.old.log.events ++ event ∷ [] }
-    ensures bounds { bounds_of run.new.heap ≡ bounds_of run.old.heap }
-    ensures nodes { limit_of run.new.monitor.nodes.slots ≡ limit_of run.old.monitor.nodes.slots }
-    ensures follows { IsRunOfItsLog run.new }
-    ensures reply { Replies run.old.log.events event result }
-    ensures book { book.new ≡ with_row book.old share.old.thread
-        (with_event share.old.tally (length run.old.log.events) event) }
-    ensures share { share.new ≡ with_tally share.old
-        (with_event share.old.tally (length run.old.log.events) event) }
+/// Puts the share of the thread that the event forks, if it is a fork, from the one places to the others, where none is.
+#[inline]
+pub fn hand_over(kept: &mut Shares, shares: &mut Shares, event: &Event)
+    requires { IfSome (taken_by kept.old (action_of event.now.kind)) (λ share. slice_get shares.old share.thread.0 ≡ Some None) }
+    ensures kept { kept.new ≡ left_by kept.old (action_of event.now.kind) }
+    ensures shares { shares.new ≡ with_share shares.old (taken_by kept.old (action_of event.now.kind)) }
 {
-    let reply = run.commit(event);
-    book.enter(share, reply.position, &event);
-    reply
-}
-
-/// Takes out the share of the thread that the action forks, if it is a fork.
-fn take_forked(kept: &mut Shares, action: Action) -> Option<Share>
-    ensures share { result ≡ taken_by kept.old action }
-    ensures after { kept.new ≡ left_by kept.old action }
-{
-    match action {
-        Action::Fork(child) => kept.take(child),
-        _ => None,
-    }
-}
-
-/// Puts a share, if there is one, at its thread's place, which is there and empty.
-fn put(shares: &mut Shares, share: Option<Share>)
-    requires { IfSome share (λ share. slice_get shares.old share.thread.0 ≡ Some None) }
-    ensures { shares.new ≡ with_share shares.old share }
-{
-    let Some(share) = share else {
+    let Kind::Fork(child) = event.kind else {
+        return;
+    };
+    let Some(share) = kept.take(child) else {
         return;
     };
     if shares.put(share).is_err() {

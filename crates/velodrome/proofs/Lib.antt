@@ -1,3 +1,1 @@
-pub mod OnNextEvents
-pub mod OnFaults
 pub mod OnVerdicts

@@ -4,6 +4,7 @@ ghost use Rattle.velo_events.specs.Refusals.{GrowthRefused};
 ghost use Rattle.velo_events.specs.declared.limits.TheConstants.{MOST_EVENTS, MOST_NODES};
 
 use crate::growth::{with_argument, with_subcommand};
+use crate::help;
 use clap::{Arg, ArgAction, ArgMatches, Command, value_parser};
 use std::alloc::Global;
 use velo_events::{MOST_EVENTS, MOST_NODES, Memory};
@@ -11,7 +12,7 @@ use velo_events::{MOST_EVENTS, MOST_NODES, Memory};
 /// What `velodrome check` was asked for.
 #[derive(Clone, Copy, Debug)]
 pub struct CheckOptions<'a> {
-    /// The path of the log.
+    /// The path of the log, or `-`.
     pub log: &'a str,
     /// The most events that the log may have.
     pub events: u32,
@@ -34,6 +35,8 @@ pub fn command<'a>(alloc: Global) -> Result<Command<'a>, Memory>
 {
     let program = Command::new(alloc, "velodrome")
         .about("Tells whether the atomic blocks of an observed run can be serialized")
+        .version(help::VERSION)
+        .after_help(help::OF_PROGRAM)
         .subcommand_required(true);
     with_subcommand(program, check_command(alloc)?)
 }
@@ -41,7 +44,9 @@ pub fn command<'a>(alloc: Global) -> Result<Command<'a>, Memory>
 fn check_command<'a>(alloc: Global) -> Result<Command<'a>, Memory>
     ensures memory { OnErr result GrowthRefused }
 {
-    let check = Command::new(alloc, "check").about("Reads a recorded log and reports the verdict");
+    let check = Command::new(alloc, "check")
+        .about("Reads a recorded log and reports the verdict")
+        .after_help(help::OF_CHECK);
     let check = with_argument(check, log_argument(alloc))?;
     let check = with_argument(check, events_argument(alloc))?;
     let check = with_argument(check, nodes_argument(alloc))?;
@@ -50,7 +55,7 @@ fn check_command<'a>(alloc: Global) -> Result<Command<'a>, Memory>
 
 fn log_argument<'a>(alloc: Global) -> Arg<'a> {
     Arg::new(alloc, "LOG")
-        .help("The path of the log")
+        .help("The path of the log, or - for standard input")
         .required(true)
         .action(ArgAction::Set)
 }

@@ -1,26 +1,22 @@
 //! Checking a recorded log.
-ghost use Rattle.std.specs.Prelude.{◌≡◌, ◌≤◌, ◌<◌, [], ◌∷◌, ◌++◌, None, true, false, IfOk, IfErr, OnOk, OnErr, length};
-ghost use Rattle.velo_events.specs.Meaning.{action_of, has_its_value, refusal_of};
+ghost use Rattle.std.specs.Prelude.{◌≡◌, ◌≤◌, true, false, IfOk, IfErr, OnErr, length};
 ghost use Rattle.velo_events.specs.Certificate.{IsSerialOrder, IsShortestCycleAt};
 ghost use Rattle.velo_events.specs.Graph.{HasCycle, IsClosing};
-ghost use Rattle.velo_events.specs.WellFormed.{IsWellFormed, NamesKnown};
+ghost use Rattle.velo_events.specs.WellFormed.{IsWellFormed};
 ghost use Rattle.velo_events.specs.Refusals.{GrowthRefused};
 ghost use Rattle.velo_events.specs.declared.limits.TheConstants.{MOST_EVENTS, MOST_NODES};
-ghost use Rattle.velo_traces.specs.Flaws.{flaw_of};
 ghost use Rattle.velo_logtext.specs.Text.{AreBounds};
-ghost use Rattle.velo_world.specs.World.{meaning, opening};
-ghost use Rattle.velo_world.specs.World.{CompletesShares, HoldsLiveShares};
+ghost use Rattle.velo_world.specs.Faults.{world_of};
 ghost use Rattle.velodrome.specs.Check.{Checks, IsEvidence, IsVerdict, Reports, Shows, read_failures, write_failures};
-ghost use Rattle.velodrome.specs.Faults.{world_of, IsFaultAtEvent, IsFaultOfLog, IsLimit, IsRefusal, is_as_logged};
+ghost use Rattle.velodrome.specs.Faults.{check_fault_of, IsFaultOfLog};
 
 use std::alloc::Global;
 use velo_certify::{CertFault, cycle_of, serial_order};
-use velo_events::{Action, Bounds, Config, Event, Kind, Memory, Refusal};
-use velo_ledger::Shares;
+use velo_events::{Bounds, Config, Memory, Refusal};
 use velo_logtext::{LogFault, Sink, Source, WriteFault, read_log};
 use velo_report::{Names, certificate_lines, report};
 use velo_traces::Trace;
-use velo_world::{Closed, World};
+use velo_world::{Closed, ReliveFault, World};
 
 /// What a log shows.
 #[derive(Clone, Copy, Debug, PartialEq, Eq)]
@@ -46,130 +42,32 @@ pub enum CheckFault {
     Memory,
 }
 
-/// The action that asks for the operation.
-fn action_of(kind: Kind) -> Action
-    ensures { result ≡ action_of kind }
+/// The same fault of a check.
+fn fault_of(fault: ReliveFault) -> CheckFault
+    ensures { result ≡ check_fault_of fault }
 {
-    match kind {
-        Kind::Read(x, _) => Action::Read(x),
-        Kind::Write(x, v) => Action::Write(x, v),
-        Kind::Acquire(m) => Action::Acquire(m),
-        Kind::Release(m) => Action::Release(m),
-        Kind::Begin(label) => Action::Begin(label),
-        Kind::End => Action::End,
-        Kind::Fork(u) => Action::Fork(u),
-        Kind::Join(u) => Action::Join(u),
-        Kind::Exit => Action::Exit,
+    match fault {
+        ReliveFault::Refused { position, refusal } => CheckFault::Refused { position, refusal },
+        ReliveFault::WrongValue { position } => CheckFault::WrongValue { position },
+        ReliveFault::Memory => CheckFault::Memory,
     }
 }
 
-/// Whether a read has its variable's value now; true of any other operation.
-fn has_its_value(world: &World, kind: Kind) -> bool
-    requires { NamesKnown world.now.config.bounds kind }
-    ensures { result ≡ has_its_value world.now.log kind }
-{
-    match kind {
-        Kind::Read(x, v) => world.heap().value(x) == v,
-        _ => true,
-    }
-}
-
-/// Whether what a read answered is what the log says.
-fn is_as_logged(kind: Kind, value: Option<u64>) -> bool
-    ensures { result ≡ is_as_logged kind value }
-{
-    match (kind, value) {
-        (Kind::Read(_, logged), Some(read)) => logged == read,
-        (Kind::Read(..), None) => false,
-        _ => true,
-    }
-}
-
-/// Why the next event of a log can't be done in the world, which has met a limit: a wrong value goes before.
-fn fault_at_limit(world: &World, event: &Event, refusal: Refusal) -> CheckFault
-    requires none { refusal_of world.now.config.bounds world.now.log event.now.thread.0 event.now.kind ≡ None }
-    requires limit { IsLimit world.now.config world.now.log event.now refusal }
-    ensures { IsFaultAtEvent world.now.config world.now.log event.now result }
-{
-    let position = world.log().len();
-    if has_its_value(world, event.kind) {
-        CheckFault::Refused { position, refusal }
-    } else {
-        CheckFault::WrongValue { position }
-    }
-}
-
-/// Why the next event of a log can't be done in the world, which has refused it.
-fn fault_of(world: &World, event: &Event, refusal: Refusal) -> CheckFault
-    requires running { world.now.halted ≡ false }
-    requires refused { IsRefusal world.now (meaning world.now event.now.thread (action_of event.now.kind)) refusal }
-    ensures { IsFaultAtEvent world.now.config world.now.log event.now result }
-{
-    match refusal {
-        Refusal::Memory => CheckFault::Memory,
-        Refusal::LogFull => fault_at_limit(world, event, refusal),
-        Refusal::GraphFull => fault_at_limit(world, event, refusal),
-        _ => CheckFault::Refused {
-            position: world.log().len(),
-            refusal,
-        },
-    }
-}
-
-/// A world without events, and a place for each thread's share.
-pub fn open_world(alloc: Global, config: Config) -> Result<(World, Shares), Memory>
-    ensures world { IfOk result (λ opened. opened.0 ≡ opening config) }
-    ensures ready { IfOk result (λ opened. HoldsLiveShares opened.0 opened.1) }
-    ensures complete { IfOk result (λ opened. CompletesShares opened.0 opened.1) }
-    ensures memory { OnErr result GrowthRefused }
-{
-    let (world, share) = World::new(alloc, config)?;
-    let mut shares = Shares::none(alloc, config.bounds.threads)?;
-    if shares.put(share).is_err() {
-        unreachable!()
-    }
-    Ok((world, shares))
-}
-
-/// Lets the world do what the next event of a log says.
-fn do_event(world: &mut World, shares: &mut Shares, event: &Event) -> Result<(), CheckFault>
-    requires running { world.old.halted ≡ false }
-    requires goes_on { world.old.config.stop ≡ false }
-    requires ready { HoldsLiveShares world.old shares.old }
-    ensures ready { HoldsLiveShares world.new shares.new }
-    ensures complete { CompletesShares world.old shares.old → CompletesShares world.new shares.new }
-    ensures before { IsWellFormed world.old.config.bounds world.old.log }
-    ensures short { length world.old.log ≤ world.old.config.events }
-    ensures ok { OnOk result (world.new ≡ world_of world.old.config (world.old.log ++ event.now ∷ [])) }
-    ensures follows { OnOk result (flaw_of world.old.config.bounds world.old.log event.now ≡ None) }
-    ensures err { IfErr result (λ fault. IsFaultAtEvent world.old.config world.old.log event.now fault) }
-{
-    let position = world.log().len();
-    match world.step(shares, event.thread, action_of(event.kind)) {
-        Ok(reply) if is_as_logged(event.kind, reply.value) => Ok(()),
-        Ok(_) => Err(CheckFault::WrongValue { position }),
-        Err(refusal) => Err(fault_of(world, event, refusal)),
-    }
-}
-
-/// The world of a log, all of whose events were done in it, after its end.
-pub fn do_log(alloc: Global, config: Config, log: &Trace) -> Result<Closed, CheckFault>
+/// The world of a log, all of whose events came about again in it, after its end. The log becomes the world's.
+pub fn do_log(alloc: Global, config: Config, log: Trace) -> Result<Closed, CheckFault>
     requires goes_on { config.stop ≡ false }
-    ensures ok { IfOk result (λ closed. closed ≡ world_of config log.now.events) }
+    ensures ok { IfOk result (λ closed. closed ≡ world_of config log.events) }
     ensures well_formed { IfOk result (λ closed. IsWellFormed closed.config.bounds closed.log) }
     ensures short { IfOk result (λ closed. length closed.log ≤ closed.config.events) }
-    ensures err { IfErr result (λ fault. IsFaultOfLog config log.now.events fault) }
+    ensures err { IfErr result (λ fault. IsFaultOfLog config log.events fault) }
 {
-    let Ok((mut world, mut shares)) = open_world(alloc, config) else {
-        return Err(CheckFault::Memory);
+    let (world, shares) = match World::relive(alloc, config, log) {
+        Ok(relived) => relived,
+        Err(fault) => return Err(fault_of(fault)),
     };
-    let events = log.as_slice();
-    for event in events {
-        do_event(&mut world, &mut shares, event)?;
-    }
     match world.close(shares) {
         Ok(closed) => {
-            prove!(closed.log().len() == events.len());
+            prove!(closed.log().len() <= config.events as usize);
             Ok(closed)
         }
         Err(_) => unreachable!(),
@@ -318,6 +216,6 @@ pub fn check_run<I: Source, O: Sink>(
         Ok(read) => read,
         Err(fault) => return Err(CheckFault::Log(fault)),
     };
-    let closed = do_log(alloc, config_of(bounds, events, nodes), &log)?;
+    let closed = do_log(alloc, config_of(bounds, events, nodes), log)?;
     write_answer(alloc, &closed, certificate, sink)
 }

@@ -5,11 +5,12 @@ mod arguments;
 mod check;
 mod fate;
 mod growth;
+mod help;
 mod program;
 
 use crate::program::{Logs, end_without_words, run};
 use std::fs::File;
-use std::io::ErrorKind;
+use std::io::{ErrorKind, Stdin};
 use std::process::ExitCode;
 use velo_logtext::{ReaderSource, WriterSink};
 
@@ -22,11 +23,17 @@ struct HostFiles<'a> {
 impl Logs for HostFiles<'_> {
     type Log = ReaderSource<File>;
 
+    type Input = ReaderSource<Stdin>;
+
     fn open(&self, path: &str) -> Option<ReaderSource<File>> {
         match File::open(self.rt, path) {
             Ok(file) => Some(ReaderSource::new(file)),
             Err(_) => None,
         }
+    }
+
+    fn standard_input(&self) -> ReaderSource<Stdin> {
+        ReaderSource::new(self.rt.stdin())
     }
 }
 

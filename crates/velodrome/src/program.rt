@@ -1,5 +1,5 @@
 //! What the program does with the words of its command line, whatever its devices are.
-ghost use Rattle.std.specs.Prelude.{◌≡◌};
+ghost use Rattle.std.specs.Prelude.{◌≡◌, ◌↔◌, codes, IsTrue};
 ghost use Rattle.clap.specs.Values.{kind_of};
 ghost use Rattle.velodrome.specs.Fate.{fate_of, status_of_usage};
 ghost use Rattle.velodrome.specs.Program.{IsChecked};
@@ -22,9 +22,14 @@ const BAD_USAGE: u8 = 2;
 pub trait Logs {
     /// An opened log.
     type Log: Source + Drop;
+    /// A log that comes by standard input.
+    type Input: Source + Drop;
 
     /// Opens the log at a path; none where this fails.
     fn open(&self, path: &str) -> Option<Self::Log>;
+
+    /// Standard input.
+    fn standard_input(&self) -> Self::Input;
 }
 
 /// A sink as a writer of text: each text goes out in one piece.
@@ -78,8 +83,18 @@ fn check_log<I: Source, O: Sink>(
     fate_of(answer)
 }
 
+/// Whether the path stands for standard input.
+fn is_standard_input(path: &str) -> bool
+    ensures { IsTrue result ↔ (path.now ≡ codes "-") }
+{
+    path == "-"
+}
+
 /// Checks the log that was asked for.
 fn check<L: Logs, O: Sink>(alloc: Global, options: &CheckOptions, logs: &L, out: &mut O) -> Fate {
+    if is_standard_input(options.log) {
+        return check_log(alloc, options, &mut logs.standard_input(), out);
+    }
     match logs.open(options.log) {
         Some(mut log) => check_log(alloc, options, &mut log, out),
         None => Fate::CannotOpen,

@@ -3,6 +3,7 @@ mod slow;
 
 use crate::check::{CheckFault, Verdict, check_run, config_of, do_log};
 use crate::fate::{Fate, end_with};
+use crate::help;
 use crate::program::{Logs, end_without_words, run};
 use crate::tests::slow::{BOUNDS, first_lines, world_by_chance};
 use std::alloc::Global;
@@ -27,7 +28,7 @@ const LOST_UPDATE_CERTIFIED: &str =
 const MERGED: &str =
     "vlog 1 2 1 0\n0 fork 1\n0 begin 1\n0 wr 0 1\n1 rd 0 1\n1 rd 0 1\n1 rd 0 1\n0 end\n";
 
-/// Logs by their paths, which come so many bytes at a time.
+/// Logs by their paths, which come so many bytes at a time. Standard input is the first of them.
 #[derive(Drop)]
 struct Folder<'a> {
     files: &'a [(&'a str, &'a str)],
@@ -37,6 +38,8 @@ struct Folder<'a> {
 impl<'a> Logs for Folder<'a> {
     type Log = Bytes<'a>;
 
+    type Input = Bytes<'a>;
+
     fn open(&self, path: &str) -> Option<Bytes<'a>> {
         for (name, log) in self.files {
             if *name == path {
@@ -44,6 +47,14 @@ impl<'a> Logs for Folder<'a> {
             }
         }
         None
+    }
+
+    fn standard_input(&self) -> Bytes<'a> {
+        let log = match self.files.first() {
+            Some((_, log)) => *log,
+            None => "",
+        };
+        Bytes::new(log.as_bytes()).in_steps(self.step)
     }
 }
 
@@ -339,7 +350,8 @@ fn certificates_are_written(rt: HostRuntime) {
 }
 
 /// Right words, with the status: of the two logs one raises an alarm at its last event.
-const RIGHT_WORDS: [(&[&str], u8); 8] = [
+const RIGHT_WORDS: [(&[&str], u8); 9] = [
+    (&["velodrome", "check", "-"], 3),
     (&["velodrome", "check", "--certificate", "a.log"], 3),
     (&["velodrome", "check", "a.log"], 3),
     (&["velodrome", "check", "b.log"], 0),
@@ -409,6 +421,73 @@ fn command_lines(rt: HostRuntime) {
     }
 }
 
+/// Words that ask for help, and what stands at its end.
+const HELP: [(&[&str], &str); 6] = [
+    (&["velodrome", "--help"], help::OF_PROGRAM),
+    (&["velodrome", "help"], help::OF_PROGRAM),
+    (&["velodrome", "check", "--help"], help::OF_CHECK),
+    (&["velodrome", "check", "-h"], help::OF_CHECK),
+    (&["velodrome", "help", "check"], help::OF_CHECK),
+    (&["velodrome", "--version"], help::VERSION),
+];
+
+#[test]
+fn help_goes_to_standard_output(rt: HostRuntime) {
+    let folder = Folder {
+        files: &FILES,
+        step: usize::MAX,
+    };
+    for (words, end) in HELP {
+        let shown = show(rt.alloc(), words, &folder);
+        assert_eq!(rt; shown.status, 0);
+        assert!(rt; shown.err.as_slice().is_empty());
+        assert!(rt;
+            shown
+                .out
+                .as_slice()
+                .trim_ascii_end()
+                .ends_with(end.as_bytes()),
+            "{end}"
+        );
+        let mut full = Text::new(rt.alloc()).failing_after(9);
+        let mut err = Text::new(rt.alloc());
+        assert_eq!(rt; run(rt.alloc(), words, &folder, &mut full, &mut err), 5);
+        assert_eq!(rt; err.as_slice(), b"write failed\n".as_slice());
+    }
+}
+
+/// The refusals that a check can answer.
+const REFUSALS: [Refusal; 17] = [
+    Refusal::NotLive,
+    Refusal::NoSuchVariable,
+    Refusal::NoSuchLock,
+    Refusal::NoSuchThread,
+    Refusal::Busy,
+    Refusal::AlreadyHeld,
+    Refusal::NotHolder,
+    Refusal::NoOpenBlock,
+    Refusal::TooDeep,
+    Refusal::AlreadyForked,
+    Refusal::NotForked,
+    Refusal::NotExited,
+    Refusal::AlreadyJoined,
+    Refusal::BlockOpen,
+    Refusal::LockHeld,
+    Refusal::LogFull,
+    Refusal::GraphFull,
+];
+
+/// What help says of a number is the text of its refusal.
+#[test]
+fn help_has_the_texts_of_refusals(rt: HostRuntime) -> Result<(), Fail> {
+    for refusal in REFUSALS {
+        let number = refusal as u8;
+        let line = format!(in rt.alloc(); "\n{number:>4}  {refusal}")?;
+        assert!(rt; help::OF_CHECK.contains(line.as_str()), "{line}");
+    }
+    Ok(())
+}
+
 #[test]
 fn devices_fail(rt: HostRuntime) {
     let log = LOST_UPDATE.as_bytes();
@@ -437,13 +516,6 @@ fn devices_fail(rt: HostRuntime) {
         files: &FILES,
         step: usize::MAX,
     };
-    for words in [["velodrome", "--help"], ["velodrome", "help"]] {
-        let mut full = Text::new(rt.alloc()).failing_after(9);
-        let mut err = Text::new(rt.alloc());
-        let status = run(rt.alloc(), words.as_slice(), &folder, &mut full, &mut err);
-        assert_eq!(rt; status, 5);
-        assert_eq!(rt; err.as_slice(), b"write failed\n".as_slice());
-    }
     let mut out = Text::new(rt.alloc());
     let mut closed = Text::new(rt.alloc()).failing_after(0);
     let status = run(rt.alloc(), &["velodrome"], &folder, &mut out, &mut closed);
@@ -482,7 +554,7 @@ fn compare_named(rt: &impl Abort, alloc: Global, closed: &Closed) -> Result<(), 
 #[test]
 fn names_stand_for_numbers(rt: HostRuntime) -> Result<(), Fail> {
     let (bounds, log) = read_log(rt.alloc(), &mut Bytes::new(LOST_UPDATE.as_bytes()))?;
-    match do_log(rt.alloc(), config_of(bounds, 5, 2), &log) {
+    match do_log(rt.alloc(), config_of(bounds, 5, 2), log) {
         Ok(closed) => compare_named(&rt, rt.alloc(), &closed),
         Err(_) => Err("the log was not done".into()),
     }

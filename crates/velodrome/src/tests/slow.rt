@@ -1,7 +1,7 @@
 //! Logs by chance, and their reports by the definitions in the slowest way.
 ghost use Rattle.std.specs.Prelude.{◌≤◌};
 
-use crate::check::{config_of, open_world};
+use crate::check::config_of;
 use std::alloc::{AllocError, Global};
 use std::test::Fail;
 use velo_events::{
@@ -67,7 +67,9 @@ fn action_by(dice: u64) -> Action {
 /// A world whose log came about by chance: of 48 actions those that were not refused.
 pub fn world_by_chance(alloc: Global, seed: u64) -> Result<World, Fail> {
     let config = config_of(BOUNDS, MOST_EVENTS, MOST_NODES);
-    let (mut world, mut shares) = open_world(alloc, config)?;
+    let Ok((mut world, mut shares)) = World::relive(alloc, config, Trace::new(alloc)) else {
+        return Err("no world".into());
+    };
     let mut dice = seed;
     for i in 0..48u8 {
         dice = dice

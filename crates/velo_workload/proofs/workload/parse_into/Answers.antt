@@ -1,8 +1,10 @@
-use Rattle.std.proofs.Common.{◌∙◌, sym, ap, length, map}
+use Rattle.std.proofs.Common.{subst, ◌∙◌, sym, ap, length, map}
 use Rattle.std.proofs.lemmas.List.{length-map}
 use Rattle.velo_workload.specs.Phrase.{phrases}
 use Rattle.velo_workload.specs.Outline.{Names, names_in}
 use Rattle.velo_workload.specs.Known.{known_of}
+use Rattle.velo_workload.specs.Bodies.{AreBodies}
+use Rattle.velo_workload.proofs.OnNested.{AreBodies-parsed}
 use Rattle.velo_workload.proofs.OnParsing.{count_bodies, first_wrong, second_wrong, all_right}
 use Rattle.velo_workload.proofs.workload.parse_into.Goals as goal
 
@@ -21,3 +23,7 @@ returns-in-Err-bodies_of c =
 pub returns-in-Ok-assemble : goal.returns-in-Ok-assemble
 returns-in-Ok-assemble c =
     all_right c.args.text.now (names_in (known_of c.read.new.self)) (map (λ body. body.items) c.in-Ok-bodies_of.bodies.items) c.in-Ok-assemble.workload c.in-Ok.ensures.names c.in-Ok.ensures.judged c.in-Ok-bodies_of.ensures.judged c.in-Ok-bodies_of.ensures.bodies c.in-Ok-assemble.ensures.workload
+
+pub assemble-requires-clause-nested : goal.assemble-requires-clause-nested
+assemble-requires-clause-nested c =
+    subst AreBodies (sym c.in-Ok-bodies_of.ensures.bodies) (AreBodies-parsed (names_in (known_of c.read.new.self)) (phrases c.args.text.now) c.in-Ok.ensures.judged)

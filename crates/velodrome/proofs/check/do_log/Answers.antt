@@ -1,19 +1,17 @@
-use Rattle.std.proofs.Common.{◌∙◌, ◌<◌, ap, sym, take, length, arith}
-use Rattle.std.specs.Prelude.{slice_get}
-use Rattle.std.proofs.lemmas.Option.{slice_get-get_or}
-use Rattle.std.proofs.lemmas.Result.{err_from_is_err_and}
-use Rattle.velodrome.specs.Faults.{world_of}
-use Rattle.velodrome.proofs.OnFaults.{fault_in_world}
+use Rattle.std.proofs.Common.{List, subst, sym}
+use Rattle.velo_events.specs.declared.config.Config.{Config}
+use Rattle.velo_events.specs.declared.event.Event.{Event}
+use Rattle.velo_world.specs.declared.relive.ReliveFault.{ReliveFault}
+use Rattle.velo_world.specs.declared.relive.ReliveFault.TheVariants.{Refused, WrongValue, Memory}
+use Rattle.velo_world.specs.Faults as world
+use Rattle.velodrome.specs.Faults.{check_fault_of, IsFaultOfLog}
 use Rattle.velodrome.proofs.check.do_log.Goals as goal
 
-pub returns-in_err-do_event-clause-err : goal.returns-in_err-do_event-clause-err
-returns-in_err-do_event-clause-err c =
-    let p = err_from_is_err_and c.from_residual.result c.from_residual.ensures.1 in
-    let m = c.in_err-do_event.ensures in
-    let i = c.loop-event.event-index in
-    let same = c.as_slice-events.ensures in
-    let within : i < length c.as_slice-events.result.now = omega arith in
-    rw (p.1, p.2) (fault_in_world c.loop-event.world c.args.config c.args.log.now.events i _ _
-    (c.loop-event.invariant.done ∙ ap (λ xs. world_of c.args.config (take i xs)) same)
-    (ap (λ xs. slice_get xs i) (sym same) ∙ slice_get-get_or c.as_slice-events.result.now i _ within)
-    m.before m.short m.err)
+same_fault : (config : Config) (log : List Event) (fault : ReliveFault) → world.IsFaultOfLog config log fault → IsFaultOfLog config log (check_fault_of fault)
+same_fault config log (Refused p refusal) h = h
+same_fault config log (WrongValue p) h = h
+same_fault config log Memory h = h
+
+pub returns-in-Err-clause-err : goal.returns-in-Err-clause-err
+returns-in-Err-clause-err c =
+    subst (IsFaultOfLog c.args.config c.args.log.events) (sym c.fault_of.ensures) (same_fault c.args.config c.args.log.events _ c.in-Err.ensures.fault)

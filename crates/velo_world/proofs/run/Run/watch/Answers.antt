@@ -1,56 +1,67 @@
-use Rattle.std.proofs.Common.{sym, ◌∙◌, subst, [], ◌∷◌, ◌++◌}
+use Rattle.std.proofs.Common.{List, [], ◌∷◌, ◌++◌, take, sym, ap, ◌∙◌, subst, refl, arith}
+use Rattle.velo_events.specs.Block.{owner}
+use Rattle.velo_events.specs.WellFormed.{IsWellFormed}
+use Rattle.velo_events.proofs.OnWellFormed.{IsWellFormed-push}
+use Rattle.velo_events.specs.declared.event.Event.{Event}
+use Rattle.velo_world.specs.declared.run.Run.{Run}
+use Rattle.velo_world.specs.Run.{ComesNext}
 use Rattle.velo_heap.specs.Contents.{bounds_of}
-use Rattle.velo_world.proofs.OnAlarms.{AlarmOf-stays, AlarmOf-quiet, IsWatched-closing, no_alarm}
-use Rattle.velo_world.proofs.OnRuns.{alarm-none, events_watched-stays, events_watched-none, take-before}
-use Rattle.velo_monitor.specs.Watched.{IsMonitorOf}
+use Rattle.velo_world.proofs.OnAlarms.{length-before}
+use Rattle.velo_world.proofs.OnRuns.{alarm-none, IsWatched-stays, IsWatched-quiet, IsWatched-raised, monitor-quiet, clocks-quiet}
 use Rattle.velo_world.proofs.run.Run.watch.Goals as goal
+
+well_after : (run : Run) (trace : List Event) (e : Event) → ComesNext run trace e → IsWellFormed run.clocks.bounds (trace ++ e ∷ [])
+well_after run trace e next =
+    subst (λ b. IsWellFormed b (trace ++ e ∷ [])) (sym next.stands.watched.bounds_are) (IsWellFormed-push (bounds_of run.heap) trace e next.stands.heap.well_formed next.follows)
 
 pub returns-then-is_some-clause-watched : goal.returns-then-is_some-clause-watched
 returns-then-is_some-clause-watched c =
-    AlarmOf-stays c.args.self.now.log.events c.args.event.now c.args.self.now.alarm (sym c.is_some.ensures ∙ c.if-is_some.true) c.requires.follows.alarm
-
-pub returns-then-is_some-clause-monitor : goal.returns-then-is_some-clause-monitor
-returns-then-is_some-clause-monitor c =
-    subst (IsMonitorOf (bounds_of c.args.self.now.heap) c.args.self.now.monitor) (sym (events_watched-stays c.args.self.now.log.events c.args.event.now c.args.self.now.alarm (sym c.is_some.ensures ∙ c.if-is_some.true) c.requires.follows.alarm)) c.requires.follows.monitor
+    IsWatched-stays c.args.self.now _ _ c.args.event.now (sym c.is_some.ensures ∙ c.if-is_some.true) c.requires.next.stands.watched
 
 pub observe-requires : goal.observe-requires
 observe-requires c =
     let quiet = sym c.is_some.ensures ∙ c.if-is_some.false in
     let none = alarm-none c.args.self.now.alarm quiet in
+    let here = length-before c.args.events.now c.args.position c.args.event.now c.requires.here in
     record {
       bounds = bounds_of c.args.self.now.heap;
-      trace = c.args.self.now.log.events;
-      stands = subst (IsMonitorOf (bounds_of c.args.self.now.heap) c.args.self.now.monitor) (events_watched-none c.args.self.now.log.events c.args.self.now.alarm quiet) c.requires.follows.monitor;
-      at_end = c.requires.at_end;
-      within = rw c.requires.at_end c.requires.short;
-      follows = c.requires.admitted;
-      room = c.requires.room.monitor none;
-      slot = c.requires.room.slot.slot none;
+      trace = _;
+      stands = monitor-quiet c.args.self.now _ _ quiet c.requires.next.stands.watched;
+      at_end = sym here;
+      within = (let short = c.requires.next.short in omega (arith, here, short));
+      follows = c.requires.next.follows;
+      room = c.requires.next.room.monitor none;
+      slot = c.requires.next.room.slot.slot none;
     }
 
 pub returns-in-Quiet-clause-watched : goal.returns-in-Quiet-clause-watched
 returns-in-Quiet-clause-watched c =
     let quiet = sym c.is_some.ensures ∙ c.if-is_some.false in
-    let stands = subst (IsMonitorOf (bounds_of c.args.self.now.heap) c.args.self.now.monitor) (events_watched-none c.args.self.now.log.events c.args.self.now.alarm quiet) c.requires.follows.monitor in
-    AlarmOf-quiet _ c.args.self.now.alarm quiet (c.in-Quiet.ensures.seen _ _ stands c.requires.at_end c.requires.admitted).0
+    let watched = c.requires.next.stands.watched in
+    let here = length-before c.args.events.now c.args.position c.args.event.now c.requires.here in
+    let seen = c.in-Quiet.ensures.seen _ _ (monitor-quiet c.args.self.now _ _ quiet watched) (sym here) c.requires.next.follows in
+    IsWatched-quiet _ _ _ quiet seen.0 seen.1 (c.note.ensures.next _ (clocks-quiet c.args.self.now _ _ quiet watched) here (well_after c.args.self.now _ c.args.event.now c.requires.next)) (c.note.ensures.bounds ∙ watched.bounds_are)
 
-pub returns-in-Quiet-clause-monitor : goal.returns-in-Quiet-clause-monitor
-returns-in-Quiet-clause-monitor c =
+pub alarm_at-requires-clause-well_formed : goal.alarm_at-requires-clause-well_formed
+alarm_at-requires-clause-well_formed c = well_after c.args.self.now _ c.args.event.now c.requires.next
+
+pub alarm_at-requires-clause-closes : goal.alarm_at-requires-clause-closes
+alarm_at-requires-clause-closes c =
     let quiet = sym c.is_some.ensures ∙ c.if-is_some.false in
-    let stands = subst (IsMonitorOf (bounds_of c.args.self.now.heap) c.args.self.now.monitor) (events_watched-none c.args.self.now.log.events c.args.self.now.alarm quiet) c.requires.follows.monitor in
-    subst (IsMonitorOf (bounds_of c.args.self.now.heap) c.observe.new.self) (sym (events_watched-none (c.args.self.now.log.events ++ c.args.event.now ∷ []) c.args.self.now.alarm quiet)) (c.in-Quiet.ensures.seen _ _ stands c.requires.at_end c.requires.admitted).1
+    let here = length-before c.args.events.now c.args.position c.args.event.now c.requires.here in
+    (c.in-Closes.ensures.seen _ _ (monitor-quiet c.args.self.now _ _ quiet c.requires.next.stands.watched) (sym here) c.requires.next.follows).0
+
+pub alarm_at-requires-clause-transaction : goal.alarm_at-requires-clause-transaction
+alarm_at-requires-clause-transaction c =
+    let quiet = sym c.is_some.ensures ∙ c.if-is_some.false in
+    let here = length-before c.args.events.now c.args.position c.args.event.now c.requires.here in
+    let seen = c.in-Closes.ensures.seen _ _ (monitor-quiet c.args.self.now _ _ quiet c.requires.next.stands.watched) (sym here) c.requires.next.follows in
+    seen.1 ∙ ap (owner (take c.args.position c.args.events.now ++ c.args.event.now ∷ [])) here
 
 pub returns-in-Closes-clause-watched : goal.returns-in-Closes-clause-watched
 returns-in-Closes-clause-watched c =
     let quiet = sym c.is_some.ensures ∙ c.if-is_some.false in
-    let stands = subst (IsMonitorOf (bounds_of c.args.self.now.heap) c.args.self.now.monitor) (events_watched-none c.args.self.now.log.events c.args.self.now.alarm quiet) c.requires.follows.monitor in
-    let seen = c.in-Closes.ensures.seen _ _ stands c.requires.at_end c.requires.admitted in
-    let none = no_alarm c.args.self.now.log.events c.args.self.now.alarm quiet c.requires.follows.alarm in
-    rw c.requires.at_end (IsWatched-closing c.args.self.now.log.events c.args.event.now c.args.self.now.alarm c.in-Closes.transaction none seen.0 seen.1)
-
-pub returns-in-Closes-clause-monitor : goal.returns-in-Closes-clause-monitor
-returns-in-Closes-clause-monitor c =
-    let quiet = sym c.is_some.ensures ∙ c.if-is_some.false in
-    let stands = subst (IsMonitorOf (bounds_of c.args.self.now.heap) c.args.self.now.monitor) (events_watched-none c.args.self.now.log.events c.args.self.now.alarm quiet) c.requires.follows.monitor in
-    let seen = c.in-Closes.ensures.seen _ _ stands c.requires.at_end c.requires.admitted in
-    rw (c.requires.at_end, take-before) seen.2
+    let watched = c.requires.next.stands.watched in
+    let here = length-before c.args.events.now c.args.position c.args.event.now c.requires.here in
+    let seen = c.in-Closes.ensures.seen _ _ (monitor-quiet c.args.self.now _ _ quiet watched) (sym here) c.requires.next.follows in
+    IsWatched-raised _ _ _ c.args.event.now c.alarm_at.result refl (c.alarm_at.ensures.position ∙ sym here) c.alarm_at.ensures.alarm seen.2 (clocks-quiet c.args.self.now _ _ quiet watched) watched.bounds_are

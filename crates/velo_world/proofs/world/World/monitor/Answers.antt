@@ -1,8 +1,4 @@
-use Rattle.std.proofs.Common.{sym, ap, ◌∙◌, subst}
-use Rattle.velo_events.specs.declared.config.Bounds.{Bounds}
-use Rattle.velo_monitor.specs.Watched.{IsMonitorOf}
 use Rattle.velo_monitor.proofs.OnLive.{accounted-by_stamps, given_up-harmless}
-use Rattle.velo_world.specs.World.{WorldState, IsWatchedPart}
 use Rattle.velo_world.proofs.OnWorlds.{IsMonitorOf-part}
 use Rattle.velo_world.proofs.world.World.monitor.Goals as goal
 

@@ -4,12 +4,14 @@ use Rattle.velo_world.proofs.world.World.new.Goals as goal
 
 pub invariant_of-world : goal.invariant_of-world
 invariant_of-world c =
-    let log_is = c.in_ok-run.ensures.log in
+    let log_is = c.new-log.ensures in
     record {
-      short = (let none : length c.in_ok-run.run'.log.events ≡ 0 = ap length log_is in omega (arith, none));
-      bounds = c.in_ok-run.ensures.bounds;
-      nodes = c.in_ok-run.ensures.nodes;
-      run = c.in_ok-run.ensures.follows;
+      course = record {
+        short = (let none : length c.new-log.result.events ≡ 0 = ap length log_is in omega (arith, none));
+        bounds = c.in_ok-run.ensures.bounds;
+        nodes = c.in_ok-run.ensures.nodes;
+        run = rw log_is c.in_ok-run.ensures.follows;
+      };
       book = rw (log_is, c.in_ok-book.ensures.book) (IsBookOf-opening c.args.config);
       keeps = rw (log_is, c.take.ensures.after) (KeepsUnborn-opening c.args.config c.in_ok-book.kept c.args.config.some_thread c.in_ok-book.ensures.shares);
     }

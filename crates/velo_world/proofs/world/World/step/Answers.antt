@@ -1,37 +1,40 @@
-use Rattle.std.proofs.Common.{refl, sym, ap, ◌∙◌, inl}
-use Rattle.std.proofs.lemmas.Bool.{false≢true}
-use Rattle.velo_world.specs.World.{WorldState}
-use Rattle.velo_world.proofs.OnAnswers.{meaning-not_live}
-use Rattle.velo_world.proofs.OnSequences.{Taken-from, put-own, put-born, Stepped-taken, Stepped-refused, Acts-performed}
+use Rattle.std.proofs.Common.{◌≡◌, Some, None, Ok, sym, ap, ◌∙◌, subst}
+use Rattle.std.specs.Prelude.{slice_get, IfSome}
+use Rattle.velo_events.specs.declared.event.Action.{Action}
+use Rattle.velo_events.specs.declared.event.Event.{Event}
+use Rattle.velo_events.specs.declared.event.ThreadId.{ThreadId}
+use Rattle.velo_events.specs.Meaning.{action_of}
+use Rattle.velo_world.specs.declared.world.World.TheInside.{Inside}
+use Rattle.velo_world.specs.Course.{course_of}
+use Rattle.velo_world.specs.Kept.{left_by, taken_by, with_share}
+use Rattle.velo_world.specs.World.{WorldState, meaning}
+use Rattle.velo_world.proofs.OnAnswers.{event-meaning, action_of-kind_for}
+use Rattle.velo_world.proofs.OnCourses.{well_formed-course}
+use Rattle.velo_world.proofs.OnSequences.{CanEnterAt-added, IsBookOf-stepped, place-born, Stepped, Stepped-added}
+use Rattle.velo_world.proofs.OnSteps.{KeepsUnborn-added}
 use Rattle.velo_world.proofs.world.World.step.Goals as goal
 
-pub returns-then-not-is_live-clause-outcome : goal.returns-then-not-is_live-clause-outcome
-returns-then-not-is_live-clause-outcome c =
-    let going = ap (λ (w : WorldState). w.halted) (sym c.self.view_is) ∙ c.if-self.false in
-    record {
-      world = refl;
-      holding = refl;
-      cause = inl (meaning-not_live c.args.self.now c.args.thread c.args.action going (λ live. false≢true (sym c.if-not-is_live.true ∙ c.is_live.ensures.1 live)));
-    }
+action_is : (old : Inside) (t : ThreadId) (action : Action) (e : Event) → meaning (course_of old.course) t action ≡ Ok e → action_of e.kind ≡ action
+action_is old t action e due = ap (λ (f : Event). action_of f.kind) (event-meaning (course_of old.course) t action e due) ∙ action_of-kind_for old.course.log.events action
 
-pub put-requires : goal.put-requires
-put-requires c =
-    let taken = Taken-from _ c.args.self.now _ c.self.inside.kept c.args.shares.now c.take.new.self c.args.thread c.in-Some.share c.self.view_is c.self.invariant.run.heap.well_formed c.self.invariant.bounds c.self.invariant.keeps c.requires (c.is_live.ensures.0 c.if-not-is_live.false) c.in-Some.ensures.own c.in-Some.ensures.share c.in-Some.ensures.after in
-    put-own _ _ _ _ _ _ _ _ _ taken (Acts-performed _ _ _ _ _ _ c.perform-performed.ensures.outcome)
+pub enter_at-requires-clause-there : goal.enter_at-requires-clause-there
+enter_at-requires-clause-there c =
+    CanEnterAt-added (course_of c.self.inside.course) _ c.args.shares.now c.self.inside.kept c.args.thread c.args.action _ _ (well_formed-course _ c.self.invariant.course) c.in-Ok.ensures.outcome c.self.invariant.keeps (rw c.self.view_is c.requires) c.self.inside.book c.self.invariant.book
 
-pub returns-in-Err : goal.returns-in-Err
-returns-in-Err c =
-    let taken = Taken-from _ c.args.self.now _ c.self.inside.kept c.args.shares.now c.take.new.self c.args.thread c.in-Some.share c.self.view_is c.self.invariant.run.heap.well_formed c.self.invariant.bounds c.self.invariant.keeps c.requires (c.is_live.ensures.0 c.if-not-is_live.false) c.in-Some.ensures.own c.in-Some.ensures.share c.in-Some.ensures.after in
-    let stepped = Stepped-refused _ _ _ _ _ _ _ _ _ _ taken c.in-Err.ensures.outcome c.put.ensures in
-    record { outcome = stepped.outcome_is; ready = stepped.ready; filled = stepped.filled; complete = stepped.complete }
+pub hand_over-requires : goal.hand_over-requires
+hand_over-requires c =
+    subst (λ a. IfSome (taken_by c.self.inside.kept a) (λ share. slice_get c.enter_at.new.shares share.thread.0 ≡ Some None)) (sym (action_is c.self.inside c.args.thread c.args.action _ c.in-Ok.ensures.outcome.due))
+    (place-born (course_of c.self.inside.course) _ c.args.shares.now c.self.inside.kept c.args.thread c.args.action _ _ (well_formed-course _ c.self.invariant.course) c.in-Ok.ensures.outcome c.self.invariant.keeps (rw c.self.view_is c.requires) c.self.inside.book _ _ c.enter_at.ensures.entered)
 
-pub put-requires-in-Ok : goal.put-requires-in-Ok
-put-requires-in-Ok c =
-    let taken = Taken-from _ c.args.self.now _ c.self.inside.kept c.args.shares.now c.take.new.self c.args.thread c.in-Some.share c.self.view_is c.self.invariant.run.heap.well_formed c.self.invariant.bounds c.self.invariant.keeps c.requires (c.is_live.ensures.0 c.if-not-is_live.false) c.in-Some.ensures.own c.in-Some.ensures.share c.in-Some.ensures.after in
-    put-born _ _ _ _ _ _ _ _ _ taken c.in-Ok.ensures.outcome.0 _ _ c.in-Ok.ensures.outcome.1 c.put.ensures
+pub invariant_of-self : goal.invariant_of-self
+invariant_of-self c = record {
+  course = c.perform.ensures.stands;
+  book = IsBookOf-stepped (course_of c.self.inside.course) _ c.args.shares.now c.self.inside.kept c.args.thread c.args.action _ _ (well_formed-course _ c.self.invariant.course) c.in-Ok.ensures.outcome c.self.invariant.keeps (rw c.self.view_is c.requires) c.self.inside.book _ _ c.self.invariant.book c.enter_at.ensures.entered;
+  keeps = KeepsUnborn-added (course_of c.self.inside.course) _ c.args.thread c.args.action _ _ (well_formed-course _ c.self.invariant.course) c.in-Ok.ensures.outcome c.self.inside.kept _ c.self.invariant.keeps (c.hand_over.ensures.kept ∙ ap (left_by c.self.inside.kept) (action_is c.self.inside c.args.thread c.args.action _ c.in-Ok.ensures.outcome.due));
+}
 
 pub returns-in-Ok : goal.returns-in-Ok
 returns-in-Ok c =
-    let taken = Taken-from _ c.args.self.now _ c.self.inside.kept c.args.shares.now c.take.new.self c.args.thread c.in-Some.share c.self.view_is c.self.invariant.run.heap.well_formed c.self.invariant.bounds c.self.invariant.keeps c.requires (c.is_live.ensures.0 c.if-not-is_live.false) c.in-Some.ensures.own c.in-Some.ensures.share c.in-Some.ensures.after in
-    let stepped = Stepped-taken _ _ _ _ _ _ _ _ _ taken c.in-Ok.ensures.outcome.0 _ _ _ c.in-Ok.ensures.outcome.1 c.put.ensures c.put-in-Ok.ensures in
-    record { outcome = stepped.outcome_is; ready = stepped.ready; filled = stepped.filled; complete = stepped.complete }
+    let stepped = Stepped-added (course_of c.self.inside.course) _ c.args.shares.now c.self.inside.kept c.args.thread c.args.action _ _ (well_formed-course _ c.self.invariant.course) c.in-Ok.ensures.outcome c.self.invariant.keeps (rw c.self.view_is c.requires) c.self.inside.book _ _ _ c.enter_at.ensures.entered (c.hand_over.ensures.shares ∙ ap (λ a. with_share c.enter_at.new.shares (taken_by c.self.inside.kept a)) (action_is c.self.inside c.args.thread c.args.action _ c.in-Ok.ensures.outcome.due)) in
+    let seen = subst (λ (w : WorldState). Stepped w c.args.shares.now c.args.thread c.args.action (Ok c.in-Ok.reply) (course_of c.perform.new.self) c.hand_over.new.shares) c.self.view_is stepped in
+    record { outcome = seen.outcome_is; ready = seen.ready; filled = seen.filled; complete = seen.complete }

@@ -1,0 +1,49 @@
+use Rattle.std.proofs.Common.{refl, sym, ap, ◌∙◌, arith, inr}
+use Rattle.velo_arena.specs.Slots.{limit_of}
+use Rattle.velo_graph.specs.Nodes.{Nodes}
+use Rattle.velo_heap.specs.Contents.{bounds_of}
+use Rattle.velo_traces.proofs.OnFlaws.{MayFollow-from_no_flaw}
+use Rattle.velo_world.proofs.OnAlarms.{length-before}
+use Rattle.velo_world.proofs.OnRelived.{flaw-by, follows-by}
+use Rattle.velo_world.proofs.relive.Relived.make_room.Goals as goal
+
+pub returns-then-has_no_node_for-clause-fault : goal.returns-then-has_no_node_for-clause-fault
+returns-then-has_no_node_for-clause-fault c =
+    let here = length-before c.args.events.now c.args.position c.args.event.now c.requires.here in
+    let stands = c.requires.stands in
+    let none = sym (c.flaw_in.ensures _ stands.run.heap) ∙ c.in-None.is in
+    let follows = MayFollow-from_no_flaw _ _ c.args.event.now stands.run.heap.well_formed none in
+    let inside = c.if-position-config.false in (
+      sym here,
+      inr (
+        flaw-by _ _ _ c.args.event.now stands.bounds none,
+        inr (refl, (let room = inside in omega (arith, here, room)), c.has_no_node_for.ensures.full c.if-has_no_node_for.true _ stands.run follows),
+      ),
+    )
+
+pub returns-in-Ok-clause-stands : goal.returns-in-Ok-clause-stands
+returns-in-Ok-clause-stands c =
+    let stands = c.requires.stands in
+    record {
+      short = stands.short;
+      bounds = ap bounds_of c.reserve_for.ensures.heap ∙ stands.bounds;
+      nodes = ap (λ (n : Nodes). limit_of n.slots) c.reserve_for.ensures.nodes ∙ stands.nodes;
+      run = c.reserve_for.ensures.follows _ stands.run;
+      book = stands.book;
+      keeps = stands.keeps;
+      ready = stands.ready;
+      complete = stands.complete;
+    }
+
+pub returns-in-Ok-clause-next : goal.returns-in-Ok-clause-next
+returns-in-Ok-clause-next c =
+    let here = length-before c.args.events.now c.args.position c.args.event.now c.requires.here in
+    let stands = c.requires.stands in
+    let none = sym (c.flaw_in.ensures _ stands.run.heap) ∙ c.in-None.is in
+    let follows = MayFollow-from_no_flaw _ _ c.args.event.now stands.run.heap.well_formed none in
+    record {
+      stands = c.reserve_for.ensures.follows _ stands.run;
+      follows = follows-by _ _ _ c.args.event.now (sym (ap bounds_of c.reserve_for.ensures.heap)) follows;
+      room = c.in-Ok.ensures.room _ stands.run follows (c.has_no_node_for.ensures.slot c.if-has_no_node_for.false _ stands.run follows);
+      short = (let inside = c.if-position-config.false in let few = c.args.config.now.few_events in omega (arith, here, inside, few));
+    }

@@ -1,0 +1,24 @@
+use Rattle.std.proofs.Common.{◌≡◌, set, Some, refl, ◌∙◌, arith}
+use Rattle.std.proofs.lemmas.Grind.{common_steps}
+use Rattle.std.proofs.lemmas.Option.{same_Some}
+use Rattle.velo_ledger.specs.Shares.{opening_share}
+use Rattle.velo_world.proofs.OnHoldings.{IsBookOf-opening, KeepsUnborn-opening}
+use Rattle.velo_world.proofs.OnReadiness.{HoldsLiveShares-opened, CompletesShares-opened}
+use Rattle.velo_world.proofs.relive.Relived.new.Goals as goal
+
+pub returns-clause-start : goal.returns-clause-start
+returns-clause-start c =
+    let config = c.args.config.now in
+    let share = c.in-Some.share in
+    let share_is : share ≡ opening_share config.run 0 = same_Some _ _ (c.in-Some.ensures.share ∙ rw (c.in_ok-book.ensures.shares.each 0 config.some_thread) refl) in
+    let after : c.put.new.self ≡ set c.in_ok-shares.shares share.thread.0 (Some share) = grind (arith, common_steps) in
+    record {
+      short = omega arith;
+      bounds = c.in_ok-run.ensures.bounds;
+      nodes = c.in_ok-run.ensures.nodes;
+      run = c.in_ok-run.ensures.follows;
+      book = rw c.in_ok-book.ensures.book (IsBookOf-opening config);
+      keeps = rw c.take.ensures.after (KeepsUnborn-opening config c.in_ok-book.kept config.some_thread c.in_ok-book.ensures.shares);
+      ready = rw (after, share_is, c.in_ok-shares.ensures.empty) (HoldsLiveShares-opened config);
+      complete = rw (after, share_is, c.in_ok-shares.ensures.empty) (CompletesShares-opened config);
+    }
