@@ -1,3 +1,5 @@
+pub mod OnChains
+pub mod OnLinks
 pub mod OnConflicts
 pub mod OnGreatest
 pub mod OnRows

@@ -2,10 +2,12 @@
 //! checkers trust nobody.
 #![tactic(auto)]
 
+mod chains;
 mod counts;
 mod cycle;
 mod distances;
 mod fault;
+mod links;
 mod nearest;
 mod order;
 mod owners;
