@@ -1,5 +1,5 @@
 ghost use Rattle.velo_events.specs.Refusals.{GrowthRefused};
-ghost use Rattle.std.specs.Prelude.{◌≡◌, ◌≢◌, ◌↔◌, ℕ, ◌<◌, ◌≤◌, false, Some, None, replicate, IfOk, OnErr, IsErr, IsTrue, true, vec_capacity, if◌then◌else◌};
+ghost use Rattle.std.specs.Prelude.{◌≡◌, ◌≢◌, ◌↔◌, ℕ, ◌<◌, ◌≤◌, false, Some, None, replicate, IfOk, OnErr, IsErr, IsTrue, IsFalse, true, vec_capacity, if◌then◌else◌};
 ghost use Rattle.std.specs.Option.{ForSome};
 ghost use Rattle.velo_arena.specs.Slots.{limit_of, is_used, used_in, bears, stamp_in, is_finished_in, with_node, Opens};
 ghost use Rattle.velo_graph.specs.Collects.{Collects, TellsFreed, HasNothingLeft};
@@ -214,6 +214,14 @@ impl<A: Ancestors> Graph<A> {
         ensures { IsTrue result ↔ IsRoot self.now slot }
     {
         self.rows[slot as usize].is_empty()
+    }
+
+    /// Whether the node of a slot in use may be an ancestor of another one. Where not, it is none.
+    pub fn leads(&self, slot: u16) -> bool
+        requires { IsTrue (is_used self.now.slots slot) }
+        ensures { IsFalse result → (n : ℕ) → is_ancestor self.now slot n ≡ false }
+    {
+        self.descendants_end(slot) > 0
     }
 
     /// Whether the first node is the second or an ancestor of it.

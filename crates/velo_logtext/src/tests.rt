@@ -1,12 +1,17 @@
+ghost use Rattle.std.specs.Prelude.{◌≤◌, length};
+ghost use Rattle.velo_events.specs.declared.limits.TheConstants.{MOST_EVENTS};
+ghost use Rattle.velo_logtext.specs.Text.{AreBounds};
+
 use crate::read::read_up_to;
 use crate::{
     Bytes, Failed, LogFault, ReaderSource, Source, Text, WriteFault, WriterSink, read_log,
     write_all, write_log,
 };
 use std::alloc::Global;
+use std::fmt::Display;
 use std::io::{Cursor, Error, ErrorKind, Read, Write};
 use std::test::Fail;
-use velo_events::{Bounds, Event, Kind, ThreadId, VarId};
+use velo_events::{Bounds, Event, Kind, MOST_EVENTS, ThreadId, VarId};
 use velo_traces::Trace;
 
 fn fault_of(alloc: Global, text: &[u8]) -> Option<LogFault> {
@@ -31,105 +36,137 @@ const LOGS: [&str; 14] = [
     "vlog 1 10 9 10\n0 begin 4294967295\n0 acq 65535\n9 rel 10\n10 fork 255\n99 join 0\n",
 ];
 
+/// Reads a log in steps and writes it in steps.
+fn written_again(alloc: Global, log: &[u8], step: usize) -> Result<Text, Fail> {
+    let (bounds, trace) = read_log(alloc, &mut Bytes::new(log).in_steps(step))?;
+    let mut sink = Text::new(alloc).in_steps(step);
+    write_log(bounds, &trace, &mut sink)?;
+    Ok(sink)
+}
+
 #[test]
 fn logs_come_back(rt: HostRuntime) -> Result<(), Fail> {
     for log in LOGS {
         for step in [1, 3, 64, usize::MAX] {
-            let mut source = Bytes::new(log.as_bytes()).in_steps(step);
-            let (bounds, trace) = read_log(rt.alloc(), &mut source)?;
-            let mut sink = Text::new(rt.alloc()).in_steps(step);
-            write_log(bounds, &trace, &mut sink)?;
+            let sink = written_again(rt.alloc(), log.as_bytes(), step)?;
             assert_eq!(rt; sink.as_slice(), log.as_bytes(), "{log}");
         }
     }
     Ok(())
 }
 
-#[test]
-fn first_lines(rt: HostRuntime) {
-    let bad = [
-        "",
-        "\n",
-        "vlog 1 1 0 0",
-        "vlog 1 0 0 0\n",
-        "vlog 1 65 0 0\n",
-        "vlog 1 1 65536 0\n",
-        "vlog 1 1 0 4097\n",
-        "vlog 1 01 0 0\n",
-        "vlog 2 1 0 0\n",
-        "vlog 1  1 0 0\n",
-        "vlog 1 1 0 0 \n",
-        "vlog 1 1 0 0\r\n",
-        "vlog\t1 1 0 0\n",
-        " vlog 1 1 0 0\n",
-        "vlog 1 1 0\n",
-        "vlog 1 +1 0 0\n",
-    ];
-    for text in bad {
-        assert_eq!(rt;
-            fault_of(rt.alloc(), text.as_bytes()),
-            Some(LogFault::BadHeader),
-            "{text}"
-        );
+/// A text, and the fault that is found in it.
+type Case<'a> = (&'a str, Option<LogFault>);
+
+const BAD_HEADER: Option<LogFault> = Some(LogFault::BadHeader);
+
+const FIRST_LINES: [Case; 18] = [
+    ("", BAD_HEADER),
+    ("\n", BAD_HEADER),
+    ("vlog 1 1 0 0", BAD_HEADER),
+    ("vlog 1 0 0 0\n", BAD_HEADER),
+    ("vlog 1 65 0 0\n", BAD_HEADER),
+    ("vlog 1 1 65536 0\n", BAD_HEADER),
+    ("vlog 1 1 0 4097\n", BAD_HEADER),
+    ("vlog 1 01 0 0\n", BAD_HEADER),
+    ("vlog 2 1 0 0\n", BAD_HEADER),
+    ("vlog 1  1 0 0\n", BAD_HEADER),
+    ("vlog 1 1 0 0 \n", BAD_HEADER),
+    ("vlog 1 1 0 0\r\n", BAD_HEADER),
+    ("vlog\t1 1 0 0\n", BAD_HEADER),
+    (" vlog 1 1 0 0\n", BAD_HEADER),
+    ("vlog 1 1 0\n", BAD_HEADER),
+    ("vlog 1 +1 0 0\n", BAD_HEADER),
+    ("vlog 1 1 65535 0\n", None),
+    ("vlog 1 64 0 4096\n", None),
+];
+
+const SECOND: Option<LogFault> = Some(LogFault::BadLine(2));
+
+const LATER_LINES: [Case; 27] = [
+    ("vlog 1 1 1 1\n0 rd 0 01\n", SECOND),
+    ("vlog 1 1 1 1\n00 end\n", SECOND),
+    ("vlog 1 1 1 1\n0 end\n\n", Some(LogFault::BadLine(3))),
+    (
+        "vlog 1 1 1 1\n0 end\n0  end\n0 end\nx\n",
+        Some(LogFault::BadLine(3)),
+    ),
+    ("vlog 1 1 1 1\n0 end \n", SECOND),
+    ("vlog 1 1 1 1\n0 end\r\n", SECOND),
+    ("vlog 1 1 1 1\n0\tend\n", SECOND),
+    ("vlog 1 1 1 1\n0 acq -1\n", SECOND),
+    ("vlog 1 1 1 1\n0 acq +1\n", SECOND),
+    ("vlog 1 1 1 1\n256 end\n", SECOND),
+    ("vlog 1 1 1 1\n0 rd 65536 0\n", SECOND),
+    ("vlog 1 1 1 1\n0 wr 0 18446744073709551616\n", SECOND),
+    ("vlog 1 1 1 1\n0 wr 0 18446744073709551620\n", SECOND),
+    ("vlog 1 1 1 1\n0 rel 65536\n", SECOND),
+    ("vlog 1 1 1 1\n0 begin 4294967296\n", SECOND),
+    ("vlog 1 1 1 1\n0 fork 256\n", SECOND),
+    ("vlog 1 1 1 1\n0 join 256\n", SECOND),
+    ("vlog 1 1 1 1\n0 rd 0\n", SECOND),
+    ("vlog 1 1 1 1\n0 begin\n", SECOND),
+    ("vlog 1 1 1 1\n0 racq 0\n", SECOND),
+    ("vlog 1 1 1 1\n0 wr 0 1", Some(LogFault::Truncated(2))),
+    (
+        "vlog 1 1 1 1\n0 end\n0 end\n0",
+        Some(LogFault::Truncated(4)),
+    ),
+    ("vlog 1 1 1 1\nx", Some(LogFault::Truncated(2))),
+    // lines of 64 and of 65 bytes
+    (
+        "vlog 1 1 1 1\nxxxxxxxxxxxxxxxxxxxxxxxxxxxxxxxxxxxxxxxxxxxxxxxxxxxxxxxxxxxxxxxx",
+        Some(LogFault::Truncated(2)),
+    ),
+    (
+        "vlog 1 1 1 1\nxxxxxxxxxxxxxxxxxxxxxxxxxxxxxxxxxxxxxxxxxxxxxxxxxxxxxxxxxxxxxxxx\n",
+        SECOND,
+    ),
+    (
+        "vlog 1 1 1 1\nxxxxxxxxxxxxxxxxxxxxxxxxxxxxxxxxxxxxxxxxxxxxxxxxxxxxxxxxxxxxxxxxx",
+        SECOND,
+    ),
+    (
+        "vlog 1 1 1 1\nxxxxxxxxxxxxxxxxxxxxxxxxxxxxxxxxxxxxxxxxxxxxxxxxxxxxxxxxxxxxxxxxx\n",
+        SECOND,
+    ),
+];
+
+/// Where at most two events are taken.
+const TOO_LONG: [Case; 4] = [
+    ("vlog 1 1 0 0\n0 end\n0 end\n", None),
+    ("vlog 1 1 0 0\n0 end\n0 end\n0", Some(LogFault::TooLong)),
+    ("vlog 1 1 0 0\n0 end\n0 end\n\n", Some(LogFault::TooLong)),
+    ("vlog 1 1 0 0\n0 end\nx\nx\n", Some(LogFault::BadLine(3))),
+];
+
+/// The first text in which, read whole or byte by byte, something else is found.
+fn first_other<'a>(alloc: Global, cases: &[Case<'a>], limit: usize) -> Option<&'a str>
+    requires { limit ≤ MOST_EVENTS }
+{
+    for (text, fault) in cases {
+        for step in [1, usize::MAX] {
+            let mut source = Bytes::new(text.as_bytes()).in_steps(step);
+            if read_up_to(alloc, &mut source, limit).err() != *fault {
+                return Some(*text);
+            }
+        }
     }
-    for text in ["vlog 1 1 65535 0\n", "vlog 1 64 0 4096\n"] {
-        assert_eq!(rt; fault_of(rt.alloc(), text.as_bytes()), None, "{text}");
-    }
+    None
 }
 
 #[test]
-fn later_lines(rt: HostRuntime) -> Result<(), Fail> {
-    let letters = "x".repeat(rt.alloc(), 64)?;
-    let cases = [
-        ("0 rd 0 01\n", LogFault::BadLine(2)),
-        ("00 end\n", LogFault::BadLine(2)),
-        ("0 end\n\n", LogFault::BadLine(3)),
-        ("0 end\n0  end\n0 end\nx\n", LogFault::BadLine(3)),
-        ("0 end \n", LogFault::BadLine(2)),
-        ("0 end\r\n", LogFault::BadLine(2)),
-        ("0\tend\n", LogFault::BadLine(2)),
-        ("0 acq -1\n", LogFault::BadLine(2)),
-        ("0 acq +1\n", LogFault::BadLine(2)),
-        ("256 end\n", LogFault::BadLine(2)),
-        ("0 rd 65536 0\n", LogFault::BadLine(2)),
-        ("0 wr 0 18446744073709551616\n", LogFault::BadLine(2)),
-        ("0 wr 0 18446744073709551620\n", LogFault::BadLine(2)),
-        ("0 rel 65536\n", LogFault::BadLine(2)),
-        ("0 begin 4294967296\n", LogFault::BadLine(2)),
-        ("0 fork 256\n", LogFault::BadLine(2)),
-        ("0 join 256\n", LogFault::BadLine(2)),
-        ("0 rd 0\n", LogFault::BadLine(2)),
-        ("0 begin\n", LogFault::BadLine(2)),
-        ("0 racq 0\n", LogFault::BadLine(2)),
-        ("0 wr 0 1", LogFault::Truncated(2)),
-        ("0 end\n0 end\n0", LogFault::Truncated(4)),
-        ("x", LogFault::Truncated(2)),
-    ];
-    for (line, fault) in cases {
-        let text = format!(in rt.alloc(); "vlog 1 1 1 1\n{line}")?;
-        assert_eq!(rt;
-            fault_of(rt.alloc(), text.as_bytes()),
-            Some(fault),
-            "{line}"
-        );
-        let mut bytes = Bytes::new(text.as_bytes()).in_steps(1);
-        assert_eq!(rt;
-            read_log(rt.alloc(), &mut bytes).err(),
-            Some(fault),
-            "{line}"
-        );
-    }
-    let lengths = [
-        ("", LogFault::Truncated(2)),
-        ("\n", LogFault::BadLine(2)),
-        ("x", LogFault::BadLine(2)),
-        ("x\n", LogFault::BadLine(2)),
-    ];
-    for (end, fault) in lengths {
-        let text = format!(in rt.alloc(); "vlog 1 1 1 1\n{letters}{end}")?;
-        assert_eq!(rt; fault_of(rt.alloc(), text.as_bytes()), Some(fault), "{end}");
-    }
-    Ok(())
+fn faults(rt: HostRuntime) {
+    let alloc = rt.alloc();
+    assert_eq!(rt;
+        first_other(alloc, &FIRST_LINES, MOST_EVENTS as usize),
+        None
+    );
+    assert_eq!(rt;
+        first_other(alloc, &LATER_LINES, MOST_EVENTS as usize),
+        None
+    );
+    assert_eq!(rt; first_other(alloc, &TOO_LONG, 2), None);
 }
 
 #[test]
@@ -154,36 +191,29 @@ fn beginnings(rt: HostRuntime) {
     }
 }
 
-#[test]
-fn too_long(rt: HostRuntime) {
-    let cases = [
-        ("vlog 1 1 0 0\n0 end\n0 end\n", None),
-        ("vlog 1 1 0 0\n0 end\n0 end\n0", Some(LogFault::TooLong)),
-        ("vlog 1 1 0 0\n0 end\n0 end\n\n", Some(LogFault::TooLong)),
-        ("vlog 1 1 0 0\n0 end\nx\nx\n", Some(LogFault::BadLine(3))),
-    ];
-    for (text, want) in cases {
-        let answer = read_up_to(rt.alloc(), &mut Bytes::new(text.as_bytes()), 2);
-        assert_eq!(rt; answer.err(), want, "{text}");
-    }
+/// Reads from a source that fails after so many bytes, and once more.
+fn read_failing(alloc: Global, log: &[u8], count: usize) -> (Option<LogFault>, bool) {
+    let mut source = Bytes::new(log).failing_after(count);
+    let fault = read_log(alloc, &mut source).err();
+    (fault, source.read(&mut [0; 4]).is_err())
+}
+
+/// Reads a log, and writes it to a sink that fails after so many bytes: whether that is told, and what went out.
+fn written_failing(alloc: Global, log: &[u8], count: usize) -> Result<(bool, Text), Fail> {
+    let (bounds, trace) = read_log(alloc, &mut Bytes::new(log))?;
+    let mut sink = Text::new(alloc).in_steps(7).failing_after(count);
+    let is_told = write_log(bounds, &trace, &mut sink).is_err();
+    Ok((is_told, sink))
 }
 
 #[test]
 fn devices_that_fail(rt: HostRuntime) -> Result<(), Fail> {
     let log = "vlog 1 1 0 0\n0 exit\n".as_bytes();
     for count in 0..log.len() {
-        let mut source = Bytes::new(log).failing_after(count);
-        assert_eq!(rt;
-            read_log(rt.alloc(), &mut source).err(),
-            Some(LogFault::Read)
-        );
-        assert_eq!(rt; source.read(&mut [0; 4]), Err(Failed));
-    }
-    let (bounds, trace) = read_log(rt.alloc(), &mut Bytes::new(log))?;
-    for count in 0..log.len() {
-        let mut sink = Text::new(rt.alloc()).in_steps(7).failing_after(count);
-        assert!(rt; write_log(bounds, &trace, &mut sink).is_err());
-        assert_eq!(rt; sink.as_slice(), &log[..count]);
+        let read = read_failing(rt.alloc(), log, count);
+        assert_eq!(rt; read, (Some(LogFault::Read), true));
+        let (is_told, sink) = written_failing(rt.alloc(), log, count)?;
+        assert!(rt; is_told && sink.as_slice() == &log[..count]);
     }
     Ok(())
 }
@@ -263,8 +293,13 @@ fn nothing_is_tried_again(rt: HostRuntime) {
     }
 }
 
+fn is_told_as<D: Display>(alloc: Global, told: &D, text: &str) -> bool {
+    told.to_string(alloc)
+        .is_ok_and(|string| string.as_str() == text)
+}
+
 #[test]
-fn texts_of_faults(rt: HostRuntime) -> Result<(), Fail> {
+fn texts_of_faults(rt: HostRuntime) {
     let faults = [
         (LogFault::BadHeader, "bad header"),
         (LogFault::BadLine(7), "bad line 7"),
@@ -274,57 +309,67 @@ fn texts_of_faults(rt: HostRuntime) -> Result<(), Fail> {
         (LogFault::Memory, "out of memory"),
     ];
     for (fault, text) in faults {
-        assert_eq!(rt; format!(in rt.alloc(); "{fault}")?.as_str(), text);
+        assert!(rt; is_told_as(rt.alloc(), &fault, text), "{text}");
     }
-    assert_eq!(rt;
-        format!(in rt.alloc(); "{WriteFault}")?.as_str(),
-        "write failed"
-    );
-    assert_eq!(rt;
-        format!(in rt.alloc(); "{Failed}")?.as_str(),
-        "the device failed"
-    );
-    Ok(())
+    assert!(rt; is_told_as(rt.alloc(), &WriteFault, "write failed"));
+    assert!(rt; is_told_as(rt.alloc(), &Failed, "the device failed"));
 }
 
-/// Its text is read in five pieces, whose seams lie within lines, and written in many.
-#[test]
-fn ten_thousand_lines(rt: HostRuntime) -> Result<(), Fail> {
-    let mut trace = Trace::new(rt.alloc());
+fn ten_thousand_events(alloc: Global) -> Result<Trace, Fail> {
+    let mut trace = Trace::new(alloc);
     for i in 0..10_000u64 {
         let thread = ThreadId((i % 64) as u8);
         let kind = Kind::Write(VarId(0), u64::MAX - i);
         trace.push(Event { thread, kind })?;
     }
+    Ok(trace)
+}
+
+/// Writes a log, and tells how long its text is and what is read from that.
+fn read_back(alloc: Global, bounds: Bounds, trace: &Trace) -> Result<(usize, Bounds, Trace), Fail>
+    requires bounds { AreBounds bounds }
+    requires few { length trace.now.events ≤ MOST_EVENTS }
+{
+    let mut sink = Text::new(alloc);
+    write_log(bounds, trace, &mut sink)?;
+    let (bounds, read) = read_log(alloc, &mut Bytes::new(sink.as_slice()))?;
+    Ok((sink.as_slice().len(), bounds, read))
+}
+
+/// Its text is read in five pieces, whose seams lie within lines, and written in many.
+#[test]
+fn ten_thousand_lines(rt: HostRuntime) -> Result<(), Fail> {
+    let trace = ten_thousand_events(rt.alloc())?;
     let bounds = Bounds {
         threads: 64,
         variables: 1,
         locks: 0,
     };
     assert_eq!(rt; trace.len(), 10_000);
-    let mut sink = Text::new(rt.alloc());
-    write_log(bounds, &trace, &mut sink)?;
-    assert!(rt; sink.as_slice().len() > 4 * 65_536);
-    let (read_bounds, read) = read_log(rt.alloc(), &mut Bytes::new(sink.as_slice()))?;
-    assert_eq!(rt; read_bounds, bounds);
+    let (bytes, read_bounds, read) = read_back(rt.alloc(), bounds, &trace)?;
+    assert!(rt; bytes > 4 * 65_536 && read_bounds == bounds);
     assert!(rt; read.as_slice() == trace.as_slice());
     Ok(())
+}
+
+/// Reads by a reader, and writes by a writer with room and by one without: what the first was given, whether the second
+/// failed, and how often.
+fn adapted(alloc: Global, log: &[u8]) -> Result<(Vec<u8>, bool, u64), Fail> {
+    let (bounds, trace) = read_log(alloc, &mut ReaderSource::new(Cursor::new(log)))?;
+    let mut space = [0u8; 4];
+    let mut full = WriterSink::new(space.as_mut_slice());
+    let has_failed = write_log(bounds, &trace, &mut full).is_err();
+    let mut sink = WriterSink::new(Vec::new(alloc));
+    write_log(bounds, &trace, &mut sink)?;
+    write_all(&mut sink, b"!")?;
+    Ok((sink.writer, has_failed, full.failures()))
 }
 
 #[test]
 fn readers_and_writers(rt: HostRuntime) -> Result<(), Fail> {
     let log = "vlog 1 1 0 0\n0 exit\n".as_bytes();
-    let (bounds, trace) = read_log(rt.alloc(), &mut ReaderSource::new(Cursor::new(log)))?;
-    let mut sink = WriterSink::new(Vec::new(rt.alloc()));
-    write_log(bounds, &trace, &mut sink)?;
-    write_all(&mut sink, b"!")?;
-    assert_eq!(rt;
-        sink.writer.as_slice(),
-        "vlog 1 1 0 0\n0 exit\n!".as_bytes()
-    );
-    let mut space = [0u8; 4];
-    let mut full = WriterSink::new(space.as_mut_slice());
-    assert!(rt; write_log(bounds, &trace, &mut full).is_err());
-    assert_eq!(rt; full.failures(), 1);
+    let (written, has_failed, failures) = adapted(rt.alloc(), log)?;
+    assert_eq!(rt; written.as_slice(), "vlog 1 1 0 0\n0 exit\n!".as_bytes());
+    assert_eq!(rt; (has_failed, failures), (true, 1));
     Ok(())
 }

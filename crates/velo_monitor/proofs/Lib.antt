@@ -7,6 +7,8 @@ pub mod OnNumbers
 pub mod OnCollecting
 pub mod OnMerging
 pub mod OnTables
+pub mod OnForgetting
+pub mod OnOwn
 pub mod OnStep
 pub mod OnOutside
 pub mod OnOpening
@@ -21,5 +23,6 @@ pub mod OnStart
 pub mod OnCounts
 pub mod OnNaming
 pub mod OnQuiet
+pub mod OnLone
 pub mod OnInsideSeen
 pub mod OnOutsideSeen

@@ -131,3 +131,21 @@ module _ (old now new : Nodes) (steps : List Step) (i to : ℕ) (x d : Step) (in
   pub first-from : (edge : Edge) (from : ℕ) → x.slot ≡ from → (edge ≡ Same) ↔ (from ≡ to) → (edge ≡ Known) ↔ ((from ≢ to) × IsTrue (reaches now from to)) → (edge ≡ Closes) ↔ ((from ≢ to) × IsTrue (reaches now to from)) → (edge ≡ Added → AddsEdge now new from to) → (edge ≢ Added → new ≡ now) → AddsFirst old new steps (i + 1) to
   first-from edge from at =
       subst (λ z. (edge ≡ Same) ↔ (z ≡ to) → (edge ≡ Known) ↔ ((z ≢ to) × IsTrue (reaches now z to)) → (edge ≡ Closes) ↔ ((z ≢ to) × IsTrue (reaches now to z)) → (edge ≡ Added → AddsEdge now new z to) → (edge ≢ Added → new ≡ now) → AddsFirst old new steps (i + 1) to) at (first-more edge)
+
+-- ---- one step alone
+
+only-this : (nodes : Nodes) (to : ℕ) (step : Step) (some : ReachesSome nodes to (step ∷ [])) → some.step ≡ step
+only-this nodes to step some =
+    ⊎_elim (λ (none : Contains [] some.step). absurd (omega (arith, none.1))) (λ (same : step ≡ some.step). sym same) (Contains-push_cases [] step some.step some.among)
+
+pub only-dead : (nodes : Nodes) (step : Step) (to : ℕ) → IsSound nodes → bears nodes.slots step.slot step.stamp ≡ false → AddsEdges nodes nodes (live_slots nodes (step ∷ [])) to
+only-dead nodes step to sound gone = first-all nodes nodes (step ∷ []) 1 to (omega arith) (first-dead nodes nodes (step ∷ []) 0 to step step (omega arith) refl gone (first-none nodes (step ∷ []) to sound))
+
+pub only-from : (old new : Nodes) (step : Step) (to : ℕ) → IsSound old → Bears old step.slot step.stamp → IsSound new → (edge : Edge) (from : ℕ) → edge ≢ Closes → step.slot ≡ from → (edge ≡ Same) ↔ (from ≡ to) → (edge ≡ Known) ↔ ((from ≢ to) × IsTrue (reaches old from to)) → (edge ≡ Closes) ↔ ((from ≢ to) × IsTrue (reaches old to from)) → (edge ≡ Added → AddsEdge old new from to) → (edge ≢ Added → new ≡ old) → AddsEdges old new (live_slots old (step ∷ [])) to
+only-from old new step to sound borne after edge from apart at same known closes added unchanged =
+    first-all old new (step ∷ []) 1 to (omega arith) (first-from old old new (step ∷ []) 0 to step step (omega arith) refl borne none (first-none old (step ∷ []) to sound) after edge from at same known closes added unchanged)
+  where
+    none : ¬ ReachesSome old to (step ∷ [])
+    none some =
+        let is : some.step.slot ≡ from = ap (λ (s : Step). s.slot) (only-this old to step some) ∙ at in
+        apart (closes.1 ((λ (here : from ≡ to). some.other (is ∙ here)), subst (λ k. IsTrue (reaches old to k)) is some.reached))

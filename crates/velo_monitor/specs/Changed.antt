@@ -1,5 +1,5 @@
 -- What an event leaves of the nodes, the tables and the depths. Words of private contracts.
-use Rattle.std.specs.Prelude.{◌≡◌, ◌≢◌, ℕ, ◌+◌, ◌-◌, ◌<◌, ⊤, ◌⊎◌, List, length, Option, Some, None, true, slice_index_or, slice_set}
+use Rattle.std.specs.Prelude.{◌≡◌, ◌≢◌, ℕ, ◌+◌, ◌-◌, ◌<◌, ⊤, ◌⊎◌, List, length, Option, Some, None, true, false, slice_index_or, slice_set}
 use Rattle.velo_monitor.specs.declared.monitor.Seen.{Seen}
 use Rattle.velo_monitor.specs.declared.monitor.Seen.TheVariants.{Quiet, Closes}
 use Rattle.velo_events.specs.declared.event.Event.{Event}
@@ -8,12 +8,12 @@ use Rattle.velo_events.specs.declared.event.Kind.TheVariants.{Begin, End}
 use Rattle.velo_events.specs.Event.{thread_of}
 use Rattle.velo_events.specs.Merge.{GetsNone, GoesInto, GetsNew}
 use Rattle.velo_arena.specs.declared.step.Step.{Step}
-use Rattle.velo_arena.specs.Slots.{Opens, with_node}
+use Rattle.velo_arena.specs.Slots.{bears, Opens, with_node}
 use Rattle.velo_graph.specs.Nodes.{Nodes, IsRoot, IsAlone, IsSound, AddsEdges}
 use Rattle.velo_graph.specs.Collects.{Collects}
 use Rattle.velo_merge.specs.Named.{Bears, live_stamps, HasFinished, IsAncestor}
-use Rattle.velo_tables.specs.Place.{LastOf}
-use Rattle.velo_tables.specs.Kept.{entry, steps_looked_up, IsRecorded}
+use Rattle.velo_tables.specs.Place.{Place, LastOf}
+use Rattle.velo_tables.specs.Kept.{Kept, entry, steps_looked_up, HasRoomFor, IsRecorded}
 use Rattle.velo_monitor.specs.Watched.{Watched}
 use Rattle.velo_monitor.specs.Steps.{live_slots, ReachesSome}
 
@@ -126,3 +126,13 @@ pub record Operates (old : Watched) (position : ℕ) (e : Event) (new : Watched)
   pub recorded : IsRecorded old.kept e step new.kept
   pub threads : length new.kept.threads ≡ length old.kept.threads
   pub depths : new.depths ≡ old.depths
+
+-- the step, if there is one, names no node in use
+pub record IsGone (nodes : Nodes) (step : Option Step) : Type 0 where
+  pub each : (s : Step) → step ≡ Some s → bears nodes.slots s.slot s.stamp ≡ false
+
+-- some places whose steps name no node in use have none any more, every other keeps what it has; no room is lost
+pub record ForgetsDead (nodes : Nodes) (old new : Kept) : Type 0 where
+  pub each : (p : Place) → (entry new p ≡ entry old p) ⊎ ((entry new p ≡ None) × IsGone nodes (entry old p))
+  pub room : (e : Event) → HasRoomFor old e → HasRoomFor new e
+  pub threads : length new.threads ≡ length old.threads

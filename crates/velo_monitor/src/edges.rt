@@ -1,5 +1,5 @@
 //! The edges of one event: from the nodes that its steps name into its own.
-ghost use Rattle.std.specs.Prelude.{◌≡◌, ◌<◌, IsTrue, ◌↔◌};
+ghost use Rattle.std.specs.Prelude.{◌≡◌, ◌<◌, [], ◌∷◌, IsTrue, IsFalse, ◌↔◌};
 ghost use Rattle.std.specs.Option.{ForSome};
 ghost use Rattle.velo_arena.specs.Slots.{is_used, used_in, limit_of};
 ghost use Rattle.velo_graph.specs.Nodes.{IsSound, AddsEdges};
@@ -7,7 +7,7 @@ ghost use Rattle.velo_monitor.specs.Steps.{live_slots, ReachesSome};
 ghost use Rattle.velo_monitor.specs.Changed.{OpensAfter};
 
 use velo_arena::Step;
-use velo_graph::Graph;
+use velo_graph::{Edge, Graph};
 use velo_rows::BitRow;
 
 /// Whether the node in the slot reaches another one that the steps name.
@@ -38,6 +38,21 @@ pub fn add_edges(graph: &mut Graph<BitRow>, steps: &[Step], to: u16)
         if let Some(from) = graph.resolve(*step) {
             let _edge = graph.add_edge(from, to);
         }
+    }
+}
+
+/// Adds the edge from the node that the step names, if it names one, unless the edge closes a cycle.
+pub fn closes_or_adds(graph: &mut Graph<BitRow>, step: Step, to: u16) -> bool
+    requires used { IsTrue (is_used graph.old.slots to) }
+    requires sound { IsSound graph.old }
+    ensures closes { IsTrue result ↔ ReachesSome graph.old to (step ∷ []) }
+    ensures same { IsTrue result → graph.new ≡ graph.old }
+    ensures adds { IsFalse result → AddsEdges graph.old graph.new (live_slots graph.old (step ∷ [])) to }
+    ensures sound { IsSound graph.new }
+{
+    match graph.resolve(step) {
+        Some(from) => graph.add_edge(from, to) == Edge::Closes,
+        None => false,
     }
 }
 

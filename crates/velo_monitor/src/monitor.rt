@@ -20,16 +20,16 @@ ghost use Rattle.velo_tables.specs.Kept.{entry, steps_looked_up, HasRoomFor};
 ghost use Rattle.velo_monitor.specs.Watched.{IsMonitorOf};
 ghost use Rattle.velo_monitor.specs.Answers.{NeedsNode, GetsNewNode, IsNext, IsSeen};
 ghost use Rattle.velo_monitor.specs.Steps.{live_slots, ReachesSome};
-ghost use Rattle.velo_monitor.specs.Changed.{depth_of, CanCount, AfterInside, EndsBlock, CountsBlocks, BeginsBlock, IsPlaced, Operates};
+ghost use Rattle.velo_monitor.specs.Changed.{depth_of, CanCount, AfterInside, EndsBlock, CountsBlocks, BeginsBlock, IsPlaced, Operates, ForgetsDead};
 
-use crate::edges::{add_edges, open_after, reaches_some};
+use crate::edges::{add_edges, closes_or_adds, open_after, reaches_some};
 use smallvec::SmallVec;
 use std::alloc::Global;
 use std::marker::Model;
 use velo_arena::Step;
 use velo_collect::{Freed, collect};
 use velo_events::growth::filled;
-use velo_events::{Config, Event, Kind, Memory, ThreadId};
+use velo_events::{Config, Event, Kind, Memory, ThreadId, VarId};
 use velo_graph::Graph;
 use velo_merge::{Placed, place};
 use velo_rows::BitRow;
@@ -137,14 +137,8 @@ impl Monitor {
         ensures seen { (bounds : BoundsOf) (trace : List EventOf) → IsMonitorOf bounds self.old trace → position ≡ length trace → MayFollow bounds trace event.now → IsSeen bounds self.old trace event.now result self.new }
         ensures nothing_left { HasNothingLeft self.new.nodes }
     {
-        if self.depth(event.thread) > 0 {
-            return self.observe_inside(event);
-        }
-        match event.kind {
-            Kind::Begin(_) => self.begin_block(position as u32, event),
-            _ => self.operate(position as u32, event),
-        }
-        Seen::Quiet
+        self.forget_dead(event);
+        self.take_in(position, event)
     }
 
     /// How many slots are in use: at most as many as there are live transactions. Every transaction founds the node of one,
@@ -188,10 +182,65 @@ impl Monitor {
         }
     }
 
+    /// Forgets what a write need not look up: the last reads of its variable whose nodes are gone.
+    fn forget_dead(&mut self, event: &Event)
+        ensures forgets { ForgetsDead self.old.nodes self.old.kept self.new.kept }
+        ensures nodes { self.new.nodes ≡ self.old.nodes }
+        ensures depths { self.new.depths ≡ self.old.depths }
+    {
+        if let Kind::Write(x, _) = event.kind {
+            self.forget_dead_reads(x);
+        }
+    }
+
+    /// Forgets those last reads of a variable whose nodes are gone, so that no later write looks them up.
+    fn forget_dead_reads(&mut self, x: VarId)
+        ensures forgets { ForgetsDead self.old.nodes self.old.kept self.new.kept }
+        ensures nodes { self.new.nodes ≡ self.old.nodes }
+        ensures depths { self.new.depths ≡ self.old.depths }
+    {
+        let mut rest = self.tables.readers(x);
+        while rest != 0 {
+            self.forget_dead_read(x, ThreadId(rest.trailing_zeros() as u8));
+            rest &= rest - 1;
+        }
+    }
+
+    /// Forgets the last read of a variable by the thread, if its node is gone.
+    fn forget_dead_read(&mut self, x: VarId, t: ThreadId)
+        ensures forgets { ForgetsDead self.old.nodes self.old.kept self.new.kept }
+        ensures nodes { self.new.nodes ≡ self.old.nodes }
+        ensures depths { self.new.depths ≡ self.old.depths }
+    {
+        if let Some(step) = self.tables.last_read(x, t)
+            && self.graph.resolve(step).is_none()
+        {
+            self.tables.forget_read(x, t);
+        }
+    }
+
+    /// Takes in the next event, unless it closes a cycle.
+    fn take_in(&mut self, position: usize, event: &Event) -> Seen
+        requires { IsNext self.old position event.now }
+        ensures limit { limit_of self.new.nodes.slots ≡ limit_of self.old.nodes.slots }
+        ensures seen { (bounds : BoundsOf) (trace : List EventOf) → IsMonitorOf bounds self.old trace → position ≡ length trace → MayFollow bounds trace event.now → IsSeen bounds self.old trace event.now result self.new }
+        ensures nothing_left { HasNothingLeft self.new.nodes }
+    {
+        if self.depth(event.thread) > 0 {
+            return self.observe_inside(event);
+        }
+        match event.kind {
+            Kind::Begin(_) => self.begin_block(position as u32, event),
+            _ => self.operate(position as u32, event),
+        }
+        Seen::Quiet
+    }
+
     /// Takes in an event of a thread that has blocks open, unless it closes a cycle.
     fn observe_inside(&mut self, event: &Event) -> Seen
         requires room { HasRoomFor self.old.kept event.now }
         requires sound { IsSound self.old.nodes }
+        requires nothing { HasNothingLeft self.old.nodes }
         requires current { (own : StepOf) × (entry self.old.kept (LastOf (thread_of event.now)) ≡ Some own) × Bears self.old.nodes own.slot own.stamp }
         requires depth { CanCount self.old (thread_of event.now) event.now.kind }
         ensures inside { AfterInside self.old event.now result self.new }
@@ -222,6 +271,27 @@ impl Monitor {
         ensures depths { self.new.depths ≡ self.old.depths }
         ensures sound { IsSound self.new.nodes }
     {
+        match event.kind {
+            Kind::Write(_, _) => self.closes_or_follows(event, own),
+            _ => match self.tables.step_beside(event) {
+                Some(step) => closes_or_adds(&mut self.graph, step, own.slot),
+                None => false,
+            },
+        }
+    }
+
+    /// Adds the edges from the nodes of all steps that the event looks up into that of its own, unless one of them closes
+    /// a cycle.
+    fn closes_or_follows(&mut self, event: &Event, own: Step) -> bool
+        requires borne { Bears self.old.nodes own.slot own.stamp }
+        requires sound { IsSound self.old.nodes }
+        ensures closes { IsTrue result ↔ ReachesSome self.old.nodes own.slot (steps_looked_up self.old.kept event.now) }
+        ensures same { IsTrue result → self.new ≡ self.old }
+        ensures adds { IsFalse result → AddsEdges self.old.nodes self.new.nodes (live_slots self.old.nodes (steps_looked_up self.old.kept event.now)) own.slot }
+        ensures kept { self.new.kept ≡ self.old.kept }
+        ensures depths { self.new.depths ≡ self.old.depths }
+        ensures sound { IsSound self.new.nodes }
+    {
         self.tables.predecessors_into(event, &mut self.steps);
         if reaches_some(&self.graph, own.slot, &self.steps) {
             return true;
@@ -233,6 +303,7 @@ impl Monitor {
     /// Counts a begin or an end inside a block. The end of the outermost one finishes its node.
     fn count_blocks(&mut self, event: &Event, own: Step)
         requires borne { Bears self.old.nodes own.slot own.stamp }
+        requires nothing { HasNothingLeft self.old.nodes }
         requires depth { CanCount self.old (thread_of event.now) event.now.kind }
         ensures counts { CountsBlocks self.old event.now.kind (thread_of event.now) own self.new }
         ensures kept { self.new.kept ≡ self.old.kept }
@@ -251,18 +322,26 @@ impl Monitor {
         }
     }
 
-    /// Finishes the node of the step. Where it has no ancestors, others may be unneeded with it.
+    /// Finishes the node of the step. Where it has no ancestors it is unneeded, and others may be with it if it leads to
+    /// some.
     fn end_block(&mut self, own: Step)
-        requires { Bears self.old.nodes own.slot own.stamp }
+        requires borne { Bears self.old.nodes own.slot own.stamp }
+        requires nothing { HasNothingLeft self.old.nodes }
         ensures ends { EndsBlock self.old.nodes self.new.nodes own }
         ensures kept { self.new.kept ≡ self.old.kept }
         ensures depths { self.new.depths ≡ self.old.depths }
         ensures limit { limit_of self.new.nodes.slots ≡ limit_of self.old.nodes.slots }
     {
         let is_root = self.graph.is_root(own.slot);
+        let leads = self.graph.leads(own.slot);
         self.graph.finish(own);
-        if is_root {
+        if !is_root {
+            return;
+        }
+        if leads {
             collect(&mut self.graph, &mut self.freed);
+        } else {
+            self.graph.free(own.slot);
         }
     }
 

@@ -63,9 +63,9 @@ impl Room {
         ensures seat { IfOk result (λ opened. opened.1 ≡ opening_share config.run 0) }
         ensures memory { OnErr result GrowthRefused }
     {
-        let (world, share) = World::new(alloc, config)?;
         let waits = no_waits(alloc, config.bounds.threads)?;
         let places = Shares::none(alloc, config.bounds.threads)?;
+        let (world, share) = World::new(alloc, config)?;
         let room = Room {
             world,
             waits,

@@ -5,80 +5,351 @@ use crate::{
 use std::alloc::Global;
 use std::process::Abort;
 use std::sync::Wait;
+use std::test::Fail;
 use std::thread;
+use std::thread::Threads;
 use std::time::{Clock, Duration};
-use velo_events::{Action, Bounds, Config, Event, Kind, Label, LockId, Refusal, ThreadId, VarId};
-use velo_world::{Closed, Reply};
+use velo_events::{
+    Action, BadConfig, Bounds, Config, Kind, Label, LockId, Refusal, ThreadId, VarId,
+};
+use velo_world::Closed;
 
 const X: VarId = VarId(0);
 
-/// Opens a run with as many variables as threads, and a lock.
-fn open(rt: &impl Abort, alloc: Global, run: u64, threads: u8, stop: bool) -> (Shared, Seat) {
+const LOCK: LockId = LockId(0);
+
+const MAIN: ThreadId = ThreadId(0);
+
+const OTHER: ThreadId = ThreadId(1);
+
+/// So many threads, a variable more than threads, and a lock more than variables.
+fn config(run: u64, threads: u8, events: u32, stop: bool) -> Result<Config, BadConfig> {
+    let variables = u16::from(threads) + 1;
     let bounds = Bounds {
         threads,
-        variables: u16::from(threads),
-        locks: 1,
+        variables,
+        locks: variables + 1,
     };
-    let config = Config::new(run, bounds, 100, 1024, stop).expect(rt, "in range");
-    Shared::open(alloc, config).expect(rt, "opened")
+    Config::new(run, bounds, events, 1024, stop)
 }
 
-const fn by(thread: u8, kind: Kind) -> Event {
-    Event {
-        thread: ThreadId(thread),
-        kind,
+/// Opens a run, and forks so many threads by the first one.
+fn opened<R: Wait>(
+    rt: &R,
+    alloc: Global,
+    config: Config,
+    forks: u8,
+) -> Result<(Shared, Vec<Seat>), RunError> {
+    let mut seats = Vec::new(alloc);
+    let (shared, first) = Shared::open(alloc, config)?;
+    seats.push(first)?;
+    for child in 1..=forks {
+        add_thread(rt, &shared, &mut seats, ThreadId(child))?;
     }
+    Ok((shared, seats))
+}
+
+/// Forks a thread by the first seat, and adds its seat.
+fn add_thread<R: Wait>(
+    rt: &R,
+    shared: &Shared,
+    seats: &mut Vec<Seat>,
+    child: ThreadId,
+) -> Result<(), RunError> {
+    if let Some(first) = seats.first_mut() {
+        let seat = first.fork(rt, shared, child)?;
+        seats.push(seat)?;
+    }
+    Ok(())
 }
 
 #[test]
-fn another_thread_writes_between(rt: HostRuntime) {
-    let (shared, mut first) = open(&rt, rt.alloc(), 1, 2, false);
-    let mut second = first.fork(&rt, &shared, ThreadId(1)).expect(&rt, "fork");
-    let begun = first.begin(&rt, &shared, Label(7)).expect(&rt, "begin");
-    assert!(rt; !begun.alarmed);
-    assert!(rt; first.read(&rt, &shared, X) == Ok(0));
-    let (written, ()) = thread::join(&rt, || second.write(&rt, &shared, X, 5), || ());
-    assert!(rt; !written.expect(&rt, "write").alarmed);
-    let written = first.write(&rt, &shared, X, 1).expect(&rt, "write");
-    assert!(rt; written.alarmed);
-
-    let seats = vec![in rt.alloc(); first, second].expect(&rt, "memory");
-    is_the_lost_update(&rt, &close(shared, seats).expect(&rt, "closed"));
+fn errors_are_told_by_their_texts(rt: HostRuntime) -> Result<(), Fail> {
+    let refused = opened(&rt, rt.alloc(), config(1, 1, 100, false)?, 1);
+    let error = refused.err().ok_or("not refused")?;
+    assert_eq!(rt; error.to_string(rt.alloc())?.as_str(), "no such thread");
+    Ok(())
 }
 
-/// The second thread wrote between the first one's read and write.
-fn is_the_lost_update(rt: &impl Abort, closed: &Closed) {
-    let log = [
-        by(0, Kind::Fork(ThreadId(1))),
-        by(0, Kind::Begin(Label(7))),
-        by(0, Kind::Read(X, 0)),
-        by(1, Kind::Write(X, 5)),
-        by(0, Kind::Write(X, 1)),
-    ];
-    assert!(rt; closed.log().as_slice() == log.as_slice());
-    let alarm = closed.alarm().expect(rt, "an alarm");
-    assert!(rt; alarm.position == 4 && alarm.transaction == 1);
-    assert!(rt; closed.total() == 5);
+// ---- two threads that follow scripts
+
+/// The value that was read, and whether an alarm is told of.
+type Outcome = Result<(Option<u64>, bool), Refusal>;
+
+const DONE: Outcome = Ok((None, false));
+
+const ALARMED: Outcome = Ok((None, true));
+
+/// What a thread does next.
+#[derive(Clone, Copy)]
+enum Step {
+    /// The call of its seat that has this outcome.
+    Do(Action, Outcome),
+    Halt,
+    /// Goes on once the log has so many events.
+    At(usize),
+    /// Goes on once the other thread waits for it.
+    IsAwaited,
+    /// Goes on once the other thread does not wait for it.
+    IsNotAwaited,
 }
 
-/// A block that nothing spoils, and then one in which the other seat writes between a read and a write.
-#[test]
-fn replies_tell_of_an_alarm(rt: HostRuntime) {
-    let (shared, mut first) = open(&rt, rt.alloc(), 1, 2, false);
-    let mut second = first.fork(&rt, &shared, ThreadId(1)).expect(&rt, "fork");
-    for alarmed in [false, true] {
-        let begun = first.begin(&rt, &shared, Label(1)).expect(&rt, "begin");
-        assert!(rt; begun.alarmed == alarmed);
-        let ended = first.end(&rt, &shared).expect(&rt, "end");
-        assert!(rt; ended.alarmed == alarmed);
+/// Two threads, the second of which is forked first of all, and how their run ends.
+#[derive(Clone, Copy)]
+struct Case<'a> {
+    stop: bool,
+    first: &'a [Step],
+    second: &'a [Step],
+    log: &'a [(ThreadId, Kind)],
+    /// The position of the alarm, and that of its transaction.
+    alarm: Option<(usize, usize)>,
+}
 
-        assert!(rt; first.begin(&rt, &shared, Label(2)).is_ok());
-        assert!(rt; first.read(&rt, &shared, X).is_ok());
-        assert!(rt; second.write(&rt, &shared, X, 5).is_ok());
-        assert!(rt; first.read(&rt, &shared, X) == Ok(5));
-        assert!(rt; first.end(&rt, &shared).expect(&rt, "end").alarmed);
+/// A block that nothing spoils, one in which the second thread writes between the first one's read and write, and one
+/// after the alarm.
+const LOST_UPDATE: Case = Case {
+    stop: false,
+    first: &[
+        Step::Do(Action::Begin(Label(1)), DONE),
+        Step::Do(Action::End, DONE),
+        Step::Do(Action::Begin(Label(7)), DONE),
+        Step::Do(Action::Read(X), Ok((Some(0), false))),
+        Step::At(6),
+        Step::Do(Action::Write(X, 1), ALARMED),
+        Step::Do(Action::Begin(Label(2)), ALARMED),
+        Step::At(9),
+        Step::Do(Action::Read(X), Ok((Some(9), false))),
+        Step::Do(Action::End, ALARMED),
+    ],
+    second: &[
+        Step::At(5),
+        Step::Do(Action::Write(X, 5), DONE),
+        Step::At(8),
+        Step::Do(Action::Write(X, 9), ALARMED),
+    ],
+    log: &[
+        (MAIN, Kind::Fork(OTHER)),
+        (MAIN, Kind::Begin(Label(1))),
+        (MAIN, Kind::End),
+        (MAIN, Kind::Begin(Label(7))),
+        (MAIN, Kind::Read(X, 0)),
+        (OTHER, Kind::Write(X, 5)),
+        (MAIN, Kind::Write(X, 1)),
+        (MAIN, Kind::Begin(Label(2))),
+        (OTHER, Kind::Write(X, 9)),
+        (MAIN, Kind::Read(X, 9)),
+        (MAIN, Kind::End),
+    ],
+    alarm: Some((6, 3)),
+};
+
+/// A release wakes a thread that waits for the lock, and an exit one that waits to join.
+const RELEASE_AND_EXIT: Case = Case {
+    stop: false,
+    first: &[
+        Step::Do(Action::Acquire(LOCK), DONE),
+        Step::IsAwaited,
+        Step::Do(Action::Release(LOCK), DONE),
+        Step::At(5),
+        Step::Do(Action::Join(OTHER), DONE),
+    ],
+    second: &[
+        Step::At(2),
+        Step::Do(Action::Acquire(LOCK), DONE),
+        Step::Do(Action::Release(LOCK), DONE),
+        Step::IsAwaited,
+        Step::Do(Action::Exit, DONE),
+        Step::At(7),
+    ],
+    log: &[
+        (MAIN, Kind::Fork(OTHER)),
+        (MAIN, Kind::Acquire(LOCK)),
+        (MAIN, Kind::Release(LOCK)),
+        (OTHER, Kind::Acquire(LOCK)),
+        (OTHER, Kind::Release(LOCK)),
+        (OTHER, Kind::Exit),
+        (MAIN, Kind::Join(OTHER)),
+    ],
+    alarm: None,
+};
+
+/// A halt wakes a thread that waits.
+const HALT: Case = Case {
+    stop: false,
+    first: &[
+        Step::Do(Action::Acquire(LOCK), DONE),
+        Step::IsAwaited,
+        Step::Halt,
+        Step::IsNotAwaited,
+    ],
+    second: &[
+        Step::At(2),
+        Step::Do(Action::Acquire(LOCK), Err(Refusal::Halted)),
+    ],
+    log: &[(MAIN, Kind::Fork(OTHER)), (MAIN, Kind::Acquire(LOCK))],
+    alarm: None,
+};
+
+/// So does the event that halts the world at its alarm.
+const HALT_AT_ALARM: Case = Case {
+    stop: true,
+    first: &[
+        Step::Do(Action::Begin(Label(1)), DONE),
+        Step::Do(Action::Read(X), Ok((Some(0), false))),
+        Step::At(4),
+        Step::Do(Action::Acquire(LOCK), DONE),
+        Step::IsAwaited,
+        Step::Do(Action::Write(X, 1), ALARMED),
+        Step::IsNotAwaited,
+    ],
+    second: &[
+        Step::At(3),
+        Step::Do(Action::Write(X, 5), DONE),
+        Step::At(5),
+        Step::Do(Action::Acquire(LOCK), Err(Refusal::Halted)),
+    ],
+    log: &[
+        (MAIN, Kind::Fork(OTHER)),
+        (MAIN, Kind::Begin(Label(1))),
+        (MAIN, Kind::Read(X, 0)),
+        (OTHER, Kind::Write(X, 5)),
+        (MAIN, Kind::Acquire(LOCK)),
+        (MAIN, Kind::Write(X, 1)),
+    ],
+    alarm: Some((5, 1)),
+};
+
+/// The seat's call of the action's name.
+fn call<R: Wait>(rt: &R, shared: &Shared, seat: &mut Seat, action: Action) -> Outcome {
+    let reply = match action {
+        Action::Read(x) => return Ok((Some(seat.read(rt, shared, x)?), false)),
+        Action::Write(x, value) => seat.write(rt, shared, x, value)?,
+        Action::Acquire(lock) => seat.acquire(rt, shared, lock)?,
+        Action::Release(lock) => seat.release(rt, shared, lock)?,
+        Action::Begin(label) => seat.begin(rt, shared, label)?,
+        Action::End => seat.end(rt, shared)?,
+        Action::Fork(_) => return Err(Refusal::AlreadyForked),
+        Action::Join(thread) => seat.join(rt, shared, thread)?,
+        Action::Exit => seat.exit(rt, shared)?,
+    };
+    Ok((reply.value, reply.alarmed))
+}
+
+/// Whether a thread waits for what the caller has.
+fn awaits(room: &Room, thread: ThreadId, caller: ThreadId) -> bool {
+    thread.0 < room.bounds().threads && comes_back(room, caller, Wanted::Thread(thread))
+}
+
+/// Whether the thread may go on.
+fn may_go_on(room: &Room, own: ThreadId, step: Step) -> bool {
+    let other = if own == MAIN { OTHER } else { MAIN };
+    match step {
+        Step::Do(_, _) | Step::Halt => true,
+        Step::At(events) => room.count_events() >= events,
+        Step::IsAwaited => awaits(room, other, own),
+        Step::IsNotAwaited => !awaits(room, other, own),
     }
 }
+
+/// Looks at the room once a millisecond, for some seconds, until the thread may go on.
+fn comes_to(rt: &(impl Wait + Clock), shared: &Shared, own: ThreadId, step: Step) -> bool {
+    for _ in 0..3_000 {
+        if may_go_on(&shared.room.lock(rt), own, step) {
+            return true;
+        }
+        thread::sleep(rt, Duration::from_millis(1));
+    }
+    false
+}
+
+/// Whether the step goes as it should.
+fn goes(rt: &(impl Wait + Clock), shared: &Shared, seat: &mut Seat, step: Step) -> bool {
+    match step {
+        Step::Do(action, outcome) => call(rt, shared, seat, action) == outcome,
+        Step::Halt => {
+            shared.halt(rt);
+            true
+        }
+        look => comes_to(rt, shared, seat.share().thread(), look),
+    }
+}
+
+/// The first step that does not go as it should. Then all are woken and refused, so that no test waits forever.
+fn first_wrong(
+    rt: &(impl Wait + Clock),
+    shared: &Shared,
+    seat: &mut Seat,
+    steps: &[Step],
+) -> Option<usize> {
+    for (at, step) in steps.iter().enumerate() {
+        if !goes(rt, shared, seat, *step) {
+            shared.halt(rt);
+            shared.wake_all();
+            return Some(at);
+        }
+    }
+    None
+}
+
+/// Has both threads follow their scripts at once, and answers the first step of each that goes wrong.
+fn follow<R: Wait + Clock + Threads + Sync>(
+    rt: &R,
+    shared: &Shared,
+    first: &mut Seat,
+    second: &mut Seat,
+    case: &Case,
+) -> (Option<usize>, Option<usize>) {
+    thread::join(
+        rt,
+        || first_wrong(rt, shared, first, case.first),
+        || first_wrong(rt, shared, second, case.second),
+    )
+}
+
+/// Whether a run ended as it should.
+fn ends_as(closed: &Closed, case: &Case) -> bool {
+    let events = closed.log().as_slice().iter();
+    let alarm = closed.alarm();
+    events
+        .map(|event| (event.thread, event.kind))
+        .eq(case.log.iter().copied())
+        && closed.total() == case.log.len() as u64
+        && alarm.map(|alarm| (alarm.position, alarm.transaction)) == case.alarm
+}
+
+/// Opens a run of two threads, with their seats.
+fn pair<R: Wait>(rt: &R, alloc: Global, stop: bool) -> Result<(Shared, Seat, Seat), RunError> {
+    let (shared, mut first) = Shared::open(alloc, config(1, 2, 100, stop)?)?;
+    let second = first.fork(rt, &shared, OTHER)?;
+    Ok((shared, first, second))
+}
+
+/// Plays a case. The first step of each thread that goes wrong, and whether the run ends as it should.
+fn played<R: Wait + Clock + Threads + Sync>(
+    rt: &R,
+    alloc: Global,
+    case: &Case,
+) -> Result<((Option<usize>, Option<usize>), bool), RunError> {
+    let (shared, mut first, mut second) = pair(rt, alloc, case.stop)?;
+    let wrong = follow(rt, &shared, &mut first, &mut second, case);
+    Ok((wrong, ends_as(&closed(alloc, shared, first, second)?, case)))
+}
+
+/// Ends a run of two threads.
+fn closed(alloc: Global, shared: Shared, first: Seat, second: Seat) -> Result<Closed, RunError> {
+    let seats = vec![in alloc; first, second]?;
+    Ok(close(shared, seats)?)
+}
+
+#[test]
+fn two_threads(rt: HostRuntime) {
+    for case in [LOST_UPDATE, RELEASE_AND_EXIT, HALT, HALT_AT_ALARM] {
+        let outcome = played(&rt, rt.alloc(), &case).ok();
+        assert_eq!(rt; outcome, Some(((None, None), true)));
+    }
+}
+
+// ---- four threads at once
 
 /// Writes 1 to 20 to the variable that has the number of the seat's thread.
 fn write_numbers(rt: &(impl Wait + Abort), shared: &Shared, mut seat: Seat) -> Seat {
@@ -89,308 +360,205 @@ fn write_numbers(rt: &(impl Wait + Abort), shared: &Shared, mut seat: Seat) -> S
     seat
 }
 
-#[test]
-fn four_threads_write_at_once(rt: HostRuntime) {
-    let (shared, mut first) = open(&rt, rt.alloc(), 1, 4, false);
-    let second = first.fork(&rt, &shared, ThreadId(1)).expect(&rt, "fork");
-    let third = first.fork(&rt, &shared, ThreadId(2)).expect(&rt, "fork");
-    let fourth = first.fork(&rt, &shared, ThreadId(3)).expect(&rt, "fork");
-    let seats = vec![in rt.alloc(); first, second, third, fourth].expect(&rt, "memory");
-    let seats = thread::map_vec(&rt, seats, &|seat| write_numbers(&rt, &shared, seat));
-    closes_with_all_seats(&rt, shared, seats.expect(&rt, "memory"));
+/// Has four threads write at once.
+fn all_write<R: Wait + Abort + Threads + Sync>(
+    rt: &R,
+    alloc: Global,
+) -> Result<(Shared, Vec<Seat>), RunError> {
+    let (shared, seats) = opened(rt, alloc, config(1, 4, 100, false)?, 3)?;
+    let seats = thread::map_vec(rt, seats, &|seat| write_numbers(rt, &shared, seat))?;
+    Ok((shared, seats))
 }
 
-/// One seat is kept back, and then added.
-fn closes_with_all_seats(rt: &(impl Wait + Abort), shared: Shared, mut seats: Vec<Seat>) {
-    let kept = seats.pop().expect(rt, "a seat");
-    let missing = close(shared, seats).err().expect(rt, "a seat is missing");
+/// Keeps the last seat back, so that the run is not closed.
+fn close_too_early(shared: Shared, mut seats: Vec<Seat>) -> Option<(Missing, Seat)> {
+    let kept = seats.pop()?;
+    let missing = close(shared, seats).err()?;
+    Some((missing, kept))
+}
+
+/// Whether the room is as it was, and the seats stand in their order.
+fn is_as_before(rt: &impl Wait, missing: &Missing) -> bool {
+    let threads = missing.seats.iter().map(|seat| seat.share().thread().0);
+    threads.eq([0, 1, 2]) && !missing.shared.room.lock(rt).is_halted()
+}
+
+/// Adds the seat that was kept back.
+fn close_after_all(missing: Missing, kept: Seat) -> Option<Closed> {
     let Missing { shared, mut seats } = missing;
-    assert!(rt; !shared.room.lock(rt).is_halted());
-    assert!(rt; seats.len() == 3);
-    for (thread, seat) in seats.iter().enumerate() {
-        assert!(rt; usize::from(seat.share().thread().0) == thread);
-    }
-    assert!(rt; seats.push(kept).is_ok());
-    has_all_numbers(rt, &close(shared, seats).expect(rt, "closed"));
+    seats.push(kept).ok()?;
+    close(shared, seats).ok()
 }
 
-fn has_all_numbers(rt: &impl Abort, closed: &Closed) {
-    assert!(rt; closed.total() == 83);
-    assert!(rt; closed.alarm().is_none());
-    assert!(rt; closed.bounds().threads == 4);
+fn has_all_numbers(closed: &Closed) -> bool {
+    if closed.bounds().threads != 4 {
+        return false;
+    }
     for thread in 0..4 {
         let tally = closed.tally(ThreadId(thread));
-        assert!(rt; tally.events == if thread == 0 { 23 } else { 20 });
-        assert!(rt; tally.written_total == 210);
+        let events = if thread == 0 { 23 } else { 20 };
+        if tally.events != events || tally.written_total != 210 {
+            return false;
+        }
     }
+    closed.total() == 83 && closed.alarm().is_none()
 }
 
-/// Does an action, and answers why it was refused.
-fn refusal_of(room: &mut Room, seat: &mut Seat, action: Action) -> Option<Refusal> {
-    match action {
-        Action::Fork(child) => fork_in(room, seat, child).err(),
-        _ => step_in(room, seat, action).err(),
-    }
+/// Whether a refused close gives all back, and the next one is as it should be.
+fn close_twice(rt: &impl Wait, shared: Shared, seats: Vec<Seat>) -> Option<(bool, bool)> {
+    let (missing, kept) = close_too_early(shared, seats)?;
+    let is_back = is_as_before(rt, &missing);
+    let closed = close_after_all(missing, kept)?;
+    Some((is_back, has_all_numbers(&closed)))
 }
 
 #[test]
-fn a_room_is_opened_as_configured(rt: HostRuntime) {
-    let bounds = Bounds {
-        threads: 2,
-        variables: 3,
-        locks: 4,
+fn four_threads_write_at_once(rt: HostRuntime) {
+    let (shared, seats) = all_write(&rt, rt.alloc()).expect(&rt, "written");
+    assert_eq!(rt; close_twice(&rt, shared, seats), Some((true, true)));
+}
+
+// ---- one hold of a room
+
+/// The position of the event, or none where the thread waits.
+type Answer = Result<Option<usize>, Refusal>;
+
+const WAITS: Answer = Ok(None);
+
+/// A run of two threads, the actions of its seats in one hold, and what the room tells at the end. The first seat is there
+/// from the start, the second is that of another run, and a fork gives the third.
+#[derive(Clone, Copy)]
+struct Hold<'a> {
+    events: u32,
+    stop: bool,
+    steps: &'a [(usize, Action, Answer)],
+    /// How many events there are, whether the room is halted, and whether there is an alarm.
+    end: (usize, bool, bool),
+}
+
+const CONFIGURED: Hold = Hold {
+    events: 5,
+    stop: false,
+    steps: &[
+        (1, Action::End, Err(Refusal::Foreign)),
+        (1, Action::Fork(OTHER), Err(Refusal::Foreign)),
+        (1, Action::Acquire(LOCK), Err(Refusal::Foreign)),
+        (0, Action::Write(VarId(2), 1), Ok(Some(0))),
+        (0, Action::Write(VarId(3), 1), Err(Refusal::NoSuchVariable)),
+        (0, Action::Acquire(LockId(3)), Ok(Some(1))),
+        (0, Action::Acquire(LockId(4)), Err(Refusal::NoSuchLock)),
+        (0, Action::Fork(OTHER), Ok(Some(2))),
+        (0, Action::Fork(ThreadId(2)), Err(Refusal::NoSuchThread)),
+        (0, Action::Begin(Label(1)), Ok(Some(3))),
+        (0, Action::End, Ok(Some(4))),
+        (0, Action::Begin(Label(1)), Err(Refusal::LogFull)),
+    ],
+    end: (5, false, false),
+};
+
+/// The world stops at its alarm, and halted goes before all but foreign.
+const HALTED: Hold = Hold {
+    events: 100,
+    stop: true,
+    steps: &[
+        (0, Action::Fork(OTHER), Ok(Some(0))),
+        (0, Action::Begin(Label(7)), Ok(Some(1))),
+        (0, Action::Read(X), Ok(Some(2))),
+        (2, Action::Write(X, 5), Ok(Some(3))),
+        (0, Action::Write(X, 1), Ok(Some(4))),
+        (0, Action::End, Err(Refusal::Halted)),
+        (0, Action::Fork(OTHER), Err(Refusal::Halted)),
+        (2, Action::End, Err(Refusal::Halted)),
+        (2, Action::Fork(OTHER), Err(Refusal::Halted)),
+        (1, Action::End, Err(Refusal::Foreign)),
+        (1, Action::Fork(OTHER), Err(Refusal::Foreign)),
+    ],
+    end: (5, true, true),
+};
+
+/// Nobody waits for a thread that waits for it, and who has acquired a lock waits no more.
+const TURNS: Hold = Hold {
+    events: 100,
+    stop: false,
+    steps: &[
+        (0, Action::Fork(OTHER), Ok(Some(0))),
+        (0, Action::Acquire(LOCK), Ok(Some(1))),
+        (2, Action::Acquire(LOCK), WAITS),
+        (0, Action::Join(OTHER), Err(Refusal::WouldDeadlock)),
+        (0, Action::Acquire(LOCK), Err(Refusal::AlreadyHeld)),
+        (0, Action::Release(LOCK), Ok(Some(2))),
+        (2, Action::Acquire(LOCK), Ok(Some(3))),
+        (0, Action::Acquire(LOCK), WAITS),
+        (2, Action::Join(OTHER), Err(Refusal::WouldDeadlock)),
+    ],
+    end: (4, false, false),
+};
+
+/// An action that is no fork, by the call that is for it.
+fn step_or_turn(room: &mut Room, seat: &mut Seat, action: Action) -> Answer {
+    let turn = match action {
+        Action::Fork(_) => return Err(Refusal::AlreadyForked),
+        Action::Acquire(_) | Action::Join(_) => turn_in(room, seat, action),
+        _ => return Ok(Some(step_in(room, seat, action)?.position)),
     };
-    let config = Config::new(1, bounds, 5, 1024, false).expect(&rt, "in range");
-    let (shared, mut first) = Shared::open(rt.alloc(), config).expect(&rt, "opened");
-    let mut room = shared.room.lock(&rt);
-    let steps = [
-        (Action::Write(VarId(2), 1), None),
-        (Action::Write(VarId(3), 1), Some(Refusal::NoSuchVariable)),
-        (Action::Acquire(LockId(3)), None),
-        (Action::Acquire(LockId(4)), Some(Refusal::NoSuchLock)),
-        (Action::Fork(ThreadId(1)), None),
-        (Action::Fork(ThreadId(2)), Some(Refusal::NoSuchThread)),
-        (Action::Begin(Label(1)), None),
-        (Action::End, None),
-        (Action::Begin(Label(1)), Some(Refusal::LogFull)),
-    ];
-    for (action, refusal) in steps {
-        assert!(rt; refusal_of(&mut room, &mut first, action) == refusal);
-    }
-    assert!(rt; room.count_events() == 5 && room.alarm().is_none());
-}
-
-/// Forks a thread in a new run, and closes it.
-fn fork_and_close(rt: &impl Wait, alloc: Global, threads: u8) -> Result<u64, RunError> {
-    let bounds = Bounds {
-        threads,
-        variables: 0,
-        locks: 0,
-    };
-    let config = Config::new(1, bounds, 100, 1024, false)?;
-    let (shared, mut first) = Shared::open(alloc, config)?;
-    let second = first.fork(rt, &shared, ThreadId(1))?;
-    let closed = close(shared, vec![in alloc; first, second]?)?;
-    Ok(closed.total())
-}
-
-#[test]
-fn each_error_is_told_by_its_text(rt: HostRuntime) {
-    let alloc = rt.alloc();
-    assert!(rt; fork_and_close(&rt, alloc, 2).ok() == Some(1));
-    let refused = fork_and_close(&rt, alloc, 1).err().expect(&rt, "refused");
-    assert!(rt; refused.to_string(alloc).expect(&rt, "memory").as_str() == "no such thread");
-}
-
-/// Tries an end and a fork.
-fn refuses(rt: &impl Abort, room: &mut Room, seat: &mut Seat, refusal: Refusal) {
-    for action in [Action::End, Action::Fork(ThreadId(1))] {
-        assert!(rt; refusal_of(room, seat, action) == Some(refusal));
+    match turn {
+        Turn::Done(reply) => Ok(Some(reply.position)),
+        Turn::Refused(refusal) => Err(refusal),
+        Turn::Wait => WAITS,
     }
 }
 
-#[test]
-fn a_seat_of_another_run(rt: HostRuntime) {
-    let (one, mut first) = open(&rt, rt.alloc(), 1, 2, false);
-    let (two, mut second) = open(&rt, rt.alloc(), 2, 2, false);
-    {
-        let mut room = two.room.lock(&rt);
-        refuses(&rt, &mut room, &mut first, Refusal::Foreign);
-        assert!(rt; refusal_of(&mut room, &mut second, Action::Write(X, 1)).is_none());
-    }
-    assert!(rt; first.write(&rt, &one, X, 1).is_ok());
-}
-
-#[test]
-fn halted_goes_before_all_but_foreign(rt: HostRuntime) {
-    let (_, mut foreign) = open(&rt, rt.alloc(), 2, 2, true);
-    let (shared, mut first) = open(&rt, rt.alloc(), 1, 2, true);
-    let mut room = shared.room.lock(&rt);
-    let (_, mut second) = fork_in(&mut room, &mut first, ThreadId(1)).expect(&rt, "fork");
-    // the world stops at its alarm
-    let steps = [
-        (false, Action::Begin(Label(7))),
-        (false, Action::Read(X)),
-        (true, Action::Write(X, 5)),
-        (false, Action::Write(X, 1)),
-    ];
-    for (by_second, action) in steps {
-        let seat = if by_second { &mut second } else { &mut first };
-        assert!(rt; refusal_of(&mut room, seat, action).is_none());
-    }
-    assert!(rt; room.is_halted() && room.alarm().is_some());
-
-    refuses(&rt, &mut room, &mut first, Refusal::Halted);
-    refuses(&rt, &mut room, &mut second, Refusal::Halted);
-    refuses(&rt, &mut room, &mut foreign, Refusal::Foreign);
-}
-
-/// An action that is done, as an event at a position before any alarm.
-const fn done(position: usize) -> Turn {
-    Turn::Done(Reply {
-        position,
-        value: None,
-        alarmed: false,
-    })
-}
-
-/// A turn of a seat, where the action is not a fork.
-fn take_turn(room: &mut Room, seat: &mut Seat, action: Action) -> Option<Turn> {
-    match action {
-        Action::Fork(_) => None,
-        _ => Some(turn_in(room, seat, action)),
-    }
-}
-
-const LOCK: LockId = LockId(0);
-
-#[test]
-fn turns_wait_and_go_on(rt: HostRuntime) {
-    let (shared, mut first) = open(&rt, rt.alloc(), 1, 2, false);
-    let mut room = shared.room.lock(&rt);
-    let (_, mut second) = fork_in(&mut room, &mut first, ThreadId(1)).expect(&rt, "fork");
-    let turns = [
-        (false, Action::Acquire(LOCK), done(1)),
-        (true, Action::Acquire(LOCK), Turn::Wait),
-        // nobody waits for a thread that waits for it
-        (
-            false,
-            Action::Join(ThreadId(1)),
-            Turn::Refused(Refusal::WouldDeadlock),
-        ),
-        (
-            false,
-            Action::Acquire(LOCK),
-            Turn::Refused(Refusal::AlreadyHeld),
-        ),
-        (false, Action::Release(LOCK), done(2)),
-        (true, Action::Acquire(LOCK), done(3)),
-        // the second waits no more
-        (false, Action::Acquire(LOCK), Turn::Wait),
-        (
-            true,
-            Action::Join(ThreadId(1)),
-            Turn::Refused(Refusal::WouldDeadlock),
-        ),
-    ];
-    for (by_second, action, turn) in turns {
-        let seat = if by_second { &mut second } else { &mut first };
-        assert!(rt; take_turn(&mut room, seat, action) == Some(turn));
-    }
-}
-
-/// Whether a thread waits for what the caller has.
-fn is_awaited(room: &Room, caller: ThreadId, thread: ThreadId) -> bool {
-    thread.0 < room.bounds().threads && comes_back(room, caller, Wanted::Thread(thread))
-}
-
-/// How often a test looks at a room, once a millisecond, before it gives up.
-const MOST_LOOKS: u32 = 3_000;
-
-/// Looks at the room until the thread waits for the caller, or until it does not.
-fn sees(rt: &(impl Wait + Clock), shared: &Shared, caller: u8, thread: u8, waiting: bool) -> bool {
-    for _ in 0..MOST_LOOKS {
-        {
-            let room = shared.room.lock(rt);
-            if is_awaited(&room, ThreadId(caller), ThreadId(thread)) == waiting {
-                return true;
-            }
+/// Forks a thread, and adds its seat.
+fn fork(room: &mut Room, seats: &mut Vec<Seat>, place: usize, child: ThreadId) -> Option<Answer> {
+    let seat = seats.get_mut(place)?;
+    match fork_in(room, seat, child) {
+        Ok((reply, forked)) => {
+            seats.push(forked).ok()?;
+            Some(Ok(Some(reply.position)))
         }
-        thread::sleep(rt, Duration::from_millis(1));
+        Err(refusal) => Some(Err(refusal)),
     }
-    false
 }
 
-/// Whether the log comes to so many events by itself. Else all are woken, so that no test waits forever.
-fn comes_to(rt: &(impl Wait + Clock), shared: &Shared, events: usize) -> bool {
-    for _ in 0..MOST_LOOKS {
-        {
-            let room = shared.room.lock(rt);
-            if room.count_events() >= events {
-                return true;
-            }
+/// The first step that is not answered as it should be.
+fn first_other_answer(
+    room: &mut Room,
+    seats: &mut Vec<Seat>,
+    steps: &[(usize, Action, Answer)],
+) -> Option<usize> {
+    for (at, (place, action, answer)) in steps.iter().enumerate() {
+        let given = match *action {
+            Action::Fork(child) => fork(room, seats, *place, child),
+            action => seats
+                .get_mut(*place)
+                .map(|seat| step_or_turn(room, seat, action)),
+        };
+        if given != Some(*answer) {
+            return Some(at);
         }
-        thread::sleep(rt, Duration::from_millis(1));
     }
-    shared.wake_all();
-    false
+    None
 }
 
-/// Releases the lock once the second thread waits for it, and joins that thread once it has released the lock too.
-fn release_and_join(rt: &(impl Wait + Clock), shared: &Shared, first: &mut Seat) -> bool {
-    let awaited = sees(rt, shared, 0, 1, true);
-    let released = first.release(rt, shared, LOCK).is_ok();
-    let woken = comes_to(rt, shared, 5);
-    awaited && released && woken && first.join(rt, shared, ThreadId(1)).is_ok()
-}
-
-/// Acquires the lock and releases it, and exits once the first thread waits for the exit.
-fn acquire_and_exit(rt: &(impl Wait + Clock), shared: &Shared, second: &mut Seat) -> bool {
-    let acquired = second.acquire(rt, shared, LOCK).is_ok();
-    let released = second.release(rt, shared, LOCK).is_ok();
-    let awaited = sees(rt, shared, 1, 0, true);
-    let exited = second.exit(rt, shared).is_ok();
-    acquired && released && awaited && exited && comes_to(rt, shared, 7)
+/// Does the actions of a hold. The first step that is answered otherwise, and what the room tells at the end.
+fn held(
+    rt: &impl Wait,
+    alloc: Global,
+    hold: &Hold,
+) -> Result<(Option<usize>, (usize, bool, bool)), RunError> {
+    let (_, foreign) = Shared::open(alloc, config(2, 2, 100, false)?)?;
+    let (shared, first) = Shared::open(alloc, config(1, 2, hold.events, hold.stop)?)?;
+    let mut seats = vec![in alloc; first, foreign]?;
+    let mut room = shared.room.lock(rt);
+    let other = first_other_answer(&mut room, &mut seats, hold.steps);
+    let has_alarm = room.alarm().is_some();
+    Ok((other, (room.count_events(), room.is_halted(), has_alarm)))
 }
 
 #[test]
-fn a_release_and_an_exit_wake(rt: HostRuntime) {
-    let (shared, mut first) = open(&rt, rt.alloc(), 1, 2, false);
-    let mut second = first.fork(&rt, &shared, ThreadId(1)).expect(&rt, "fork");
-    assert!(rt; first.acquire(&rt, &shared, LOCK).is_ok());
-    let woken = thread::join(
-        &rt,
-        || release_and_join(&rt, &shared, &mut first),
-        || acquire_and_exit(&rt, &shared, &mut second),
-    );
-    assert!(rt; woken == (true, true));
-
-    let seats = vec![in rt.alloc(); first, second].expect(&rt, "memory");
-    assert!(rt; close(shared, seats).expect(&rt, "closed").total() == 7);
-}
-
-/// Halts the world once the second thread waits, by an alarm or outright, and tells whether that thread goes on by itself.
-/// Else it is let go, so that no test waits forever.
-fn halt_once_awaited(
-    rt: &(impl Wait + Clock),
-    shared: &Shared,
-    first: &mut Seat,
-    by_alarm: bool,
-) -> bool {
-    let awaited = sees(rt, shared, 0, 1, true);
-    if by_alarm {
-        let _ = first.write(rt, shared, X, 1);
-    } else {
-        shared.halt(rt);
-    }
-    let woken = sees(rt, shared, 0, 1, false);
-    if !woken {
-        let _ = first.release(rt, shared, LOCK);
-        shared.wake_all();
-    }
-    awaited && woken
-}
-
-#[test]
-fn a_halt_wakes(rt: HostRuntime) {
-    for by_alarm in [false, true] {
-        let (shared, mut first) = open(&rt, rt.alloc(), 1, 2, true);
-        let mut second = first.fork(&rt, &shared, ThreadId(1)).expect(&rt, "fork");
-        if by_alarm {
-            assert!(rt; first.begin(&rt, &shared, Label(1)).is_ok());
-            assert!(rt; first.read(&rt, &shared, X).is_ok());
-            assert!(rt; second.write(&rt, &shared, X, 5).is_ok());
-        }
-        assert!(rt; first.acquire(&rt, &shared, LOCK).is_ok());
-        let (waited, woken) = thread::join(
-            &rt,
-            || second.acquire(&rt, &shared, LOCK),
-            || halt_once_awaited(&rt, &shared, &mut first, by_alarm),
-        );
-        assert!(rt; woken && waited == Err(Refusal::Halted));
-
-        let seats = vec![in rt.alloc(); first, second].expect(&rt, "memory");
-        let closed = close(shared, seats).expect(&rt, "closed");
-        assert!(rt; closed.total() == if by_alarm { 6 } else { 2 });
+fn one_hold_of_a_room(rt: HostRuntime) {
+    for hold in [CONFIGURED, HALTED, TURNS] {
+        let outcome = held(&rt, rt.alloc(), &hold).ok();
+        assert_eq!(rt; outcome, Some((None, hold.end)));
     }
 }

@@ -1,5 +1,6 @@
 pub mod OnReaders
 pub mod OnKept
+pub mod OnForgotten
 pub mod OnLast
 pub mod OnLookUps
 pub mod OnSteps
@@ -9,6 +10,7 @@ pub mod OnBeside
 pub mod OnClocks
 pub mod OnRaised
 pub mod OnClockRoom
+pub mod OnAlone
 pub mod OnNoted
 pub mod OnBlankClocks
 pub mod OnThreads

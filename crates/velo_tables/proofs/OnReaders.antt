@@ -3,14 +3,15 @@ use Rattle.std.proofs.Common.{◌≡◌, ℕ, zero, suc, ◌+◌, ◌-◌, ◌*�
 use Rattle.std.specs.Prelude.{replicate}
 use Rattle.std.specs.List.{filter_map, range_with_len, cons_option}
 use Rattle.std.specs.Option.{option_to_list}
-use Rattle.std.specs.Int.{bit_at, trailing_zeros}
+use Rattle.std.specs.Int.{bit_at, bit_not, trailing_zeros}
 use Rattle.std.specs.Int.RustNames.{bit_or}
+use Rattle.std.specs.Int.Bits.{bit_and}
 use mir.Syntax.{w64}
 use mir.Val.{bits}
 use Rattle.std.proofs.Math.ListN.{set}
 use Rattle.std.proofs.lemmas.Bool.{cases_lt, cases_eq}
 use Rattle.std.proofs.lemmas.Nat.{shr-shr}
-use Rattle.std.proofs.lemmas.Nat.Bits.{bit_at-zero, bit_at_above, bit_at-trailing_zeros, bit_at_set_same, bit_at_set_other}
+use Rattle.std.proofs.lemmas.Nat.Bits.{bit_at-zero, bit_at_above, bit_at-trailing_zeros, bit_at_set_same, bit_at_set_other, bit_at_clear_other}
 use Rattle.std.proofs.lemmas.List.{append-nil, append_assoc, take_all, get_or_append_left, get_or-append_right, get_or_past, get_or-replicate, length-replicate, get_or-set_same, get_or-set_other, length-set, map-id}
 use Rattle.std.proofs.lemmas.List.Elements.{filter_map-append}
 use Rattle.std.proofs.lemmas.List.FromFn.{map-range_with_len_more}
@@ -79,6 +80,20 @@ AreReaders-set readers reads t step within are = record {
   covers = λ u clear.
       ⊎_elim (λ at. absurd (let zero_one : 0 ≡ 1 = sym (subst (λ k. bit_at (bit_or readers (1 * 2 ^ t % 2 ^ bits w64)) k ≡ 0) at clear) ∙ bit_at_set_same w64 readers t small in omega (arith, zero_one)))
       (λ off. get_or-set_other reads t u step None off ∙ are.covers u (sym (bit_at_set_other w64 readers t small u off) ∙ clear)) (cases_eq u t);
+}
+  where
+    small : t < bits w64
+    small = omega (arith, within, are.few)
+
+-- an entry without a step may lose its bit
+pub AreReaders-clear : {X : Type 0} (readers : ℕ) (reads : List (Option X)) (t : ℕ) → t < length reads → AreReaders readers reads → AreReaders (bit_and readers (bit_not w64 (1 * 2 ^ t % 2 ^ bits w64))) (set reads t None)
+AreReaders-clear readers reads t within are = record {
+  few = omega (arith, length-set reads t None, are.few);
+  covers = λ u clear.
+      ⊎_elim (λ at. subst (λ k. get_or (set reads t None) k None ≡ None) (sym at) (get_or-set_same reads t None None within))
+      (λ off. get_or-set_other reads t u None None off
+      ∙ ⊎_elim (λ (below : u < 64). are.covers u (sym (bit_at_clear_other w64 readers t small u below off) ∙ clear))
+      (λ (above : 64 ≤ u). get_or_past reads u None (omega (arith, above, are.few))) (cases_lt u 64)) (cases_eq u t);
 }
   where
     small : t < bits w64

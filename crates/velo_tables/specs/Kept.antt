@@ -1,5 +1,5 @@
 -- What the tables keep: a step or none at each place.
-use Rattle.std.specs.Prelude.{◌≡◌, ℕ, ◌<◌, ◌≤◌, List, [], Option, None, slice_index_or, length, if◌then◌else◌, ⊤}
+use Rattle.std.specs.Prelude.{◌≡◌, ℕ, Bool, false, ◌==◌, ◌&&◌, ◌<◌, ◌≤◌, List, [], Option, None, slice_index_or, length, if◌then◌else◌, ⊤}
 use Rattle.std.specs.List.{filter_map}
 use Rattle.std.specs.Int.{bit_at}
 use Rattle.velo_arena.specs.declared.step.Step.{Step}
@@ -82,3 +82,13 @@ pub record IsUnchanged (old new : Kept) : Type 0 where
 pub record IsRecorded (old : Kept) (e : Event) (step : Option Step) (new : Kept) : Type 0 where
   pub each : (p : Place) → entry new p ≡ (if is_recorded e p then step else entry old p)
   pub room : (f : Event) → HasRoomFor old f → HasRoomFor new f
+
+-- the last read of variable x by thread t
+abbrev pub is_last_read : ℕ → ℕ → Place → Bool
+is_last_read x t (LastRead y u) = (x == y) && (t == u)
+is_last_read x t _ = false
+
+-- the last read of the variable by the thread has no step, and every other place keeps what it has; no room is lost
+pub record IsReadForgotten (old : Kept) (x t : ℕ) (new : Kept) : Type 0 where
+  pub each : (p : Place) → entry new p ≡ (if is_last_read x t p then None else entry old p)
+  pub room : (e : Event) → HasRoomFor old e → HasRoomFor new e

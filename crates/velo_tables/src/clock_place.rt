@@ -1,5 +1,5 @@
 ghost use Rattle.velo_events.specs.Refusals.{GrowthRefused};
-ghost use Rattle.std.specs.Prelude.{◌≡◌, ◌<◌, ◌≤◌, ◌+◌, ◌^◌, length, slice_index_or, vec_capacity, OnOk, OnErr};
+ghost use Rattle.std.specs.Prelude.{◌≡◌, ◌<◌, ◌≤◌, ◌+◌, ◌^◌, length, slice_index_or, slice_set, vec_capacity, OnOk, OnErr};
 ghost use Rattle.velo_tables.specs.Readers.{filled_up};
 ghost use Rattle.velo_tables.specs.Clocks.{blank_clock};
 ghost use Rattle.velo_tables.specs.Noted.{maxima, alone_at, joint_at, with_room};
@@ -14,15 +14,24 @@ use velo_events::{Memory, ThreadId};
 #[derive(Debug, Drop)]
 pub(crate) struct PlaceClock {
     known: Vec<u32>,
+    /// It counts only where events of several threads stand here. Where all are of one, what others know of a thread is
+    /// what is known of it, but nothing of the one itself.
     foreign: Vec<u32>,
+    shared: bool,
+    /// The one thread.
+    by: ThreadId,
 }
 
 impl Model for PlaceClock {
     ghost use Rattle.velo_tables.specs.Clocks.{Clock};
+    ghost use Rattle.std.specs.Prelude.{◌≡◌, length};
+    ghost use Rattle.velo_tables.specs.Noted.{foreign_in};
 
     ghost Value = { Clock };
 
-    ghost view = { λ p. record { known = p.known.items; foreign = p.foreign.items } };
+    ghost view = { λ p. record { known = p.known.items; foreign = foreign_in p.shared p.by.0 p.known.items p.foreign.items } };
+
+    ghost invariant = { λ p. length p.foreign.items ≡ length p.known.items };
 }
 
 /// Raises each number to that of the other list.
@@ -63,6 +72,39 @@ fn reserve_up(numbers: &mut Vec<u32>, count: usize) -> Result<(), Memory>
     Ok(())
 }
 
+/// The thread's number, or 0 where there is none.
+fn number_of(numbers: &[u32], t: ThreadId) -> u32
+    ensures { result ≡ slice_index_or numbers.now t.0 0 }
+{
+    if (t.0 as usize) < numbers.len() {
+        numbers[t.0 as usize]
+    } else {
+        0
+    }
+}
+
+/// Copies the numbers, but that of one thread.
+fn copy_but(copy: &mut [u32], numbers: &[u32], by: ThreadId)
+    requires { length copy.old ≡ length numbers.now }
+    ensures { copy.new ≡ slice_set numbers.now by.0 0 }
+{
+    copy.copy_from_slice(numbers);
+    if (by.0 as usize) < copy.len() {
+        copy[by.0 as usize] = 0;
+    }
+}
+
+/// Raises each number but that of one thread to that of the other list.
+fn raise_but(numbers: &mut [u32], others: &[u32], by: ThreadId)
+    requires others { length others.now ≤ length numbers.old }
+    requires by { by.0 < length numbers.old }
+    ensures { numbers.new ≡ slice_set (maxima numbers.old others.now) by.0 (slice_index_or numbers.old by.0 0) }
+{
+    let own = numbers[by.0 as usize];
+    raise(numbers, others);
+    numbers[by.0 as usize] = own;
+}
+
 impl PlaceClock {
     pub fn new(alloc: Global) -> PlaceClock
         ensures { result ≡ blank_clock }
@@ -70,6 +112,8 @@ impl PlaceClock {
         PlaceClock {
             known: Vec::new(alloc),
             foreign: Vec::new(alloc),
+            shared: false,
+            by: ThreadId(0),
         }
     }
 
@@ -91,10 +135,12 @@ impl PlaceClock {
     pub fn foreign(&self, t: ThreadId) -> u32
         ensures { result ≡ slice_index_or self.now.foreign t.0 0 }
     {
-        if (t.0 as usize) < self.foreign.len() {
-            self.foreign[t.0 as usize]
-        } else {
+        if self.shared {
+            number_of(&self.foreign, t)
+        } else if self.by == t {
             0
+        } else {
+            number_of(&self.known, t)
         }
     }
 
@@ -122,8 +168,8 @@ impl PlaceClock {
         ensures { self.new ≡ alone_at clock.now by.0 }
     {
         self.known.copy_from_slice(clock);
-        self.foreign.copy_from_slice(clock);
-        self.foreign[by.0 as usize] = 0;
+        self.shared = false;
+        self.by = by;
     }
 
     /// An event of the thread stands here too.
@@ -133,9 +179,16 @@ impl PlaceClock {
         requires by { by.0 < length clock.now }
         ensures { self.new ≡ joint_at self.old clock.now by.0 }
     {
-        let own = self.foreign[by.0 as usize];
-        raise(&mut self.known, clock);
-        raise(&mut self.foreign, clock);
-        self.foreign[by.0 as usize] = own;
+        if self.shared {
+            raise_but(&mut self.foreign, clock, by);
+            raise(&mut self.known, clock);
+        } else if self.by.0 == by.0 {
+            raise(&mut self.known, clock);
+        } else {
+            copy_but(&mut self.foreign, &self.known, self.by);
+            raise_but(&mut self.foreign, clock, by);
+            raise(&mut self.known, clock);
+            self.shared = true;
+        }
     }
 }

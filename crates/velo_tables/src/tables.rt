@@ -1,13 +1,15 @@
 ghost use Rattle.velo_events.specs.Refusals.{GrowthRefused};
-ghost use Rattle.std.specs.Prelude.{◌≡◌, ◌+◌, ◌^◌, ◌<◌, ◌≤◌, ◌++◌, ◌∷◌, None, length, map, slice_index_or, slice_set, IsTrue, ◌↔◌, IfOk, OnOk, OnErr};
+ghost use Rattle.std.specs.Prelude.{◌≡◌, ◌+◌, ◌^◌, ◌<◌, ◌≤◌, ◌++◌, ◌∷◌, None, length, map, slice_index_or, slice_set, IsTrue, IsFalse, ◌↔◌, IfOk, OnOk, OnErr};
 ghost use Rattle.std.specs.List.{filter_map};
+ghost use Rattle.std.specs.Option.{option_to_list};
 ghost use Rattle.smallvec.specs.SmallVec.{HasRoomFor as HasSpace};
 ghost use Rattle.velo_events.specs.declared.limits.TheConstants.{MOST_THREADS};
 ghost use Rattle.velo_tables.specs.declared.tables.TheConstants.{MOST_PREDECESSORS};
 ghost use Rattle.velo_tables.specs.Place.{LastOf, LastWrite, LastRead, LastOn, thread_numbers};
 ghost use Rattle.velo_tables.specs.Readers.{filled_up};
-ghost use Rattle.velo_tables.specs.Kept.{entry, no_accesses, steps_looked_up, HasItsThreads, HasRoomFor, HasRoomToRead, HasRoomBeside, CoverReaders, IsBlank, IsUnchanged, IsRecorded};
-ghost use Rattle.velo_tables.specs.Recorded.{kept_after, with_reads_of};
+ghost use Rattle.velo_tables.specs.Kept.{entry, no_accesses, steps_looked_up, HasItsThreads, HasRoomFor, HasRoomToRead, HasRoomBeside, CoverReaders, IsBlank, IsUnchanged, IsRecorded, IsReadForgotten, accesses_of};
+ghost use Rattle.velo_events.specs.Event.{thread_of, is_write};
+ghost use Rattle.velo_tables.specs.Recorded.{kept_after, with_variable, with_read, with_reads_of};
 
 use crate::entry::{Entry, entry_at};
 use crate::variable::{Variable, push_step};
@@ -259,6 +261,23 @@ impl Tables {
         }
     }
 
+    /// Forgets the step of the variable's last read by the thread.
+    pub fn forget_read(&mut self, x: VarId, t: ThreadId)
+        ensures forgotten { IsReadForgotten self.old x.0 t.0 self.new }
+        ensures threads { length self.new.threads ≡ length self.old.threads }
+    {
+        self.forget_in_place(x, t);
+    }
+
+    fn forget_in_place(&mut self, x: VarId, t: ThreadId)
+        ensures { self.new ≡ with_variable self.old x.0 (with_read (accesses_of self.old x.0) t.0 None) }
+    {
+        if (x.0 as usize) < self.variables.len() {
+            let variable = &mut self.variables[x.0 as usize];
+            variable.forget_read(t);
+        }
+    }
+
     /// Puts the steps that the event looks up into the list, in place of what it had: first that of the thread's last
     /// event, and a write's reads in the order of their threads.
     #[tactic(auto, unfolding(crate::specs::Kept::steps_looked_up))]
@@ -275,6 +294,20 @@ impl Tables {
             Kind::Acquire(m) | Kind::Release(m) => push_step(list, self.last_on(m)),
             Kind::Join(u) => push_step(list, self.last_of(u)),
             _ => {}
+        }
+    }
+
+    /// The one step that an event but a write looks up beside that of its thread's last event, if there is one.
+    #[tactic(auto, unfolding(crate::specs::Kept::steps_looked_up))]
+    pub fn step_beside(&self, event: &Event) -> Option<Step>
+        requires { IsFalse (is_write event.now.kind) }
+        ensures { steps_looked_up self.now event.now ≡ option_to_list (entry self.now (LastOf (thread_of event.now))) ++ option_to_list result }
+    {
+        match event.kind {
+            Kind::Read(x, _) => self.last_write(x),
+            Kind::Acquire(m) | Kind::Release(m) => self.last_on(m),
+            Kind::Join(u) => self.last_of(u),
+            _ => None,
         }
     }
 

@@ -146,4 +146,14 @@ impl Variable {
         }
         self.reads[t.0 as usize] = Entry::new(step);
     }
+
+    /// Forgets the step of the thread's last read.
+    pub fn forget_read(&mut self, t: ThreadId)
+        ensures { self.new ≡ with_read self.old t.0 None }
+    {
+        if (t.0 as usize) < self.reads.len() {
+            self.reads[t.0 as usize] = Entry::new(None);
+            self.readers &= !(1 << t.0);
+        }
+    }
 }

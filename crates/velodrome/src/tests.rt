@@ -70,197 +70,241 @@ const ONE_EVENT: &[&str] = &["velodrome", "check", "--events", "1", "a.log"];
 
 const ONE_NODE: &[&str] = &["velodrome", "check", "--nodes", "1", "a.log"];
 
-/// Words, the log, standard output, standard error and the status.
-const RUNS: [(&[&str], &str, &str, &str, u8); 30] = [
-    (
-        PLAIN,
-        "vlog 1 1 0 0\n",
-        "events 0\nthread 0 0\nverdict clean\n",
-        "",
-        0,
-    ),
-    (PLAIN, LOST_UPDATE, LOST_UPDATE_REPORT, "", 3),
-    (
-        PLAIN,
-        "vlog 1 2 2 0\n0 fork 1\n0 begin 1\n0 wr 0 1\n1 begin 2\n1 wr 1 1\n0 rd 1 1\n1 rd 0 1\n",
-        "events 7\nthread 0 4\nthread 1 3\nverdict alarm 6\ntransaction 3\nblame none\n",
-        "",
-        3,
-    ),
-    (
-        PLAIN,
-        "vlog 1 2 0 0\n0 begin 1\n0 fork 1\n1 exit\n0 join 1\n",
-        "events 4\nthread 0 3\nthread 1 1\nverdict alarm 3\ntransaction 0\nblame 0 1\n",
-        "",
-        3,
-    ),
-    (
-        PLAIN,
-        "vlog 1 2 1 0\n0 fork 1\n0 begin 1\n0 rd 0 0\n0 begin 2\n1 wr 0 3\n0 wr 0 4\n",
-        "events 6\nthread 0 5\nthread 1 1\nverdict alarm 5\ntransaction 1\nblame 1 1\n",
-        "",
-        3,
-    ),
-    (
-        PLAIN,
-        "vlog 1 2 1 0\n0 fork 1\n0 begin 1\n0 begin 2\n0 rd 0 0\n1 wr 0 3\n0 wr 0 4\n",
-        "events 6\nthread 0 5\nthread 1 1\nverdict alarm 5\ntransaction 1\nblame 1 1\nblame 2 2\n",
-        "",
-        3,
-    ),
-    (
-        PLAIN,
-        "vlog 1 2 1 0\n0 fork 1\n0 begin 1\n0 wr 0 1\n1 rd 0 1\n0 wr 0 2\n",
-        "events 5\nthread 0 4\nthread 1 1\nverdict alarm 4\ntransaction 1\nblame 1 1\n",
-        "",
-        3,
-    ),
-    (
-        PLAIN,
-        "vlog 1 2 1 1\n0 fork 1\n0 begin 1\n0 acq 0\n0 rd 0 0\n0 rel 0\n1 acq 0\n1 wr 0 9\n1 rel 0\n0 acq 0\n",
-        "events 9\nthread 0 6\nthread 1 3\nverdict alarm 8\ntransaction 1\nblame 1 1\n",
-        "",
-        3,
-    ),
-    (
-        PLAIN,
-        "vlog 1 2 1 1\n0 fork 1\n0 begin 1\n0 acq 0\n0 rd 0 0\n0 wr 0 1\n0 rel 0\n0 end\n1 begin 1\n1 acq 0\n1 rd 0 1\n1 wr 0 2\n1 rel 0\n1 end\n",
-        "events 13\nthread 0 7\nthread 1 6\nverdict clean\n",
-        "",
-        0,
-    ),
-    (PLAIN, "vlog 1 2 1 0\n1 wr 0 1\n", "", "refused 2 at 0\n", 2),
-    (
-        PLAIN,
-        "vlog 1 1 1 0\n0 wr 0 5\n0 rd 0 4\n",
-        "",
-        "wrong value at 1\n",
-        2,
-    ),
-    (
-        PLAIN,
-        "vlog 1 1 0 0\n0 fork 0\n",
-        "",
-        "refused 11 at 0\n",
-        2,
-    ),
-    (
-        PLAIN,
-        "vlog 1 1 1 0\n0 rd 0 01\n",
-        "",
-        "log fault 2 line 2\n",
-        2,
-    ),
-    (
-        PLAIN,
-        "vlog 1 1 1 0\n0 wr 0 1",
-        "",
-        "log fault 3 line 2\n",
-        2,
-    ),
-    (PLAIN, "vlog 1 0 0 0\n", "", "log fault 1\n", 2),
-    (PLAIN, "", "", "log fault 1\n", 2),
-    (
-        PLAIN,
-        "vlog 1 2 0 1\n0 fork 1\n0 acq 0\n1 acq 0\n",
-        "",
-        "refused 6 at 2\n",
-        2,
-    ),
-    (
-        PLAIN,
-        "vlog 1 2 0 1\n0 fork 1\n0 acq 0\n0 acq 0\n",
-        "",
-        "refused 7 at 2\n",
-        2,
-    ),
-    (
-        PLAIN,
-        "vlog 1 2 0 1\n0 fork 1\n0 acq 0\n0 exit\n",
-        "",
-        "refused 16 at 2\n",
-        2,
-    ),
-    (
-        PLAIN,
-        "vlog 1 2 0 1\n0 fork 1\n0 acq 0\n0 join 1\n",
-        "",
-        "refused 13 at 2\n",
-        2,
-    ),
-    (ONE_EVENT, LOST_UPDATE, "", "refused 17 at 1\n", 4),
-    (
-        ONE_EVENT,
-        "vlog 1 1 1 0\n0 wr 0 5\n0 rd 0 4\n",
-        "",
-        "wrong value at 1\n",
-        2,
-    ),
-    (
-        ONE_EVENT,
-        "vlog 1 1 0 0\n0 end\n",
-        "",
-        "refused 9 at 0\n",
-        2,
-    ),
-    (
-        ONE_EVENT,
-        "vlog 1 1 1 0\n0 rd 0 0\n0 end\n",
-        "",
-        "refused 9 at 1\n",
-        2,
-    ),
-    (
-        ONE_NODE,
-        "vlog 1 2 1 0\n0 fork 1\n0 begin 1\n0 wr 0 1\n0 end\n1 begin 2\n0 rd 0 1\n1 wr 0 2\n1 end\n",
-        "events 8\nthread 0 5\nthread 1 3\nverdict clean\n",
-        "",
-        0,
-    ),
-    (
-        ONE_NODE,
-        "vlog 1 2 0 0\n0 fork 1\n0 begin 1\n1 begin 2\n",
-        "",
-        "refused 18 at 2\n",
-        4,
-    ),
-    (
-        &["velodrome", "check", "--nodes", "2", "a.log"],
-        MERGED,
-        "events 7\nthread 0 4\nthread 1 3\nverdict clean\n",
-        "",
-        0,
-    ),
-    (ONE_NODE, MERGED, "", "refused 18 at 3\n", 4),
-    (
-        ONE_NODE,
-        "vlog 1 2 1 0\n0 fork 1\n0 begin 1\n0 wr 0 1\n1 rd 0 2\n",
-        "",
-        "wrong value at 3\n",
-        2,
-    ),
-    (
-        &["velodrome", "check", "a.log", "--certificate"],
-        LOST_UPDATE,
-        LOST_UPDATE_CERTIFIED,
-        "",
-        3,
-    ),
+/// What the program does with a log.
+struct Run {
+    words: &'static [&'static str],
+    log: &'static str,
+    out: &'static str,
+    err: &'static str,
+    status: u8,
+}
+
+static RUNS: [Run; 30] = [
+    Run {
+        words: PLAIN,
+        log: "vlog 1 1 0 0\n",
+        out: "events 0\nthread 0 0\nverdict clean\n",
+        err: "",
+        status: 0,
+    },
+    Run {
+        words: PLAIN,
+        log: LOST_UPDATE,
+        out: LOST_UPDATE_REPORT,
+        err: "",
+        status: 3,
+    },
+    Run {
+        words: PLAIN,
+        log: "vlog 1 2 2 0\n0 fork 1\n0 begin 1\n0 wr 0 1\n1 begin 2\n1 wr 1 1\n0 rd 1 1\n1 rd 0 1\n",
+        out: "events 7\nthread 0 4\nthread 1 3\nverdict alarm 6\ntransaction 3\nblame none\n",
+        err: "",
+        status: 3,
+    },
+    Run {
+        words: PLAIN,
+        log: "vlog 1 2 0 0\n0 begin 1\n0 fork 1\n1 exit\n0 join 1\n",
+        out: "events 4\nthread 0 3\nthread 1 1\nverdict alarm 3\ntransaction 0\nblame 0 1\n",
+        err: "",
+        status: 3,
+    },
+    Run {
+        words: PLAIN,
+        log: "vlog 1 2 1 0\n0 fork 1\n0 begin 1\n0 rd 0 0\n0 begin 2\n1 wr 0 3\n0 wr 0 4\n",
+        out: "events 6\nthread 0 5\nthread 1 1\nverdict alarm 5\ntransaction 1\nblame 1 1\n",
+        err: "",
+        status: 3,
+    },
+    Run {
+        words: PLAIN,
+        log: "vlog 1 2 1 0\n0 fork 1\n0 begin 1\n0 begin 2\n0 rd 0 0\n1 wr 0 3\n0 wr 0 4\n",
+        out: "events 6\nthread 0 5\nthread 1 1\nverdict alarm 5\ntransaction 1\nblame 1 1\nblame 2 2\n",
+        err: "",
+        status: 3,
+    },
+    Run {
+        words: PLAIN,
+        log: "vlog 1 2 1 0\n0 fork 1\n0 begin 1\n0 wr 0 1\n1 rd 0 1\n0 wr 0 2\n",
+        out: "events 5\nthread 0 4\nthread 1 1\nverdict alarm 4\ntransaction 1\nblame 1 1\n",
+        err: "",
+        status: 3,
+    },
+    Run {
+        words: PLAIN,
+        log: "vlog 1 2 1 1\n0 fork 1\n0 begin 1\n0 acq 0\n0 rd 0 0\n0 rel 0\n1 acq 0\n1 wr 0 9\n1 rel 0\n0 acq 0\n",
+        out: "events 9\nthread 0 6\nthread 1 3\nverdict alarm 8\ntransaction 1\nblame 1 1\n",
+        err: "",
+        status: 3,
+    },
+    Run {
+        words: PLAIN,
+        log: "vlog 1 2 1 1\n0 fork 1\n0 begin 1\n0 acq 0\n0 rd 0 0\n0 wr 0 1\n0 rel 0\n0 end\n1 begin 1\n1 acq 0\n1 rd 0 1\n1 wr 0 2\n1 rel 0\n1 end\n",
+        out: "events 13\nthread 0 7\nthread 1 6\nverdict clean\n",
+        err: "",
+        status: 0,
+    },
+    Run {
+        words: PLAIN,
+        log: "vlog 1 2 1 0\n1 wr 0 1\n",
+        out: "",
+        err: "refused 2 at 0\n",
+        status: 2,
+    },
+    Run {
+        words: PLAIN,
+        log: "vlog 1 1 1 0\n0 wr 0 5\n0 rd 0 4\n",
+        out: "",
+        err: "wrong value at 1\n",
+        status: 2,
+    },
+    Run {
+        words: PLAIN,
+        log: "vlog 1 1 0 0\n0 fork 0\n",
+        out: "",
+        err: "refused 11 at 0\n",
+        status: 2,
+    },
+    Run {
+        words: PLAIN,
+        log: "vlog 1 1 1 0\n0 rd 0 01\n",
+        out: "",
+        err: "log fault 2 line 2\n",
+        status: 2,
+    },
+    Run {
+        words: PLAIN,
+        log: "vlog 1 1 1 0\n0 wr 0 1",
+        out: "",
+        err: "log fault 3 line 2\n",
+        status: 2,
+    },
+    Run {
+        words: PLAIN,
+        log: "vlog 1 0 0 0\n",
+        out: "",
+        err: "log fault 1\n",
+        status: 2,
+    },
+    Run {
+        words: PLAIN,
+        log: "",
+        out: "",
+        err: "log fault 1\n",
+        status: 2,
+    },
+    Run {
+        words: PLAIN,
+        log: "vlog 1 2 0 1\n0 fork 1\n0 acq 0\n1 acq 0\n",
+        out: "",
+        err: "refused 6 at 2\n",
+        status: 2,
+    },
+    Run {
+        words: PLAIN,
+        log: "vlog 1 2 0 1\n0 fork 1\n0 acq 0\n0 acq 0\n",
+        out: "",
+        err: "refused 7 at 2\n",
+        status: 2,
+    },
+    Run {
+        words: PLAIN,
+        log: "vlog 1 2 0 1\n0 fork 1\n0 acq 0\n0 exit\n",
+        out: "",
+        err: "refused 16 at 2\n",
+        status: 2,
+    },
+    Run {
+        words: PLAIN,
+        log: "vlog 1 2 0 1\n0 fork 1\n0 acq 0\n0 join 1\n",
+        out: "",
+        err: "refused 13 at 2\n",
+        status: 2,
+    },
+    Run {
+        words: ONE_EVENT,
+        log: LOST_UPDATE,
+        out: "",
+        err: "refused 17 at 1\n",
+        status: 4,
+    },
+    Run {
+        words: ONE_EVENT,
+        log: "vlog 1 1 1 0\n0 wr 0 5\n0 rd 0 4\n",
+        out: "",
+        err: "wrong value at 1\n",
+        status: 2,
+    },
+    Run {
+        words: ONE_EVENT,
+        log: "vlog 1 1 0 0\n0 end\n",
+        out: "",
+        err: "refused 9 at 0\n",
+        status: 2,
+    },
+    Run {
+        words: ONE_EVENT,
+        log: "vlog 1 1 1 0\n0 rd 0 0\n0 end\n",
+        out: "",
+        err: "refused 9 at 1\n",
+        status: 2,
+    },
+    Run {
+        words: ONE_NODE,
+        log: "vlog 1 2 1 0\n0 fork 1\n0 begin 1\n0 wr 0 1\n0 end\n1 begin 2\n0 rd 0 1\n1 wr 0 2\n1 end\n",
+        out: "events 8\nthread 0 5\nthread 1 3\nverdict clean\n",
+        err: "",
+        status: 0,
+    },
+    Run {
+        words: ONE_NODE,
+        log: "vlog 1 2 0 0\n0 fork 1\n0 begin 1\n1 begin 2\n",
+        out: "",
+        err: "refused 18 at 2\n",
+        status: 4,
+    },
+    Run {
+        words: &["velodrome", "check", "--nodes", "2", "a.log"],
+        log: MERGED,
+        out: "events 7\nthread 0 4\nthread 1 3\nverdict clean\n",
+        err: "",
+        status: 0,
+    },
+    Run {
+        words: ONE_NODE,
+        log: MERGED,
+        out: "",
+        err: "refused 18 at 3\n",
+        status: 4,
+    },
+    Run {
+        words: ONE_NODE,
+        log: "vlog 1 2 1 0\n0 fork 1\n0 begin 1\n0 wr 0 1\n1 rd 0 2\n",
+        out: "",
+        err: "wrong value at 3\n",
+        status: 2,
+    },
+    Run {
+        words: &["velodrome", "check", "a.log", "--certificate"],
+        log: LOST_UPDATE,
+        out: LOST_UPDATE_CERTIFIED,
+        err: "",
+        status: 3,
+    },
 ];
 
 #[test]
 fn logs_are_checked(rt: HostRuntime) {
-    for (words, log, out, err, status) in RUNS {
+    for run in &RUNS {
         for step in [1, usize::MAX] {
-            let files = [("a.log", log)];
+            let files = [("a.log", run.log)];
             let folder = Folder {
                 files: &files,
                 step,
             };
-            let shown = show(rt.alloc(), words, &folder);
-            assert_eq!(rt; shown.out.as_slice(), out.as_bytes(), "{log}");
-            assert_eq!(rt; shown.err.as_slice(), err.as_bytes(), "{log}");
-            assert_eq!(rt; shown.status, status);
+            let shown = show(rt.alloc(), run.words, &folder);
+            assert_eq!(rt; shown.out.as_slice(), run.out.as_bytes(), "{}", run.log);
+            assert_eq!(rt; shown.err.as_slice(), run.err.as_bytes(), "{}", run.log);
+            assert_eq!(rt; shown.status, run.status);
         }
     }
 }

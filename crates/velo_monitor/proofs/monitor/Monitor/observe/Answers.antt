@@ -1,45 +1,13 @@
-use Rattle.std.proofs.Common.{◌≡◌, ◌<◌, ap, arith}
-use Rattle.velo_events.specs.Event.{thread_of, is_begin}
-use Rattle.velo_events.specs.Heap.{depth_in}
-use Rattle.velo_monitor.proofs.OnCounts.{depth-now}
-use Rattle.velo_monitor.proofs.OnCurrent.{current-node, inside-depth}
-use Rattle.velo_monitor.proofs.OnInsideSeen.{seen-inside, seen-quiet}
-use Rattle.velo_monitor.proofs.OnOutsideSeen.{not-begin, no-cycle, stands-begins, stands-operates}
+use Rattle.velo_monitor.proofs.OnForgetting.{stands-forgotten, next-forgotten, seen-forgotten}
 use Rattle.velo_monitor.proofs.monitor.Monitor.observe.Goals as goal
 
-pub observe_inside-requires-clause-current : goal.observe_inside-requires-clause-current
-observe_inside-requires-clause-current c =
-    let next = c.requires in
-    let now = depth-now next.bounds next.trace c.args.event.now next.stands.well_formed next.follows c.args.self.now.depths next.stands.depths in
-    let deep : 0 < depth_in next.trace (thread_of c.args.event.now) = omega (arith, now, c.depth.ensures, c.if-depth-gt0.true) in
-    let node = current-node next.bounds c.args.self.now next.trace c.args.event.now next.stands next.follows (inside-depth next.bounds next.trace c.args.event.now next.stands.well_formed deep) in
-    (node.0, node.1, node.2)
+pub take_in-requires : goal.take_in-requires
+take_in-requires c =
+    let gone = c.forget_dead.ensures in
+    next-forgotten c.args.self.now c.forget_dead.new.self gone.forgets gone.nodes gone.depths c.args.position c.args.event.now c.requires
 
-pub returns-then-depth-gt0-clause-seen : goal.returns-then-depth-gt0-clause-seen
-returns-then-depth-gt0-clause-seen c bounds trace stands at follows =
-    let now = depth-now bounds trace c.args.event.now stands.well_formed follows c.args.self.now.depths stands.depths in
-    let deep : 0 < depth_in trace (thread_of c.args.event.now) = omega (arith, now, c.depth.ensures, c.if-depth-gt0.true) in
-    seen-inside bounds c.args.self.now trace c.args.event.now stands follows deep c.observe_inside.result c.observe_inside.new.self c.observe_inside.ensures.inside
-
-pub returns-then-depth-gt0-clause-nothing_left : goal.returns-then-depth-gt0-clause-nothing_left
-returns-then-depth-gt0-clause-nothing_left c =
-    let next = c.requires in
-    seen-quiet next.bounds c.args.self.now next.trace c.args.event.now c.observe_inside.result c.observe_inside.new.self (returns-then-depth-gt0-clause-seen c next.bounds next.trace next.stands next.at_end next.follows)
-
-pub returns-in-Begin-clause-seen : goal.returns-in-Begin-clause-seen
-returns-in-Begin-clause-seen c bounds trace stands at follows =
-    let now = depth-now bounds trace c.args.event.now stands.well_formed follows c.args.self.now.depths stands.depths in
-    let shallow : depth_in trace (thread_of c.args.event.now) ≡ 0 = omega (arith, now, c.depth.ensures, c.if-depth-gt0.false) in
-    (no-cycle bounds c.args.self.now trace c.args.event.now stands follows shallow, stands-begins bounds c.args.self.now trace c.args.event.now stands follows shallow c.begin_block.new.self c.args.position at (ap is_begin c.in-Begin.is) c.begin_block.ensures.begins)
-
-pub returns-in-Begin-clause-nothing_left : goal.returns-in-Begin-clause-nothing_left
-returns-in-Begin-clause-nothing_left c = let next = c.requires in (returns-in-Begin-clause-seen c next.bounds next.trace next.stands next.at_end next.follows).1.collected
-
-pub returns-in_default-clause-seen : goal.returns-in_default-clause-seen
-returns-in_default-clause-seen c bounds trace stands at follows =
-    let now = depth-now bounds trace c.args.event.now stands.well_formed follows c.args.self.now.depths stands.depths in
-    let shallow : depth_in trace (thread_of c.args.event.now) ≡ 0 = omega (arith, now, c.depth.ensures, c.if-depth-gt0.false) in
-    (no-cycle bounds c.args.self.now trace c.args.event.now stands follows shallow, stands-operates bounds c.args.self.now trace c.args.event.now stands follows shallow (not-begin c.args.event.now.kind c.in_default.not-Begin) c.operate.new.self c.args.position at c.operate.ensures.operates)
-
-pub returns-in_default-clause-nothing_left : goal.returns-in_default-clause-nothing_left
-returns-in_default-clause-nothing_left c = let next = c.requires in (returns-in_default-clause-seen c next.bounds next.trace next.stands next.at_end next.follows).1.collected
+pub returns-clause-seen : goal.returns-clause-seen
+returns-clause-seen c bounds trace stands at follows =
+    let gone = c.forget_dead.ensures in
+    seen-forgotten c.args.self.now c.forget_dead.new.self gone.forgets gone.nodes gone.depths bounds trace c.args.event.now c.take_in.result c.take_in.new.self
+    (c.take_in.ensures.seen bounds trace (stands-forgotten c.args.self.now c.forget_dead.new.self gone.forgets gone.nodes gone.depths bounds trace stands) at follows)

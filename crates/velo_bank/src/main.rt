@@ -1,0 +1,59 @@
+//! A bank with threads of its own: once its transfers are blocks under a lock, and once a deposit is lost.
+#![tactic(auto)]
+
+mod bank;
+
+use crate::bank::Bank;
+use std::alloc::{AllocError, Global};
+use std::sync::Wait;
+use std::thread::Threads;
+use velo_logtext::WriterSink;
+use velo_report::{Names, report};
+use velo_runtime::RunError;
+use velo_world::Closed;
+
+/// Owned names, by number.
+fn names(alloc: Global, words: &[&str]) -> Result<Vec<String>, AllocError> {
+    let mut names = Vec::new(alloc);
+    for word in words {
+        names.push(word.to_string(alloc)?)?;
+    }
+    Ok(names)
+}
+
+/// A day at the bank: the balances at its end, and the run for its report.
+fn day<R: Threads + Wait + Sync>(
+    rt: &R,
+    alloc: Global,
+    is_locked: bool,
+) -> Result<(u64, u64, Closed), RunError> {
+    let mut bank = Bank::open(rt, alloc)?;
+    if is_locked {
+        bank.transfer_at_once(rt)?;
+    } else {
+        bank.lose_a_deposit(rt)?;
+    }
+    let (savings, current) = bank.balances(rt)?;
+    Ok((savings, current, bank.close(alloc)?))
+}
+
+/// Prints the report of a run.
+fn print(rt: &HostRuntime, closed: &Closed) -> anyhow::Result<()> {
+    let threads = names(rt.alloc(), &["main", "alice", "bob"])?;
+    let labels = names(rt.alloc(), &["transfer", "deposit"])?;
+    let names = Names::Words {
+        threads: &threads,
+        labels: &labels,
+    };
+    report(closed, &names, &mut WriterSink::new(rt.stdout()))?;
+    Ok(())
+}
+
+fn main(rt: HostRuntime) -> anyhow::Result<()> {
+    for is_locked in [true, false] {
+        let (savings, current, closed) = day(&rt, rt.alloc(), is_locked)?;
+        println!(rt; "savings {savings} current {current}")?;
+        print(&rt, &closed)?;
+    }
+    Ok(())
+}

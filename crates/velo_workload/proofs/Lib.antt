@@ -1,0 +1,7 @@
+pub mod OnCosts
+pub mod OnNames
+pub mod OnNumbers
+pub mod OnParsing
+pub mod OnPhrases
+pub mod OnReading
+pub mod OnWords

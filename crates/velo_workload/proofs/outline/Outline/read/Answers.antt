@@ -1,0 +1,44 @@
+use Rattle.std.proofs.Common.{◌≡◌, ◌+◌, ◌∙◌, Some, None, Err, ap, sym, subst, arith, rules}
+use Rattle.std.specs.Prelude.{option_copied}
+use Rattle.velo_workload.specs.Phrase.{phrase_of, Phrase}
+use Rattle.velo_workload.specs.Outline.{Judges, fault_of_line}
+use Rattle.velo_workload.specs.Known.{IsReadUpTo, known_of, kept_of, with_line}
+use Rattle.velo_workload.proofs.OnReading.{line_wrong, line_right, all_names, all_few, end_is, on_ok, wrong}
+use Rattle.velo_workload.proofs.outline.Outline.read.Goals as goal
+
+pub returns-in-Err-clause-judged : goal.returns-in-Err-clause-judged
+returns-in-Err-clause-judged c =
+    let text = c.args.text.now in
+    let o = c.loop-rest.self in
+    let n = c.loop-rest.number in
+    let read = subst (λ r. IsReadUpTo text (option_copied r) o n) c.in-Some.is c.loop-rest.invariant.read in
+    let judged = subst (λ p. Judges (fault_of_line (known_of o) p (n + 1)) (wrong c.in-Err.fault)) c.read_phrase.ensures c.in-Err.ensures.judged in
+    line_wrong text c.in-Some.bytes.now c.next_line.result.0.now (option_copied c.next_line.result.1) o n c.in-Err.fault read c.next_line.ensures.lines judged
+
+pub loop-rest-preserved : goal.loop-rest-preserved
+loop-rest-preserved c =
+    let text = c.args.text.now in
+    let o = c.loop-rest.self in
+    let n = c.loop-rest.number in
+    let read = subst (λ r. IsReadUpTo text (option_copied r) o n) c.in-Some.is c.loop-rest.invariant.read in
+    let fine = ap (λ p. fault_of_line (known_of o) p (n + 1)) (sym c.read_phrase.ensures) ∙ c.in-Ok.ensures.judged in
+    let kept = c.in-Ok.ensures.kept ∙ ap (λ p. with_line (kept_of o) p (n + 1)) c.read_phrase.ensures in
+    record {
+      read = line_right text c.in-Some.bytes.now c.next_line.result.0.now (option_copied c.next_line.result.1) o c.take.new.self n read c.next_line.ensures.lines fine kept;
+      numbered = search rules;
+    }
+
+pub returns-clause-judged : goal.returns-clause-judged
+returns-clause-judged c =
+    let read = subst (λ r. IsReadUpTo c.args.text.now (option_copied r) c.loop-rest.self c.loop-rest.number) c.in_default.is c.loop-rest.invariant.read in
+    subst (λ f. Judges f c.end.result) (end_is c.args.text.now c.loop-rest.self c.loop-rest.number read) c.end.ensures
+
+pub returns-clause-few : goal.returns-clause-few
+returns-clause-few c =
+    let read = subst (λ r. IsReadUpTo c.args.text.now (option_copied r) c.loop-rest.self c.loop-rest.number) c.in_default.is c.loop-rest.invariant.read in
+    on_ok (all_few c.args.text.now c.loop-rest.self c.loop-rest.number read) c.end.result
+
+pub returns-clause-names : goal.returns-clause-names
+returns-clause-names c =
+    let read = subst (λ r. IsReadUpTo c.args.text.now (option_copied r) c.loop-rest.self c.loop-rest.number) c.in_default.is c.loop-rest.invariant.read in
+    on_ok (all_names c.args.text.now c.loop-rest.self c.loop-rest.number read) c.end.result

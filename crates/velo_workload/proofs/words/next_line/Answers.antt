@@ -1,0 +1,15 @@
+use Rattle.std.proofs.Common.{◌≡◌, [], ◌∷◌, ap, ◌∙◌, sym, take, drop, rules, arith}
+use Rattle.velo_workload.proofs.OnWords.{line_then, no_bytes}
+use Rattle.velo_workload.proofs.words.next_line.Goals as goal
+
+pub returns-in-Some-clause-lines : goal.returns-in-Some-clause-lines
+returns-in-Some-clause-lines c =
+    let bytes = c.args.bytes.now in
+    let rest : c.split_at.result.1.now ≡ c.in-Some.field-0-0.now ∷ c.in-Some.rest.now = search rules in
+    line_then bytes c.split_at.result.0.now (c.in-Some.field-0-0.now ∷ c.in-Some.rest.now) (c.split_at.ensures.front ∙ ap (λ n. take n bytes) c.line_end.ensures.value) (sym rest ∙ c.split_at.ensures.back ∙ ap (λ n. drop n bytes) c.line_end.ensures.value)
+
+pub returns-in-None-clause-lines : goal.returns-in-None-clause-lines
+returns-in-None-clause-lines c =
+    let bytes = c.args.bytes.now in
+    let rest : c.split_at.result.1.now ≡ [] = no_bytes c.split_at.result.1.now (grind (arith, c.in-None.is)) in
+    line_then bytes c.split_at.result.0.now [] (c.split_at.ensures.front ∙ ap (λ n. take n bytes) c.line_end.ensures.value) (sym rest ∙ c.split_at.ensures.back ∙ ap (λ n. drop n bytes) c.line_end.ensures.value)

@@ -1,0 +1,28 @@
+//! The workload language: a text that declares variables, locks and threads and says what each thread does.
+#![tactic(auto)]
+
+mod bodies;
+mod fault;
+mod growth;
+mod limits;
+mod names;
+mod naming;
+mod nesting;
+mod numbers;
+mod outline;
+mod phrase;
+mod resolving;
+mod statement;
+mod words;
+mod workload;
+
+pub use fault::WorkFault;
+pub use limits::{
+    MOST_COST, MOST_NAME_LENGTH, MOST_OPEN_REPEATS, MOST_STATEMENTS, MOST_VARIABLES,
+    MOST_WORKLOAD_BYTES,
+};
+pub use statement::Statement;
+pub use workload::{Workload, parse, text_of};
+
+#[cfg(test)]
+mod tests;

@@ -1,0 +1,256 @@
+//! What a line says.
+ghost use Rattle.std.specs.Prelude.{◌≡◌};
+ghost use Rattle.std.specs.Str.{bytes_eq};
+ghost use Rattle.velo_workload.specs.Phrase.{said, verb_of, order_verb, block_verb, sharing_verb, argument_of, bad, alone, named, counted, argued, phrase_of};
+
+use crate::naming::name;
+use crate::numbers::number;
+use crate::words::words;
+
+/// What the first word of a line says.
+#[derive(Clone, Copy)]
+pub enum Verb {
+    Variable,
+    Lock,
+    Thread,
+    Read,
+    Write,
+    Set,
+    Add,
+    Acquire,
+    Release,
+    Begin,
+    End,
+    Fork,
+    Join,
+    Repeat,
+    Done,
+    /// No statement begins with the word.
+    Unknown,
+}
+
+/// What has to follow the first word.
+#[derive(Clone, Copy)]
+pub enum Argument {
+    Nothing,
+    Name,
+    Number,
+}
+
+/// A statement of a body, with names where the program has numbers.
+#[derive(Clone, Copy)]
+pub enum Spoken<'a> {
+    Read(&'a str),
+    Write(&'a str),
+    Set(u64),
+    Add(u64),
+    Acquire(&'a str),
+    Release(&'a str),
+    Begin(&'a str),
+    End,
+    Fork(&'a str),
+    Join(&'a str),
+    Repeat(u64),
+    Done,
+}
+
+/// What a line says.
+#[derive(Clone, Copy)]
+pub enum Phrase<'a> {
+    /// No word.
+    Blank,
+    /// No statement, and its first word is not `thread`.
+    Bad,
+    /// No statement, and its first word is `thread`.
+    BadThread,
+    Variable(&'a str),
+    Lock(&'a str),
+    Thread(&'a str),
+    Body(Spoken<'a>),
+}
+
+/// Whether two words are the same.
+#[inline(always)]
+fn is(word: &[u8], other: &[u8]) -> bool
+    ensures { result ≡ bytes_eq word.now other.now }
+{
+    word == other
+}
+
+/// A read, a write, an acquire or a release.
+#[inline(always)]
+#[tactic(auto, unfolding(crate::specs::Phrase::sharing_verb))]
+fn sharing(word: &[u8]) -> Verb
+    ensures { result ≡ sharing_verb word.now }
+{
+    if is(word, b"read") {
+        return Verb::Read;
+    }
+    if is(word, b"write") {
+        return Verb::Write;
+    }
+    if is(word, b"acquire") {
+        return Verb::Acquire;
+    }
+    if is(word, b"release") {
+        return Verb::Release;
+    }
+    Verb::Unknown
+}
+
+/// A change of the register or a block's end, or one of the above.
+#[inline(always)]
+#[tactic(auto, unfolding(crate::specs::Phrase::block_verb))]
+fn block(word: &[u8]) -> Verb
+    ensures { result ≡ block_verb word.now }
+{
+    if is(word, b"set") {
+        return Verb::Set;
+    }
+    if is(word, b"add") {
+        return Verb::Add;
+    }
+    if is(word, b"begin") {
+        return Verb::Begin;
+    }
+    if is(word, b"end") {
+        return Verb::End;
+    }
+    sharing(word)
+}
+
+/// A fork, a join or a repeat's end, or one of the above.
+#[inline(always)]
+#[tactic(auto, unfolding(crate::specs::Phrase::order_verb))]
+fn order(word: &[u8]) -> Verb
+    ensures { result ≡ order_verb word.now }
+{
+    if is(word, b"fork") {
+        return Verb::Fork;
+    }
+    if is(word, b"join") {
+        return Verb::Join;
+    }
+    if is(word, b"repeat") {
+        return Verb::Repeat;
+    }
+    if is(word, b"done") {
+        return Verb::Done;
+    }
+    block(word)
+}
+
+/// What the first word of a line says.
+#[tactic(auto, unfolding(crate::specs::Phrase::verb_of))]
+fn read_verb(word: &[u8]) -> Verb
+    ensures { result ≡ verb_of word.now }
+{
+    if is(word, b"var") {
+        return Verb::Variable;
+    }
+    if is(word, b"lock") {
+        return Verb::Lock;
+    }
+    if is(word, b"thread") {
+        return Verb::Thread;
+    }
+    order(word)
+}
+
+/// What has to follow.
+fn argument_after(verb: Verb) -> Argument
+    ensures { result ≡ argument_of verb }
+{
+    match verb {
+        Verb::Set | Verb::Add | Verb::Repeat => Argument::Number,
+        Verb::End | Verb::Done | Verb::Unknown => Argument::Nothing,
+        _ => Argument::Name,
+    }
+}
+
+/// A line that is no statement.
+fn bad(verb: Verb) -> Phrase<'static>
+    ensures { said result ≡ bad verb }
+{
+    match verb {
+        Verb::Thread => Phrase::BadThread,
+        _ => Phrase::Bad,
+    }
+}
+
+/// A line of one word.
+fn alone(verb: Verb) -> Phrase<'static>
+    ensures { said result ≡ alone verb }
+{
+    match verb {
+        Verb::End => Phrase::Body(Spoken::End),
+        Verb::Done => Phrase::Body(Spoken::Done),
+        _ => bad(verb),
+    }
+}
+
+/// A word with a name behind it.
+fn named<'a>(verb: Verb, name: &'a str) -> Phrase<'a>
+    ensures { said result ≡ named verb name.now }
+{
+    match verb {
+        Verb::Variable => Phrase::Variable(name),
+        Verb::Lock => Phrase::Lock(name),
+        Verb::Thread => Phrase::Thread(name),
+        Verb::Read => Phrase::Body(Spoken::Read(name)),
+        Verb::Write => Phrase::Body(Spoken::Write(name)),
+        Verb::Acquire => Phrase::Body(Spoken::Acquire(name)),
+        Verb::Release => Phrase::Body(Spoken::Release(name)),
+        Verb::Begin => Phrase::Body(Spoken::Begin(name)),
+        Verb::Fork => Phrase::Body(Spoken::Fork(name)),
+        Verb::Join => Phrase::Body(Spoken::Join(name)),
+        _ => Phrase::Bad,
+    }
+}
+
+/// A word with a number behind it.
+fn counted(verb: Verb, n: u64) -> Phrase<'static>
+    ensures { said result ≡ counted verb n }
+{
+    match verb {
+        Verb::Set => Phrase::Body(Spoken::Set(n)),
+        Verb::Add => Phrase::Body(Spoken::Add(n)),
+        Verb::Repeat => Phrase::Body(Spoken::Repeat(n)),
+        _ => Phrase::Bad,
+    }
+}
+
+/// A line of two words.
+fn argued<'a>(verb: Verb, word: &'a [u8]) -> Phrase<'a>
+    ensures { said result ≡ argued verb (argument_of verb) word.now }
+{
+    match argument_after(verb) {
+        Argument::Nothing => bad(verb),
+        Argument::Name => match name(word) {
+            Some(name) => named(verb, name),
+            None => bad(verb),
+        },
+        Argument::Number => match number(word, u64::MAX) {
+            Some(n) => counted(verb, n),
+            None => bad(verb),
+        },
+    }
+}
+
+/// What the line says.
+pub fn read_phrase(line: &[u8]) -> Phrase<'_>
+    ensures { said result ≡ phrase_of line.now }
+{
+    let (first, second, more) = words(line);
+    if first.is_empty() {
+        return Phrase::Blank;
+    }
+    let verb = read_verb(first);
+    if more {
+        return bad(verb);
+    }
+    if second.is_empty() {
+        return alone(verb);
+    }
+    argued(verb, second)
+}

@@ -1,0 +1,186 @@
+//! Parsing a text to a workload.
+ghost use Rattle.std.specs.Prelude.{◌≡◌, ◌≤◌, ◌<◌, ◌↔◌, [], Some, length, map, slice_get, IfOk, OnOk, OnErr, Err};
+ghost use Rattle.std.specs.String.{string_bytes};
+ghost use Rattle.std.specs.Str.{IsUtf8};
+ghost use Rattle.velo_events.specs.Refusals.{GrowthRefused};
+ghost use Rattle.velo_workload.specs.Names.{names_of};
+ghost use Rattle.velo_workload.specs.Phrase.{phrases};
+ghost use Rattle.velo_workload.specs.Outline.{AreFew, Judges, names_in};
+ghost use Rattle.velo_workload.specs.Known.{known_of, kept_of, whole};
+ghost use Rattle.velo_workload.specs.Program.{Program, bodies, first_unknown, meaning_of, Answers};
+ghost use Rattle.velo_workload.specs.declared.limits.TheConstants.{MOST_WORKLOAD_BYTES};
+
+use crate::bodies::Bodies;
+use crate::fault::WorkFault;
+use crate::growth::copied;
+use crate::limits::MOST_WORKLOAD_BYTES;
+use crate::names::count;
+use crate::outline::Outline;
+use crate::statement::Statement;
+use std::alloc::Global;
+use std::marker::Model;
+use std::mem::replace;
+use velo_events::growth::reserve;
+use velo_events::{Bounds, Memory, ThreadId};
+
+/// A program that a text means: its bounds, and a body for each thread.
+#[derive(Debug, Drop)]
+pub struct Workload {
+    bounds: Bounds,
+    threads: Vec<String>,
+    labels: Vec<String>,
+    bodies: Vec<Vec<Statement>>,
+}
+
+impl Model for Workload {
+    ghost use Rattle.std.specs.Prelude.{◌≡◌, map, length};
+    ghost use Rattle.std.specs.String.{string_bytes};
+    ghost use Rattle.velo_workload.specs.Program.{Program};
+
+    ghost Value = { Program };
+
+    ghost view = { λ w. record { bounds = w.bounds; thread_names = map string_bytes w.threads.items; label_names = map string_bytes w.labels.items; bodies = map (λ body. body.items) w.bodies.items } };
+
+    ghost invariant = { λ w. length w.bodies.items ≡ w.bounds.threads };
+}
+
+impl Workload {
+    /// How many threads, variables and locks it has.
+    pub fn bounds(&self) -> Bounds
+        ensures bounds { result ≡ self.now.bounds }
+        ensures bodies { length self.now.bodies ≡ result.threads }
+    {
+        self.bounds
+    }
+
+    /// The names of its threads, in the order of their numbers.
+    pub fn thread_names(&self) -> &[String]
+        ensures { map string_bytes result.now ≡ self.now.thread_names }
+    {
+        self.threads.as_slice()
+    }
+
+    /// The names of its labels, in the order of their numbers.
+    pub fn label_names(&self) -> &[String]
+        ensures { map string_bytes result.now ≡ self.now.label_names }
+    {
+        self.labels.as_slice()
+    }
+
+    /// The body of one of its threads, in the order of the text.
+    pub fn body(&self, thread: ThreadId) -> &[Statement]
+        requires { thread.0 < self.now.bounds.threads }
+        ensures { slice_get self.now.bodies thread.0 ≡ Some result.now }
+    {
+        self.bodies[usize::from(thread.0)].as_slice()
+    }
+}
+
+/// Copies of the names.
+fn copies(alloc: Global, names: &[&str]) -> Result<Vec<String>, Memory>
+    ensures names { IfOk result (λ copies. map string_bytes copies.items ≡ map (λ name. name.now) names.now) }
+    ensures memory { OnErr result GrowthRefused }
+{
+    let mut copies = Vec::new(alloc);
+    for name in names {
+        let copy = copied(alloc, *name)?;
+        reserve(&mut copies, 1)?;
+        copies.push_reserved(copy);
+    }
+    Ok(copies)
+}
+
+/// The workload of an outline and its bodies.
+fn assemble(
+    alloc: Global,
+    outline: &Outline,
+    bodies: Vec<Vec<Statement>>,
+) -> Result<Workload, Memory>
+    requires few { AreFew (known_of outline.now) }
+    requires each { length bodies.items ≡ length (known_of outline.now).threads }
+    ensures workload { IfOk result (λ w. w ≡ record { bounds = record { threads = length (known_of outline.now).threads; variables = length (known_of outline.now).variables; locks = length (known_of outline.now).locks }; thread_names = (known_of outline.now).threads; label_names = (known_of outline.now).labels; bodies = map (λ body. body.items) bodies.items }) }
+    ensures memory { OnErr result GrowthRefused }
+{
+    let threads = copies(alloc, outline.threads.as_slice())?;
+    let labels = copies(alloc, outline.labels.as_slice())?;
+    let bounds = Bounds {
+        threads: count(&outline.threads) as u8,
+        variables: count(&outline.variables) as u16,
+        locks: count(&outline.locks) as u16,
+    };
+    Ok(Workload {
+        bounds,
+        threads,
+        labels,
+        bodies,
+    })
+}
+
+/// The bodies of the threads of a text that was read once.
+fn bodies_of(
+    alloc: Global,
+    outline: &Outline,
+    text: &[u8],
+) -> Result<Vec<Vec<Statement>>, WorkFault>
+    requires { AreFew (known_of outline.now) }
+    ensures judged { Judges (first_unknown (names_in (known_of outline.now)) 0 (phrases text.now)) result }
+    ensures bodies { IfOk result (λ found. map (λ body. body.items) found.items ≡ bodies (names_in (known_of outline.now)) (phrases text.now)) }
+{
+    let mut bodies = Bodies::new(alloc);
+    match bodies.read(outline, text) {
+        Ok(()) => {
+            let mut whole = replace(&mut bodies.whole, Vec::new(alloc));
+            let _before_threads = whole.remove(0);
+            Ok(whole)
+        }
+        Err(fault) => Err(fault),
+    }
+}
+
+/// The workload of a text, by an outline of no line.
+fn parse_into<'a>(
+    alloc: Global,
+    outline: &mut Outline<'a>,
+    text: &'a [u8],
+) -> Result<Workload, WorkFault>
+    requires { kept_of outline.old ≡ whole [] }
+    ensures { Answers (meaning_of text.now) result }
+{
+    match outline.read(text) {
+        Err(fault) => Err(fault),
+        Ok(()) => match bodies_of(alloc, outline, text) {
+            Err(fault) => Err(fault),
+            Ok(bodies) => match assemble(alloc, outline, bodies) {
+                Ok(workload) => Ok(workload),
+                Err(_) => Err(WorkFault::Memory),
+            },
+        },
+    }
+}
+
+/// Parses a text.
+///
+/// It answers the program that the text means, or the first fault: the first pass judges all but undeclared names, line by
+/// line, and the second pass these. Its time and memory grow with the text.
+pub fn parse(alloc: Global, text: &str) -> Result<Workload, WorkFault>
+    ensures { Answers (meaning_of text.now) result }
+{
+    let mut outline = Outline::new(alloc);
+    parse_into(alloc, &mut outline, text.as_bytes())
+}
+
+/// The text that a file's bytes are, for [`parse`].
+pub fn text_of(bytes: &[u8]) -> Result<&str, WorkFault>
+    ensures text { IfOk result (λ text. text.now ≡ bytes.now) }
+    ensures few { OnOk result (length bytes.now ≤ MOST_WORKLOAD_BYTES) }
+    ensures too_many { (MOST_WORKLOAD_BYTES < length bytes.now) ↔ (result ≡ Err (WorkFault.TooMany 0)) }
+    ensures no_text { OnErr result (length bytes.now ≤ MOST_WORKLOAD_BYTES → (result ≡ Err (WorkFault.BadLine 0)) × (¬ IsUtf8 bytes.now)) }
+{
+    if bytes.len() > MOST_WORKLOAD_BYTES {
+        return Err(WorkFault::TooMany(0));
+    }
+    match std::str::from_utf8(bytes) {
+        Ok(text) => Ok(text),
+        Err(_) => Err(WorkFault::BadLine(0)),
+    }
+}
