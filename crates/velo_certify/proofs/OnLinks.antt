@@ -27,7 +27,7 @@ counted-before : (n i : ℕ) → i < n → numbers_before counted n i ≡ i + 1
 unfolding counted
 counted-before n i l = ap (λ b. cond {A = ℕ} b (i + 1) 0) (lt-ltb i n l)
 
-counted-not : (n i : ℕ) → n ≤ i → numbers_before counted n i ≡ 0
+pub counted-not : (n i : ℕ) → n ≤ i → numbers_before counted n i ≡ 0
 counted-not n i l = ap (λ b. cond {A = ℕ} b (counted i) 0) (le-ltb i n l)
 
 module _ (trace : List Event) (n : ℕ) (test : Event → Bool) (m : ℕ) (g : IsGreatest trace (numbers_before counted n) test m) where
@@ -118,21 +118,21 @@ module _ (trace : List Event) (n : ℕ) (within : n < length trace) where
   pub here : slice_get trace n ≡ Some e
   here = slice_get-get_or trace n past within
 
-  conflicts-strong : (i : ℕ) → IsTrue (passes_at trace (strong_for e.kind) i) → IsTrue (conflict_at trace i n) × IsTrue (conflict_at trace n i)
+  pub conflicts-strong : (i : ℕ) → IsTrue (passes_at trace (strong_for e.kind) i) → IsTrue (conflict_at trace i n) × IsTrue (conflict_at trace n i)
   conflicts-strong i h =
       let f = passes_at-event trace (strong_for e.kind) i h in
       let c = strong-kind e f.0 e.kind refl f.2 in
       (conflict-there trace i n f.0 e f.1 here c, conflict-there trace n i e f.0 here f.1 (sym (conflict-comm f.0 e) ∙ c))
 
-  conflicts-own : (i : ℕ) → IsTrue (passes_at trace (is_about thread_in (thread_of e)) i) → IsTrue (conflict_at trace i n)
+  pub conflicts-own : (i : ℕ) → IsTrue (passes_at trace (is_about thread_in (thread_of e)) i) → IsTrue (conflict_at trace i n)
   conflicts-own i h =
       let f = passes_at-event trace (is_about thread_in (thread_of e)) i h in
       conflict-there trace i n f.0 e f.1 here (or_left _ _ (or_left _ _ (or_left _ _ (or_left _ _ f.2))))
 
-  edge-into : (i : ℕ) → i < n → IsTrue (conflict_at trace i n) → (a b : ℕ) → b ≡ owner trace i → a ≡ owner trace n → owner trace i ≢ owner trace n → Edge trace b a
+  pub edge-into : (i : ℕ) → i < n → IsTrue (conflict_at trace i n) → (a b : ℕ) → b ≡ owner trace i → a ≡ owner trace n → owner trace i ≢ owner trace n → Edge trace b a
   edge-into i before clash a b from to differ = record { from = i; to = n; in_order = before; in_trace = within; in_conflict = clash; of_from = sym from; of_to = sym to; differ = λ same. differ (sym from ∙ (same ∙ to)) }
 
-  edge-out : (j : ℕ) → n < j → IsTrue (conflict_at trace n j) → j < length trace → (a b : ℕ) → b ≡ owner trace n → a ≡ owner trace j → owner trace n ≢ owner trace j → Edge trace b a
+  pub edge-out : (j : ℕ) → n < j → IsTrue (conflict_at trace n j) → j < length trace → (a b : ℕ) → b ≡ owner trace n → a ≡ owner trace j → owner trace n ≢ owner trace j → Edge trace b a
   edge-out j after clash there a b from to differ = record { from = n; to = j; in_order = after; in_trace = there; in_conflict = clash; of_from = sym from; of_to = sym to; differ = λ same. differ (sym from ∙ (same ∙ to)) }
 
 -- ---- one list
@@ -310,5 +310,19 @@ HasLinks-not_weak trace n m l strong w = record {
             (λ h. absurd (let same : i ≡ n = omega (arith, h, on.0) in both_ways _ strong (subst (λ k. IsTrue (is_weak (event_at trace k).kind)) same on.1.0)))
             (cases_lt n i))
             link;
+      };
+}
+
+-- all positions are linked to those before them
+pub HasLinks-turn : (trace : List Event) (n : ℕ) (l : Links) → length trace ≤ n → HasLinks trace n (length trace) l → HasLinks trace (length trace) (length trace) l
+HasLinks-turn trace n l all w = record {
+  count = w.count;
+  each = λ a within.
+      let r = w.each a within in
+      record {
+        xs = r.xs;
+        list = r.list;
+        sound = r.sound;
+        linked = λ i j there link at differ. r.linked i j there (⊎_elim (λ back. inl (omega (arith, there, all), back.1)) (λ on. inr on) link) at differ;
       };
 }

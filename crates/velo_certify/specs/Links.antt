@@ -94,3 +94,16 @@ pub record HasRowLeft (trace : List Event) (listed : List Bool) (l : Links) (a :
 pub record HasLinksLeft (trace : List Event) (listed : List Bool) (l : Links) : Type 0 where
   pub count : length l.heads.items ≡ length trace
   pub each : (a : ℕ) → a < length trace → HasRowLeft trace listed l a
+
+-- what is left of a list behind listed transactions
+pub record IsLeft (listed : List Bool) (l : Links) (k : ℕ) (xs : List ℕ) : Type 0 where
+  pub ys : List ℕ
+  pub list : IsChain l.links.items k ys
+  pub keeps : (b : ℕ) → IsIn b xs → IsTrue (has listed b) ⊎ IsIn b ys
+  pub only : (b : ℕ) → IsIn b ys → IsIn b xs
+
+-- the list of a transaction has lost listed ones at its front; it is empty, or begins with one that is not listed
+pub record IsSettled (listed : List Bool) (a : ℕ) (old new : Links) (answer : Bool) : Type 0 where
+  pub count : length new.heads.items ≡ length old.heads.items
+  pub others : (c : ℕ) (xs : List ℕ) → c ≢ a → list_of old c xs → list_of new c xs
+  pub own : (xs : List ℕ) → list_of old a xs → (left : IsLeft listed new (slice_index new.heads.items a) xs) × (IsTrue answer → left.ys ≡ []) × (IsFalse answer → (b : ℕ) × IsIn b left.ys × IsFalse (has listed b))

@@ -19,8 +19,8 @@ pub(crate) struct Link {
 /// A list for each transaction.
 #[derive(Drop)]
 pub(crate) struct Links {
-    heads: Vec<usize>,
-    links: Vec<Link>,
+    pub heads: Vec<usize>,
+    pub links: Vec<Link>,
     ghost descending: { AreDescending links.items },
     ghost within: { AreWithin heads.items (length links.items) },
 }

@@ -3,7 +3,8 @@ ghost use Rattle.std.specs.Prelude.{◌≡◌, ◌≤◌, ◌<◌, ◌+◌, ◌-
 ghost use Rattle.velo_events.specs.Block.{owner};
 ghost use Rattle.velo_events.specs.Graph.{Edge};
 ghost use Rattle.velo_events.specs.Refusals.{GrowthRefused};
-ghost use Rattle.velo_certify.specs.Links.{is_weak, list_of, counted, counted_back, IsJoined, IsJoinedLast, IsJoinedFirst, HasLinks};
+ghost use Rattle.velo_certify.specs.Links.{is_weak, counted, counted_back, IsJoined, IsJoinedLast, IsJoinedFirst, IsSettled, HasLinks};
+ghost use Rattle.velo_certify.specs.Serial.{has};
 ghost use Rattle.velo_certify.specs.Owners.{AreOwners};
 ghost use Rattle.velo_certify.specs.Table.{IsBlank, HasNumbers, AllNameRows, numbers_before, numbers_from, sizes};
 
@@ -145,4 +146,27 @@ pub(crate) fn links_of(alloc: Global, events: &[Event], owners: &[usize]) -> Res
         link_on(events, owners, &mut table, &mut links, at)?;
     }
     Ok(links)
+}
+
+/// Whether a transaction is listed.
+fn is_listed(listed: &[bool], b: usize) -> bool
+    ensures { result ≡ has listed.now b }
+{
+    match listed.get(b) {
+        Some(yes) => *yes,
+        None => false,
+    }
+}
+
+/// Whether all that the list of a transaction has is listed. What is listed is taken from its front.
+pub(crate) fn is_settled(links: &mut Links, listed: &[bool], a: usize) -> bool
+    requires { a < length links.old.heads.items }
+    ensures { IsSettled listed.now a links.old links.new result }
+{
+    let mut k = links.heads[a];
+    while k > 0 && is_listed(listed, links.links[k - 1].before) {
+        k = links.links[k - 1].next;
+    }
+    links.heads[a] = k;
+    k == 0
 }
