@@ -15,7 +15,7 @@ use Rattle.velo_events.specs.Block.{passes_at}
 use Rattle.velo_events.proofs.OnScans.{passes_at-is, passes_at-event}
 use Rattle.velo_events.specs.Conflict.{conflict}
 use Rattle.velo_certify.specs.declared.table.Table.{Table}
-use Rattle.velo_certify.specs.Table.{IsGreatest, IsNumbered, numbers_before, numbers_from, written_by, read_by, thread_in, handled_in, written_in, read_in, lock_in, is_about, IsRow, IsBlank, AreBlank, ComesFrom, ComeFrom, IsForgotten, HasNumbers, sizes, HasPlaces, NamesRows, IsLookedUp, IsNoted, TakesIn, strong_for, IsStrongest, IsLatestOfThread, AreStrongest, TakesStrong}
+use Rattle.velo_certify.specs.Table.{IsGreatest, IsNumbered, numbers_before, numbers_from, written_by, read_by, thread_in, handled_in, written_in, read_in, lock_in, is_about, IsRow, AreBlank, HasNumbers, sizes, HasPlaces, NamesRows, IsLookedUp, IsNoted, TakesIn, strong_for, IsStrongest, IsLatestOfThread, AreStrongest, TakesStrong}
 use Rattle.velo_certify.proofs.OnGreatest.{IsGreatest-or, IsGreatest-same, IsRow-noted, IsRow-passed, IsRow-none, IsNumbered-before, IsNumbered-from, IsGreatestBefore-by, IsGreatestAfter-by}
 use Rattle.velo_certify.proofs.OnConflicts.{is_near, IsPlain, conflict-read, conflict-write, conflict-acquire, conflict-release, conflict-fork, conflict-join, conflict-plain}
 
@@ -227,93 +227,4 @@ TakesIn-by trace n e number old new m here looked noted = record {
     noted.each trace n (numbers_from numbers (n + 1)) (numbers_from numbers n) here (IsNumbered-from numbers n number is) has,
     IsGreatestAfter-by trace n e here numbers m (looked.each trace (numbers_from numbers (n + 1)) has),
   );
-}
-
--- ---- what was taken in, and is forgotten
-
--- the row without the number of the thing that an event is about
-abbrev pub row_without : List ℕ → Option ℕ → List ℕ
-row_without row (Some x) = set row x 0
-row_without row None = row
-
-ComesFrom-without : (trace : List Event) (a b : ℕ) (e : Event) → slice_get trace a ≡ Some e → (named : Event → Option ℕ) (o : Option ℕ) → named e ≡ o → (row new : List ℕ) → IsPlaced row o → new ≡ row_without row o → ComesFrom trace named a b row → ComesFrom trace named (a + 1) b new
-ComesFrom-without trace a b e here named o about row new within is w = subst (ComesFrom trace named (a + 1) b) (sym is) (at o about within)
-  where
-    later : (x y : ℕ) → IsTrue (passes_at trace (is_about named y) x) → a ≤ x → (IsTrue (is_about named y e) → ⊥) → a + 1 ≤ x
-    later x y h l other = ⊎_elim (λ g. omega (arith, g)) (λ g. absurd (other (sym (passes_at-is trace (is_about named y) a e here) ∙ subst (λ k. IsTrue (passes_at trace (is_about named y) k)) (let same : x ≡ a = omega (arith, g, l) in same) h))) (cases_lt a x)
-
-    at : (p : Option ℕ) → named e ≡ p → IsPlaced row p → ComesFrom trace named (a + 1) b (row_without row p)
-    at None none place = record {
-      each = λ y l some.
-          let v = w.each y l some in
-          (v.0, later v.0 y v.3 v.1 (λ h. false≢true (sym (ap (λ q. are_same q (Some y)) none) ∙ h)), v.2, v.3);
-    }
-    at (Some x) known place = record {
-      each = λ y l some.
-          let long = length-set row x 0 in
-          ⊎_elim
-          (λ same. absurd (let gone : get_or (set row x 0) y 0 ≡ 0 = ap (λ k. get_or (set row x 0) k 0) same ∙ get_or-set_same row x 0 0 place in omega (arith, gone, some)))
-          (λ differ.
-          let was = get_or-set_other row x y 0 0 differ in
-          let v = w.each y (omega (arith, l, long)) (omega (arith, some, was)) in
-          (v.0, later v.0 y v.3 v.1 (λ h. differ (sym (eqb-true x y (sym (ap (λ q. are_same q (Some y)) known) ∙ h)))), v.2, v.3))
-          (cases_eq y x);
-    }
-
--- the rows after an event of this kind is forgotten
-pub record AreWithout (old : Table) (t : ℕ) (k : Kind) (new : Table) : Type 0 where
-  pub threads : new.threads.items ≡ set old.threads.items t 0
-  pub handles : new.handles.items ≡ row_without old.handles.items (handled_by k)
-  pub writes : new.writes.items ≡ row_without old.writes.items (written_by k)
-  pub reads : new.reads.items ≡ row_without old.reads.items (read_by k)
-  pub locks : new.locks.items ≡ row_without old.locks.items (lock_of k)
-
-pub IsForgotten-without : (old : Table) (e : Event) (new : Table) → NamesRows (sizes old) e → (k : Kind) → e.kind ≡ k → AreWithout old (thread_of e) k new → IsForgotten old e new
-IsForgotten-without old e new names k kind is = record {
-  each = λ trace a b here from.
-      let places = subst (HasPlaces (sizes old)) kind names.names in
-      record {
-        threads = ComesFrom-without trace a b e here thread_in (Some (thread_of e)) refl old.threads.items new.threads.items names.thread is.threads from.threads;
-        handles = ComesFrom-without trace a b e here handled_in (handled_by k) (ap handled_by kind) old.handles.items new.handles.items (places-handled old k places) is.handles from.handles;
-        writes = ComesFrom-without trace a b e here written_in (written_by k) (ap written_by kind) old.writes.items new.writes.items (places-written old k places) is.writes from.writes;
-        reads = ComesFrom-without trace a b e here read_in (read_by k) (ap read_by kind) old.reads.items new.reads.items (places-read old k places) is.reads from.reads;
-        locks = ComesFrom-without trace a b e here lock_in (lock_of k) (ap lock_of kind) old.locks.items new.locks.items (places-lock old k places) is.locks from.locks;
-      };
-}
-
-pub AreWithout-plain : (old : Table) (t : ℕ) (k : Kind) (new : Table) → IsPlain k → new.threads.items ≡ set old.threads.items t 0 → new.handles.items ≡ old.handles.items → new.writes.items ≡ old.writes.items → new.reads.items ≡ old.reads.items → new.locks.items ≡ old.locks.items → AreWithout old t k new
-AreWithout-plain old t (Begin l) new h a b c d f = record { threads = a; handles = b; writes = c; reads = d; locks = f }
-AreWithout-plain old t End new h a b c d f = record { threads = a; handles = b; writes = c; reads = d; locks = f }
-AreWithout-plain old t Exit new h a b c d f = record { threads = a; handles = b; writes = c; reads = d; locks = f }
-AreWithout-plain old t _ new h a b c d f = absurd h
-
--- what comes from no position is blank
-IsBlank-from : (trace : List Event) (named : Event → Option ℕ) (n : ℕ) (row : List ℕ) → ComesFrom trace named n n row → IsBlank row
-IsBlank-from trace named n row w = record { each = λ x l. ⊎_elim (λ some. absurd (let v = w.each x l some in let from = v.1 in let upto = v.2 in omega (arith, from, upto))) (λ none. omega (arith, none)) (cases_lt 0 (slice_index row x)) }
-
-pub AreBlank-from : (trace : List Event) (n : ℕ) (table : Table) → ComeFrom trace n n table → AreBlank table
-AreBlank-from trace n table w = record {
-  threads = IsBlank-from trace thread_in n table.threads.items w.threads;
-  handles = IsBlank-from trace handled_in n table.handles.items w.handles;
-  writes = IsBlank-from trace written_in n table.writes.items w.writes;
-  reads = IsBlank-from trace read_in n table.reads.items w.reads;
-  locks = IsBlank-from trace lock_in n table.locks.items w.locks;
-}
-
--- numbers are those of the positions that have one
-ComesFrom-numbers : (trace : List Event) (numbers : ℕ → ℕ) (a b : ℕ) → ((i : ℕ) → 0 < numbers i → (a ≤ i) × (i < b)) → (named : Event → Option ℕ) (row : List ℕ) → IsRow trace numbers named row → ComesFrom trace named a b row
-ComesFrom-numbers trace numbers a b between named row w = record {
-  each = λ x l some.
-      let k = (w.each x l).reached some in
-      let v = between k.0 (let is = k.2 in omega (arith, is, some)) in
-      (k.0, v.0, v.1, k.1);
-}
-
-pub ComeFrom-numbers : (trace : List Event) (numbers : ℕ → ℕ) (a b : ℕ) (table : Table) → ((i : ℕ) → 0 < numbers i → (a ≤ i) × (i < b)) → HasNumbers trace numbers table → ComeFrom trace a b table
-ComeFrom-numbers trace numbers a b table between w = record {
-  threads = ComesFrom-numbers trace numbers a b between thread_in table.threads.items w.threads;
-  handles = ComesFrom-numbers trace numbers a b between handled_in table.handles.items w.handles;
-  writes = ComesFrom-numbers trace numbers a b between written_in table.writes.items w.writes;
-  reads = ComesFrom-numbers trace numbers a b between read_in table.reads.items w.reads;
-  locks = ComesFrom-numbers trace numbers a b between lock_in table.locks.items w.locks;
 }

@@ -120,23 +120,6 @@ pub record NamesRows (s : Sizes) (e : Event) : Type 0 where
 pub record AllNameRows (s : Sizes) (trace : List Event) (n : ℕ) : Type 0 where
   pub each : (i : ℕ) (e : Event) → i < n → slice_get trace i ≡ Some e → NamesRows s e
 
--- ---- what was taken in
-
--- what the row has is of events at the positions from a on and before b
-pub record ComesFrom (trace : List Event) (named : Event → Option ℕ) (a b : ℕ) (row : List ℕ) : Type 0 where
-  pub each : (x : ℕ) → x < length row → 0 < slice_index row x → (i : ℕ) × (a ≤ i) × (i < b) × IsTrue (passes_at trace (is_about named x) i)
-
-pub record ComeFrom (trace : List Event) (a b : ℕ) (table : Table) : Type 0 where
-  pub threads : ComesFrom trace thread_in a b table.threads.items
-  pub handles : ComesFrom trace handled_in a b table.handles.items
-  pub writes : ComesFrom trace written_in a b table.writes.items
-  pub reads : ComesFrom trace read_in a b table.reads.items
-  pub locks : ComesFrom trace lock_in a b table.locks.items
-
--- without the numbers at what an event is about, what is left comes from the positions behind it
-pub record IsForgotten (old : Table) (e : Event) (new : Table) : Type 0 where
-  pub each : (trace : List Event) (a b : ℕ) → slice_get trace a ≡ Some e → ComeFrom trace a b old → ComeFrom trace (a + 1) b new
-
 -- ---- the calls
 
 -- the number is the greatest of the events that conflict with the given one, of whatever positions the table has the numbers

@@ -1,10 +1,10 @@
-use Rattle.std.proofs.Common.{◌≡◌, ℕ, ◌<◌, true, length, set, sym, subst, ◌∙◌}
+use Rattle.std.proofs.Common.{◌≡◌, ℕ, ◌<◌, true, length, set, sym, subst, ◌∙◌, arith, rules}
 use Rattle.std.specs.Prelude.{IsTrue}
 use Rattle.velo_events.specs.Block.{owner}
 use Rattle.velo_certify.specs.declared.serial.Next.TheVariants.{Ready, Stuck, Done}
 use Rattle.velo_certify.specs.Serial.{has, AreClosed, IsNext}
 use Rattle.velo_certify.specs.Links.{HasLinksLeft}
-use Rattle.velo_certify.proofs.OnSerial.{AreClosed-lists, ListsSoFar-next, HasCycle-stuck, IsSerialOrder-done}
+use Rattle.velo_certify.proofs.OnSerial.{AreClosed-lists, ListsSoFar-start, ListsSoFar-next, HasCycle-stuck, IsSerialOrder-done}
 use Rattle.velo_certify.proofs.OnSettling.{HasLinksLeft-start, HasLinksLeft-more}
 use Rattle.velo_certify.proofs.serial.list_all.Goals as goal
 
@@ -38,3 +38,10 @@ next_ready-requires-clause-closed c =
 pub next_ready-requires-clause-links : goal.next_ready-requires-clause-links
 next_ready-requires-clause-links c =
     subst (λ xs. HasLinksLeft c.args.events.now xs c.rounds.links) (sym c.deref-in-rounds-2.ensures.value) c.rounds.invariant.links
+
+pub rounds-init : goal.rounds-init
+rounds-init c = record {
+  links = HasLinksLeft-start c.args.events.now c.in_ok-listed.listed.items c.in_ok-links.links c.in_ok-links.ensures.links;
+  lists = ListsSoFar-start c.args.events.now c.in_ok-listed.listed.items _ (c.in_ok-listed.ensures.items_if_clones_equal (λ y e. e)) (search rules);
+  first = λ i l. absurd (omega (arith, l));
+}
