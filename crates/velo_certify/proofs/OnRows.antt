@@ -1,8 +1,9 @@
 -- The rows of a table: what is looked up in them, and what they have with one more number.
-use Rattle.std.proofs.Common.{◌≡◌, ℕ, ◌+◌, ◌<◌, ◌≤◌, max, Bool, List, length, get_or, set, Option, Some, None, refl, sym, ap, ◌∙◌, subst, arith, ⊎_elim}
+use Rattle.std.proofs.Common.{◌≡◌, ℕ, ◌+◌, ◌<◌, ◌≤◌, max, Bool, false, List, length, get_or, set, Option, Some, None, refl, sym, ap, ◌∙◌, subst, arith, ⊎_elim}
 use Rattle.std.specs.Prelude.{⊤, ◌⊎◌, ◌||◌, slice_get, slice_index, IsTrue}
 use Rattle.std.proofs.lemmas.Bool.{cases_eq, cases_lt, eqb-true, false≢true}
 use Rattle.std.proofs.lemmas.List.{get_or_default, length-set, get_or-set_same, get_or-set_other}
+use Rattle.std.proofs.lemmas.Option.{same_Some}
 use Rattle.velo_events.specs.declared.event.Event.{Event}
 use Rattle.velo_events.specs.declared.event.VarId.{VarId}
 use Rattle.velo_events.specs.declared.event.LockId.{LockId}
@@ -11,10 +12,10 @@ use Rattle.velo_events.specs.declared.event.Kind.{Kind}
 use Rattle.velo_events.specs.declared.event.Kind.TheVariants.{Read, Write, Acquire, Release, Begin, End, Fork, Join, Exit}
 use Rattle.velo_events.specs.Event.{are_same, thread_of, handled_by, lock_of}
 use Rattle.velo_events.specs.Block.{passes_at}
-use Rattle.velo_events.proofs.OnScans.{passes_at-is}
+use Rattle.velo_events.proofs.OnScans.{passes_at-is, passes_at-event}
 use Rattle.velo_events.specs.Conflict.{conflict}
 use Rattle.velo_certify.specs.declared.table.Table.{Table}
-use Rattle.velo_certify.specs.Table.{IsGreatest, IsNumbered, numbers_before, numbers_from, written_by, read_by, thread_in, handled_in, written_in, read_in, lock_in, is_about, IsRow, IsBlank, AreBlank, ComesFrom, ComeFrom, IsForgotten, HasNumbers, sizes, HasPlaces, NamesRows, IsLookedUp, IsNoted, TakesIn}
+use Rattle.velo_certify.specs.Table.{IsGreatest, IsNumbered, numbers_before, numbers_from, written_by, read_by, thread_in, handled_in, written_in, read_in, lock_in, is_about, IsRow, AreBlank, HasNumbers, sizes, HasPlaces, NamesRows, IsLookedUp, IsNoted, TakesIn, strong_for, IsStrongest, IsLatestOfThread, AreStrongest, TakesStrong}
 use Rattle.velo_certify.proofs.OnGreatest.{IsGreatest-or, IsGreatest-same, IsRow-noted, IsRow-passed, IsRow-none, IsNumbered-before, IsNumbered-from, IsGreatestBefore-by, IsGreatestAfter-by}
 use Rattle.velo_certify.proofs.OnConflicts.{is_near, IsPlain, conflict-read, conflict-write, conflict-acquire, conflict-release, conflict-fork, conflict-join, conflict-plain}
 
@@ -100,6 +101,58 @@ module _ (table : Table) (e : Event) (names : NamesRows (sizes table) e) (a b ne
       looked_up-with (is_about thread_in u.0) c result (λ f. conflict-join f e u.0 k) is (λ trace numbers has. IsRow-at trace numbers thread_in table.threads.items u.0 c places.0 there has.threads))
       kind
 
+-- ---- what changes a thing
+
+pub strongest-written : (table : Table) (e : Event) (x c : ℕ) → x < length table.writes.items → ((f : Event) → is_about written_in x f ≡ strong_for e.kind f) → c ≡ get_or table.writes.items x c → IsStrongest table e c
+strongest-written table e x c within same is = record {
+  each = λ trace numbers has. IsGreatest-same trace numbers (is_about written_in x) (strong_for e.kind) c same (IsRow-at trace numbers written_in table.writes.items x c within is has.writes);
+}
+
+pub strongest-locked : (table : Table) (e : Event) (x c : ℕ) → x < length table.locks.items → ((f : Event) → is_about lock_in x f ≡ strong_for e.kind f) → c ≡ get_or table.locks.items x c → IsStrongest table e c
+strongest-locked table e x c within same is = record {
+  each = λ trace numbers has. IsGreatest-same trace numbers (is_about lock_in x) (strong_for e.kind) c same (IsRow-at trace numbers lock_in table.locks.items x c within is has.locks);
+}
+
+pub strongest-handled : (table : Table) (e : Event) (x c : ℕ) → x < length table.threads.items → ((f : Event) → is_about thread_in x f ≡ strong_for e.kind f) → c ≡ get_or table.threads.items x c → IsStrongest table e c
+strongest-handled table e x c within same is = record {
+  each = λ trace numbers has. IsGreatest-same trace numbers (is_about thread_in x) (strong_for e.kind) c same (IsRow-at trace numbers thread_in table.threads.items x c within is has.threads);
+}
+
+strong-plain : (k : Kind) → IsPlain k → (f : Event) → strong_for k f ≡ false
+strong-plain (Begin l) h f = refl
+strong-plain End h f = refl
+strong-plain Exit h f = refl
+strong-plain _ h f = absurd h
+
+pub strongest-plain : (table : Table) (e : Event) → IsPlain e.kind → IsStrongest table e 0
+strongest-plain table e plain = record {
+  each = λ trace numbers has. record {
+    covers = λ i h. absurd (let p = passes_at-event trace (strong_for e.kind) i h in false≢true (sym (strong-plain e.kind plain p.0) ∙ p.2));
+    reached = λ some. absurd (omega (arith, some));
+  };
+}
+
+pub latest-of_thread : (table : Table) (e : Event) (c : ℕ) → NamesRows (sizes table) e → c ≡ get_or table.threads.items (thread_of e) c → IsLatestOfThread table e c
+latest-of_thread table e c names is = record { each = λ trace numbers has. IsRow-at trace numbers thread_in table.threads.items (thread_of e) c names.thread is has.threads }
+
+pub TakesStrong-by : (trace : List Event) (n : ℕ) (e : Event) (number : ℕ) (old new : Table) (m k : ℕ) → slice_get trace n ≡ Some e → IsLatestOfThread old e m → IsStrongest old e k → IsNoted old e number new → TakesStrong trace n number old new m k
+TakesStrong-by trace n e number old new m k here latest strongest noted = record {
+  forward = λ numbers is has. (
+    noted.each trace n (numbers_before numbers n) (numbers_before numbers (n + 1)) here (IsNumbered-before numbers n number is) has,
+    known (numbers_before numbers n) has,
+  );
+  backward = λ numbers is has. (
+    noted.each trace n (numbers_from numbers (n + 1)) (numbers_from numbers n) here (IsNumbered-from numbers n number is) has,
+    known (numbers_from numbers (n + 1)) has,
+  );
+}
+  where
+    known : (numbers : ℕ → ℕ) → HasNumbers trace numbers old → AreStrongest trace numbers n m k
+    known numbers has = record {
+      own = λ f there. subst (λ g. IsGreatest trace numbers (is_about thread_in (thread_of g)) m) (same_Some e f (sym here ∙ there)) (latest.each trace numbers has);
+      other = λ f there. subst (λ g. IsGreatest trace numbers (strong_for g.kind) k) (same_Some e f (sym here ∙ there)) (strongest.each trace numbers has);
+    }
+
 -- ---- one more number
 
 -- the row after an event with this number: it is taken at the thing that the event is about, if there is one
@@ -174,93 +227,4 @@ TakesIn-by trace n e number old new m here looked noted = record {
     noted.each trace n (numbers_from numbers (n + 1)) (numbers_from numbers n) here (IsNumbered-from numbers n number is) has,
     IsGreatestAfter-by trace n e here numbers m (looked.each trace (numbers_from numbers (n + 1)) has),
   );
-}
-
--- ---- what was taken in, and is forgotten
-
--- the row without the number of the thing that an event is about
-abbrev pub row_without : List ℕ → Option ℕ → List ℕ
-row_without row (Some x) = set row x 0
-row_without row None = row
-
-ComesFrom-without : (trace : List Event) (a b : ℕ) (e : Event) → slice_get trace a ≡ Some e → (named : Event → Option ℕ) (o : Option ℕ) → named e ≡ o → (row new : List ℕ) → IsPlaced row o → new ≡ row_without row o → ComesFrom trace named a b row → ComesFrom trace named (a + 1) b new
-ComesFrom-without trace a b e here named o about row new within is w = subst (ComesFrom trace named (a + 1) b) (sym is) (at o about within)
-  where
-    later : (x y : ℕ) → IsTrue (passes_at trace (is_about named y) x) → a ≤ x → (IsTrue (is_about named y e) → ⊥) → a + 1 ≤ x
-    later x y h l other = ⊎_elim (λ g. omega (arith, g)) (λ g. absurd (other (sym (passes_at-is trace (is_about named y) a e here) ∙ subst (λ k. IsTrue (passes_at trace (is_about named y) k)) (let same : x ≡ a = omega (arith, g, l) in same) h))) (cases_lt a x)
-
-    at : (p : Option ℕ) → named e ≡ p → IsPlaced row p → ComesFrom trace named (a + 1) b (row_without row p)
-    at None none place = record {
-      each = λ y l some.
-          let v = w.each y l some in
-          (v.0, later v.0 y v.3 v.1 (λ h. false≢true (sym (ap (λ q. are_same q (Some y)) none) ∙ h)), v.2, v.3);
-    }
-    at (Some x) known place = record {
-      each = λ y l some.
-          let long = length-set row x 0 in
-          ⊎_elim
-          (λ same. absurd (let gone : get_or (set row x 0) y 0 ≡ 0 = ap (λ k. get_or (set row x 0) k 0) same ∙ get_or-set_same row x 0 0 place in omega (arith, gone, some)))
-          (λ differ.
-          let was = get_or-set_other row x y 0 0 differ in
-          let v = w.each y (omega (arith, l, long)) (omega (arith, some, was)) in
-          (v.0, later v.0 y v.3 v.1 (λ h. differ (sym (eqb-true x y (sym (ap (λ q. are_same q (Some y)) known) ∙ h)))), v.2, v.3))
-          (cases_eq y x);
-    }
-
--- the rows after an event of this kind is forgotten
-pub record AreWithout (old : Table) (t : ℕ) (k : Kind) (new : Table) : Type 0 where
-  pub threads : new.threads.items ≡ set old.threads.items t 0
-  pub handles : new.handles.items ≡ row_without old.handles.items (handled_by k)
-  pub writes : new.writes.items ≡ row_without old.writes.items (written_by k)
-  pub reads : new.reads.items ≡ row_without old.reads.items (read_by k)
-  pub locks : new.locks.items ≡ row_without old.locks.items (lock_of k)
-
-pub IsForgotten-without : (old : Table) (e : Event) (new : Table) → NamesRows (sizes old) e → (k : Kind) → e.kind ≡ k → AreWithout old (thread_of e) k new → IsForgotten old e new
-IsForgotten-without old e new names k kind is = record {
-  each = λ trace a b here from.
-      let places = subst (HasPlaces (sizes old)) kind names.names in
-      record {
-        threads = ComesFrom-without trace a b e here thread_in (Some (thread_of e)) refl old.threads.items new.threads.items names.thread is.threads from.threads;
-        handles = ComesFrom-without trace a b e here handled_in (handled_by k) (ap handled_by kind) old.handles.items new.handles.items (places-handled old k places) is.handles from.handles;
-        writes = ComesFrom-without trace a b e here written_in (written_by k) (ap written_by kind) old.writes.items new.writes.items (places-written old k places) is.writes from.writes;
-        reads = ComesFrom-without trace a b e here read_in (read_by k) (ap read_by kind) old.reads.items new.reads.items (places-read old k places) is.reads from.reads;
-        locks = ComesFrom-without trace a b e here lock_in (lock_of k) (ap lock_of kind) old.locks.items new.locks.items (places-lock old k places) is.locks from.locks;
-      };
-}
-
-pub AreWithout-plain : (old : Table) (t : ℕ) (k : Kind) (new : Table) → IsPlain k → new.threads.items ≡ set old.threads.items t 0 → new.handles.items ≡ old.handles.items → new.writes.items ≡ old.writes.items → new.reads.items ≡ old.reads.items → new.locks.items ≡ old.locks.items → AreWithout old t k new
-AreWithout-plain old t (Begin l) new h a b c d f = record { threads = a; handles = b; writes = c; reads = d; locks = f }
-AreWithout-plain old t End new h a b c d f = record { threads = a; handles = b; writes = c; reads = d; locks = f }
-AreWithout-plain old t Exit new h a b c d f = record { threads = a; handles = b; writes = c; reads = d; locks = f }
-AreWithout-plain old t _ new h a b c d f = absurd h
-
--- what comes from no position is blank
-IsBlank-from : (trace : List Event) (named : Event → Option ℕ) (n : ℕ) (row : List ℕ) → ComesFrom trace named n n row → IsBlank row
-IsBlank-from trace named n row w = record { each = λ x l. ⊎_elim (λ some. absurd (let v = w.each x l some in let from = v.1 in let upto = v.2 in omega (arith, from, upto))) (λ none. omega (arith, none)) (cases_lt 0 (slice_index row x)) }
-
-pub AreBlank-from : (trace : List Event) (n : ℕ) (table : Table) → ComeFrom trace n n table → AreBlank table
-AreBlank-from trace n table w = record {
-  threads = IsBlank-from trace thread_in n table.threads.items w.threads;
-  handles = IsBlank-from trace handled_in n table.handles.items w.handles;
-  writes = IsBlank-from trace written_in n table.writes.items w.writes;
-  reads = IsBlank-from trace read_in n table.reads.items w.reads;
-  locks = IsBlank-from trace lock_in n table.locks.items w.locks;
-}
-
--- numbers are those of the positions that have one
-ComesFrom-numbers : (trace : List Event) (numbers : ℕ → ℕ) (a b : ℕ) → ((i : ℕ) → 0 < numbers i → (a ≤ i) × (i < b)) → (named : Event → Option ℕ) (row : List ℕ) → IsRow trace numbers named row → ComesFrom trace named a b row
-ComesFrom-numbers trace numbers a b between named row w = record {
-  each = λ x l some.
-      let k = (w.each x l).reached some in
-      let v = between k.0 (let is = k.2 in omega (arith, is, some)) in
-      (k.0, v.0, v.1, k.1);
-}
-
-pub ComeFrom-numbers : (trace : List Event) (numbers : ℕ → ℕ) (a b : ℕ) (table : Table) → ((i : ℕ) → 0 < numbers i → (a ≤ i) × (i < b)) → HasNumbers trace numbers table → ComeFrom trace a b table
-ComeFrom-numbers trace numbers a b table between w = record {
-  threads = ComesFrom-numbers trace numbers a b between thread_in table.threads.items w.threads;
-  handles = ComesFrom-numbers trace numbers a b between handled_in table.handles.items w.handles;
-  writes = ComesFrom-numbers trace numbers a b between written_in table.writes.items w.writes;
-  reads = ComesFrom-numbers trace numbers a b between read_in table.reads.items w.reads;
-  locks = ComesFrom-numbers trace numbers a b between lock_in table.locks.items w.locks;
 }

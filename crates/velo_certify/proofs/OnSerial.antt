@@ -16,82 +16,7 @@ use Rattle.velo_events.specs.Certificate.{positions_of, IsReady, IsSerialOrder}
 use Rattle.velo_events.proofs.OnBlocks.{owner-le}
 use Rattle.velo_events.proofs.OnReorderings.{conflict_at-within}
 use Rattle.velo_events.proofs.OnSerializing.{is_listed, in_turn, IsGreedy, IsGreedy-nil, IsGreedy-push, ready_or_cycle, IsSerialOrder-by}
-use Rattle.velo_certify.specs.Table.{IsGreatestBefore, HasNumbers, numbers_before, AreBlank}
-use Rattle.velo_certify.specs.declared.table.Table.{Table}
-use Rattle.velo_certify.specs.Serial.{has, number_left, others_left, HoldsBack, IsFreeAt, IsFree, IsCandidate, AreLast, left}
-use Rattle.velo_certify.proofs.OnRows.{HasNumbers-none}
-
--- ---- numbers of what is not listed
-
-others_left-listed : (trace : List Event) (listed : List Bool) (a i : ℕ) → IsTrue (has listed (owner trace i)) → others_left trace listed a i ≡ 0
-unfolding others_left
-others_left-listed trace listed a i h = ap (λ b. cond {A = ℕ} b 0 1) (or_left _ _ h)
-
-others_left-own : (trace : List Event) (listed : List Bool) (a i : ℕ) → owner trace i ≡ a → others_left trace listed a i ≡ 0
-unfolding others_left
-others_left-own trace listed a i h = ap (λ b. cond {A = ℕ} b 0 1) (or_right (has listed (owner trace i)) _ (eq-eqb _ a h))
-
-others_left-other : (trace : List Event) (listed : List Bool) (a i : ℕ) → IsFalse (has listed (owner trace i)) → owner trace i ≢ a → others_left trace listed a i ≡ 1
-unfolding others_left
-others_left-other trace listed a i h other = ap (λ b. cond {A = ℕ} b 0 1) (or_from _ _ h (ne_eqb _ a other))
-
--- the number of the transaction is that of its position
-pub others_left-number : (trace : List Event) (listed : List Bool) (a i own : ℕ) → own ≡ owner trace i → others_left trace listed a i ≡ number_left listed own a
-unfolding others_left
-others_left-number trace listed a i own is = ap (λ b. number_left listed b a) (sym is)
-
--- ---- one position
-
-module _ (trace : List Event) (listed : List Bool) (a n m : ℕ) (g : IsGreatestBefore trace (others_left trace listed a) n m) where
-  pub HoldsBack-by : owner trace n ≡ a → 0 < m → HoldsBack trace listed a n
-  HoldsBack-by own some =
-      let k = g.reached some in
-      record {
-        own = own;
-        place = k.0;
-        before = k.1;
-        in_conflict = k.2;
-        not_listed = false_from_ne_true _ (λ h. let none = others_left-listed trace listed a k.0 h in omega (arith, none, k.3, some));
-        other = λ h. (let none = others_left-own trace listed a k.0 h in omega (arith, none, k.3, some));
-      }
-
-  pub IsFreeAt-by : m ≤ 0 → IsFreeAt trace listed a n
-  IsFreeAt-by none = record {
-    each = λ own i before clash other. ⊎_elim (λ h. h)
-        (λ h. absurd (let one = others_left-other trace listed a i h other in let most = g.covers i before clash in omega (arith, one, most, none)))
-        (cases_Bool (has listed (owner trace i)));
-  }
-
-pub IsFreeAt-other : (trace : List Event) (listed : List Bool) (a n : ℕ) → owner trace n ≢ a → IsFreeAt trace listed a n
-IsFreeAt-other trace listed a n other = record { each = λ own i before clash differ. absurd (other own) }
-
--- what is held back is not free
-pub IsFree-not : (trace : List Event) (listed : List Bool) (a n : ℕ) → HoldsBack trace listed a n → ¬ IsFree trace listed a
-IsFree-not trace listed a n w f = both_ways _ w.not_listed ((f.each n).each w.own w.place w.before w.in_conflict w.other)
-
--- before the first position that is not of a listed transaction there are no numbers
-pub HasNumbers-listed : (trace : List Event) (listed : List Bool) (a first : ℕ) (table : Table) → ((i : ℕ) → i < first → i < length trace → IsTrue (has listed (owner trace i))) → AreBlank table → HasNumbers trace (numbers_before (others_left trace listed a) first) table
-HasNumbers-listed trace listed a first table h blank = HasNumbers-none trace (numbers_before (others_left trace listed a) first) table none blank
-  where
-    none : (i : ℕ) → i < length trace → numbers_before (others_left trace listed a) first i ≡ 0
-    none i l = ⊎_elim
-        (λ b. let is = others_left-listed trace listed a i (h i b l) in cond_zero _ _ is)
-        (λ g. ap (λ b. cond {A = ℕ} b (others_left trace listed a i) 0) (le-ltb i first g)) (cases_lt i first)
-      where
-        cond_zero : (b : Bool) (k : ℕ) → k ≡ 0 → cond {A = ℕ} b k 0 ≡ 0
-        cond_zero true k e = e
-        cond_zero false k e = refl
-
--- free from the first to the last of its positions, and so at all
-pub IsFree-all : (trace : List Event) (listed : List Bool) (a first last : ℕ) → first ≤ a → ((i : ℕ) → i < length trace → owner trace i ≡ a → i ≤ last) → ((n : ℕ) → first ≤ n → n < last + 1 → IsFreeAt trace listed a n) → IsFree trace listed a
-IsFree-all trace listed a first last from upto free = record {
-  each = λ n. record {
-    each = λ own i before clash other.
-        let most = owner-le trace n in
-        let least : n ≤ last = upto n (conflict_at-within trace i n clash).1 own in
-        (free n (omega (arith, most, own, from)) (omega (arith, least))).each own i before clash other;
-  };
-}
+use Rattle.velo_certify.specs.Serial.{has, AreClosed, IsFree, IsCandidate, AreLast, left}
 
 -- ---- the last positions
 
@@ -246,6 +171,16 @@ module _ (trace : List Event) (listed : List Bool) (order : List ℕ) (w : Lists
     items = is ∙ (ap (λ xs. xs ++ positions_of trace a) w.items ∙ flat_map_more (positions_of trace) [] w.list a);
   }
 
+  -- what is listed is closed under edges
+  pub AreClosed-lists : AreClosed trace listed
+  AreClosed-lists = record {
+    each = λ b a edge known.
+        let there : edge.from < length trace = let l = edge.in_trace in let o = edge.in_order in omega (arith, l, o) in
+        let small : b < length trace = let most = owner-le trace edge.from in let is = edge.of_from in omega (arith, most, there, is) in
+        let own : a < length trace = let most = owner-le trace edge.to in let l = edge.in_trace in let is = edge.of_to in omega (arith, most, l, is) in
+        w.marked.each b small ∙ of_contains w.list b (w.greedy.closed b a edge (contains-of w.list a (sym (w.marked.each a own) ∙ known)));
+  }
+
   -- where some are left, and none is free, there is a cycle
   pub HasCycle-stuck : (a : ℕ) → IsCandidate trace listed a → ((b : ℕ) → IsCandidate trace listed b → ¬ IsFree trace listed b) → HasCycle trace
   HasCycle-stuck a c none = ⊎_elim (λ h. h)
@@ -268,16 +203,3 @@ left-set listed a within new =
 -- what was listed stays so
 pub has-set : (listed : List Bool) (a b : ℕ) → a < length listed → IsTrue (has listed b) → IsTrue (has (set listed a true) b)
 has-set listed a b within h = ⊎_elim (λ e. ap (has (set listed a true)) e ∙ get_or-set_same listed a true false within) (λ e. get_or-set_other listed a b true false e ∙ h) (cases_eq b a)
-
--- positions with a number stand from the first one that is not of a listed transaction on
-pub others_left-between : (trace : List Event) (listed : List Bool) (a first end : ℕ) → ((i : ℕ) → i < first → i < length trace → IsTrue (has listed (owner trace i))) → first ≤ length trace → (i : ℕ) → 0 < numbers_before (others_left trace listed a) end i → (first ≤ i) × (i < end)
-others_left-between trace listed a first end h within i some = (
-  ⊎_elim (λ l. absurd (let none = others_left-listed trace listed a i (h i l (omega (arith, l, within))) in let is = number_is before in omega (arith, none, is, some))) (λ g. g) (cases_lt i first),
-  before,
-)
-  where
-    before : i < end
-    before = ⊎_elim (λ l. l) (λ g. absurd (let none : numbers_before (others_left trace listed a) end i ≡ 0 = ap (λ b. cond {A = ℕ} b (others_left trace listed a i) 0) (le-ltb i end g) in omega (arith, none, some))) (cases_lt i end)
-
-    number_is : i < end → numbers_before (others_left trace listed a) end i ≡ others_left trace listed a i
-    number_is l = ap (λ b. cond {A = ℕ} b (others_left trace listed a i) 0) (lt-ltb i end l)

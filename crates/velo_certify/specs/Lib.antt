@@ -8,5 +8,7 @@ pub mod Cycle
 pub mod Faults
 pub mod Serial
 pub mod Reordered
+pub mod Chains
 pub mod Edges
+pub mod Links
 pub mod Witness

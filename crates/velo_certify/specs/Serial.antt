@@ -1,8 +1,8 @@
 -- The rounds in which a serial order is listed.
-use Rattle.std.specs.Prelude.{◌≡◌, ◌≢◌, ℕ, ◌<◌, ◌≤◌, ◌==◌, ◌||◌, Bool, false, not, cond, List, length, count_by, slice_index, slice_index_or, IsTrue, IsFalse}
+use Rattle.std.specs.Prelude.{◌≡◌, ◌≢◌, ℕ, ◌<◌, ◌≤◌, Bool, false, not, List, length, count_by, slice_index, slice_index_or, IsTrue, IsFalse}
 use Rattle.velo_events.specs.declared.event.Event.{Event}
 use Rattle.velo_events.specs.Block.{owner}
-use Rattle.velo_events.specs.Graph.{conflict_at}
+use Rattle.velo_events.specs.Graph.{conflict_at, Edge}
 use Rattle.velo_events.specs.Graph.{HasCycle as TraceHasCycle}
 use Rattle.velo_events.specs.Refusals.{GrowthRefused}
 use Rattle.velo_certify.specs.declared.fault.CertFault.{CertFault}
@@ -21,22 +21,9 @@ IsOrderFault trace Memory = GrowthRefused
 abbrev pub has : List Bool → ℕ → Bool
 has listed a = slice_index_or listed a false
 
--- 1 for what is not listed, but for one
-abbrev pub number_left : List Bool → ℕ → ℕ → ℕ
-number_left listed b a = cond (has listed b || b == a) 0 1
-
--- the same of positions
-unfoldable pub others_left : List Event → List Bool → ℕ → ℕ → ℕ
-others_left trace listed a i = number_left listed (owner trace i) a
-
--- position n is of transaction a, and an earlier one of another, which is not listed, conflicts with it
-pub record HoldsBack (trace : List Event) (listed : List Bool) (a n : ℕ) : Type 0 where
-  pub own : owner trace n ≡ a
-  pub place : ℕ
-  pub before : place < n
-  pub in_conflict : IsTrue (conflict_at trace place n)
-  pub not_listed : IsFalse (has listed (owner trace place))
-  pub other : owner trace place ≢ a
+-- with a transaction each is listed from which an edge leads to it
+pub record AreClosed (trace : List Event) (listed : List Bool) : Type 0 where
+  pub each : (b a : ℕ) → Edge trace b a → IsTrue (has listed a) → IsTrue (has listed b)
 
 -- nothing holds transaction a back at position n
 pub record IsFreeAt (trace : List Event) (listed : List Bool) (a n : ℕ) : Type 0 where

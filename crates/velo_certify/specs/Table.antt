@@ -1,5 +1,5 @@
 -- Numbers of positions, and the greatest of those whose events pass a test.
-use Rattle.std.specs.Prelude.{◌≡◌, ◌≢◌, ℕ, ◌+◌, ◌<◌, ◌≤◌, Bool, cond, nat_lt, nat_le, List, length, Option, Some, None, ⊤, slice_get, slice_index, IsTrue}
+use Rattle.std.specs.Prelude.{◌≡◌, ◌≢◌, ℕ, ◌+◌, ◌<◌, ◌≤◌, Bool, false, cond, nat_lt, nat_le, List, length, Option, Some, None, ⊤, slice_get, slice_index, IsTrue}
 use Rattle.velo_events.specs.declared.event.Event.{Event}
 use Rattle.velo_events.specs.declared.event.Kind.{Kind}
 use Rattle.velo_events.specs.declared.event.Kind.TheVariants.{Read, Write, Acquire, Release, Fork, Join}
@@ -120,23 +120,6 @@ pub record NamesRows (s : Sizes) (e : Event) : Type 0 where
 pub record AllNameRows (s : Sizes) (trace : List Event) (n : ℕ) : Type 0 where
   pub each : (i : ℕ) (e : Event) → i < n → slice_get trace i ≡ Some e → NamesRows s e
 
--- ---- what was taken in
-
--- what the row has is of events at the positions from a on and before b
-pub record ComesFrom (trace : List Event) (named : Event → Option ℕ) (a b : ℕ) (row : List ℕ) : Type 0 where
-  pub each : (x : ℕ) → x < length row → 0 < slice_index row x → (i : ℕ) × (a ≤ i) × (i < b) × IsTrue (passes_at trace (is_about named x) i)
-
-pub record ComeFrom (trace : List Event) (a b : ℕ) (table : Table) : Type 0 where
-  pub threads : ComesFrom trace thread_in a b table.threads.items
-  pub handles : ComesFrom trace handled_in a b table.handles.items
-  pub writes : ComesFrom trace written_in a b table.writes.items
-  pub reads : ComesFrom trace read_in a b table.reads.items
-  pub locks : ComesFrom trace lock_in a b table.locks.items
-
--- without the numbers at what an event is about, what is left comes from the positions behind it
-pub record IsForgotten (old : Table) (e : Event) (new : Table) : Type 0 where
-  pub each : (trace : List Event) (a b : ℕ) → slice_get trace a ≡ Some e → ComeFrom trace a b old → ComeFrom trace (a + 1) b new
-
 -- ---- the calls
 
 -- the number is the greatest of the events that conflict with the given one, of whatever positions the table has the numbers
@@ -163,3 +146,33 @@ numbers_from numbers j i = cond (nat_le j i) (numbers i) 0
 pub record TakesIn (trace : List Event) (at_hand number : ℕ) (old new : Table) (greatest : ℕ) : Type 0 where
   pub forward : (numbers : ℕ → ℕ) → numbers at_hand ≡ number → HasNumbers trace (numbers_before numbers at_hand) old → HasNumbers trace (numbers_before numbers (at_hand + 1)) new × IsGreatestBefore trace numbers at_hand greatest
   pub backward : (numbers : ℕ → ℕ) → numbers at_hand ≡ number → HasNumbers trace (numbers_from numbers (at_hand + 1)) old → HasNumbers trace (numbers_from numbers at_hand) new × IsGreatestAfter trace numbers at_hand greatest
+
+-- ---- what changes a thing
+
+-- what an operation is about besides its thread: a variable, a lock, or the thread that it forks or joins. All operations on
+-- it that pass this test conflict with one another and with this one
+abbrev pub strong_for : Kind → Event → Bool
+strong_for (Read x v) f = is_about written_in x.0 f
+strong_for (Write x v) f = is_about written_in x.0 f
+strong_for (Acquire m) f = is_about lock_in m.0 f
+strong_for (Release m) f = is_about lock_in m.0 f
+strong_for (Fork u) f = is_about thread_in u.0 f
+strong_for (Join u) f = is_about thread_in u.0 f
+strong_for _ f = false
+
+-- the table has the greatest number of the thread's events, and of what changes the other thing that the event is about
+pub record IsStrongest (table : Table) (e : Event) (m : ℕ) : Type 0 where
+  pub each : (trace : List Event) (numbers : ℕ → ℕ) → HasNumbers trace numbers table → IsGreatest trace numbers (strong_for e.kind) m
+
+pub record IsLatestOfThread (table : Table) (e : Event) (m : ℕ) : Type 0 where
+  pub each : (trace : List Event) (numbers : ℕ → ℕ) → HasNumbers trace numbers table → IsGreatest trace numbers (is_about thread_in (thread_of e)) m
+
+-- what is known of both is told of the event at a position
+pub record AreStrongest (trace : List Event) (numbers : ℕ → ℕ) (at_hand m k : ℕ) : Type 0 where
+  pub own : (e : Event) → slice_get trace at_hand ≡ Some e → IsGreatest trace numbers (is_about thread_in (thread_of e)) m
+  pub other : (e : Event) → slice_get trace at_hand ≡ Some e → IsGreatest trace numbers (strong_for e.kind) k
+
+-- the position at hand is taken in after those before it, or after those behind it
+pub record TakesStrong (trace : List Event) (at_hand number : ℕ) (old new : Table) (own other : ℕ) : Type 0 where
+  pub forward : (numbers : ℕ → ℕ) → numbers at_hand ≡ number → HasNumbers trace (numbers_before numbers at_hand) old → HasNumbers trace (numbers_before numbers (at_hand + 1)) new × AreStrongest trace (numbers_before numbers at_hand) at_hand own other
+  pub backward : (numbers : ℕ → ℕ) → numbers at_hand ≡ number → HasNumbers trace (numbers_from numbers (at_hand + 1)) old → HasNumbers trace (numbers_from numbers at_hand) new × AreStrongest trace (numbers_from numbers (at_hand + 1)) at_hand own other

@@ -2,11 +2,13 @@
 //! checkers trust nobody.
 #![tactic(auto)]
 
+mod chains;
 mod counts;
 mod cycle;
 mod distances;
 mod edges;
 mod fault;
+mod links;
 mod nearest;
 mod order;
 mod owners;

@@ -9,12 +9,13 @@ ghost use Rattle.velo_events.specs.WellFormed.{IsWellFormed};
 ghost use Rattle.velo_events.specs.declared.config.Bounds.{Bounds};
 ghost use Rattle.velo_certify.specs.Reordered.{LeavesSameHeap};
 ghost use Rattle.velo_certify.specs.Owners.{AreOwners};
-ghost use Rattle.velo_certify.specs.Table.{HasNumbers, numbers_before, AllNameRows, AreBlank, sizes};
-ghost use Rattle.velo_certify.specs.Serial.{has, number_left, others_left, HoldsBack, IsFreeAt, IsFree, IsCandidate, AreLast, IsNext, IsOrderFault};
+ghost use Rattle.velo_certify.specs.Links.{HasLinksLeft};
+ghost use Rattle.velo_certify.specs.Serial.{has, AreClosed, IsCandidate, AreLast, IsNext, IsOrderFault};
 
 use crate::CertFault;
+use crate::chains::Links;
+use crate::links::{is_settled, links_of};
 use crate::owners::{owner_of, owners_of};
-use crate::table::Table;
 use std::alloc::Global;
 use velo_events::growth::{filled, reserve};
 use velo_events::{Event, Memory};
@@ -29,83 +30,6 @@ enum Next {
     Stuck,
     /// All are listed.
     Done,
-}
-
-/// 1 for the positions of transactions that are not listed, but for the one at hand.
-fn number_left(listed: &[bool], transaction: usize, at_hand: usize) -> usize
-    requires { transaction < length listed.now }
-    ensures { result ≡ number_left listed.now transaction at_hand }
-{
-    if listed[transaction] {
-        return 0;
-    }
-    if transaction == at_hand {
-        return 0;
-    }
-    1
-}
-
-/// Takes in the event at a position. Whether it is of the transaction, and an earlier one of another that is not listed
-/// conflicts with it.
-fn holds_back(
-    events: &[Event],
-    owners: &[usize],
-    listed: &[bool],
-    table: &mut Table,
-    a: usize,
-    at: usize,
-) -> bool
-    requires within { at < length events.now }
-    requires owners { AreOwners owners.now events.now }
-    requires count { length listed.now ≡ length events.now }
-    requires names { AllNameRows (sizes table.old) events.now (length events.now) }
-    requires numbers { HasNumbers events.now (numbers_before (others_left events.now listed.now a) at) table.old }
-    ensures names { sizes table.new ≡ sizes table.old }
-    ensures numbers { HasNumbers events.now (numbers_before (others_left events.now listed.now a) (at + 1)) table.new }
-    ensures yes { IsTrue result → HoldsBack events.now listed.now a at }
-    ensures no { IsFalse result → IsFreeAt events.now listed.now a at }
-{
-    let transaction = owner_of(events, owners, at);
-    let found = table.take_in(events, at, number_left(listed, transaction, a));
-    if transaction != a {
-        return false;
-    }
-    found > 0
-}
-
-/// Whether all that a transaction has edges from is listed. All positions before the first one given are of listed ones, and
-/// none after the last one is of this transaction.
-fn is_free(
-    events: &[Event],
-    owners: &[usize],
-    listed: &[bool],
-    table: &mut Table,
-    a: usize,
-    first: usize,
-    last: usize,
-) -> bool
-    requires owners { AreOwners owners.now events.now }
-    requires count { length listed.now ≡ length events.now }
-    requires names { AllNameRows (sizes table.old) events.now (length events.now) }
-    requires within { last < length events.now }
-    requires first { (i : ℕ) → i < first → i < length events.now → IsTrue (has listed.now (owner events.now i)) }
-    requires last { (i : ℕ) → i < length events.now → owner events.now i ≡ a → i ≤ last }
-    requires here { first ≤ a }
-    requires upto { a ≤ last }
-    requires blank { AreBlank table.old }
-    ensures names { sizes table.new ≡ sizes table.old }
-    ensures blank { AreBlank table.new }
-    ensures yes { IsTrue result → IsFree events.now listed.now a }
-    ensures no { IsFalse result → ¬ IsFree events.now listed.now a }
-{
-    let mut held = false;
-    let mut end = first;
-    while end <= last && !held {
-        held = holds_back(events, owners, listed, table, a, end);
-        end += 1;
-    }
-    table.forget_all(events, first, end);
-    !held
 }
 
 /// The last position of each transaction.
@@ -125,25 +49,22 @@ fn lasts_of(alloc: Global, events: &[Event], owners: &[usize]) -> Result<Vec<usi
 fn next_ready(
     events: &[Event],
     owners: &[usize],
-    lasts: &[usize],
     listed: &[bool],
-    table: &mut Table,
+    links: &mut Links,
     first: usize,
 ) -> Next
     requires owners { AreOwners owners.now events.now }
-    requires lasts { AreLast events.now lasts.now }
     requires count { length listed.now ≡ length events.now }
-    requires names { AllNameRows (sizes table.old) events.now (length events.now) }
     requires first { (i : ℕ) → i < first → i < length events.now → IsTrue (has listed.now (owner events.now i)) }
-    requires blank { AreBlank table.old }
-    ensures names { sizes table.new ≡ sizes table.old }
-    ensures blank { AreBlank table.new }
+    requires closed { AreClosed events.now listed.now }
+    requires links { HasLinksLeft events.now listed.now links.old }
+    ensures links { HasLinksLeft events.now listed.now links.new }
     ensures next { IsNext events.now listed.now result }
 {
     let mut stuck = false;
     for a in first..events.len() {
         if is_candidate(events, owners, listed, a) {
-            if is_free(events, owners, listed, table, a, first, lasts[a]) {
+            if is_settled(links, listed, a) {
                 return Next::Ready(a);
             }
             stuck = true;
@@ -212,12 +133,12 @@ fn list_all(alloc: Global, events: &[Event]) -> Result<Vec<usize>, CertFault>
 {
     let owners = owners_of(alloc, events)?;
     let lasts = lasts_of(alloc, events, &owners)?;
-    let mut table = Table::new(alloc, events)?;
+    let mut links = links_of(alloc, events, &owners)?;
     let mut listed = filled(alloc, false, events.len())?;
     let mut order = Vec::new(alloc);
     let mut first = 0;
     'rounds: loop {
-        match next_ready(events, &owners, &lasts, &listed, &mut table, first) {
+        match next_ready(events, &owners, &listed, &mut links, first) {
             Next::Ready(a) => {
                 listed[a] = true;
                 append_positions(events, &owners, a, lasts[a], &mut order)?;

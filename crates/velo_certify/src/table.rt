@@ -2,7 +2,7 @@
 //! given one is found without a look at each.
 ghost use Rattle.std.specs.Prelude.{◌≡◌, ◌≤◌, ◌<◌, length, max, slice_index, slice_set, IfOk, OnErr, ℕ};
 ghost use Rattle.velo_events.specs.Refusals.{GrowthRefused};
-ghost use Rattle.velo_certify.specs.Table.{IsBlank, AreBlank, sizes, NamesRows, AllNameRows, ComeFrom, IsForgotten, IsLookedUp, IsNoted, TakesIn};
+ghost use Rattle.velo_certify.specs.Table.{IsStrongest, IsLatestOfThread, TakesStrong, IsBlank, AreBlank, sizes, NamesRows, AllNameRows, IsLookedUp, IsNoted, TakesIn};
 
 use crate::counts::counts_of;
 use std::alloc::Global;
@@ -50,14 +50,6 @@ fn raise_at(row: &mut Vec<usize>, place: usize, number: usize)
 {
     let before = row[place];
     row[place] = before.max(number);
-}
-
-/// Takes the number at a place out.
-fn clear_at(row: &mut Vec<usize>, place: usize)
-    requires { place < length row.old.items }
-    ensures { row.new.items ≡ slice_set row.old.items place 0 }
-{
-    row[place] = 0;
 }
 
 impl Table {
@@ -137,33 +129,43 @@ impl Table {
         greatest
     }
 
-    /// Takes the numbers out at all that an event is about.
-    fn forget(&mut self, event: Event)
-        requires { NamesRows (sizes self.old) event }
-        ensures forgotten { IsForgotten self.old event self.new }
-        ensures sizes { sizes self.new ≡ sizes self.old }
+    /// The greatest number of what changes the thing that an event is about besides its thread: a variable, a lock or another
+    /// thread.
+    fn strongest(&self, event: Event) -> usize
+        requires { NamesRows (sizes self.now) event }
+        ensures { IsStrongest self.now event result }
     {
-        clear_at(&mut self.threads, event.thread.0 as usize);
         match event.kind {
-            Kind::Read(x, _) => clear_at(&mut self.reads, x.0 as usize),
-            Kind::Write(x, _) => clear_at(&mut self.writes, x.0 as usize),
-            Kind::Acquire(m) | Kind::Release(m) => clear_at(&mut self.locks, m.0 as usize),
-            Kind::Fork(u) | Kind::Join(u) => clear_at(&mut self.handles, u.0 as usize),
-            _ => {}
+            Kind::Read(x, _) => self.writes[x.0 as usize],
+            Kind::Write(x, _) => self.writes[x.0 as usize],
+            Kind::Acquire(m) => self.locks[m.0 as usize],
+            Kind::Release(m) => self.locks[m.0 as usize],
+            Kind::Fork(u) => self.threads[u.0 as usize],
+            Kind::Join(u) => self.threads[u.0 as usize],
+            _ => 0,
         }
     }
 
-    /// Takes all numbers out again, where only the events from the first position on and before the end were taken in.
-    pub fn forget_all(&mut self, events: &[Event], first: usize, end: usize)
+    /// The greatest number of an event of the thread.
+    fn latest_of_thread(&self, event: Event) -> usize
+        requires { NamesRows (sizes self.now) event }
+        ensures { IsLatestOfThread self.now event result }
+    {
+        self.threads[event.thread.0 as usize]
+    }
+
+    /// Gives the event at a position its number. The answers are the greatest numbers that were taken in before of its thread,
+    /// and of what changes the other thing that it is about.
+    pub fn take_strong(&mut self, events: &[Event], at: usize, number: usize) -> (usize, usize)
+        requires within { at < length events.now }
         requires names { AllNameRows (sizes self.old) events.now (length events.now) }
-        requires within { end ≤ length events.now }
-        requires order { first ≤ end }
-        requires from { ComeFrom events.now first end self.old }
-        ensures blank { AreBlank self.new }
+        ensures taken { TakesStrong events.now at number self.old self.new result.0 result.1 }
         ensures sizes { sizes self.new ≡ sizes self.old }
     {
-        for at in first..end {
-            self.forget(events[at]);
-        }
+        let event = events[at];
+        let own = self.latest_of_thread(event);
+        let other = self.strongest(event);
+        self.note(event, number);
+        (own, other)
     }
 }

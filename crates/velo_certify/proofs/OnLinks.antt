@@ -1,0 +1,328 @@
+-- Links between the transactions of positions, noted position by position.
+use Rattle.std.proofs.Common.{◌≡◌, ◌≢◌, ℕ, zero, suc, ◌+◌, ◌-◌, ◌<◌, ◌≤◌, Bool, cond, List, [], length, Some, refl, sym, ap, ◌∙◌, subst, arith, ⊎_elim, inl, inr}
+use Rattle.std.specs.Prelude.{◌⊎◌, nat_lt, nat_le, slice_get, slice_index, IsTrue, IsFalse}
+use Rattle.std.proofs.lemmas.Bool.{cases_lt, lt-ltb, le-ltb, le-leb, lt-leb, or_left, or_right, eqb-true, eq-eqb, both_ways, false≢true}
+use Rattle.std.proofs.lemmas.Option.{slice_get-get_or}
+use Rattle.velo_events.specs.declared.event.Event.{Event}
+use Rattle.velo_events.specs.declared.event.Kind.{Kind}
+use Rattle.velo_events.specs.declared.event.Kind.TheVariants.{Read, Write, Acquire, Release, Begin, End, Fork, Join, Exit}
+use Rattle.velo_events.specs.Event.{thread_of}
+use Rattle.velo_events.specs.Block.{owner, passes_at}
+use Rattle.velo_events.specs.Conflict.{conflict}
+use Rattle.velo_events.specs.Graph.{conflict_at, Edge}
+use Rattle.velo_events.proofs.OnScans.{passes_at-is, passes_at-event}
+use Rattle.velo_events.proofs.OnOwners.{passes_at-within}
+use Rattle.velo_traces.proofs.Past.{past}
+use Rattle.velo_certify.specs.declared.chains.Links.{Links}
+use Rattle.velo_certify.specs.Chains.{IsIn, IsChain}
+use Rattle.velo_certify.specs.Links.{is_weak, IsLast, IsFirst, LinksBack, LinksOn, LinksSoFar, list_of, IsJoined, IsJoinedLast, IsJoinedFirst, counted, counted_back, HasRow, HasLinks}
+use Rattle.velo_certify.specs.Owners.{event_at}
+use Rattle.velo_certify.specs.Table.{IsGreatest, IsBlank, numbers_before, numbers_from, is_about, thread_in, strong_for, AreStrongest}
+use Rattle.velo_certify.proofs.OnConflicts.{conflict-read, conflict-write, conflict-acquire, conflict-release, conflict-fork, conflict-join}
+use Rattle.velo_certify.proofs.OnGreatest.{conflict-comm}
+
+-- ---- positions by their numbers
+
+counted-before : (n i : ℕ) → i < n → numbers_before counted n i ≡ i + 1
+unfolding counted
+counted-before n i l = ap (λ b. cond {A = ℕ} b (i + 1) 0) (lt-ltb i n l)
+
+pub counted-not : (n i : ℕ) → n ≤ i → numbers_before counted n i ≡ 0
+counted-not n i l = ap (λ b. cond {A = ℕ} b (counted i) 0) (le-ltb i n l)
+
+module _ (trace : List Event) (n : ℕ) (test : Event → Bool) (m : ℕ) (g : IsGreatest trace (numbers_before counted n) test m) where
+  pub last-found : (i : ℕ) → m ≡ i + 1 → (i < n) × IsTrue (passes_at trace test i)
+  last-found i is =
+      let k = g.reached (omega (arith, is)) in
+      ⊎_elim
+      (λ l. let at = counted-before n k.0 l in let same : k.0 ≡ i = omega (arith, at, k.2, is) in (omega (arith, l, same), subst (λ j. IsTrue (passes_at trace test j)) same k.1))
+      (λ h. absurd (let none = counted-not n k.0 h in omega (arith, none, k.2, is)))
+      (cases_lt k.0 n)
+
+  pub last-small : m ≤ n
+  last-small = at m refl
+    where
+      at : (k : ℕ) → m ≡ k → m ≤ n
+      at zero is = omega (arith, is)
+      at (suc k) is = let f = last-found k (omega (arith, is)) in omega (arith, f.0, is)
+
+  pub last-is : (i : ℕ) → IsLast trace test i n → m ≡ i + 1
+  last-is i w = at m refl
+    where
+      most : i + 1 ≤ m
+      most = let c = g.covers i w.passes in let is = counted-before n i w.before in omega (arith, c, is)
+
+      at : (k : ℕ) → m ≡ k → m ≡ i + 1
+      at zero is = absurd (omega (arith, is, most))
+      at (suc k) is =
+          let f = last-found k (omega (arith, is)) in
+          ⊎_elim (λ later. absurd (both_ways _ (w.none k later f.0) f.1)) (λ h. omega (arith, h, is, most)) (cases_lt i k)
+
+back-from : (trace : List Event) (n i : ℕ) → n ≤ i → numbers_from (counted_back trace) n i ≡ length trace - i
+unfolding counted_back
+back-from trace n i l = ap (λ b. cond {A = ℕ} b (length trace - i) 0) (le-leb n i l)
+
+back-not : (trace : List Event) (n i : ℕ) → i < n → numbers_from (counted_back trace) n i ≡ 0
+back-not trace n i l = ap (λ b. cond {A = ℕ} b (counted_back trace i) 0) (lt-leb n i l)
+
+module _ (trace : List Event) (n : ℕ) (test : Event → Bool) (m : ℕ) (g : IsGreatest trace (numbers_from (counted_back trace) (n + 1)) test m) where
+  pub first-found : (j : ℕ) → j < length trace → m ≡ length trace - j → (n < j) × IsTrue (passes_at trace test j)
+  first-found j within is =
+      let k = g.reached (omega (arith, is, within)) in
+      let there = passes_at-within trace test k.0 k.1 in
+      ⊎_elim
+      (λ l. absurd (let none = back-not trace (n + 1) k.0 l in omega (arith, none, k.2, is, within)))
+      (λ h. let at = back-from trace (n + 1) k.0 h in let same : k.0 ≡ j = omega (arith, at, k.2, is, within, there) in (omega (arith, h, same), subst (λ i. IsTrue (passes_at trace test i)) same k.1))
+      (cases_lt k.0 (n + 1))
+
+  pub first-small : m ≤ length trace
+  first-small = ⊎_elim
+      (λ some.
+      let k = g.reached some in
+      ⊎_elim (λ l. let none = back-not trace (n + 1) k.0 l in omega (arith, none, k.2)) (λ h. let at = back-from trace (n + 1) k.0 h in omega (arith, at, k.2)) (cases_lt k.0 (n + 1)))
+      (λ none. omega (arith, none)) (cases_lt 0 m)
+
+  pub first-is : (j : ℕ) → IsFirst trace test n j → m ≡ length trace - j
+  first-is j w =
+      let within = passes_at-within trace test j w.passes in
+      let covered = g.covers j w.passes in
+      let at = back-from trace (n + 1) j (let l = w.after in omega (arith, l)) in
+      let k = g.reached (omega (arith, covered, at, within)) in
+      let there = passes_at-within trace test k.0 k.1 in
+      ⊎_elim
+      (λ l. absurd (let none = back-not trace (n + 1) k.0 l in omega (arith, none, k.2, covered, at, within)))
+      (λ h.
+      let number = back-from trace (n + 1) k.0 h in
+      ⊎_elim (λ earlier. absurd (both_ways _ (w.none k.0 (omega (arith, h)) earlier) k.1)) (λ l. omega (arith, l, number, k.2, covered, at, within, there)) (cases_lt k.0 j))
+      (cases_lt k.0 (n + 1))
+
+-- ---- what is linked conflicts
+
+strong-kind : (e f : Event) (k : Kind) → e.kind ≡ k → IsTrue (strong_for k f) → IsTrue (conflict f e)
+strong-kind e f (Read x v) is h = sym (conflict-read f e x.0 v is) ∙ or_right _ _ h
+strong-kind e f (Write x v) is h = sym (conflict-write f e x.0 v is) ∙ or_left _ _ (or_right _ _ h)
+strong-kind e f (Acquire m) is h = sym (conflict-acquire f e m.0 is) ∙ or_right _ _ h
+strong-kind e f (Release m) is h = sym (conflict-release f e m.0 is) ∙ or_right _ _ h
+strong-kind e f (Fork u) is h = sym (conflict-fork f e u.0 is) ∙ or_right _ _ h
+strong-kind e f (Join u) is h = sym (conflict-join f e u.0 is) ∙ or_right _ _ h
+strong-kind e f _ is h = absurd (false≢true h)
+
+conflict-there : (trace : List Event) (i j : ℕ) (e f : Event) → slice_get trace i ≡ Some e → slice_get trace j ≡ Some f → IsTrue (conflict e f) → IsTrue (conflict_at trace i j)
+unfolding conflict_at
+conflict-there trace i j e f at_i at_j h = rw (at_i, at_j) h
+
+module _ (trace : List Event) (n : ℕ) (within : n < length trace) where
+  abbrev pub e : Event
+  e = event_at trace n
+
+  pub here : slice_get trace n ≡ Some e
+  here = slice_get-get_or trace n past within
+
+  pub conflicts-strong : (i : ℕ) → IsTrue (passes_at trace (strong_for e.kind) i) → IsTrue (conflict_at trace i n) × IsTrue (conflict_at trace n i)
+  conflicts-strong i h =
+      let f = passes_at-event trace (strong_for e.kind) i h in
+      let c = strong-kind e f.0 e.kind refl f.2 in
+      (conflict-there trace i n f.0 e f.1 here c, conflict-there trace n i e f.0 here f.1 (sym (conflict-comm f.0 e) ∙ c))
+
+  pub conflicts-own : (i : ℕ) → IsTrue (passes_at trace (is_about thread_in (thread_of e)) i) → IsTrue (conflict_at trace i n)
+  conflicts-own i h =
+      let f = passes_at-event trace (is_about thread_in (thread_of e)) i h in
+      conflict-there trace i n f.0 e f.1 here (or_left _ _ (or_left _ _ (or_left _ _ (or_left _ _ f.2))))
+
+  pub edge-into : (i : ℕ) → i < n → IsTrue (conflict_at trace i n) → (a b : ℕ) → b ≡ owner trace i → a ≡ owner trace n → owner trace i ≢ owner trace n → Edge trace b a
+  edge-into i before clash a b from to differ = record { from = i; to = n; in_order = before; in_trace = within; in_conflict = clash; of_from = sym from; of_to = sym to; differ = λ same. differ (sym from ∙ (same ∙ to)) }
+
+  pub edge-out : (j : ℕ) → n < j → IsTrue (conflict_at trace n j) → j < length trace → (a b : ℕ) → b ≡ owner trace n → a ≡ owner trace j → owner trace n ≢ owner trace j → Edge trace b a
+  edge-out j after clash there a b from to differ = record { from = n; to = j; in_order = after; in_trace = there; in_conflict = clash; of_from = sym from; of_to = sym to; differ = λ same. differ (sym from ∙ (same ∙ to)) }
+
+-- ---- one list
+
+-- what a list has got by the number of an earlier position
+pub record GrowsLast (trace : List Event) (new : Links) (number n a : ℕ) (xs : List ℕ) : Type 0 where
+  pub ys : List ℕ
+  pub list : list_of new a ys
+  pub keeps : (b : ℕ) → IsIn b xs → IsIn b ys
+  pub only : (b : ℕ) → IsIn b ys → IsIn b xs ⊎ ((i : ℕ) × (number ≡ i + 1) × (b ≡ owner trace i) × (a ≡ owner trace n) × (owner trace i ≢ owner trace n))
+  pub has : (i : ℕ) → number ≡ i + 1 → a ≡ owner trace n → owner trace i ≢ owner trace n → IsIn (owner trace i) ys
+
+pub grows-last : (trace : List Event) (old new : Links) (number n : ℕ) → IsJoinedLast trace old new number n → (a : ℕ) (xs : List ℕ) → list_of old a xs → GrowsLast trace new number n a xs
+grows-last trace old new zero n w a xs chain = record {
+  ys = xs;
+  list = subst (λ (l : Links). list_of l a xs) (sym (w.nothing refl)) chain;
+  keeps = λ b h. h;
+  only = λ b h. inl h;
+  has = λ i is. absurd (omega (arith, is));
+}
+grows-last trace old new (suc k) n w a xs chain =
+    let one = w.some k (omega arith) in
+    let g = one.grown a xs chain in
+    record {
+      ys = g.0;
+      list = g.1;
+      keeps = g.2;
+      only = λ b h. ⊎_elim (λ l. inl l) (λ r. inr (k, omega arith, r.0, r.1, r.2)) (g.3 b h);
+      has = λ i is at differ. let same : k ≡ i = omega (arith, is) in subst (λ j. IsIn (owner trace j) g.0) same (g.4 at (subst (λ j. owner trace j ≢ owner trace n) (sym same) differ));
+    }
+
+pub count-last : (trace : List Event) (old new : Links) (number n : ℕ) → IsJoinedLast trace old new number n → length new.heads.items ≡ length old.heads.items
+count-last trace old new zero n w = ap (λ (l : Links). length l.heads.items) (w.nothing refl)
+count-last trace old new (suc k) n w = (w.some k (omega arith)).count
+
+-- by the number of a later one
+pub record GrowsFirst (trace : List Event) (new : Links) (number n a : ℕ) (xs : List ℕ) : Type 0 where
+  pub ys : List ℕ
+  pub list : list_of new a ys
+  pub keeps : (b : ℕ) → IsIn b xs → IsIn b ys
+  pub only : (b : ℕ) → IsIn b ys → IsIn b xs ⊎ ((j : ℕ) × (j < length trace) × (number ≡ length trace - j) × (b ≡ owner trace n) × (a ≡ owner trace j) × (owner trace n ≢ owner trace j))
+  pub has : (j : ℕ) → j < length trace → number ≡ length trace - j → a ≡ owner trace j → owner trace n ≢ owner trace j → IsIn (owner trace n) ys
+
+pub grows-first : (trace : List Event) (old new : Links) (number n : ℕ) → number ≤ length trace → IsJoinedFirst trace old new number n → (a : ℕ) (xs : List ℕ) → list_of old a xs → GrowsFirst trace new number n a xs
+grows-first trace old new zero n small w a xs chain = record {
+  ys = xs;
+  list = subst (λ (l : Links). list_of l a xs) (sym (w.nothing refl)) chain;
+  keeps = λ b h. h;
+  only = λ b h. inl h;
+  has = λ j within is. absurd (omega (arith, is, within));
+}
+grows-first trace old new (suc k) n small w a xs chain =
+    let j : ℕ = length trace - suc k in
+    let within : j < length trace = omega (arith, small) in
+    let is : suc k ≡ length trace - j = omega (arith, small) in
+    let one = w.some j within is in
+    let g = one.grown a xs chain in
+    record {
+      ys = g.0;
+      list = g.1;
+      keeps = g.2;
+      only = λ b h. ⊎_elim (λ l. inl l) (λ r. inr (j, within, is, r.0, r.1, r.2)) (g.3 b h);
+      has = λ i there number at differ.
+          let same : i ≡ j = omega (arith, number, there, small) in
+          g.4 (at ∙ ap (owner trace) same) (λ e. differ (e ∙ ap (owner trace) (sym same)));
+    }
+
+pub count-first : (trace : List Event) (old new : Links) (number n : ℕ) → number ≤ length trace → IsJoinedFirst trace old new number n → length new.heads.items ≡ length old.heads.items
+count-first trace old new zero n small w = ap (λ (l : Links). length l.heads.items) (w.nothing refl)
+count-first trace old new (suc k) n small w = (w.some (length trace - suc k) (omega (arith, small)) (omega (arith, small))).count
+
+-- ---- all lists
+
+pub HasLinks-start : (trace : List Event) (l : Links) → length l.heads.items ≡ length trace → IsBlank l.heads.items → HasLinks trace 0 (length trace) l
+HasLinks-start trace l count blank = record {
+  count = count;
+  each = λ a within. record {
+    xs = [];
+    list = blank.each a (omega (arith, within, count));
+    sound = λ b h. absurd h;
+    linked = λ i j there link. ⊎_elim (λ w. absurd (omega (arith, w.0))) (λ w. absurd (let up = w.1.1.after in omega (arith, w.0, up, there))) link;
+  };
+}
+
+pub HasLinks-back : (trace : List Event) (n m : ℕ) (old mid new : Links) (own other : ℕ) → n < length trace → AreStrongest trace (numbers_before counted n) n own other → IsJoinedLast trace old mid own n → IsJoinedLast trace mid new other n → HasLinks trace n m old → HasLinks trace (n + 1) m new
+HasLinks-back trace n m old mid new own other within strong first second w = record {
+  count = count-last trace mid new other n second ∙ (count-last trace old mid own n first ∙ w.count);
+  each = λ a l. row a (w.each a l);
+}
+  where
+    e_here : slice_get trace n ≡ Some (event_at trace n)
+    e_here = here trace n within
+
+    g_own : IsGreatest trace (numbers_before counted n) (is_about thread_in (thread_of (event_at trace n))) own
+    g_own = strong.own (event_at trace n) e_here
+
+    g_other : IsGreatest trace (numbers_before counted n) (strong_for (event_at trace n).kind) other
+    g_other = strong.other (event_at trace n) e_here
+
+    row : (a : ℕ) → HasRow trace n m old a → HasRow trace (n + 1) m new a
+    row a r =
+        let y = grows-last trace old mid own n first a r.xs r.list in
+        let z = grows-last trace mid new other n second a y.ys y.list in
+        record {
+          xs = z.ys;
+          list = z.list;
+          sound = λ b h. ⊎_elim
+              (λ in_y. ⊎_elim (λ in_x. r.sound b in_x)
+              (λ k. let f = last-found trace n _ own g_own k.0 k.1 in edge-into trace n within k.0 f.0 (conflicts-own trace n within k.0 f.1) a b k.2 k.3 k.4) (y.only b in_y))
+              (λ k. let f = last-found trace n _ other g_other k.0 k.1 in edge-into trace n within k.0 f.0 (conflicts-strong trace n within k.0 f.1).0 a b k.2 k.3 k.4)
+              (z.only b h);
+          linked = λ i j there link at differ. ⊎_elim
+              (λ back. ⊎_elim
+              (λ before. z.keeps _ (y.keeps _ (r.linked i j there (inl (before, back.1)) at differ)))
+              (λ h.
+              let same : j ≡ n = omega (arith, h, back.0) in
+              let to : a ≡ owner trace n = sym at ∙ ap (owner trace) same in
+              let other_one : owner trace i ≢ owner trace n = λ x. differ (x ∙ sym to) in
+              ⊎_elim
+              (λ last. z.keeps _ (y.has i (last-is trace n _ own g_own i last) to other_one))
+              (λ last. z.has i (last-is trace n _ other g_other i last) to other_one)
+              (subst (LinksBack trace i) same back.1))
+              (cases_lt j n))
+              (λ on. z.keeps _ (y.keeps _ (r.linked i j there (inr on) at differ)))
+              link;
+        }
+
+pub HasLinks-on : (trace : List Event) (n m : ℕ) (old new : Links) (own other : ℕ) → n < length trace → AreStrongest trace (numbers_from (counted_back trace) (n + 1)) n own other → IsJoinedFirst trace old new other n → HasLinks trace m (n + 1) old → HasLinks trace m n new
+HasLinks-on trace n m old new own other within strong joined w = record {
+  count = count-first trace old new other n small joined ∙ w.count;
+  each = λ a l. row a (w.each a l);
+}
+  where
+    g_other : IsGreatest trace (numbers_from (counted_back trace) (n + 1)) (strong_for (event_at trace n).kind) other
+    g_other = strong.other (event_at trace n) (here trace n within)
+
+    small : other ≤ length trace
+    small = first-small trace n _ other g_other
+
+    row : (a : ℕ) → HasRow trace m (n + 1) old a → HasRow trace m n new a
+    row a r =
+        let y = grows-first trace old new other n small joined a r.xs r.list in
+        record {
+          xs = y.ys;
+          list = y.list;
+          sound = λ b h. ⊎_elim (λ in_x. r.sound b in_x)
+              (λ k. let f = first-found trace n _ other g_other k.0 k.1 k.2 in edge-out trace n within k.0 f.0 (conflicts-strong trace n within k.0 f.1).1 k.1 a b k.3 k.4 k.5)
+              (y.only b h);
+          linked = λ i j there link at differ. ⊎_elim
+              (λ back. y.keeps _ (r.linked i j there (inl back) at differ))
+              (λ on. ⊎_elim
+              (λ later. y.keeps _ (r.linked i j there (inr (omega (arith, later), on.1)) at differ))
+              (λ h.
+              let same : i ≡ n = omega (arith, h, on.0) in
+              let first = subst (λ k. LinksOn trace k j) same on.1 in
+              subst (λ k. IsIn (owner trace k) y.ys) (sym same)
+              (y.has j there (first-is trace n _ other g_other j first.1) (sym at) (λ x. differ (ap (owner trace) same ∙ (x ∙ at)))))
+              (cases_lt n i))
+              link;
+        }
+
+pub HasLinks-not_weak : (trace : List Event) (n m : ℕ) (l : Links) → IsFalse (is_weak (event_at trace n).kind) → HasLinks trace m (n + 1) l → HasLinks trace m n l
+HasLinks-not_weak trace n m l strong w = record {
+  count = w.count;
+  each = λ a within.
+      let r = w.each a within in
+      record {
+        xs = r.xs;
+        list = r.list;
+        sound = r.sound;
+        linked = λ i j there link at differ. ⊎_elim
+            (λ back. r.linked i j there (inl back) at differ)
+            (λ on. ⊎_elim
+            (λ later. r.linked i j there (inr (omega (arith, later), on.1)) at differ)
+            (λ h. absurd (let same : i ≡ n = omega (arith, h, on.0) in both_ways _ strong (subst (λ k. IsTrue (is_weak (event_at trace k).kind)) same on.1.0)))
+            (cases_lt n i))
+            link;
+      };
+}
+
+-- all positions are linked to those before them
+pub HasLinks-turn : (trace : List Event) (n : ℕ) (l : Links) → length trace ≤ n → HasLinks trace n (length trace) l → HasLinks trace (length trace) (length trace) l
+HasLinks-turn trace n l all w = record {
+  count = w.count;
+  each = λ a within.
+      let r = w.each a within in
+      record {
+        xs = r.xs;
+        list = r.list;
+        sound = r.sound;
+        linked = λ i j there link at differ. r.linked i j there (⊎_elim (λ back. inl (omega (arith, there, all), back.1)) (λ on. inr on) link) at differ;
+      };
+}

@@ -1,0 +1,123 @@
+-- Lists from whose front listed transactions are taken.
+use Rattle.std.proofs.Common.{◌≡◌, ◌≢◌, ℕ, zero, suc, ◌+◌, ◌<◌, Bool, true, List, [], ◌∷◌, length, set, Some, refl, sym, ap, ◌∙◌, subst, arith, ⊎_elim, inl, inr}
+use Rattle.std.specs.Prelude.{◌⊎◌, slice_get, slice_index, IsTrue, IsFalse}
+use Rattle.std.proofs.lemmas.Bool.{cases_eq}
+use Rattle.std.proofs.lemmas.List.{length-set, get_or-set_same, get_or-set_other}
+use Rattle.std.proofs.lemmas.Option.{same_Some}
+use Rattle.velo_events.specs.declared.event.Event.{Event}
+use Rattle.velo_events.specs.Block.{owner}
+use Rattle.velo_events.specs.Graph.{Edge}
+use Rattle.velo_certify.specs.declared.chains.Link.{Link}
+use Rattle.velo_certify.specs.declared.chains.Links.{Links}
+use Rattle.velo_certify.specs.Chains.{IsIn, IsChain}
+use Rattle.velo_certify.specs.Links.{list_of, IsLeft, IsSettled, HasLinks, HasLinksLeft}
+use Rattle.velo_certify.specs.Serial.{has, IsFree}
+use Rattle.velo_certify.proofs.OnLinkedPaths.{IsFree-linked, IsFree-not_linked}
+use Rattle.velo_certify.proofs.OnSerial.{has-set}
+
+pub IsLeft-start : (listed : List Bool) (l : Links) (a : ℕ) (xs : List ℕ) → list_of l a xs → IsLeft listed l (slice_index l.heads.items a) xs
+IsLeft-start listed l a xs chain = record { ys = xs; list = chain; keeps = λ b h. inr h; only = λ b h. h }
+
+-- one more listed one is taken away
+pub IsLeft-next : (listed : List Bool) (l : Links) (k j : ℕ) (e : Link) (xs : List ℕ) → k ≡ suc j → slice_get l.links.items j ≡ Some e → IsTrue (has listed e.before) → IsLeft listed l k xs → IsLeft listed l e.next xs
+IsLeft-next listed l k j e xs is there known w = at w.ys w.list w.keeps w.only
+  where
+    at : (ys : List ℕ) → IsChain l.links.items k ys → ((b : ℕ) → IsIn b xs → IsTrue (has listed b) ⊎ IsIn b ys) → ((b : ℕ) → IsIn b ys → IsIn b xs) → IsLeft listed l e.next xs
+    at [] none keeps only = absurd (omega (arith, none, is))
+    at (y ∷ ys) (i, at_i, (d, here, of_d, rest)) keeps only =
+        let same_place : i ≡ j = omega (arith, at_i, is) in
+        let same : d ≡ e = same_Some d e (sym here ∙ (ap (slice_get l.links.items) same_place ∙ there)) in
+        record {
+          ys = ys;
+          list = subst (λ (f : Link). IsChain l.links.items f.next ys) same rest;
+          keeps = λ b h. ⊎_elim (λ before. inl before) (λ r. ⊎_elim (λ at_y. inl (subst (λ n. IsTrue (has listed n)) (ap (λ (f : Link). f.before) (sym same) ∙ (of_d ∙ at_y)) known)) (λ g. inr g) r) (keeps b h);
+          only = λ b h. only b (inr h);
+        }
+
+empty_chain : (links : List Link) (k : ℕ) (ys : List ℕ) → k ≡ 0 → IsChain links k ys → ys ≡ []
+empty_chain links k [] none c = refl
+empty_chain links k (y ∷ ys) none c = absurd (let is = c.1 in omega (arith, none, is))
+
+first_of : (listed : List Bool) (links : List Link) (k j : ℕ) (e : Link) (ys : List ℕ) → k ≡ suc j → slice_get links j ≡ Some e → IsFalse (has listed e.before) → IsChain links k ys → (b : ℕ) × IsIn b ys × IsFalse (has listed b)
+first_of listed links k j e [] is there new none = absurd (omega (arith, none, is))
+first_of listed links k j e (y ∷ ys) is there new (i, at_i, (d, here, of_d, rest)) =
+    let same_place : i ≡ j = omega (arith, at_i, is) in
+    let same : d ≡ e = same_Some d e (sym here ∙ (ap (slice_get links) same_place ∙ there)) in
+    (y, inl refl, subst (λ n. IsFalse (has listed n)) (ap (λ (f : Link). f.before) (sym same) ∙ of_d) new)
+
+pub IsSettled-by : (listed : List Bool) (a : ℕ) (old new : Links) (answer : Bool) (k : ℕ) → a < length old.heads.items → new.links.items ≡ old.links.items → new.heads.items ≡ set old.heads.items a k
+    → ((xs : List ℕ) → list_of old a xs → IsLeft listed old k xs) → (IsTrue answer → k ≡ 0) → (IsFalse answer → (j : ℕ) × (e : Link) × (k ≡ suc j) × (slice_get old.links.items j ≡ Some e) × IsFalse (has listed e.before)) → IsSettled listed a old new answer
+IsSettled-by listed a old new answer k within links heads left when_true when_false = record {
+  count = ap length heads ∙ length-set old.heads.items a k;
+  others = λ c xs other chain. subst (λ n. IsChain new.links.items n xs) (sym (ap (λ hs. slice_index hs c) heads ∙ get_or-set_other old.heads.items a c k 0 other)) (subst (λ ls. IsChain ls (slice_index old.heads.items c) xs) (sym links) chain);
+  own = λ xs chain.
+      let w = left xs chain in
+      let there : slice_index new.heads.items a ≡ k = ap (λ hs. slice_index hs a) heads ∙ get_or-set_same old.heads.items a k 0 within in (
+        record {
+          ys = w.ys;
+          list = subst (λ n. IsChain new.links.items n w.ys) (sym there) (subst (λ ls. IsChain ls k w.ys) (sym links) w.list);
+          keeps = w.keeps;
+          only = w.only;
+        },
+        (λ h. empty_chain old.links.items k w.ys (when_true h) w.list),
+        (λ h. let f = when_false h in first_of listed old.links.items k f.0 f.1 w.ys f.2 f.3 f.4 w.list),
+      );
+}
+
+-- ---- what the lists have
+
+pub HasLinksLeft-start : (trace : List Event) (listed : List Bool) (l : Links) → HasLinks trace (length trace) 0 l → HasLinksLeft trace listed l
+HasLinksLeft-start trace listed l w = record {
+  count = w.count;
+  each = λ a within. let r = w.each a within in record { xs = r.xs; list = r.list; sound = r.sound; linked = λ i j there link at differ. inr (r.linked i j there link at differ) };
+}
+
+-- one more is listed
+pub HasLinksLeft-more : (trace : List Event) (listed : List Bool) (l : Links) (a : ℕ) → a < length listed → HasLinksLeft trace listed l → HasLinksLeft trace (set listed a true) l
+HasLinksLeft-more trace listed l a inside w = record {
+  count = w.count;
+  each = λ c within.
+      let r = w.each c within in
+      record {
+        xs = r.xs;
+        list = r.list;
+        sound = r.sound;
+        linked = λ i j there link at differ. ⊎_elim (λ known. inl (has-set listed a (owner trace i) inside known)) (λ h. inr h) (r.linked i j there link at differ);
+      };
+}
+
+module _ (trace : List Event) (listed : List Bool) (a : ℕ) (old new : Links) (answer : Bool) (w : HasLinksLeft trace listed old) (s : IsSettled listed a old new answer) where
+  pub HasLinksLeft-settled : HasLinksLeft trace listed new
+  HasLinksLeft-settled = record {
+    count = s.count ∙ w.count;
+    each = λ c within.
+        let r = w.each c within in
+        ⊎_elim
+        (λ same.
+        let left = (s.own r.xs (subst (λ n. list_of old n r.xs) same r.list)).0 in
+        record {
+          xs = left.ys;
+          list = subst (λ n. list_of new n left.ys) (sym same) left.list;
+          sound = λ b h. r.sound b (left.only b h);
+          linked = λ i j there link at differ. ⊎_elim (λ known. inl known) (λ h. left.keeps (owner trace i) h) (r.linked i j there link at differ);
+        })
+        (λ other. record { xs = r.xs; list = s.others c r.xs other r.list; sound = r.sound; linked = r.linked })
+        (cases_eq c a);
+  }
+
+  module _ (closed : (b c : ℕ) → Edge trace b c → IsTrue (has listed c) → IsTrue (has listed b)) (within : a < length trace) where
+    pub IsFree-settled : IsTrue answer → IsFree trace listed a
+    IsFree-settled all_listed =
+        let r = w.each a within in
+        let o = s.own r.xs r.list in
+        IsFree-linked trace listed closed a (λ b link.
+        let known = r.linked link.from link.to link.in_trace link.link link.of_to (λ same. link.differ (sym link.of_from ∙ same)) in
+        subst (λ n. IsTrue (has listed n)) link.of_from
+        (⊎_elim (λ h. h) (λ h. ⊎_elim (λ g. g) (λ g. absurd (subst (IsIn (owner trace link.from)) (o.1 all_listed) g)) (o.0.keeps (owner trace link.from) h)) known))
+
+    pub IsFree-not_settled : IsFalse answer → ¬ IsFree trace listed a
+    IsFree-not_settled some_left =
+        let r = w.each a within in
+        let o = s.own r.xs r.list in
+        let b = o.2 some_left in
+        IsFree-not_linked trace listed closed b.0 a (r.sound b.0 (o.0.only b.0 b.1)) b.2

@@ -1,0 +1,54 @@
+//! Lists that are kept in one store.
+ghost use Rattle.std.specs.Prelude.{◌≡◌, ◌<◌, ◌+◌, ◌++◌, ◌∷◌, [], length, slice_index, slice_set, IfOk, OnOk, OnErr};
+ghost use Rattle.velo_events.specs.Refusals.{GrowthRefused};
+ghost use Rattle.velo_certify.specs.Chains.{AreDescending, AreWithin};
+ghost use Rattle.velo_certify.specs.Table.{IsBlank};
+
+use std::alloc::Global;
+use velo_events::Memory;
+use velo_events::growth::{filled, reserve};
+
+/// A transaction from which an edge leads, and where the list goes on: at the link with this number, counted from 1, or
+/// nowhere.
+#[derive(Clone, Copy)]
+pub(crate) struct Link {
+    pub before: usize,
+    pub next: usize,
+}
+
+/// A list for each transaction.
+#[derive(Drop)]
+pub(crate) struct Links {
+    pub heads: Vec<usize>,
+    pub links: Vec<Link>,
+    ghost descending: { AreDescending links.items },
+    ghost within: { AreWithin heads.items (length links.items) },
+}
+
+impl Links {
+    /// Empty lists for so many transactions.
+    pub fn new(alloc: Global, count: usize) -> Result<Links, Memory>
+        ensures blank { IfOk result (λ l. IsBlank l.heads.items) }
+        ensures count { IfOk result (λ l. length l.heads.items ≡ count) }
+        ensures memory { OnErr result GrowthRefused }
+    {
+        Ok(Links {
+            heads: filled(alloc, 0, count)?,
+            links: Vec::new(alloc),
+        })
+    }
+
+    /// Puts a transaction at the front of a list.
+    pub fn add(&mut self, before: usize, to: usize) -> Result<(), Memory>
+        requires { to < length self.old.heads.items }
+        ensures links { OnOk result (self.new.links.items ≡ self.old.links.items ++ record { before = before; next = slice_index self.old.heads.items to } ∷ []) }
+        ensures heads { OnOk result (self.new.heads.items ≡ slice_set self.old.heads.items to (length self.old.links.items + 1)) }
+        ensures memory { OnErr result GrowthRefused }
+    {
+        reserve(&mut self.links, 1)?;
+        let next = self.heads[to];
+        self.links.push_reserved(Link { before, next });
+        self.heads[to] = self.links.len();
+        Ok(())
+    }
+}
