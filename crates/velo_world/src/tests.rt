@@ -242,10 +242,11 @@ fn relived(
         locks: 1,
     };
     let config = Config::new(1, bounds, events, nodes, false)?;
-    Ok(match World::relive(alloc, config, log) {
-        Ok((world, _)) => Ok(is_the_alarm(world.alarm()) && world.log().len() == RECORDED.len()),
-        Err(fault) => Err(fault),
-    })
+    let (world, _shares) = match World::relive(alloc, config, log) {
+        Ok(relived) => relived,
+        Err(fault) => return Ok(Err(fault)),
+    };
+    Ok(Ok(is_the_alarm(world.alarm()) && world.log().len() == RECORDED.len()))
 }
 
 #[test]
