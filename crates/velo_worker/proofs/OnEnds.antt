@@ -1,5 +1,5 @@
 -- The ends of a body's repeats, found from its last statement to its first.
-use Rattle.std.proofs.Common.{◌≡◌, ◌≢◌, ◌<◌, ◌≤◌, ℕ, zero, suc, ◌+◌, ◌-◌, List, [], ◌∷◌, length, drop, get_or, set, Some, refl, sym, ◌∙◌, ap, subst, arith, get_or-set_other, get_or-set_same, ⊎_elim, inl, inr}
+use Rattle.std.proofs.Common.{◌≡◌, ◌≢◌, ◌<◌, ◌≤◌, ℕ, ◌+◌, ◌-◌, List, length, drop, get_or, set, Some, sym, ◌∙◌, ap, subst, arith, get_or-set_other, get_or-set_same, ⊎_elim, inl, inr}
 use Rattle.std.specs.Prelude.{slice_get, ◌⊎◌}
 use Rattle.std.proofs.Math.Seq.{drop-length}
 use Rattle.std.proofs.lemmas.Bool.{cases_lt}

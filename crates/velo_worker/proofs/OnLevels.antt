@@ -1,5 +1,5 @@
 -- How the levels of a body change past one statement.
-use Rattle.std.proofs.Common.{◌≡◌, ◌<◌, ◌≤◌, ℕ, zero, suc, ◌+◌, List, [], ◌∷◌, ◌++◌, length, drop, get_or, Some, refl, sym, ◌∙◌, ap, subst, arith, append_assoc, add-one, Bool, true, false}
+use Rattle.std.proofs.Common.{◌≡◌, ◌<◌, ℕ, zero, suc, ◌+◌, List, [], ◌∷◌, ◌++◌, drop, Some, refl, sym, ◌∙◌, ap, subst, arith, append_assoc}
 use Rattle.std.specs.Prelude.{slice_get, IsTrue, ⊤, nat_lt}
 use Rattle.std.proofs.lemmas.Option.{slice_get_within, get_or_from_slice_get}
 use Rattle.std.proofs.lemmas.List.{drop_more}
@@ -8,7 +8,7 @@ use Rattle.velo_workload.specs.declared.statement.Statement.{Statement}
 use Rattle.velo_workload.specs.declared.statement.Statement.TheVariants.{Repeat, Done}
 use Rattle.velo_workload.specs.Bodies.{is_nested}
 use Rattle.velo_worker.specs.declared.place.OpenRepeat.{OpenRepeat}
-use Rattle.velo_worker.specs.Walk.{times, first, others, with_statement, with_repeat, levels}
+use Rattle.velo_worker.specs.Walk.{first, others, with_statement, with_repeat, levels}
 use Rattle.velo_worker.specs.Place.{left_by, AreOpen, behind}
 
 -- a statement that neither begins nor ends what is repeated

@@ -1,7 +1,7 @@
 -- The open repeats of a place, where they are kept in an array.
-use Rattle.std.proofs.Common.{◌≡◌, ◌≢◌, ◌<◌, ◌≤◌, ℕ, zero, suc, ◌+◌, ◌-◌, List, [], ◌∷◌, length, set, get_or, refl, sym, ◌∙◌, ap, arith, add-one, get_or-set_other, get_or-set_same}
+use Rattle.std.proofs.Common.{◌≡◌, ◌≢◌, ◌<◌, ◌≤◌, ℕ, zero, suc, ◌+◌, ◌-◌, List, ◌∷◌, length, set, get_or, refl, sym, ◌∙◌, ap, arith, add-one, get_or-set_other, get_or-set_same}
 use Rattle.velo_worker.specs.declared.place.OpenRepeat.{OpenRepeat}
-use Rattle.velo_worker.specs.Place.{Standing, innermost_first, entered, turned, turned_again}
+use Rattle.velo_worker.specs.Place.{innermost_first, entered, turned, turned_again}
 
 pub innermost_first-length : (rs : List OpenRepeat) (n : ℕ) → length (innermost_first rs n) ≡ n
 unfolding innermost_first

@@ -1,5 +1,5 @@
 -- Statements without events, one after another.
-use Rattle.std.proofs.Common.{◌≡◌, ◌<◌, ℕ, List, [], ◌∷◌, length, drop, Some, None, refl, sym, ◌∙◌, ap, arith, Bool, true, false}
+use Rattle.std.proofs.Common.{◌≡◌, ◌<◌, ℕ, List, [], ◌∷◌, length, drop, Some, None, refl, arith, Bool, true, false}
 use Rattle.std.specs.Prelude.{slice_get}
 use Rattle.velo_workload.specs.declared.statement.Statement.{Statement}
 use Rattle.velo_worker.specs.declared.progress.Progress.{Progress}

@@ -1,8 +1,7 @@
 -- Turns and rounds, as the code does them one after another.
-use Rattle.std.proofs.Common.{◌≡◌, ◌<◌, ◌≤◌, ℕ, zero, suc, ◌+◌, ◌-◌, List, [], ◌∷◌, ◌++◌, length, drop, set, Some, None, refl, sym, ◌∙◌, ap, subst, arith, inl, inr, length-append, length-set, Bool, true, false}
-use Rattle.std.specs.Prelude.{slice_get, IsTrue, ◌↔◌, ◌⊎◌, Option, ◌&&◌}
+use Rattle.std.proofs.Common.{◌≡◌, ◌<◌, ◌≤◌, ℕ, suc, ◌+◌, ◌-◌, List, [], ◌∷◌, ◌++◌, length, Some, None, refl, sym, ◌∙◌, ap, subst, arith, inl, inr, length-append, length-set, Bool}
+use Rattle.std.specs.Prelude.{IsTrue, ◌↔◌, Option, ◌&&◌}
 use Rattle.std.proofs.lemmas.Bool.{and_parts, and_from}
-use Rattle.std.proofs.lemmas.List.{drop_more}
 use Rattle.velo_events.specs.declared.event.Action.{Action}
 use Rattle.velo_events.specs.declared.event.Event.{Event}
 use Rattle.velo_events.specs.declared.event.ThreadId.{ThreadId}
@@ -14,7 +13,7 @@ use Rattle.velo_world.specs.declared.run.Reply.{Reply}
 use Rattle.velo_worker.specs.declared.ending.Ending.{Ending}
 use Rattle.velo_worker.specs.declared.ending.Ending.TheVariants.{Done, Stuck, Halted, Refused, Gated}
 use Rattle.velo_worker.specs.declared.progress.Progress.{Progress}
-use Rattle.velo_worker.specs.Schedule.{Course, Happens, IsIdle, Tries, TriesAt, TurnOf, TurnsOf, RoundsOf, RoundOf, AllIdle, threads_from, all_threads}
+use Rattle.velo_worker.specs.Schedule.{Course, Happens, Tries, TurnOf, TurnsOf, RoundsOf, AllIdle, threads_from, all_threads}
 
 -- ---- one event
 

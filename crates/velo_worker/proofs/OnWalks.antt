@@ -8,7 +8,7 @@ use Rattle.velo_workload.specs.declared.statement.Statement.TheVariants.{Repeat,
 use Rattle.velo_workload.specs.Bodies.{is_nested}
 use Rattle.velo_worker.specs.declared.place.OpenRepeat.{OpenRepeat}
 use Rattle.velo_worker.specs.Walk.{times, first, others, with_statement, with_repeat, levels, walk_of}
-use Rattle.velo_worker.specs.Place.{Standing, passed, entered, turned, turned_again, left_by, left_at, AreOpen, StandsIn, IsEnd, IsWalk, MayPass, past, behind}
+use Rattle.velo_worker.specs.Place.{Standing, passed, entered, turned, turned_again, left_by, left_at, AreOpen, StandsIn, IsEnd, IsWalk, MayPass, past}
 use Rattle.velo_worker.proofs.OnLevels.{IsPlain, drop-at, levels-plain, levels-repeat, levels-done, nested-plain, nested-repeat, nested-done, nested-not_done, nested-end, levels-behind, nested-behind, left_by-front, AreOpen-same}
 
 -- ---- the start

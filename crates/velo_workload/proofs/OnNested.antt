@@ -11,8 +11,8 @@ use Rattle.velo_workload.specs.declared.limits.TheConstants.{MOST_OPEN_REPEATS}
 use Rattle.velo_workload.specs.declared.statement.Statement.{Statement}
 use Rattle.velo_workload.specs.declared.statement.Statement.TheVariants as of_statement
 use Rattle.velo_workload.specs.Bodies.{is_nested, IsBody, AreBodies}
-use Rattle.velo_workload.specs.Phrase.{Spoken, Read, Write, Set, Add, Acquire, Release, Begin, End, Fork, Join, Repeat, Done, Phrase, Blank, Bad, BadThread, Variable, Lock, Thread, Body}
-use Rattle.velo_workload.specs.Outline.{Names, Reading, Known, new_body, known, reading, read_from, line_read, opened, end_fault, statement_fault, full_fault, fault_of_line, fault_at_end, fault_from, first_of_two, first_fault}
+use Rattle.velo_workload.specs.Phrase.{Spoken, Read, Write, Set, Add, Acquire, Release, Begin, End, Fork, Join, Repeat, Done, Phrase, Thread, Body}
+use Rattle.velo_workload.specs.Outline.{Names, Reading, Known, new_body, known, reading, read_from, line_read, opened, end_fault, statement_fault, fault_of_line, fault_from, first_of_two, first_fault}
 use Rattle.velo_workload.specs.Program.{statement_of, number_of, body_from, bodies}
 
 -- ---- faults

@@ -1,4 +1,4 @@
-use Rattle.std.proofs.Common.{◌≡◌, ◌≤◌, ◌-◌, take, map, length, vec_len}
+use Rattle.std.proofs.Common.{◌≡◌, ◌≤◌, take, map, vec_len}
 use Rattle.std.specs.Prelude.{vec_capacity}
 use Rattle.velo_worker.specs.Progress.{start_of}
 use Rattle.velo_worker.proofs.replaying.threads_of.Given as goal

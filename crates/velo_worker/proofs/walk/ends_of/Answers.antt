@@ -1,8 +1,7 @@
-use Rattle.std.proofs.Common.{◌≡◌, ◌<◌, ◌-◌, ◌+◌, Some, ◌∙◌, ap, sym, subst, arith, length, get_or, set, rules}
-use Rattle.std.specs.Prelude.{slice_get}
+use Rattle.std.proofs.Common.{◌≡◌, ◌<◌, ◌-◌, ◌+◌, subst, arith, length, set, rules}
 use Rattle.std.proofs.lemmas.Option.{slice_get-get_or}
-use Rattle.velo_worker.specs.Place.{IsEnd, end_before}
-use Rattle.velo_worker.proofs.OnEnds.{IsEnd-start, IsEnd-before, AreEndsFrom, AreEndsFrom-start, AreEndsFrom-next, AreEnds-from}
+use Rattle.velo_worker.specs.Place.{IsEnd}
+use Rattle.velo_worker.proofs.OnEnds.{IsEnd-start, IsEnd-before, AreEndsFrom, AreEndsFrom-start, AreEndsFrom-next}
 use Rattle.velo_worker.proofs.walk.ends_of.Goals as goal
 
 pub loop-position-init : goal.loop-position-init

@@ -1,4 +1,4 @@
-use Rattle.std.proofs.Common.{◌≡◌, ◌<◌, ◌+◌, subst, get_or, drop, length, arith, None}
+use Rattle.std.proofs.Common.{◌<◌, ◌+◌, subst, get_or, drop, length, arith}
 use Rattle.std.proofs.lemmas.List.{drop_more}
 use Rattle.std.proofs.Math.ListN.{drop_of_length-le}
 use Rattle.velo_events.specs.declared.event.ThreadId.{ThreadId}

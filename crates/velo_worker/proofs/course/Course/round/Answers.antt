@@ -1,4 +1,4 @@
-use Rattle.std.proofs.Common.{◌≡◌, ◌<◌, ◌≤◌, ◌+◌, ◌-◌, ◌∙◌, ap, sym, subst, length, arith, None}
+use Rattle.std.proofs.Common.{◌≡◌, ◌<◌, ◌≤◌, ◌+◌, ◌-◌, ◌∙◌, ap, sym, subst, length, arith}
 use Rattle.velo_events.specs.declared.event.ThreadId.{ThreadId}
 use Rattle.velo_worker.specs.Schedule.{TurnOf, all_threads, threads_from}
 use Rattle.velo_worker.proofs.OnTurns.{LeadsOn, LeadsOn-next, LeadsOn-ended, LeadsOn-all, threads_from-next, threads_from-none}

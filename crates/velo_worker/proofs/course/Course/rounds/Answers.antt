@@ -1,6 +1,6 @@
-use Rattle.std.proofs.Common.{◌≡◌, ◌<◌, ◌≤◌, ◌∙◌, ap, sym, subst, length, arith, None}
+use Rattle.std.proofs.Common.{◌≡◌, ◌<◌, ◌≤◌, ◌∙◌, ap, sym, subst, length, arith}
 use Rattle.std.proofs.lemmas.Bool.{false≢true}
-use Rattle.velo_worker.specs.Schedule.{AllIdle, TurnsOf, all_threads}
+use Rattle.velo_worker.specs.Schedule.{TurnsOf, all_threads}
 use Rattle.velo_worker.proofs.OnTurns.{Kept-turns, LeadsRounds-next, rounds-idle, rounds-ended, rounds-stuck}
 use Rattle.velo_worker.proofs.course.Course.rounds.Goals as goal
 

@@ -1,5 +1,5 @@
-use Rattle.std.proofs.Common.{◌≡◌, ◌∙◌, sym, ap, rules, arith, true, false}
-use Rattle.velo_worker.specs.Progress.{is_quiet, register_after, settled, settled_on}
+use Rattle.std.proofs.Common.{◌≡◌, ◌∙◌, sym, ap, rules, true, false}
+use Rattle.velo_worker.specs.Progress.{is_quiet, register_after, settled_on}
 use Rattle.velo_worker.proofs.OnProgress.{settled-quiet, settled-loud, settled-end}
 use Rattle.velo_worker.proofs.progress.Progress.settle.Goals as goal
 

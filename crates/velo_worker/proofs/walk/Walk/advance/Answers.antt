@@ -1,6 +1,5 @@
-use Rattle.std.proofs.Common.{◌≡◌, ◌≤◌, ◌∙◌, Some, None, drop, length, ap, sym, arith, rules, subst}
+use Rattle.std.proofs.Common.{◌≡◌, ◌∙◌, Some, None, drop, ap, sym, subst}
 use Rattle.std.specs.Prelude.{slice_get}
-use Rattle.std.proofs.lemmas.Option.{slice_get_cases}
 use Rattle.velo_worker.specs.Place.{left_at, past, IsWalk}
 use Rattle.velo_worker.proofs.OnWalks.{MayPass-here, left_at-past, IsWalk-past, left_at-first, nothing_dropped}
 use Rattle.velo_worker.proofs.walk.Walk.advance.Goals as goal
