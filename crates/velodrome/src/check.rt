@@ -12,7 +12,7 @@ ghost use Rattle.velodrome.specs.Faults.{check_fault_of, IsFaultOfLog};
 
 use std::alloc::Global;
 use velo_certify::{CertFault, cycle_of, serial_order};
-use velo_events::{Bounds, Config, Refusal};
+use velo_events::{Bounds, Config, Memory, Refusal};
 use velo_logtext::{LogFault, Sink, Source, WriteFault, read_log};
 use velo_report::{Names, certificate_lines, report};
 use velo_traces::Trace;
