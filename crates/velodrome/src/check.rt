@@ -1,5 +1,5 @@
 //! Checking a recorded log.
-ghost use Rattle.std.specs.Prelude.{◌≡◌, ◌≤◌, ◌<◌, true, false, IfOk, IfErr, length};
+ghost use Rattle.std.specs.Prelude.{◌≡◌, ◌≤◌, ◌<◌, true, false, IfOk, IfErr, OnErr, length};
 ghost use Rattle.velo_events.specs.Certificate.{IsSerialOrder, IsShortestCycleAt};
 ghost use Rattle.velo_events.specs.Graph.{HasCycle, IsClosing};
 ghost use Rattle.velo_events.specs.WellFormed.{IsWellFormed};
