@@ -4,8 +4,7 @@ use Rattle.velo_workload.specs.declared.fault.WorkFault.{WorkFault}
 use Rattle.velo_workload.specs.declared.fault.WorkFault.TheVariants.{BadLine, Unknown, Twice, Unmatched, TooMany, Memory}
 use Rattle.velo_workload.specs.declared.statement.Statement.{Statement}
 use Rattle.velo_workload.specs.Phrase.{phrases, Phrase, Blank, Bad, BadThread, Variable, Lock, Thread, Body}
-use Rattle.velo_workload.specs.Outline.{Judges, Known, Names, names_in, known, threads, first_fault, first_of_two}
-use Rattle.velo_workload.specs.Known.{kept_known}
+use Rattle.velo_workload.specs.Outline.{Judges, Names, names_in, known, threads, first_fault, first_of_two}
 use Rattle.velo_workload.specs.Program.{Program, program, bodies, first_unknown, fault_in, unless_fault, meaning_of, Answers}
 use Rattle.velo_workload.proofs.OnReading.{wrong, judged_first, none_first}
 
@@ -41,25 +40,25 @@ module _ (text : List ℕ) where
       (judged_first (first_fault (phrases text)) (first_unknown (names_in (known (phrases text))) 0 (phrases text)) f h)
 
   -- the second pass is over the names that the first one kept
-  second_is : (k : Known) → k ≡ kept_known (known (phrases text)) → first_fault (phrases text) ≡ None → fault_in (phrases text) ≡ first_unknown (names_in k) 0 (phrases text)
-  second_is k e fine =
+  second_is : (names : Names) → names ≡ names_in (known (phrases text)) → first_fault (phrases text) ≡ None → fault_in (phrases text) ≡ first_unknown names 0 (phrases text)
+  second_is names e fine =
       none_first (first_fault (phrases text)) (first_unknown (names_in (known (phrases text))) 0 (phrases text)) fine
-      ∙ ap (λ (k : Known). first_unknown (names_in k) 0 (phrases text)) (sym e)
+      ∙ ap (λ (names : Names). first_unknown names 0 (phrases text)) (sym e)
 
-  pub second_wrong : (k : Known) (f : WorkFault) → k ≡ kept_known (known (phrases text)) → first_fault (phrases text) ≡ None → Judges (first_unknown (names_in k) 0 (phrases text)) (wrong f) → Answers (meaning_of text) (Err f)
+  pub second_wrong : (names : Names) (f : WorkFault) → names ≡ names_in (known (phrases text)) → first_fault (phrases text) ≡ None → Judges (first_unknown names 0 (phrases text)) (wrong f) → Answers (meaning_of text) (Err f)
   unfolding meaning_of
-  second_wrong k f e fine h =
+  second_wrong names f e fine h =
       answered (fault_in (phrases text)) (program (phrases text)) f
-      (subst (λ (g : Option WorkFault). Judges g (wrong f)) (sym (second_is k e fine)) h)
+      (subst (λ (g : Option WorkFault). Judges g (wrong f)) (sym (second_is names e fine)) h)
 
   -- the program that is put together
-  abbrev pub made : Known → List (List Statement) → Program
-  made k found = record { bounds = record { threads = length k.threads; variables = length k.variables; locks = length k.locks }; thread_names = k.threads; label_names = k.labels; bodies = found }
+  abbrev pub made : Names → List (List Statement) → Program
+  made names found = record { bounds = record { threads = length names.threads; variables = length names.variables; locks = length names.locks }; thread_names = names.threads; label_names = names.labels; bodies = found }
 
-  pub all_right : (k : Known) (found : List (List Statement)) (w : Program) → k ≡ kept_known (known (phrases text)) → first_fault (phrases text) ≡ None → first_unknown (names_in k) 0 (phrases text) ≡ None
-      → found ≡ bodies (names_in k) (phrases text) → w ≡ made k found → meaning_of text ≡ Ok w
+  pub all_right : (names : Names) (found : List (List Statement)) (w : Program) → names ≡ names_in (known (phrases text)) → first_fault (phrases text) ≡ None → first_unknown names 0 (phrases text) ≡ None
+      → found ≡ bodies names (phrases text) → w ≡ made names found → meaning_of text ≡ Ok w
   unfolding meaning_of
-  all_right k found w e fine known_names found-is w-is =
-      let same : found ≡ bodies (names_in (known (phrases text))) (phrases text) = found-is ∙ ap (λ (k : Known). bodies (names_in k) (phrases text)) e in
+  all_right names found w e fine all_known found-is w-is =
+      let same : found ≡ bodies (names_in (known (phrases text))) (phrases text) = found-is ∙ ap (λ (names : Names). bodies names (phrases text)) e in
       let whole : w ≡ program (phrases text) = w-is ∙ (λ i. made (e i) (same i)) in
-      ap (λ (g : Option WorkFault). unless_fault g (program (phrases text))) (second_is k e fine ∙ known_names) ∙ ap (λ (p : Program). Ok p) (sym whole)
+      ap (λ (g : Option WorkFault). unless_fault g (program (phrases text))) (second_is names e fine ∙ all_known) ∙ ap (λ (p : Program). Ok p) (sym whole)

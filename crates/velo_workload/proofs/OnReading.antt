@@ -20,8 +20,10 @@ use Rattle.velo_workload.specs.declared.outline.Outline.{Outline}
 use Rattle.velo_workload.specs.declared.nesting.Open.{Open}
 use Rattle.velo_workload.specs.Words.{Word, lines}
 use Rattle.velo_workload.specs.Phrase.{phrase_of, phrases, Spoken, Read, Write, Set, Add, Acquire, Release, Begin, End, Fork, Join, Repeat, Done, Phrase, Blank, Bad, BadThread, Variable, Lock, Thread, Body}
-use Rattle.velo_workload.specs.Outline.{AreFew, is_among, Judges, fault_from, first_fault, variable_in, lock_in, thread_in, label_in, label_of, statement_in, variables, locks, threads, labels, statements, Reading, new_body, last_open, statement_read, line_read, read_from, reading, Known, known, end_fault, first_of_two, fault_of_line, fault_at_end, declared_fault, statement_fault, full_fault, most_kept, kept_open, kept}
-use Rattle.velo_workload.specs.Known.{IsReadUpTo, lines_left, phrases_left, known_of, statement_kept, labelled, with_line, kept_known}
+use Rattle.velo_workload.specs.Outline.{AreFew, is_among, Judges, fault_from, first_fault, variable_in, lock_in, thread_in, label_in, label_of, statement_in, variables, locks, threads, labels, statements, reading, Known, known, names_in, first_of_two, fault_of_line, fault_at_end, declared_fault, statement_fault, full_fault}
+use Rattle.velo_workload.specs.Tally.{Tally, new_tally, last_open, statement_tallied, line_tallied, tally_from, tally, tally_fault, most_kept, kept_open, kept}
+use Rattle.velo_workload.specs.Known.{IsReadUpTo, lines_left, phrases_left, Kept, kept_of, known_by, known_of, statement_kept, labelled, with_line, whole, up_to_most}
+use Rattle.velo_workload.proofs.OnCosts.{agrees, same_depth, same_end}
 
 -- an answer that is this fault
 abbrev pub wrong : WorkFault → Result (Unit {0}) WorkFault
@@ -58,7 +60,7 @@ outside_kept : (o : Option Open) → option_map_or (λ o. o.outside) (option_map
 outside_kept None = refl
 outside_kept (Some o) = refl
 
-pub statement_step : (b : Reading) (n : ℕ) (s : Spoken) → statement_kept (kept b) n s ≡ kept (statement_read b n s)
+pub statement_step : (b : Tally) (n : ℕ) (s : Spoken) → statement_kept (kept b) n s ≡ kept (statement_tallied b n s)
 statement_step b n (Repeat times) = λ i. record {
   thread_line = b.thread_line;
   open_repeats = (sym (map-append kept_open b.open_repeats (record { line = n; outside = b.rounds } ∷ []))) i;
@@ -84,40 +86,40 @@ labels_step ls s = refl
 
 -- ---- one more line
 
--- what is known with one more line
-abbrev pub one_more : Known → Phrase → ℕ → Known
-one_more k p n = record { variables = k.variables ++ variable_in p; locks = k.locks ++ lock_in p; threads = k.threads ++ thread_in p; labels = insert_all bytes_eq k.labels (label_in p); statements = k.statements + length (statement_in p); body = line_read k.body n p }
+-- what would be kept with one more line
+abbrev pub one_more : Kept → Phrase → ℕ → Kept
+one_more k p n = record { variables = k.variables ++ variable_in p; locks = k.locks ++ lock_in p; threads = k.threads ++ thread_in p; labels = insert_all bytes_eq k.labels (label_in p); statements = k.statements + length (statement_in p); body = line_tallied k.body n p }
 
-known_is : (k j : Known) → k.variables ≡ j.variables → k.locks ≡ j.locks → k.threads ≡ j.threads → k.labels ≡ j.labels → k.statements ≡ j.statements → k.body ≡ j.body → k ≡ j
-known_is k j a b c d e f = λ i. record { variables = a i; locks = b i; threads = c i; labels = d i; statements = e i; body = f i }
+kept_is : (k j : Kept) → k.variables ≡ j.variables → k.locks ≡ j.locks → k.threads ≡ j.threads → k.labels ≡ j.labels → k.statements ≡ j.statements → k.body ≡ j.body → k ≡ j
+kept_is k j a b c d e f = λ i. record { variables = a i; locks = b i; threads = c i; labels = d i; statements = e i; body = f i }
 
 none : (xs : List Word) → xs ≡ xs ++ []
 none xs = sym (append-nil xs)
 
-pub kept_step : (k : Known) (p : Phrase) (n : ℕ) → with_line (kept_known k) p n ≡ kept_known (one_more k p n)
-kept_step k Blank n = known_is _ _ (none k.variables) (none k.locks) (none k.threads) refl (sym (add-zero k.statements)) refl
-kept_step k Bad n = known_is _ _ (none k.variables) (none k.locks) (none k.threads) refl (sym (add-zero k.statements)) refl
-kept_step k BadThread n = known_is _ _ (none k.variables) (none k.locks) (none k.threads) refl (sym (add-zero k.statements)) refl
-kept_step k (Variable name) n = known_is _ _ refl (none k.locks) (none k.threads) refl (sym (add-zero k.statements)) refl
-kept_step k (Lock name) n = known_is _ _ (none k.variables) refl (none k.threads) refl (sym (add-zero k.statements)) refl
-kept_step k (Thread name) n = known_is _ _ (none k.variables) (none k.locks) refl refl (sym (add-zero k.statements)) refl
-kept_step k (Body s) n = known_is _ _ (none k.variables) (none k.locks) (none k.threads) (labels_step k.labels s) refl (statement_step k.body n s)
+pub kept_step : (k : Kept) (p : Phrase) (n : ℕ) → with_line (up_to_most k) p n ≡ up_to_most (one_more k p n)
+kept_step k Blank n = kept_is _ _ (none k.variables) (none k.locks) (none k.threads) refl (sym (add-zero k.statements)) refl
+kept_step k Bad n = kept_is _ _ (none k.variables) (none k.locks) (none k.threads) refl (sym (add-zero k.statements)) refl
+kept_step k BadThread n = kept_is _ _ (none k.variables) (none k.locks) (none k.threads) refl (sym (add-zero k.statements)) refl
+kept_step k (Variable name) n = kept_is _ _ refl (none k.locks) (none k.threads) refl (sym (add-zero k.statements)) refl
+kept_step k (Lock name) n = kept_is _ _ (none k.variables) refl (none k.threads) refl (sym (add-zero k.statements)) refl
+kept_step k (Thread name) n = kept_is _ _ (none k.variables) (none k.locks) refl refl (sym (add-zero k.statements)) refl
+kept_step k (Body s) n = kept_is _ _ (none k.variables) (none k.locks) (none k.threads) (labels_step k.labels s) refl (statement_step k.body n s)
 
-read_more : (b : Reading) (n : ℕ) (ps : List Phrase) (p : Phrase) → read_from b n (ps ++ p ∷ []) ≡ line_read (read_from b n ps) (n + length ps + 1) p
-read_more b n [] p = ap (λ (m : ℕ). line_read b (m + 1) p) (sym (add-zero n))
+read_more : (b : Tally) (n : ℕ) (ps : List Phrase) (p : Phrase) → tally_from b n (ps ++ p ∷ []) ≡ line_tallied (tally_from b n ps) (n + length ps + 1) p
+read_more b n [] p = ap (λ (m : ℕ). line_tallied b (m + 1) p) (sym (add-zero n))
 read_more b n (q ∷ ps) p =
     let count : n + 1 + length ps + 1 ≡ n + length (q ∷ ps) + 1 = omega arith in
-    read_more (line_read b (n + 1) q) (n + 1) ps p ∙ ap (λ (m : ℕ). line_read (read_from (line_read b (n + 1) q) (n + 1) ps) m p) count
+    read_more (line_tallied b (n + 1) q) (n + 1) ps p ∙ ap (λ (m : ℕ). line_tallied (tally_from (line_tallied b (n + 1) q) (n + 1) ps) m p) count
 
-pub known_more : (ps : List Phrase) (p : Phrase) → known (ps ++ p ∷ []) ≡ one_more (known ps) p (length ps + 1)
-known_more ps p =
+pub whole_more : (ps : List Phrase) (p : Phrase) → whole (ps ++ p ∷ []) ≡ one_more (whole ps) p (length ps + 1)
+whole_more ps p =
     let one : (f : Phrase → List Word) → flat_map f (ps ++ p ∷ []) ≡ flat_map f ps ++ f p = λ f. flat_map-append f ps (p ∷ []) ∙ ap (λ (xs : List Word). flat_map f ps ++ xs) (append-nil (f p)) in
     let said : statements (ps ++ p ∷ []) ≡ statements ps ++ statement_in p = flat_map-append statement_in ps (p ∷ []) ∙ ap (λ (xs : List Spoken). statements ps ++ xs) (append-nil (statement_in p)) in
     let zero_first : 0 + length ps + 1 ≡ length ps + 1 = omega arith in
-    known_is _ _ (one variable_in) (one lock_in) (one thread_in)
+    kept_is _ _ (one variable_in) (one lock_in) (one thread_in)
     (ap (insert_all bytes_eq []) (one label_in) ∙ fold-append (insert_key bytes_eq) [] (flat_map label_in ps) (label_in p))
     (ap length said ∙ length-append (statements ps) (statement_in p))
-    (read_more (new_body 0) 0 ps p ∙ ap (λ (m : ℕ). line_read (reading ps) m p) zero_first)
+    (read_more (new_tally 0) 0 ps p ∙ ap (λ (m : ℕ). line_tallied (tally ps) m p) zero_first)
 
 -- ---- the faults are the same
 
@@ -131,29 +133,21 @@ unmatched_kept : (o : Option Open) (other : Option WorkFault) → unmatched_or (
 unmatched_kept None other = refl
 unmatched_kept (Some o) other = refl
 
-pub end_kept : (b : Reading) → end_fault (kept b) ≡ end_fault b
+pub end_kept : (b : Tally) → tally_fault (kept b) ≡ tally_fault b
 end_kept b =
     let costly : (t : Bool) → Option WorkFault = λ t. cond t (Some (TooMany b.thread_line)) None in
     ap (λ (o : Option Open). unmatched_or o (costly (ltb MOST_COST (min b.cost most_kept)))) (last_kept b.open_repeats)
     ∙ unmatched_kept (last_open b.open_repeats) (costly (ltb MOST_COST (min b.cost most_kept)))
     ∙ ap (λ (t : Bool). unmatched_or (last_open b.open_repeats) (costly t)) (over MOST_COST b.cost)
 
-depth_kept : (b : Reading) → length (kept b).open_repeats ≡ length b.open_repeats
-depth_kept b = length-map b.open_repeats kept_open
+-- what is known by what is kept is what is known of the lines
+pub known_kept : (k : Kept) → known_by (up_to_most k) ≡ known_by k
+known_kept k = λ i. record { variables = k.variables; locks = k.locks; threads = k.threads; labels = k.labels; statements = k.statements; depth = length-map k.body.open_repeats kept_open i; body_end = end_kept k.body i }
 
-statement_judged : (k : Known) (s : Spoken) (n : ℕ) → statement_fault (kept_known k) s n ≡ statement_fault k s n
-statement_judged k Done n = ap (λ (m : ℕ). cond (eqb m 0) (Some (Unmatched n)) (full_fault k.statements n)) (depth_kept k.body)
-statement_judged k (Repeat times) n = ap (λ (m : ℕ). cond (leb MOST_OPEN_REPEATS m) (Some (TooMany n)) (full_fault k.statements n)) (depth_kept k.body)
-statement_judged k s n = refl
-
-pub line_judged : (k : Known) (p : Phrase) (n : ℕ) → fault_of_line (kept_known k) p n ≡ fault_of_line k p n
-line_judged k BadThread n = ap (λ (f : Option WorkFault). first_of_two f (Some (BadLine n))) (end_kept k.body)
-line_judged k (Thread name) n = ap (λ (f : Option WorkFault). first_of_two f (declared_fault k.threads MOST_THREADS name n)) (end_kept k.body)
-line_judged k (Body s) n = ap (λ (f : Option WorkFault). cond (eqb (length k.threads) 0) (Some (BadLine n)) f) (statement_judged k s n)
-line_judged k p n = refl
-
-pub end_judged : (k : Known) → fault_at_end (kept_known k) ≡ fault_at_end k
-end_judged k = ap (λ (f : Option WorkFault). first_of_two f (cond (eqb (length k.threads) 0) (Some (BadLine 0)) None)) (end_kept k.body)
+pub known_whole : (ps : List Phrase) → known_by (whole ps) ≡ known ps
+known_whole ps =
+    let h = agrees ps in
+    λ i. record { variables = variables ps; locks = locks ps; threads = threads ps; labels = labels ps; statements = length (statements ps); depth = same_depth (tally ps) (reading ps) h i; body_end = same_end (tally ps) (reading ps) h i }
 
 -- ---- where no line has a fault there are few of each kind
 
@@ -187,8 +181,8 @@ full_few count n e =
     omega (arith, lt)
 
 statement_few : (k : Known) (s : Spoken) (n : ℕ) → statement_fault k s n ≡ None → k.statements + 1 ≤ MOST_STATEMENTS
-statement_few k Done n e = full_few k.statements n (behind (eqb (length k.body.open_repeats) 0) (Unmatched n) (full_fault k.statements n) e).1
-statement_few k (Repeat times) n e = full_few k.statements n (behind (leb MOST_OPEN_REPEATS (length k.body.open_repeats)) (TooMany n) (full_fault k.statements n) e).1
+statement_few k Done n e = full_few k.statements n (behind (eqb k.depth 0) (Unmatched n) (full_fault k.statements n) e).1
+statement_few k (Repeat times) n e = full_few k.statements n (behind (leb MOST_OPEN_REPEATS k.depth) (TooMany n) (full_fault k.statements n) e).1
 statement_few k s n e = full_few k.statements n e
 
 one_label : (ls : List Word) (w : Word) → length (insert_key bytes_eq ls w) ≤ length ls + 1
@@ -205,10 +199,10 @@ labels_few ls s = omega arith
 same : (xs : List Word) (most : ℕ) → length xs ≤ most → length (xs ++ []) ≤ most
 same xs most le = subst (λ (ys : List Word). length ys ≤ most) (none xs) le
 
-few_same : (k : Known) (r : Reading) → AreFew k → AreFew (record { variables = k.variables ++ []; locks = k.locks ++ []; threads = k.threads ++ []; labels = k.labels; statements = k.statements + 0; body = r })
-few_same k r few = record { variables = same k.variables _ few.variables; locks = same k.locks _ few.locks; threads = same k.threads _ few.threads; labels = omega (arith, few.labels); statements = omega (arith, few.statements) }
+few_same : (k : Kept) (d : ℕ) (f : Option WorkFault) → AreFew (known_by k) → AreFew (record { variables = k.variables ++ []; locks = k.locks ++ []; threads = k.threads ++ []; labels = k.labels; statements = k.statements + 0; depth = d; body_end = f })
+few_same k d f few = record { variables = same k.variables _ few.variables; locks = same k.locks _ few.locks; threads = same k.threads _ few.threads; labels = omega (arith, few.labels); statements = omega (arith, few.statements) }
 
-pub few_more : (k : Known) (p : Phrase) (n : ℕ) → AreFew k → fault_of_line k p n ≡ None → AreFew (one_more k p n)
+pub few_more : (k : Kept) (p : Phrase) (n : ℕ) → AreFew (known_by k) → fault_of_line (known_by k) p n ≡ None → AreFew (known_by (one_more k p n))
 few_more k (Variable name) n few e =
     let fine = before_test (eqb (length k.threads) 0) (BadLine n) _ e in
     record { variables = declared_few k.variables _ name n fine; locks = same k.locks _ few.locks; threads = same k.threads _ few.threads; labels = omega (arith, few.labels); statements = omega (arith, few.statements) }
@@ -216,14 +210,14 @@ few_more k (Lock name) n few e =
     let fine = before_test (eqb (length k.threads) 0) (BadLine n) _ e in
     record { variables = same k.variables _ few.variables; locks = declared_few k.locks _ name n fine; threads = same k.threads _ few.threads; labels = omega (arith, few.labels); statements = omega (arith, few.statements) }
 few_more k (Thread name) n few e =
-    let fine = second (end_fault k.body) _ e in
+    let fine = second (tally_fault k.body) _ e in
     record { variables = same k.variables _ few.variables; locks = same k.locks _ few.locks; threads = declared_few k.threads _ name n fine; labels = omega (arith, few.labels); statements = omega (arith, few.statements) }
 few_more k (Body s) n few e =
-    let fine = (behind (eqb (length k.threads) 0) (BadLine n) (statement_fault k s n) e).1 in
-    record { variables = same k.variables _ few.variables; locks = same k.locks _ few.locks; threads = same k.threads _ few.threads; labels = omega (arith, few.labels, labels_few k.labels s); statements = statement_few k s n fine }
-few_more k Blank n few e = few_same k k.body few
-few_more k Bad n few e = few_same k k.body few
-few_more k BadThread n few e = few_same k k.body few
+    let fine = (behind (eqb (length k.threads) 0) (BadLine n) (statement_fault (known_by k) s n) e).1 in
+    record { variables = same k.variables _ few.variables; locks = same k.locks _ few.locks; threads = same k.threads _ few.threads; labels = omega (arith, few.labels, labels_few k.labels s); statements = statement_few (known_by k) s n fine }
+few_more k Blank n few e = few_same k (length k.body.open_repeats) (tally_fault k.body) few
+few_more k Bad n few e = few_same k (length k.body.open_repeats) (tally_fault k.body) few
+few_more k BadThread n few e = few_same k (length k.body.open_repeats) (tally_fault k.body) few
 
 -- ---- the loop over the lines
 
@@ -243,8 +237,16 @@ judged_first f g (TooMany n) h = some_first f g (TooMany n) h
 judged_first f g Memory h = h
 
 module _ (text : List ℕ) where
-  pub begun : (o : Outline) → known_of o ≡ known [] → IsReadUpTo text (Some text) o 0
-  begun o e = record { before = []; is_known = e; number = refl; few = record { variables = lit≤ tt; locks = lit≤ tt; threads = lit≤ tt; labels = lit≤ tt; statements = lit≤ tt }; all = refl; fault = refl }
+  pub begun : (o : Outline) → kept_of o ≡ whole [] → IsReadUpTo text (Some text) o 0
+  begun o e = record { before = []; is_kept = e; number = refl; few = record { variables = lit≤ tt; locks = lit≤ tt; threads = lit≤ tt; labels = lit≤ tt; statements = lit≤ tt }; all = refl; fault = refl }
+
+  -- what is known when so much was read
+  known_then : (rest : Option (List ℕ)) (o : Outline) (n : ℕ) (r : IsReadUpTo text rest o n) → known_of o ≡ known_by (whole r.before)
+  known_then rest o n r = ap known_by r.is_kept ∙ known_kept (whole r.before)
+
+  here_judged : (p : Phrase) (rest : Option (List ℕ)) (o : Outline) (n : ℕ) (r : IsReadUpTo text rest o n) → fault_of_line (known_of o) p (n + 1) ≡ fault_of_line (known r.before) p (length r.before + 1)
+  here_judged p rest o n r =
+      ap (λ (k : Known). fault_of_line k p (n + 1)) (known_then rest o n r ∙ known_whole r.before) ∙ ap (λ (m : ℕ). fault_of_line (known r.before) p (m + 1)) r.number
 
   -- the fault of the text is that of the next line, if it has one, or else that of the lines behind it
   left_judged : (bytes line : List ℕ) (more : Option (List ℕ)) (o : Outline) (n : ℕ) (r : IsReadUpTo text (Some bytes) o n) → lines bytes ≡ line ∷ lines_left more
@@ -252,14 +254,7 @@ module _ (text : List ℕ) where
   left_judged bytes line more o n r e =
       let p = phrase_of line in
       let later = fault_from (r.before ++ p ∷ []) (phrases_left more) in
-      let here : fault_of_line (known_of o) p (n + 1) ≡ fault_of_line (known r.before) p (length r.before + 1) =
-      ap (λ (k : Known). fault_of_line k p (n + 1)) r.is_known ∙ line_judged (known r.before) p (n + 1) ∙ ap (λ (m : ℕ). fault_of_line (known r.before) p (m + 1)) r.number in
-      ap (λ (f : Option WorkFault). first_of_two f later) here ∙ ap (λ (ls : List (List ℕ)). fault_from r.before (map phrase_of ls)) (sym e) ∙ r.fault
-
-  -- the same of the next line alone, by what is known
-  here_judged : (p : Phrase) (bytes : List ℕ) (o : Outline) (n : ℕ) (r : IsReadUpTo text (Some bytes) o n) → fault_of_line (known_of o) p (n + 1) ≡ fault_of_line (known r.before) p (length r.before + 1)
-  here_judged p bytes o n r =
-      ap (λ (k : Known). fault_of_line k p (n + 1)) r.is_known ∙ line_judged (known r.before) p (n + 1) ∙ ap (λ (m : ℕ). fault_of_line (known r.before) p (m + 1)) r.number
+      ap (λ (f : Option WorkFault). first_of_two f later) (here_judged p (Some bytes) o n r) ∙ ap (λ (ls : List (List ℕ)). fault_from r.before (map phrase_of ls)) (sym e) ∙ r.fault
 
   pub line_wrong : (bytes line : List ℕ) (more : Option (List ℕ)) (o : Outline) (n : ℕ) (f : WorkFault) → IsReadUpTo text (Some bytes) o n → lines bytes ≡ line ∷ lines_left more
       → Judges (fault_of_line (known_of o) (phrase_of line) (n + 1)) (wrong f) → Judges (first_fault (phrases text)) (wrong f)
@@ -268,27 +263,31 @@ module _ (text : List ℕ) where
       (judged_first (fault_of_line (known_of o) (phrase_of line) (n + 1)) (fault_from (r.before ++ phrase_of line ∷ []) (phrases_left more)) f h)
 
   pub line_right : (bytes line : List ℕ) (more : Option (List ℕ)) (o new : Outline) (n : ℕ) → IsReadUpTo text (Some bytes) o n → lines bytes ≡ line ∷ lines_left more
-      → fault_of_line (known_of o) (phrase_of line) (n + 1) ≡ None → known_of new ≡ with_line (known_of o) (phrase_of line) (n + 1) → IsReadUpTo text more new (n + 1)
+      → fault_of_line (known_of o) (phrase_of line) (n + 1) ≡ None → kept_of new ≡ with_line (kept_of o) (phrase_of line) (n + 1) → IsReadUpTo text more new (n + 1)
   line_right bytes line more o new n r e fine is =
       let p = phrase_of line in
+      let fine_there : fault_of_line (known_by (whole r.before)) p (n + 1) ≡ None = ap (λ (k : Known). fault_of_line k p (n + 1)) (sym (known_then (Some bytes) o n r)) ∙ fine in
+      let few_here : AreFew (known_by (one_more (whole r.before) p (length r.before + 1))) =
+      subst (λ (m : ℕ). AreFew (known_by (one_more (whole r.before) p (m + 1)))) r.number (few_more (whole r.before) p (n + 1) r.few fine_there) in
       record {
         before = r.before ++ p ∷ [];
-        is_known = is ∙ ap (λ (k : Known). with_line k p (n + 1)) r.is_known ∙ kept_step (known r.before) p (n + 1) ∙ ap (λ (m : ℕ). kept_known (one_more (known r.before) p (m + 1))) r.number ∙ ap kept_known (sym (known_more r.before p));
-        few = subst AreFew (sym (known_more r.before p)) (few_more (known r.before) p (length r.before + 1) r.few (sym (here_judged p bytes o n r) ∙ fine));
+        is_kept = is ∙ ap (λ (k : Kept). with_line k p (n + 1)) r.is_kept ∙ kept_step (whole r.before) p (n + 1) ∙ ap (λ (m : ℕ). up_to_most (one_more (whole r.before) p (m + 1))) r.number ∙ ap up_to_most (sym (whole_more r.before p));
+        few = subst (λ (k : Kept). AreFew (known_by k)) (sym (whole_more r.before p)) few_here;
         number = ap (λ (m : ℕ). m + 1) r.number ∙ sym (length-append r.before (p ∷ []));
         all = append_assoc r.before (p ∷ []) (phrases_left more) ∙ ap (λ (ls : List (List ℕ)). r.before ++ map phrase_of ls) (sym e) ∙ r.all;
         fault = sym (none_first _ (fault_from (r.before ++ p ∷ []) (phrases_left more)) fine) ∙ left_judged bytes line more o n r e;
       }
 
-  -- at the end of the text
-  pub all_known : (o : Outline) (n : ℕ) → IsReadUpTo text None o n → known_of o ≡ kept_known (known (phrases text))
-  all_known o n r = r.is_known ∙ ap (λ (ps : List Phrase). kept_known (known ps)) (sym (append-nil r.before) ∙ r.all)
+  -- ---- at the end of the text
+
+  pub all_names : (o : Outline) (n : ℕ) → IsReadUpTo text None o n → names_in (known_of o) ≡ names_in (known (phrases text))
+  all_names o n r = ap names_in (known_then None o n r ∙ known_whole r.before) ∙ ap (λ (ps : List Phrase). names_in (known ps)) (sym (append-nil r.before) ∙ r.all)
 
   pub end_is : (o : Outline) (n : ℕ) → IsReadUpTo text None o n → fault_at_end (known_of o) ≡ first_fault (phrases text)
-  end_is o n r = ap fault_at_end r.is_known ∙ end_judged (known r.before) ∙ r.fault
+  end_is o n r = ap fault_at_end (known_then None o n r ∙ known_whole r.before) ∙ r.fault
 
-  pub all_few : (o : Outline) (n : ℕ) → IsReadUpTo text None o n → AreFew (known (phrases text))
-  all_few o n r = subst (λ (ps : List Phrase). AreFew (known ps)) (sym (append-nil r.before) ∙ r.all) r.few
+  pub all_few : (o : Outline) (n : ℕ) → IsReadUpTo text None o n → AreFew (known_of o)
+  all_few o n r = subst AreFew (sym (known_then None o n r)) r.few
 
 pub on_ok : {X E P : Type 0} → P → (r : Result X E) → OnOk r P
 on_ok p (Ok x) = p

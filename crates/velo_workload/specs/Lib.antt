@@ -2,7 +2,8 @@ pub mod Words
 pub mod Phrase
 pub mod Names
 pub mod Outline
-pub mod Nesting
+pub mod Tally
 pub mod Known
 pub mod Program
 pub mod Building
+pub mod Bodies

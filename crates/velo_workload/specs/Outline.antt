@@ -1,5 +1,5 @@
 -- What is known of the lines before one, and the first fault of a text, but for undeclared names.
-use Rattle.std.specs.Prelude.{ℕ, ◌≡◌, ◌≤◌, ◌+◌, ◌-◌, ◌*◌, ◌==◌, Bool, nat_lt, nat_le, min, List, [], ◌∷◌, ◌++◌, length, take, map, slice_get, Option, Some, None, Result, Ok, Err, if◌then◌else◌}
+use Rattle.std.specs.Prelude.{ℕ, ◌≡◌, ◌≤◌, ◌+◌, ◌-◌, ◌*◌, ◌==◌, Bool, nat_lt, nat_le, List, [], ◌∷◌, ◌++◌, length, take, slice_get, Option, Some, None, Result, Ok, Err, if◌then◌else◌}
 use Rattle.std.specs.List.{flat_map, list_any}
 use Rattle.std.specs.Option.{option_map_or}
 use Rattle.std.specs.Str.{bytes_eq}
@@ -9,7 +9,6 @@ use Rattle.velo_events.specs.declared.limits.TheConstants.{MOST_THREADS, MOST_LO
 use Rattle.velo_workload.specs.declared.limits.TheConstants.{MOST_VARIABLES, MOST_OPEN_REPEATS, MOST_STATEMENTS, MOST_COST}
 use Rattle.velo_workload.specs.declared.fault.WorkFault.{WorkFault}
 use Rattle.velo_workload.specs.declared.fault.WorkFault.TheVariants.{BadLine, Twice, Unmatched, TooMany, Memory}
-use Rattle.velo_workload.specs.declared.nesting.Open.{Open}
 use Rattle.velo_workload.specs.Words.{Word}
 use Rattle.velo_workload.specs.Phrase.{Spoken, Repeat, Done, Begin, Phrase, Blank, Bad, BadThread, Variable, Lock, Thread, Body}
 
@@ -55,32 +54,52 @@ statements ps = flat_map statement_in ps
 abbrev pub labels : List Phrase → List Word
 labels ps = insert_all bytes_eq [] (flat_map label_in ps)
 
--- ---- the body that the lines are in
+-- ---- what a body costs
 
--- Its thread's line; its open repeats, outermost first, each with its line and how often it is done itself; how often the
--- next statement is done; and the cost so far. A repeat costs 1 each time that it is done, and 1 for each round.
+-- from a repeat on, where these are the costs behind it, as below
+abbrev pub repeated : ℕ → List ℕ → List ℕ
+repeated times [] = (1 + times) ∷ []
+repeated times (body ∷ []) = (1 + times * (1 + body)) ∷ []
+repeated times (body ∷ behind ∷ others) = (1 + times * (1 + body) + behind) ∷ others
+
+abbrev pub one_statement : List ℕ → List ℕ
+one_statement [] = 1 ∷ []
+one_statement (cost ∷ others) = (1 + cost) ∷ others
+
+-- The cost of the statements up to the first `done` whose `repeat` is not among them, of those from there up to the next
+-- such one, and so on. A statement costs 1; a repeat costs 1, and as many times as it is done 1 and its body.
+abbrev pub costs : List Spoken → List ℕ
+costs [] = 0 ∷ []
+costs (Repeat times ∷ ss) = repeated times (costs ss)
+costs (Done ∷ ss) = 0 ∷ costs ss
+costs (s ∷ ss) = one_statement (costs ss)
+
+abbrev pub total : List ℕ → ℕ
+total [] = 0
+total (cost ∷ others) = cost + total others
+
+-- where each `done` has its `repeat` there is one cost
+abbrev pub cost_of : List Spoken → ℕ
+cost_of ss = total (costs ss)
+
+-- ---- the body that the lines are in: its thread's line, the lines of its open repeats, outermost first, and its statements
+
 pub record Reading : Type 0 where
   pub thread_line : ℕ
-  pub open_repeats : List Open
-  pub rounds : ℕ
-  pub cost : ℕ
+  pub open_repeats : List ℕ
+  pub said : List Spoken
 
 abbrev pub new_body : ℕ → Reading
-new_body n = record { thread_line = n; open_repeats = []; rounds = 1; cost = 0 }
+new_body n = record { thread_line = n; open_repeats = []; said = [] }
 
-abbrev pub last_open : List Open → Option Open
-last_open repeats = slice_get repeats (length repeats - 1)
-
-abbrev pub statement_read : Reading → ℕ → Spoken → Reading
-statement_read b n (Repeat times) =
-    record b { open_repeats = b.open_repeats ++ record { line = n; outside = b.rounds } ∷ []; rounds = b.rounds * times; cost = b.cost + (b.rounds + b.rounds * times) }
-statement_read b n Done =
-    record b { open_repeats = take (length b.open_repeats - 1) b.open_repeats; rounds = option_map_or (λ o. o.outside) (last_open b.open_repeats) 1 }
-statement_read b n s = record b { cost = b.cost + b.rounds }
+abbrev pub opened : List ℕ → ℕ → Spoken → List ℕ
+opened repeats n (Repeat times) = repeats ++ n ∷ []
+opened repeats n Done = take (length repeats - 1) repeats
+opened repeats n s = repeats
 
 abbrev pub line_read : Reading → ℕ → Phrase → Reading
 line_read b n (Thread name) = new_body n
-line_read b n (Body s) = statement_read b n s
+line_read b n (Body s) = record { thread_line = b.thread_line; open_repeats = opened b.open_repeats n s; said = b.said ++ s ∷ [] }
 line_read b n p = b
 
 -- after so many lines and these
@@ -91,6 +110,10 @@ read_from b n (p ∷ ps) = read_from (line_read b (n + 1) p) (n + 1) ps
 abbrev pub reading : List Phrase → Reading
 reading ps = read_from (new_body 0) 0 ps
 
+-- a body ends here
+abbrev pub end_fault : Reading → Option WorkFault
+end_fault b = option_map_or (λ n. Some (Unmatched n)) (slice_get b.open_repeats (length b.open_repeats - 1)) (if nat_lt MOST_COST (cost_of b.said) then Some (TooMany b.thread_line) else None)
+
 -- ---- faults of a line, by what is known of the lines before it
 
 pub record Known : Type 0 where
@@ -99,10 +122,13 @@ pub record Known : Type 0 where
   pub threads : List Word
   pub labels : List Word
   pub statements : ℕ
-  pub body : Reading
+  -- how many repeats are open
+  pub depth : ℕ
+  -- the fault of the body, if it ends here
+  pub body_end : Option WorkFault
 
 abbrev pub known : List Phrase → Known
-known ps = record { variables = variables ps; locks = locks ps; threads = threads ps; labels = labels ps; statements = length (statements ps); body = reading ps }
+known ps = record { variables = variables ps; locks = locks ps; threads = threads ps; labels = labels ps; statements = length (statements ps); depth = length (reading ps).open_repeats; body_end = end_fault (reading ps) }
 
 -- the names that a text declares, and its labels
 pub record Names : Type 0 where
@@ -119,10 +145,6 @@ abbrev pub first_of_two : Option WorkFault → Option WorkFault → Option WorkF
 first_of_two (Some f) other = Some f
 first_of_two None other = other
 
--- a body ends here
-abbrev pub end_fault : Reading → Option WorkFault
-end_fault b = option_map_or (λ o. Some (Unmatched o.line)) (last_open b.open_repeats) (if nat_lt MOST_COST b.cost then Some (TooMany b.thread_line) else None)
-
 abbrev pub is_among : List Word → Word → Bool
 is_among names name = list_any (bytes_eq name) names
 
@@ -136,22 +158,22 @@ abbrev pub full_fault : ℕ → ℕ → Option WorkFault
 full_fault count n = if nat_le MOST_STATEMENTS count then Some (TooMany n) else None
 
 abbrev pub statement_fault : Known → Spoken → ℕ → Option WorkFault
-statement_fault k Done n = if length k.body.open_repeats == 0 then Some (Unmatched n) else full_fault k.statements n
-statement_fault k (Repeat times) n = if nat_le MOST_OPEN_REPEATS (length k.body.open_repeats) then Some (TooMany n) else full_fault k.statements n
+statement_fault k Done n = if k.depth == 0 then Some (Unmatched n) else full_fault k.statements n
+statement_fault k (Repeat times) n = if nat_le MOST_OPEN_REPEATS (k.depth) then Some (TooMany n) else full_fault k.statements n
 statement_fault k s n = full_fault k.statements n
 
 abbrev pub fault_of_line : Known → Phrase → ℕ → Option WorkFault
 fault_of_line k Blank n = None
 fault_of_line k Bad n = Some (BadLine n)
-fault_of_line k BadThread n = first_of_two (end_fault k.body) (Some (BadLine n))
+fault_of_line k BadThread n = first_of_two k.body_end (Some (BadLine n))
 fault_of_line k (Variable name) n = if length k.threads == 0 then declared_fault k.variables MOST_VARIABLES name n else Some (BadLine n)
 fault_of_line k (Lock name) n = if length k.threads == 0 then declared_fault k.locks MOST_LOCKS name n else Some (BadLine n)
-fault_of_line k (Thread name) n = first_of_two (end_fault k.body) (declared_fault k.threads MOST_THREADS name n)
+fault_of_line k (Thread name) n = first_of_two k.body_end (declared_fault k.threads MOST_THREADS name n)
 fault_of_line k (Body s) n = if length k.threads == 0 then Some (BadLine n) else statement_fault k s n
 
 -- the text ends here
 abbrev pub fault_at_end : Known → Option WorkFault
-fault_at_end k = first_of_two (end_fault k.body) (if length k.threads == 0 then Some (BadLine 0) else None)
+fault_at_end k = first_of_two k.body_end (if length k.threads == 0 then Some (BadLine 0) else None)
 
 -- the first fault in the lines of rest, which come after those of before
 abbrev pub fault_from : List Phrase → List Phrase → Option WorkFault
@@ -169,17 +191,6 @@ abbrev pub Judges : {X : Type 0} → Option WorkFault → Result X WorkFault →
 Judges fault (Ok x) = fault ≡ None
 Judges fault (Err Memory) = GrowthRefused
 Judges fault (Err f) = fault ≡ Some f
-
--- ---- what a reader keeps: its rounds and costs grow no further than one above the most that a body may cost
-
-abbrev pub most_kept : ℕ
-most_kept = MOST_COST + 1
-
-abbrev pub kept_open : Open → Open
-kept_open o = record { line = o.line; outside = min o.outside most_kept }
-
-abbrev pub kept : Reading → Reading
-kept b = record { thread_line = b.thread_line; open_repeats = map kept_open b.open_repeats; rounds = min b.rounds most_kept; cost = min b.cost most_kept }
 
 -- ---- how many there are where no line has a fault
 

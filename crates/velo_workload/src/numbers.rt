@@ -1,5 +1,5 @@
 //! Numbers.
-ghost use Rattle.std.specs.Prelude.{◌≡◌, ◌≤◌};
+ghost use Rattle.std.specs.Prelude.{◌≡◌, ◌≤◌, ℕ, Some, IfSome, decimal};
 ghost use Rattle.velo_workload.specs.Words.{digits_on, number_of};
 
 /// The number that these digits make of a number before them, up to `most`.
@@ -22,8 +22,8 @@ fn digits(start: u64, bytes: &[u8], most: u64) -> Option<u64>
     Some(value)
 }
 
-/// The number up to `most` that the word is, without leading zeros.
-pub fn number(word: &[u8], most: u64) -> Option<u64>
+/// The number up to `most` that the word's digits make, if it is one without leading zeros.
+fn digits_number(word: &[u8], most: u64) -> Option<u64>
     requires { 9 ≤ most }
     ensures { result ≡ number_of most word.now }
 {
@@ -32,4 +32,14 @@ pub fn number(word: &[u8], most: u64) -> Option<u64>
         return None;
     }
     digits(u64::from(*first - b'0'), rest, most)
+}
+
+/// The number up to `most` whose text the word is.
+pub fn number(word: &[u8], most: u64) -> Option<u64>
+    requires { 9 ≤ most }
+    ensures value { result ≡ number_of most word.now }
+    ensures text { IfSome result (λ n. word.now ≡ decimal n) }
+    ensures each { (n : ℕ) → n ≤ most → word.now ≡ decimal n → result ≡ Some n }
+{
+    digits_number(word, most)
 }

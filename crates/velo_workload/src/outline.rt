@@ -1,9 +1,9 @@
 //! The first pass over a text: what it declares, and its faults but for undeclared names.
 ghost use Rattle.std.specs.Prelude.{◌≡◌, ◌<◌, [], OnOk, OnErr};
 ghost use Rattle.velo_workload.specs.Phrase.{said, spoken, phrases, Body, Thread};
-ghost use Rattle.velo_workload.specs.Outline.{AreFew, Judges, known, first_fault, fault_of_line, statement_fault, full_fault, fault_at_end};
+ghost use Rattle.velo_workload.specs.Outline.{AreFew, names_in, Judges, known, first_fault, fault_of_line, statement_fault, full_fault, fault_at_end};
 ghost use Rattle.velo_events.specs.Refusals.{GrowthRefused};
-ghost use Rattle.velo_workload.specs.Known.{known_of, kept_known, with_line};
+ghost use Rattle.velo_workload.specs.Known.{known_of, kept_of, whole, with_line};
 
 use crate::fault::WorkFault;
 use crate::growth::insert;
@@ -30,7 +30,7 @@ pub struct Outline<'a> {
 impl<'a> Outline<'a> {
     /// Before the first line.
     pub fn new(alloc: Global) -> Outline<'a>
-        ensures { known_of result ≡ known [] }
+        ensures { kept_of result ≡ whole [] }
     {
         Outline {
             variables: IndexSet::new(alloc),
@@ -59,7 +59,7 @@ impl<'a> Outline<'a> {
     /// Takes in a statement that has no fault.
     fn put_statement(&mut self, statement: Spoken<'a>, line: usize) -> Result<(), Memory>
         requires { self.old.statements < MOST_STATEMENTS }
-        ensures known { OnOk result (known_of self.new ≡ with_line (known_of self.old) (Body (spoken statement.entry)) line) }
+        ensures kept { OnOk result (kept_of self.new ≡ with_line (kept_of self.old) (Body (spoken statement.entry)) line) }
         ensures memory { OnErr result GrowthRefused }
     {
         match statement {
@@ -78,7 +78,7 @@ impl<'a> Outline<'a> {
     /// Takes in a statement of a body.
     fn take_statement(&mut self, statement: Spoken<'a>, line: usize) -> Result<(), WorkFault>
         ensures judged { Judges (fault_of_line (known_of self.old) (Body (spoken statement.entry)) line) result }
-        ensures known { OnOk result (known_of self.new ≡ with_line (known_of self.old) (Body (spoken statement.entry)) line) }
+        ensures kept { OnOk result (kept_of self.new ≡ with_line (kept_of self.old) (Body (spoken statement.entry)) line) }
     {
         if count(&self.threads) == 0 {
             return Err(WorkFault::BadLine(line));
@@ -95,7 +95,7 @@ impl<'a> Outline<'a> {
     /// Takes in a thread's line.
     fn take_thread(&mut self, name: &'a str, line: usize) -> Result<(), WorkFault>
         ensures judged { Judges (fault_of_line (known_of self.old) (Thread name.now) line) result }
-        ensures known { OnOk result (known_of self.new ≡ with_line (known_of self.old) (Thread name.now) line) }
+        ensures kept { OnOk result (kept_of self.new ≡ with_line (kept_of self.old) (Thread name.now) line) }
     {
         match self.body.end() {
             Err(fault) => Err(fault),
@@ -112,7 +112,7 @@ impl<'a> Outline<'a> {
     /// Takes in a line of this number.
     fn take(&mut self, phrase: Phrase<'a>, line: usize) -> Result<(), WorkFault>
         ensures judged { Judges (fault_of_line (known_of self.old) (said phrase.entry) line) result }
-        ensures known { OnOk result (known_of self.new ≡ with_line (known_of self.old) (said phrase.entry) line) }
+        ensures kept { OnOk result (kept_of self.new ≡ with_line (kept_of self.old) (said phrase.entry) line) }
     {
         match phrase {
             Phrase::Blank => Ok(()),
@@ -155,10 +155,10 @@ impl<'a> Outline<'a> {
 
     /// Reads a text's lines, before any other.
     pub fn read(&mut self, text: &'a [u8]) -> Result<(), WorkFault>
-        requires { known_of self.old ≡ known [] }
+        requires { kept_of self.old ≡ whole [] }
         ensures judged { Judges (first_fault (phrases text.now)) result }
-        ensures known { OnOk result (known_of self.new ≡ kept_known (known (phrases text.now))) }
-        ensures few { OnOk result (AreFew (known (phrases text.now))) }
+        ensures names { OnOk result (names_in (known_of self.new) ≡ names_in (known (phrases text.now))) }
+        ensures few { OnOk result (AreFew (known_of self.new)) }
     {
         let mut rest = Some(text);
         let mut number = 0;

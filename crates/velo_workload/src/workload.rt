@@ -4,9 +4,10 @@ ghost use Rattle.std.specs.String.{string_bytes};
 ghost use Rattle.std.specs.Str.{IsUtf8};
 ghost use Rattle.velo_events.specs.Refusals.{GrowthRefused};
 ghost use Rattle.velo_workload.specs.Names.{names_of};
+ghost use Rattle.velo_workload.specs.Bodies.{AreBodies};
 ghost use Rattle.velo_workload.specs.Phrase.{phrases};
-ghost use Rattle.velo_workload.specs.Outline.{AreFew, Judges, known, names_in};
-ghost use Rattle.velo_workload.specs.Known.{known_of};
+ghost use Rattle.velo_workload.specs.Outline.{AreFew, Judges, names_in};
+ghost use Rattle.velo_workload.specs.Known.{known_of, kept_of, whole};
 ghost use Rattle.velo_workload.specs.Program.{Program, bodies, first_unknown, meaning_of, Answers};
 ghost use Rattle.velo_workload.specs.declared.limits.TheConstants.{MOST_WORKLOAD_BYTES};
 
@@ -35,13 +36,14 @@ pub struct Workload {
 impl Model for Workload {
     ghost use Rattle.std.specs.Prelude.{◌≡◌, map, length};
     ghost use Rattle.std.specs.String.{string_bytes};
+    ghost use Rattle.velo_workload.specs.Bodies.{AreBodies};
     ghost use Rattle.velo_workload.specs.Program.{Program};
 
     ghost Value = { Program };
 
     ghost view = { λ w. record { bounds = w.bounds; thread_names = map string_bytes w.threads.items; label_names = map string_bytes w.labels.items; bodies = map (λ body. body.items) w.bodies.items } };
 
-    ghost invariant = { λ w. length w.bodies.items ≡ w.bounds.threads };
+    ghost invariant = { λ w. (length w.bodies.items ≡ w.bounds.threads) × AreBodies (map (λ body. body.items) w.bodies.items) };
 }
 
 impl Workload {
@@ -70,7 +72,8 @@ impl Workload {
     /// The body of one of its threads, in the order of the text.
     pub fn body(&self, thread: ThreadId) -> &[Statement]
         requires { thread.0 < self.now.bounds.threads }
-        ensures { slice_get self.now.bodies thread.0 ≡ Some result.now }
+        ensures here { slice_get self.now.bodies thread.0 ≡ Some result.now }
+        ensures nested { AreBodies self.now.bodies }
     {
         self.bodies[usize::from(thread.0)].as_slice()
     }
@@ -98,6 +101,7 @@ fn assemble(
 ) -> Result<Workload, Memory>
     requires few { AreFew (known_of outline.now) }
     requires each { length bodies.items ≡ length (known_of outline.now).threads }
+    requires nested { AreBodies (map (λ body. body.items) bodies.items) }
     ensures workload { IfOk result (λ w. w ≡ record { bounds = record { threads = length (known_of outline.now).threads; variables = length (known_of outline.now).variables; locks = length (known_of outline.now).locks }; thread_names = (known_of outline.now).threads; label_names = (known_of outline.now).labels; bodies = map (λ body. body.items) bodies.items }) }
     ensures memory { OnErr result GrowthRefused }
 {
@@ -143,7 +147,7 @@ fn parse_into<'a>(
     outline: &mut Outline<'a>,
     text: &'a [u8],
 ) -> Result<Workload, WorkFault>
-    requires { known_of outline.old ≡ known [] }
+    requires { kept_of outline.old ≡ whole [] }
     ensures { Answers (meaning_of text.now) result }
 {
     match outline.read(text) {

@@ -2,8 +2,8 @@ use Rattle.std.proofs.Common.{◌≡◌, ◌+◌, ◌∙◌, Some, None, Err, ap
 use Rattle.std.specs.Prelude.{option_copied}
 use Rattle.velo_workload.specs.Phrase.{phrase_of, Phrase}
 use Rattle.velo_workload.specs.Outline.{Judges, fault_of_line}
-use Rattle.velo_workload.specs.Known.{IsReadUpTo, known_of, with_line}
-use Rattle.velo_workload.proofs.OnReading.{line_wrong, line_right, all_few, end_is, on_ok, wrong}
+use Rattle.velo_workload.specs.Known.{IsReadUpTo, known_of, kept_of, with_line}
+use Rattle.velo_workload.proofs.OnReading.{line_wrong, line_right, all_names, all_few, end_is, on_ok, wrong}
 use Rattle.velo_workload.proofs.outline.Outline.read.Goals as goal
 
 pub returns-in-Err-clause-judged : goal.returns-in-Err-clause-judged
@@ -22,9 +22,9 @@ loop-rest-preserved c =
     let n = c.loop-rest.number in
     let read = subst (λ r. IsReadUpTo text (option_copied r) o n) c.in-Some.is c.loop-rest.invariant.read in
     let fine = ap (λ p. fault_of_line (known_of o) p (n + 1)) (sym c.read_phrase.ensures) ∙ c.in-Ok.ensures.judged in
-    let known = c.in-Ok.ensures.known ∙ ap (λ p. with_line (known_of o) p (n + 1)) c.read_phrase.ensures in
+    let kept = c.in-Ok.ensures.kept ∙ ap (λ p. with_line (kept_of o) p (n + 1)) c.read_phrase.ensures in
     record {
-      read = line_right text c.in-Some.bytes.now c.next_line.result.0.now (option_copied c.next_line.result.1) o c.take.new.self n read c.next_line.ensures.lines fine known;
+      read = line_right text c.in-Some.bytes.now c.next_line.result.0.now (option_copied c.next_line.result.1) o c.take.new.self n read c.next_line.ensures.lines fine kept;
       numbered = search rules;
     }
 
@@ -37,3 +37,8 @@ pub returns-clause-few : goal.returns-clause-few
 returns-clause-few c =
     let read = subst (λ r. IsReadUpTo c.args.text.now (option_copied r) c.loop-rest.self c.loop-rest.number) c.in_default.is c.loop-rest.invariant.read in
     on_ok (all_few c.args.text.now c.loop-rest.self c.loop-rest.number read) c.end.result
+
+pub returns-clause-names : goal.returns-clause-names
+returns-clause-names c =
+    let read = subst (λ r. IsReadUpTo c.args.text.now (option_copied r) c.loop-rest.self c.loop-rest.number) c.in_default.is c.loop-rest.invariant.read in
+    on_ok (all_names c.args.text.now c.loop-rest.self c.loop-rest.number read) c.end.result

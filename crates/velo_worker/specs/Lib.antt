@@ -1,0 +1,6 @@
+pub mod Walk
+pub mod Place
+pub mod Inside
+pub mod Progress
+pub mod Schedule
+pub mod Course

@@ -1,0 +1,38 @@
+-- What the statements of a body come to, one after another, with its repeats written out.
+use Rattle.std.specs.Prelude.{ℕ, zero, suc, List, [], ◌∷◌, ◌++◌}
+use Rattle.velo_workload.specs.declared.statement.Statement.{Statement}
+use Rattle.velo_workload.specs.declared.statement.Statement.TheVariants.{Repeat, Done}
+
+-- the statements so many times
+unfoldable pub times : ℕ → List Statement → List Statement
+times zero statements = []
+times (suc n) statements = statements ++ times n statements
+
+-- of some lists, the first and the others
+abbrev pub first : List (List Statement) → List Statement
+first [] = []
+first (level ∷ levels) = level
+
+abbrev pub others : List (List Statement) → List (List Statement)
+others [] = []
+others (level ∷ levels) = levels
+
+-- a statement before the first
+abbrev pub with_statement : Statement → List (List Statement) → List (List Statement)
+with_statement statement levels = (statement ∷ first levels) ∷ others levels
+
+-- a repeat of the first before the second
+abbrev pub with_repeat : ℕ → List (List Statement) → List (List Statement)
+with_repeat n levels = (Repeat n ∷ times n (first levels ++ Done ∷ []) ++ first (others levels)) ∷ others (others levels)
+
+-- What is to be done up to the end of the repeat that is open before the statements; then, behind that end, up to the end of the
+-- repeat around it; and so on. Each repeat stands there as its own statement and then, so many times, what is repeated and its `Done`
+unfoldable pub levels : List Statement → List (List Statement)
+levels [] = []
+levels (Repeat n ∷ rest) = with_repeat n (levels rest)
+levels (Done ∷ rest) = [] ∷ levels rest
+levels (statement ∷ rest) = with_statement statement (levels rest)
+
+-- all that a body comes to
+unfoldable pub walk_of : List Statement → List Statement
+walk_of body = first (levels body)

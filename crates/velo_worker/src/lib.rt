@@ -1,0 +1,12 @@
+//! Workloads that run.
+#![tactic(auto)]
+
+mod course;
+mod ending;
+mod place;
+mod progress;
+mod replaying;
+mod walk;
+
+pub use ending::Ending;
+pub use replaying::replay;

@@ -1,0 +1,96 @@
+//! Replaying a workload by a schedule.
+ghost use Rattle.std.specs.Prelude.{◌≡◌, map, IfOk, OnErr, length};
+ghost use Rattle.velo_events.specs.Refusals.{GrowthRefused};
+ghost use Rattle.velo_world.specs.World.{HoldsLiveShares, CompletesShares, opening};
+ghost use Rattle.velo_worker.specs.Progress.{start_of};
+ghost use Rattle.velo_worker.specs.Schedule.{Replays, RunsTo, start};
+
+use crate::course::Course;
+use crate::ending::Ending;
+use crate::progress::Progress;
+use std::alloc::Global;
+use velo_events::growth::reserve;
+use velo_events::{Config, Memory, ThreadId};
+use velo_ledger::Shares;
+use velo_workload::Workload;
+use velo_world::{Closed, World};
+
+/// Lets the threads of a workload act in turn: first in the order of the schedule, then in rounds of all threads. It
+/// answers the world after its end, and how the run ended.
+///
+/// In its turn a thread does its statements without events up to its next event, and tries that. It passes where it has
+/// exited, was not forked yet or is no thread of the workload, and where it has to wait for a lock or for the end of
+/// another thread. The run is done once no thread is left that could try anything, and stuck after a round without an
+/// event.
+///
+/// # Errors
+/// `Memory` where a growth was refused before the first turn. One that is refused later ends the run as `Refused`.
+pub fn replay(
+    alloc: Global,
+    workload: &Workload,
+    schedule: &[ThreadId],
+    config: Config,
+) -> Result<(Closed, Ending), Memory>
+    requires { config.bounds ≡ workload.now.bounds }
+    ensures replays { IfOk result (λ run. Replays workload.now schedule.now config run.1 run.0) }
+    ensures memory { OnErr result GrowthRefused }
+{
+    let mut course = open(alloc, workload, config)?;
+    let ending = run(&mut course, schedule);
+    Ok((course.close(), ending))
+}
+
+/// The turns of the schedule, and then rounds up to the end.
+fn run(course: &mut Course<'_>, schedule: &[ThreadId]) -> Ending
+    ensures { RunsTo course.old schedule.now result course.new }
+{
+    match course.follow(schedule) {
+        Some(ending) => ending,
+        None => course.rounds(),
+    }
+}
+
+/// A run of which nothing is done.
+fn open<'a>(alloc: Global, workload: &'a Workload, config: Config) -> Result<Course<'a>, Memory>
+    requires { config.bounds ≡ workload.now.bounds }
+    ensures start { IfOk result (λ course. course ≡ start workload.now config) }
+    ensures memory { OnErr result GrowthRefused }
+{
+    let threads = threads_of(alloc, workload)?;
+    let (world, shares) = open_world(alloc, config)?;
+    Ok(Course {
+        world,
+        shares,
+        threads,
+    })
+}
+
+/// A world without events, and a place for each thread's share.
+fn open_world(alloc: Global, config: Config) -> Result<(World, Shares), Memory>
+    ensures world { IfOk result (λ opened. opened.0 ≡ opening config) }
+    ensures ready { IfOk result (λ opened. HoldsLiveShares opened.0 opened.1) }
+    ensures complete { IfOk result (λ opened. CompletesShares opened.0 opened.1) }
+    ensures memory { OnErr result GrowthRefused }
+{
+    let mut shares = Shares::none(alloc, config.bounds.threads)?;
+    let (world, share) = World::new(alloc, config)?;
+    if shares.put(share).is_err() {
+        unreachable!()
+    }
+    Ok((world, shares))
+}
+
+/// The threads of a workload, each before its first statement.
+fn threads_of<'a>(alloc: Global, workload: &'a Workload) -> Result<Vec<Progress<'a>>, Memory>
+    ensures threads { IfOk result (λ threads. threads.items ≡ map start_of workload.now.bodies) }
+    ensures count { IfOk result (λ threads. length threads.items ≡ workload.now.bounds.threads) }
+    ensures memory { OnErr result GrowthRefused }
+{
+    let count = workload.bounds().threads;
+    let mut threads: Vec<Progress<'a>> = Vec::new(alloc);
+    reserve(&mut threads, usize::from(count))?;
+    for thread in 0..count {
+        threads.push_reserved(Progress::start(alloc, workload.body(ThreadId(thread)))?);
+    }
+    Ok(threads)
+}

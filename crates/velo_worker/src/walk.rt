@@ -1,0 +1,119 @@
+//! A thread's statements, one after another, with its repeats done as often as they say.
+ghost use Rattle.std.specs.Prelude.{◌≡◌, ◌<◌, ◌≤◌, drop, length, slice_get, IfOk, OnErr};
+ghost use Rattle.velo_events.specs.Refusals.{GrowthRefused};
+ghost use Rattle.velo_workload.specs.Bodies.{IsBody};
+ghost use Rattle.velo_worker.specs.Walk.{walk_of};
+ghost use Rattle.velo_worker.specs.Place.{AreEnds, MayPass, end_before, past};
+
+use crate::place::Place;
+use std::alloc::Global;
+use std::marker::Model;
+use velo_events::Memory;
+use velo_events::growth::filled;
+use velo_workload::Statement;
+
+/// What is left to do of a body.
+#[derive(Drop)]
+pub struct Walk<'a> {
+    body: &'a [Statement],
+    /// For each statement the position behind the end of the repeat that is open behind it.
+    ends: Vec<usize>,
+    place: Place,
+}
+
+impl<'a> Model for Walk<'a> {
+    ghost use Rattle.std.specs.Prelude.{List};
+    ghost use Rattle.velo_workload.specs.declared.statement.Statement.{Statement};
+    ghost use Rattle.velo_worker.specs.Inside.{left_of, IsInside};
+
+    ghost Value = { List Statement };
+
+    ghost view = { left_of };
+
+    ghost invariant = { IsInside };
+}
+
+impl<'a> Walk<'a> {
+    /// The whole body.
+    ///
+    /// # Errors
+    /// `Memory` where a growth was refused.
+    pub fn start(alloc: Global, body: &'a [Statement]) -> Result<Walk<'a>, Memory>
+        requires { IsBody body.now }
+        ensures whole { IfOk result (λ walk. walk ≡ walk_of body.now) }
+        ensures memory { OnErr result GrowthRefused }
+    {
+        let ends = ends_of(alloc, body)?;
+        Ok(Walk {
+            body,
+            ends,
+            place: Place::start(),
+        })
+    }
+
+    /// The statement that comes next, if one is left.
+    pub fn next(&self) -> Option<Statement>
+        ensures { result ≡ slice_get self.now 0 }
+    {
+        statement_at(self.body, self.place.position())
+    }
+
+    /// Goes past the statement that comes next.
+    pub fn advance(&mut self)
+        ensures { self.new ≡ drop 1 self.old }
+    {
+        if let Some(statement) = statement_at(self.body, self.place.position()) {
+            go_past(statement, &mut self.place, &self.ends);
+        }
+    }
+}
+
+/// The statement at a position, if there is one.
+fn statement_at(body: &[Statement], position: usize) -> Option<Statement>
+    ensures { result ≡ slice_get body.now position }
+{
+    body.get(position).copied()
+}
+
+/// Goes past a statement, where the ends of the repeats are these.
+fn go_past(statement: Statement, place: &mut Place, ends: &[usize])
+    requires within { place.old.position < length ends.now }
+    requires fits { MayPass statement place.old }
+    ensures { place.new ≡ past statement place.old ends.now }
+{
+    match statement {
+        Statement::Repeat(times) => place.enter(times, ends[place.position()]),
+        Statement::Done => place.turn(),
+        _ => place.pass(),
+    }
+}
+
+/// The end of the repeat that is open before the statement at a position, by the end of the one that is open behind it.
+fn end_before(statement: Statement, position: usize, ends: &[usize], end: usize) -> usize
+    requires position { position < length ends.now }
+    requires some { 0 < end }
+    requires end { end ≤ length ends.now }
+    ensures { result ≡ end_before statement position ends.now end }
+{
+    match statement {
+        Statement::Done => position + 1,
+        Statement::Repeat(_) => ends[end - 1],
+        _ => end,
+    }
+}
+
+/// For each statement the position behind the end of the repeat that is open behind it, found from the last to the first.
+fn ends_of(alloc: Global, body: &[Statement]) -> Result<Vec<usize>, Memory>
+    ensures ends { IfOk result (λ ends. AreEnds body.now ends.items) }
+    ensures memory { OnErr result GrowthRefused }
+{
+    let mut ends = filled(alloc, 0, body.len())?;
+    let mut end = body.len();
+    let mut position = body.len();
+    while position > 0 {
+        position -= 1;
+        ends[position] = end;
+        end = end_before(body[position], position, &ends, end);
+    }
+    Ok(ends)
+}
