@@ -9,3 +9,5 @@ pub mod OnCycles
 pub mod OnSerial
 pub mod OnPrefixes
 pub mod OnReordered
+pub mod OnEdges
+pub mod OnWitness

@@ -8,3 +8,5 @@ pub mod Cycle
 pub mod Faults
 pub mod Serial
 pub mod Reordered
+pub mod Edges
+pub mod Witness

@@ -88,7 +88,7 @@ pub fn cycle_of(alloc: Global, trace: &Trace, position: usize) -> Result<Vec<usi
 }
 
 /// What comes next in a list, where its first comes after its last.
-fn next_in(cycle: &[usize], k: usize) -> usize
+pub(crate) fn next_in(cycle: &[usize], k: usize) -> usize
     requires { k < length cycle.now }
     ensures { result ≡ next_in cycle.now k }
 {

@@ -5,17 +5,22 @@
 mod counts;
 mod cycle;
 mod distances;
+mod edges;
 mod fault;
 mod nearest;
 mod order;
 mod owners;
 mod serial;
 mod table;
+mod witness;
 
 pub use cycle::{check_cycle, cycle_of};
+pub use edges::{Edge, edges_of};
 pub use fault::CertFault;
 pub use order::check_order;
+pub use owners::owners_of;
 pub use serial::serial_order;
+pub use witness::witness_of;
 
 #[cfg(test)]
 mod tests;

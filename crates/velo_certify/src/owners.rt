@@ -64,8 +64,8 @@ fn next_owner(events: &[Event], at: usize, scans: &mut [Scan]) -> usize
     if scan.depth > 0 { scan.first } else { at }
 }
 
-/// The first positions of the transactions of all positions.
-pub(crate) fn owners_of(alloc: Global, events: &[Event]) -> Result<Vec<usize>, Memory>
+/// The transaction of each position, named by its first position.
+pub fn owners_of(alloc: Global, events: &[Event]) -> Result<Vec<usize>, Memory>
     ensures owners { IfOk result (λ owners. AreOwners owners.items events.now) }
     ensures memory { OnErr result GrowthRefused }
 {

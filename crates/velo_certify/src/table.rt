@@ -90,7 +90,7 @@ impl Table {
     }
 
     /// The greatest number of an event that conflicts with the given one.
-    fn looked_up(&self, event: Event) -> usize
+    pub fn looked_up(&self, event: Event) -> usize
         requires { NamesRows (sizes self.now) event }
         ensures { IsLookedUp self.now event result }
     {
@@ -108,7 +108,7 @@ impl Table {
     }
 
     /// Gives an event its number.
-    fn note(&mut self, event: Event, number: usize)
+    pub fn note(&mut self, event: Event, number: usize)
         requires { NamesRows (sizes self.old) event }
         ensures noted { IsNoted self.old event number self.new }
         ensures sizes { sizes self.new ≡ sizes self.old }

@@ -22,7 +22,7 @@ pub use laws::{one_finding, one_text};
 pub use memory_sink::Text;
 pub use memory_source::Bytes;
 pub use read::read_log;
-pub use write::write_log;
+pub use write::{put_kind, write_log};
 
 #[cfg(test)]
 mod tests;

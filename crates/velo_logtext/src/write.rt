@@ -28,8 +28,8 @@ fn put_word(buffer: &mut [u8], at: usize, word: &[u8], number: u64) -> usize
     put_number(buffer, at, number)
 }
 
-/// Puts an operation, of at most 60 bytes.
-fn put_kind(buffer: &mut [u8], at: usize, kind: Kind) -> usize
+/// Puts the words of an operation, of at most 60 bytes, at a place of a buffer, and answers the place behind them.
+pub fn put_kind(buffer: &mut [u8], at: usize, kind: Kind) -> usize
     requires { at + 60 ≤ length buffer.old }
     ensures text { take result buffer.new ≡ take at buffer.old ++ kind_text kind }
     ensures end { result ≤ at + 60 }

@@ -1,0 +1,132 @@
+//! The pairs of events behind the edges of a cycle.
+ghost use Rattle.std.specs.Prelude.{◌≡◌, ◌≢◌, ◌<◌, ◌+◌, ◌-◌, length, take, slice_index, IfOk, OnErr, MatchOption};
+ghost use Rattle.velo_events.specs.Block.{owner};
+ghost use Rattle.velo_events.specs.Certificate.{IsCycleAt};
+ghost use Rattle.velo_events.specs.Graph.{Edge as GraphEdge};
+ghost use Rattle.velo_events.specs.Refusals.{GrowthRefused};
+ghost use Rattle.velo_certify.specs.Cycle.{next_in, IsLinked};
+ghost use Rattle.velo_certify.specs.Edges.{IsEdge, AreEdges, own_places};
+ghost use Rattle.velo_certify.specs.Owners.{AreOwners};
+ghost use Rattle.velo_certify.specs.Nearest.{LeadsInto};
+ghost use Rattle.velo_certify.specs.Table.{AllNameRows, HasNumbers, numbers_before, sizes};
+
+use crate::cycle::next_in;
+use crate::owners::{owner_of, owners_of};
+use crate::table::Table;
+use std::alloc::Global;
+use velo_events::growth::with_capacity;
+use velo_events::{Event, Memory};
+use velo_traces::Trace;
+
+/// Two conflicting events of two transactions. They make an edge from the first one's transaction to the second one's.
+#[derive(Clone, Copy, Debug, PartialEq, Eq)]
+pub struct Edge {
+    /// The position of the earlier event.
+    pub from: usize,
+    /// The position of the later event.
+    pub to: usize,
+}
+
+/// Takes in the event at a position, where those before it were taken in. The number behind the latest event of the
+/// transaction that conflicts with it, or 0.
+fn place_before(
+    events: &[Event],
+    owners: &[usize],
+    table: &mut Table,
+    from: usize,
+    at: usize,
+) -> usize
+    requires within { at < length events.now }
+    requires owners { AreOwners owners.now events.now }
+    requires names { AllNameRows (sizes table.old) events.now (length events.now) }
+    requires numbers { HasNumbers events.now (numbers_before (own_places events.now from) at) table.old }
+    ensures names { sizes table.new ≡ sizes table.old }
+    ensures numbers { HasNumbers events.now (numbers_before (own_places events.now from) (at + 1)) table.new }
+    ensures some { LeadsInto events.now from at → 0 < result }
+    ensures edge { 0 < result → owner events.now at ≢ from → IsEdge events.now from (owner events.now at) (record { from = result - 1; to = at }) }
+{
+    let transaction = owner_of(events, owners, at);
+    let number = if transaction == from { at + 1 } else { 0 };
+    table.take_in(events, at, number)
+}
+
+/// The earliest event of the one transaction that conflicts with an earlier one of the other, with the latest of these.
+fn edge_between(
+    events: &[Event],
+    owners: &[usize],
+    table: &mut Table,
+    from: usize,
+    to: usize,
+) -> Option<Edge>
+    requires owners { AreOwners owners.now events.now }
+    requires names { AllNameRows (sizes table.old) events.now (length events.now) }
+    requires differ { from ≢ to }
+    ensures names { sizes table.new ≡ sizes table.old }
+    ensures edge { MatchOption result (¬ GraphEdge events.now from to) (IsEdge events.now from to) }
+{
+    table.clear();
+    for at in 0..events.len() {
+        let place = place_before(events, owners, table, from, at);
+        if place > 0 && owner_of(events, owners, at) == to {
+            return Some(Edge {
+                from: place - 1,
+                to: at,
+            });
+        }
+    }
+    None
+}
+
+/// The edge from a transaction of the cycle to what comes next.
+fn next_edge(
+    events: &[Event],
+    owners: &[usize],
+    table: &mut Table,
+    cycle: &[usize],
+    k: usize,
+) -> Edge
+    requires owners { AreOwners owners.now events.now }
+    requires names { AllNameRows (sizes table.old) events.now (length events.now) }
+    requires within { k < length cycle.now }
+    requires linked { IsLinked events.now cycle.now (length cycle.now) }
+    ensures names { sizes table.new ≡ sizes table.old }
+    ensures edge { IsEdge events.now (slice_index cycle.now k) (next_in cycle.now k) result }
+{
+    match edge_between(events, owners, table, cycle[k], next_in(cycle, k)) {
+        Some(edge) => edge,
+        None => unreachable!(),
+    }
+}
+
+/// The edges of a cycle of the events, in its order.
+fn all_edges(alloc: Global, events: &[Event], cycle: &[usize]) -> Result<Vec<Edge>, Memory>
+    requires linked { IsLinked events.now cycle.now (length cycle.now) }
+    ensures edges { IfOk result (λ edges. AreEdges events.now cycle.now edges.items) }
+    ensures memory { OnErr result GrowthRefused }
+{
+    let owners = owners_of(alloc, events)?;
+    let mut table = Table::new(alloc, events)?;
+    let mut edges = with_capacity(alloc, cycle.len())?;
+    for k in 0..cycle.len() {
+        edges.push_reserved(next_edge(events, &owners, &mut table, cycle, k));
+    }
+    Ok(edges)
+}
+
+/// The events behind the edges of a cycle of the events up to the position, in its order: for each transaction two
+/// conflicting events, the earlier one of it and the later one of the next transaction.
+///
+/// It takes one pass over the events up to the position for each transaction of the cycle.
+pub fn edges_of(
+    alloc: Global,
+    trace: &Trace,
+    position: usize,
+    cycle: &[usize],
+) -> Result<Vec<Edge>, Memory>
+    requires { IsCycleAt trace.now.events position cycle.now }
+    ensures edges { IfOk result (λ edges. AreEdges (take (position + 1) trace.now.events) cycle.now edges.items) }
+    ensures memory { OnErr result GrowthRefused }
+{
+    let events = trace.as_slice();
+    all_edges(alloc, &events[..position + 1], cycle)
+}

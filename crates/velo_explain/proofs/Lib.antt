@@ -1,0 +1,4 @@
+pub mod OnPieces
+pub mod OnEvidence
+pub mod OnWriting
+pub mod OnReasons

@@ -1,0 +1,146 @@
+//! A cycle as a picture for Graphviz.
+ghost use Rattle.std.specs.Prelude.{◌≡◌, ◌≤◌, ◌<◌, ◌++◌, length, IfOk, OnOk, OnErr};
+ghost use Rattle.velo_events.specs.Refusals.{GrowthRefused};
+ghost use Rattle.velo_events.specs.declared.limits.TheConstants.{MOST_EVENTS};
+ghost use Rattle.velo_explain.specs.Evidence.{AreSpansWithin, AreEdgesWithin, IsWithin};
+ghost use Rattle.velo_explain.specs.Picture.{start_text, box_text, arrow_text, end_text, picture_text};
+ghost use Rattle.velo_explain.specs.Text.{numbered};
+
+use crate::evidence::Evidence;
+use crate::pieces::{Page, Piece};
+use crate::spans::Span;
+use crate::words::{line_of, next_number};
+use std::alloc::Global;
+use velo_certify::Edge;
+use velo_events::{Event, Memory};
+
+/// Adds the start of a picture.
+#[tactic(auto, unfolding(crate::specs::Picture::start_text))]
+fn add_start(page: &mut Page) -> Result<(), Memory>
+    ensures ok { OnOk result (page.new ≡ page.old ++ start_text) }
+    ensures memory { OnErr result GrowthRefused }
+{
+    page.add(&[Piece::Text("digraph cycle {\n  node [shape=box];\n")])?;
+    Ok(())
+}
+
+/// Adds its end.
+#[tactic(auto, unfolding(crate::specs::Picture::end_text))]
+fn add_end(page: &mut Page) -> Result<(), Memory>
+    ensures ok { OnOk result (page.new ≡ page.old ++ end_text) }
+    ensures memory { OnErr result GrowthRefused }
+{
+    page.add(&[Piece::Text("}\n")])?;
+    Ok(())
+}
+
+/// Adds the box of a transaction.
+#[tactic(auto, unfolding(crate::specs::Picture::box_text))]
+fn add_box(page: &mut Page, events: &[Event], k: usize, span: Span) -> Result<(), Memory>
+    requires first { span.first < length events.now }
+    requires last { span.last < length events.now }
+    requires few { length events.now ≤ MOST_EVENTS }
+    requires place { k < usize.MAX }
+    ensures ok { OnOk result (page.new ≡ page.old ++ box_text events.now k span) }
+    ensures memory { OnErr result GrowthRefused }
+{
+    let first = events[span.first];
+    let thread = Piece::Number(u64::from(first.thread.0));
+    let number = Piece::Number(k as u64 + 1);
+    page.add(&[
+        Piece::Text("  subgraph cluster_"),
+        thread,
+        Piece::Text(" { label=\"thread "),
+        thread,
+        Piece::Text("\"; T"),
+        number,
+        Piece::Text(" [label=\"T"),
+        number,
+        Piece::Text(": "),
+        Piece::Block(first.kind),
+        Piece::Text("\\n"),
+        Piece::Lines(line_of(span.first), line_of(span.last)),
+        Piece::Text("\"]; }\n"),
+    ])?;
+    Ok(())
+}
+
+/// Adds the boxes of the transactions.
+fn add_boxes(page: &mut Page, events: &[Event], spans: &[Span]) -> Result<(), Memory>
+    requires within { AreSpansWithin (length events.now) spans.now }
+    requires few { length events.now ≤ MOST_EVENTS }
+    ensures ok { OnOk result (page.new ≡ page.old ++ numbered (box_text events.now) 0 spans.now) }
+    ensures memory { OnErr result GrowthRefused }
+{
+    for k in 0..spans.len() {
+        add_box(page, events, k, spans[k])?;
+    }
+    Ok(())
+}
+
+/// Adds the arrow of an edge.
+#[tactic(auto, unfolding(crate::specs::Picture::arrow_text))]
+fn add_arrow(
+    page: &mut Page,
+    events: &[Event],
+    count: usize,
+    k: usize,
+    edge: Edge,
+) -> Result<(), Memory>
+    requires from { edge.from < length events.now }
+    requires to { edge.to < length events.now }
+    requires few { length events.now ≤ MOST_EVENTS }
+    requires place { k < count }
+    ensures ok { OnOk result (page.new ≡ page.old ++ arrow_text events.now count k edge) }
+    ensures memory { OnErr result GrowthRefused }
+{
+    page.add(&[
+        Piece::Text("  T"),
+        Piece::Number(k as u64 + 1),
+        Piece::Text(" -> T"),
+        Piece::Number(next_number(count, k)),
+        Piece::Text(" [label=\"line "),
+        Piece::Number(line_of(edge.from)),
+        Piece::Text(": "),
+        Piece::Words(events[edge.from]),
+        Piece::Text("\\nline "),
+        Piece::Number(line_of(edge.to)),
+        Piece::Text(": "),
+        Piece::Words(events[edge.to]),
+        Piece::Text("\"];\n"),
+    ])?;
+    Ok(())
+}
+
+/// Adds the arrows of the edges.
+fn add_arrows(page: &mut Page, events: &[Event], edges: &[Edge]) -> Result<(), Memory>
+    requires within { AreEdgesWithin (length events.now) edges.now }
+    requires few { length events.now ≤ MOST_EVENTS }
+    ensures ok { OnOk result (page.new ≡ page.old ++ numbered (arrow_text events.now (length edges.now)) 0 edges.now) }
+    ensures memory { OnErr result GrowthRefused }
+{
+    for k in 0..edges.len() {
+        add_arrow(page, events, edges.len(), k, edges[k])?;
+    }
+    Ok(())
+}
+
+/// The picture of the cycle of an alarm at a position.
+pub(crate) fn picture_of(
+    alloc: Global,
+    events: &[Event],
+    position: usize,
+    evidence: &Evidence,
+) -> Result<Page, Memory>
+    requires within { IsWithin (length events.now) position evidence.now }
+    requires few { length events.now ≤ MOST_EVENTS }
+    ensures ok { IfOk result (λ page. page ≡ picture_text events.now evidence.now) }
+    ensures memory { OnErr result GrowthRefused }
+{
+    let mut page = Page::new(alloc);
+    add_start(&mut page)?;
+    add_boxes(&mut page, events, evidence.spans.as_slice())?;
+    add_arrows(&mut page, events, evidence.edges.as_slice())?;
+    add_end(&mut page)?;
+    Ok(page)
+}

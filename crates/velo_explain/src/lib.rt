@@ -1,0 +1,20 @@
+//! A verdict in words, for people: the cycle that an alarm tells of, event by event, the blocks to blame and why; and the
+//! cycle as a picture.
+#![tactic(auto)]
+
+mod count;
+mod drawing;
+mod evidence;
+mod fault;
+mod pieces;
+mod spans;
+mod words;
+mod writing;
+
+pub use evidence::{Blame, Evidence, evidence_of};
+pub use fault::ExplainFault;
+pub use spans::Span;
+pub use writing::{explain, explain_clean, picture};
+
+#[cfg(test)]
+mod tests;

@@ -1,0 +1,260 @@
+//! An explanation in words.
+ghost use Rattle.std.specs.Prelude.{◌≡◌, ◌≤◌, ◌<◌, ◌++◌, length, IfOk, OnOk, OnErr};
+ghost use Rattle.velo_events.specs.Refusals.{GrowthRefused};
+ghost use Rattle.velo_events.specs.declared.limits.TheConstants.{MOST_EVENTS};
+ghost use Rattle.velo_explain.specs.Evidence.{AreSpansWithin, AreEdgesWithin, AreBlamesWithin, IsWithin};
+ghost use Rattle.velo_explain.specs.Text.{line_of, numbered, heading_text, member_text, next_number, edge_text, blame_text, to_blame_text, nobody_text, order_text, blames_text, explanation_text, clean_text};
+
+use crate::evidence::{Blame, Evidence};
+use crate::pieces::{Page, Piece};
+use crate::spans::Span;
+use std::alloc::Global;
+use velo_certify::Edge;
+use velo_events::{Event, MOST_EVENTS, Memory};
+
+/// The number of the line on which a position stands, behind the header on line 1.
+pub(crate) fn line_of(position: usize) -> u64
+    requires { position < MOST_EVENTS }
+    ensures { result ≡ line_of position }
+{
+    position as u64 + 2
+}
+
+/// The number of the transaction that comes after the one at a place of a cycle.
+pub(crate) fn next_number(count: usize, k: usize) -> u64
+    requires { k < count }
+    ensures { result ≡ next_number count k }
+{
+    if k + 1 < count { k as u64 + 2 } else { 1 }
+}
+
+/// Adds the closing event.
+#[tactic(auto, unfolding(crate::specs::Text::heading_text))]
+fn add_heading(
+    page: &mut Page,
+    events: &[Event],
+    position: usize,
+    count: usize,
+) -> Result<(), Memory>
+    requires within { position < length events.now }
+    requires few { length events.now ≤ MOST_EVENTS }
+    ensures ok { OnOk result (page.new ≡ page.old ++ heading_text events.now position count) }
+    ensures memory { OnErr result GrowthRefused }
+{
+    page.add(&[
+        Piece::Text("The blocks of this log cannot be serialized.\nLine "),
+        Piece::Number(line_of(position)),
+        Piece::Text(" `"),
+        Piece::Words(events[position]),
+        Piece::Text("` closes a cycle of "),
+        Piece::Number(count as u64),
+        Piece::Text(" transactions:\n"),
+    ])
+}
+
+/// Adds a transaction of the cycle.
+#[tactic(auto, unfolding(crate::specs::Text::member_text))]
+fn add_member(page: &mut Page, events: &[Event], k: usize, span: Span) -> Result<(), Memory>
+    requires first { span.first < length events.now }
+    requires last { span.last < length events.now }
+    requires few { length events.now ≤ MOST_EVENTS }
+    requires place { k < usize.MAX }
+    ensures ok { OnOk result (page.new ≡ page.old ++ member_text events.now k span) }
+    ensures memory { OnErr result GrowthRefused }
+{
+    let first = events[span.first];
+    page.add(&[
+        Piece::Text("  T"),
+        Piece::Number(k as u64 + 1),
+        Piece::Text(": thread "),
+        Piece::Number(u64::from(first.thread.0)),
+        Piece::Text(", "),
+        Piece::Block(first.kind),
+        Piece::Text(", "),
+        Piece::Lines(line_of(span.first), line_of(span.last)),
+        Piece::Text("\n"),
+    ])
+}
+
+/// Adds the transactions of the cycle.
+fn add_members(page: &mut Page, events: &[Event], spans: &[Span]) -> Result<(), Memory>
+    requires within { AreSpansWithin (length events.now) spans.now }
+    requires few { length events.now ≤ MOST_EVENTS }
+    ensures ok { OnOk result (page.new ≡ page.old ++ numbered (member_text events.now) 0 spans.now) }
+    ensures memory { OnErr result GrowthRefused }
+{
+    for k in 0..spans.len() {
+        add_member(page, events, k, spans[k])?;
+    }
+    Ok(())
+}
+
+/// Adds the events behind an edge of the cycle.
+#[tactic(auto, unfolding(crate::specs::Text::edge_text))]
+fn add_edge(
+    page: &mut Page,
+    events: &[Event],
+    count: usize,
+    k: usize,
+    edge: Edge,
+) -> Result<(), Memory>
+    requires from { edge.from < length events.now }
+    requires to { edge.to < length events.now }
+    requires few { length events.now ≤ MOST_EVENTS }
+    requires place { k < count }
+    ensures ok { OnOk result (page.new ≡ page.old ++ edge_text events.now count k edge) }
+    ensures memory { OnErr result GrowthRefused }
+{
+    page.add(&[
+        Piece::Text("  T"),
+        Piece::Number(k as u64 + 1),
+        Piece::Text(" before T"),
+        Piece::Number(next_number(count, k)),
+        Piece::Text(": line "),
+        Piece::Number(line_of(edge.from)),
+        Piece::Text(" `"),
+        Piece::Words(events[edge.from]),
+        Piece::Text("`, then line "),
+        Piece::Number(line_of(edge.to)),
+        Piece::Text(" `"),
+        Piece::Words(events[edge.to]),
+        Piece::Text("`\n"),
+    ])
+}
+
+/// Adds the events behind the edges of the cycle.
+fn add_edges(page: &mut Page, events: &[Event], edges: &[Edge]) -> Result<(), Memory>
+    requires within { AreEdgesWithin (length events.now) edges.now }
+    requires few { length events.now ≤ MOST_EVENTS }
+    ensures ok { OnOk result (page.new ≡ page.old ++ numbered (edge_text events.now (length edges.now)) 0 edges.now) }
+    ensures memory { OnErr result GrowthRefused }
+{
+    for k in 0..edges.len() {
+        add_edge(page, events, edges.len(), k, edges[k])?;
+    }
+    Ok(())
+}
+
+/// Adds a block to blame, and why.
+#[tactic(auto, unfolding(crate::specs::Text::blame_text))]
+fn add_blame(page: &mut Page, events: &[Event], position: usize, blame: Blame) -> Result<(), Memory>
+    requires position { position < length events.now }
+    requires first { blame.block.first < length events.now }
+    requires witness { blame.witness < length events.now }
+    requires few { length events.now ≤ MOST_EVENTS }
+    ensures ok { OnOk result (page.new ≡ page.old ++ blame_text events.now position blame) }
+    ensures memory { OnErr result GrowthRefused }
+{
+    page.add(&[
+        Piece::Text("  block "),
+        Piece::Number(u64::from(blame.block.label.0)),
+        Piece::Text(", from line "),
+        Piece::Number(line_of(blame.block.first)),
+        Piece::Text(": line "),
+        Piece::Number(line_of(blame.witness)),
+        Piece::Text(" `"),
+        Piece::Words(events[blame.witness]),
+        Piece::Text("` must come after its begin and before line "),
+        Piece::Number(line_of(position)),
+        Piece::Text("\n"),
+    ])
+}
+
+/// Adds that no block is to blame.
+#[tactic(auto, unfolding(crate::specs::Text::nobody_text))]
+fn add_nobody(page: &mut Page) -> Result<(), Memory>
+    ensures ok { OnOk result (page.new ≡ page.old ++ nobody_text) }
+    ensures memory { OnErr result GrowthRefused }
+{
+    page.add(&[Piece::Text(
+        "No block alone is to blame: each can be brought together, but not all transactions at once.\n",
+    )])?;
+    Ok(())
+}
+
+/// Adds whose blocks are to blame.
+#[tactic(auto, unfolding(crate::specs::Text::to_blame_text))]
+fn add_to_blame(page: &mut Page, events: &[Event], position: usize) -> Result<(), Memory>
+    requires { position < length events.now }
+    ensures ok { OnOk result (page.new ≡ page.old ++ to_blame_text events.now position) }
+    ensures memory { OnErr result GrowthRefused }
+{
+    page.add(&[
+        Piece::Text("To blame in thread "),
+        Piece::Number(u64::from(events[position].thread.0)),
+        Piece::Text(":\n"),
+    ])?;
+    Ok(())
+}
+
+/// Adds what an edge is.
+#[tactic(auto, unfolding(crate::specs::Text::order_text))]
+fn add_order(page: &mut Page) -> Result<(), Memory>
+    ensures ok { OnOk result (page.new ≡ page.old ++ order_text) }
+    ensures memory { OnErr result GrowthRefused }
+{
+    page.add(&[Piece::Text("Each must come before the next, and the last before the first:\n")])?;
+    Ok(())
+}
+
+/// Adds the blocks to blame, or that there are none.
+fn add_blames(
+    page: &mut Page,
+    events: &[Event],
+    position: usize,
+    blames: &[Blame],
+) -> Result<(), Memory>
+    requires position { position < length events.now }
+    requires within { AreBlamesWithin (length events.now) blames.now }
+    requires few { length events.now ≤ MOST_EVENTS }
+    ensures ok { OnOk result (page.new ≡ page.old ++ blames_text events.now position blames.now) }
+    ensures memory { OnErr result GrowthRefused }
+{
+    if blames.is_empty() {
+        return add_nobody(page);
+    }
+    add_to_blame(page, events, position)?;
+    for k in 0..blames.len() {
+        add_blame(page, events, position, blames[k])?;
+    }
+    Ok(())
+}
+
+/// The explanation of an alarm at a position.
+pub(crate) fn explanation(
+    alloc: Global,
+    events: &[Event],
+    position: usize,
+    evidence: &Evidence,
+) -> Result<Page, Memory>
+    requires within { IsWithin (length events.now) position evidence.now }
+    requires few { length events.now ≤ MOST_EVENTS }
+    ensures ok { IfOk result (λ page. page ≡ explanation_text events.now position evidence.now) }
+    ensures memory { OnErr result GrowthRefused }
+{
+    let mut page = Page::new(alloc);
+    let spans = evidence.spans.as_slice();
+    add_heading(&mut page, events, position, spans.len())?;
+    add_members(&mut page, events, spans)?;
+    add_order(&mut page)?;
+    add_edges(&mut page, events, &evidence.edges)?;
+    add_blames(&mut page, events, position, &evidence.blames)?;
+    Ok(page)
+}
+
+/// The explanation of a clean log.
+#[tactic(auto, unfolding(crate::specs::Text::clean_text))]
+pub(crate) fn clean(alloc: Global, events: usize, transactions: usize) -> Result<Page, Memory>
+    ensures ok { IfOk result (λ page. page ≡ clean_text events transactions) }
+    ensures memory { OnErr result GrowthRefused }
+{
+    let mut page = Page::new(alloc);
+    page.add(&[
+        Piece::Text("The blocks of this log can be serialized.\nEvents: "),
+        Piece::Number(events as u64),
+        Piece::Text("\nTransactions, which can follow one another: "),
+        Piece::Number(transactions as u64),
+        Piece::Text("\n"),
+    ])?;
+    Ok(page)
+}
