@@ -10,3 +10,6 @@ mod walk;
 
 pub use ending::Ending;
 pub use replaying::replay;
+
+#[cfg(test)]
+mod tests;
