@@ -1,3 +1,4 @@
 pub mod OnNextEvents
 pub mod OnFaults
 pub mod OnVerdicts
+pub mod OnReplays

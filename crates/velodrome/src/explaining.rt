@@ -1,6 +1,7 @@
 //! `velodrome explain`.
-ghost use Rattle.std.specs.Prelude.{◌≡◌, ◌≤◌, length};
+ghost use Rattle.std.specs.Prelude.{◌≤◌, length};
 ghost use Rattle.velo_events.specs.declared.limits.TheConstants.{MOST_EVENTS};
+ghost use Rattle.velo_explain.specs.Evidence.{IsEvidenceAt};
 
 use crate::arguments::ExplainOptions;
 use crate::check::{CheckFault, config_of, do_log};
@@ -37,6 +38,7 @@ fn draw<F: Files>(
     files: &mut F,
 ) -> Result<(), Fate>
     requires few { length log.now.events ≤ MOST_EVENTS }
+    requires evidence { IsEvidenceAt log.now.events position evidence.now }
 {
     let Some(path) = path else {
         return Ok(());
@@ -58,7 +60,9 @@ fn explain_closed<F: Files, O: Sink>(
     path: Option<&str>,
     files: &mut F,
     out: &mut O,
-) -> Fate {
+) -> Fate
+    requires { length closed.now.log ≤ MOST_EVENTS }
+{
     let log = closed.log();
     let Some(alarm) = closed.alarm() else {
         return fate_of(explain_clean(alloc, log, out), false);
@@ -67,7 +71,8 @@ fn explain_closed<F: Files, O: Sink>(
     let evidence = match evidence_of(alloc, log, position, alarm.blamed.as_slice()) {
         Ok(evidence) => evidence,
         Err(CertFault::Memory) => return Fate::Memory,
-        Err(_) => unreachable!(),
+        Err(CertFault::NoCycle) => unreachable!(),
+        Err(CertFault::HasCycle | CertFault::NotThere) => unreachable!(),
     };
     match draw(alloc, log, position, &evidence, path, files) {
         Ok(()) => fate_of(explain(alloc, log, position, &evidence, out), true),

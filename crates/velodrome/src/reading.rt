@@ -1,5 +1,5 @@
 //! Reading a whole file.
-ghost use Rattle.std.specs.Prelude.{◌≡◌, Err, IfOk, IfSome, ◌≤◌, length};
+ghost use Rattle.std.specs.Prelude.{◌≡◌, ◌+◌, Err, IfOk, vec_len};
 ghost use Rattle.velo_events.specs.Refusals.{GrowthRefused};
 ghost use Rattle.velodrome.specs.declared.reading.ReadFault.TheVariants as read_fault;
 
@@ -22,6 +22,7 @@ pub enum ReadFault {
 
 /// Reads the next bytes to the end of those that are there, and answers how many.
 fn read_more<I: Source>(source: &mut I, bytes: &mut Vec<u8>) -> Result<usize, ReadFault>
+    ensures grows { IfOk result (λ count. vec_len bytes.new ≡ vec_len bytes.old + count) }
     ensures memory { result ≡ Err read_fault.Memory → GrowthRefused }
 {
     let done = bytes.len();

@@ -61,7 +61,9 @@ fn write_out<F: Files>(
     closed: &Closed,
     path: Option<&str>,
     files: &mut F,
-) -> Result<(), Fate> {
+) -> Result<(), Fate>
+    requires { closed.now.config ≡ config }
+{
     let Some(path) = path else {
         return Ok(());
     };
@@ -97,7 +99,9 @@ fn tell<F: Files, O: Sink>(
     options: &ReplayOptions,
     files: &mut F,
     out: &mut O,
-) -> Fate {
+) -> Fate
+    requires { closed.now.config ≡ config }
+{
     if !options.certificate {
         return match write_out(config, closed, options.log, files) {
             Ok(()) => fate_of(write_report(closed, names, out), ending),

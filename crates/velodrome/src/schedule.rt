@@ -1,8 +1,7 @@
 //! The text of a schedule.
-ghost use Rattle.std.specs.Prelude.{◌≡◌};
+ghost use Rattle.std.specs.Prelude.{◌≡◌, ◌<◌, ◌≤◌, length, Err, IfSome};
 ghost use Rattle.velo_events.specs.Refusals.{GrowthRefused};
 ghost use Rattle.velodrome.specs.declared.schedule.ScheduleFault.TheVariants as schedule_fault;
-ghost use Rattle.std.specs.Prelude.{Err};
 
 use std::alloc::Global;
 use velo_events::growth::reserve;
@@ -21,7 +20,9 @@ pub enum ScheduleFault {
 }
 
 /// The value of a digit.
-fn digit(byte: u8) -> Option<u8> {
+fn digit(byte: u8) -> Option<u8>
+    ensures { IfSome result (λ digit. digit ≤ 9) }
+{
     if byte.is_ascii_digit() {
         Some(byte - b'0')
     } else {
@@ -30,7 +31,9 @@ fn digit(byte: u8) -> Option<u8> {
 }
 
 /// The number up to 63 that begins at a place, without a leading zero, and the place behind it.
-fn number_at(text: &[u8], at: usize) -> Option<(u8, usize)> {
+fn number_at(text: &[u8], at: usize) -> Option<(u8, usize)>
+    ensures { IfSome result (λ found. (found.0 ≤ 63) × (at < found.1) × (found.1 ≤ length text.now)) }
+{
     let first = digit(*text.get(at)?)?;
     let Some(byte) = text.get(at + 1) else {
         return Some((first, at + 1));

@@ -459,9 +459,9 @@ static REPLAYS: [Replay; 17] = [
             "2",
         ],
         workload: COLLIDING,
-        out: "events 2\nthread 0 main 2\nthread 1 a 0\nverdict clean\n",
+        out: "events 2\nthread 0 main 1\nthread 1 a 1\nverdict clean\n",
         err: "refused 17 thread 0\n",
-        log: "vlog 1 2 1 0\n0 fork 1\n0 begin 0\n",
+        log: "vlog 1 2 1 0\n0 fork 1\n1 wr 0 5\n",
         status: 4,
     },
     Replay {
@@ -627,10 +627,37 @@ fn long_schedules(rt: HostRuntime) -> Result<(), Fail> {
     Ok(())
 }
 
+const LOST_UPDATE_EXPLAINED: &str = "\
+The blocks of this log cannot be serialized.
+Line 6 `0 wr 0 1` closes a cycle of 2 transactions:
+  T1: thread 0, block 7, lines 3 to 6
+  T2: thread 1, outside blocks, line 5
+Each must come before the next, and the last before the first:
+  T1 before T2: line 4 `0 rd 0 0`, then line 5 `1 wr 0 5`
+  T2 before T1: line 5 `1 wr 0 5`, then line 6 `0 wr 0 1`
+To blame in thread 0:
+  block 7, from line 3: line 5 `1 wr 0 5` must come after its begin and before line 6
+";
+
+const LOST_UPDATE_DRAWN: &str = "\
+digraph cycle {
+  node [shape=box];
+  subgraph cluster_0 { label=\"thread 0\"; T1 [label=\"T1: block 7\\nlines 3 to 6\"]; }
+  subgraph cluster_1 { label=\"thread 1\"; T2 [label=\"T2: outside blocks\\nline 5\"]; }
+  T1 -> T2 [label=\"line 4: 0 rd 0 0\\nline 5: 1 wr 0 5\"];
+  T2 -> T1 [label=\"line 5: 1 wr 0 5\\nline 6: 0 wr 0 1\"];
+}
+";
+
 /// Logs with their explanation, their picture and the status.
 const EXPLAINED: [(&str, &str, &str, u8); 2] = [
-    ("vlog 1 1 0 0\n", "", "", 0),
-    (LOST_UPDATE, "", "", 3),
+    (
+        "vlog 1 1 0 0\n",
+        "The blocks of this log can be serialized.\nEvents: 0\nTransactions, which can follow one another: 0\n",
+        "",
+        0,
+    ),
+    (LOST_UPDATE, LOST_UPDATE_EXPLAINED, LOST_UPDATE_DRAWN, 3),
 ];
 
 #[test]
