@@ -9,10 +9,10 @@ use Rattle.velo_worker.specs.Schedule.{Course, RoundsOf, all_idle, no_event, end
 use Rattle.velo_worker.proofs.OnTurns.{Kept-turns}
 
 config_rounds : (c c' : Course) (ending : Ending) → RoundsOf c ending c' → c'.world.config ≡ c.world.config
-config_rounds c c' ending (all_idle c idle) = refl
-config_rounds c c' ending (no_event c c' round same) = (Kept-turns (all_threads c) c None c' round.turns).config
-config_rounds c c' ending (ended c c' ending round) = (Kept-turns (all_threads c) c (Some ending) c' round.turns).config
-config_rounds c c' ending (goes_on c mid c' ending round more rest) =
+config_rounds _ _ _ (all_idle c idle) = refl
+config_rounds _ _ _ (no_event c c' round same) = (Kept-turns (all_threads c) c None c' round.turns).config
+config_rounds _ _ _ (ended c c' ending round) = (Kept-turns (all_threads c) c (Some ending) c' round.turns).config
+config_rounds _ _ _ (goes_on c mid c' ending round more rest) =
     config_rounds mid c' ending rest ∙ (Kept-turns (all_threads c) c None mid round.turns).config
 
 config_run : (schedule : List ThreadId) (c c' : Course) (ending : Ending) → RunsTo c schedule ending c' → c'.world.config ≡ c.world.config

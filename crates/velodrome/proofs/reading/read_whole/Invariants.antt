@@ -1,4 +1,5 @@
-use Rattle.std.proofs.Common.{⊤, ◌+◌, ◌-◌}
+use Rattle.std.proofs.Common.{◌+◌, ◌-◌}
+use Rattle.std.specs.Prelude.{⊤}
 use Rattle.velodrome.proofs.reading.read_whole.Given as goal
 
 abbrev pub invariant-loop-source : goal.invariant-loop-source
