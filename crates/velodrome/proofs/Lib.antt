@@ -1,1 +1,2 @@
 pub mod OnVerdicts
+pub mod OnReplays

@@ -22,6 +22,7 @@ use Rattle.velodrome.specs.declared.check.Verdict.TheVariants as verdict
 use Rattle.velodrome.specs.declared.check.CheckFault.{CheckFault}
 use Rattle.velodrome.specs.declared.check.CheckFault.TheVariants.{Log, Refused, WrongValue, Write, Memory}
 use Rattle.velodrome.specs.Check.{IsInput, IsReported, IsVerdict, IsEvidence, IsOutput, AppendsOutput, AppendsPartOfOutput, Checks, Reports, Shows, read_failures}
+use Rattle.velo_report.specs.declared.names.Names.{Names}
 use Rattle.velo_report.specs.declared.names.Names.TheVariants.{Numbers}
 use Rattle.velo_report.specs.Lines.{numbers_line}
 use Rattle.velo_report.specs.Certificate.{Certifies, IsCertificate, AppendsCertificate, AppendsPartOfCertificate, serial_lines}
@@ -59,7 +60,7 @@ input_found None limit bounds log found = tt
 
 abbrev reported_log : (limit : ℕ) (certificate : Bool) (read : Option (List ℕ)) (w : WorldState) (text : List ℕ)
     → w.config.events ≡ limit → IsInput read w.config.bounds w.log → IsWellFormed w.config.bounds w.log → length w.log ≤ w.config.events
-    → IsOutput certificate w.config.bounds.threads w.log text → IsReported limit certificate read text
+    → IsOutput Numbers certificate w.config.bounds.threads w.log text → IsReported limit certificate read text
 reported_log limit certificate read w text is input well short output =
     record {
       bounds = w.config.bounds;
@@ -73,7 +74,7 @@ reported_log limit certificate read w text is input well short output =
 -- a check answers what is shown of the world of its log
 pub checked_by : (limit nodes : ℕ) (certificate : Bool) (read : Option (List ℕ)) (w : WorldState) (old new : Option (List ℕ)) (result : Result Verdict CheckFault)
     → w.config.events ≡ limit → IsInput read w.config.bounds w.log → IsWellFormed w.config.bounds w.log → length w.log ≤ w.config.events
-    → Shows certificate w old new result → Checks limit nodes certificate read old new result
+    → Shows Numbers certificate w old new result → Checks limit nodes certificate read old new result
 checked_by limit nodes certificate read w old new (Ok answer) is input well short shows =
     (shows.1.text, (reported_log limit certificate read w shows.1.text is input well short shows.1.is_output, shows.0), shows.1.appends)
 checked_by limit nodes certificate read w old new (Err Write) is input well short shows =
@@ -84,7 +85,7 @@ checked_by limit nodes certificate read w old new (Err (Refused p refusal)) is i
 checked_by limit nodes certificate read w old new (Err (WrongValue p)) is input well short shows = absurd shows
 
 -- what is shown reads nothing
-pub reads_nothing : (certificate : Bool) (w : WorldState) (old new : Option (List ℕ)) (result : Result Verdict CheckFault) (n : ℕ) → Shows certificate w old new result → read_failures result n ≡ n
+pub reads_nothing : (certificate : Bool) (w : WorldState) (old new : Option (List ℕ)) (result : Result Verdict CheckFault) (n : ℕ) → Shows Numbers certificate w old new result → read_failures result n ≡ n
 reads_nothing certificate w old new (Ok answer) n shows = refl
 reads_nothing certificate w old new (Err Write) n shows = refl
 reads_nothing certificate w old new (Err Memory) n shows = refl
@@ -95,18 +96,18 @@ reads_nothing certificate w old new (Err (WrongValue p)) n shows = refl
 -- ---- the report, and behind it the certificate
 
 -- without a certificate the report is all
-abbrev report_alone : (threads : ℕ) (log : List Event) (text : List ℕ) → IsReport Numbers threads log text → IsOutput false threads log text
-report_alone threads log text is = record { report = text; is_report = is; lines = []; certified = refl; whole = sym (append-nil text) }
+abbrev report_alone : (names : Names) (threads : ℕ) (log : List Event) (text : List ℕ) → IsReport names threads log text → IsOutput names false threads log text
+report_alone names threads log text is = record { report = text; is_report = is; lines = []; certified = refl; whole = sym (append-nil text) }
 
-pub Shows-report : (w : WorldState) (old new : Option (List ℕ)) (result : Result Verdict CheckFault) → Reports w old new result → Shows false w old new result
-Shows-report w old new (Ok answer) reports =
-    (reports.0, record { text = reports.1.text; is_output = report_alone w.config.bounds.threads w.log reports.1.text reports.1.is_report; appends = reports.1.appends })
-Shows-report w old new (Err Write) reports =
-    record { text = reports.text; is_output = report_alone w.config.bounds.threads w.log reports.text reports.is_report; appends = reports.appends }
-Shows-report w old new (Err Memory) reports = absurd reports
-Shows-report w old new (Err (Log fault)) reports = absurd reports
-Shows-report w old new (Err (Refused p refusal)) reports = absurd reports
-Shows-report w old new (Err (WrongValue p)) reports = absurd reports
+pub Shows-report : (names : Names) (w : WorldState) (old new : Option (List ℕ)) (result : Result Verdict CheckFault) → Reports names w old new result → Shows names false w old new result
+Shows-report names w old new (Ok answer) reports =
+    (reports.0, record { text = reports.1.text; is_output = report_alone names w.config.bounds.threads w.log reports.1.text reports.1.is_report; appends = reports.1.appends })
+Shows-report names w old new (Err Write) reports =
+    record { text = reports.text; is_output = report_alone names w.config.bounds.threads w.log reports.text reports.is_report; appends = reports.appends }
+Shows-report names w old new (Err Memory) reports = absurd reports
+Shows-report names w old new (Err (Log fault)) reports = absurd reports
+Shows-report names w old new (Err (Refused p refusal)) reports = absurd reports
+Shows-report names w old new (Err (WrongValue p)) reports = absurd reports
 
 -- evidence has lines
 lines_exist : (log : List Event) (list : List ℕ) → IsEvidence log list → (lines : List ℕ) × IsCertificate log list lines
@@ -118,19 +119,19 @@ pub Certifies-evidence : (log : List Event) (list : List ℕ) → IsEvidence log
 Certifies-evidence log list (inl w) = inl (record { no_cycle = w.no_cycle; reorders = w.serial.reorders; serial = w.serial.serial })
 Certifies-evidence log list (inr w) = inr (record { position = w.position; closing = w.closing; is_cycle = w.shortest.is_cycle })
 
-module _ (w : WorldState) (list : List ℕ) (evidence : IsEvidence w.log list) where
+module _ (names : Names) (w : WorldState) (list : List ℕ) (evidence : IsEvidence w.log list) where
   abbrev threads : ℕ
   threads = w.config.bounds.threads
 
-  output : (report lines : List ℕ) → IsReport Numbers threads w.log report → IsCertificate w.log list lines → IsOutput true threads w.log (report ++ lines)
+  output : (report lines : List ℕ) → IsReport names threads w.log report → IsCertificate w.log list lines → IsOutput names true threads w.log (report ++ lines)
   output report lines is certified = record { report = report; is_report = is; lines = lines; certified = (list, evidence, certified); whole = refl }
 
   -- both went out
-  pub certified_whole : (a b c : Option (List ℕ)) → AppendsReport a b Numbers threads w.log → AppendsCertificate b c w.log list → AppendsOutput a c true threads w.log
+  pub certified_whole : (a b c : Option (List ℕ)) → AppendsReport a b names threads w.log → AppendsCertificate b c w.log list → AppendsOutput a c names true threads w.log
   certified_whole a b c r l = record { text = r.text ++ l.text; is_output = output r.text l.text r.is_report l.is_certificate; appends = appends_then a b c r.text l.text r.appends l.appends }
 
   -- the report did, and a beginning of the certificate
-  pub certified_part : (a b c : Option (List ℕ)) → AppendsReport a b Numbers threads w.log → AppendsPartOfCertificate b c w.log list → AppendsPartOfOutput a c true threads w.log
+  pub certified_part : (a b c : Option (List ℕ)) → AppendsReport a b names threads w.log → AppendsPartOfCertificate b c w.log list → AppendsPartOfOutput a c names true threads w.log
   certified_part a b c r l = record {
     text = r.text ++ l.text;
     is_output = output r.text l.text r.is_report l.is_certificate;
@@ -138,7 +139,7 @@ module _ (w : WorldState) (list : List ℕ) (evidence : IsEvidence w.log list) w
   }
 
   -- a beginning of the report did
-  report_part : (a b : Option (List ℕ)) → AppendsPartOfReport a b Numbers threads w.log → AppendsPartOfOutput a b true threads w.log
+  report_part : (a b : Option (List ℕ)) → AppendsPartOfReport a b names threads w.log → AppendsPartOfOutput a b names true threads w.log
   report_part a b r =
       let l = lines_exist w.log list evidence in
       record {
@@ -147,7 +148,7 @@ module _ (w : WorldState) (list : List ℕ) (evidence : IsEvidence w.log list) w
         appends = beginning_then a a b [] r.text l.0 (r.text ++ l.0) (appends_nothing a) r.appends refl;
       }
 
-  pub Shows-failed : (a b : Option (List ℕ)) (fault : CheckFault) → Reports w a b (Err fault) → Shows true w a b (Err fault)
+  pub Shows-failed : (a b : Option (List ℕ)) (fault : CheckFault) → Reports names w a b (Err fault) → Shows names true w a b (Err fault)
   Shows-failed a b Write reports = report_part a b reports
   Shows-failed a b Memory reports = absurd reports
   Shows-failed a b (Log fault) reports = reports

@@ -21,6 +21,7 @@ use Rattle.velodrome.specs.declared.check.Verdict.TheVariants as verdict
 use Rattle.velodrome.specs.declared.check.CheckFault.{CheckFault}
 use Rattle.velodrome.specs.declared.check.CheckFault.TheVariants.{Log, Refused, WrongValue, Write, Memory}
 use Rattle.velo_world.specs.Faults.{IsRefusedAt, IsWrongValueAt}
+use Rattle.velo_report.specs.declared.names.Names.{Names}
 use Rattle.velo_report.specs.declared.names.Names.TheVariants.{Numbers}
 use Rattle.velo_report.specs.Certificate.{IsCertificate}
 use Rattle.velo_report.specs.Report.{IsReport, AppendsReport, AppendsPartOfReport}
@@ -53,23 +54,23 @@ IsCertified false log text = text ≡ []
 -- ---- what is written
 
 -- the report of a log, and then its certificate if that is asked for
-pub record IsOutput (certificate : Bool) (threads : ℕ) (log : List Event) (text : List ℕ) : Type 0 where
+pub record IsOutput (names : Names) (certificate : Bool) (threads : ℕ) (log : List Event) (text : List ℕ) : Type 0 where
   pub report : List ℕ
-  pub is_report : IsReport Numbers threads log report
+  pub is_report : IsReport names threads log report
   pub lines : List ℕ
   pub certified : IsCertified certificate log lines
   pub whole : text ≡ report ++ lines
 
 -- known bytes grow by it
-pub record AppendsOutput (old new : Option (List ℕ)) (certificate : Bool) (threads : ℕ) (log : List Event) : Type 0 where
+pub record AppendsOutput (old new : Option (List ℕ)) (names : Names) (certificate : Bool) (threads : ℕ) (log : List Event) : Type 0 where
   pub text : List ℕ
-  pub is_output : IsOutput certificate threads log text
+  pub is_output : IsOutput names certificate threads log text
   pub appends : Appends old new text
 
 -- they grow by a beginning of it
-pub record AppendsPartOfOutput (old new : Option (List ℕ)) (certificate : Bool) (threads : ℕ) (log : List Event) : Type 0 where
+pub record AppendsPartOfOutput (old new : Option (List ℕ)) (names : Names) (certificate : Bool) (threads : ℕ) (log : List Event) : Type 0 where
   pub text : List ℕ
-  pub is_output : IsOutput certificate threads log text
+  pub is_output : IsOutput names certificate threads log text
   pub appends : AppendsBeginning old new text
 
 -- the log of the input came about as it says, within the limit of events, and the text is its report, with its certificate if
@@ -80,7 +81,7 @@ pub record IsReported (limit : ℕ) (certificate : Bool) (read : Option (List �
   pub input : IsInput read bounds trace
   pub well_formed : IsWellFormed bounds trace
   pub room : length trace ≤ limit
-  pub output : IsOutput certificate bounds.threads trace text
+  pub output : IsOutput Numbers certificate bounds.threads trace text
 
 -- the log stops at an event that is refused, or that reads a wrong value
 pub record IsRefused (limit nodes : ℕ) (read : Option (List ℕ)) (p : ℕ) (refusal : Refusal) : Type 0 where
@@ -102,17 +103,17 @@ pub record IsVerdict (trace : List Event) (answer : Verdict) : Type 0 where
   pub order : (answer ≡ verdict.Clean) ↔ IsSerializable trace
 
 -- what is written of a world with its certificate, or without, and the verdict with it; or a growth was refused
-abbrev pub Shows : Bool → WorldState → Option (List ℕ) → Option (List ℕ) → Result Verdict CheckFault → Type 0
-Shows certificate w old new (Ok answer) = IsVerdict w.log answer × AppendsOutput old new certificate w.config.bounds.threads w.log
-Shows certificate w old new (Err Write) = AppendsPartOfOutput old new certificate w.config.bounds.threads w.log
-Shows certificate w old new (Err Memory) = GrowthRefused × (new ≡ old)
-Shows certificate w old new (Err fault) = ⊥
+abbrev pub Shows : Names → Bool → WorldState → Option (List ℕ) → Option (List ℕ) → Result Verdict CheckFault → Type 0
+Shows names certificate w old new (Ok answer) = IsVerdict w.log answer × AppendsOutput old new names certificate w.config.bounds.threads w.log
+Shows names certificate w old new (Err Write) = AppendsPartOfOutput old new names certificate w.config.bounds.threads w.log
+Shows names certificate w old new (Err Memory) = GrowthRefused × (new ≡ old)
+Shows names certificate w old new (Err fault) = ⊥
 
 -- the report alone of a world, and the verdict with it
-abbrev pub Reports : WorldState → Option (List ℕ) → Option (List ℕ) → Result Verdict CheckFault → Type 0
-Reports w old new (Ok answer) = IsVerdict w.log answer × AppendsReport old new Numbers w.config.bounds.threads w.log
-Reports w old new (Err Write) = AppendsPartOfReport old new Numbers w.config.bounds.threads w.log
-Reports w old new (Err fault) = ⊥
+abbrev pub Reports : Names → WorldState → Option (List ℕ) → Option (List ℕ) → Result Verdict CheckFault → Type 0
+Reports names w old new (Ok answer) = IsVerdict w.log answer × AppendsReport old new names w.config.bounds.threads w.log
+Reports names w old new (Err Write) = AppendsPartOfReport old new names w.config.bounds.threads w.log
+Reports names w old new (Err fault) = ⊥
 
 -- What a check answers, by the bytes that were to be read and those written before and after, where they are known. Every
 -- fault but a failed write has written nothing, and after that a beginning of the report, or of the certificate behind it, was

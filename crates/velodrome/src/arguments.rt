@@ -9,21 +9,60 @@ use clap::{Arg, ArgAction, ArgMatches, Command, value_parser};
 use std::alloc::Global;
 use velo_events::{MOST_EVENTS, MOST_NODES, Memory};
 
+/// The limits of a run.
+#[derive(Clone, Copy, Debug)]
+pub struct Limits {
+    /// The most events that the log may have.
+    pub events: u32,
+    /// The most nodes that the graph may have at one time.
+    pub nodes: u16,
+    ghost some_event: { 1 ≤ events },
+    ghost few_events: { events ≤ MOST_EVENTS },
+    ghost some_node: { 1 ≤ nodes },
+    ghost few_nodes: { nodes ≤ MOST_NODES },
+}
+
 /// What `velodrome check` was asked for.
 #[derive(Clone, Copy, Debug)]
 pub struct CheckOptions<'a> {
     /// The path of the log, or `-`.
     pub log: &'a str,
-    /// The most events that the log may have.
-    pub events: u32,
-    /// The most nodes that the graph may have at one time.
-    pub nodes: u16,
+    pub limits: Limits,
     /// Whether the certificate of the verdict is written behind the report.
     pub certificate: bool,
-    ghost some_event: { 1 ≤ events },
-    ghost few_events: { events ≤ MOST_EVENTS },
-    ghost some_node: { 1 ≤ nodes },
-    ghost few_nodes: { nodes ≤ MOST_NODES },
+}
+
+/// What `velodrome replay` was asked for.
+#[derive(Clone, Copy, Debug)]
+pub struct ReplayOptions<'a> {
+    /// The path of the workload, or `-`.
+    pub file: &'a str,
+    /// The text of the schedule.
+    pub schedule: &'a str,
+    /// Whether the event that closes the first cycle ends the run.
+    pub stop: bool,
+    /// The path where the log is written.
+    pub log: Option<&'a str>,
+    pub limits: Limits,
+    /// Whether the certificate of the verdict is written behind the report.
+    pub certificate: bool,
+}
+
+/// What `velodrome explain` was asked for.
+#[derive(Clone, Copy, Debug)]
+pub struct ExplainOptions<'a> {
+    /// The path of the log, or `-`.
+    pub log: &'a str,
+    /// The path where the picture of the cycle is written.
+    pub dot: Option<&'a str>,
+}
+
+/// What the words ask for.
+#[derive(Clone, Copy, Debug)]
+pub enum Request<'a> {
+    Check(CheckOptions<'a>),
+    Replay(ReplayOptions<'a>),
+    Explain(ExplainOptions<'a>),
 }
 
 /// The command line of the program: a word of no subcommand, or a number out of its range, is a fault of usage.
@@ -38,7 +77,9 @@ pub fn command<'a>(alloc: Global) -> Result<Command<'a>, Memory>
         .version(help::VERSION)
         .after_help(help::OF_PROGRAM)
         .subcommand_required(true);
-    with_subcommand(program, check_command(alloc)?)
+    let program = with_subcommand(program, check_command(alloc)?)?;
+    let program = with_subcommand(program, replay_command(alloc)?)?;
+    with_subcommand(program, explain_command(alloc)?)
 }
 
 fn check_command<'a>(alloc: Global) -> Result<Command<'a>, Memory>
@@ -51,6 +92,65 @@ fn check_command<'a>(alloc: Global) -> Result<Command<'a>, Memory>
     let check = with_argument(check, events_argument(alloc))?;
     let check = with_argument(check, nodes_argument(alloc))?;
     with_argument(check, certificate_argument(alloc))
+}
+
+fn replay_command<'a>(alloc: Global) -> Result<Command<'a>, Memory>
+    ensures memory { OnErr result GrowthRefused }
+{
+    let replay = Command::new(alloc, "replay")
+        .about("Runs a workload by a schedule and reports the verdict")
+        .after_help(help::OF_REPLAY);
+    let replay = with_argument(replay, file_argument(alloc))?;
+    let replay = with_argument(replay, schedule_argument(alloc))?;
+    let replay = with_argument(replay, stop_argument(alloc))?;
+    let replay = with_argument(replay, out_argument(alloc))?;
+    let replay = with_argument(replay, events_argument(alloc))?;
+    let replay = with_argument(replay, nodes_argument(alloc))?;
+    with_argument(replay, certificate_argument(alloc))
+}
+
+fn explain_command<'a>(alloc: Global) -> Result<Command<'a>, Memory>
+    ensures memory { OnErr result GrowthRefused }
+{
+    let explain = Command::new(alloc, "explain")
+        .about("Reads a recorded log and explains the verdict in words")
+        .after_help(help::OF_EXPLAIN);
+    let explain = with_argument(explain, log_argument(alloc))?;
+    with_argument(explain, dot_argument(alloc))
+}
+
+fn file_argument<'a>(alloc: Global) -> Arg<'a> {
+    Arg::new(alloc, "FILE")
+        .help("The path of the workload, or - for standard input")
+        .required(true)
+        .action(ArgAction::Set)
+}
+
+fn schedule_argument<'a>(alloc: Global) -> Arg<'a> {
+    Arg::new(alloc, "schedule")
+        .long("schedule")
+        .value_name("TEXT")
+        .help("Whose turns come first: thread numbers from 0 to 63, parted by one space")
+}
+
+fn stop_argument<'a>(alloc: Global) -> Arg<'a> {
+    Arg::new(alloc, "stop")
+        .long("stop")
+        .help("End the run at an alarm")
+        .action(ArgAction::SetTrue)
+}
+
+fn out_argument<'a>(alloc: Global) -> Arg<'a> {
+    Arg::new(alloc, "log")
+        .long("log")
+        .value_name("OUT")
+        .help("Write the log of the run to this path, before the report")
+}
+
+fn dot_argument<'a>(alloc: Global) -> Arg<'a> {
+    Arg::new(alloc, "dot").long("dot").value_name("OUT").help(
+        "Write the cycle of an alarm to this path, as a Graphviz picture",
+    )
 }
 
 fn log_argument<'a>(alloc: Global) -> Arg<'a> {
@@ -85,19 +185,50 @@ fn certificate_argument<'a>(alloc: Global) -> Arg<'a> {
         .action(ArgAction::SetTrue)
 }
 
-/// Reads the options of `check` from its matches; none where a word is missing or a number is out of its range, which
-/// the command has refused already.
-pub fn check_options<'a>(found: &ArgMatches<'a>) -> Option<CheckOptions<'a>> {
-    let log = found.get_str("LOG")?;
+/// Reads the limits from the matches of a subcommand; none where one is out of its range.
+fn limits_of<'a>(found: &ArgMatches<'a>) -> Option<Limits> {
     let events = found.get_one::<u32>("events")?;
     let nodes = found.get_one::<u16>("nodes")?;
     if events < 1 || events > MOST_EVENTS || nodes < 1 || nodes > MOST_NODES {
         return None;
     }
+    Some(Limits { events, nodes })
+}
+
+fn check_options<'a>(found: &ArgMatches<'a>) -> Option<CheckOptions<'a>> {
     Some(CheckOptions {
-        log,
-        events,
-        nodes,
+        log: found.get_str("LOG")?,
+        limits: limits_of(found)?,
         certificate: found.get_flag("certificate"),
     })
+}
+
+fn replay_options<'a>(found: &ArgMatches<'a>) -> Option<ReplayOptions<'a>> {
+    Some(ReplayOptions {
+        file: found.get_str("FILE")?,
+        schedule: found.get_str("schedule").unwrap_or(""),
+        stop: found.get_flag("stop"),
+        log: found.get_str("log"),
+        limits: limits_of(found)?,
+        certificate: found.get_flag("certificate"),
+    })
+}
+
+fn explain_options<'a>(found: &ArgMatches<'a>) -> Option<ExplainOptions<'a>> {
+    Some(ExplainOptions {
+        log: found.get_str("LOG")?,
+        dot: found.get_str("dot"),
+    })
+}
+
+/// What the matches of the command ask for; none where a word is missing or a number is out of its range, which the
+/// command has refused already.
+pub fn request_of<'a>(matches: &ArgMatches<'a>) -> Option<Request<'a>> {
+    let (name, found) = matches.subcommand()?;
+    match name {
+        "check" => Some(Request::Check(check_options(found)?)),
+        "replay" => Some(Request::Replay(replay_options(found)?)),
+        "explain" => Some(Request::Explain(explain_options(found)?)),
+        _ => None,
+    }
 }

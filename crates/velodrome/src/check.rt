@@ -6,6 +6,7 @@ ghost use Rattle.velo_events.specs.WellFormed.{IsWellFormed};
 ghost use Rattle.velo_events.specs.Refusals.{GrowthRefused};
 ghost use Rattle.velo_events.specs.declared.limits.TheConstants.{MOST_EVENTS, MOST_NODES};
 ghost use Rattle.velo_logtext.specs.Text.{AreBounds};
+ghost use Rattle.velo_report.specs.declared.names.Names.TheVariants.{Numbers};
 ghost use Rattle.velo_world.specs.Faults.{world_of};
 ghost use Rattle.velodrome.specs.Check.{Checks, IsEvidence, IsVerdict, Reports, Shows, read_failures, write_failures};
 ghost use Rattle.velodrome.specs.Faults.{check_fault_of, IsFaultOfLog};
@@ -101,12 +102,16 @@ fn verdict_of(closed: &Closed) -> Verdict
 }
 
 /// Writes the report of a closed world.
-fn write_report<O: Sink>(closed: &Closed, sink: &mut O) -> Result<Verdict, CheckFault>
-    ensures answer { Reports closed.now (O.contents sink.old) (O.contents sink.new) result }
+pub fn write_report<O: Sink>(
+    closed: &Closed,
+    names: &Names,
+    sink: &mut O,
+) -> Result<Verdict, CheckFault>
+    ensures answer { Reports names.now closed.now (O.contents sink.old) (O.contents sink.new) result }
     ensures written { O.failures sink.new ≡ write_failures result (O.failures sink.old) }
 {
     let verdict = verdict_of(closed);
-    match report(closed, &Names::Numbers, sink) {
+    match report(closed, names, sink) {
         Ok(()) => Ok(verdict),
         Err(WriteFault) => Err(CheckFault::Write),
     }
@@ -140,7 +145,7 @@ fn cycle_at(alloc: Global, log: &Trace, position: usize) -> Result<Vec<usize>, M
 }
 
 /// What certifies the verdict of a closed world.
-fn evidence_of(alloc: Global, closed: &Closed) -> Result<Vec<usize>, Memory>
+pub fn evidence_of(alloc: Global, closed: &Closed) -> Result<Vec<usize>, Memory>
     ensures evidence { IfOk result (λ list. IsEvidence closed.now.log list.items) }
     ensures memory { OnErr result GrowthRefused }
 {
@@ -151,16 +156,17 @@ fn evidence_of(alloc: Global, closed: &Closed) -> Result<Vec<usize>, Memory>
 }
 
 /// Writes the report of a closed world, and then the certificate of its verdict.
-fn write_certified<O: Sink>(
+pub fn write_certified<O: Sink>(
     closed: &Closed,
+    names: &Names,
     list: &[usize],
     sink: &mut O,
 ) -> Result<Verdict, CheckFault>
     requires { IsEvidence closed.now.log list.now }
-    ensures answer { Shows true closed.now (O.contents sink.old) (O.contents sink.new) result }
+    ensures answer { Shows names.now true closed.now (O.contents sink.old) (O.contents sink.new) result }
     ensures written { O.failures sink.new ≡ write_failures result (O.failures sink.old) }
 {
-    match write_report(closed, sink) {
+    match write_report(closed, names, sink) {
         Ok(verdict) => match certificate_lines(closed, list, sink) {
             Ok(()) => Ok(verdict),
             Err(WriteFault) => Err(CheckFault::Write),
@@ -176,14 +182,14 @@ fn write_answer<O: Sink>(
     certificate: bool,
     sink: &mut O,
 ) -> Result<Verdict, CheckFault>
-    ensures answer { Shows certificate closed.now (O.contents sink.old) (O.contents sink.new) result }
+    ensures answer { Shows Numbers certificate closed.now (O.contents sink.old) (O.contents sink.new) result }
     ensures written { O.failures sink.new ≡ write_failures result (O.failures sink.old) }
 {
     if !certificate {
-        return write_report(closed, sink);
+        return write_report(closed, &Names::Numbers, sink);
     }
     match evidence_of(alloc, closed) {
-        Ok(list) => write_certified(closed, &list, sink),
+        Ok(list) => write_certified(closed, &Names::Numbers, &list, sink),
         Err(Memory) => Err(CheckFault::Memory),
     }
 }

@@ -61,3 +61,44 @@ Refusals:
   16  lock held
   17  log full
   18  graph full";
+
+/// Behind the help of `replay`.
+pub const OF_REPLAY: &str = "\
+Example, two threads that take two locks in opposite orders:
+  printf 'lock m\\nlock n\\nthread main\\nfork a\\nacquire m\\nacquire n\\nrelease n\\nrelease m\\nthread a\\nacquire n\\nacquire m\\nrelease m\\nrelease n\\n' | velodrome replay - --schedule '0 0 1'
+It reports three events and 'verdict clean', and says 'stuck', with status 4.
+
+The workload: 'var NAME' and 'lock NAME' first; then for each thread a line 'thread NAME' and its statements, one a
+line: 'read x', 'write x', 'set n', 'add n', 'acquire m', 'release m', 'begin l', 'end', 'fork t', 'join t', and
+'repeat n' up to 'done'. '#' begins a comment. Thread 0 is the first; the others run once they are forked.
+README.md describes it whole, and the report.
+
+The schedule: in its turn a thread goes up to its next event and tries that; it passes where it must wait. After the
+turns of the schedule all threads have turns in rounds, up to the end.
+
+Statuses, each with the lines on standard error:
+  0  done without an alarm, or help
+  2  usage; 'bad schedule'; the text is no workload: 'workload fault K line N'
+  3  an alarm: no serial reordering of the run exists
+  4  the run could not go on: 'stuck', 'refused K thread T'; the report is written all the same
+  5  memory or a device failed: 'out of memory', 'read failed', 'write failed', 'cannot open'
+
+Workload faults, line 0 for the whole text:
+   1  bad line
+   2  unknown name
+   3  name declared twice
+   4  repeat without done, or done without repeat
+   5  too many
+
+Refusals: see 'velodrome check --help'.";
+
+/// Behind the help of `explain`.
+pub const OF_EXPLAIN: &str = "\
+Example, a lost update:
+  printf 'vlog 1 2 1 0\\n0 fork 1\\n0 begin 7\\n0 rd 0 0\\n1 wr 0 5\\n0 wr 0 1\\n' | velodrome explain -
+It tells which event closes a cycle, which transactions are on the cycle, which two events stand behind each of its
+edges, which blocks are to blame and why, each with its line of the log. Of a log without an alarm it tells how many
+transactions a serial order has; there is no picture then, and OUT is not opened.
+
+The log, the statuses and what their numbers mean are those of 'velodrome check --help'. A log has as many events and
+nodes as any check may have.";

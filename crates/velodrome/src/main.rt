@@ -3,27 +3,37 @@
 
 mod arguments;
 mod check;
+mod checking;
+mod explaining;
 mod fate;
+mod files;
 mod growth;
 mod help;
 mod program;
+mod reading;
+mod replaying;
+mod schedule;
 
-use crate::program::{Logs, end_without_words, run};
+use crate::files::Files;
+use crate::program::{end_without_words, run};
 use std::fs::File;
 use std::io::{ErrorKind, Stdin};
 use std::process::ExitCode;
 use velo_logtext::{ReaderSource, WriterSink};
 
-/// The files of the system.
+/// The files of the system, and the one that was opened last to be written.
 #[derive(Drop)]
 struct HostFiles<'a> {
     rt: &'a HostRuntime,
+    output: Option<WriterSink<File>>,
 }
 
-impl Logs for HostFiles<'_> {
-    type Log = ReaderSource<File>;
+impl Files for HostFiles<'_> {
+    type Input = ReaderSource<File>;
 
-    type Input = ReaderSource<Stdin>;
+    type StandardInput = ReaderSource<Stdin>;
+
+    type Output = WriterSink<File>;
 
     fn open(&self, path: &str) -> Option<ReaderSource<File>> {
         match File::open(self.rt, path) {
@@ -34,6 +44,14 @@ impl Logs for HostFiles<'_> {
 
     fn standard_input(&self) -> ReaderSource<Stdin> {
         ReaderSource::new(self.rt.stdin())
+    }
+
+    fn create(&mut self, path: &str) -> Option<&mut WriterSink<File>> {
+        self.output = match File::create(self.rt, path) {
+            Ok(file) => Some(WriterSink::new(file)),
+            Err(_) => None,
+        };
+        self.output.as_mut()
     }
 }
 
@@ -55,7 +73,10 @@ fn main(rt: HostRuntime) -> ExitCode {
         Ok(words) => run(
             rt.alloc(),
             words.as_slice(),
-            &HostFiles { rt: &rt },
+            &mut HostFiles {
+                rt: &rt,
+                output: None,
+            },
             &mut out,
             &mut err,
         ),

@@ -3,8 +3,10 @@ mod slow;
 
 use crate::check::{CheckFault, Verdict, check_run, config_of, do_log};
 use crate::fate::{Fate, end_with};
+use crate::files::Files;
 use crate::help;
-use crate::program::{Logs, end_without_words, run};
+use crate::program::{end_without_words, run};
+use crate::schedule::{MOST_TURNS, ScheduleFault, schedule_of};
 use crate::tests::slow::{BOUNDS, first_lines, world_by_chance};
 use std::alloc::Global;
 use std::io::{ErrorKind, Write};
@@ -28,17 +30,33 @@ const LOST_UPDATE_CERTIFIED: &str =
 const MERGED: &str =
     "vlog 1 2 1 0\n0 fork 1\n0 begin 1\n0 wr 0 1\n1 rd 0 1\n1 rd 0 1\n1 rd 0 1\n0 end\n";
 
-/// Logs by their paths, which come so many bytes at a time. Standard input is the first of them.
+/// Files by their paths, which come so many bytes at a time. Standard input is the first of them.
 #[derive(Drop)]
 struct Folder<'a> {
     files: &'a [(&'a str, &'a str)],
     step: usize,
+    alloc: Global,
+    /// What was written to a file.
+    output: Text,
 }
 
-impl<'a> Logs for Folder<'a> {
-    type Log = Bytes<'a>;
+impl<'a> Folder<'a> {
+    fn new(alloc: Global, files: &'a [(&'a str, &'a str)], step: usize) -> Folder<'a> {
+        Folder {
+            files,
+            step,
+            alloc,
+            output: Text::new(alloc),
+        }
+    }
+}
 
+impl<'a> Files for Folder<'a> {
     type Input = Bytes<'a>;
+
+    type StandardInput = Bytes<'a>;
+
+    type Output = Text;
 
     fn open(&self, path: &str) -> Option<Bytes<'a>> {
         for (name, log) in self.files {
@@ -56,6 +74,17 @@ impl<'a> Logs for Folder<'a> {
         };
         Bytes::new(log.as_bytes()).in_steps(self.step)
     }
+
+    fn create(&mut self, path: &str) -> Option<&mut Text> {
+        if path == "nowhere" {
+            return None;
+        }
+        let room = if path == "full" { 9 } else { usize::MAX };
+        self.output = Text::new(self.alloc)
+            .in_steps(self.step)
+            .failing_after(room);
+        Some(&mut self.output)
+    }
 }
 
 /// Standard output, standard error and the status of a run.
@@ -67,7 +96,7 @@ struct Shown {
 }
 
 /// Runs the program on these words. Both outputs take so many bytes at a time as the logs give.
-fn show(alloc: Global, words: &[&str], folder: &Folder) -> Shown {
+fn show(alloc: Global, words: &[&str], folder: &mut Folder) -> Shown {
     let mut out = Text::new(alloc).in_steps(folder.step);
     let mut err = Text::new(alloc).in_steps(folder.step);
     let status = run(alloc, words, folder, &mut out, &mut err);
@@ -308,15 +337,339 @@ fn logs_are_checked(rt: HostRuntime) {
     for run in &RUNS {
         for step in [1, usize::MAX] {
             let files = [("a.log", run.log)];
-            let folder = Folder {
-                files: &files,
-                step,
-            };
-            let shown = show(rt.alloc(), run.words, &folder);
+            let mut folder = Folder::new(rt.alloc(), &files, step);
+            let shown = show(rt.alloc(), run.words, &mut folder);
             assert_eq!(rt; shown.out.as_slice(), run.out.as_bytes(), "{}", run.log);
             assert_eq!(rt; shown.err.as_slice(), run.err.as_bytes(), "{}", run.log);
             assert_eq!(rt; shown.status, run.status);
         }
+    }
+}
+
+/// The lost update as a workload.
+const COLLIDING: &str =
+    "var x\nthread main\nfork a\nbegin inc\nread x\nadd 1\nwrite x\nend\njoin a\nthread a\nset 5\nwrite x\n";
+
+/// Two locks that are taken in opposite orders.
+const CROSSING: &str =
+    "lock m\nlock n\nthread main\nfork a\nacquire m\nacquire n\nrelease n\nrelease m\nthread a\nacquire n\nacquire m\nrelease m\nrelease n\n";
+
+const COLLIDING_LOG: &str =
+    "vlog 1 2 1 0\n0 fork 1\n0 begin 0\n0 rd 0 0\n1 wr 0 5\n0 wr 0 1\n0 end\n1 exit\n0 join 1\n0 exit\n";
+
+const COLLIDING_REPORT: &str =
+    "events 9\nthread 0 main 7\nthread 1 a 2\nverdict alarm 4\ntransaction 1\nblame 1 inc\n";
+
+/// What the program does with a workload, and the log that it writes.
+struct Replay {
+    words: &'static [&'static str],
+    workload: &'static str,
+    out: &'static str,
+    err: &'static str,
+    log: &'static str,
+    status: u8,
+}
+
+const REPLAYED: &[&str] = &[
+    "velodrome",
+    "replay",
+    "w",
+    "--schedule",
+    "0 0 0 1 0",
+    "--log",
+    "o.log",
+];
+
+const UNSCHEDULED: &[&str] = &["velodrome", "replay", "w"];
+
+static REPLAYS: [Replay; 17] = [
+    Replay {
+        words: REPLAYED,
+        workload: COLLIDING,
+        out: COLLIDING_REPORT,
+        err: "",
+        log: COLLIDING_LOG,
+        status: 3,
+    },
+    Replay {
+        words: &[
+            "velodrome",
+            "replay",
+            "-",
+            "--schedule",
+            "0 0 0 1 0",
+            "--stop",
+            "--log",
+            "o.log",
+        ],
+        workload: COLLIDING,
+        out: "events 5\nthread 0 main 4\nthread 1 a 1\nverdict alarm 4\ntransaction 1\nblame 1 inc\n",
+        err: "",
+        log: "vlog 1 2 1 0\n0 fork 1\n0 begin 0\n0 rd 0 0\n1 wr 0 5\n0 wr 0 1\n",
+        status: 3,
+    },
+    Replay {
+        words: UNSCHEDULED,
+        workload: "var x\nthread main\nset 18446744073709551615\nwrite x\nread x\nadd 1\nwrite x\n",
+        out: "events 4\nthread 0 main 4\nverdict clean\n",
+        err: "",
+        log: "",
+        status: 0,
+    },
+    Replay {
+        words: &["velodrome", "replay", "w", "--schedule", "0 0 1"],
+        workload: CROSSING,
+        out: "events 3\nthread 0 main 2\nthread 1 a 1\nverdict clean\n",
+        err: "stuck\n",
+        log: "",
+        status: 4,
+    },
+    Replay {
+        words: &["velodrome", "replay", "w", "--certificate"],
+        workload: "thread main",
+        out: "events 1\nthread 0 main 1\nverdict clean\nserial 0\n",
+        err: "",
+        log: "",
+        status: 0,
+    },
+    Replay {
+        words: &[
+            "velodrome",
+            "replay",
+            "w",
+            "--log",
+            "o.log",
+            "--schedule",
+            "",
+        ],
+        workload: "thread main\nend\n",
+        out: "events 0\nthread 0 main 0\nverdict clean\n",
+        err: "refused 9 thread 0\n",
+        log: "vlog 1 1 0 0\n",
+        status: 4,
+    },
+    Replay {
+        words: &[
+            "velodrome",
+            "replay",
+            "w",
+            "--log",
+            "o.log",
+            "--events",
+            "2",
+        ],
+        workload: COLLIDING,
+        out: "events 2\nthread 0 main 1\nthread 1 a 1\nverdict clean\n",
+        err: "refused 17 thread 0\n",
+        log: "vlog 1 2 1 0\n0 fork 1\n1 wr 0 5\n",
+        status: 4,
+    },
+    Replay {
+        words: UNSCHEDULED,
+        workload: "",
+        out: "",
+        err: "workload fault 1 line 0\n",
+        log: "",
+        status: 2,
+    },
+    Replay {
+        words: UNSCHEDULED,
+        workload: "thread main\nread x\n",
+        out: "",
+        err: "workload fault 2 line 2\n",
+        log: "",
+        status: 2,
+    },
+    Replay {
+        words: UNSCHEDULED,
+        workload: "var x\nvar x\nthread main\n",
+        out: "",
+        err: "workload fault 3 line 2\n",
+        log: "",
+        status: 2,
+    },
+    Replay {
+        words: UNSCHEDULED,
+        workload: "thread main\ndone\n",
+        out: "",
+        err: "workload fault 4 line 2\n",
+        log: "",
+        status: 2,
+    },
+    Replay {
+        words: UNSCHEDULED,
+        workload: "thread main\nrepeat 18446744073709551615\nset 1\ndone\n",
+        out: "",
+        err: "workload fault 5 line 1\n",
+        log: "",
+        status: 2,
+    },
+    Replay {
+        words: &["velodrome", "replay", "v"],
+        workload: "thread main",
+        out: "",
+        err: "cannot open\n",
+        log: "",
+        status: 5,
+    },
+    Replay {
+        words: &["velodrome", "replay", "v", "--schedule", "64"],
+        workload: "thread main",
+        out: "",
+        err: "bad schedule\n",
+        log: "",
+        status: 2,
+    },
+    Replay {
+        words: &["velodrome", "replay", "w", "--log", "nowhere"],
+        workload: "thread main\nend\n",
+        out: "",
+        err: "cannot open\n",
+        log: "",
+        status: 5,
+    },
+    Replay {
+        words: &["velodrome", "replay", "w", "--log", "full"],
+        workload: COLLIDING,
+        out: "",
+        err: "write failed\n",
+        log: "vlog 1 2 ",
+        status: 5,
+    },
+    Replay {
+        words: &["velodrome", "replay", "w", "--log", "full", "--certificate"],
+        workload: COLLIDING,
+        out: "",
+        err: "write failed\n",
+        log: "vlog 1 2 ",
+        status: 5,
+    },
+];
+
+#[test]
+fn workloads_are_replayed(rt: HostRuntime) {
+    for run in &REPLAYS {
+        for step in [1, usize::MAX] {
+            let files = [("w", run.workload)];
+            let mut folder = Folder::new(rt.alloc(), &files, step);
+            let shown = show(rt.alloc(), run.words, &mut folder);
+            assert_eq!(rt;
+                shown.out.as_slice(),
+                run.out.as_bytes(),
+                "{}",
+                run.workload
+            );
+            assert_eq!(rt;
+                shown.err.as_slice(),
+                run.err.as_bytes(),
+                "{}",
+                run.workload
+            );
+            assert_eq!(rt;
+                folder.output.as_slice(),
+                run.log.as_bytes(),
+                "{}",
+                run.workload
+            );
+            assert_eq!(rt; shown.status, run.status);
+        }
+    }
+}
+
+/// Texts of schedules, with the numbers that they mean.
+const SCHEDULES: [(&str, &[u8]); 6] = [
+    ("", &[]),
+    ("0", &[0]),
+    ("63", &[63]),
+    ("0 0 1", &[0, 0, 1]),
+    ("10 9 60 59", &[10, 9, 60, 59]),
+    ("1 1", &[1, 1]),
+];
+
+const BAD_SCHEDULES: [&str; 16] = [
+    "64", "01", "0 x", " ", " 0", "0 ", "0  1", "100", "+1", "-1", "70", "0,1", "0\t1", "0\n",
+    "00", "x",
+];
+
+#[test]
+fn schedules_are_read(rt: HostRuntime) -> Result<(), Fail> {
+    for (text, numbers) in SCHEDULES {
+        match schedule_of(rt.alloc(), text) {
+            Ok(schedule) => {
+                assert_eq!(rt; schedule.len(), numbers.len());
+                assert!(rt;
+                    schedule.iter().zip(numbers).all(|(t, n)| t.0 == *n),
+                    "{text}"
+                );
+            }
+            Err(_) => return Err("a schedule was not read".into()),
+        }
+    }
+    for text in BAD_SCHEDULES {
+        assert!(rt;
+            schedule_of(rt.alloc(), text) == Err(ScheduleFault::Bad),
+            "{text}"
+        );
+    }
+    Ok(())
+}
+
+/// A schedule of the most numbers, and one of one more.
+#[test]
+fn long_schedules(rt: HostRuntime) -> Result<(), Fail> {
+    let mut text = String::from_str(rt.alloc(), "0")?;
+    for _ in 1..MOST_TURNS {
+        text.push_str(" 0")?;
+    }
+    assert!(rt; schedule_of(rt.alloc(), text.as_str()).is_ok());
+    text.push_str(" 0")?;
+    assert!(rt; schedule_of(rt.alloc(), text.as_str()) == Err(ScheduleFault::Bad));
+    Ok(())
+}
+
+const LOST_UPDATE_EXPLAINED: &str = "\
+The blocks of this log cannot be serialized.
+Line 6 `0 wr 0 1` closes a cycle of 2 transactions:
+  T1: thread 0, block 7, lines 3 to 6
+  T2: thread 1, outside blocks, line 5
+Each must come before the next, and the last before the first:
+  T1 before T2: line 4 `0 rd 0 0`, then line 5 `1 wr 0 5`
+  T2 before T1: line 5 `1 wr 0 5`, then line 6 `0 wr 0 1`
+To blame in thread 0:
+  block 7, from line 3: line 5 `1 wr 0 5` must come after its begin and before line 6
+";
+
+const LOST_UPDATE_DRAWN: &str = "\
+digraph cycle {
+  node [shape=box];
+  subgraph cluster_0 { label=\"thread 0\"; T1 [label=\"T1: block 7\\nlines 3 to 6\"]; }
+  subgraph cluster_1 { label=\"thread 1\"; T2 [label=\"T2: outside blocks\\nline 5\"]; }
+  T1 -> T2 [label=\"line 4: 0 rd 0 0\\nline 5: 1 wr 0 5\"];
+  T2 -> T1 [label=\"line 5: 1 wr 0 5\\nline 6: 0 wr 0 1\"];
+}
+";
+
+/// Logs with their explanation, their picture and the status.
+const EXPLAINED: [(&str, &str, &str, u8); 2] = [
+    (
+        "vlog 1 1 0 0\n",
+        "The blocks of this log can be serialized.\nEvents: 0\nTransactions, which can follow one another: 0\n",
+        "",
+        0,
+    ),
+    (LOST_UPDATE, LOST_UPDATE_EXPLAINED, LOST_UPDATE_DRAWN, 3),
+];
+
+#[test]
+fn verdicts_are_explained(rt: HostRuntime) {
+    for (log, words, picture, status) in EXPLAINED {
+        let files = [("a.log", log)];
+        let mut folder = Folder::new(rt.alloc(), &files, usize::MAX);
+        let asked = ["velodrome", "explain", "a.log", "--dot", "o.dot"];
+        let shown = show(rt.alloc(), &asked, &mut folder);
+        assert_eq!(rt; shown.out.as_slice(), words.as_bytes());
+        assert_eq!(rt; folder.output.as_slice(), picture.as_bytes());
+        assert_eq!(rt; shown.status, status);
     }
 }
 
@@ -400,12 +753,9 @@ const FILES: [(&str, &str); 2] = [("a.log", LOST_UPDATE), ("b.log", "vlog 1 1 0 
 
 #[test]
 fn command_lines(rt: HostRuntime) {
-    let folder = Folder {
-        files: &FILES,
-        step: usize::MAX,
-    };
+    let mut folder = Folder::new(rt.alloc(), &FILES, usize::MAX);
     for (words, status) in RIGHT_WORDS {
-        let shown = show(rt.alloc(), words, &folder);
+        let shown = show(rt.alloc(), words, &mut folder);
         assert_eq!(rt; shown.status, status);
         assert_eq!(rt; shown.out.as_slice().is_empty(), status > 3);
         assert_eq!(rt; shown.err.as_slice().is_empty(), status <= 3);
@@ -414,7 +764,7 @@ fn command_lines(rt: HostRuntime) {
         }
     }
     for words in WRONG_WORDS {
-        let shown = show(rt.alloc(), words, &folder);
+        let shown = show(rt.alloc(), words, &mut folder);
         assert_eq!(rt; shown.status, 2);
         assert!(rt; shown.out.as_slice().is_empty());
         assert!(rt; shown.err.as_slice().starts_with(b"error: "));
@@ -422,7 +772,9 @@ fn command_lines(rt: HostRuntime) {
 }
 
 /// Words that ask for help, and what stands at its end.
-const HELP: [(&[&str], &str); 6] = [
+const HELP: [(&[&str], &str); 8] = [
+    (&["velodrome", "replay", "--help"], help::OF_REPLAY),
+    (&["velodrome", "explain", "--help"], help::OF_EXPLAIN),
     (&["velodrome", "--help"], help::OF_PROGRAM),
     (&["velodrome", "help"], help::OF_PROGRAM),
     (&["velodrome", "check", "--help"], help::OF_CHECK),
@@ -433,12 +785,9 @@ const HELP: [(&[&str], &str); 6] = [
 
 #[test]
 fn help_goes_to_standard_output(rt: HostRuntime) {
-    let folder = Folder {
-        files: &FILES,
-        step: usize::MAX,
-    };
+    let mut folder = Folder::new(rt.alloc(), &FILES, usize::MAX);
     for (words, end) in HELP {
-        let shown = show(rt.alloc(), words, &folder);
+        let shown = show(rt.alloc(), words, &mut folder);
         assert_eq!(rt; shown.status, 0);
         assert!(rt; shown.err.as_slice().is_empty());
         assert!(rt;
@@ -451,7 +800,7 @@ fn help_goes_to_standard_output(rt: HostRuntime) {
         );
         let mut full = Text::new(rt.alloc()).failing_after(9);
         let mut err = Text::new(rt.alloc());
-        assert_eq!(rt; run(rt.alloc(), words, &folder, &mut full, &mut err), 5);
+        assert_eq!(rt; run(rt.alloc(), words, &mut folder, &mut full, &mut err), 5);
         assert_eq!(rt; err.as_slice(), b"write failed\n".as_slice());
     }
 }
@@ -512,13 +861,16 @@ fn devices_fail(rt: HostRuntime) {
         assert_eq!(rt; answer, Err(CheckFault::Write));
         assert_eq!(rt; sink.as_slice(), &written[..count]);
     }
-    let folder = Folder {
-        files: &FILES,
-        step: usize::MAX,
-    };
+    let mut folder = Folder::new(rt.alloc(), &FILES, usize::MAX);
     let mut out = Text::new(rt.alloc());
     let mut closed = Text::new(rt.alloc()).failing_after(0);
-    let status = run(rt.alloc(), &["velodrome"], &folder, &mut out, &mut closed);
+    let status = run(
+        rt.alloc(),
+        &["velodrome"],
+        &mut folder,
+        &mut out,
+        &mut closed,
+    );
     assert_eq!(rt; status, 5);
 }
 
@@ -592,16 +944,13 @@ fn one_write_for_a_line(rt: HostRuntime) {
         let _status = end_with(&fate, &mut err);
         assert_eq!(rt; err.writer.0, 1);
     }
-    let folder = Folder {
-        files: &FILES,
-        step: usize::MAX,
-    };
+    let mut folder = Folder::new(rt.alloc(), &FILES, usize::MAX);
     let mut out = WriterSink::new(Calls(0));
     let mut err = WriterSink::new(Calls(0));
     let _status = run(
         rt.alloc(),
         &["velodrome", "race"],
-        &folder,
+        &mut folder,
         &mut out,
         &mut err,
     );
@@ -609,7 +958,7 @@ fn one_write_for_a_line(rt: HostRuntime) {
     let _status = run(
         rt.alloc(),
         &["velodrome", "--help"],
-        &folder,
+        &mut folder,
         &mut out,
         &mut err,
     );

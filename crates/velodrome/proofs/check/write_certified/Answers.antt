@@ -7,12 +7,12 @@ certificate_lines-requires g c = Certifies-evidence c.args.closed.now.log c.args
 pub returns-in-Ok-certificate_lines-clause-answer : goal.returns-in-Ok-certificate_lines-clause-answer
 returns-in-Ok-certificate_lines-clause-answer g c = (
   c.in-Ok.ensures.answer.0,
-  certified_whole c.args.closed.now c.args.list.now c.requires _ _ _ c.in-Ok.ensures.answer.1 c.in-Ok-certificate_lines.ensures.ok,
+  certified_whole c.args.names.now c.args.closed.now c.args.list.now c.requires _ _ _ c.in-Ok.ensures.answer.1 c.in-Ok-certificate_lines.ensures.ok,
 )
 
 pub returns-in-Err-certificate_lines-clause-answer : goal.returns-in-Err-certificate_lines-clause-answer
 returns-in-Err-certificate_lines-clause-answer g c =
-    certified_part c.args.closed.now c.args.list.now c.requires _ _ _ c.in-Ok.ensures.answer.1 c.in-Err-certificate_lines.ensures.err
+    certified_part c.args.names.now c.args.closed.now c.args.list.now c.requires _ _ _ c.in-Ok.ensures.answer.1 c.in-Err-certificate_lines.ensures.err
 
 pub returns-in-Err-clause-answer : goal.returns-in-Err-clause-answer
-returns-in-Err-clause-answer g c = Shows-failed c.args.closed.now c.args.list.now c.requires _ _ c.in-Err.fault c.in-Err.ensures.answer
+returns-in-Err-clause-answer g c = Shows-failed c.args.names.now c.args.closed.now c.args.list.now c.requires _ _ c.in-Err.fault c.in-Err.ensures.answer
