@@ -9,7 +9,7 @@ use Rattle.velo_explain.specs.Pieces.{event_text, block_text, lines_text, joined
 use Rattle.velo_explain.specs.Text.{line_of, numbered, next_number}
 
 unfoldable pub start_text : List ℕ
-start_text = codes "digraph cycle {\n  node [shape=box];\n"
+start_text = codes "digraph cycle {\n  rankdir=LR;\n  node [shape=box];\n"
 
 -- "  subgraph cluster_0 { label="thread 0"; T1 [label="T1: block 7\nlines 3 to 6"]; }". Boxes of one thread are put
 -- together, since clusters of one name are one.

@@ -20,7 +20,7 @@ fn add_start(page: &mut Page) -> Result<(), Memory>
     ensures ok { OnOk result (page.new ≡ page.old ++ start_text) }
     ensures memory { OnErr result GrowthRefused }
 {
-    page.add(&[Piece::Text("digraph cycle {\n  node [shape=box];\n")])?;
+    page.add(&[Piece::Text("digraph cycle {\n  rankdir=LR;\n  node [shape=box];\n")])?;
     Ok(())
 }
 

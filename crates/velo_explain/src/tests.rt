@@ -65,6 +65,7 @@ To blame in thread 0:
 ",
         picture: "\
 digraph cycle {
+  rankdir=LR;
   node [shape=box];
   subgraph cluster_0 { label=\"thread 0\"; T1 [label=\"T1: block 7\\nlines 3 to 6\"]; }
   subgraph cluster_1 { label=\"thread 1\"; T2 [label=\"T2: outside blocks\\nline 5\"]; }
@@ -97,6 +98,7 @@ No block alone is to blame: each can be brought together, but not all transactio
 ",
         picture: "\
 digraph cycle {
+  rankdir=LR;
   node [shape=box];
   subgraph cluster_1 { label=\"thread 1\"; T1 [label=\"T1: block 2\\nlines 5 to 8\"]; }
   subgraph cluster_0 { label=\"thread 0\"; T2 [label=\"T2: block 1\\nlines 3 to 7\"]; }
@@ -131,6 +133,7 @@ To blame in thread 0:
 ",
         picture: "\
 digraph cycle {
+  rankdir=LR;
   node [shape=box];
   subgraph cluster_0 { label=\"thread 0\"; T1 [label=\"T1: block 1\\nlines 3 to 9\"]; }
   subgraph cluster_1 { label=\"thread 1\"; T2 [label=\"T2: outside blocks\\nline 7\"]; }

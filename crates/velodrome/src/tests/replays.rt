@@ -1,0 +1,285 @@
+//! Replays of workloads by schedules.
+use crate::schedule::{MOST_TURNS, ScheduleFault, schedule_of};
+use crate::tests::{Folder, show};
+use std::test::Fail;
+
+/// The lost update as a workload.
+const COLLIDING: &str =
+    "var x\nthread main\nfork a\nbegin inc\nread x\nadd 1\nwrite x\nend\njoin a\nthread a\nset 5\nwrite x\n";
+
+/// Two locks that are taken in opposite orders.
+const CROSSING: &str =
+    "lock m\nlock n\nthread main\nfork a\nacquire m\nacquire n\nrelease n\nrelease m\nthread a\nacquire n\nacquire m\nrelease m\nrelease n\n";
+
+const COLLIDING_LOG: &str =
+    "vlog 1 2 1 0\n0 fork 1\n0 begin 0\n0 rd 0 0\n1 wr 0 5\n0 wr 0 1\n0 end\n1 exit\n0 join 1\n0 exit\n";
+
+const COLLIDING_REPORT: &str =
+    "events 9\nthread 0 main 7\nthread 1 a 2\nverdict alarm 4\ntransaction 1\nblame 1 inc\n";
+
+/// What the program does with a workload, and the log that it writes.
+struct Replay {
+    words: &'static [&'static str],
+    workload: &'static str,
+    out: &'static str,
+    err: &'static str,
+    log: &'static str,
+    status: u8,
+}
+
+const REPLAYED: &[&str] = &[
+    "velodrome",
+    "replay",
+    "w",
+    "--schedule",
+    "0 0 0 1 0",
+    "--log",
+    "o.log",
+];
+
+const UNSCHEDULED: &[&str] = &["velodrome", "replay", "w"];
+
+static REPLAYS: [Replay; 17] = [
+    Replay {
+        words: REPLAYED,
+        workload: COLLIDING,
+        out: COLLIDING_REPORT,
+        err: "",
+        log: COLLIDING_LOG,
+        status: 3,
+    },
+    Replay {
+        words: &[
+            "velodrome",
+            "replay",
+            "-",
+            "--schedule",
+            "0 0 0 1 0",
+            "--stop",
+            "--log",
+            "o.log",
+        ],
+        workload: COLLIDING,
+        out: "events 5\nthread 0 main 4\nthread 1 a 1\nverdict alarm 4\ntransaction 1\nblame 1 inc\n",
+        err: "",
+        log: "vlog 1 2 1 0\n0 fork 1\n0 begin 0\n0 rd 0 0\n1 wr 0 5\n0 wr 0 1\n",
+        status: 3,
+    },
+    Replay {
+        words: UNSCHEDULED,
+        workload: "var x\nthread main\nset 18446744073709551615\nwrite x\nread x\nadd 1\nwrite x\n",
+        out: "events 4\nthread 0 main 4\nverdict clean\n",
+        err: "",
+        log: "",
+        status: 0,
+    },
+    Replay {
+        words: &["velodrome", "replay", "w", "--schedule", "0 0 1"],
+        workload: CROSSING,
+        out: "events 3\nthread 0 main 2\nthread 1 a 1\nverdict clean\n",
+        err: "stuck\n",
+        log: "",
+        status: 4,
+    },
+    Replay {
+        words: &["velodrome", "replay", "w", "--certificate"],
+        workload: "thread main",
+        out: "events 1\nthread 0 main 1\nverdict clean\nserial 0\n",
+        err: "",
+        log: "",
+        status: 0,
+    },
+    Replay {
+        words: &[
+            "velodrome",
+            "replay",
+            "w",
+            "--log",
+            "o.log",
+            "--schedule",
+            "",
+        ],
+        workload: "thread main\nend\n",
+        out: "events 0\nthread 0 main 0\nverdict clean\n",
+        err: "refused 9 thread 0\n",
+        log: "vlog 1 1 0 0\n",
+        status: 4,
+    },
+    Replay {
+        words: &[
+            "velodrome",
+            "replay",
+            "w",
+            "--log",
+            "o.log",
+            "--events",
+            "2",
+        ],
+        workload: COLLIDING,
+        out: "events 2\nthread 0 main 1\nthread 1 a 1\nverdict clean\n",
+        err: "refused 17 thread 0\n",
+        log: "vlog 1 2 1 0\n0 fork 1\n1 wr 0 5\n",
+        status: 4,
+    },
+    Replay {
+        words: UNSCHEDULED,
+        workload: "",
+        out: "",
+        err: "workload fault 1 line 0\n",
+        log: "",
+        status: 2,
+    },
+    Replay {
+        words: UNSCHEDULED,
+        workload: "thread main\nread x\n",
+        out: "",
+        err: "workload fault 2 line 2\n",
+        log: "",
+        status: 2,
+    },
+    Replay {
+        words: UNSCHEDULED,
+        workload: "var x\nvar x\nthread main\n",
+        out: "",
+        err: "workload fault 3 line 2\n",
+        log: "",
+        status: 2,
+    },
+    Replay {
+        words: UNSCHEDULED,
+        workload: "thread main\ndone\n",
+        out: "",
+        err: "workload fault 4 line 2\n",
+        log: "",
+        status: 2,
+    },
+    Replay {
+        words: UNSCHEDULED,
+        workload: "thread main\nrepeat 18446744073709551615\nset 1\ndone\n",
+        out: "",
+        err: "workload fault 5 line 1\n",
+        log: "",
+        status: 2,
+    },
+    Replay {
+        words: &["velodrome", "replay", "v"],
+        workload: "thread main",
+        out: "",
+        err: "cannot open\n",
+        log: "",
+        status: 5,
+    },
+    Replay {
+        words: &["velodrome", "replay", "v", "--schedule", "64"],
+        workload: "thread main",
+        out: "",
+        err: "bad schedule\n",
+        log: "",
+        status: 2,
+    },
+    Replay {
+        words: &["velodrome", "replay", "w", "--log", "nowhere"],
+        workload: "thread main\nend\n",
+        out: "",
+        err: "cannot open\n",
+        log: "",
+        status: 5,
+    },
+    Replay {
+        words: &["velodrome", "replay", "w", "--log", "full"],
+        workload: COLLIDING,
+        out: "",
+        err: "write failed\n",
+        log: "vlog 1 2 ",
+        status: 5,
+    },
+    Replay {
+        words: &["velodrome", "replay", "w", "--log", "full", "--certificate"],
+        workload: COLLIDING,
+        out: "",
+        err: "write failed\n",
+        log: "vlog 1 2 ",
+        status: 5,
+    },
+];
+
+#[test]
+fn workloads_are_replayed(rt: HostRuntime) {
+    for run in &REPLAYS {
+        for step in [1, usize::MAX] {
+            let files = [("w", run.workload)];
+            let mut folder = Folder::new(rt.alloc(), &files, step);
+            let shown = show(rt.alloc(), run.words, &mut folder);
+            assert_eq!(rt;
+                shown.out.as_slice(),
+                run.out.as_bytes(),
+                "{}",
+                run.workload
+            );
+            assert_eq!(rt;
+                shown.err.as_slice(),
+                run.err.as_bytes(),
+                "{}",
+                run.workload
+            );
+            assert_eq!(rt;
+                folder.output.as_slice(),
+                run.log.as_bytes(),
+                "{}",
+                run.workload
+            );
+            assert_eq!(rt; shown.status, run.status);
+        }
+    }
+}
+
+/// Texts of schedules, with the numbers that they mean.
+const SCHEDULES: [(&str, &[u8]); 6] = [
+    ("", &[]),
+    ("0", &[0]),
+    ("63", &[63]),
+    ("0 0 1", &[0, 0, 1]),
+    ("10 9 60 59", &[10, 9, 60, 59]),
+    ("1 1", &[1, 1]),
+];
+
+const BAD_SCHEDULES: [&str; 16] = [
+    "64", "01", "0 x", " ", " 0", "0 ", "0  1", "100", "+1", "-1", "70", "0,1", "0\t1", "0\n",
+    "00", "x",
+];
+
+#[test]
+fn schedules_are_read(rt: HostRuntime) -> Result<(), Fail> {
+    for (text, numbers) in SCHEDULES {
+        match schedule_of(rt.alloc(), text) {
+            Ok(schedule) => {
+                assert_eq!(rt; schedule.len(), numbers.len());
+                assert!(rt;
+                    schedule.iter().zip(numbers).all(|(t, n)| t.0 == *n),
+                    "{text}"
+                );
+            }
+            Err(_) => return Err("a schedule was not read".into()),
+        }
+    }
+    for text in BAD_SCHEDULES {
+        assert!(rt;
+            schedule_of(rt.alloc(), text) == Err(ScheduleFault::Bad),
+            "{text}"
+        );
+    }
+    Ok(())
+}
+
+/// A schedule of the most numbers, and one of one more.
+#[test]
+fn long_schedules(rt: HostRuntime) -> Result<(), Fail> {
+    let mut text = String::from_str(rt.alloc(), "0")?;
+    for _ in 1..MOST_TURNS {
+        text.push_str(" 0")?;
+    }
+    assert!(rt; schedule_of(rt.alloc(), text.as_str()).is_ok());
+    text.push_str(" 0")?;
+    assert!(rt; schedule_of(rt.alloc(), text.as_str()) == Err(ScheduleFault::Bad));
+    Ok(())
+}
