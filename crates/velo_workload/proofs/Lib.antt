@@ -5,4 +5,5 @@ pub mod OnNumbers
 pub mod OnParsing
 pub mod OnPhrases
 pub mod OnReading
+pub mod OnTold
 pub mod OnWords

@@ -1,12 +1,12 @@
 -- How far the second pass has come.
-use Rattle.std.specs.Prelude.{ℕ, ◌≡◌, List, [], ◌∷◌, ◌++◌, map, Option}
+use Rattle.std.specs.Prelude.{ℕ, ◌≡◌, List, [], ◌∷◌, ◌++◌, map, drop}
 use Rattle.std.specs.Option.{option_to_list}
 use Rattle.velo_workload.specs.declared.statement.Statement.{Statement}
 use Rattle.velo_workload.specs.declared.bodies.Bodies.{Bodies}
-use Rattle.velo_workload.specs.Phrase.{Phrase, phrases, Thread, Body}
+use Rattle.velo_workload.specs.Phrase.{Phrase, Thread, Body}
 use Rattle.velo_workload.specs.Outline.{Names}
-use Rattle.velo_workload.specs.Known.{phrases_left}
-use Rattle.velo_workload.specs.Program.{statement_of, first_unknown, body_from, bodies}
+use Rattle.velo_workload.specs.Told.{Told, phrases_of, unknown_told}
+use Rattle.velo_workload.specs.Program.{statement_of, body_from, bodies}
 
 -- The bodies that are whole, and the one that is read. The first is what stands before the first thread.
 pub record Built : Type 0 where
@@ -26,7 +26,7 @@ with_phrase names b p = b
 abbrev pub bodies_with : Names → Built → List Phrase → List (List Statement)
 bodies_with names b ps = b.whole ++ (b.current ++ body_from names ps) ∷ bodies names ps
 
--- n lines of the text were read, these are left, and no line that was read uses an undeclared name
-pub record IsBuiltUpTo (text : List ℕ) (rest : Option (List ℕ)) (names : Names) (b : Bodies) (n : ℕ) : Type 0 where
-  pub all : bodies_with names (built_of b) (phrases_left rest) ≡ body_from names (phrases text) ∷ bodies names (phrases text)
-  pub fault : first_unknown names n (phrases_left rest) ≡ first_unknown names 0 (phrases text)
+-- the lines of ts from place i on are left, and no line before it uses an undeclared name
+pub record IsBuiltUpTo (ts : List Told) (i : ℕ) (names : Names) (b : Bodies) : Type 0 where
+  pub all : bodies_with names (built_of b) (phrases_of (drop i ts)) ≡ body_from names (phrases_of ts) ∷ bodies names (phrases_of ts)
+  pub fault : unknown_told names (drop i ts) ≡ unknown_told names ts

@@ -1,18 +1,19 @@
-//! The second pass over a text: the bodies of its threads.
+//! The second pass: the bodies of a text's threads.
 ghost use Rattle.std.specs.Prelude.{◌≡◌, ◌++◌, ◌∷◌, [], OnOk, OnErr};
 ghost use Rattle.velo_events.specs.Refusals.{GrowthRefused};
-ghost use Rattle.velo_workload.specs.Phrase.{said, phrases};
+ghost use Rattle.velo_workload.specs.Phrase.{said};
 ghost use Rattle.velo_workload.specs.Outline.{AreFew, names_in, Judges};
 ghost use Rattle.velo_workload.specs.Known.{known_of};
-ghost use Rattle.velo_workload.specs.Program.{unknown_in, first_unknown, body_from, bodies};
+ghost use Rattle.velo_workload.specs.Program.{unknown_in, body_from, bodies};
+ghost use Rattle.velo_workload.specs.Told.{told_of, phrases_of, unknown_told};
 ghost use Rattle.velo_workload.specs.Building.{built_of, with_phrase};
 
 use crate::fault::WorkFault;
+use crate::lines::Line;
 use crate::outline::Outline;
-use crate::phrase::{Phrase, read_phrase};
+use crate::phrase::Phrase;
 use crate::resolving::statement;
 use crate::statement::Statement;
-use crate::words::next_line;
 use std::alloc::Global;
 use std::mem::replace;
 use velo_events::Memory;
@@ -81,23 +82,18 @@ impl Bodies {
         }
     }
 
-    /// Reads a text's lines, before any other.
-    pub fn read(&mut self, outline: &Outline, text: &[u8]) -> Result<(), WorkFault>
+    /// Reads the lines that the first pass has kept, before any other.
+    pub fn read(&mut self, outline: &Outline, lines: &[Line]) -> Result<(), WorkFault>
         requires few { AreFew (known_of outline.now) }
         requires none { built_of self.old ≡ record { whole = []; current = [] } }
-        ensures judged { Judges (first_unknown (names_in (known_of outline.now)) 0 (phrases text.now)) result }
-        ensures bodies { OnOk result ((built_of self.new).whole ≡ body_from (names_in (known_of outline.now)) (phrases text.now) ∷ bodies (names_in (known_of outline.now)) (phrases text.now)) }
+        ensures judged { Judges (unknown_told (names_in (known_of outline.now)) (told_of lines.now)) result }
+        ensures bodies { OnOk result ((built_of self.new).whole ≡ body_from (names_in (known_of outline.now)) (phrases_of (told_of lines.now)) ∷ bodies (names_in (known_of outline.now)) (phrases_of (told_of lines.now))) }
     {
-        let mut rest = Some(text);
-        let mut number = 0;
-        while let Some(bytes) = rest {
-            let (line, more) = next_line(bytes);
-            number += 1;
-            match self.take(outline, read_phrase(line), number) {
+        for line in lines {
+            match self.take(outline, line.phrase, line.number) {
                 Ok(()) => {}
                 Err(fault) => return Err(fault),
             }
-            rest = more;
         }
         match self.finish() {
             Ok(()) => Ok(()),

@@ -5,6 +5,7 @@ mod bodies;
 mod fault;
 mod growth;
 mod limits;
+mod lines;
 mod names;
 mod naming;
 mod nesting;

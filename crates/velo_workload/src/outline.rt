@@ -4,10 +4,12 @@ ghost use Rattle.velo_workload.specs.Phrase.{said, spoken, phrases, Body, Thread
 ghost use Rattle.velo_workload.specs.Outline.{AreFew, names_in, Judges, known, first_fault, fault_of_line, statement_fault, full_fault, fault_at_end};
 ghost use Rattle.velo_events.specs.Refusals.{GrowthRefused};
 ghost use Rattle.velo_workload.specs.Known.{known_of, kept_of, whole, with_line};
+ghost use Rattle.velo_workload.specs.Told.{told, told_of};
 
 use crate::fault::WorkFault;
 use crate::growth::insert;
 use crate::limits::{MOST_OPEN_REPEATS, MOST_STATEMENTS, MOST_VARIABLES};
+use crate::lines::{Line, keep};
 use crate::names::{count, declare};
 use crate::nesting::Nesting;
 use crate::phrase::{Phrase, Spoken, read_phrase};
@@ -153,21 +155,28 @@ impl<'a> Outline<'a> {
         }
     }
 
-    /// Reads a text's lines, before any other.
-    pub fn read(&mut self, text: &'a [u8]) -> Result<(), WorkFault>
-        requires { kept_of self.old ≡ whole [] }
+    /// Reads a text's lines, before any other, and keeps those of threads and bodies.
+    pub fn read(&mut self, text: &'a [u8], lines: &mut Vec<Line<'a>>) -> Result<(), WorkFault>
+        requires first { kept_of self.old ≡ whole [] }
+        requires none { lines.old.items ≡ [] }
         ensures judged { Judges (first_fault (phrases text.now)) result }
         ensures names { OnOk result (names_in (known_of self.new) ≡ names_in (known (phrases text.now))) }
         ensures few { OnOk result (AreFew (known_of self.new)) }
+        ensures lines { OnOk result (told_of lines.new.items ≡ told 0 (phrases text.now)) }
     {
         let mut rest = Some(text);
         let mut number = 0;
         while let Some(bytes) = rest {
             let (line, more) = next_line(bytes);
+            let phrase = read_phrase(line);
             number += 1;
-            match self.take(read_phrase(line), number) {
+            match self.take(phrase, number) {
                 Ok(()) => {}
                 Err(fault) => return Err(fault),
+            }
+            match keep(lines, phrase, number) {
+                Ok(()) => {}
+                Err(_) => return Err(WorkFault::Memory),
             }
             rest = more;
         }

@@ -5,16 +5,17 @@ ghost use Rattle.std.specs.Str.{IsUtf8};
 ghost use Rattle.velo_events.specs.Refusals.{GrowthRefused};
 ghost use Rattle.velo_workload.specs.Names.{names_of};
 ghost use Rattle.velo_workload.specs.Bodies.{AreBodies};
-ghost use Rattle.velo_workload.specs.Phrase.{phrases};
 ghost use Rattle.velo_workload.specs.Outline.{AreFew, Judges, names_in};
 ghost use Rattle.velo_workload.specs.Known.{known_of, kept_of, whole};
-ghost use Rattle.velo_workload.specs.Program.{Program, bodies, first_unknown, meaning_of, Answers};
+ghost use Rattle.velo_workload.specs.Program.{Program, bodies, meaning_of, Answers};
+ghost use Rattle.velo_workload.specs.Told.{told_of, phrases_of, unknown_told};
 ghost use Rattle.velo_workload.specs.declared.limits.TheConstants.{MOST_WORKLOAD_BYTES};
 
 use crate::bodies::Bodies;
 use crate::fault::WorkFault;
 use crate::growth::copied;
 use crate::limits::MOST_WORKLOAD_BYTES;
+use crate::lines::Line;
 use crate::names::count;
 use crate::outline::Outline;
 use crate::statement::Statement;
@@ -120,18 +121,18 @@ fn assemble(
     })
 }
 
-/// The bodies of the threads of a text that was read once.
+/// The bodies of the threads of a text, of which the first pass has kept these lines.
 fn bodies_of(
     alloc: Global,
     outline: &Outline,
-    text: &[u8],
+    lines: &[Line],
 ) -> Result<Vec<Vec<Statement>>, WorkFault>
     requires { AreFew (known_of outline.now) }
-    ensures judged { Judges (first_unknown (names_in (known_of outline.now)) 0 (phrases text.now)) result }
-    ensures bodies { IfOk result (λ found. map (λ body. body.items) found.items ≡ bodies (names_in (known_of outline.now)) (phrases text.now)) }
+    ensures judged { Judges (unknown_told (names_in (known_of outline.now)) (told_of lines.now)) result }
+    ensures bodies { IfOk result (λ found. map (λ body. body.items) found.items ≡ bodies (names_in (known_of outline.now)) (phrases_of (told_of lines.now))) }
 {
     let mut bodies = Bodies::new(alloc);
-    match bodies.read(outline, text) {
+    match bodies.read(outline, lines) {
         Ok(()) => {
             let mut whole = replace(&mut bodies.whole, Vec::new(alloc));
             let _before_threads = whole.remove(0);
@@ -150,9 +151,10 @@ fn parse_into<'a>(
     requires { kept_of outline.old ≡ whole [] }
     ensures { Answers (meaning_of text.now) result }
 {
-    match outline.read(text) {
+    let mut lines = Vec::new(alloc);
+    match outline.read(text, &mut lines) {
         Err(fault) => Err(fault),
-        Ok(()) => match bodies_of(alloc, outline, text) {
+        Ok(()) => match bodies_of(alloc, outline, &lines) {
             Err(fault) => Err(fault),
             Ok(bodies) => match assemble(alloc, outline, bodies) {
                 Ok(workload) => Ok(workload),
@@ -165,7 +167,8 @@ fn parse_into<'a>(
 /// Parses a text.
 ///
 /// It answers the program that the text means, or the first fault: the first pass judges all but undeclared names, line by
-/// line, and the second pass these. Its time and memory grow with the text.
+/// line, and the second pass these. Its time and memory grow with the text. The text is read once: the second pass goes over
+/// what the first has kept.
 pub fn parse(alloc: Global, text: &str) -> Result<Workload, WorkFault>
     ensures { Answers (meaning_of text.now) result }
 {

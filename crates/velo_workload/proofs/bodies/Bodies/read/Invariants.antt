@@ -1,17 +1,8 @@
-use Rattle.std.proofs.Common.{◌+◌, ◌≤◌, length}
-use Rattle.std.specs.Prelude.{MatchOption, option_copied}
-use Rattle.std.specs.Option.{option_map_or}
 use Rattle.velo_workload.specs.Building.{IsBuiltUpTo}
+use Rattle.velo_workload.specs.Told.{told_of}
 use Rattle.velo_workload.specs.Known.{known_of}
 use Rattle.velo_workload.specs.Outline.{names_in}
 use Rattle.velo_workload.proofs.bodies.Bodies.read.Given as goal
 
-abbrev pub invariant-loop-rest : goal.invariant-loop-rest
-invariant-loop-rest l =
-    record {
-      read : IsBuiltUpTo l.text (option_copied l.rest) (names_in (known_of l.outline)) l.self l.number;
-      numbered : MatchOption l.rest (l.number ≤ length l.text + 1) (λ bytes. l.number + length bytes.now ≤ length l.text);
-    }
-
-abbrev pub decreases-loop-rest : goal.decreases-loop-rest
-decreases-loop-rest l = option_map_or (λ bytes. length bytes.now + 1) l.rest 0
+abbrev pub invariant-loop-line : goal.invariant-loop-line
+invariant-loop-line l = IsBuiltUpTo (told_of l.lines) l.line-index (names_in (known_of l.outline)) l.self

@@ -1,7 +1,10 @@
-use Rattle.std.proofs.Common.{◌+◌, ◌∙◌, ap, sym, subst, rules}
+use Rattle.std.proofs.Common.{◌≡◌, ◌+◌, ◌++◌, ◌∙◌, append-nil, ap, sym, subst, rules}
 use Rattle.std.specs.Prelude.{option_copied}
 use Rattle.velo_workload.specs.Outline.{Judges, fault_of_line}
-use Rattle.velo_workload.specs.Known.{IsReadUpTo, known_of, kept_of, with_line}
+use Rattle.velo_workload.specs.Known.{IsReadUpTo, phrases_left, known_of, kept_of, with_line}
+use Rattle.velo_workload.specs.Phrase.{phrases}
+use Rattle.velo_workload.specs.Told.{told, told_in, told_of}
+use Rattle.velo_workload.proofs.OnTold.{told_more}
 use Rattle.velo_workload.proofs.OnReading.{line_wrong, line_right, all_names, all_few, end_is, on_ok, wrong}
 use Rattle.velo_workload.proofs.outline.Outline.read.Goals as goal
 
@@ -11,7 +14,7 @@ returns-in-Err-clause-judged c =
     let o = c.loop-rest.self in
     let n = c.loop-rest.number in
     let read = subst (λ r. IsReadUpTo text (option_copied r) o n) c.in-Some.is c.loop-rest.invariant.read in
-    let judged = subst (λ p. Judges (fault_of_line (known_of o) p (n + 1)) (wrong c.in-Err.fault)) c.read_phrase.ensures c.in-Err.ensures.judged in
+    let judged = subst (λ p. Judges (fault_of_line (known_of o) p (n + 1)) (wrong c.in-Err.fault)) c.read_phrase-phrase.ensures c.in-Err.ensures.judged in
     line_wrong text c.in-Some.bytes.now c.next_line.result.0.now (option_copied c.next_line.result.1) o n c.in-Err.fault read c.next_line.ensures.lines judged
 
 pub loop-rest-preserved : goal.loop-rest-preserved
@@ -20,10 +23,13 @@ loop-rest-preserved c =
     let o = c.loop-rest.self in
     let n = c.loop-rest.number in
     let read = subst (λ r. IsReadUpTo text (option_copied r) o n) c.in-Some.is c.loop-rest.invariant.read in
-    let fine = ap (λ p. fault_of_line (known_of o) p (n + 1)) (sym c.read_phrase.ensures) ∙ c.in-Ok.ensures.judged in
-    let kept = c.in-Ok.ensures.kept ∙ ap (λ p. with_line (kept_of o) p (n + 1)) c.read_phrase.ensures in
+    let fine = ap (λ p. fault_of_line (known_of o) p (n + 1)) (sym c.read_phrase-phrase.ensures) ∙ c.in-Ok.ensures.judged in
+    let kept = c.in-Ok.ensures.kept ∙ ap (λ p. with_line (kept_of o) p (n + 1)) c.read_phrase-phrase.ensures in
+    let told-here = subst (λ r. told_of c.loop-rest.lines.items ++ told n (phrases_left (option_copied r)) ≡ told 0 (phrases text)) c.in-Some.is c.loop-rest.invariant.told in
+    let more-told = c.in-Ok-keep.ensures.lines ∙ ap (λ p. told_of c.loop-rest.lines.items ++ told_in p (n + 1)) c.read_phrase-phrase.ensures in
     record {
       read = line_right text c.in-Some.bytes.now c.next_line.result.0.now (option_copied c.next_line.result.1) o c.take.new.self n read c.next_line.ensures.lines fine kept;
+      told = told_more (told 0 (phrases text)) (told_of c.loop-rest.lines.items) _ c.in-Some.bytes.now c.next_line.result.0.now (option_copied c.next_line.result.1) n told-here c.next_line.ensures.lines more-told;
       numbered = search rules;
     }
 
@@ -41,3 +47,8 @@ pub returns-clause-names : goal.returns-clause-names
 returns-clause-names c =
     let read = subst (λ r. IsReadUpTo c.args.text.now (option_copied r) c.loop-rest.self c.loop-rest.number) c.in_default.is c.loop-rest.invariant.read in
     on_ok (all_names c.args.text.now c.loop-rest.self c.loop-rest.number read) c.end.result
+
+pub returns-clause-lines : goal.returns-clause-lines
+returns-clause-lines c =
+    let told-all = subst (λ r. told_of c.loop-rest.lines.items ++ told c.loop-rest.number (phrases_left (option_copied r)) ≡ told 0 (phrases c.args.text.now)) c.in_default.is c.loop-rest.invariant.told in
+    on_ok (sym (append-nil (told_of c.loop-rest.lines.items)) ∙ told-all) c.end.result
