@@ -218,6 +218,21 @@ few_more k Blank n few e = few_same k (length k.body.open_repeats) (tally_fault 
 few_more k Bad n few e = few_same k (length k.body.open_repeats) (tally_fault k.body) few
 few_more k BadThread n few e = few_same k (length k.body.open_repeats) (tally_fault k.body) few
 
+some_length : (n : ℕ) → eqb n 0 ≡ false → 1 ≤ n
+some_length n e = grind (arith, nat_tests)
+
+thread_from : (before rest : List Phrase) → fault_from before rest ≡ None → 1 ≤ length (threads (before ++ rest))
+thread_from before [] e =
+    let some = some_length (length (threads before)) (behind (eqb (length (threads before)) 0) (BadLine 0) None (second (known before).body_end _ e)).0 in
+    subst (λ (ps : List Phrase). 1 ≤ length (threads ps)) (sym (append-nil before)) some
+thread_from before (p ∷ rest) e =
+    subst (λ (ps : List Phrase). 1 ≤ length (threads ps)) (append_assoc before (p ∷ []) rest)
+    (thread_from (before ++ p ∷ []) rest (second (fault_of_line (known before) p (length before + 1)) _ e))
+
+-- a text whose lines have no fault declares a thread
+pub some_thread : (ps : List Phrase) → first_fault ps ≡ None → 1 ≤ length (threads ps)
+some_thread ps e = thread_from [] ps e
+
 -- ---- the loop over the lines
 
 pub none_first : (f g : Option WorkFault) → f ≡ None → first_of_two f g ≡ g

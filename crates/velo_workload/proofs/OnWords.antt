@@ -1,10 +1,10 @@
 -- The first word of bytes, and the words behind it.
-use Rattle.std.proofs.Common.{◌≡◌, ℕ, ◌<◌, suc, Bool, true, false, eqb, List, [], ◌∷◌, length, take, drop, filter, refl, sym, ap, subst, ◌∙◌, arith}
+use Rattle.std.proofs.Common.{◌≡◌, ℕ, ◌<◌, suc, Bool, true, false, ◌||◌, eqb, List, [], ◌∷◌, length, take, drop, filter, refl, sym, ap, subst, ◌∙◌, arith}
 use Rattle.std.specs.Prelude.{not}
-use Rattle.std.specs.List.{slice_split, onto_first, position_or_len}
+use Rattle.std.specs.List.{slice_split, onto_first, position_or_len, before_first}
 use Rattle.std.proofs.lemmas.Bool.Decides.{nat_tests}
 use Rattle.std.proofs.lemmas.List.Splits.{slice_split-cons_yes, slice_split-cons_no}
-use Rattle.velo_workload.specs.Words.{AreWords, lines, is_newline, is_word, is_blank, is_no_blank, pieces}
+use Rattle.velo_workload.specs.Words.{AreWords, lines, is_newline, is_hash, is_end, is_word, is_blank, is_no_blank, ends_word, pieces, content, lines_behind, later_lines}
 
 module _ (p : ℕ → Bool) where
   pub found_here : (b : ℕ) (bs : List ℕ) → p b ≡ true → position_or_len p (b ∷ bs) ≡ 0
@@ -48,11 +48,6 @@ no_bytes (b ∷ bs) none = absurd (omega arith)
 
 -- ---- the first line
 
--- the lines behind the newline that stands in front
-abbrev pub lines_behind : List ℕ → List (List ℕ)
-lines_behind [] = []
-lines_behind (b ∷ bs) = lines bs
-
 pub first_line : (bs : List ℕ) → lines bs ≡ take (position_or_len is_newline bs) bs ∷ lines_behind (drop (position_or_len is_newline bs) bs)
 first_line [] = refl
 first_line (b ∷ bs) = by (is_newline b) refl (first_line bs)
@@ -60,9 +55,6 @@ first_line (b ∷ bs) = by (is_newline b) refl (first_line bs)
     by : (v : Bool) → is_newline b ≡ v → lines bs ≡ take (position_or_len is_newline bs) bs ∷ lines_behind (drop (position_or_len is_newline bs) bs) → lines (b ∷ bs) ≡ take (position_or_len is_newline (b ∷ bs)) (b ∷ bs) ∷ lines_behind (drop (position_or_len is_newline (b ∷ bs)) (b ∷ bs))
     by true e h = slice_split-cons_yes is_newline b bs e ∙ ap (λ (n : ℕ). take n (b ∷ bs) ∷ lines_behind (drop n (b ∷ bs))) (sym (found_here is_newline b bs e))
     by false e h = slice_split-cons_no is_newline b bs e ∙ ap (onto_first b) h ∙ ap (λ (n : ℕ). take n (b ∷ bs) ∷ lines_behind (drop n (b ∷ bs))) (sym (found_later is_newline b bs e))
-
-pub line_then : (bs line rest : List ℕ) → line ≡ take (position_or_len is_newline bs) bs → rest ≡ drop (position_or_len is_newline bs) bs → lines bs ≡ line ∷ lines_behind rest
-line_then bs line rest line-is rest-is = first_line bs ∙ (λ i. (sym line-is) i ∷ lines_behind ((sym rest-is) i))
 
 -- ---- the first word
 
@@ -118,6 +110,118 @@ no_word bs none = blanks_skipped bs ∙ ap pieces (no_front bs none)
 pub no_rest : (bs : List ℕ) → length (first_word (front bs)) ≡ 0 → pieces (drop (position_or_len is_blank (front bs)) (front bs)) ≡ []
 no_rest bs none = ap (λ (f : List ℕ). pieces (drop (position_or_len is_blank f) f)) (no_front bs none)
 
+-- ---- the first word of what a line says
+
+module _ (b : ℕ) (bs : List ℕ) where
+  content_none : is_end b ≡ true → content (b ∷ bs) ≡ []
+  content_none e = ap (λ (n : ℕ). take n (b ∷ bs)) (found_here is_end b bs e)
+
+  content_more : is_end b ≡ false → content (b ∷ bs) ≡ b ∷ content bs
+  content_more e = ap (λ (n : ℕ). take n (b ∷ bs)) (found_later is_end b bs e)
+
+  later_more : is_newline b ≡ false → later_lines (b ∷ bs) ≡ later_lines bs
+  later_more e = ap (λ (n : ℕ). lines_behind (drop n (b ∷ bs))) (found_later is_newline b bs e)
+
+  before_more : is_newline b ≡ false → before_first is_newline (b ∷ bs) ≡ b ∷ before_first is_newline bs
+  before_more e = ap (λ (n : ℕ). take n (b ∷ bs)) (found_later is_newline b bs e)
+
+  rest_here : ends_word b ≡ true → drop (position_or_len ends_word (b ∷ bs)) (b ∷ bs) ≡ b ∷ bs
+  rest_here e = ap (λ (n : ℕ). drop n (b ∷ bs)) (found_here ends_word b bs e)
+
+  word_here : ends_word b ≡ true → take (position_or_len ends_word (b ∷ bs)) (b ∷ bs) ≡ []
+  word_here e = ap (λ (n : ℕ). take n (b ∷ bs)) (found_here ends_word b bs e)
+
+  rest_later : ends_word b ≡ false → drop (position_or_len ends_word (b ∷ bs)) (b ∷ bs) ≡ drop (position_or_len ends_word bs) bs
+  rest_later e = ap (λ (n : ℕ). drop n (b ∷ bs)) (found_later ends_word b bs e)
+
+  word_later : ends_word b ≡ false → take (position_or_len ends_word (b ∷ bs)) (b ∷ bs) ≡ b ∷ take (position_or_len ends_word bs) bs
+  word_later e = ap (λ (n : ℕ). take n (b ∷ bs)) (found_later ends_word b bs e)
+
+blank_no_end : (b : ℕ) → is_blank b ≡ true → is_end b ≡ false
+blank_no_end b e = grind (arith, nat_tests)
+
+no_newline : (b : ℕ) → is_end b ≡ false → is_newline b ≡ false
+no_newline b e = grind (arith, nat_tests)
+
+-- a line without its comment is what it says
+pub content_is : (bs : List ℕ) → before_first is_hash (before_first is_newline bs) ≡ content bs
+content_is [] = refl
+content_is (b ∷ bs) = by (is_newline b) (is_hash b) refl refl (content_is bs)
+  where
+    by : (v w : Bool) → is_newline b ≡ v → is_hash b ≡ w → before_first is_hash (before_first is_newline bs) ≡ content bs → before_first is_hash (before_first is_newline (b ∷ bs)) ≡ content (b ∷ bs)
+    by true w e f h =
+        ap (λ (n : ℕ). before_first is_hash (take n (b ∷ bs))) (found_here is_newline b bs e) ∙ sym (content_none b bs (ap (λ (v : Bool). v || is_hash b) e))
+    by false true e f h =
+        ap (before_first is_hash) (before_more b bs e) ∙ ap (λ (n : ℕ). take n (b ∷ before_first is_newline bs)) (found_here is_hash b (before_first is_newline bs) f)
+        ∙ sym (content_none b bs (ap (λ (v : Bool). v || is_hash b) e ∙ f))
+    by false false e f h =
+        ap (before_first is_hash) (before_more b bs e) ∙ ap (λ (n : ℕ). take n (b ∷ before_first is_newline bs)) (found_later is_hash b (before_first is_newline bs) f)
+        ∙ ap (λ (xs : List ℕ). b ∷ xs) h ∙ sym (content_more b bs (ap (λ (v : Bool). v || is_hash b) e ∙ f))
+
+-- behind the blanks at the front the line says the same
+pub record IsBehind (bs : List ℕ) : Type 0 where
+  pub same : content (front bs) ≡ front (content bs)
+  pub later : later_lines (front bs) ≡ later_lines bs
+
+behind_blanks : (bs : List ℕ) → IsBehind bs
+behind_blanks [] = record { same = refl; later = refl }
+behind_blanks (b ∷ bs) = by (is_blank b) (is_end b) refl refl (behind_blanks bs)
+  where
+    by : (v w : Bool) → is_blank b ≡ v → is_end b ≡ w → IsBehind bs → IsBehind (b ∷ bs)
+    by true w e f h =
+        let g = blank_no_end b e in
+        let skipped = (blank_more b bs e).1 in
+        record {
+          same = ap content skipped ∙ h.same ∙ sym (ap front (content_more b bs g) ∙ (blank_more b (content bs) e).1);
+          later = ap later_lines skipped ∙ h.later ∙ sym (later_more b bs (no_newline b g));
+        }
+    by false true e f h = record {
+      same = ap content (no_blank_more b bs e) ∙ content_none b bs f ∙ sym (ap front (content_none b bs f));
+      later = ap later_lines (no_blank_more b bs e);
+    }
+    by false false e f h = record {
+      same = ap content (no_blank_more b bs e) ∙ content_more b bs f ∙ sym (ap front (content_more b bs f) ∙ no_blank_more b (content bs) e);
+      later = ap later_lines (no_blank_more b bs e);
+    }
+
+-- the first word of bytes is that of what the line says, and so is what follows it
+pub record IsCutAt (bs : List ℕ) : Type 0 where
+  pub word : take (position_or_len ends_word bs) bs ≡ first_word (content bs)
+  pub rest : content (drop (position_or_len ends_word bs) bs) ≡ drop (position_or_len is_blank (content bs)) (content bs)
+  pub later : later_lines (drop (position_or_len ends_word bs) bs) ≡ later_lines bs
+
+cut_at : (bs : List ℕ) → IsCutAt bs
+cut_at [] = record { word = refl; rest = refl; later = refl }
+cut_at (b ∷ bs) = by (is_blank b) (is_end b) refl refl (cut_at bs)
+  where
+    by : (v w : Bool) → is_blank b ≡ v → is_end b ≡ w → IsCutAt bs → IsCutAt (b ∷ bs)
+    by true w e f h =
+        let ends : ends_word b ≡ true = ap (λ (v : Bool). v || is_end b) e in
+        let says = content_more b bs (blank_no_end b e) in
+        let here = found_here is_blank b (content bs) e in
+        record {
+          word = word_here b bs ends ∙ sym (ap (λ (xs : List ℕ). take (position_or_len is_blank xs) xs) says ∙ ap (λ (n : ℕ). take n (b ∷ content bs)) here);
+          rest = ap content (rest_here b bs ends) ∙ says ∙ sym (ap (λ (xs : List ℕ). drop (position_or_len is_blank xs) xs) says ∙ ap (λ (n : ℕ). drop n (b ∷ content bs)) here);
+          later = ap later_lines (rest_here b bs ends);
+        }
+    by false true e f h =
+        let ends : ends_word b ≡ true = ap (λ (v : Bool). v || is_end b) e ∙ f in
+        let says = content_none b bs f in
+        record {
+          word = word_here b bs ends ∙ sym (ap (λ (xs : List ℕ). take (position_or_len is_blank xs) xs) says);
+          rest = ap content (rest_here b bs ends) ∙ says ∙ sym (ap (λ (xs : List ℕ). drop (position_or_len is_blank xs) xs) says);
+          later = ap later_lines (rest_here b bs ends);
+        }
+    by false false e f h =
+        let ends : ends_word b ≡ false = ap (λ (v : Bool). v || is_end b) e ∙ f in
+        let says = content_more b bs f in
+        let later_here = found_later is_blank b (content bs) e in
+        record {
+          word = word_later b bs ends ∙ ap (λ (xs : List ℕ). b ∷ xs) h.word ∙ sym (ap (λ (xs : List ℕ). take (position_or_len is_blank xs) xs) says ∙ ap (λ (n : ℕ). take n (b ∷ content bs)) later_here);
+          rest = ap content (rest_later b bs ends) ∙ h.rest ∙ sym (ap (λ (xs : List ℕ). drop (position_or_len is_blank xs) xs) says ∙ ap (λ (n : ℕ). drop n (b ∷ content bs)) later_here);
+          later = ap later_lines (rest_later b bs ends) ∙ h.later ∙ sym (later_more b bs (no_newline b f));
+        }
+
 -- ---- the first words of a line
 
 -- what stands in front of the rest is the first word, or nothing where there is none
@@ -125,6 +229,22 @@ pub record IsNext (bytes word rest : List ℕ) : Type 0 where
   pub some : 0 < length word → pieces bytes ≡ word ∷ pieces rest
   pub none : length word ≡ 0 → pieces bytes ≡ []
   pub ended : length word ≡ 0 → pieces rest ≡ []
+
+-- the word behind the blanks, and what follows it
+pub next_is : (bs word rest : List ℕ) → word ≡ take (position_or_len ends_word (front bs)) (front bs) → rest ≡ drop (position_or_len ends_word (front bs)) (front bs) → IsNext (content bs) word (content rest)
+next_is bs word rest word-is rest-is =
+    let behind = behind_blanks bs in
+    let cut = cut_at (front bs) in
+    let w : word ≡ first_word (front (content bs)) = word-is ∙ cut.word ∙ ap first_word behind.same in
+    let r : content rest ≡ drop (position_or_len is_blank (front (content bs))) (front (content bs)) = ap content rest-is ∙ cut.rest ∙ ap (λ (xs : List ℕ). drop (position_or_len is_blank xs) xs) behind.same in
+    record {
+      some = λ some. some_word (content bs) (subst (λ (x : List ℕ). 0 < length x) w some) ∙ (λ i. (sym w) i ∷ pieces ((sym r) i));
+      none = λ none. no_word (content bs) (ap length (sym w) ∙ none);
+      ended = λ none. ap pieces r ∙ no_rest (content bs) (ap length (sym w) ∙ none);
+    }
+
+pub next_later : (bs rest : List ℕ) → rest ≡ drop (position_or_len ends_word (front bs)) (front bs) → later_lines rest ≡ later_lines bs
+next_later bs rest rest-is = ap later_lines rest-is ∙ (cut_at (front bs)).later ∙ (behind_blanks bs).later
 
 -- behind the last word there is none
 none_more : (bytes word rest : List ℕ) → IsNext bytes word rest → pieces bytes ≡ [] → word ≡ []

@@ -1,5 +1,7 @@
--- What a workload keeps of its bodies.
-use Rattle.std.specs.Prelude.{◌≡◌, ℕ, zero, suc, ◌==◌, ◌&&◌, nat_lt, Bool, false, IsTrue, List, [], ◌∷◌, Some, slice_get}
+-- What a workload keeps of its bodies and its bounds.
+use Rattle.std.specs.Prelude.{◌≡◌, ◌≤◌, ℕ, zero, suc, ◌==◌, ◌&&◌, nat_lt, Bool, false, IsTrue, List, [], ◌∷◌, Some, slice_get}
+use Rattle.velo_events.specs.declared.config.Bounds.{Bounds}
+use Rattle.velo_events.specs.declared.limits.TheConstants.{MOST_THREADS, MOST_LOCKS}
 use Rattle.velo_workload.specs.declared.limits.TheConstants.{MOST_OPEN_REPEATS}
 use Rattle.velo_workload.specs.declared.statement.Statement.{Statement}
 use Rattle.velo_workload.specs.declared.statement.Statement.TheVariants.{Repeat, Done}
@@ -18,3 +20,9 @@ pub record IsBody (body : List Statement) : Type 0 where
 
 pub record AreBodies (bodies : List (List Statement)) : Type 0 where
   pub each : (t : ℕ) (body : List Statement) → slice_get bodies t ≡ Some body → IsBody body
+
+-- a configuration may have these bounds
+pub record AreInRange (bounds : Bounds) : Type 0 where
+  pub some_thread : 1 ≤ bounds.threads
+  pub few_threads : bounds.threads ≤ MOST_THREADS
+  pub few_locks : bounds.locks ≤ MOST_LOCKS

@@ -1,5 +1,5 @@
 -- What a line says.
-use Rattle.std.specs.Prelude.{ℕ, ◌-◌, ◌^◌, List, [], ◌∷◌, codes, map, Option, Some, None, if◌then◌else◌}
+use Rattle.std.specs.Prelude.{ℕ, ◌-◌, ◌^◌, ◌==◌, Bool, List, [], ◌∷◌, codes, length, map, Option, Some, None, if◌then◌else◌}
 use Rattle.std.specs.Str.{bytes_eq}
 use Rattle.velo_workload.specs.Words.{Word, lines, words, is_name, number_of}
 use Rattle.velo_workload.specs.declared.phrase.Verb.{Verb}
@@ -41,21 +41,12 @@ pub data Phrase : Type 0 where
 
 -- ---- what a word says that stands first
 
-unfoldable pub sharing_verb : Word → Verb
-sharing_verb w =
-    if bytes_eq w (codes "read") then verb.Read
-    else (if bytes_eq w (codes "write") then verb.Write
-    else (if bytes_eq w (codes "acquire") then verb.Acquire
-    else (if bytes_eq w (codes "release") then verb.Release
-    else verb.Unknown)))
-
-unfoldable pub block_verb : Word → Verb
-block_verb w =
-    if bytes_eq w (codes "set") then verb.Set
-    else (if bytes_eq w (codes "add") then verb.Add
-    else (if bytes_eq w (codes "begin") then verb.Begin
-    else (if bytes_eq w (codes "end") then verb.End
-    else sharing_verb w)))
+unfoldable pub declaring_verb : Word → Verb
+declaring_verb w =
+    if bytes_eq w (codes "var") then verb.Variable
+    else (if bytes_eq w (codes "lock") then verb.Lock
+    else (if bytes_eq w (codes "thread") then verb.Thread
+    else verb.Unknown))
 
 unfoldable pub order_verb : Word → Verb
 order_verb w =
@@ -63,14 +54,23 @@ order_verb w =
     else (if bytes_eq w (codes "join") then verb.Join
     else (if bytes_eq w (codes "repeat") then verb.Repeat
     else (if bytes_eq w (codes "done") then verb.Done
-    else block_verb w)))
+    else declaring_verb w)))
+
+unfoldable pub block_verb : Word → Verb
+block_verb w =
+    if bytes_eq w (codes "set") then verb.Set
+    else (if bytes_eq w (codes "add") then verb.Add
+    else (if bytes_eq w (codes "begin") then verb.Begin
+    else (if bytes_eq w (codes "end") then verb.End
+    else order_verb w)))
 
 unfoldable pub verb_of : Word → Verb
 verb_of w =
-    if bytes_eq w (codes "var") then verb.Variable
-    else (if bytes_eq w (codes "lock") then verb.Lock
-    else (if bytes_eq w (codes "thread") then verb.Thread
-    else order_verb w))
+    if bytes_eq w (codes "read") then verb.Read
+    else (if bytes_eq w (codes "write") then verb.Write
+    else (if bytes_eq w (codes "acquire") then verb.Acquire
+    else (if bytes_eq w (codes "release") then verb.Release
+    else block_verb w)))
 
 -- what has to follow it
 abbrev pub argument_of : Verb → Argument
@@ -127,6 +127,14 @@ phrase_of_words [] = Blank
 phrase_of_words (w ∷ []) = alone (verb_of w)
 phrase_of_words (w ∷ x ∷ []) = argued (verb_of w) (argument_of (verb_of w)) x
 phrase_of_words (w ∷ x ∷ y ∷ zs) = bad (verb_of w)
+
+-- the same by the first two words, each empty where it is not there, and whether there are more
+abbrev pub phrase_by : Word → Word → Bool → Phrase
+phrase_by first second more =
+    if length first == 0 then Blank
+    else (if more then bad (verb_of first)
+    else (if length second == 0 then alone (verb_of first)
+    else argued (verb_of first) (argument_of (verb_of first)) second))
 
 abbrev pub phrase_of : List ℕ → Phrase
 phrase_of line = phrase_of_words (words line)

@@ -1,7 +1,7 @@
 -- The lines of a text, and the words of a line.
-use Rattle.std.specs.Prelude.{◌≡◌, ◌<◌, ℕ, ◌+◌, ◌-◌, ◌*◌, ◌==◌, ◌||◌, ◌&&◌, nat_le, Bool, true, false, not, List, [], ◌∷◌, length, filter, Option, Some, None, if◌then◌else◌}
+use Rattle.std.specs.Prelude.{◌≡◌, ◌<◌, ℕ, ◌+◌, ◌-◌, ◌*◌, ◌==◌, ◌||◌, ◌&&◌, nat_le, Bool, true, false, not, List, [], ◌∷◌, length, drop, filter, Option, Some, None, if◌then◌else◌}
 use Rattle.std.specs.Char.{is_ascii_digit, is_ascii_alphanumeric}
-use Rattle.std.specs.List.{slice_split, before_first, list_all}
+use Rattle.std.specs.List.{slice_split, position_or_len, before_first, list_all}
 
 abbrev pub Word : Type 0
 Word = List ℕ
@@ -20,6 +20,14 @@ is_blank b = b == 32 || b == 9
 abbrev pub is_no_blank : ℕ → Bool
 is_no_blank b = not (is_blank b)
 
+-- what a line says ends here
+abbrev pub is_end : ℕ → Bool
+is_end b = is_newline b || is_hash b
+
+-- a word ends here
+abbrev pub ends_word : ℕ → Bool
+ends_word b = is_blank b || is_end b
+
 -- the lines, without their newlines
 abbrev pub lines : List ℕ → List (List ℕ)
 lines text = slice_split is_newline text
@@ -35,6 +43,21 @@ pieces bytes = filter is_word (slice_split is_blank bytes)
 -- the words of a line, up to its comment
 abbrev pub words : List ℕ → List Word
 words line = pieces (before_first is_hash line)
+
+-- ---- what stands at the front of bytes
+
+-- what the first line says
+abbrev pub content : List ℕ → List ℕ
+content bytes = before_first is_end bytes
+
+-- the lines behind the newline that stands in front
+abbrev pub lines_behind : List ℕ → List (List ℕ)
+lines_behind [] = []
+lines_behind (b ∷ bs) = lines bs
+
+-- the lines behind the first
+abbrev pub later_lines : List ℕ → List (List ℕ)
+later_lines bytes = lines_behind (drop (position_or_len is_newline bytes) bytes)
 
 -- ---- names and numbers
 

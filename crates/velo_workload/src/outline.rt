@@ -12,8 +12,7 @@ use crate::limits::{MOST_OPEN_REPEATS, MOST_STATEMENTS, MOST_VARIABLES};
 use crate::lines::{Line, keep};
 use crate::names::{count, declare};
 use crate::nesting::Nesting;
-use crate::phrase::{Phrase, Spoken, read_phrase};
-use crate::words::next_line;
+use crate::phrase::{Phrase, Spoken, next_phrase};
 use indexmap::IndexSet;
 use std::alloc::Global;
 use velo_events::{MOST_LOCKS, MOST_THREADS, Memory};
@@ -167,8 +166,7 @@ impl<'a> Outline<'a> {
         let mut rest = Some(text);
         let mut number = 0;
         while let Some(bytes) = rest {
-            let (line, more) = next_line(bytes);
-            let phrase = read_phrase(line);
+            let (phrase, more) = next_phrase(bytes);
             number += 1;
             match self.take(phrase, number) {
                 Ok(()) => {}

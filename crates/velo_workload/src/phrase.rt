@@ -1,11 +1,14 @@
 //! What a line says.
-ghost use Rattle.std.specs.Prelude.{◌≡◌};
+ghost use Rattle.std.specs.Prelude.{◌≡◌, ◌<◌, ◌∷◌, length, IfSome, option_copied};
+ghost use Rattle.std.specs.List.{before_first};
 ghost use Rattle.std.specs.Str.{bytes_eq};
-ghost use Rattle.velo_workload.specs.Phrase.{said, verb_of, order_verb, block_verb, sharing_verb, argument_of, bad, alone, named, counted, argued, phrase_of};
+ghost use Rattle.velo_workload.specs.Phrase.{said, verb_of, block_verb, order_verb, declaring_verb, argument_of, bad, alone, named, counted, argued, phrase_by, phrase_of};
+ghost use Rattle.velo_workload.specs.Known.{lines_left};
+ghost use Rattle.velo_workload.specs.Words.{lines, is_newline};
 
 use crate::naming::name;
 use crate::numbers::number;
-use crate::words::words;
+use crate::words::{Words, after_line, find_words};
 
 /// What the first word of a line says.
 #[derive(Clone, Copy)]
@@ -77,46 +80,22 @@ fn is(word: &[u8], other: &[u8]) -> bool
     word == other
 }
 
-/// A read, a write, an acquire or a release.
+/// A declaration.
 #[inline(always)]
-#[tactic(auto, unfolding(crate::specs::Phrase::sharing_verb))]
-fn sharing(word: &[u8]) -> Verb
-    ensures { result ≡ sharing_verb word.now }
+#[tactic(auto, unfolding(crate::specs::Phrase::declaring_verb))]
+fn declaration(word: &[u8]) -> Verb
+    ensures { result ≡ declaring_verb word.now }
 {
-    if is(word, b"read") {
-        return Verb::Read;
+    if is(word, b"var") {
+        return Verb::Variable;
     }
-    if is(word, b"write") {
-        return Verb::Write;
+    if is(word, b"lock") {
+        return Verb::Lock;
     }
-    if is(word, b"acquire") {
-        return Verb::Acquire;
-    }
-    if is(word, b"release") {
-        return Verb::Release;
+    if is(word, b"thread") {
+        return Verb::Thread;
     }
     Verb::Unknown
-}
-
-/// A change of the register or a block's end, or one of the above.
-#[inline(always)]
-#[tactic(auto, unfolding(crate::specs::Phrase::block_verb))]
-fn block(word: &[u8]) -> Verb
-    ensures { result ≡ block_verb word.now }
-{
-    if is(word, b"set") {
-        return Verb::Set;
-    }
-    if is(word, b"add") {
-        return Verb::Add;
-    }
-    if is(word, b"begin") {
-        return Verb::Begin;
-    }
-    if is(word, b"end") {
-        return Verb::End;
-    }
-    sharing(word)
 }
 
 /// A fork, a join or a repeat's end, or one of the above.
@@ -137,24 +116,48 @@ fn order(word: &[u8]) -> Verb
     if is(word, b"done") {
         return Verb::Done;
     }
-    block(word)
+    declaration(word)
 }
 
-/// What the first word of a line says.
+/// A change of the register or a block's end, or one of the above.
+#[inline(always)]
+#[tactic(auto, unfolding(crate::specs::Phrase::block_verb))]
+fn block(word: &[u8]) -> Verb
+    ensures { result ≡ block_verb word.now }
+{
+    if is(word, b"set") {
+        return Verb::Set;
+    }
+    if is(word, b"add") {
+        return Verb::Add;
+    }
+    if is(word, b"begin") {
+        return Verb::Begin;
+    }
+    if is(word, b"end") {
+        return Verb::End;
+    }
+    order(word)
+}
+
+/// What the first word of a line says. What most lines say is looked for first.
 #[tactic(auto, unfolding(crate::specs::Phrase::verb_of))]
 fn read_verb(word: &[u8]) -> Verb
     ensures { result ≡ verb_of word.now }
 {
-    if is(word, b"var") {
-        return Verb::Variable;
+    if is(word, b"read") {
+        return Verb::Read;
     }
-    if is(word, b"lock") {
-        return Verb::Lock;
+    if is(word, b"write") {
+        return Verb::Write;
     }
-    if is(word, b"thread") {
-        return Verb::Thread;
+    if is(word, b"acquire") {
+        return Verb::Acquire;
     }
-    order(word)
+    if is(word, b"release") {
+        return Verb::Release;
+    }
+    block(word)
 }
 
 /// What has to follow.
@@ -237,20 +240,31 @@ fn argued<'a>(verb: Verb, word: &'a [u8]) -> Phrase<'a>
     }
 }
 
-/// What the line says.
-pub fn read_phrase(line: &[u8]) -> Phrase<'_>
-    ensures { said result ≡ phrase_of line.now }
+/// What the words of a line say.
+#[inline(always)]
+fn read_phrase(words: Words<'_>) -> Phrase<'_>
+    ensures { said result ≡ phrase_by words.entry.first.now words.entry.second.now words.entry.more }
 {
-    let (first, second, more) = words(line);
-    if first.is_empty() {
+    if words.first.is_empty() {
         return Phrase::Blank;
     }
-    let verb = read_verb(first);
-    if more {
+    let verb = read_verb(words.first);
+    if words.more {
         return bad(verb);
     }
-    if second.is_empty() {
+    if words.second.is_empty() {
         return alone(verb);
     }
-    argued(verb, second)
+    argued(verb, words.second)
+}
+
+/// What the first line says, and what follows its newline, if it has one.
+pub fn next_phrase(bytes: &[u8]) -> (Phrase<'_>, Option<&[u8]>)
+    ensures phrase { said result.0 ≡ phrase_of (before_first is_newline bytes.now) }
+    ensures lines { lines bytes.now ≡ before_first is_newline bytes.now ∷ lines_left (option_copied result.1) }
+    ensures shorter { IfSome result.1 (λ rest. length rest.now < length bytes.now) }
+{
+    let words = find_words(bytes);
+    let rest = after_line(words.rest);
+    (read_phrase(words), rest)
 }

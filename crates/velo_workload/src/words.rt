@@ -1,8 +1,8 @@
-//! Cutting a text into lines, and a line into words.
-ghost use Rattle.std.specs.Prelude.{◌≡◌, ◌<◌, ◌≤◌, ◌∷◌, [], length, take, drop, IfSome, option_copied};
-ghost use Rattle.std.specs.List.{position_or_len, before_first, after_first};
+//! Finding the words of a line, and the line behind it.
+ghost use Rattle.std.specs.Prelude.{◌≡◌, ◌<◌, ◌≤◌, ◌∷◌, [], length, IfSome, option_copied};
+ghost use Rattle.std.specs.List.{position_or_len};
 ghost use Rattle.velo_workload.specs.Known.{lines_left};
-ghost use Rattle.velo_workload.specs.Words.{AreWords, lines, is_newline, is_hash, is_blank, is_no_blank, pieces, words};
+ghost use Rattle.velo_workload.specs.Words.{AreWords, is_newline, is_no_blank, ends_word, content, later_lines, pieces};
 
 /// Where the first newline stands, or the length.
 #[inline(always)]
@@ -18,29 +18,17 @@ fn line_end(bytes: &[u8]) -> usize
     bytes.len()
 }
 
-/// The first line, and what follows its newline, if it has one.
-pub fn next_line(bytes: &[u8]) -> (&[u8], Option<&[u8]>)
-    ensures lines { lines bytes.now ≡ result.0.now ∷ lines_left (option_copied result.1) }
-    ensures shorter { IfSome result.1 (λ rest. length rest.now < length bytes.now) }
-{
-    let (line, rest) = bytes.split_at(line_end(bytes));
-    match rest.split_first() {
-        Some((_, rest)) => (line, Some(rest)),
-        None => (line, None),
-    }
-}
-
-/// The line without its comment.
+/// What follows the first newline, if there is one.
 #[inline(always)]
-fn without_comment(line: &[u8]) -> &[u8]
-    ensures { result.now ≡ before_first is_hash line.now }
+pub fn after_line(bytes: &[u8]) -> Option<&[u8]>
+    ensures lines { lines_left (option_copied result) ≡ later_lines bytes.now }
+    ensures shorter { IfSome result (λ rest. length rest.now < length bytes.now) }
 {
-    for (i, byte) in line.iter().enumerate() {
-        if *byte == b'#' {
-            return &line[..i];
-        }
+    let (_, rest) = bytes.split_at(line_end(bytes));
+    match rest.split_first() {
+        Some((_, rest)) => Some(rest),
+        None => None,
     }
-    line
 }
 
 /// Where the first byte that is no blank stands, or the length.
@@ -57,26 +45,28 @@ fn blanks_end(bytes: &[u8]) -> usize
     bytes.len()
 }
 
-/// Where the first blank stands, or the length.
+/// Where the first byte that ends a word stands, or the length.
 #[inline(always)]
 fn word_end(bytes: &[u8]) -> usize
-    ensures value { result ≡ position_or_len is_blank bytes.now }
+    ensures value { result ≡ position_or_len ends_word bytes.now }
     ensures within { result ≤ length bytes.now }
 {
     for (i, byte) in bytes.iter().enumerate() {
-        if *byte == b' ' || *byte == b'\t' {
+        if *byte == b' ' || *byte == b'\t' || *byte == b'\n' || *byte == b'#' {
             return i;
         }
     }
     bytes.len()
 }
 
-/// The first word, which is empty where there is none, and what follows it.
+/// The first line's next word, which is empty where there is none, and what follows it.
 #[inline(always)]
 fn next_word(bytes: &[u8]) -> (&[u8], &[u8])
-    ensures some { 0 < length result.0.now → pieces bytes.now ≡ result.0.now ∷ pieces result.1.now }
-    ensures none { length result.0.now ≡ 0 → pieces bytes.now ≡ [] }
-    ensures ended { length result.0.now ≡ 0 → pieces result.1.now ≡ [] }
+    ensures some { 0 < length result.0.now → pieces (content bytes.now) ≡ result.0.now ∷ pieces (content result.1.now) }
+    ensures none { length result.0.now ≡ 0 → pieces (content bytes.now) ≡ [] }
+    ensures ended { length result.0.now ≡ 0 → pieces (content result.1.now) ≡ [] }
+    ensures later { later_lines result.1.now ≡ later_lines bytes.now }
+    ensures shorter { length result.1.now ≤ length bytes.now }
 {
     let start = blanks_end(bytes);
     let (_, front) = bytes.split_at(start);
@@ -84,13 +74,33 @@ fn next_word(bytes: &[u8]) -> (&[u8], &[u8])
     front.split_at(end)
 }
 
-/// The words of a line: the first two, each empty where it is not there, and whether there are more.
+/// The words of a line.
+#[derive(Clone, Copy)]
+pub struct Words<'a> {
+    /// The first, which is empty where there is none.
+    pub first: &'a [u8],
+    /// The second, which is empty where there is none.
+    pub second: &'a [u8],
+    /// Whether there are more.
+    pub more: bool,
+    /// What follows the words that were looked at, from within the line.
+    pub rest: &'a [u8],
+}
+
+/// The words of the first line.
 #[inline(always)]
-pub fn words(line: &[u8]) -> (&[u8], &[u8], bool)
-    ensures { AreWords result.0.now result.1.now result.2 (words line.now) }
+pub fn find_words(bytes: &[u8]) -> Words<'_>
+    ensures words { AreWords result.first.now result.second.now result.more (pieces (content bytes.now)) }
+    ensures later { later_lines result.rest.now ≡ later_lines bytes.now }
+    ensures shorter { length result.rest.now ≤ length bytes.now }
 {
-    let (first, rest) = next_word(without_comment(line));
+    let (first, rest) = next_word(bytes);
     let (second, rest) = next_word(rest);
-    let (third, _) = next_word(rest);
-    (first, second, !third.is_empty())
+    let (third, rest) = next_word(rest);
+    Words {
+        first,
+        second,
+        more: !third.is_empty(),
+        rest,
+    }
 }

@@ -9,6 +9,7 @@ ghost use Rattle.velo_workload.specs.Outline.{AreFew, Judges, names_in};
 ghost use Rattle.velo_workload.specs.Known.{known_of, kept_of, whole};
 ghost use Rattle.velo_workload.specs.Program.{Program, bodies, meaning_of, Answers};
 ghost use Rattle.velo_workload.specs.Told.{told_of, phrases_of, unknown_told};
+ghost use Rattle.velo_events.specs.declared.limits.TheConstants.{MOST_THREADS, MOST_LOCKS};
 ghost use Rattle.velo_workload.specs.declared.limits.TheConstants.{MOST_WORKLOAD_BYTES};
 
 use crate::bodies::Bodies;
@@ -37,21 +38,24 @@ pub struct Workload {
 impl Model for Workload {
     ghost use Rattle.std.specs.Prelude.{◌≡◌, map, length};
     ghost use Rattle.std.specs.String.{string_bytes};
-    ghost use Rattle.velo_workload.specs.Bodies.{AreBodies};
+    ghost use Rattle.velo_workload.specs.Bodies.{AreBodies, AreInRange};
     ghost use Rattle.velo_workload.specs.Program.{Program};
 
     ghost Value = { Program };
 
     ghost view = { λ w. record { bounds = w.bounds; thread_names = map string_bytes w.threads.items; label_names = map string_bytes w.labels.items; bodies = map (λ body. body.items) w.bodies.items } };
 
-    ghost invariant = { λ w. (length w.bodies.items ≡ w.bounds.threads) × AreBodies (map (λ body. body.items) w.bodies.items) };
+    ghost invariant = { λ w. (length w.bodies.items ≡ w.bounds.threads) × AreBodies (map (λ body. body.items) w.bodies.items) × AreInRange w.bounds };
 }
 
 impl Workload {
-    /// How many threads, variables and locks it has.
+    /// How many threads, variables and locks it has: 1 to 64 threads, at most 65,535 variables and at most 4,096 locks.
     pub fn bounds(&self) -> Bounds
         ensures bounds { result ≡ self.now.bounds }
         ensures bodies { length self.now.bodies ≡ result.threads }
+        ensures some_thread { 1 ≤ result.threads }
+        ensures few_threads { result.threads ≤ MOST_THREADS }
+        ensures few_locks { result.locks ≤ MOST_LOCKS }
     {
         self.bounds
     }
@@ -101,6 +105,7 @@ fn assemble(
     bodies: Vec<Vec<Statement>>,
 ) -> Result<Workload, Memory>
     requires few { AreFew (known_of outline.now) }
+    requires some_thread { 1 ≤ length (known_of outline.now).threads }
     requires each { length bodies.items ≡ length (known_of outline.now).threads }
     requires nested { AreBodies (map (λ body. body.items) bodies.items) }
     ensures workload { IfOk result (λ w. w ≡ record { bounds = record { threads = length (known_of outline.now).threads; variables = length (known_of outline.now).variables; locks = length (known_of outline.now).locks }; thread_names = (known_of outline.now).threads; label_names = (known_of outline.now).labels; bodies = map (λ body. body.items) bodies.items }) }

@@ -1,4 +1,4 @@
-use Rattle.std.proofs.Common.{◌≡◌, ◌∙◌, ℕ, List, subst, sym, ap, length, map}
+use Rattle.std.proofs.Common.{◌≡◌, ◌≤◌, ◌∙◌, ℕ, List, subst, sym, ap, length, map}
 use Rattle.std.proofs.lemmas.List.{length-map}
 use Rattle.velo_workload.specs.declared.statement.Statement.{Statement}
 use Rattle.velo_workload.specs.Phrase.{phrases}
@@ -10,7 +10,7 @@ use Rattle.velo_workload.specs.Program.{bodies, first_unknown}
 use Rattle.velo_workload.proofs.OnNested.{AreBodies-parsed}
 use Rattle.velo_workload.proofs.OnTold.{told_bodies, told_unknown}
 use Rattle.velo_workload.proofs.OnParsing.{count_bodies, first_wrong, second_wrong, all_right}
-use Rattle.velo_workload.proofs.OnReading.{wrong}
+use Rattle.velo_workload.proofs.OnReading.{wrong, some_thread}
 use Rattle.velo_workload.proofs.workload.parse_into.Goals as goal
 
 -- what is found in the kept lines is found in all lines
@@ -48,3 +48,7 @@ assemble-requires-clause-nested c =
     let names = names_in (known_of c.read.new.self) in
     let found = bodies_found names c.args.text.now (told_of c.deref.result.now) _ (ap told_of c.deref.ensures.value ∙ c.in-Ok.ensures.lines) c.in-Ok-bodies_of.ensures.bodies in
     subst AreBodies (sym found) (AreBodies-parsed names (phrases c.args.text.now) c.in-Ok.ensures.judged)
+
+pub assemble-requires-clause-some_thread : goal.assemble-requires-clause-some_thread
+assemble-requires-clause-some_thread c =
+    subst (λ (names : Names). 1 ≤ length names.threads) (sym c.in-Ok.ensures.names) (some_thread (phrases c.args.text.now) c.in-Ok.ensures.judged)

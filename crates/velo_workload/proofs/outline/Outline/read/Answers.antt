@@ -1,5 +1,7 @@
 use Rattle.std.proofs.Common.{◌≡◌, ◌+◌, ◌++◌, ◌∙◌, append-nil, ap, sym, subst, rules}
 use Rattle.std.specs.Prelude.{option_copied}
+use Rattle.std.specs.List.{before_first}
+use Rattle.velo_workload.specs.Words.{is_newline}
 use Rattle.velo_workload.specs.Outline.{Judges, fault_of_line}
 use Rattle.velo_workload.specs.Known.{IsReadUpTo, phrases_left, known_of, kept_of, with_line}
 use Rattle.velo_workload.specs.Phrase.{phrases}
@@ -14,8 +16,8 @@ returns-in-Err-clause-judged c =
     let o = c.loop-rest.self in
     let n = c.loop-rest.number in
     let read = subst (λ r. IsReadUpTo text (option_copied r) o n) c.in-Some.is c.loop-rest.invariant.read in
-    let judged = subst (λ p. Judges (fault_of_line (known_of o) p (n + 1)) (wrong c.in-Err.fault)) c.read_phrase-phrase.ensures c.in-Err.ensures.judged in
-    line_wrong text c.in-Some.bytes.now c.next_line.result.0.now (option_copied c.next_line.result.1) o n c.in-Err.fault read c.next_line.ensures.lines judged
+    let judged = subst (λ p. Judges (fault_of_line (known_of o) p (n + 1)) (wrong c.in-Err.fault)) c.next_phrase.ensures.phrase c.in-Err.ensures.judged in
+    line_wrong text c.in-Some.bytes.now (before_first is_newline c.in-Some.bytes.now) (option_copied c.next_phrase.result.1) o n c.in-Err.fault read c.next_phrase.ensures.lines judged
 
 pub loop-rest-preserved : goal.loop-rest-preserved
 loop-rest-preserved c =
@@ -23,13 +25,13 @@ loop-rest-preserved c =
     let o = c.loop-rest.self in
     let n = c.loop-rest.number in
     let read = subst (λ r. IsReadUpTo text (option_copied r) o n) c.in-Some.is c.loop-rest.invariant.read in
-    let fine = ap (λ p. fault_of_line (known_of o) p (n + 1)) (sym c.read_phrase-phrase.ensures) ∙ c.in-Ok.ensures.judged in
-    let kept = c.in-Ok.ensures.kept ∙ ap (λ p. with_line (kept_of o) p (n + 1)) c.read_phrase-phrase.ensures in
+    let fine = ap (λ p. fault_of_line (known_of o) p (n + 1)) (sym c.next_phrase.ensures.phrase) ∙ c.in-Ok.ensures.judged in
+    let kept = c.in-Ok.ensures.kept ∙ ap (λ p. with_line (kept_of o) p (n + 1)) c.next_phrase.ensures.phrase in
     let told-here = subst (λ r. told_of c.loop-rest.lines.items ++ told n (phrases_left (option_copied r)) ≡ told 0 (phrases text)) c.in-Some.is c.loop-rest.invariant.told in
-    let more-told = c.in-Ok-keep.ensures.lines ∙ ap (λ p. told_of c.loop-rest.lines.items ++ told_in p (n + 1)) c.read_phrase-phrase.ensures in
+    let more-told = c.in-Ok-keep.ensures.lines ∙ ap (λ p. told_of c.loop-rest.lines.items ++ told_in p (n + 1)) c.next_phrase.ensures.phrase in
     record {
-      read = line_right text c.in-Some.bytes.now c.next_line.result.0.now (option_copied c.next_line.result.1) o c.take.new.self n read c.next_line.ensures.lines fine kept;
-      told = told_more (told 0 (phrases text)) (told_of c.loop-rest.lines.items) _ c.in-Some.bytes.now c.next_line.result.0.now (option_copied c.next_line.result.1) n told-here c.next_line.ensures.lines more-told;
+      read = line_right text c.in-Some.bytes.now (before_first is_newline c.in-Some.bytes.now) (option_copied c.next_phrase.result.1) o c.take.new.self n read c.next_phrase.ensures.lines fine kept;
+      told = told_more (told 0 (phrases text)) (told_of c.loop-rest.lines.items) _ c.in-Some.bytes.now (before_first is_newline c.in-Some.bytes.now) (option_copied c.next_phrase.result.1) n told-here c.next_phrase.ensures.lines more-told;
       numbered = search rules;
     }
 
