@@ -1,4 +1,3 @@
 pub mod Places
 pub mod Complete
 pub mod OnLogs
-pub mod OnEntering

@@ -89,9 +89,9 @@ impl Book {
         ensures share { share.new ≡ with_tally share.old (with_event share.old.tally position event.now) }
         ensures fit { FitsBook self.new share.new }
     {
-        let place = usize::from(share.thread.0);
-        self.rows[place].add(position as u64, event);
+        let row = &mut self.rows[usize::from(share.thread.0)];
         share.tally.add(position as u64, event);
+        *row = share.tally;
     }
 
     /// Adds an event to the row of its thread and to the share at its thread's place, which stays there.

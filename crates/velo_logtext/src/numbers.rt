@@ -17,7 +17,8 @@ fn digits(start: u64, bytes: &[u8], most: u64) -> Option<(u64, &[u8])>
             return Some((value, &bytes[i..]));
         }
         let digit = u64::from(*byte - b'0');
-        if value > most / 10 || digit > most - value * 10 {
+        // far below the bound, as most numbers are, one comparison tells
+        if value >= most / 10 && (value > most / 10 || digit > most - value * 10) {
             return None;
         }
         value = value * 10 + digit;

@@ -1,5 +1,5 @@
 -- How heap, monitor, clocks and alarm of a run follow from its events. Private contracts cite these words.
-use Rattle.std.specs.Prelude.{◌≡◌, ◌<◌, List, length, take, Option, Some, None}
+use Rattle.std.specs.Prelude.{◌≡◌, ◌<◌, ℕ, List, length, take, Option, Some, None}
 use Rattle.velo_events.specs.declared.config.Bounds.{Bounds}
 use Rattle.velo_events.specs.declared.event.Event.{Event}
 use Rattle.velo_events.specs.declared.limits.TheConstants.{MOST_EVENTS}
@@ -11,7 +11,7 @@ use Rattle.velo_tables.specs.Kept.{HasRoomFor}
 use Rattle.velo_tables.specs.Noted.{HasRoomToNote}
 use Rattle.velo_monitor.specs.Answers.{NeedsNode}
 use Rattle.velo_monitor.specs.Watched.{IsMonitorOf}
-use Rattle.velo_world.specs.World.{AlarmOf}
+use Rattle.velo_world.specs.World.{AlarmOf, IsAlarm}
 use Rattle.velo_world.specs.declared.run.Alarm.{Alarm}
 use Rattle.velo_world.specs.declared.run.Run.{Run}
 
@@ -26,6 +26,13 @@ pub record IsWatched (run : Run) (bounds : Bounds) (trace : List Event) : Type 0
   pub monitor : IsMonitorOf bounds run.monitor (events_watched trace run.alarm)
   pub clocks : AreClocksOf run.clocks.state (events_watched trace run.alarm)
   pub bounds_are : run.clocks.bounds ≡ bounds
+
+-- the alarm of the event at the position came to the run, and nothing else changed
+pub record Raises (run : Run) (trace : List Event) (position : ℕ) (run' : Run) : Type 0 where
+  pub alarm : Alarm
+  pub is : IsAlarm trace alarm
+  pub here : alarm.position ≡ position
+  pub same : run' ≡ record run { alarm = Some alarm }
 
 -- and the heap is that of all events
 pub record IsRunOf (run : Run) (trace : List Event) : Type 0 where

@@ -10,7 +10,7 @@ ghost use Rattle.velo_arena.specs.Slots.{limit_of};
 ghost use Rattle.velo_heap.specs.Contents.{bounds_of};
 ghost use Rattle.velo_tables.specs.Clocks.{AreClocksOf};
 ghost use Rattle.velo_world.specs.World.{FindsNoNode, IsAlarm};
-ghost use Rattle.velo_world.specs.Run.{ComesNext, HasRoomForNext, HasSlotFor, IsRunOf, IsWatched};
+ghost use Rattle.velo_world.specs.Run.{ComesNext, HasRoomForNext, HasSlotFor, IsRunOf, IsWatched, Raises};
 
 use smallvec::SmallVec;
 use std::alloc::Global;
@@ -134,10 +134,23 @@ impl Run {
         }
         match self.monitor.observe(position, event) {
             Seen::Quiet => self.clocks.note(position, event),
-            Seen::Closes { transaction } => {
-                self.alarm = Some(self.alarm_at(events, position, event, transaction));
-            }
+            Seen::Closes { transaction } => self.raise(events, position, event, transaction),
         }
+    }
+
+    /// Raises the alarm of the event at the position, which closes the first cycle. It stands out of line: an event that
+    /// raises none does not pay for the list of blocks.
+    #[inline(never)]
+    fn raise(&mut self, events: &[Event], position: usize, event: &Event, transaction: usize)
+        requires here { slice_get events.now position ≡ Some event.now }
+        requires clocks { AreClocksOf self.old.clocks.state (take position events.now) }
+        requires well_formed { IsWellFormed self.old.clocks.bounds (take position events.now ++ event.now ∷ []) }
+        requires acyclic { ¬ HasCycle (take position events.now) }
+        requires closes { HasCycle (take position events.now ++ event.now ∷ []) }
+        requires transaction { transaction ≡ owner (take position events.now ++ event.now ∷ []) position }
+        ensures { Raises self.old (take position events.now ++ event.now ∷ []) position self.new }
+    {
+        self.alarm = Some(self.alarm_at(events, position, event, transaction));
     }
 
     /// The alarm of the event at the position, which closes the first cycle.

@@ -42,17 +42,17 @@ returns-in-Quiet-clause-watched c =
     let seen = c.in-Quiet.ensures.seen _ _ (monitor-quiet c.args.self.now _ _ quiet watched) (sym here) c.requires.next.follows in
     IsWatched-quiet _ _ _ quiet seen.0 seen.1 (c.note.ensures.next _ (clocks-quiet c.args.self.now _ _ quiet watched) here (well_after c.args.self.now _ c.args.event.now c.requires.next)) (c.note.ensures.bounds ∙ watched.bounds_are)
 
-pub alarm_at-requires-clause-well_formed : goal.alarm_at-requires-clause-well_formed
-alarm_at-requires-clause-well_formed c = well_after c.args.self.now _ c.args.event.now c.requires.next
+pub raise-requires-clause-well_formed : goal.raise-requires-clause-well_formed
+raise-requires-clause-well_formed c = well_after c.args.self.now _ c.args.event.now c.requires.next
 
-pub alarm_at-requires-clause-closes : goal.alarm_at-requires-clause-closes
-alarm_at-requires-clause-closes c =
+pub raise-requires-clause-closes : goal.raise-requires-clause-closes
+raise-requires-clause-closes c =
     let quiet = sym c.is_some.ensures ∙ c.if-is_some.false in
     let here = length-before c.args.events.now c.args.position c.args.event.now c.requires.here in
     (c.in-Closes.ensures.seen _ _ (monitor-quiet c.args.self.now _ _ quiet c.requires.next.stands.watched) (sym here) c.requires.next.follows).0
 
-pub alarm_at-requires-clause-transaction : goal.alarm_at-requires-clause-transaction
-alarm_at-requires-clause-transaction c =
+pub raise-requires-clause-transaction : goal.raise-requires-clause-transaction
+raise-requires-clause-transaction c =
     let quiet = sym c.is_some.ensures ∙ c.if-is_some.false in
     let here = length-before c.args.events.now c.args.position c.args.event.now c.requires.here in
     let seen = c.in-Closes.ensures.seen _ _ (monitor-quiet c.args.self.now _ _ quiet c.requires.next.stands.watched) (sym here) c.requires.next.follows in
@@ -64,4 +64,5 @@ returns-in-Closes-clause-watched c =
     let watched = c.requires.next.stands.watched in
     let here = length-before c.args.events.now c.args.position c.args.event.now c.requires.here in
     let seen = c.in-Closes.ensures.seen _ _ (monitor-quiet c.args.self.now _ _ quiet watched) (sym here) c.requires.next.follows in
-    IsWatched-raised _ _ _ c.args.event.now c.alarm_at.result refl (c.alarm_at.ensures.position ∙ sym here) c.alarm_at.ensures.alarm seen.2 (clocks-quiet c.args.self.now _ _ quiet watched) watched.bounds_are
+    let raised = c.raise.ensures in
+    rw raised.same (IsWatched-raised _ _ _ c.args.event.now raised.alarm refl (raised.here ∙ sym here) raised.is seen.2 (clocks-quiet c.args.self.now _ _ quiet watched) watched.bounds_are)
