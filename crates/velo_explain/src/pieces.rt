@@ -11,7 +11,7 @@ use velo_events::{Event, Kind, Memory};
 use velo_logtext::{put_kind, put_number};
 
 /// A piece of text.
-#[derive(Clone, Copy, Debug)]
+#[derive(Clone, Copy)]
 pub(crate) enum Piece<'a> {
     Text(&'a str),
     Number(u64),

@@ -12,7 +12,7 @@ use velo_logtext::{Sink, WriteFault, write_all};
 const ROOM: usize = 1_024;
 
 /// A word of a line.
-#[derive(Clone, Copy, Debug)]
+#[derive(Clone, Copy)]
 pub(crate) enum Word<'a> {
     Text(&'a str),
     Number(u64),

@@ -1,4 +1,5 @@
 pub mod Chains
 pub mod OnRefusals
+pub mod OnSeats
 pub mod OnTurns
 pub mod Places
