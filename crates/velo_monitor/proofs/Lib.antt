@@ -9,6 +9,7 @@ pub mod OnMerging
 pub mod OnTables
 pub mod OnForgetting
 pub mod OnOwn
+pub mod OnOthers
 pub mod OnStep
 pub mod OnOutside
 pub mod OnOpening

@@ -17,6 +17,7 @@ ghost use Rattle.velo_graph.specs.Collects.{HasNothingLeft};
 ghost use Rattle.velo_merge.specs.Named.{Bears, live_stamps, HasFinished, IsAncestor};
 ghost use Rattle.velo_tables.specs.Place.{Place as PlaceOf, LastOf};
 ghost use Rattle.velo_tables.specs.Kept.{entry, steps_looked_up, HasRoomFor};
+ghost use Rattle.velo_tables.specs.Others.{accesses_but_for};
 ghost use Rattle.velo_monitor.specs.Watched.{IsMonitorOf};
 ghost use Rattle.velo_monitor.specs.Answers.{NeedsNode, GetsNewNode, IsNext, IsSeen};
 ghost use Rattle.velo_monitor.specs.Steps.{live_slots, ReachesSome};
@@ -272,7 +273,7 @@ impl Monitor {
         ensures sound { IsSound self.new.nodes }
     {
         match event.kind {
-            Kind::Write(_, _) => self.closes_or_follows(event, own),
+            Kind::Write(x, _) => self.closes_or_follows(x, own),
             _ => match self.tables.step_beside(event) {
                 Some(step) => closes_or_adds(&mut self.graph, step, own.slot),
                 None => false,
@@ -280,19 +281,19 @@ impl Monitor {
         }
     }
 
-    /// Adds the edges from the nodes of all steps that the event looks up into that of its own, unless one of them closes
-    /// a cycle.
-    fn closes_or_follows(&mut self, event: &Event, own: Step) -> bool
+    /// Adds the edges from the nodes of the variable's last accesses but the own one into this, unless one of them closes a
+    /// cycle.
+    fn closes_or_follows(&mut self, x: VarId, own: Step) -> bool
         requires borne { Bears self.old.nodes own.slot own.stamp }
         requires sound { IsSound self.old.nodes }
-        ensures closes { IsTrue result ↔ ReachesSome self.old.nodes own.slot (steps_looked_up self.old.kept event.now) }
+        ensures closes { IsTrue result ↔ ReachesSome self.old.nodes own.slot (accesses_but_for self.old.kept x.0 own.slot) }
         ensures same { IsTrue result → self.new ≡ self.old }
-        ensures adds { IsFalse result → AddsEdges self.old.nodes self.new.nodes (live_slots self.old.nodes (steps_looked_up self.old.kept event.now)) own.slot }
+        ensures adds { IsFalse result → AddsEdges self.old.nodes self.new.nodes (live_slots self.old.nodes (accesses_but_for self.old.kept x.0 own.slot)) own.slot }
         ensures kept { self.new.kept ≡ self.old.kept }
         ensures depths { self.new.depths ≡ self.old.depths }
         ensures sound { IsSound self.new.nodes }
     {
-        self.tables.predecessors_into(event, &mut self.steps);
+        self.tables.accesses_into(x, own.slot, &mut self.steps);
         if reaches_some(&self.graph, own.slot, &self.steps) {
             return true;
         }

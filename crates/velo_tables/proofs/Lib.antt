@@ -1,5 +1,6 @@
 pub mod OnReaders
 pub mod OnKept
+pub mod OnOthers
 pub mod OnForgotten
 pub mod OnLast
 pub mod OnLookUps

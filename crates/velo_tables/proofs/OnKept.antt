@@ -215,28 +215,6 @@ length-threads-kept_after kept e step = go e.kind
     go (Join u) = length-set kept.threads (thread_of e) step
     go Exit = length-set kept.threads (thread_of e) step
 
--- ---- what is looked up of a variable that is written
-
-filter_map-map : {X Y Z : Type 0} (f : Y → Option Z) (g : X → Y) (xs : List X) → filter_map f (map g xs) ≡ filter_map (λ x. f (g x)) xs
-filter_map-map f g [] = refl
-filter_map-map f g (x ∷ xs) = ap (cons_option (f (g x))) (filter_map-map f g xs)
-
-filter_map-none : {X Y : Type 0} (xs : List X) → filter_map {X = X} {Y = Y} (λ _. None) xs ≡ []
-filter_map-none [] = refl
-filter_map-none (x ∷ xs) = filter_map-none xs
-
-pub steps_of_accesses : (kept : Kept) (x : ℕ) → filter_map (entry kept) (LastWrite x ∷ map (LastRead x) thread_numbers) ≡ option_to_list (accesses_of kept x).write ++ filter_map (λ t. get_or (accesses_of kept x).reads t None) thread_numbers
-steps_of_accesses kept x =
-    filter_map-cons (entry kept) (LastWrite x) (map (LastRead x) thread_numbers)
-    ∙ ap (λ ys. option_to_list (accesses_of kept x).write ++ ys) (filter_map-map (entry kept) (LastRead x) thread_numbers)
-
--- a variable beyond the room has none
-pub no_steps_past : (kept : Kept) (x : ℕ) → length kept.variables ≤ x → filter_map (entry kept) (LastWrite x ∷ map (LastRead x) thread_numbers) ≡ []
-no_steps_past kept x past =
-    steps_of_accesses kept x
-    ∙ (ap (λ (a : Accesses). option_to_list a.write ++ filter_map (λ t. get_or a.reads t None) thread_numbers) (get_or_past kept.variables x no_accesses past)
-    ∙ filter_map-none thread_numbers)
-
 -- ---- room that was made
 
 pub IsUnchanged-trans : (a b c : Kept) → IsUnchanged a b → IsUnchanged b c → IsUnchanged a c

@@ -129,48 +129,49 @@ filter_map-skip f n (suc m) none =
 
 -- ---- a walk over the bits
 
--- `rest` has the bits of the threads from `next` on, and the list the steps of those before
-pub record IsWalked {X : Type 0} (readers : ℕ) (reads : List (Option X)) (before : List X) (rest next : ℕ) (list : List X) : Type 0 where
+-- each thread without a bit has nothing
+abbrev pub HaveBits : {X : Type 0} → ℕ → (ℕ → Option X) → Type 0
+HaveBits readers f = (t : ℕ) → bit_at readers t ≡ 0 → f t ≡ None
+
+-- `rest` has the bits of the threads from `next` on, and the list what those before have
+pub record IsWalked {X : Type 0} (readers : ℕ) (f : ℕ → Option X) (before : List X) (rest next : ℕ) (list : List X) : Type 0 where
   pub shifted : rest ≡ readers / 2 ^ next
   pub small : next ≤ 64
   pub few : length list ≤ length before + next
-  pub listed : list ≡ before ++ filter_map (λ t. get_or reads t None) (range_with_len 0 next)
+  pub listed : list ≡ before ++ filter_map f (range_with_len 0 next)
 
-pub IsWalked-start : {X : Type 0} (readers : ℕ) (reads : List (Option X)) (before : List X) → IsWalked readers reads before readers 0 before
-IsWalked-start readers reads before = record {
+pub IsWalked-start : {X : Type 0} (readers : ℕ) (f : ℕ → Option X) (before : List X) → IsWalked readers f before readers 0 before
+IsWalked-start readers f before = record {
   shifted = omega arith;
   small = omega arith;
   few = omega arith;
   listed = sym (append-nil before);
 }
 
-module _ {X : Type 0} (readers : ℕ) (reads : List (Option X)) (before : List X) (rest next : ℕ) (list : List X) where
-  bit_of_rest : IsWalked readers reads before rest next list → (i : ℕ) → bit_at rest i ≡ bit_at readers (next + i)
+module _ {X : Type 0} (readers : ℕ) (f : ℕ → Option X) (before : List X) (rest next : ℕ) (list : List X) where
+  bit_of_rest : IsWalked readers f before rest next list → (i : ℕ) → bit_at rest i ≡ bit_at readers (next + i)
   bit_of_rest walked i = ap (λ n. n / 2 ^ i % 2) walked.shifted ∙ ap (λ n. n % 2) (shr-shr readers next i)
 
   -- the next bit that is set is of a thread's number
-  pub IsWalked-within : readers < 2 ^ 64 → 0 < rest → rest < 2 ^ 64 → IsWalked readers reads before rest next list → next + trailing_zeros w64 rest < 64
+  pub IsWalked-within : readers < 2 ^ 64 → 0 < rest → rest < 2 ^ 64 → IsWalked readers f before rest next list → next + trailing_zeros w64 rest < 64
   IsWalked-within fits some rest_fits walked =
       let lowest = bit_at-trailing_zeros w64 rest some rest_fits in
       ⊎_elim (λ under. under)
       (λ past. absurd (let zero_one : 0 ≡ 1 = sym (bit_at_above readers 64 (next + trailing_zeros w64 rest) fits past) ∙ (sym (bit_of_rest walked (trailing_zeros w64 rest)) ∙ lowest.1) in omega (arith, zero_one)))
       (cases_lt (next + trailing_zeros w64 rest) 64)
 
-  pub IsWalked-next : AreReaders readers reads → readers < 2 ^ 64 → 0 < rest → rest < 2 ^ 64 → IsWalked readers reads before rest next list → (thread : ℕ) → thread ≡ next + trailing_zeros w64 rest →
-      IsWalked readers reads before (rest / 2 ^ trailing_zeros w64 rest / 2 ^ 1) (thread + 1) (list ++ option_to_list (get_or reads thread None))
-  IsWalked-next are fits some rest_fits walked thread at = record {
+  pub IsWalked-next : HaveBits readers f → readers < 2 ^ 64 → 0 < rest → rest < 2 ^ 64 → IsWalked readers f before rest next list → (thread : ℕ) → thread ≡ next + trailing_zeros w64 rest →
+      IsWalked readers f before (rest / 2 ^ trailing_zeros w64 rest / 2 ^ 1) (thread + 1) (list ++ option_to_list (f thread))
+  IsWalked-next have fits some rest_fits walked thread at = record {
     shifted = ap (λ n. n / 2 ^ trailing_zeros w64 rest / 2 ^ 1) walked.shifted
         ∙ (ap (λ n. n / 2 ^ 1) (shr-shr readers next (trailing_zeros w64 rest))
         ∙ (shr-shr readers (next + trailing_zeros w64 rest) 1 ∙ ap (λ n. readers / 2 ^ n) (let same : next + trailing_zeros w64 rest + 1 ≡ thread + 1 = omega (arith, at) in same)));
     small = omega (arith, at, IsWalked-within fits some rest_fits walked);
-    few = omega (arith, at, walked.few, length-append list (option_to_list (get_or reads thread None)), at_most_one (get_or reads thread None));
-    listed = ap (λ xs. xs ++ option_to_list (get_or reads thread None)) (walked.listed ∙ ap (λ ys. before ++ ys) skipped)
+    few = omega (arith, at, walked.few, length-append list (option_to_list (f thread)), at_most_one (f thread));
+    listed = ap (λ xs. xs ++ option_to_list (f thread)) (walked.listed ∙ ap (λ ys. before ++ ys) skipped)
         ∙ (append_assoc before (filter_map f (range_with_len 0 thread)) (option_to_list (f thread)) ∙ ap (λ ys. before ++ ys) (sym (filter_map-more f thread)));
   }
     where
-      f : ℕ → Option X
-      f t = get_or reads t None
-
       at_most_one : (o : Option X) → length (option_to_list o) ≤ 1
       at_most_one None = omega arith
       at_most_one (Some x) = omega arith
@@ -178,20 +179,17 @@ module _ {X : Type 0} (readers : ℕ) (reads : List (Option X)) (before : List X
       none_between : (k : ℕ) → next ≤ k → k < next + trailing_zeros w64 rest → f k ≡ None
       none_between k above under =
           let clear : bit_at rest (k - next) ≡ 0 = (bit_at-trailing_zeros w64 rest some rest_fits).2 (k - next) (omega (arith, above, under)) in
-          are.covers k (ap (bit_at readers) (let same : k ≡ next + (k - next) = omega (arith, above) in same) ∙ (sym (bit_of_rest walked (k - next)) ∙ clear))
+          have k (ap (bit_at readers) (let same : k ≡ next + (k - next) = omega (arith, above) in same) ∙ (sym (bit_of_rest walked (k - next)) ∙ clear))
 
       skipped : filter_map f (range_with_len 0 next) ≡ filter_map f (range_with_len 0 thread)
       skipped = sym (ap (λ n. filter_map f (range_with_len 0 n)) at ∙ filter_map-skip f next (trailing_zeros w64 rest) none_between)
 
-  pub IsWalked-all : AreReaders readers reads → rest ≡ 0 → IsWalked readers reads before rest next list → list ≡ before ++ filter_map (λ t. get_or reads t None) thread_numbers
+  pub IsWalked-all : HaveBits readers f → rest ≡ 0 → IsWalked readers f before rest next list → list ≡ before ++ filter_map f thread_numbers
   unfolding thread_numbers
-  IsWalked-all are done walked =
+  IsWalked-all have done walked =
       walked.listed ∙ ap (λ ys. before ++ ys)
       (sym (ap (λ n. filter_map f (range_with_len 0 n)) (let all : 64 ≡ next + (64 - next) = omega (arith, walked.small) in all) ∙ filter_map-skip f next (64 - next) none_left))
     where
-      f : ℕ → Option X
-      f t = get_or reads t None
-
       none_left : (k : ℕ) → next ≤ k → k < next + (64 - next) → f k ≡ None
       none_left k above under =
-          are.covers k (ap (bit_at readers) (let same : k ≡ next + (k - next) = omega (arith, above) in same) ∙ (sym (bit_of_rest walked (k - next)) ∙ (ap (λ n. bit_at n (k - next)) done ∙ bit_at-zero (k - next))))
+          have k (ap (bit_at readers) (let same : k ≡ next + (k - next) = omega (arith, above) in same) ∙ (sym (bit_of_rest walked (k - next)) ∙ (ap (λ n. bit_at n (k - next)) done ∙ bit_at-zero (k - next))))

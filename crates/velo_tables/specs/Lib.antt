@@ -2,6 +2,7 @@ pub mod Entry
 pub mod Place
 pub mod Readers
 pub mod Kept
+pub mod Others
 pub mod Recorded
 pub mod Last
 pub mod Clocks

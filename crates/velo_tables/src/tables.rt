@@ -8,11 +8,12 @@ ghost use Rattle.velo_tables.specs.declared.tables.TheConstants.{MOST_PREDECESSO
 ghost use Rattle.velo_tables.specs.Place.{LastOf, LastWrite, LastRead, LastOn, thread_numbers};
 ghost use Rattle.velo_tables.specs.Readers.{filled_up};
 ghost use Rattle.velo_tables.specs.Kept.{entry, no_accesses, steps_looked_up, HasItsThreads, HasRoomFor, HasRoomToRead, HasRoomBeside, CoverReaders, IsBlank, IsUnchanged, IsRecorded, IsReadForgotten, accesses_of};
+ghost use Rattle.velo_tables.specs.Others.{but_for, accesses_but_for};
 ghost use Rattle.velo_events.specs.Event.{thread_of, is_write};
 ghost use Rattle.velo_tables.specs.Recorded.{kept_after, with_variable, with_read, with_reads_of};
 
 use crate::entry::{Entry, entry_at};
-use crate::variable::{Variable, push_step};
+use crate::variable::{Variable, but_for, push_step};
 use smallvec::SmallVec;
 use std::alloc::Global;
 use std::marker::Model;
@@ -290,7 +291,7 @@ impl Tables {
         push_step(list, self.last_of(event.thread));
         match event.kind {
             Kind::Read(x, _) => push_step(list, self.last_write(x)),
-            Kind::Write(x, _) => self.push_accesses(x, list),
+            Kind::Write(x, _) => self.push_accesses(x, None, list),
             Kind::Acquire(m) | Kind::Release(m) => push_step(list, self.last_on(m)),
             Kind::Join(u) => push_step(list, self.last_of(u)),
             _ => {}
@@ -311,16 +312,34 @@ impl Tables {
         }
     }
 
-    /// Appends the steps of the variable's last write and reads.
-    fn push_accesses(&self, x: VarId, list: &mut SmallVec<Step, MOST_PREDECESSORS>)
+    /// Puts the steps that a write of the variable looks up beside that of its thread into the list, in place of what it
+    /// had, but for those of the slot.
+    #[tactic(auto, unfolding(crate::specs::Others::accesses_but_for))]
+    pub fn accesses_into(&self, x: VarId, slot: u16, list: &mut SmallVec<Step, MOST_PREDECESSORS>)
+        requires { MOST_PREDECESSORS ≤ list.old.capacity }
+        ensures items { list.new.items ≡ accesses_but_for self.now x.0 slot }
+        ensures capacity { list.new.capacity ≡ list.old.capacity }
+    {
+        list.clear();
+        self.push_accesses(x, Some(slot), list);
+    }
+
+    /// Appends the steps of the variable's last write and reads, but for those of the slot.
+    #[inline]
+    fn push_accesses(
+        &self,
+        x: VarId,
+        slot: Option<u16>,
+        list: &mut SmallVec<Step, MOST_PREDECESSORS>,
+    )
         requires { HasSpace list.old (1 + MOST_THREADS) }
-        ensures items { list.new.items ≡ list.old.items ++ filter_map (entry self.now) (LastWrite x.0 ∷ map (LastRead x.0) thread_numbers) }
+        ensures items { list.new.items ≡ list.old.items ++ filter_map (λ p. but_for slot (entry self.now p)) (LastWrite x.0 ∷ map (LastRead x.0) thread_numbers) }
         ensures capacity { list.new.capacity ≡ list.old.capacity }
     {
         if (x.0 as usize) < self.variables.len() {
             let variable = &self.variables[x.0 as usize];
-            push_step(list, variable.last_write());
-            variable.push_reads(list);
+            push_step(list, but_for(slot, variable.last_write()));
+            variable.push_reads(slot, list);
         }
     }
 

@@ -7,6 +7,7 @@ ghost use Rattle.velo_events.specs.declared.limits.TheConstants.{MOST_THREADS};
 ghost use Rattle.velo_tables.specs.Place.{thread_numbers};
 ghost use Rattle.velo_tables.specs.Readers.{AreReaders};
 ghost use Rattle.velo_tables.specs.Kept.{no_accesses};
+ghost use Rattle.velo_tables.specs.Others.{but_for};
 ghost use Rattle.velo_tables.specs.Recorded.{with_write, with_read, with_reads_of};
 
 use crate::entry::{Entry, entry_at};
@@ -50,11 +51,28 @@ pub(crate) fn push_step(list: &mut SmallVec<Step, MOST_PREDECESSORS>, step: Opti
     }
 }
 
-/// Appends the steps of the reads, in the order of their threads.
-fn push_reads_of(reads: &[Entry], readers: u64, list: &mut SmallVec<Step, MOST_PREDECESSORS>)
+/// The step, unless it is of the slot that is left out.
+#[inline(always)]
+pub(crate) fn but_for(slot: Option<u16>, step: Option<Step>) -> Option<Step>
+    ensures { result ≡ but_for slot step }
+{
+    match (slot, step) {
+        (Some(slot), Some(step)) if step.slot == slot => None,
+        _ => step,
+    }
+}
+
+/// Appends the steps of the reads but for those of the slot, in the order of their threads.
+#[inline]
+fn push_reads_of(
+    reads: &[Entry],
+    readers: u64,
+    slot: Option<u16>,
+    list: &mut SmallVec<Step, MOST_PREDECESSORS>,
+)
     requires covered { AreReaders readers reads.now }
     requires room { HasRoomFor list.old MOST_THREADS }
-    ensures items { list.new.items ≡ list.old.items ++ filter_map (λ t. slice_index_or reads.now t None) thread_numbers }
+    ensures items { list.new.items ≡ list.old.items ++ filter_map (λ t. but_for slot (slice_index_or reads.now t None)) thread_numbers }
     ensures capacity { list.new.capacity ≡ list.old.capacity }
 {
     let mut rest = readers;
@@ -62,7 +80,7 @@ fn push_reads_of(reads: &[Entry], readers: u64, list: &mut SmallVec<Step, MOST_P
     while rest != 0 {
         let skipped = rest.trailing_zeros();
         thread += skipped;
-        push_step(list, entry_at(reads, thread as usize));
+        push_step(list, but_for(slot, entry_at(reads, thread as usize)));
         thread += 1;
         rest = (rest >> skipped) >> 1;
     }
@@ -101,13 +119,14 @@ impl Variable {
         self.readers
     }
 
-    /// Appends the steps of the last reads, in the order of their threads.
-    pub fn push_reads(&self, list: &mut SmallVec<Step, MOST_PREDECESSORS>)
+    /// Appends the steps of the last reads but for those of the slot, in the order of their threads.
+    #[inline]
+    pub fn push_reads(&self, slot: Option<u16>, list: &mut SmallVec<Step, MOST_PREDECESSORS>)
         requires { HasRoomFor list.old MOST_THREADS }
-        ensures items { list.new.items ≡ list.old.items ++ filter_map (λ t. slice_index_or self.now.reads t None) thread_numbers }
+        ensures items { list.new.items ≡ list.old.items ++ filter_map (λ t. but_for slot (slice_index_or self.now.reads t None)) thread_numbers }
         ensures capacity { list.new.capacity ≡ list.old.capacity }
     {
-        push_reads_of(&self.reads, self.readers, list);
+        push_reads_of(&self.reads, self.readers, slot, list);
     }
 
     /// Makes room for the reads of that many threads.

@@ -6,8 +6,20 @@ use Rattle.velo_tables.specs.Kept.{entry, steps_looked_up}
 use Rattle.velo_graph.specs.Nodes.{AddsEdges}
 use Rattle.velo_monitor.specs.Watched.{Watched}
 use Rattle.velo_monitor.specs.Steps.{live_slots, ReachesSome}
+use Rattle.velo_tables.specs.Others.{accesses_but_for}
 use Rattle.velo_monitor.proofs.OnOwn.{closes-all, adds-all, adds-nothing, reaches-nothing}
+use Rattle.velo_monitor.proofs.OnOthers.{closes-write, adds-write}
 use Rattle.velo_monitor.proofs.monitor.Monitor.closes_or_extends.Goals as goal
+
+pub returns-in-Write-clause-closes : goal.returns-in-Write-clause-closes
+returns-in-Write-clause-closes c =
+    let w = c.args.self.now in
+    closes-write w.nodes w.kept c.args.event.now c.args.own c.in-Write.x _ c.in-Write.is c.requires.current c.closes_or_follows.result c.closes_or_follows.ensures.closes
+
+pub returns-in-Write-clause-adds : goal.returns-in-Write-clause-adds
+returns-in-Write-clause-adds c going =
+    let w = c.args.self.now in
+    adds-write w.nodes w.kept c.args.event.now c.args.own c.in-Write.x _ c.in-Write.is c.requires.current c.closes_or_follows.new.self.nodes c.requires.borne (c.closes_or_follows.ensures.adds going)
 
 pub returns-in-Some-clause-closes : goal.returns-in-Some-clause-closes
 returns-in-Some-clause-closes c =

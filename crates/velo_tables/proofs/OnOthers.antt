@@ -1,0 +1,48 @@
+-- The steps that are not of one slot, place by place.
+use Rattle.std.proofs.Common.{◌≡◌, ℕ, ◌≤◌, ◌++◌, List, [], ◌∷◌, Option, Some, None, refl, ap, ◌∙◌, get_or, length}
+use Rattle.std.specs.Prelude.{map}
+use Rattle.std.specs.List.{filter_map, cons_option}
+use Rattle.std.proofs.lemmas.List.{get_or_past}
+use Rattle.std.specs.Option.{option_to_list}
+use Rattle.velo_arena.specs.declared.step.Step.{Step}
+use Rattle.velo_tables.specs.Place.{Place, LastWrite, LastRead, thread_numbers}
+use Rattle.velo_tables.specs.Readers.{AreReaders}
+use Rattle.velo_tables.specs.Kept.{Kept, Accesses, entry, accesses_of, no_accesses}
+use Rattle.velo_tables.specs.Others.{but_for}
+use Rattle.velo_tables.proofs.OnReaders.{HaveBits, filter_map-cons}
+
+pub but_for-none : (slot : Option ℕ) → but_for slot None ≡ None
+but_for-none None = refl
+but_for-none (Some slot) = refl
+
+-- a thread without a bit has no read
+pub HaveBits-but_for : (slot : Option ℕ) (readers : ℕ) (reads : List (Option Step)) → AreReaders readers reads → HaveBits readers (λ t. but_for slot (get_or reads t None))
+HaveBits-but_for slot readers reads are t clear = ap (but_for slot) (are.covers t clear) ∙ but_for-none slot
+
+filter_map-map : {X Y Z : Type 0} (f : Y → Option Z) (g : X → Y) (xs : List X) → filter_map f (map g xs) ≡ filter_map (λ x. f (g x)) xs
+filter_map-map f g [] = refl
+filter_map-map f g (x ∷ xs) = ap (cons_option (f (g x))) (filter_map-map f g xs)
+
+filter_map-none : {X Y : Type 0} (f : X → Option Y) (xs : List X) → ((x : X) → f x ≡ None) → filter_map f xs ≡ []
+filter_map-none f [] none = refl
+filter_map-none f (x ∷ xs) none = ap (λ o. cons_option o (filter_map f xs)) (none x) ∙ filter_map-none f xs none
+
+-- the steps of one variable's accesses
+abbrev pub accesses_of_places : Option ℕ → Kept → ℕ → List Step
+accesses_of_places slot kept x = filter_map (λ p. but_for slot (entry kept p)) (LastWrite x ∷ map (LastRead x) thread_numbers)
+
+abbrev pub steps_of : Option ℕ → Accesses → List Step
+steps_of slot accesses = option_to_list (but_for slot accesses.write) ++ filter_map (λ t. but_for slot (get_or accesses.reads t None)) thread_numbers
+
+pub steps_of_accesses : (slot : Option ℕ) (kept : Kept) (x : ℕ) → accesses_of_places slot kept x ≡ steps_of slot (accesses_of kept x)
+steps_of_accesses slot kept x =
+    filter_map-cons (λ p. but_for slot (entry kept p)) (LastWrite x) (map (LastRead x) thread_numbers)
+    ∙ ap (λ ys. option_to_list (but_for slot (accesses_of kept x).write) ++ ys) (filter_map-map (λ p. but_for slot (entry kept p)) (LastRead x) thread_numbers)
+
+-- a variable beyond the room has none
+pub no_steps_past : (slot : Option ℕ) (kept : Kept) (x : ℕ) → length kept.variables ≤ x → accesses_of_places slot kept x ≡ []
+no_steps_past slot kept x past =
+    steps_of_accesses slot kept x
+    ∙ (ap (steps_of slot) (get_or_past kept.variables x no_accesses past)
+    ∙ (ap (λ o. option_to_list o ++ filter_map (λ t. but_for slot None) thread_numbers) (but_for-none slot)
+    ∙ filter_map-none (λ t. but_for slot None) thread_numbers (λ t. but_for-none slot)))
