@@ -1,5 +1,7 @@
 pub mod OnReaders
+pub mod OnNumberLists
 pub mod OnKept
+pub mod OnLastClocks
 pub mod OnForgotten
 pub mod OnLast
 pub mod OnLookUps
