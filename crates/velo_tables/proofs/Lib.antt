@@ -1,6 +1,8 @@
 pub mod OnReaders
+pub mod OnNumberLists
 pub mod OnKept
 pub mod OnOthers
+pub mod OnLastClocks
 pub mod OnForgotten
 pub mod OnLast
 pub mod OnLookUps

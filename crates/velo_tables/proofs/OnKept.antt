@@ -294,6 +294,10 @@ pub OnOk-weaker : {A E : Type 0} (r : Result A E) (P Q : Type 0) → OnOk r P �
 OnOk-weaker (Ok x) P Q ok p = p ok
 OnOk-weaker (Err x) P Q ok p = tt
 
+pub OnErr-from : {A E : Type 0} (r : Result A E) (P : Type 0) → P → OnErr r P
+OnErr-from (Ok x) P p = tt
+OnErr-from (Err e) P p = p
+
 pub OnErr-weaker : {A E : Type 0} (r : Result A E) (P Q : Type 0) → OnErr r P → (P → Q) → OnErr r Q
 OnErr-weaker (Ok x) P Q err q = tt
 OnErr-weaker (Err x) P Q err q = q err

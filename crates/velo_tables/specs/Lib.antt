@@ -1,6 +1,7 @@
 pub mod Entry
 pub mod Place
 pub mod Readers
+pub mod NumberLists
 pub mod Kept
 pub mod Others
 pub mod Recorded

@@ -1,6 +1,7 @@
 -- What the clocks have after an event was noted, list by list. Private contracts cite these words: public ones say it place by place.
 use Rattle.std.specs.Prelude.{◌≡◌, ℕ, ◌+◌, ◌<◌, ◌≤◌, max, Bool, List, [], ◌∷◌, length, slice_index_or, slice_set, if◌then◌else◌, ⊤}
 use Rattle.velo_events.specs.declared.event.Event.{Event}
+use Rattle.velo_events.specs.declared.event.ThreadId.{ThreadId}
 use Rattle.velo_events.specs.declared.event.Kind.{Kind}
 use Rattle.velo_events.specs.declared.event.Kind.TheVariants.{Read, Write, Acquire, Release, Fork, Join}
 use Rattle.velo_events.specs.Event.{thread_of}
@@ -20,6 +21,12 @@ maxima (x ∷ xs) (y ∷ ys) = max x y ∷ maxima xs ys
 -- an event of thread t with this clock stands there alone
 abbrev pub alone_at : List ℕ → ℕ → Clock
 alone_at clock t = record { known = clock; foreign = slice_set clock t 0 }
+
+-- by number of a place: an event with this clock stands there alone, and is of this thread
+abbrev pub alones : List (List ℕ) → List ThreadId → List Clock
+alones [] by = []
+alones (clock ∷ clocks) [] = alone_at clock 0 ∷ alones clocks []
+alones (clock ∷ clocks) (t ∷ ts) = alone_at clock t.0 ∷ alones clocks ts
 
 -- it stands there beside the others
 abbrev pub joint_at : Clock → List ℕ → ℕ → Clock

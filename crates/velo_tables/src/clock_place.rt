@@ -4,6 +4,7 @@ ghost use Rattle.velo_tables.specs.Readers.{filled_up};
 ghost use Rattle.velo_tables.specs.Clocks.{blank_clock};
 ghost use Rattle.velo_tables.specs.Noted.{maxima, alone_at, joint_at, with_room};
 
+use crate::numbers::{number_of, raise};
 use std::alloc::Global;
 use std::marker::Model;
 use velo_events::growth::reserve;
@@ -34,16 +35,6 @@ impl Model for PlaceClock {
     ghost invariant = { λ p. length p.foreign.items ≡ length p.known.items };
 }
 
-/// Raises each number to that of the other list.
-pub(crate) fn raise(numbers: &mut [u32], others: &[u32])
-    requires { length others.now ≤ length numbers.old }
-    ensures { numbers.new ≡ maxima numbers.old others.now }
-{
-    for i in 0..others.len() {
-        numbers[i] = numbers[i].max(others[i]);
-    }
-}
-
 /// Fills the list up with zeros.
 fn fill_up(numbers: &mut Vec<u32>, count: usize)
     requires { count ≤ vec_capacity numbers.old }
@@ -70,17 +61,6 @@ fn reserve_up(numbers: &mut Vec<u32>, count: usize) -> Result<(), Memory>
         reserve(numbers, missing)?;
     }
     Ok(())
-}
-
-/// The thread's number, or 0 where there is none.
-fn number_of(numbers: &[u32], t: ThreadId) -> u32
-    ensures { result ≡ slice_index_or numbers.now t.0 0 }
-{
-    if (t.0 as usize) < numbers.len() {
-        numbers[t.0 as usize]
-    } else {
-        0
-    }
 }
 
 /// Copies the numbers, but that of one thread.

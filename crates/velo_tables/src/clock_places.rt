@@ -6,6 +6,7 @@ ghost use Rattle.velo_tables.specs.Clocks.{blank_clock, clock_at, OfLast, blame_
 ghost use Rattle.velo_tables.specs.Noted.{maxima, alone_at, joint_at, with_room, with_thread, clock_beside, joined_clock, state_after_beside, state_after, HasRoomAt, AreWithin, KeepNumbers, IsSized, HasRoomToNote, IsOfThreads};
 
 use crate::clock_place::PlaceClock;
+use crate::last_clocks::LastClocks;
 use std::alloc::Global;
 use std::marker::Model;
 use velo_events::growth::{reserve, with_capacity};
@@ -15,9 +16,9 @@ use velo_events::{Event, Kind, Memory, ThreadId};
 #[derive(Debug, Drop)]
 pub(crate) struct PlaceClocks {
     threads: Vec<PlaceClock>,
-    writes: Vec<PlaceClock>,
+    writes: LastClocks,
     reads: Vec<PlaceClock>,
-    locks: Vec<PlaceClock>,
+    locks: LastClocks,
 }
 
 impl Model for PlaceClocks {
@@ -25,7 +26,7 @@ impl Model for PlaceClocks {
 
     ghost Value = { ClockState };
 
-    ghost view = { λ s. record { threads = s.threads.items; writes = s.writes.items; reads = s.reads.items; locks = s.locks.items } };
+    ghost view = { λ s. record { threads = s.threads.items; writes = s.writes; reads = s.reads.items; locks = s.locks } };
 }
 
 /// The places of that many threads, with room for what their events know.
@@ -99,6 +100,17 @@ fn foreign_at(places: &[PlaceClock], number: usize, t: ThreadId) -> u32
     }
 }
 
+/// What the events of the place with this number know.
+fn known_at(places: &[PlaceClock], number: usize) -> &[u32]
+    ensures { result.now ≡ (slice_index_or places.now number blank_clock).known }
+{
+    if number < places.len() {
+        places[number].known()
+    } else {
+        &[]
+    }
+}
+
 /// Raises what an event knows by what the events of the place with this number know.
 fn join_place(clock: &mut [u32], places: &[PlaceClock], number: usize)
     requires { AreWithin (length clock.old) places.now }
@@ -129,35 +141,24 @@ fn add_place(places: &mut [PlaceClock], number: usize, clock: &[u32], by: Thread
     place.add(clock, by);
 }
 
-/// The thread knows what the events of the place with this number know.
-fn raise_thread(threads: &mut [PlaceClock], t: ThreadId, places: &[PlaceClock], number: usize)
+/// The thread knows this too.
+fn raise_thread(threads: &mut [PlaceClock], t: ThreadId, known: &[u32])
     requires own { t.0 < length threads.old }
-    requires within { AreWithin (length (slice_index_or threads.old t.0 blank_clock).known) places.now }
-    ensures { threads.new ≡ slice_set threads.old t.0 (alone_at (maxima (slice_index_or threads.old t.0 blank_clock).known (slice_index_or places.now number blank_clock).known) t.0) }
+    requires within { length known.now ≤ length (slice_index_or threads.old t.0 blank_clock).known }
+    ensures { threads.new ≡ slice_set threads.old t.0 (alone_at (maxima (slice_index_or threads.old t.0 blank_clock).known known.now) t.0) }
 {
-    let own = &mut threads[t.0 as usize];
-    if number < places.len() {
-        own.raise_by(places[number].known(), t);
-    } else {
-        own.stand_alone(t);
-    }
+    threads[t.0 as usize].raise_by(known, t);
 }
 
-/// The thread knows what the events of both places with this number know.
-fn raise_by_both(
-    threads: &mut [PlaceClock],
-    t: ThreadId,
-    writes: &[PlaceClock],
-    reads: &[PlaceClock],
-    number: usize,
-)
+/// The thread knows what the last write and the reads of a variable know.
+fn raise_by_both(threads: &mut [PlaceClock], t: ThreadId, write: &[u32], reads: &[u32])
     requires own { t.0 < length threads.old }
-    requires writes { AreWithin (length (slice_index_or threads.old t.0 blank_clock).known) writes.now }
-    requires reads { AreWithin (length (slice_index_or threads.old t.0 blank_clock).known) reads.now }
-    ensures { threads.new ≡ slice_set threads.old t.0 (alone_at (maxima (maxima (slice_index_or threads.old t.0 blank_clock).known (slice_index_or writes.now number blank_clock).known) (slice_index_or reads.now number blank_clock).known) t.0) }
+    requires write { length write.now ≤ length (slice_index_or threads.old t.0 blank_clock).known }
+    requires reads { length reads.now ≤ length (slice_index_or threads.old t.0 blank_clock).known }
+    ensures { threads.new ≡ slice_set threads.old t.0 (alone_at (maxima (maxima (slice_index_or threads.old t.0 blank_clock).known write.now) reads.now) t.0) }
 {
-    raise_thread(threads, t, writes, number);
-    raise_thread(threads, t, reads, number);
+    raise_thread(threads, t, write);
+    raise_thread(threads, t, reads);
 }
 
 /// The thread's last event is one that it knows by this number.
@@ -204,9 +205,9 @@ impl PlaceClocks {
         let blanks = blank_threads(alloc, threads)?;
         Ok(PlaceClocks {
             threads: blanks,
-            writes: Vec::new(alloc),
+            writes: LastClocks::new(alloc),
             reads: Vec::new(alloc),
-            locks: Vec::new(alloc),
+            locks: LastClocks::new(alloc),
         })
     }
 
@@ -221,10 +222,8 @@ impl PlaceClocks {
     {
         match event.kind {
             Kind::Read(x, _) => make_room(&mut self.reads, x.0 as usize, threads),
-            Kind::Write(x, _) => make_room(&mut self.writes, x.0 as usize, threads),
-            Kind::Acquire(m) | Kind::Release(m) => {
-                make_room(&mut self.locks, m.0 as usize, threads)
-            }
+            Kind::Write(x, _) => self.writes.reserve(x.0 as usize, threads),
+            Kind::Acquire(m) | Kind::Release(m) => self.locks.reserve(m.0 as usize, threads),
             _ => Ok(()),
         }
     }
@@ -259,16 +258,14 @@ impl PlaceClocks {
     {
         let t = event.thread;
         match event.kind {
-            Kind::Read(x, _) => raise_thread(&mut self.threads, t, &self.writes, x.0 as usize),
-            Kind::Write(x, _) => raise_by_both(
-                &mut self.threads,
-                t,
-                &self.writes,
-                &self.reads,
-                x.0 as usize,
-            ),
+            Kind::Read(x, _) => raise_thread(&mut self.threads, t, self.writes.known(x.0 as usize)),
+            Kind::Write(x, _) => {
+                let write = self.writes.known(x.0 as usize);
+                let reads = known_at(&self.reads, x.0 as usize);
+                raise_by_both(&mut self.threads, t, write, reads)
+            }
             Kind::Acquire(m) | Kind::Release(m) => {
-                raise_thread(&mut self.threads, t, &self.locks, m.0 as usize)
+                raise_thread(&mut self.threads, t, self.locks.known(m.0 as usize))
             }
             Kind::Join(u) => join_threads(&mut self.threads, t, u, list),
             _ => self.threads[t.0 as usize].stand_alone(t),
@@ -285,10 +282,8 @@ impl PlaceClocks {
         let clock = self.threads[by.0 as usize].known();
         match event.kind {
             Kind::Read(x, _) => add_place(&mut self.reads, x.0 as usize, clock, by),
-            Kind::Write(x, _) => replace_place(&mut self.writes, x.0 as usize, clock, by),
-            Kind::Acquire(m) | Kind::Release(m) => {
-                replace_place(&mut self.locks, m.0 as usize, clock, by)
-            }
+            Kind::Write(x, _) => self.writes.replace(x.0 as usize, clock, by),
+            Kind::Acquire(m) | Kind::Release(m) => self.locks.replace(m.0 as usize, clock, by),
             Kind::Fork(u) => copy_thread(&mut self.threads, by, u, list),
             _ => {}
         }
@@ -300,15 +295,13 @@ impl PlaceClocks {
     {
         let t = event.thread;
         match event.kind {
-            Kind::Read(x, _) => foreign_at(&self.writes, x.0 as usize, t) as usize,
+            Kind::Read(x, _) => self.writes.foreign(x.0 as usize, t) as usize,
             Kind::Write(x, _) => {
-                let writes = foreign_at(&self.writes, x.0 as usize, t);
+                let writes = self.writes.foreign(x.0 as usize, t);
                 let reads = foreign_at(&self.reads, x.0 as usize, t);
                 writes.max(reads) as usize
             }
-            Kind::Acquire(m) | Kind::Release(m) => {
-                foreign_at(&self.locks, m.0 as usize, t) as usize
-            }
+            Kind::Acquire(m) | Kind::Release(m) => self.locks.foreign(m.0 as usize, t) as usize,
             Kind::Join(u) => foreign_at(&self.threads, u.0 as usize, t) as usize,
             _ => 0,
         }

@@ -6,6 +6,10 @@ mod clock_place;
 mod clock_places;
 mod clocks;
 mod entry;
+mod filling;
+mod last_clocks;
+mod number_lists;
+mod numbers;
 mod tables;
 mod variable;
 

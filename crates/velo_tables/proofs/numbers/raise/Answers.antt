@@ -1,7 +1,7 @@
 use Rattle.std.proofs.Common.{max, get_or, sym, ◌∙◌, ap, arith}
 use Rattle.std.proofs.Math.ListN.{set}
 use Rattle.velo_tables.proofs.OnRaised.{raised-nil, raised-more}
-use Rattle.velo_tables.proofs.clock_place.raise.Goals as goal
+use Rattle.velo_tables.proofs.numbers.raise.Goals as goal
 
 pub loop-i-init : goal.loop-i-init
 loop-i-init c = sym (raised-nil c.args.numbers.now)
