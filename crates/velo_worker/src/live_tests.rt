@@ -1,8 +1,7 @@
-use crate::{Ending, Gate, LiveFault, OpenGate, live};
+use crate::{Ending, Gate, OpenGate, live};
 use std::alloc::Global;
 use std::sync::Wait;
 use std::sync::atomic::{AtomicU64, Ordering};
-use std::test::Fail;
 use std::thread;
 use std::thread::Threads;
 use velo_events::{Config, ThreadId, VarId};
@@ -42,18 +41,18 @@ macro_rules! turn {
 const LOST_ORDER: [Turn; 3] = [turn!(1, 0, 3), turn!(0, 3, 1), turn!(1, 1, 4)];
 
 /// Each thread tries its second lock only once both hold their first.
-const BOTH_HOLD: [Turn; 2] = [turn!(0, 2, 1), turn!(1, 1, 2)];
+const BOTH_HOLD: [Turn; 3] = [turn!(0, 2, 1), turn!(1, 1, 2), turn!(1, 1, 2)];
 
 /// A gate that has two threads take turns.
 #[derive(Drop)]
-struct Order<'a> {
-    turns: &'a [Turn],
+struct Order {
+    turns: [Turn; 3],
     /// How many steps each thread has asked for.
     asked: [AtomicU64; 2],
 }
 
-impl<'a> Order<'a> {
-    fn of(turns: &'a [Turn]) -> Order<'a> {
+impl Order {
+    fn of(turns: [Turn; 3]) -> Order {
         Order {
             turns,
             asked: [AtomicU64::new(0), AtomicU64::new(0)],
@@ -62,10 +61,12 @@ impl<'a> Order<'a> {
 
     /// The step of the other thread that this step waits for.
     fn awaited(&self, thread: ThreadId, step: u64) -> Option<u64> {
-        self.turns
-            .iter()
-            .find(|turn| turn.thread == thread.0 && turn.step == step)
-            .map(|turn| turn.awaited)
+        for turn in &self.turns {
+            if turn.thread == thread.0 && turn.step == step {
+                return Some(turn.awaited);
+            }
+        }
+        None
     }
 }
 
@@ -80,15 +81,12 @@ fn is_asked(asked: &AtomicU64, step: u64) -> bool {
     false
 }
 
-impl<'a> Gate for Order<'a> {
+impl Gate for Order {
     fn pass(&self, thread: ThreadId, step: u64) -> bool {
-        let (own, other) = match thread.0 {
-            0 => (&self.asked[0], &self.asked[1]),
-            _ => (&self.asked[1], &self.asked[0]),
-        };
-        own.store(step.saturating_add(1), Ordering::SeqCst);
+        let own = usize::from(thread.0.min(1));
+        self.asked[own].store(step.saturating_add(1), Ordering::SeqCst);
         match self.awaited(thread, step) {
-            Some(awaited) => is_asked(other, awaited),
+            Some(awaited) => is_asked(&self.asked[1 - own], awaited),
             None => true,
         }
     }
@@ -103,8 +101,45 @@ impl Gate for ShutGate {
     }
 }
 
-/// What a run shows at its end: its ending, the position of its alarm, the events of its threads, and the first variable.
-type Shown = (Ending, Option<usize>, Vec<u64>, Option<u64>);
+/// What a run shows at its end.
+#[derive(Clone, Copy)]
+struct Shown<'a> {
+    ending: Ending,
+    /// The position of its alarm.
+    alarm: Option<usize>,
+    /// The events of each thread.
+    counts: &'a [u64],
+    /// The value of the first variable.
+    first: Option<u64>,
+}
+
+const COUNTED: Shown = Shown {
+    ending: Ending::Done,
+    alarm: None,
+    counts: &[5, 6_001, 6_001],
+    first: Some(2_000),
+};
+
+const LOST: Shown = Shown {
+    ending: Ending::Done,
+    alarm: Some(4),
+    counts: &[7, 2],
+    first: Some(1),
+};
+
+const STUCK: Shown = Shown {
+    ending: Ending::Stuck,
+    alarm: None,
+    counts: &[2, 1],
+    first: None,
+};
+
+const GATED: Shown = Shown {
+    ending: Ending::Gated,
+    alarm: None,
+    counts: &[0, 0],
+    first: Some(0),
+};
 
 fn first_variable(closed: &Closed) -> Option<u64> {
     if closed.bounds().variables == 0 {
@@ -113,12 +148,23 @@ fn first_variable(closed: &Closed) -> Option<u64> {
     Some(closed.heap().value(VarId(0)))
 }
 
-fn counts(alloc: Global, closed: &Closed) -> Result<Vec<u64>, Fail> {
-    let mut counts = Vec::new(alloc);
-    for thread in 0..closed.bounds().threads {
-        counts.push(closed.tally(ThreadId(thread)).events)?;
+fn has_counts(closed: &Closed, counts: &[u64]) -> bool {
+    let threads = closed.bounds().threads;
+    if usize::from(threads) != counts.len() {
+        return false;
     }
-    Ok(counts)
+    for thread in 0..threads {
+        if closed.tally(ThreadId(thread)).events != counts[usize::from(thread)] {
+            return false;
+        }
+    }
+    true
+}
+
+fn looks_as(closed: &Closed, shown: &Shown<'_>) -> bool {
+    has_counts(closed, shown.counts)
+        && first_variable(closed) == shown.first
+        && closed.alarm().map(|alarm| alarm.position) == shown.alarm
 }
 
 /// Whether the run of a workload shows what it should.
@@ -127,54 +173,32 @@ fn shows<G: Gate + Sync, R: Threads + Wait + Sync>(
     alloc: Global,
     text: &str,
     gate: &G,
-    expected: (Ending, Option<usize>, &[u64], Option<u64>),
-) -> Result<bool, Fail> {
-    let workload = parse(alloc, text)?;
-    let config = Config::new(0, workload.bounds(), 20_000, 64, false)?;
-    let Ok((closed, ending)) = live(rt, alloc, &workload, config, gate) else {
-        return Ok(false);
-    };
-    let alarm = closed.alarm().map(|alarm| alarm.position);
-    let counts = counts(alloc, &closed)?;
-    Ok(
-        ending == expected.0
-            && alarm == expected.1
-            && counts.as_slice() == expected.2
-            && first_variable(&closed) == expected.3,
-    )
+    shown: &Shown<'_>,
+) -> Option<bool> {
+    let workload = parse(alloc, text).ok()?;
+    let config = Config::new(0, workload.bounds(), 20_000, 64, false).ok()?;
+    let (closed, ending) = live(rt, alloc, &workload, config, gate).ok()?;
+    Some(looks_as(&closed, shown) && ending == shown.ending)
 }
 
 #[test]
-fn live_runs_end_as_they_should(rt: HostRuntime) -> Result<(), Fail> {
-    let counted = (
-        Ending::Done,
-        None,
-        [5, 6_001, 6_001].as_slice(),
-        Some(2_000),
+fn live_runs_end_as_they_should(rt: HostRuntime) {
+    let alloc = rt.alloc();
+    assert_eq!(rt;
+        shows(&rt, alloc, COUNTERS, &OpenGate, &COUNTED),
+        Some(true)
     );
-    assert!(rt;
-        shows(&rt, rt.alloc(), COUNTERS, &OpenGate, counted)?,
-        "counters"
+    assert_eq!(rt;
+        shows(&rt, alloc, LOST_UPDATE, &ShutGate, &GATED),
+        Some(true)
     );
-    for (text, turns, expected) in [
-        (
-            LOST_UPDATE,
-            LOST_ORDER.as_slice(),
-            (Ending::Done, Some(4), [7, 2].as_slice(), Some(1)),
-        ),
-        (
-            OPPOSITE,
-            BOTH_HOLD.as_slice(),
-            (Ending::Stuck, None, [2, 1].as_slice(), None),
-        ),
+    for (text, turns, shown) in [
+        (LOST_UPDATE, LOST_ORDER, LOST),
+        (OPPOSITE, BOTH_HOLD, STUCK),
     ] {
-        let order = Order::of(turns);
-        assert!(rt; shows(&rt, rt.alloc(), text, &order, expected)?, "{text}");
+        assert_eq!(rt;
+            shows(&rt, alloc, text, &Order::of(turns), &shown),
+            Some(true)
+        );
     }
-    let gated = (Ending::Gated, None, [0, 0].as_slice(), Some(0));
-    assert!(rt;
-        shows(&rt, rt.alloc(), LOST_UPDATE, &ShutGate, gated)?,
-        "shut"
-    );
-    Ok(())
 }

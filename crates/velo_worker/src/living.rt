@@ -40,7 +40,15 @@ impl From<Memory> for LiveFault {
     }
 }
 
-/// Lets each thread of a workload do its body in a thread of its own.
+/// Lets each thread of a workload do its body in a thread of its own, and closes the world after the last has ended. It answers
+/// that world, and how the run ended.
+///
+/// Before each of its events a thread asks the gate. One that the gate does not let pass, or whose action is refused, halts the
+/// world, so that the others end too. It may wait for locks, for threads to join, and for the gate.
+///
+/// # Errors
+/// `Memory` where a growth was refused before the first event; one that is refused later ends the run as `Refused`. `Lost` where
+/// a seat did not come back, or is not that of the body that its worker says was done.
 pub fn live<G: Gate + Sync, R: Threads + Wait + Sync>(
     rt: &R,
     alloc: Global,
