@@ -1,0 +1,20 @@
+//! The making of a channel, with the fact that its refusal leaves. No other code of this crate can show this fact.
+ghost use Rattle.std.specs.Prelude.{OnErr};
+ghost use Rattle.velo_events.specs.Refusals.{GrowthRefused};
+
+use crossbeam_channel::{Receiver, Sender};
+use std::alloc::Global;
+use velo_events::Memory;
+
+/// How many messages a channel holds. No run sends more.
+const PLACES: usize = 128;
+
+/// A channel with room for all messages of a run.
+pub fn channel<T: Drop>(alloc: Global) -> Result<(Sender<T>, Receiver<T>), Memory>
+    ensures memory { OnErr result GrowthRefused }
+{
+    match crossbeam_channel::bounded(alloc, PLACES) {
+        Ok(ends) => Ok(ends),
+        Err(_) => Err(Memory),
+    }
+}

@@ -1,0 +1,79 @@
+//! How the workers of a run ended, and what that makes of the run.
+
+use crate::ending::Ending;
+use velo_events::{Refusal, ThreadId};
+use velo_runtime::Seat;
+
+/// How a worker ended.
+#[derive(Clone, Copy, Debug, PartialEq, Eq)]
+pub enum Outcome {
+    /// It did the whole body of its thread.
+    Done,
+    /// The gate did not let it pass.
+    Gated,
+    /// Its action was refused.
+    Refused(Refusal),
+}
+
+/// What a worker hands back at its end.
+#[derive(Debug, Drop)]
+pub struct Ended {
+    pub seat: Seat,
+    pub outcome: Outcome,
+}
+
+/// How the run of these workers ends.
+pub fn ending_of(ended: &[Ended]) -> Ending {
+    if is_any_gated(ended) {
+        return Ending::Gated;
+    }
+    match least_refused(ended) {
+        Some((_, Refusal::WouldDeadlock)) => Ending::Stuck,
+        Some((thread, refusal)) => Ending::Refused(thread, refusal),
+        None if is_any_halted(ended) => Ending::Halted,
+        None => Ending::Done,
+    }
+}
+
+/// Whether the gate kept some worker from going on.
+fn is_any_gated(ended: &[Ended]) -> bool {
+    ended
+        .iter()
+        .any(|worker| matches!(worker.outcome, Outcome::Gated))
+}
+
+/// Whether some worker found the world halted.
+fn is_any_halted(ended: &[Ended]) -> bool {
+    ended.iter().any(|worker| matches!(worker.outcome, Outcome::Refused(Refusal::Halted)))
+}
+
+/// The refusal that a worker met in a world that was not halted.
+fn met(outcome: Outcome) -> Option<Refusal> {
+    match outcome {
+        Outcome::Done | Outcome::Gated | Outcome::Refused(Refusal::Halted) => None,
+        Outcome::Refused(refusal) => Some(refusal),
+    }
+}
+
+/// The least thread whose worker met a refusal in a world that was not halted, and that refusal.
+fn least_refused(ended: &[Ended]) -> Option<(ThreadId, Refusal)> {
+    let mut least: Option<(ThreadId, Refusal)> = None;
+    for worker in ended {
+        if let Some(refusal) = met(worker.outcome) {
+            least = Some(lesser(least, worker.seat.share().thread(), refusal));
+        }
+    }
+    least
+}
+
+/// The one of the lesser thread.
+fn lesser(
+    least: Option<(ThreadId, Refusal)>,
+    thread: ThreadId,
+    refusal: Refusal,
+) -> (ThreadId, Refusal) {
+    match least {
+        Some((other, met)) if other.0 <= thread.0 => (other, met),
+        _ => (thread, refusal),
+    }
+}
