@@ -1,6 +1,10 @@
 pub mod OnPlaces
 pub mod OnLevels
+pub mod OnCounts
 pub mod OnEnds
 pub mod OnWalks
 pub mod OnProgress
 pub mod OnTurns
+pub mod OnEndings
+pub mod OnDone
+pub mod OnBodies

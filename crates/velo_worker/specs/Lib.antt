@@ -4,3 +4,5 @@ pub mod Inside
 pub mod Progress
 pub mod Schedule
 pub mod Course
+pub mod Counts
+pub mod Live

@@ -1,5 +1,10 @@
 //! Live runs of a workload: each of its threads is a thread.
-ghost use Rattle.std.specs.Prelude.{◌≡◌, OnErr};
+ghost use Rattle.std.specs.Prelude.{◌≡◌, [], All, Err, IfOk, IfSome, IsTrue, OnErr};
+ghost use Rattle.velo_events.specs.Refusals.{GrowthRefused};
+ghost use Rattle.velo_worker.specs.declared.ending.Ending.TheVariants as ending;
+ghost use Rattle.velo_worker.specs.declared.living.LiveFault.TheVariants as live_fault;
+ghost use Rattle.velo_worker.specs.declared.outcome.Outcome.TheVariants as outcome;
+ghost use Rattle.velo_worker.specs.Live.{AllDone, EndsAs, HasDone};
 
 use crate::counting::count_events;
 use crate::ending::Ending;
@@ -12,7 +17,7 @@ use std::alloc::Global;
 use std::sync::Wait;
 use std::thread;
 use std::thread::{Scope, Threads};
-use velo_events::growth::with_capacity;
+use velo_events::growth::{reserve, with_capacity};
 use velo_events::{Config, Event, Kind, Memory, Refusal};
 use velo_runtime::{Seat, Shared, close};
 use velo_workload::Workload;
@@ -28,6 +33,8 @@ pub enum LiveFault {
 }
 
 impl From<Memory> for LiveFault {
+    ghost from_gives = { λ _ fault. fault ≡ live_fault.Memory };
+
     fn from(_memory: Memory) -> LiveFault {
         LiveFault::Memory
     }
@@ -42,6 +49,8 @@ pub fn live<G: Gate + Sync, R: Threads + Wait + Sync>(
     gate: &G,
 ) -> Result<(Closed, Ending), LiveFault>
     requires { config.bounds ≡ workload.now.bounds }
+    ensures done { IfOk result (λ run. run.1 ≡ ending.Done → AllDone workload.now run.0) }
+    ensures memory { result ≡ Err live_fault.Memory → GrowthRefused }
 {
     let Ok((shared, seat)) = Shared::open(alloc, config) else {
         return Err(LiveFault::Memory);
@@ -69,29 +78,40 @@ pub fn live<G: Gate + Sync, R: Threads + Wait + Sync>(
     finish(workload, shared, ended, seats)
 }
 
-/// Starts a worker for each thread that is born, until all have ended.
-fn run<G: Gate + Sync, R: Threads + Wait + Sync>(
-    rt: &R,
-    site: &Site<'_, G>,
-    messages: &Receiver<Message>,
+/// Has each thread that is born done by a worker, and returns once all have ended.
+fn run<'a, G: Gate + Sync, R: Threads + Wait + Sync>(
+    rt: &'a R,
+    site: &'a Site<'a, G>,
+    messages: &'a Receiver<Message>,
     ended: &mut Vec<Ended>,
 ) {
     thread::scope(thread::scope_env(), rt, |scope| {
-        start(scope, rt, site, ended);
-        for message in messages.iter(rt) {
-            match message {
-                Message::Born => start(scope, rt, site, ended),
-                Message::Ended(worker) => enter(ended, worker),
-            }
-        }
+        tend(scope, rt, site, messages, ended);
     });
+}
+
+/// Starts a worker for each thread that is born, and enters those that end, until no worker is left to tell of either.
+fn tend<'s, E, G: Gate + Sync, R: Wait + Sync>(
+    scope: &Scope<'s, E>,
+    rt: &'s R,
+    site: &'s Site<'s, G>,
+    messages: &'s Receiver<Message>,
+    ended: &mut Vec<Ended>,
+) {
+    start(scope, rt, site, ended);
+    for message in messages.iter(rt) {
+        match message {
+            Message::Born => start(scope, rt, site, ended),
+            Message::Ended(worker) => enter(ended, worker),
+        }
+    }
 }
 
 /// Starts a worker for a thread that was born.
 fn start<'s, E, G: Gate + Sync, R: Wait + Sync>(
     scope: &Scope<'s, E>,
     rt: &'s R,
-    site: &'s Site<'_, G>,
+    site: &'s Site<'s, G>,
     ended: &mut Vec<Ended>,
 ) {
     if scope.spawn(move || work(rt, site)).is_ok() {
@@ -121,7 +141,12 @@ fn finish(
     shared: Shared,
     ended: Vec<Ended>,
     seats: Vec<Seat>,
-) -> Result<(Closed, Ending), LiveFault> {
+) -> Result<(Closed, Ending), LiveFault>
+    requires { seats.items ≡ [] }
+    ensures ending { IfOk result (λ run. EndsAs ended.items run.1) }
+    ensures done { IfOk result (λ run. run.1 ≡ ending.Done → AllDone workload.now run.0) }
+    ensures lost { OnErr result (result ≡ Err live_fault.Lost) }
+{
     let ending = ending_of(ended.as_slice());
     let Some(seats) = seats_of(workload, ended, seats) else {
         return Err(LiveFault::Lost);
@@ -132,19 +157,38 @@ fn finish(
     }
 }
 
-/// The seats of the workers. None where a worker says that it is done, and its seat does not.
-fn seats_of(workload: &Workload, ended: Vec<Ended>, mut seats: Vec<Seat>) -> Option<Vec<Seat>> {
-    for Ended { seat, outcome } in ended {
-        if matches!(outcome, Outcome::Done) && !has_done(workload, &seat) {
+/// The seats of the workers, in the room that was made for them. None where a worker says that it is done, and its seat does not.
+fn seats_of(workload: &Workload, mut ended: Vec<Ended>, mut seats: Vec<Seat>) -> Option<Vec<Seat>>
+    requires { seats.items ≡ [] }
+    ensures { IfSome result (λ seats. All (λ worker. worker.outcome ≡ outcome.Done) ended.items → All (HasDone workload.now) seats.items) }
+{
+    while let Some(worker) = ended.pop() {
+        if !is_whole(workload, &worker) {
             return None;
         }
-        seats.push(seat).ok()?;
+        if reserve(&mut seats, 1).is_err() {
+            return None;
+        }
+        let Ended { seat, .. } = worker;
+        seats.push_reserved(seat);
     }
     Some(seats)
 }
 
+/// Whether the worker did its body, if it says so.
+fn is_whole(workload: &Workload, worker: &Ended) -> bool
+    ensures { IsTrue result → worker.now.outcome ≡ outcome.Done → HasDone workload.now worker.now.seat }
+{
+    match worker.outcome {
+        Outcome::Done => has_done(workload, &worker.seat),
+        Outcome::Gated | Outcome::Refused(_) => true,
+    }
+}
+
 /// Whether the seat is that of a thread that did its body.
-fn has_done(workload: &Workload, seat: &Seat) -> bool {
+fn has_done(workload: &Workload, seat: &Seat) -> bool
+    ensures { IsTrue result → HasDone workload.now seat.now }
+{
     let share = seat.share();
     let thread = share.thread();
     if thread.0 >= workload.bounds().threads {

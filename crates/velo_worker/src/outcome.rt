@@ -1,4 +1,6 @@
 //! How the workers of a run ended, and what that makes of the run.
+ghost use Rattle.std.specs.Prelude.{◌≡◌, ◌↔◌, IsTrue};
+ghost use Rattle.velo_worker.specs.Live.{EndsAs, IsAnyGated, IsAnyHalted, LeastMet, lesser, met};
 
 use crate::ending::Ending;
 use velo_events::{Refusal, ThreadId};
@@ -23,11 +25,13 @@ pub struct Ended {
 }
 
 /// How the run of these workers ends.
-pub fn ending_of(ended: &[Ended]) -> Ending {
+pub fn ending_of(ended: &[Ended]) -> Ending
+    ensures { EndsAs ended.now result }
+{
     if is_any_gated(ended) {
         return Ending::Gated;
     }
-    match least_refused(ended) {
+    match least_met(ended) {
         Some((_, Refusal::WouldDeadlock)) => Ending::Stuck,
         Some((thread, refusal)) => Ending::Refused(thread, refusal),
         None if is_any_halted(ended) => Ending::Halted,
@@ -36,19 +40,25 @@ pub fn ending_of(ended: &[Ended]) -> Ending {
 }
 
 /// Whether the gate kept some worker from going on.
-fn is_any_gated(ended: &[Ended]) -> bool {
+fn is_any_gated(ended: &[Ended]) -> bool
+    ensures { IsTrue result ↔ IsAnyGated ended.now }
+{
     ended
         .iter()
         .any(|worker| matches!(worker.outcome, Outcome::Gated))
 }
 
 /// Whether some worker found the world halted.
-fn is_any_halted(ended: &[Ended]) -> bool {
+fn is_any_halted(ended: &[Ended]) -> bool
+    ensures { IsTrue result ↔ IsAnyHalted ended.now }
+{
     ended.iter().any(|worker| matches!(worker.outcome, Outcome::Refused(Refusal::Halted)))
 }
 
 /// The refusal that a worker met in a world that was not halted.
-fn met(outcome: Outcome) -> Option<Refusal> {
+fn met(outcome: Outcome) -> Option<Refusal>
+    ensures { result ≡ met outcome }
+{
     match outcome {
         Outcome::Done | Outcome::Gated | Outcome::Refused(Refusal::Halted) => None,
         Outcome::Refused(refusal) => Some(refusal),
@@ -56,12 +66,15 @@ fn met(outcome: Outcome) -> Option<Refusal> {
 }
 
 /// The least thread whose worker met a refusal in a world that was not halted, and that refusal.
-fn least_refused(ended: &[Ended]) -> Option<(ThreadId, Refusal)> {
+fn least_met(ended: &[Ended]) -> Option<(ThreadId, Refusal)>
+    ensures { LeastMet ended.now result }
+{
     let mut least: Option<(ThreadId, Refusal)> = None;
     for worker in ended {
-        if let Some(refusal) = met(worker.outcome) {
-            least = Some(lesser(least, worker.seat.share().thread(), refusal));
-        }
+        let Some(refusal) = met(worker.outcome) else {
+            continue;
+        };
+        least = Some(lesser(least, worker.seat.share().thread(), refusal));
     }
     least
 }
@@ -71,7 +84,9 @@ fn lesser(
     least: Option<(ThreadId, Refusal)>,
     thread: ThreadId,
     refusal: Refusal,
-) -> (ThreadId, Refusal) {
+) -> (ThreadId, Refusal)
+    ensures { result ≡ lesser least thread refusal }
+{
     match least {
         Some((other, met)) if other.0 <= thread.0 => (other, met),
         _ => (thread, refusal),

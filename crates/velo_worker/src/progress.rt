@@ -72,7 +72,7 @@ impl<'a> Progress<'a> {
 }
 
 /// Whether the statement has no event.
-fn is_quiet(statement: Statement) -> bool
+pub fn is_quiet(statement: Statement) -> bool
     ensures { result ≡ is_quiet statement }
 {
     matches!(

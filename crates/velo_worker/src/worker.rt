@@ -1,4 +1,5 @@
 //! The workers of a live run: each does the body of one thread, in a thread of its own.
+ghost use Rattle.velo_workload.specs.Bodies.{IsBody};
 
 use crate::gate::Gate;
 use crate::outcome::{Ended, Outcome};
@@ -81,7 +82,10 @@ fn work_through<G: Gate, R: Wait>(
 }
 
 /// The body of a thread; none where there is no such thread.
-fn body_of(workload: &Workload, thread: ThreadId) -> &[Statement] {
+#[tactic(auto, using(std::proofs::lemmas::Grind::common_steps, crate::proofs::OnBodies::body_there, crate::proofs::OnBodies::body_none))]
+fn body_of(workload: &Workload, thread: ThreadId) -> &[Statement]
+    ensures { IsBody result.now }
+{
     if thread.0 < workload.bounds().threads {
         workload.body(thread)
     } else {
