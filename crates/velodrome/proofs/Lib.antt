@@ -1,2 +1,1 @@
 pub mod OnVerdicts
-pub mod OnReplays

@@ -32,13 +32,11 @@ pub struct CheckOptions<'a> {
     pub certificate: bool,
 }
 
-/// What `velodrome replay` was asked for.
+/// What a run of a workload was asked for; `velodrome run` is asked for nothing else.
 #[derive(Clone, Copy, Debug)]
-pub struct ReplayOptions<'a> {
+pub struct RunOptions<'a> {
     /// The path of the workload, or `-`.
     pub file: &'a str,
-    /// The text of the schedule.
-    pub schedule: &'a str,
     /// Whether the event that closes the first cycle ends the run.
     pub stop: bool,
     /// The path where the log is written.
@@ -46,6 +44,14 @@ pub struct ReplayOptions<'a> {
     pub limits: Limits,
     /// Whether the certificate of the verdict is written behind the report.
     pub certificate: bool,
+}
+
+/// What `velodrome replay` was asked for.
+#[derive(Clone, Copy, Debug)]
+pub struct ReplayOptions<'a> {
+    /// The text of the schedule.
+    pub schedule: &'a str,
+    pub run: RunOptions<'a>,
 }
 
 /// What `velodrome explain` was asked for.
@@ -62,6 +68,7 @@ pub struct ExplainOptions<'a> {
 pub enum Request<'a> {
     Check(CheckOptions<'a>),
     Replay(ReplayOptions<'a>),
+    Run(RunOptions<'a>),
     Explain(ExplainOptions<'a>),
 }
 
@@ -79,6 +86,7 @@ pub fn command<'a>(alloc: Global) -> Result<Command<'a>, Memory>
         .subcommand_required(true);
     let program = with_subcommand(program, check_command(alloc)?)?;
     let program = with_subcommand(program, replay_command(alloc)?)?;
+    let program = with_subcommand(program, run_command(alloc)?)?;
     with_subcommand(program, explain_command(alloc)?)
 }
 
@@ -89,9 +97,7 @@ fn check_command<'a>(alloc: Global) -> Result<Command<'a>, Memory>
         .about("Reads a recorded log and reports the verdict")
         .after_help(help::OF_CHECK);
     let check = with_argument(check, log_argument(alloc))?;
-    let check = with_argument(check, events_argument(alloc))?;
-    let check = with_argument(check, nodes_argument(alloc))?;
-    with_argument(check, certificate_argument(alloc))
+    with_limits(alloc, check)
 }
 
 fn replay_command<'a>(alloc: Global) -> Result<Command<'a>, Memory>
@@ -102,11 +108,35 @@ fn replay_command<'a>(alloc: Global) -> Result<Command<'a>, Memory>
         .after_help(help::OF_REPLAY);
     let replay = with_argument(replay, file_argument(alloc))?;
     let replay = with_argument(replay, schedule_argument(alloc))?;
-    let replay = with_argument(replay, stop_argument(alloc))?;
-    let replay = with_argument(replay, out_argument(alloc))?;
-    let replay = with_argument(replay, events_argument(alloc))?;
-    let replay = with_argument(replay, nodes_argument(alloc))?;
-    with_argument(replay, certificate_argument(alloc))
+    with_run_options(alloc, replay)
+}
+
+fn run_command<'a>(alloc: Global) -> Result<Command<'a>, Memory>
+    ensures memory { OnErr result GrowthRefused }
+{
+    let run = Command::new(alloc, "run")
+        .about("Runs a workload by threads of its own and reports the verdict")
+        .after_help(help::OF_RUN);
+    let run = with_argument(run, file_argument(alloc))?;
+    with_run_options(alloc, run)
+}
+
+/// The command with the options of a run.
+fn with_run_options<'a>(alloc: Global, command: Command<'a>) -> Result<Command<'a>, Memory>
+    ensures memory { OnErr result GrowthRefused }
+{
+    let command = with_argument(command, stop_argument(alloc))?;
+    let command = with_argument(command, out_argument(alloc))?;
+    with_limits(alloc, command)
+}
+
+/// The command with the limits and the certificate.
+fn with_limits<'a>(alloc: Global, command: Command<'a>) -> Result<Command<'a>, Memory>
+    ensures memory { OnErr result GrowthRefused }
+{
+    let command = with_argument(command, events_argument(alloc))?;
+    let command = with_argument(command, nodes_argument(alloc))?;
+    with_argument(command, certificate_argument(alloc))
 }
 
 fn explain_command<'a>(alloc: Global) -> Result<Command<'a>, Memory>
@@ -205,8 +235,14 @@ fn check_options<'a>(found: &ArgMatches<'a>) -> Option<CheckOptions<'a>> {
 
 fn replay_options<'a>(found: &ArgMatches<'a>) -> Option<ReplayOptions<'a>> {
     Some(ReplayOptions {
-        file: found.get_str("FILE")?,
         schedule: found.get_str("schedule").unwrap_or(""),
+        run: run_options(found)?,
+    })
+}
+
+fn run_options<'a>(found: &ArgMatches<'a>) -> Option<RunOptions<'a>> {
+    Some(RunOptions {
+        file: found.get_str("FILE")?,
         stop: found.get_flag("stop"),
         log: found.get_str("log"),
         limits: limits_of(found)?,
@@ -228,6 +264,7 @@ pub fn request_of<'a>(matches: &ArgMatches<'a>) -> Option<Request<'a>> {
     match name {
         "check" => Some(Request::Check(check_options(found)?)),
         "replay" => Some(Request::Replay(replay_options(found)?)),
+        "run" => Some(Request::Run(run_options(found)?)),
         "explain" => Some(Request::Explain(explain_options(found)?)),
         _ => None,
     }

@@ -92,6 +92,26 @@ Workload faults, line 0 for the whole text:
 
 Refusals: see 'velodrome check --help'.";
 
+/// Behind the help of `run`.
+pub const OF_RUN: &str = "\
+Example, two threads that add to one counter under a lock, each in a block:
+  printf 'var x\\nlock m\\nthread main\\nfork a\\nbegin inc\\nacquire m\\nread x\\nadd 1\\nwrite x\\nrelease m\\nend\\njoin a\\nthread a\\nbegin inc\\nacquire m\\nread x\\nadd 1\\nwrite x\\nrelease m\\nend\\n' | velodrome run -
+It reports 16 events and 'verdict clean', with status 0, in whatever order the two get the lock.
+
+Each thread of the workload is a thread of the system, and they run at once: two runs of a workload may differ in their
+logs and in their verdicts. 'velodrome replay --help' describes the workload. A thread waits for a lock that another one
+holds, and for the end of a thread that it joins; where that chain of waits comes back to it, the run ends as 'stuck'.
+
+Statuses, each with the lines on standard error:
+  0  done without an alarm, or help
+  2  usage; the text is no workload: 'workload fault K line N'
+  3  an alarm: no serial reordering of the run exists
+  4  the run could not go on: 'stuck', 'refused K thread T'; the report is written all the same
+  5  memory or a device failed: 'out of memory', 'read failed', 'write failed', 'cannot open'; or a thread was lost for
+     want of memory: 'seat lost'
+
+Workload faults: see 'velodrome replay --help'. Refusals: see 'velodrome check --help'.";
+
 /// Behind the help of `explain`.
 pub const OF_EXPLAIN: &str = "\
 Example, a lost update:

@@ -12,7 +12,9 @@ mod help;
 mod program;
 mod reading;
 mod replaying;
+mod running;
 mod schedule;
+mod work;
 
 use crate::files::Files;
 use crate::program::{end_without_words, run};
@@ -71,6 +73,7 @@ fn main(rt: HostRuntime) -> ExitCode {
     let mut err = WriterSink::new(rt.stderr());
     let status = match words_of(&rt) {
         Ok(words) => run(
+            &rt,
             rt.alloc(),
             words.as_slice(),
             &mut HostFiles {

@@ -9,11 +9,14 @@ use crate::explaining::explain_file;
 use crate::fate::{DEVICE_FAILED, Fate, end_with};
 use crate::files::Files;
 use crate::replaying::replay_file;
+use crate::running::run_file;
 use clap::Error;
 use clap::error::ErrorKind;
 use std::alloc::Global;
 use std::convert::AsStr;
 use std::fmt::Write;
+use std::sync::Wait;
+use std::thread::Threads;
 use std::{fmt, io};
 use velo_logtext::{Sink, write_all};
 
@@ -41,7 +44,8 @@ fn write_text<S: Sink>(error: &Error, sink: &mut S) -> fmt::Result {
 }
 
 /// Does what was asked for.
-fn do_request<F: Files, O: Sink>(
+fn do_request<R: Threads + Wait + Sync, F: Files, O: Sink>(
+    rt: &R,
     alloc: Global,
     request: &Request,
     files: &mut F,
@@ -50,6 +54,7 @@ fn do_request<F: Files, O: Sink>(
     match request {
         Request::Check(options) => check(alloc, options, files, out),
         Request::Replay(options) => replay_file(alloc, options, files, out),
+        Request::Run(options) => run_file(rt, alloc, options, files, out),
         Request::Explain(options) => explain_file(alloc, options, files, out),
     }
 }
@@ -83,7 +88,8 @@ fn show<O: Sink, E: Sink>(error: &Error, out: &mut O, err: &mut E) -> u8 {
 
 /// Does what the words ask for, with reports and help on the one sink and all else on the other, and answers the status
 /// to end with.
-pub fn run<F: Files, W: AsStr, O: Sink, E: Sink>(
+pub fn run<R: Threads + Wait + Sync, F: Files, W: AsStr, O: Sink, E: Sink>(
+    rt: &R,
     alloc: Global,
     words: &[W],
     files: &mut F,
@@ -95,7 +101,7 @@ pub fn run<F: Files, W: AsStr, O: Sink, E: Sink>(
     };
     match command.try_get_matches_from(words) {
         Ok(matches) => match request_of(&matches) {
-            Some(request) => end_with(&do_request(alloc, &request, files, out), err),
+            Some(request) => end_with(&do_request(rt, alloc, &request, files, out), err),
             None => BAD_USAGE,
         },
         Err(error) => show(&error, out, err),

@@ -1,152 +1,34 @@
 //! `velodrome replay`.
 ghost use Rattle.std.specs.Prelude.{◌≡◌};
 
-use crate::arguments::ReplayOptions;
-use crate::check::{CheckFault, Verdict, evidence_of, write_certified, write_report};
+use crate::arguments::{ReplayOptions, RunOptions};
 use crate::fate::Fate;
-use crate::files::{Files, is_standard_input};
-use crate::reading::{ReadFault, read_whole};
+use crate::files::Files;
 use crate::schedule::schedule_of;
+use crate::work::{config_of_run, open_workload, show_run};
 use std::alloc::Global;
-use velo_events::{Config, Memory, Refusal, ThreadId};
-use velo_logtext::{Sink, Source, WriteFault, write_log};
-use velo_report::Names;
-use velo_worker::{Ending, replay};
-use velo_workload::{MOST_WORKLOAD_BYTES, WorkFault, Workload, parse, text_of};
-use velo_world::Closed;
-
-/// Reads a workload from a source.
-fn read_workload<I: Source>(alloc: Global, source: &mut I) -> Result<Workload, Fate> {
-    let bytes = match read_whole(alloc, source, MOST_WORKLOAD_BYTES) {
-        Ok(bytes) => bytes,
-        Err(ReadFault::Failed) => return Err(Fate::ReadFailed),
-        Err(ReadFault::Memory) => return Err(Fate::Memory),
-    };
-    match workload_of(alloc, &bytes) {
-        Ok(workload) => Ok(workload),
-        Err(fault) => Err(Fate::Work(fault)),
-    }
-}
-
-/// The workload of a file's bytes.
-fn workload_of(alloc: Global, bytes: &[u8]) -> Result<Workload, WorkFault> {
-    match text_of(bytes) {
-        Ok(text) => parse(alloc, text),
-        Err(fault) => Err(fault),
-    }
-}
-
-/// Reads the workload that was asked for.
-fn open_workload<F: Files>(alloc: Global, path: &str, files: &F) -> Result<Workload, Fate> {
-    if is_standard_input(path) {
-        return read_workload(alloc, &mut files.standard_input());
-    }
-    match files.open(path) {
-        Some(mut file) => read_workload(alloc, &mut file),
-        None => Err(Fate::CannotOpen),
-    }
-}
-
-/// Whether a run that ends so has no report: a growth was refused.
-fn is_unreported(ending: Ending) -> bool {
-    matches!(
-        ending,
-        Ending::Refused(_, Refusal::Memory | Refusal::RuntimeMemory)
-    )
-}
-
-/// Writes the log of a run to the path, if there is one.
-fn write_out<F: Files>(
-    config: Config,
-    closed: &Closed,
-    path: Option<&str>,
-    files: &mut F,
-) -> Result<(), Fate>
-    requires { closed.now.config ≡ config }
-{
-    let Some(path) = path else {
-        return Ok(());
-    };
-    let Some(file) = files.create(path) else {
-        return Err(Fate::CannotOpen);
-    };
-    match write_log(config.bounds, closed.log(), file) {
-        Ok(()) => Ok(()),
-        Err(WriteFault) => Err(Fate::WriteFailed),
-    }
-}
-
-/// What the verdict of a run came to, by what writing it answered.
-fn fate_of(answer: Result<Verdict, CheckFault>, ending: Ending) -> Fate {
-    match answer {
-        Ok(verdict) => Fate::Finished {
-            ending,
-            alarm: verdict == Verdict::Alarm,
-        },
-        Err(CheckFault::Memory) => Fate::Memory,
-        Err(_) => Fate::WriteFailed,
-    }
-}
-
-/// Writes what a run shows: its log to the path, if there is one, then the report, then the certificate, if that was asked
-/// for. The certificate is made before anything is opened.
-fn tell<F: Files, O: Sink>(
-    alloc: Global,
-    config: Config,
-    closed: &Closed,
-    ending: Ending,
-    names: &Names,
-    options: &ReplayOptions,
-    files: &mut F,
-    out: &mut O,
-) -> Fate
-    requires { closed.now.config ≡ config }
-{
-    if !options.certificate {
-        return match write_out(config, closed, options.log, files) {
-            Ok(()) => fate_of(write_report(closed, names, out), ending),
-            Err(fate) => fate,
-        };
-    }
-    let list = match evidence_of(alloc, closed) {
-        Ok(list) => list,
-        Err(Memory) => return Fate::Memory,
-    };
-    match write_out(config, closed, options.log, files) {
-        Ok(()) => fate_of(write_certified(closed, names, &list, out), ending),
-        Err(fate) => fate,
-    }
-}
+use velo_events::{Memory, ThreadId};
+use velo_logtext::Sink;
+use velo_worker::replay;
+use velo_workload::Workload;
 
 /// Replays a workload by a schedule, and writes what it shows.
 fn replay_workload<F: Files, O: Sink>(
     alloc: Global,
     workload: &Workload,
     schedule: &[ThreadId],
-    options: &ReplayOptions,
+    options: &RunOptions,
     files: &mut F,
     out: &mut O,
 ) -> Fate {
-    let limits = options.limits;
-    let bounds = workload.bounds();
-    let Ok(config) = Config::new(0, bounds, limits.events, limits.nodes, options.stop) else {
-        // No text means such a workload.
-        return Fate::Work(WorkFault::BadLine(0));
+    let config = match config_of_run(workload, options) {
+        Ok(config) => config,
+        Err(fate) => return fate,
     };
-    let Ok((closed, ending)) = replay(alloc, workload, schedule, config) else {
-        return Fate::Memory;
-    };
-    if is_unreported(ending) {
-        return Fate::Finished {
-            ending,
-            alarm: false,
-        };
+    match replay(alloc, workload, schedule, config) {
+        Ok((closed, ending)) => show_run(alloc, workload, &closed, ending, options, files, out),
+        Err(Memory) => Fate::Memory,
     }
-    let names = Names::Words {
-        threads: workload.thread_names(),
-        labels: workload.label_names(),
-    };
-    tell(alloc, config, &closed, ending, &names, options, files, out)
 }
 
 /// Replays the workload that was asked for, and writes what it shows. A schedule that is none is told before any file is
@@ -161,8 +43,10 @@ pub fn replay_file<F: Files, O: Sink>(
         Ok(schedule) => schedule,
         Err(fault) => return Fate::Schedule(fault),
     };
-    match open_workload(alloc, options.file, files) {
-        Ok(workload) => replay_workload(alloc, &workload, &schedule, options, files, out),
+    match open_workload(alloc, options.run.file, files) {
+        Ok(workload) => {
+            replay_workload(alloc, &workload, &schedule, &options.run, files, out)
+        }
         Err(fate) => fate,
     }
 }

@@ -1,6 +1,7 @@
 //! The program over logs and devices in memory.
-mod replays;
+mod chance;
 mod slow;
+mod workloads;
 
 use crate::check::{CheckFault, Verdict, check_run, config_of, do_log};
 use crate::fate::{Fate, end_with};
@@ -11,7 +12,9 @@ use crate::tests::slow::{BOUNDS, first_lines, world_by_chance};
 use std::alloc::Global;
 use std::io::{ErrorKind, Write};
 use std::process::Abort;
+use std::sync::Wait;
 use std::test::Fail;
+use std::thread::Threads;
 use velo_events::{Bounds, Event, Kind, Label, MOST_EVENTS, Refusal, ThreadId, VarId};
 use velo_logtext::{Bytes, LogFault, Text, WriterSink, read_log, write_log};
 use velo_report::{Names, report};
@@ -96,10 +99,11 @@ struct Shown {
 }
 
 /// Runs the program on these words. Both outputs take so many bytes at a time as the logs give.
-fn show(alloc: Global, words: &[&str], folder: &mut Folder) -> Shown {
+fn show<R: Threads + Wait + Sync>(rt: &R, words: &[&str], folder: &mut Folder) -> Shown {
+    let alloc = folder.alloc;
     let mut out = Text::new(alloc).in_steps(folder.step);
     let mut err = Text::new(alloc).in_steps(folder.step);
-    let status = run(alloc, words, folder, &mut out, &mut err);
+    let status = run(rt, alloc, words, folder, &mut out, &mut err);
     Shown { out, err, status }
 }
 
@@ -338,7 +342,7 @@ fn logs_are_checked(rt: HostRuntime) {
         for step in [1, usize::MAX] {
             let files = [("a.log", run.log)];
             let mut folder = Folder::new(rt.alloc(), &files, step);
-            let shown = show(rt.alloc(), run.words, &mut folder);
+            let shown = show(&rt, run.words, &mut folder);
             assert_eq!(rt; shown.out.as_slice(), run.out.as_bytes(), "{}", run.log);
             assert_eq!(rt; shown.err.as_slice(), run.err.as_bytes(), "{}", run.log);
             assert_eq!(rt; shown.status, run.status);
@@ -386,7 +390,7 @@ fn verdicts_are_explained(rt: HostRuntime) {
         let files = [("a.log", log)];
         let mut folder = Folder::new(rt.alloc(), &files, usize::MAX);
         let asked = ["velodrome", "explain", "a.log", "--dot", "o.dot"];
-        let shown = show(rt.alloc(), &asked, &mut folder);
+        let shown = show(&rt, &asked, &mut folder);
         assert_eq!(rt; shown.out.as_slice(), words.as_bytes());
         assert_eq!(rt; folder.output.as_slice(), picture.as_bytes());
         assert_eq!(rt; shown.status, status);
@@ -458,7 +462,7 @@ const RIGHT_WORDS: [(&[&str], u8); 9] = [
     (&["velodrome", "--help"], 0),
 ];
 
-const WRONG_WORDS: [&[&str]; 8] = [
+const WRONG_WORDS: [&[&str]; 10] = [
     &["velodrome"],
     &["velodrome", "check"],
     &["velodrome", "race", "a.log"],
@@ -467,6 +471,8 @@ const WRONG_WORDS: [&[&str]; 8] = [
     &["velodrome", "check", "a.log", "--events", "16777217"],
     &["velodrome", "check", "a.log", "--nodes", "0"],
     &["velodrome", "check", "a.log", "--nodes", "4097"],
+    &["velodrome", "run"],
+    &["velodrome", "run", "w", "--schedule", "0"],
 ];
 
 const FILES: [(&str, &str); 2] = [("a.log", LOST_UPDATE), ("b.log", "vlog 1 1 0 0\n")];
@@ -475,7 +481,7 @@ const FILES: [(&str, &str); 2] = [("a.log", LOST_UPDATE), ("b.log", "vlog 1 1 0 
 fn command_lines(rt: HostRuntime) {
     let mut folder = Folder::new(rt.alloc(), &FILES, usize::MAX);
     for (words, status) in RIGHT_WORDS {
-        let shown = show(rt.alloc(), words, &mut folder);
+        let shown = show(&rt, words, &mut folder);
         assert_eq!(rt; shown.status, status);
         assert_eq!(rt; shown.out.as_slice().is_empty(), status > 3);
         assert_eq!(rt; shown.err.as_slice().is_empty(), status <= 3);
@@ -484,7 +490,7 @@ fn command_lines(rt: HostRuntime) {
         }
     }
     for words in WRONG_WORDS {
-        let shown = show(rt.alloc(), words, &mut folder);
+        let shown = show(&rt, words, &mut folder);
         assert_eq!(rt; shown.status, 2);
         assert!(rt; shown.out.as_slice().is_empty());
         assert!(rt; shown.err.as_slice().starts_with(b"error: "));
@@ -492,8 +498,9 @@ fn command_lines(rt: HostRuntime) {
 }
 
 /// Words that ask for help, and what stands at its end.
-const HELP: [(&[&str], &str); 8] = [
+const HELP: [(&[&str], &str); 9] = [
     (&["velodrome", "replay", "--help"], help::OF_REPLAY),
+    (&["velodrome", "run", "--help"], help::OF_RUN),
     (&["velodrome", "explain", "--help"], help::OF_EXPLAIN),
     (&["velodrome", "--help"], help::OF_PROGRAM),
     (&["velodrome", "help"], help::OF_PROGRAM),
@@ -507,7 +514,7 @@ const HELP: [(&[&str], &str); 8] = [
 fn help_goes_to_standard_output(rt: HostRuntime) {
     let mut folder = Folder::new(rt.alloc(), &FILES, usize::MAX);
     for (words, end) in HELP {
-        let shown = show(rt.alloc(), words, &mut folder);
+        let shown = show(&rt, words, &mut folder);
         assert_eq!(rt; shown.status, 0);
         assert!(rt; shown.err.as_slice().is_empty());
         assert!(rt;
@@ -520,7 +527,7 @@ fn help_goes_to_standard_output(rt: HostRuntime) {
         );
         let mut full = Text::new(rt.alloc()).failing_after(9);
         let mut err = Text::new(rt.alloc());
-        assert_eq!(rt; run(rt.alloc(), words, &mut folder, &mut full, &mut err), 5);
+        assert_eq!(rt; run(&rt, rt.alloc(), words, &mut folder, &mut full, &mut err), 5);
         assert_eq!(rt; err.as_slice(), b"write failed\n".as_slice());
     }
 }
@@ -585,6 +592,7 @@ fn devices_fail(rt: HostRuntime) {
     let mut out = Text::new(rt.alloc());
     let mut closed = Text::new(rt.alloc()).failing_after(0);
     let status = run(
+        &rt,
         rt.alloc(),
         &["velodrome"],
         &mut folder,
@@ -668,6 +676,7 @@ fn one_write_for_a_line(rt: HostRuntime) {
     let mut out = WriterSink::new(Calls(0));
     let mut err = WriterSink::new(Calls(0));
     let _status = run(
+        &rt,
         rt.alloc(),
         &["velodrome", "race"],
         &mut folder,
@@ -676,6 +685,7 @@ fn one_write_for_a_line(rt: HostRuntime) {
     );
     assert_eq!(rt; (out.writer.0, err.writer.0), (0, 1));
     let _status = run(
+        &rt,
         rt.alloc(),
         &["velodrome", "--help"],
         &mut folder,

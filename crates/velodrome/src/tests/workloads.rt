@@ -1,4 +1,4 @@
-//! Replays of workloads by schedules.
+//! Workloads, replayed by schedules and run by threads.
 use crate::schedule::{MOST_TURNS, ScheduleFault, schedule_of};
 use crate::tests::{Folder, show};
 use std::test::Fail;
@@ -11,6 +11,18 @@ const COLLIDING: &str =
 const CROSSING: &str =
     "lock m\nlock n\nthread main\nfork a\nacquire m\nacquire n\nrelease n\nrelease m\nthread a\nacquire n\nacquire m\nrelease m\nrelease n\n";
 
+/// A block that forks a thread and joins it, so that no serial order has the block in one piece.
+const FORKING: &str =
+    "var x\nthread main\nbegin inc\nread x\nfork a\njoin a\nwrite x\nend\nthread a\nset 5\nwrite x\n";
+
+/// A thread that joins another, which waits for a lock of the first.
+const WAITING: &str =
+    "lock m\nthread main\nacquire m\nfork a\njoin a\nthread a\nacquire m\nrelease m\n";
+
+/// Two threads that count to 200 in blocks under a lock.
+const COUNTING: &str =
+    "var x\nlock m\nthread main\nfork a\nfork b\njoin a\njoin b\nread x\nthread a\nrepeat 100\nbegin l\nacquire m\nread x\nadd 1\nwrite x\nrelease m\nend\ndone\nthread b\nrepeat 100\nbegin l\nacquire m\nread x\nadd 1\nwrite x\nrelease m\nend\ndone\n";
+
 const COLLIDING_LOG: &str =
     "vlog 1 2 1 0\n0 fork 1\n0 begin 0\n0 rd 0 0\n1 wr 0 5\n0 wr 0 1\n0 end\n1 exit\n0 join 1\n0 exit\n";
 
@@ -18,7 +30,7 @@ const COLLIDING_REPORT: &str =
     "events 9\nthread 0 main 7\nthread 1 a 2\nverdict alarm 4\ntransaction 1\nblame 1 inc\n";
 
 /// What the program does with a workload, and the log that it writes.
-struct Replay {
+struct Work {
     words: &'static [&'static str],
     workload: &'static str,
     out: &'static str,
@@ -39,8 +51,10 @@ const REPLAYED: &[&str] = &[
 
 const UNSCHEDULED: &[&str] = &["velodrome", "replay", "w"];
 
-static REPLAYS: [Replay; 17] = [
-    Replay {
+const LIVE: &[&str] = &["velodrome", "run", "w"];
+
+static WORKS: [Work; 26] = [
+    Work {
         words: REPLAYED,
         workload: COLLIDING,
         out: COLLIDING_REPORT,
@@ -48,7 +62,7 @@ static REPLAYS: [Replay; 17] = [
         log: COLLIDING_LOG,
         status: 3,
     },
-    Replay {
+    Work {
         words: &[
             "velodrome",
             "replay",
@@ -65,7 +79,7 @@ static REPLAYS: [Replay; 17] = [
         log: "vlog 1 2 1 0\n0 fork 1\n0 begin 0\n0 rd 0 0\n1 wr 0 5\n0 wr 0 1\n",
         status: 3,
     },
-    Replay {
+    Work {
         words: UNSCHEDULED,
         workload: "var x\nthread main\nset 18446744073709551615\nwrite x\nread x\nadd 1\nwrite x\n",
         out: "events 4\nthread 0 main 4\nverdict clean\n",
@@ -73,7 +87,7 @@ static REPLAYS: [Replay; 17] = [
         log: "",
         status: 0,
     },
-    Replay {
+    Work {
         words: &["velodrome", "replay", "w", "--schedule", "0 0 1"],
         workload: CROSSING,
         out: "events 3\nthread 0 main 2\nthread 1 a 1\nverdict clean\n",
@@ -81,7 +95,7 @@ static REPLAYS: [Replay; 17] = [
         log: "",
         status: 4,
     },
-    Replay {
+    Work {
         words: &["velodrome", "replay", "w", "--certificate"],
         workload: "thread main",
         out: "events 1\nthread 0 main 1\nverdict clean\nserial 0\n",
@@ -89,7 +103,7 @@ static REPLAYS: [Replay; 17] = [
         log: "",
         status: 0,
     },
-    Replay {
+    Work {
         words: &[
             "velodrome",
             "replay",
@@ -105,7 +119,7 @@ static REPLAYS: [Replay; 17] = [
         log: "vlog 1 1 0 0\n",
         status: 4,
     },
-    Replay {
+    Work {
         words: &[
             "velodrome",
             "replay",
@@ -121,7 +135,7 @@ static REPLAYS: [Replay; 17] = [
         log: "vlog 1 2 1 0\n0 fork 1\n1 wr 0 5\n",
         status: 4,
     },
-    Replay {
+    Work {
         words: UNSCHEDULED,
         workload: "",
         out: "",
@@ -129,7 +143,7 @@ static REPLAYS: [Replay; 17] = [
         log: "",
         status: 2,
     },
-    Replay {
+    Work {
         words: UNSCHEDULED,
         workload: "thread main\nread x\n",
         out: "",
@@ -137,7 +151,7 @@ static REPLAYS: [Replay; 17] = [
         log: "",
         status: 2,
     },
-    Replay {
+    Work {
         words: UNSCHEDULED,
         workload: "var x\nvar x\nthread main\n",
         out: "",
@@ -145,7 +159,7 @@ static REPLAYS: [Replay; 17] = [
         log: "",
         status: 2,
     },
-    Replay {
+    Work {
         words: UNSCHEDULED,
         workload: "thread main\ndone\n",
         out: "",
@@ -153,7 +167,7 @@ static REPLAYS: [Replay; 17] = [
         log: "",
         status: 2,
     },
-    Replay {
+    Work {
         words: UNSCHEDULED,
         workload: "thread main\nrepeat 18446744073709551615\nset 1\ndone\n",
         out: "",
@@ -161,7 +175,7 @@ static REPLAYS: [Replay; 17] = [
         log: "",
         status: 2,
     },
-    Replay {
+    Work {
         words: &["velodrome", "replay", "v"],
         workload: "thread main",
         out: "",
@@ -169,7 +183,7 @@ static REPLAYS: [Replay; 17] = [
         log: "",
         status: 5,
     },
-    Replay {
+    Work {
         words: &["velodrome", "replay", "v", "--schedule", "64"],
         workload: "thread main",
         out: "",
@@ -177,7 +191,7 @@ static REPLAYS: [Replay; 17] = [
         log: "",
         status: 2,
     },
-    Replay {
+    Work {
         words: &["velodrome", "replay", "w", "--log", "nowhere"],
         workload: "thread main\nend\n",
         out: "",
@@ -185,7 +199,7 @@ static REPLAYS: [Replay; 17] = [
         log: "",
         status: 5,
     },
-    Replay {
+    Work {
         words: &["velodrome", "replay", "w", "--log", "full"],
         workload: COLLIDING,
         out: "",
@@ -193,9 +207,81 @@ static REPLAYS: [Replay; 17] = [
         log: "vlog 1 2 ",
         status: 5,
     },
-    Replay {
+    Work {
         words: &["velodrome", "replay", "w", "--log", "full", "--certificate"],
         workload: COLLIDING,
+        out: "",
+        err: "write failed\n",
+        log: "vlog 1 2 ",
+        status: 5,
+    },
+    Work {
+        words: &["velodrome", "run", "w", "--log", "o.log", "--certificate"],
+        workload: FORKING,
+        out: "events 9\nthread 0 main 7\nthread 1 a 2\nverdict alarm 5\ntransaction 0\nblame 0 inc\ncycle 0 3\n",
+        err: "",
+        log: "vlog 1 2 1 0\n0 begin 0\n0 rd 0 0\n0 fork 1\n1 wr 0 5\n1 exit\n0 join 1\n0 wr 0 0\n0 end\n0 exit\n",
+        status: 3,
+    },
+    Work {
+        words: &["velodrome", "run", "-", "--log", "o.log", "--stop"],
+        workload: FORKING,
+        out: "events 6\nthread 0 main 4\nthread 1 a 2\nverdict alarm 5\ntransaction 0\nblame 0 inc\n",
+        err: "",
+        log: "vlog 1 2 1 0\n0 begin 0\n0 rd 0 0\n0 fork 1\n1 wr 0 5\n1 exit\n0 join 1\n",
+        status: 3,
+    },
+    Work {
+        words: LIVE,
+        workload: COUNTING,
+        out: "events 1208\nthread 0 main 6\nthread 1 a 601\nthread 2 b 601\nverdict clean\n",
+        err: "",
+        log: "",
+        status: 0,
+    },
+    Work {
+        words: &["velodrome", "run", "w", "--log", "o.log"],
+        workload: WAITING,
+        out: "events 2\nthread 0 main 2\nthread 1 a 0\nverdict clean\n",
+        err: "stuck\n",
+        log: "vlog 1 2 0 1\n0 acq 0\n0 fork 1\n",
+        status: 4,
+    },
+    Work {
+        words: &["velodrome", "run", "w", "--events", "2"],
+        workload: "var x\nthread main\nwrite x\nset 1\nwrite x\nadd 1\nwrite x\n",
+        out: "events 2\nthread 0 main 2\nverdict clean\n",
+        err: "refused 17 thread 0\n",
+        log: "",
+        status: 4,
+    },
+    Work {
+        words: LIVE,
+        workload: "thread main\nread x\n",
+        out: "",
+        err: "workload fault 2 line 2\n",
+        log: "",
+        status: 2,
+    },
+    Work {
+        words: &["velodrome", "run", "v"],
+        workload: "thread main",
+        out: "",
+        err: "cannot open\n",
+        log: "",
+        status: 5,
+    },
+    Work {
+        words: &["velodrome", "run", "w", "--log", "nowhere"],
+        workload: "thread main\nend\n",
+        out: "",
+        err: "cannot open\n",
+        log: "",
+        status: 5,
+    },
+    Work {
+        words: &["velodrome", "run", "w", "--log", "full"],
+        workload: FORKING,
         out: "",
         err: "write failed\n",
         log: "vlog 1 2 ",
@@ -204,12 +290,12 @@ static REPLAYS: [Replay; 17] = [
 ];
 
 #[test]
-fn workloads_are_replayed(rt: HostRuntime) {
-    for run in &REPLAYS {
+fn workloads_run(rt: HostRuntime) {
+    for run in &WORKS {
         for step in [1, usize::MAX] {
             let files = [("w", run.workload)];
             let mut folder = Folder::new(rt.alloc(), &files, step);
-            let shown = show(rt.alloc(), run.words, &mut folder);
+            let shown = show(&rt, run.words, &mut folder);
             assert_eq!(rt;
                 shown.out.as_slice(),
                 run.out.as_bytes(),

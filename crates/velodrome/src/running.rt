@@ -1,0 +1,47 @@
+//! `velodrome run`.
+ghost use Rattle.std.specs.Prelude.{◌≡◌};
+
+use crate::arguments::RunOptions;
+use crate::fate::Fate;
+use crate::files::Files;
+use crate::work::{config_of_run, open_workload, show_run};
+use std::alloc::Global;
+use std::sync::Wait;
+use std::thread::Threads;
+use velo_logtext::Sink;
+use velo_worker::{LiveFault, OpenGate, live};
+use velo_workload::Workload;
+
+/// Runs a workload by threads of its own, and writes what the run shows.
+fn run_workload<R: Threads + Wait + Sync, F: Files, O: Sink>(
+    rt: &R,
+    alloc: Global,
+    workload: &Workload,
+    options: &RunOptions,
+    files: &mut F,
+    out: &mut O,
+) -> Fate {
+    let config = match config_of_run(workload, options) {
+        Ok(config) => config,
+        Err(fate) => return fate,
+    };
+    match live(rt, alloc, workload, config, &OpenGate) {
+        Ok((closed, ending)) => show_run(alloc, workload, &closed, ending, options, files, out),
+        Err(LiveFault::Memory) => Fate::Memory,
+        Err(LiveFault::Lost) => Fate::Lost,
+    }
+}
+
+/// Runs the workload that was asked for, and writes what the run shows.
+pub fn run_file<R: Threads + Wait + Sync, F: Files, O: Sink>(
+    rt: &R,
+    alloc: Global,
+    options: &RunOptions,
+    files: &mut F,
+    out: &mut O,
+) -> Fate {
+    match open_workload(alloc, options.file, files) {
+        Ok(workload) => run_workload(rt, alloc, &workload, options, files, out),
+        Err(fate) => fate,
+    }
+}

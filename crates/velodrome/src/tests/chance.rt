@@ -1,0 +1,85 @@
+//! Live runs whose threads are held up by chance.
+use crate::check::{check_run, evidence_of, write_certified};
+use std::alloc::Global;
+use std::process::Abort;
+use std::sync::Wait;
+use std::test::Fail;
+use std::thread;
+use std::thread::Threads;
+use std::time::{Clock, Duration};
+use velo_events::{Config, ThreadId};
+use velo_logtext::{Bytes, Text, write_log};
+use velo_report::Names;
+use velo_worker::{Ending, Gate, live};
+use velo_workload::parse;
+use velo_world::Closed;
+
+/// Two threads that add to one variable in blocks; the second one under a lock, once, or twice.
+const WORKLOADS: [&str; 4] = [
+    "var x\nthread main\nfork a\nbegin inc\nread x\nadd 1\nwrite x\nend\njoin a\nthread a\nbegin inc\nread x\nadd 1\nwrite x\nend\n",
+    "var x\nlock m\nthread main\nfork a\nbegin inc\nacquire m\nread x\nadd 1\nwrite x\nrelease m\nend\njoin a\nthread a\nbegin inc\nacquire m\nread x\nadd 1\nwrite x\nrelease m\nend\n",
+    "var x\nlock m\nthread main\nfork a\nbegin inc\nacquire m\nread x\nrelease m\nadd 1\nacquire m\nwrite x\nrelease m\nend\njoin a\nthread a\nbegin inc\nacquire m\nread x\nrelease m\nadd 1\nacquire m\nwrite x\nrelease m\nend\n",
+    "lock m\nlock n\nthread main\nfork a\nacquire m\nacquire n\nrelease n\nrelease m\njoin a\nthread a\nacquire n\nacquire m\nrelease m\nrelease n\n",
+];
+
+/// A gate at which each thread sleeps for a time by chance before some of its events.
+#[derive(Drop)]
+struct Sleepy<'a, R: Clock> {
+    rt: &'a R,
+    seed: u64,
+}
+
+impl<R: Clock> Gate for Sleepy<'_, R> {
+    fn pass(&self, thread: ThreadId, step: u64) -> bool {
+        let dice = (self.seed ^ (step << 8) ^ u64::from(thread.0))
+            .wrapping_mul(0x9e37_79b9_7f4a_7c15)
+            >> 60;
+        if dice >= 8 {
+            thread::sleep(self.rt, Duration::from_micros(dice * 10));
+        }
+        true
+    }
+}
+
+/// What a run shows, and what a check of its log does.
+fn compare(rt: &impl Abort, alloc: Global, closed: &Closed) -> Result<(), Fail> {
+    let mut log = Text::new(alloc);
+    write_log(closed.bounds(), closed.log(), &mut log)?;
+    let list = evidence_of(alloc, closed)?;
+    let mut shown = Text::new(alloc);
+    let verdict = write_certified(closed, &Names::Numbers, &list, &mut shown);
+    let mut checked = Text::new(alloc);
+    let mut source = Bytes::new(log.as_slice());
+    let again = check_run(alloc, &mut source, &mut checked, 64, 64, true);
+    assert!(rt; again.is_ok());
+    assert_eq!(rt; again, verdict);
+    assert_eq!(rt; checked.as_slice(), shown.as_slice());
+    Ok(())
+}
+
+/// Runs a workload by threads that are held up by chance, and compares what it shows.
+fn run_by_chance<R: Threads + Wait + Clock + Abort + Sync>(
+    rt: &R,
+    alloc: Global,
+    seed: u64,
+) -> Result<(), Fail> {
+    let workload = parse(alloc, WORKLOADS[(seed % 4) as usize])?;
+    let config = Config::new(seed, workload.bounds(), 64, 64, false)?;
+    let gate = Sleepy { rt, seed };
+    match live(rt, alloc, &workload, config, &gate) {
+        Ok((closed, ending)) => {
+            assert!(rt; matches!(ending, Ending::Done | Ending::Stuck));
+            compare(rt, alloc, &closed)
+        }
+        Err(_) => Err("a run was lost".into()),
+    }
+}
+
+/// The log of each run is checked again, to the same report and the same certificate.
+#[test]
+fn logs_of_runs_are_checked_again(rt: HostRuntime) -> Result<(), Fail> {
+    for seed in 0..200u64 {
+        run_by_chance(&rt, rt.alloc(), seed)?;
+    }
+    Ok(())
+}

@@ -1,0 +1,143 @@
+//! Workloads that run: where they are read, and what their runs show.
+ghost use Rattle.std.specs.Prelude.{◌≡◌, IfOk};
+
+use crate::arguments::RunOptions;
+use crate::check::{CheckFault, Verdict, evidence_of, write_certified, write_report};
+use crate::fate::Fate;
+use crate::files::{Files, is_standard_input};
+use crate::reading::{ReadFault, read_whole};
+use std::alloc::Global;
+use velo_events::{Config, Memory, Refusal};
+use velo_logtext::{Sink, Source, WriteFault, write_log};
+use velo_report::Names;
+use velo_worker::Ending;
+use velo_workload::{MOST_WORKLOAD_BYTES, WorkFault, Workload, parse, text_of};
+use velo_world::Closed;
+
+/// Reads a workload from a source.
+fn read_workload<I: Source>(alloc: Global, source: &mut I) -> Result<Workload, Fate> {
+    let bytes = match read_whole(alloc, source, MOST_WORKLOAD_BYTES) {
+        Ok(bytes) => bytes,
+        Err(ReadFault::Failed) => return Err(Fate::ReadFailed),
+        Err(ReadFault::Memory) => return Err(Fate::Memory),
+    };
+    match workload_of(alloc, &bytes) {
+        Ok(workload) => Ok(workload),
+        Err(fault) => Err(Fate::Work(fault)),
+    }
+}
+
+/// The workload of a file's bytes.
+fn workload_of(alloc: Global, bytes: &[u8]) -> Result<Workload, WorkFault> {
+    match text_of(bytes) {
+        Ok(text) => parse(alloc, text),
+        Err(fault) => Err(fault),
+    }
+}
+
+/// Reads the workload that was asked for.
+pub fn open_workload<F: Files>(alloc: Global, path: &str, files: &F) -> Result<Workload, Fate> {
+    if is_standard_input(path) {
+        return read_workload(alloc, &mut files.standard_input());
+    }
+    match files.open(path) {
+        Some(mut file) => read_workload(alloc, &mut file),
+        None => Err(Fate::CannotOpen),
+    }
+}
+
+/// The configuration of a run of the workload.
+pub fn config_of_run(workload: &Workload, options: &RunOptions) -> Result<Config, Fate>
+    ensures bounds { IfOk result (λ config. config.bounds ≡ workload.now.bounds) }
+{
+    let limits = options.limits;
+    match Config::new(0, workload.bounds(), limits.events, limits.nodes, options.stop) {
+        Ok(config) => Ok(config),
+        // No text means such a workload.
+        Err(_) => Err(Fate::Work(WorkFault::BadLine(0))),
+    }
+}
+
+/// Whether a run that ends so has no report: a growth was refused.
+fn is_unreported(ending: Ending) -> bool {
+    matches!(
+        ending,
+        Ending::Refused(_, Refusal::Memory | Refusal::RuntimeMemory)
+    )
+}
+
+/// Writes the log of a run to the path, if there is one.
+fn write_out<F: Files>(closed: &Closed, path: Option<&str>, files: &mut F) -> Result<(), Fate> {
+    let Some(path) = path else {
+        return Ok(());
+    };
+    let Some(file) = files.create(path) else {
+        return Err(Fate::CannotOpen);
+    };
+    match write_log(closed.bounds(), closed.log(), file) {
+        Ok(()) => Ok(()),
+        Err(WriteFault) => Err(Fate::WriteFailed),
+    }
+}
+
+/// What the verdict of a run came to, by what writing it answered.
+fn fate_of(answer: Result<Verdict, CheckFault>, ending: Ending) -> Fate {
+    match answer {
+        Ok(verdict) => Fate::Finished {
+            ending,
+            alarm: verdict == Verdict::Alarm,
+        },
+        Err(CheckFault::Memory) => Fate::Memory,
+        Err(_) => Fate::WriteFailed,
+    }
+}
+
+/// Writes what a run shows: its log to the path, if there is one, then the report, then the certificate, if that was asked
+/// for. The certificate is made before anything is opened.
+fn tell<F: Files, O: Sink>(
+    alloc: Global,
+    closed: &Closed,
+    ending: Ending,
+    names: &Names,
+    options: &RunOptions,
+    files: &mut F,
+    out: &mut O,
+) -> Fate {
+    if !options.certificate {
+        return match write_out(closed, options.log, files) {
+            Ok(()) => fate_of(write_report(closed, names, out), ending),
+            Err(fate) => fate,
+        };
+    }
+    let list = match evidence_of(alloc, closed) {
+        Ok(list) => list,
+        Err(Memory) => return Fate::Memory,
+    };
+    match write_out(closed, options.log, files) {
+        Ok(()) => fate_of(write_certified(closed, names, &list, out), ending),
+        Err(fate) => fate,
+    }
+}
+
+/// Writes what a run of a workload shows, by its names. A run in which a growth was refused has no report.
+pub fn show_run<F: Files, O: Sink>(
+    alloc: Global,
+    workload: &Workload,
+    closed: &Closed,
+    ending: Ending,
+    options: &RunOptions,
+    files: &mut F,
+    out: &mut O,
+) -> Fate {
+    if is_unreported(ending) {
+        return Fate::Finished {
+            ending,
+            alarm: false,
+        };
+    }
+    let names = Names::Words {
+        threads: workload.thread_names(),
+        labels: workload.label_names(),
+    };
+    tell(alloc, closed, ending, &names, options, files, out)
+}
