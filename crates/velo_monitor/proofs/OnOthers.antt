@@ -1,6 +1,6 @@
 -- Steps of the own slot lead to no edge and close no cycle, so a write may leave them out.
-use Rattle.std.proofs.Common.{◌≡◌, ◌≢◌, ℕ, zero, suc, Bool, true, false, cond, eqb, List, [], ◌∷◌, Option, Some, None, refl, sym, ap, ◌∙◌, subst, arith}
-use Rattle.std.specs.Prelude.{IsTrue, Contains, ◌↔◌, ◌&&◌, ◌||◌, not, ◌==◌, map, if◌then◌else◌}
+use Rattle.std.proofs.Common.{◌≡◌, ◌≢◌, ℕ, Bool, true, false, cond, List, [], ◌∷◌, Option, Some, None, refl, sym, ap, ◌∙◌}
+use Rattle.std.specs.Prelude.{IsTrue, ◌↔◌, ◌&&◌, ◌||◌, not, ◌==◌, map}
 use Rattle.std.specs.List.{cons_option, filter_map, list_any}
 use Rattle.std.proofs.lemmas.Bool.{eqb-true}
 use Rattle.velo_events.specs.declared.event.Event.{Event}
@@ -11,7 +11,7 @@ use Rattle.velo_events.specs.Event.{thread_of}
 use Rattle.velo_arena.specs.declared.step.Step.{Step}
 use Rattle.velo_arena.specs.Slots.{bears}
 use Rattle.velo_graph.specs.Nodes.{Nodes, is_ancestor, reaches, leads_on, AddsEdges}
-use Rattle.velo_tables.specs.Place.{Place, LastOf, LastWrite, LastRead, thread_numbers, also_looked_up}
+use Rattle.velo_tables.specs.Place.{LastOf, LastWrite, LastRead, thread_numbers, also_looked_up}
 use Rattle.velo_tables.specs.Kept.{Kept, entry, steps_looked_up}
 use Rattle.velo_tables.specs.Others.{but_for, accesses_but_for}
 use Rattle.velo_tables.proofs.OnSteps.{filter_map-contains, filter_map-from}

@@ -1,23 +1,21 @@
 -- What the tables keep at each place: after an event was recorded, after room was made, and in the order of a look-up.
-use Rattle.std.proofs.Common.{◌≡◌, ℕ, ◌+◌, ◌<◌, ◌≤◌, Bool, true, false, List, [], ◌∷◌, ◌++◌, length, get_or, Option, None, Result, Ok, Err, refl, sym, ap, ◌∙◌, subst, arith, ⊎_elim, max}
+use Rattle.std.proofs.Common.{◌≡◌, ℕ, ◌+◌, ◌<◌, ◌≤◌, Bool, true, false, List, length, get_or, Option, None, Result, Ok, Err, refl, sym, ap, ◌∙◌, subst, arith, ⊎_elim, max}
 use Rattle.std.specs.Prelude.{OnOk, OnErr}
-use Rattle.std.specs.Prelude.{map, ◌==◌, ◌||◌, ◌&&◌, if◌then◌else◌}
-use Rattle.std.specs.List.{filter_map, cons_option}
-use Rattle.std.specs.Option.{option_to_list}
+use Rattle.std.specs.Prelude.{◌==◌, ◌||◌, ◌&&◌, if◌then◌else◌}
 use Rattle.std.proofs.Math.ListN.{set}
 use Rattle.std.proofs.lemmas.Bool.{cases_eq, ne_eqb, eq-eqb}
-use Rattle.std.proofs.lemmas.List.{get_or-set_same, get_or-set_other, length-set, get_or_past}
+use Rattle.std.proofs.lemmas.List.{get_or-set_same, get_or-set_other, length-set}
 use Rattle.velo_arena.specs.declared.step.Step.{Step}
 use Rattle.velo_events.specs.declared.event.Event.{Event}
 use Rattle.velo_events.specs.declared.event.Kind.{Kind}
 use Rattle.velo_events.specs.declared.event.ThreadId.{ThreadId}
 use Rattle.velo_events.specs.declared.event.Kind.TheVariants.{Read, Write, Acquire, Release, Begin, End, Fork, Join, Exit}
 use Rattle.velo_events.specs.Event.{thread_of}
-use Rattle.velo_tables.specs.Place.{Place, LastOf, LastWrite, LastRead, LastOn, is_recorded, thread_numbers}
+use Rattle.velo_tables.specs.Place.{Place, LastOf, LastWrite, LastRead, LastOn, is_recorded}
 use Rattle.velo_tables.specs.Readers.{filled_up}
 use Rattle.velo_tables.specs.Kept.{Kept, Accesses, no_accesses, accesses_of, entry, HasRoomFor, HasRoomBeside, HasRoomToRead, IsRecorded, IsUnchanged}
 use Rattle.velo_tables.specs.Recorded.{with_write, with_read, with_reads_of, with_thread, with_variable, kept_after, kept_after_beside}
-use Rattle.velo_tables.proofs.OnReaders.{filter_map-cons, get_or-filled_up, length-filled_up}
+use Rattle.velo_tables.proofs.OnReaders.{get_or-filled_up, length-filled_up}
 
 -- ---- one list after a write
 

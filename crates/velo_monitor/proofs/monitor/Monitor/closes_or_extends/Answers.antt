@@ -6,7 +6,6 @@ use Rattle.velo_tables.specs.Kept.{entry, steps_looked_up}
 use Rattle.velo_graph.specs.Nodes.{AddsEdges}
 use Rattle.velo_monitor.specs.Watched.{Watched}
 use Rattle.velo_monitor.specs.Steps.{live_slots, ReachesSome}
-use Rattle.velo_tables.specs.Others.{accesses_but_for}
 use Rattle.velo_monitor.proofs.OnOwn.{closes-all, adds-all, adds-nothing, reaches-nothing}
 use Rattle.velo_monitor.proofs.OnOthers.{closes-write, adds-write}
 use Rattle.velo_monitor.proofs.monitor.Monitor.closes_or_extends.Goals as goal
