@@ -16,20 +16,7 @@ use Rattle.velo_events.specs.Certificate.{positions_of, IsReady, IsSerialOrder}
 use Rattle.velo_events.proofs.OnBlocks.{owner-le}
 use Rattle.velo_events.proofs.OnReorderings.{conflict_at-within}
 use Rattle.velo_events.proofs.OnSerializing.{is_listed, in_turn, IsGreedy, IsGreedy-nil, IsGreedy-push, ready_or_cycle, IsSerialOrder-by}
-use Rattle.velo_certify.specs.Serial.{has, AreClosed, IsFree, IsCandidate, AreLast, left}
-
--- ---- the last positions
-
-pub AreLast-next : (trace : List Event) (n : ℕ) (lasts : List ℕ) → length lasts ≡ length trace → ((a : ℕ) → a < length trace → slice_index lasts a < length trace) → ((i : ℕ) → i < n → i ≤ slice_index lasts (owner trace i)) → n < length trace → ((a : ℕ) → a < length trace → slice_index (set lasts (owner trace n) n) a < length trace) × ((i : ℕ) → i < n + 1 → i ≤ slice_index (set lasts (owner trace n) n) (owner trace i))
-AreLast-next trace n lasts count small each within = (
-  (λ a l. ⊎_elim (λ e. let is = at_own a e in omega (arith, is, within)) (λ e. let is = get_or-set_other lasts (owner trace n) a n 0 e in let was = small a l in omega (arith, is, was)) (cases_eq a (owner trace n))),
-  (λ i l. ⊎_elim (λ e. let is = at_own (owner trace i) e in omega (arith, is, l))
-      (λ e. let is = get_or-set_other lasts (owner trace n) (owner trace i) n 0 e in ⊎_elim (λ b. let was = each i b in omega (arith, is, was)) (λ g. absurd (e (ap (owner trace) (let same : i ≡ n = omega (arith, g, l) in same)))) (cases_lt i n))
-      (cases_eq (owner trace i) (owner trace n))),
-)
-  where
-    at_own : (a : ℕ) → a ≡ owner trace n → slice_index (set lasts (owner trace n) n) a ≡ n
-    at_own a e = ap (slice_index (set lasts (owner trace n) n)) e ∙ get_or-set_same lasts (owner trace n) n 0 (let most = owner-le trace n in omega (arith, most, within, count))
+use Rattle.velo_certify.specs.Serial.{has, AreClosed, IsFree, IsCandidate, left}
 
 -- ---- the positions of a transaction
 
