@@ -1,14 +1,14 @@
 -- The events of each thread in their order, and how far they are listed.
-use Rattle.std.proofs.Common.{◌≡◌, ◌≢◌, ℕ, suc, ◌+◌, ◌-◌, ◌<◌, ◌≤◌, Bool, true, false, List, ◌++◌, length, set, replicate, refl, sym, ap, ◌∙◌, subst, arith, ⊎_elim}
+use Rattle.std.proofs.Common.{◌≡◌, ◌≢◌, ℕ, ◌+◌, ◌-◌, ◌<◌, ◌≤◌, Bool, true, false, List, length, set, replicate, refl, sym, ap, ◌∙◌, subst, arith, ⊎_elim}
 use Rattle.std.specs.Prelude.{slice_index, slice_index_or, IsTrue, IsFalse}
 use Rattle.std.proofs.lemmas.Bool.{cases_lt, cases_eq, cases_Bool, eq-eqb, ltb-true, ltb-false, both_ways, false≢true}
 use Rattle.std.proofs.lemmas.List.{length-set, get_or-set_same, get_or-set_other, length-replicate, get_or-replicate}
 use Rattle.std.proofs.lemmas.Option.{slice_get-get_or}
 use Rattle.velo_events.specs.declared.event.Event.{Event}
-use Rattle.velo_events.specs.Event.{thread_of, is_by}
+use Rattle.velo_events.specs.Event.{is_by}
 use Rattle.velo_events.specs.Block.{owner, passes_at, IsTransaction}
 use Rattle.velo_events.specs.Certificate.{positions_of}
-use Rattle.velo_events.specs.Graph.{conflict_at, Edge}
+use Rattle.velo_events.specs.Graph.{conflict_at}
 use Rattle.velo_events.proofs.OnBlocks.{owner-le}
 use Rattle.velo_events.proofs.OnHappening.{ConflictsInOrder-same_thread}
 use Rattle.velo_events.proofs.OnOwners.{owner-between}
@@ -20,7 +20,7 @@ use Rattle.velo_certify.specs.Owners.{event_at}
 use Rattle.velo_certify.specs.Serial.{has, AreClosed, IsFree, IsCandidate, IsNext, is_before}
 use Rattle.velo_certify.specs.Table.{Sizes, AllNameRows}
 use Rattle.velo_certify.specs.Threads.{thread_at, IsFirstFrom, AreFirstFrom, AreFollowing, NamesFronts, AreFronts, IsBehind, IsNextSoFar, IsWithFront}
-use Rattle.velo_certify.proofs.OnSerial.{has-set, positions_below, below-own, below-stays, below-last}
+use Rattle.velo_certify.proofs.OnSerial.{has-set, positions_below, below-stays, below-last}
 
 -- ---- positions of one thread
 

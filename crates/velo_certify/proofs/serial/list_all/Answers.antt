@@ -1,8 +1,7 @@
-use Rattle.std.proofs.Common.{◌≡◌, ℕ, length, sym, subst, ◌∙◌, arith, rules}
+use Rattle.std.proofs.Common.{sym, subst, arith, rules}
 use Rattle.velo_certify.specs.declared.serial.Next.TheVariants.{Ready, Stuck, Done}
 use Rattle.velo_certify.specs.Serial.{AreClosed, IsNext}
 use Rattle.velo_certify.specs.Links.{HasLinksLeft}
-use Rattle.velo_certify.specs.Threads.{AreFronts}
 use Rattle.velo_certify.proofs.OnSerial.{AreClosed-lists, ListsSoFar-start, ListsSoFar-next, HasCycle-stuck, IsSerialOrder-done}
 use Rattle.velo_certify.proofs.OnSettling.{HasLinksLeft-start, HasLinksLeft-more}
 use Rattle.velo_certify.proofs.OnThreads.{AreFronts-start, AreFronts-listed}

@@ -1,4 +1,4 @@
-use Rattle.std.proofs.Common.{◌≡◌, ℕ, length, subst, arith}
+use Rattle.std.proofs.Common.{◌≡◌, length, subst, arith}
 use Rattle.velo_certify.specs.Threads.{IsNextSoFar}
 use Rattle.velo_certify.proofs.OnThreads.{front-candidate, IsNext-by_fronts}
 use Rattle.velo_certify.proofs.serial.next_ready.Goals as goal
