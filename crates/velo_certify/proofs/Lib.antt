@@ -11,6 +11,7 @@ pub mod OnDistances
 pub mod OnNearest
 pub mod OnCycles
 pub mod OnSerial
+pub mod OnThreads
 pub mod OnPrefixes
 pub mod OnReordered
 pub mod OnEdges

@@ -1,13 +1,13 @@
 -- Lists that are kept in one store, with one link more.
-use Rattle.std.proofs.Common.{◌≡◌, ◌≢◌, ℕ, zero, suc, ◌+◌, ◌<◌, ◌≤◌, List, [], ◌∷◌, ◌++◌, length, get_or, set, Some, refl, sym, ap, ◌∙◌, subst, arith, ⊎_elim, inl, inr, Result, Ok, Err}
-use Rattle.std.specs.Prelude.{◌⊎◌, OnOk, slice_get, slice_index}
+use Rattle.std.proofs.Common.{◌≡◌, ◌≢◌, ℕ, zero, suc, ◌+◌, ◌<◌, List, [], ◌∷◌, ◌++◌, length, set, Some, refl, sym, ap, ◌∙◌, subst, arith, ⊎_elim, inl, inr, Result, Ok, Err}
+use Rattle.std.specs.Prelude.{OnOk, slice_get, slice_index}
 use Rattle.std.proofs.lemmas.Bool.{cases_eq}
 use Rattle.std.proofs.lemmas.List.{length-set, get_or-set_same, get_or-set_other}
 use Rattle.std.proofs.lemmas.Option.{slice_get_within}
 use Rattle.velo_certify.specs.declared.chains.Link.{Link}
 use Rattle.velo_certify.specs.declared.chains.Links.{Links}
-use Rattle.velo_certify.specs.Chains.{IsIn, IsChain}
-use Rattle.velo_certify.specs.Links.{list_of, IsJoined}
+use Rattle.velo_certify.specs.Chains.{IsChain}
+use Rattle.velo_certify.specs.Links.{IsJoined}
 
 -- what was there stays
 slice_get-more : (links more : List Link) (j : ℕ) (e : Link) → slice_get links j ≡ Some e → slice_get (links ++ more) j ≡ Some e

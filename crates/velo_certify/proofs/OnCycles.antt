@@ -1,11 +1,11 @@
 -- Shortest cycles: the walk that makes one, and the links of a list.
-use Rattle.std.proofs.Common.{◌≡◌, ◌≢◌, ℕ, zero, suc, ◌+◌, ◌-◌, ◌<◌, ◌≤◌, Bool, cond, List, [], ◌∷◌, ◌++◌, length, take, drop, Option, Some, None, Result, Ok, Err, refl, sym, ap, ◌∙◌, subst, arith, ⊎_elim}
-use Rattle.std.specs.Prelude.{◌⊎◌, ◌↔◌, nat_lt, if◌then◌else◌, slice_index, IsTrue, Contains, MatchOption, IfOk, IfErr}
-use Rattle.std.proofs.lemmas.Bool.{cases_eq, cases_lt, lt-ltb, le-ltb}
+use Rattle.std.proofs.Common.{◌≡◌, ◌≢◌, ℕ, zero, suc, ◌+◌, ◌-◌, ◌<◌, ◌≤◌, Bool, cond, List, [], ◌∷◌, ◌++◌, length, take, drop, refl, sym, ap, ◌∙◌, subst, arith, ⊎_elim}
+use Rattle.std.specs.Prelude.{◌↔◌, slice_index, IsTrue}
+use Rattle.std.proofs.lemmas.Bool.{cases_lt, lt-ltb, le-ltb}
 use Rattle.std.proofs.lemmas.List.{length_push, get_or_append_left, get_or_push, length-take-le, take-append-drop}
 use Rattle.velo_events.specs.declared.event.Event.{Event}
 use Rattle.velo_events.specs.Block.{owner}
-use Rattle.velo_events.specs.Graph.{Path, Leads, Reaches, IsCycle, Edge}
+use Rattle.velo_events.specs.Graph.{Path, IsCycle, Edge}
 use Rattle.velo_events.specs.Certificate.{IsCycleAt, IsShortestCycleAt}
 use Rattle.velo_events.proofs.OnBlocks.{owner-append}
 use Rattle.velo_events.proofs.OnGraphs.{Path-append}
@@ -14,7 +14,7 @@ use Rattle.velo_certify.specs.declared.fault.CertFault.{CertFault}
 use Rattle.velo_certify.specs.declared.fault.CertFault.TheVariants.{HasCycle, NoCycle, NotThere, Memory}
 use Rattle.velo_certify.specs.Distances.{AreDistances}
 use Rattle.velo_certify.specs.Nearest.{IsNearest}
-use Rattle.velo_certify.specs.Cycle.{HasNoCycleAt, IsCycleFault, IsLastFault, IsOnNone, IsCycleFrom, IsShortestFrom, WalksBack, IsLinked, next_in}
+use Rattle.velo_certify.specs.Cycle.{IsCycleFault, IsLastFault, IsOnNone, IsCycleFrom, IsShortestFrom, WalksBack, IsLinked, next_in}
 use Rattle.velo_certify.proofs.OnDistances.{AreDistances-path}
 
 -- ---- the walk

@@ -9,12 +9,12 @@ use Rattle.velo_events.specs.declared.event.Kind.TheVariants.{Read, Write, Acqui
 use Rattle.velo_events.specs.Conflict.{conflict}
 use Rattle.velo_events.specs.Event.{thread_of, are_same, variable_of, is_write, lock_of, handled_by}
 use Rattle.velo_events.specs.Block.{owner, passes_at}
-use Rattle.velo_events.specs.Graph.{conflict_at, Edge, Path, Leads, Reaches}
+use Rattle.velo_events.specs.Graph.{conflict_at, Edge, Path, Reaches}
 use Rattle.velo_events.proofs.OnGraphs.{Reaches-trans}
 use Rattle.velo_events.proofs.OnReorderings.{conflict_at-within}
 use Rattle.velo_events.proofs.OnScans.{passes_at-is}
 use Rattle.velo_traces.proofs.Past.{past}
-use Rattle.velo_certify.specs.Links.{is_weak, IsLast, IsFirst, LinksBack, LinksOn, LinksSoFar}
+use Rattle.velo_certify.specs.Links.{is_weak, IsLast, IsFirst, LinksBack, LinksSoFar}
 use Rattle.velo_certify.specs.Owners.{event_at}
 use Rattle.velo_certify.specs.Serial.{has, IsFree}
 use Rattle.velo_certify.specs.Table.{is_about, thread_in, written_in, lock_in, written_by, strong_for}

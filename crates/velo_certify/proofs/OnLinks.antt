@@ -1,21 +1,21 @@
 -- Links between the transactions of positions, noted position by position.
 use Rattle.std.proofs.Common.{◌≡◌, ◌≢◌, ℕ, zero, suc, ◌+◌, ◌-◌, ◌<◌, ◌≤◌, Bool, cond, List, [], length, Some, refl, sym, ap, ◌∙◌, subst, arith, ⊎_elim, inl, inr}
-use Rattle.std.specs.Prelude.{◌⊎◌, nat_lt, nat_le, slice_get, slice_index, IsTrue, IsFalse}
-use Rattle.std.proofs.lemmas.Bool.{cases_lt, lt-ltb, le-ltb, le-leb, lt-leb, or_left, or_right, eqb-true, eq-eqb, both_ways, false≢true}
+use Rattle.std.specs.Prelude.{◌⊎◌, slice_get, IsTrue, IsFalse}
+use Rattle.std.proofs.lemmas.Bool.{cases_lt, lt-ltb, le-ltb, le-leb, lt-leb, or_left, or_right, both_ways, false≢true}
 use Rattle.std.proofs.lemmas.Option.{slice_get-get_or}
 use Rattle.velo_events.specs.declared.event.Event.{Event}
 use Rattle.velo_events.specs.declared.event.Kind.{Kind}
-use Rattle.velo_events.specs.declared.event.Kind.TheVariants.{Read, Write, Acquire, Release, Begin, End, Fork, Join, Exit}
+use Rattle.velo_events.specs.declared.event.Kind.TheVariants.{Read, Write, Acquire, Release, Fork, Join}
 use Rattle.velo_events.specs.Event.{thread_of}
 use Rattle.velo_events.specs.Block.{owner, passes_at}
 use Rattle.velo_events.specs.Conflict.{conflict}
 use Rattle.velo_events.specs.Graph.{conflict_at, Edge}
-use Rattle.velo_events.proofs.OnScans.{passes_at-is, passes_at-event}
+use Rattle.velo_events.proofs.OnScans.{passes_at-event}
 use Rattle.velo_events.proofs.OnOwners.{passes_at-within}
 use Rattle.velo_traces.proofs.Past.{past}
 use Rattle.velo_certify.specs.declared.chains.Links.{Links}
-use Rattle.velo_certify.specs.Chains.{IsIn, IsChain}
-use Rattle.velo_certify.specs.Links.{is_weak, IsLast, IsFirst, LinksBack, LinksOn, LinksSoFar, list_of, IsJoined, IsJoinedLast, IsJoinedFirst, counted, counted_back, HasRow, HasLinks}
+use Rattle.velo_certify.specs.Chains.{IsIn}
+use Rattle.velo_certify.specs.Links.{is_weak, IsLast, IsFirst, LinksBack, LinksOn, list_of, IsJoinedLast, IsJoinedFirst, counted, counted_back, HasRow, HasLinks}
 use Rattle.velo_certify.specs.Owners.{event_at}
 use Rattle.velo_certify.specs.Table.{IsGreatest, IsBlank, numbers_before, numbers_from, is_about, thread_in, strong_for, AreStrongest}
 use Rattle.velo_certify.proofs.OnConflicts.{conflict-read, conflict-write, conflict-acquire, conflict-release, conflict-fork, conflict-join}

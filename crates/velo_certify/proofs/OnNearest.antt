@@ -1,15 +1,15 @@
 -- The edges out of a transaction, position by position.
-use Rattle.std.proofs.Common.{◌≡◌, ◌≢◌, ℕ, ◌+◌, ◌<◌, ◌≤◌, Bool, cond, not, List, length, Option, Some, None, refl, sym, ap, ◌∙◌, subst, arith, ⊎_elim}
-use Rattle.std.specs.Prelude.{◌⊎◌, ◌↔◌, ◌==◌, nat_lt, slice_index, IsTrue, IsFalse, IfSome, MatchOption}
-use Rattle.std.proofs.lemmas.Bool.{cases_eq, cases_lt, eq-eqb, eqb-true, eqb-false, ne_eqb, le-ltb, lt-ltb, ltb-true, not_from_false, not-true, false≢true}
+use Rattle.std.proofs.Common.{◌≡◌, ◌≢◌, ℕ, ◌+◌, ◌<◌, ◌≤◌, cond, not, List, length, Option, Some, None, sym, ap, ◌∙◌, subst, arith, ⊎_elim}
+use Rattle.std.specs.Prelude.{◌⊎◌, ◌↔◌, ◌==◌, nat_lt, slice_index, IsTrue, IfSome, MatchOption}
+use Rattle.std.proofs.lemmas.Bool.{cases_eq, cases_lt, eq-eqb, eqb-false, ne_eqb, le-ltb, lt-ltb, ltb-true, not_from_false, not-true}
 use Rattle.std.proofs.lemmas.Option.{same_Some, none-some}
 use Rattle.velo_events.specs.declared.event.Event.{Event}
 use Rattle.velo_events.specs.Block.{owner}
-use Rattle.velo_events.specs.Graph.{conflict_at, Edge}
+use Rattle.velo_events.specs.Graph.{Edge}
 use Rattle.velo_events.proofs.OnReorderings.{conflict_at-within}
 use Rattle.velo_certify.specs.Table.{IsGreatestBefore, HasNumbers, numbers_before, AreBlank}
 use Rattle.velo_certify.specs.declared.table.Table.{Table}
-use Rattle.velo_certify.specs.Nearest.{own_positions, LeadsInto, IsNearest, IsNearestBelow, IsNoneBelow, IsNearestSoFar, IsWithNext}
+use Rattle.velo_certify.specs.Nearest.{own_positions, LeadsInto, IsNearest, IsNearestBelow, IsNearestSoFar, IsWithNext}
 use Rattle.velo_certify.proofs.OnRows.{HasNumbers-none}
 
 pub own_positions-yes : (trace : List Event) (a i : ℕ) → owner trace i ≡ a → own_positions trace a i ≡ 1

@@ -1,5 +1,5 @@
 -- Lists that may be serial reorderings: their places, and whether transactions stand together in them.
-use Rattle.std.proofs.Common.{◌≡◌, ◌≢◌, ℕ, zero, suc, ◌+◌, ◌-◌, ◌<◌, ◌≤◌, Bool, true, false, cond, List, [], ◌∷◌, ◌++◌, length, take, drop, get_or, set, replicate, refl, sym, ap, ◌∙◌, subst, arith, ⊎_elim, Result, Ok, Err}
+use Rattle.std.proofs.Common.{◌≡◌, ◌≢◌, ℕ, ◌+◌, ◌-◌, ◌<◌, ◌≤◌, Bool, true, false, cond, List, length, take, drop, set, replicate, refl, sym, ap, ◌∙◌, subst, arith, ⊎_elim, Result, Ok, Err}
 use Rattle.std.specs.Prelude.{◌↔◌, IfOk, IfErr, ◌==◌, nat_lt, if◌then◌else◌, count_by, slice_index, slice_index_or, IsTrue, IsFalse}
 use Rattle.std.proofs.lemmas.Bool.{cases_eq, cases_lt, eq-eqb, eqb-true, ne_eqb, lt-ltb, le-ltb, both_ways, false≢true, false_from_ne_true}
 use Rattle.std.proofs.lemmas.List.{length-set, get_or-set_same, get_or-set_other, length-replicate, get_or-replicate, take-append-drop, get_or_past}
@@ -7,8 +7,7 @@ use Rattle.std.proofs.Math.Seq.{take-length}
 use Rattle.std.proofs.lemmas.List.Sums.{sum_by-append, count_by_more_no, count_by_more_yes}
 use Rattle.velo_events.specs.declared.event.Event.{Event}
 use Rattle.velo_events.specs.Block.{owner}
-use Rattle.velo_events.specs.Graph.{conflict_at}
-use Rattle.velo_events.specs.Reordering.{IsReordering, IsSerial, StandTogether}
+use Rattle.velo_events.specs.Reordering.{IsReordering, IsSerial}
 use Rattle.velo_events.proofs.OnBlocks.{owner-le}
 use Rattle.velo_events.proofs.OnReorderings.{conflict_at-within, IsReordering-place, IsReordering-pair}
 use Rattle.velo_certify.specs.Owners.{AreOwners}

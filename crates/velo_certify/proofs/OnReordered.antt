@@ -1,7 +1,7 @@
 -- Every reordering of a well-formed trace is well-formed, and leaves the same heap.
-use Rattle.std.proofs.Common.{◌≡◌, ◌≢◌, ℕ, zero, suc, ◌+◌, ◌<◌, ◌≤◌, Bool, true, false, cond, not, List, [], ◌∷◌, ◌++◌, length, take, drop, map, get_or, Option, Some, None, refl, sym, ap, ◌∙◌, subst, arith, ⊎_elim}
-use Rattle.std.specs.Prelude.{◌⊎◌, ◌↔◌, ◌==◌, ◌&&◌, ◌||◌, if◌then◌else◌, count_by, filter, filter_map, slice_get, slice_index, slice_index_or, option_and_then, IsTrue, IsFalse, AllPairs, Contains}
-use Rattle.std.specs.List.{range_with_len, list_any, cons_option}
+use Rattle.std.proofs.Common.{◌≡◌, ◌≢◌, ℕ, zero, suc, ◌+◌, ◌<◌, ◌≤◌, Bool, true, false, cond, List, [], ◌∷◌, ◌++◌, length, take, map, get_or, Option, Some, None, refl, sym, ap, ◌∙◌, subst, arith, ⊎_elim}
+use Rattle.std.specs.Prelude.{◌↔◌, ◌==◌, ◌&&◌, ◌||◌, if◌then◌else◌, count_by, filter, filter_map, slice_get, slice_index, slice_index_or, option_and_then, IsTrue, IsFalse, AllPairs, Contains}
+use Rattle.std.specs.List.{range_with_len, cons_option}
 use Rattle.std.specs.Option.{option_map_or, option_or}
 use Rattle.std.proofs.lemmas.Bool.{cases_Bool, cases_eq, cases_lt, cases_order, and_parts, and_from, or_cases, or_left, or_right, eq-eqb, eqb-true, lt-ltb, le-ltb, both_ways, false≢true, false_from_ne_true}
 use Rattle.std.proofs.lemmas.List.{get_or_default, get_or-take, length-take-le, take-map, map-append, length-map}
@@ -15,15 +15,15 @@ use Rattle.velo_events.specs.declared.config.Bounds.{Bounds}
 use Rattle.velo_events.specs.declared.event.Event.{Event}
 use Rattle.velo_events.specs.declared.event.Kind.{Kind}
 use Rattle.velo_events.specs.declared.event.Kind.TheVariants.{Read, Write, Acquire, Release, Begin, End, Fork, Join, Exit}
-use Rattle.velo_events.specs.Event.{are_same, thread_of, variable_of, lock_of, forked_by, joined_by, handled_by, value_of, is_write, is_acquire, is_release, is_begin, is_end, is_by, is_begin_by, is_end_by, is_acquire_by, is_release_by, is_exit_by, is_write_of, is_on_lock, is_fork_of, is_join_of}
+use Rattle.velo_events.specs.Event.{are_same, thread_of, variable_of, lock_of, forked_by, joined_by, handled_by, value_of, is_write, is_acquire, is_release, is_begin, is_end, is_by, is_begin_by, is_end_by, is_exit_by, is_write_of, is_on_lock, is_fork_of, is_join_of}
 use Rattle.velo_events.specs.Conflict.{conflict}
 use Rattle.velo_events.specs.Graph.{conflict_at}
-use Rattle.velo_events.specs.Heap.{latest, happened, times, value_in, holder_in, was_born, status_in, depth_in}
+use Rattle.velo_events.specs.Heap.{latest, happened, times}
 use Rattle.velo_events.specs.Reordering.{IsReordering, events_in_order}
 use Rattle.velo_events.specs.WellFormed.{IsInTurn, MayFollow, IsWellFormed}
 use Rattle.velo_events.proofs.OnScans.{take-next, take-take_le}
 use Rattle.velo_events.proofs.OnPositions.{Contains-filter}
-use Rattle.velo_events.proofs.OnReorderings.{conflict_at-within, IsReordering-place, IsReordering-pair}
+use Rattle.velo_events.proofs.OnReorderings.{IsReordering-place, IsReordering-pair}
 use Rattle.velo_traces.proofs.Past.{past}
 use Rattle.velo_certify.specs.Reordered.{LeavesSameHeap}
 use Rattle.velo_certify.proofs.OnGreatest.{conflict-comm}

@@ -1,8 +1,8 @@
 -- The rows of a table: what is looked up in them, and what they have with one more number.
-use Rattle.std.proofs.Common.{◌≡◌, ℕ, ◌+◌, ◌<◌, ◌≤◌, max, Bool, false, List, length, get_or, set, Option, Some, None, refl, sym, ap, ◌∙◌, subst, arith, ⊎_elim}
-use Rattle.std.specs.Prelude.{⊤, ◌⊎◌, ◌||◌, slice_get, slice_index, IsTrue}
-use Rattle.std.proofs.lemmas.Bool.{cases_eq, cases_lt, eqb-true, false≢true}
-use Rattle.std.proofs.lemmas.List.{get_or_default, length-set, get_or-set_same, get_or-set_other}
+use Rattle.std.proofs.Common.{◌≡◌, ℕ, ◌+◌, ◌<◌, max, Bool, false, List, length, get_or, set, Option, Some, None, refl, sym, ap, ◌∙◌, subst, arith, ⊎_elim}
+use Rattle.std.specs.Prelude.{⊤, ◌⊎◌, ◌||◌, slice_get}
+use Rattle.std.proofs.lemmas.Bool.{false≢true}
+use Rattle.std.proofs.lemmas.List.{get_or_default}
 use Rattle.std.proofs.lemmas.Option.{same_Some}
 use Rattle.velo_events.specs.declared.event.Event.{Event}
 use Rattle.velo_events.specs.declared.event.VarId.{VarId}
@@ -10,9 +10,8 @@ use Rattle.velo_events.specs.declared.event.LockId.{LockId}
 use Rattle.velo_events.specs.declared.event.ThreadId.{ThreadId}
 use Rattle.velo_events.specs.declared.event.Kind.{Kind}
 use Rattle.velo_events.specs.declared.event.Kind.TheVariants.{Read, Write, Acquire, Release, Begin, End, Fork, Join, Exit}
-use Rattle.velo_events.specs.Event.{are_same, thread_of, handled_by, lock_of}
-use Rattle.velo_events.specs.Block.{passes_at}
-use Rattle.velo_events.proofs.OnScans.{passes_at-is, passes_at-event}
+use Rattle.velo_events.specs.Event.{thread_of, handled_by, lock_of}
+use Rattle.velo_events.proofs.OnScans.{passes_at-event}
 use Rattle.velo_events.specs.Conflict.{conflict}
 use Rattle.velo_certify.specs.declared.table.Table.{Table}
 use Rattle.velo_certify.specs.Table.{IsGreatest, IsNumbered, numbers_before, numbers_from, written_by, read_by, thread_in, handled_in, written_in, read_in, lock_in, is_about, IsRow, AreBlank, HasNumbers, sizes, HasPlaces, NamesRows, IsLookedUp, IsNoted, TakesIn, strong_for, IsStrongest, IsLatestOfThread, AreStrongest, TakesStrong}

@@ -1,35 +1,22 @@
 -- The rounds in which a serial order is listed.
-use Rattle.std.proofs.Common.{◌≡◌, ◌≢◌, ℕ, zero, suc, ◌+◌, ◌-◌, ◌<◌, ◌≤◌, Bool, true, false, cond, not, List, [], ◌∷◌, ◌++◌, length, get_or, set, replicate, refl, sym, ap, ◌∙◌, subst, arith, ⊎_elim, inl, inr}
-use Rattle.std.specs.Prelude.{◌⊎◌, ◌↔◌, ◌==◌, ◌||◌, filter, count_by, slice_index, slice_index_or, IsTrue, IsFalse, Contains}
-use Rattle.std.specs.List.{range_with_len, list_any}
-use Rattle.std.proofs.lemmas.Bool.{cases_Bool, cases_eq, cases_lt, eq-eqb, eqb-true, ne_eqb, or_left, or_right, or_from, or_cases, le-ltb, lt-ltb, both_ways, false≢true, false_from_ne_true}
-use Rattle.std.proofs.lemmas.List.{append-nil, length-set, get_or-set_same, get_or-set_other, get_or_past, length-replicate, get_or-replicate, flat_map_more}
+use Rattle.std.proofs.Common.{◌≡◌, ◌≢◌, ℕ, zero, suc, ◌+◌, ◌-◌, ◌<◌, ◌≤◌, Bool, true, false, cond, not, List, [], ◌∷◌, ◌++◌, length, set, replicate, refl, sym, ap, ◌∙◌, subst, arith, ⊎_elim}
+use Rattle.std.specs.Prelude.{◌==◌, ◌||◌, filter, slice_index_or, IsTrue, IsFalse, Contains}
+use Rattle.std.specs.List.{range_with_len}
+use Rattle.std.proofs.lemmas.Bool.{cases_Bool, cases_eq, eq-eqb, ne_eqb, or_right, both_ways, false_from_ne_true}
+use Rattle.std.proofs.lemmas.List.{append-nil, length-set, get_or-set_same, get_or-set_other, length-replicate, get_or-replicate, flat_map_more}
 use Rattle.std.proofs.lemmas.List.Elements.{filter-append}
 use Rattle.std.proofs.lemmas.List.Folds.{list_any-append}
 use Rattle.std.proofs.lemmas.List.Sums.{sum_by-set}
 use Rattle.std.proofs.lemmas.Cmp.{nat_eq_equiv}
 use Rattle.std.proofs.lemmas.Map.Views.{Contains-from_any, list_any-from_Contains, exact_unsigned_eq}
 use Rattle.velo_events.specs.declared.event.Event.{Event}
-use Rattle.velo_events.specs.Block.{owner, positions, IsTransaction}
-use Rattle.velo_events.specs.Graph.{conflict_at, Edge, HasCycle}
+use Rattle.velo_events.specs.Block.{owner, IsTransaction}
+use Rattle.velo_events.specs.Graph.{Edge, HasCycle}
 use Rattle.velo_events.specs.Certificate.{positions_of, IsReady, IsSerialOrder}
 use Rattle.velo_events.proofs.OnBlocks.{owner-le}
 use Rattle.velo_events.proofs.OnReorderings.{conflict_at-within}
 use Rattle.velo_events.proofs.OnSerializing.{is_listed, in_turn, IsGreedy, IsGreedy-nil, IsGreedy-push, ready_or_cycle, IsSerialOrder-by}
-use Rattle.velo_certify.specs.Serial.{has, AreClosed, IsFree, IsCandidate, AreLast, left}
-
--- ---- the last positions
-
-pub AreLast-next : (trace : List Event) (n : ℕ) (lasts : List ℕ) → length lasts ≡ length trace → ((a : ℕ) → a < length trace → slice_index lasts a < length trace) → ((i : ℕ) → i < n → i ≤ slice_index lasts (owner trace i)) → n < length trace → ((a : ℕ) → a < length trace → slice_index (set lasts (owner trace n) n) a < length trace) × ((i : ℕ) → i < n + 1 → i ≤ slice_index (set lasts (owner trace n) n) (owner trace i))
-AreLast-next trace n lasts count small each within = (
-  (λ a l. ⊎_elim (λ e. let is = at_own a e in omega (arith, is, within)) (λ e. let is = get_or-set_other lasts (owner trace n) a n 0 e in let was = small a l in omega (arith, is, was)) (cases_eq a (owner trace n))),
-  (λ i l. ⊎_elim (λ e. let is = at_own (owner trace i) e in omega (arith, is, l))
-      (λ e. let is = get_or-set_other lasts (owner trace n) (owner trace i) n 0 e in ⊎_elim (λ b. let was = each i b in omega (arith, is, was)) (λ g. absurd (e (ap (owner trace) (let same : i ≡ n = omega (arith, g, l) in same)))) (cases_lt i n))
-      (cases_eq (owner trace i) (owner trace n))),
-)
-  where
-    at_own : (a : ℕ) → a ≡ owner trace n → slice_index (set lasts (owner trace n) n) a ≡ n
-    at_own a e = ap (slice_index (set lasts (owner trace n) n)) e ∙ get_or-set_same lasts (owner trace n) n 0 (let most = owner-le trace n in omega (arith, most, within, count))
+use Rattle.velo_certify.specs.Serial.{has, AreClosed, IsFree, IsCandidate, left}
 
 -- ---- the positions of a transaction
 

@@ -1,11 +1,11 @@
 -- Marks of what a position reaches by conflicts in order.
-use Rattle.std.proofs.Common.{◌≡◌, ◌≢◌, ℕ, zero, suc, ◌+◌, ◌<◌, ◌≤◌, cond, List, [], ◌∷◌, ◌++◌, length, Some, refl, sym, ap, ◌∙◌, subst, arith, ⊎_elim, inl, inr}
-use Rattle.std.specs.Prelude.{◌⊎◌, nat_lt, slice_get, slice_index, IsTrue}
+use Rattle.std.proofs.Common.{◌≡◌, ◌≢◌, ℕ, ◌+◌, ◌<◌, ◌≤◌, cond, List, [], ◌∷◌, ◌++◌, length, Some, refl, sym, ap, ◌∙◌, subst, arith, ⊎_elim, inl, inr}
+use Rattle.std.specs.Prelude.{slice_get, slice_index, IsTrue}
 use Rattle.std.proofs.lemmas.Bool.{cases_eq, cases_lt, lt-ltb, le-ltb}
 use Rattle.std.proofs.lemmas.List.{length_push, get_or_append_left, get_or_push, get_or_past}
 use Rattle.velo_events.specs.declared.event.Event.{Event}
 use Rattle.velo_events.specs.Conflict.{conflict}
-use Rattle.velo_events.specs.Graph.{Path, Leads, Reaches, conflict_at, ConflictsInOrder, HappensBefore}
+use Rattle.velo_events.specs.Graph.{Path, Reaches, conflict_at, ConflictsInOrder, HappensBefore}
 use Rattle.velo_events.proofs.OnGraphs.{Reaches-trans}
 use Rattle.velo_events.proofs.OnHappening.{HappensBefore-lt}
 use Rattle.velo_certify.specs.Table.{IsGreatest, IsGreatestBefore, IsNumbered, numbers_before}

@@ -12,3 +12,4 @@ pub mod Chains
 pub mod Edges
 pub mod Links
 pub mod Witness
+pub mod Threads

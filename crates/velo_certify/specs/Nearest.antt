@@ -1,5 +1,5 @@
 -- The edges out of one transaction, and the nearest one that they lead to.
-use Rattle.std.specs.Prelude.{◌≡◌, ◌≢◌, ℕ, ◌<◌, ◌≤◌, ◌==◌, ◌⊎◌, cond, List, slice_index, Option, Some, None, MatchOption, IfSome, IsTrue}
+use Rattle.std.specs.Prelude.{◌≡◌, ◌≢◌, ℕ, ◌<◌, ◌≤◌, ◌==◌, ◌⊎◌, cond, List, slice_index, Option, Some, MatchOption, IfSome, IsTrue}
 use Rattle.velo_events.specs.declared.event.Event.{Event}
 use Rattle.velo_events.specs.Block.{owner}
 use Rattle.velo_events.specs.Graph.{conflict_at, Edge}

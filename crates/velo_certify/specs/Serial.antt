@@ -1,5 +1,5 @@
 -- The rounds in which a serial order is listed.
-use Rattle.std.specs.Prelude.{◌≡◌, ◌≢◌, ℕ, ◌<◌, ◌≤◌, Bool, false, not, List, length, count_by, slice_index, slice_index_or, IsTrue, IsFalse}
+use Rattle.std.specs.Prelude.{◌≡◌, ◌≢◌, ℕ, ◌<◌, ◌≤◌, Bool, false, not, nat_lt, List, length, count_by, slice_index_or, IsTrue, IsFalse}
 use Rattle.velo_events.specs.declared.event.Event.{Event}
 use Rattle.velo_events.specs.Block.{owner}
 use Rattle.velo_events.specs.Graph.{conflict_at, Edge}
@@ -39,11 +39,10 @@ pub record IsCandidate (trace : List Event) (listed : List Bool) (a : ℕ) : Typ
   pub first : owner trace a ≡ a
   pub not_listed : IsFalse (has listed a)
 
--- the last positions of the transactions, or later ones
-pub record AreLast (trace : List Event) (lasts : List ℕ) : Type 0 where
-  pub count : length lasts ≡ length trace
-  pub small : (a : ℕ) → a < length trace → slice_index lasts a < length trace
-  pub each : (i : ℕ) → i < length trace → i ≤ slice_index lasts (owner trace i)
+-- the next one comes before transaction a
+abbrev pub is_before : Next → ℕ → Bool
+is_before (Ready b) a = nat_lt b a
+is_before _ a = false
 
 -- what is listed next
 abbrev pub IsNext : List Event → List Bool → Next → Type 0

@@ -1,5 +1,5 @@
 -- An event that stands between the begin of a block and a later event of the block's thread, whatever the order.
-use Rattle.std.specs.Prelude.{◌≡◌, ◌≢◌, ℕ, ◌<◌, List, length, slice_get, slice_index, IsTrue}
+use Rattle.std.specs.Prelude.{◌≢◌, ℕ, ◌<◌, List, length, slice_get, slice_index, IsTrue}
 use Rattle.std.specs.Option.{option_map_or}
 use Rattle.velo_events.specs.declared.event.Event.{Event}
 use Rattle.velo_events.specs.Event.{thread_of}

@@ -14,6 +14,7 @@ mod order;
 mod owners;
 mod serial;
 mod table;
+mod threads;
 mod witness;
 
 pub use cycle::{check_cycle, cycle_of};

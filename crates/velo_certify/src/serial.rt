@@ -1,6 +1,6 @@
 //! The greedy serial order of a trace without a cycle.
 ghost use Rattle.std.specs.Prelude.{◌≡◌, ◌≤◌, ◌<◌, ◌+◌, ◌++◌, ℕ, List, length, IfOk, IfErr, OnOk, OnErr, IsTrue, IsFalse};
-ghost use Rattle.velo_events.specs.Block.{owner};
+ghost use Rattle.velo_events.specs.Block.{IsTransaction};
 ghost use Rattle.velo_events.specs.Certificate.{positions_of, IsSerialOrder};
 ghost use Rattle.velo_events.specs.Graph.{HasCycle};
 ghost use Rattle.velo_events.specs.Refusals.{GrowthRefused};
@@ -10,14 +10,16 @@ ghost use Rattle.velo_events.specs.declared.config.Bounds.{Bounds};
 ghost use Rattle.velo_certify.specs.Reordered.{LeavesSameHeap};
 ghost use Rattle.velo_certify.specs.Owners.{AreOwners};
 ghost use Rattle.velo_certify.specs.Links.{HasLinksLeft};
-ghost use Rattle.velo_certify.specs.Serial.{has, AreClosed, IsCandidate, AreLast, IsNext, IsOrderFault};
+ghost use Rattle.velo_certify.specs.Serial.{is_before, AreClosed, IsCandidate, IsNext, IsOrderFault};
+ghost use Rattle.velo_certify.specs.Threads.{AreFollowing, AreFronts, IsBehind, IsWithFront};
 
 use crate::CertFault;
 use crate::chains::Links;
 use crate::links::{is_settled, links_of};
 use crate::owners::{owner_of, owners_of};
+use crate::threads::Threads;
 use std::alloc::Global;
-use velo_events::growth::{filled, reserve};
+use velo_events::growth::{filled, reserve, with_capacity};
 use velo_events::{Event, Memory};
 use velo_traces::Trace;
 
@@ -32,98 +34,77 @@ enum Next {
     Done,
 }
 
-/// The last position of each transaction.
-fn lasts_of(alloc: Global, events: &[Event], owners: &[usize]) -> Result<Vec<usize>, Memory>
-    requires owners { AreOwners owners.now events.now }
-    ensures lasts { IfOk result (λ lasts. AreLast events.now lasts.items) }
-    ensures memory { OnErr result GrowthRefused }
+/// Whether what is listed next comes before the transaction.
+fn is_before(next: Next, a: usize) -> bool
+    ensures { result ≡ is_before next a }
 {
-    let mut lasts = filled(alloc, 0, events.len())?;
-    for at in 0..events.len() {
-        lasts[owner_of(events, owners, at)] = at;
+    match next {
+        Next::Ready(b) => b < a,
+        _ => false,
     }
-    Ok(lasts)
 }
 
-/// What is listed next, where all positions before the first one given are of listed transactions.
-fn next_ready(
-    events: &[Event],
-    owners: &[usize],
-    listed: &[bool],
-    links: &mut Links,
-    first: usize,
-) -> Next
-    requires owners { AreOwners owners.now events.now }
-    requires count { length listed.now ≡ length events.now }
-    requires first { (i : ℕ) → i < first → i < length events.now → IsTrue (has listed.now (owner events.now i)) }
+/// What is listed next, with one more transaction that is the first of its thread.
+fn with_front(events: &[Event], listed: &[bool], links: &mut Links, next: Next, a: usize) -> Next
+    requires candidate { IsCandidate events.now listed.now a }
     requires closed { AreClosed events.now listed.now }
+    requires links { HasLinksLeft events.now listed.now links.old }
+    ensures links { HasLinksLeft events.now listed.now links.new }
+    ensures next { IsWithFront events.now listed.now a next result }
+{
+    if is_before(next, a) {
+        return next;
+    }
+    if is_settled(links, listed, a) {
+        return Next::Ready(a);
+    }
+    match next {
+        Next::Done => Next::Stuck,
+        _ => next,
+    }
+}
+
+/// What is listed next. Of each thread only the first transaction that is not listed can be ready.
+fn next_ready(events: &[Event], listed: &[bool], links: &mut Links, fronts: &[usize]) -> Next
+    requires count { length listed.now ≡ length events.now }
+    requires closed { AreClosed events.now listed.now }
+    requires fronts { AreFronts events.now listed.now fronts.now }
     requires links { HasLinksLeft events.now listed.now links.old }
     ensures links { HasLinksLeft events.now listed.now links.new }
     ensures next { IsNext events.now listed.now result }
 {
-    let mut stuck = false;
-    for a in first..events.len() {
-        if is_candidate(events, owners, listed, a) {
-            if is_settled(links, listed, a) {
-                return Next::Ready(a);
-            }
-            stuck = true;
+    let mut next = Next::Done;
+    for t in 0..fronts.len() {
+        let a = fronts[t];
+        if a < events.len() {
+            next = with_front(events, listed, links, next, a);
         }
     }
-    if stuck { Next::Stuck } else { Next::Done }
+    next
 }
 
-/// Whether a position is the first of a transaction that is not listed.
-fn is_candidate(events: &[Event], owners: &[usize], listed: &[bool], a: usize) -> bool
-    requires within { a < length events.now }
-    requires owners { AreOwners owners.now events.now }
-    requires count { length listed.now ≡ length events.now }
-    ensures yes { IsTrue result → IsCandidate events.now listed.now a }
-    ensures no { IsCandidate events.now listed.now a → IsTrue result }
-{
-    if owner_of(events, owners, a) != a {
-        return false;
-    }
-    !listed[a]
-}
-
-/// The first position from the given one on that is of no listed transaction.
-fn first_left(events: &[Event], owners: &[usize], listed: &[bool], from: usize) -> usize
-    requires owners { AreOwners owners.now events.now }
-    requires count { length listed.now ≡ length events.now }
-    requires from { (i : ℕ) → i < from → i < length events.now → IsTrue (has listed.now (owner events.now i)) }
-    ensures { (i : ℕ) → i < result → i < length events.now → IsTrue (has listed.now (owner events.now i)) }
-{
-    for at in from..events.len() {
-        if !listed[owner_of(events, owners, at)] {
-            return at;
-        }
-    }
-    events.len()
-}
-
-/// Appends the positions of a transaction, rising. None is after the last one given.
+/// Appends the positions of a transaction, rising. The answer is the first position of the thread behind it.
 fn append_positions(
     events: &[Event],
     owners: &[usize],
+    following: &[usize],
     a: usize,
-    last: usize,
     order: &mut Vec<usize>,
-) -> Result<(), Memory>
+) -> Result<usize, Memory>
     requires owners { AreOwners owners.now events.now }
-    requires first { a ≤ last }
-    requires within { last < length events.now }
-    requires last { (i : ℕ) → i < length events.now → owner events.now i ≡ a → i ≤ last }
+    requires following { AreFollowing events.now 0 following.now }
+    requires transaction { IsTransaction events.now a }
     ensures ok { OnOk result (order.new.items ≡ order.old.items ++ positions_of events.now a) }
+    ensures behind { IfOk result (IsBehind events.now a) }
     ensures memory { OnErr result GrowthRefused }
 {
-    for at in a..last + 1 {
-        if owner_of(events, owners, at) == a {
-            reserve(order, 1)?;
-            order.push_reserved(at);
-        }
+    let mut at = a;
+    while at < events.len() && owner_of(events, owners, at) == a {
+        reserve(order, 1)?;
+        order.push_reserved(at);
+        at = following[at];
     }
-    Ok(())
+    Ok(at)
 }
 
 /// Lists the transactions of the events one after another, each time the least one that is ready.
@@ -132,17 +113,22 @@ fn list_all(alloc: Global, events: &[Event]) -> Result<Vec<usize>, CertFault>
     ensures fault { IfErr result (IsOrderFault events.now) }
 {
     let owners = owners_of(alloc, events)?;
-    let lasts = lasts_of(alloc, events, &owners)?;
+    let mut threads = Threads::new(alloc, events)?;
     let mut links = links_of(alloc, events, &owners)?;
     let mut listed = filled(alloc, false, events.len())?;
-    let mut order = Vec::new(alloc);
-    let mut first = 0;
+    let mut order = with_capacity(alloc, events.len())?;
     'rounds: loop {
-        match next_ready(events, &owners, &listed, &mut links, first) {
+        match next_ready(events, &listed, &mut links, &threads.fronts) {
             Next::Ready(a) => {
                 listed[a] = true;
-                append_positions(events, &owners, a, lasts[a], &mut order)?;
-                first = first_left(events, &owners, &listed, first);
+                let thread = events[a].thread.0 as usize;
+                threads.fronts[thread] = append_positions(
+                    events,
+                    &owners,
+                    &threads.following,
+                    a,
+                    &mut order,
+                )?;
             }
             Next::Stuck => return Err(CertFault::HasCycle),
             Next::Done => return Ok(order),

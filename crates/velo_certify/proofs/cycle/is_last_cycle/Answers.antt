@@ -1,4 +1,4 @@
-use Rattle.std.proofs.Common.{◌≡◌, sym, ap, subst, ◌∙◌, arith}
+use Rattle.std.proofs.Common.{◌∙◌, arith}
 use Rattle.velo_certify.proofs.OnCycles.{IsLinked-cycle}
 use Rattle.velo_certify.proofs.cycle.is_last_cycle.Goals as goal
 

@@ -1,4 +1,4 @@
-use Rattle.std.proofs.Common.{◌≡◌, ◌++◌, ◌∷◌, [], length, sym, ap, subst, ◌∙◌, arith}
+use Rattle.std.proofs.Common.{◌++◌, ◌∷◌, [], length, sym, ap, subst, ◌∙◌, arith}
 use Rattle.velo_certify.specs.Cycle.{WalksBack}
 use Rattle.velo_certify.specs.Table.{AllNameRows}
 use Rattle.velo_certify.proofs.OnCycles.{WalksBack-start, WalksBack-next, nearest-nearer, never_stops, IsShortestFrom-end}

@@ -1,4 +1,4 @@
-use Rattle.std.proofs.Common.{◌≡◌, ◌+◌, ◌<◌, ◌++◌, length, take, drop, sym, ap, subst, ◌∙◌, arith}
+use Rattle.std.proofs.Common.{◌+◌, ◌<◌, length, sym, subst, ◌∙◌, arith}
 use Rattle.velo_certify.specs.Distances.{AreDistances, HasLevels, FindsLevel, unreached}
 use Rattle.velo_certify.specs.Table.{AllNameRows}
 use Rattle.velo_certify.proofs.OnDistances.{HasLevels-next, AreDistances-end, whole_again}

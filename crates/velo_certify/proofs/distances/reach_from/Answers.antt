@@ -1,8 +1,6 @@
-use Rattle.std.proofs.Common.{◌≡◌, ℕ, ◌+◌, ◌<◌, sym, ap, subst, ◌∙◌, refl, arith, inl, inr}
+use Rattle.std.proofs.Common.{◌+◌, sym, ap, subst, ◌∙◌, arith, inl, inr}
 use Rattle.std.specs.Prelude.{slice_index, slice_set}
-use Rattle.velo_events.specs.Block.{owner}
 use Rattle.velo_certify.specs.Distances.{on_level, FindsLevelFrom}
-use Rattle.velo_certify.specs.Table.{HasNumbers, IsGreatestAfter}
 use Rattle.velo_certify.proofs.OnDistances.{level-same, FindsLevelFrom-stays, FindsLevelFrom-found, unreached-set}
 use Rattle.velo_certify.proofs.distances.reach_from.Goals as goal
 use Rattle.velo_certify.proofs.distances.reach_from.Goals.{then-far-transaction, else-far-transaction}

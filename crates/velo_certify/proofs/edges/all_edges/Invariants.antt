@@ -1,4 +1,4 @@
-use Rattle.std.proofs.Common.{◌≡◌, ◌≤◌, length}
+use Rattle.std.proofs.Common.{◌≤◌, length}
 use Rattle.std.specs.Prelude.{vec_capacity}
 use Rattle.velo_certify.specs.Table.{AllNameRows, sizes}
 use Rattle.velo_certify.specs.Edges.{AreEdgesSoFar}

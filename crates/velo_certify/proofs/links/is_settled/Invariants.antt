@@ -1,6 +1,4 @@
 use Rattle.std.proofs.Common.{◌≤◌, ℕ, List, length}
-use Rattle.std.specs.Prelude.{slice_index}
-use Rattle.velo_certify.specs.Chains.{IsChain}
 use Rattle.velo_certify.specs.Links.{IsLeft, list_of}
 use Rattle.velo_certify.proofs.links.is_settled.Given as goal
 

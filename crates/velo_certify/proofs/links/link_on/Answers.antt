@@ -1,4 +1,3 @@
-use Rattle.std.proofs.lemmas.Bool.{not-true}
 use Rattle.std.proofs.Common.{refl, sym, ◌∙◌}
 use Rattle.std.proofs.lemmas.Result.{on_ok_weaker}
 use Rattle.velo_certify.specs.Links.{counted_back}

@@ -1,4 +1,4 @@
-use Rattle.std.proofs.Common.{sym, subst, ◌∙◌, arith, refl, length}
+use Rattle.std.proofs.Common.{sym, subst, arith, length}
 use Rattle.velo_certify.specs.Links.{counted, counted_back}
 use Rattle.velo_certify.specs.Table.{AllNameRows, numbers_before}
 use Rattle.velo_certify.proofs.OnDistances.{HasNumbers-start}

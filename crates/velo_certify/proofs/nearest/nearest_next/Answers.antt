@@ -1,4 +1,4 @@
-use Rattle.std.proofs.Common.{◌≡◌, ◌+◌, sym, subst, ◌∙◌}
+use Rattle.std.proofs.Common.{◌+◌, sym, subst, ◌∙◌}
 use Rattle.std.proofs.lemmas.Bool.{both_ways}
 use Rattle.velo_certify.specs.Nearest.{IsNearestSoFar, IsWithNext}
 use Rattle.velo_certify.proofs.OnNearest.{IsNearestSoFar-none, IsNearestSoFar-next}

@@ -1,5 +1,4 @@
-use Rattle.std.proofs.Common.{◌≡◌, ◌<◌, length}
-use Rattle.std.specs.Prelude.{IfSome}
+use Rattle.std.proofs.Common.{◌≡◌}
 use Rattle.velo_certify.specs.Table.{HasNumbers, numbers_before, sizes}
 use Rattle.velo_certify.specs.Nearest.{own_positions, IsNearestSoFar}
 use Rattle.velo_certify.proofs.nearest.nearest_next.Given as goal

@@ -1,7 +1,7 @@
-use Rattle.std.proofs.Common.{◌≡◌, ◌<◌, length, sym, subst, ap, ◌∙◌, arith}
+use Rattle.std.proofs.Common.{◌≡◌, ◌<◌, length, sym, subst, ◌∙◌, arith}
 use Rattle.std.specs.Prelude.{slice_index}
 use Rattle.std.proofs.lemmas.List.{get_or_default}
-use Rattle.velo_certify.specs.Order.{HasEachOnce, IsFilled}
+use Rattle.velo_certify.specs.Order.{HasEachOnce}
 use Rattle.velo_certify.proofs.OnOrders.{fails-beyond, fails-twice}
 use Rattle.velo_certify.proofs.order.fill_places.Goals as goal
 

@@ -1,4 +1,4 @@
-use Rattle.std.proofs.Common.{sym, ◌∙◌, arith}
+use Rattle.std.proofs.Common.{arith}
 use Rattle.velo_certify.proofs.OnOrders.{StandSoFar-goes_on, StandSoFar-begins, fails-split}
 use Rattle.velo_certify.proofs.order.goes_on_or_begins.Goals as goal
 use Rattle.velo_certify.proofs.order.goes_on_or_begins.Goals.{then-k-gt0+else-owners-order, else-k-gt0}

@@ -4,7 +4,7 @@ use Rattle.velo_events.specs.Reordering.{IsReordering, IsSerial}
 use Rattle.velo_certify.specs.Owners.{AreOwners}
 use Rattle.std.proofs.lemmas.Bool.{false≢true}
 use Rattle.velo_certify.specs.Order.{AreTogether}
-use Rattle.velo_certify.proofs.OnOrders.{IfOk-map, serial-answer, owners-small, ArePlaces-within, KeepsConflicts-places}
+use Rattle.velo_certify.proofs.OnOrders.{IfOk-map, serial-answer, owners-small, KeepsConflicts-places}
 use Rattle.velo_certify.proofs.order.is_serial.Goals as goal
 
 pub returns-then-not-branch-clause-serial : goal.returns-then-not-branch-clause-serial

@@ -1,4 +1,4 @@
-use Rattle.std.proofs.Common.{◌≡◌, ℕ, ◌<◌, length}
+use Rattle.std.proofs.Common.{ℕ, ◌<◌, length}
 use Rattle.std.specs.Prelude.{slice_index, IsTrue}
 use Rattle.velo_events.specs.Graph.{conflict_at}
 use Rattle.velo_certify.specs.Table.{HasNumbers, numbers_before, AllNameRows, sizes}

@@ -1,4 +1,4 @@
-use Rattle.std.proofs.Common.{◌≡◌, ◌<◌, length, sym, subst, ap, ◌∙◌, arith}
+use Rattle.std.proofs.Common.{◌≡◌, ◌<◌, length, sym, subst, ap, ◌∙◌}
 use Rattle.std.specs.Prelude.{ℕ, slice_index}
 use Rattle.std.proofs.lemmas.List.{length-replicate}
 use Rattle.velo_certify.specs.Order.{HasEachOnce, ArePlaces}

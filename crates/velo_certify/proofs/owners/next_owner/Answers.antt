@@ -1,7 +1,6 @@
 use Rattle.std.proofs.Common.{sym, arith}
 use Rattle.velo_events.proofs.OnScans.{owner-scanned_outside, owner-scanned_inside}
 use Rattle.velo_traces.proofs.Past.{past}
-use Rattle.velo_certify.specs.Owners.{no_scan, event_at}
 use Rattle.velo_certify.proofs.OnOwners.{AreScanned-next}
 use Rattle.velo_certify.proofs.owners.next_owner.Goals as goal
 

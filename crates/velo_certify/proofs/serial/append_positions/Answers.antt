@@ -1,28 +1,46 @@
-use Rattle.std.proofs.Common.{◌≡◌, ◌+◌, ◌++◌, ◌∷◌, [], sym, ap, ◌∙◌, append_assoc, arith}
+use Rattle.std.proofs.Common.{◌≡◌, ◌++◌, ◌∷◌, [], sym, ap, ◌∙◌, append_assoc, arith, rules}
+use Rattle.std.specs.Prelude.{slice_index}
 use Rattle.std.proofs.lemmas.List.{append-nil}
-use Rattle.velo_certify.proofs.OnSerial.{positions_below, below-own, below-other, below-first, below-last}
+use Rattle.velo_events.specs.Block.{owner}
+use Rattle.velo_certify.proofs.OnSerial.{positions_below, below-own, below-first}
+use Rattle.velo_certify.proofs.OnThreads.{Follows-start, Follows-next, below-next, Follows-end, below-end}
 use Rattle.velo_certify.proofs.serial.append_positions.Goals as goal
-use Rattle.velo_certify.proofs.serial.append_positions.Goals.{then-owner_of-a+in_ok-reserve, else-owner_of-a}
 
 pub loop-at-init : goal.loop-at-init
-loop-at-init c = sym (ap (λ xs. c.args.order.now.items ++ xs) (below-first c.args.events.now c.args.a) ∙ append-nil c.args.order.now.items)
+loop-at-init c = record {
+  follows = Follows-start c.args.events.now c.args.a c.requires.transaction.within;
+  items = sym (ap (λ xs. c.args.order.now.items ++ xs) (below-first c.args.events.now c.args.a) ∙ append-nil c.args.order.now.items);
+}
 
 pub loop-at-preserved : goal.loop-at-preserved
 loop-at-preserved c =
-    let trace = c.args.events.now in let a = c.args.a in let n = c.loop-at.at in let old = c.args.order.now.items in
-    elim c.if-owner_of-a.branch [
-      | then-owner_of-a+in_ok-reserve w ↦
-          ap (λ v. v.items) w.order-is
-          ∙ (w.push_reserved.ensures.items ∙ (ap (λ xs. xs ++ n ∷ []) (w.reserve.ensures.items ∙ c.loop-at.invariant)
-          ∙ (append_assoc old (positions_below trace a n) (n ∷ []) ∙ ap (λ xs. old ++ xs) (sym (below-own trace a n (sym c.owner_of.ensures.owner ∙ w.if-owner_of-a.true))))))
-      | else-owner_of-a w ↦
-          ap (λ v. v.items) w.order-is
-          ∙ (c.loop-at.invariant ∙ ap (λ xs. old ++ xs) (sym (below-other trace a n (λ own. w.if-owner_of-a.false (c.owner_of.ensures.owner ∙ own)))))
-    ]
+    let trace = c.args.events.now in let a = c.args.a in let n = c.loop-at.at in let old = c.args.order.now.items in let k = slice_index c.args.following.now n in
+    let own : owner trace n ≡ a = sym c.owner_of.ensures.owner ∙ c.if-owner_of-a.true in
+    let next = c.requires.following.each n (omega arith) c.loop-at-test.true in
+    let w = c.loop-at.invariant.follows in
+    record {
+      follows = Follows-next trace a n k c.requires.transaction w c.loop-at-test.true own next;
+      items = c.push_reserved.ensures.items ∙ (ap (λ xs. xs ++ n ∷ []) (c.reserve.ensures.items ∙ c.loop-at.invariant.items)
+          ∙ (append_assoc old (positions_below trace a n) (n ∷ [])
+          ∙ ap (λ xs. old ++ xs) (sym (below-own trace a n own) ∙ sym (below-next trace a n k c.requires.transaction w c.loop-at-test.true own next))));
+    }
 
-pub returns-clause-ok : goal.returns-clause-ok
-returns-clause-ok c =
-    let trace = c.args.events.now in let a = c.args.a in
-    let at_end : c.loop-at.at ≡ c.args.last + 1 = omega (arith, c.loop-at-test.false, c.requires.first) in
-    c.loop-at.invariant
-    ∙ ap (λ xs. c.args.order.now.items ++ xs) (ap (positions_below trace a) at_end ∙ below-last trace a (c.args.last + 1) (omega (arith, c.requires.within)) (λ i l own. let most = c.requires.last i l own in omega (arith, most)))
+pub returns-else-owner_of-a : goal.returns-else-owner_of-a
+returns-else-owner_of-a c =
+    let trace = c.args.events.now in let a = c.args.a in let n = c.loop-at.at in
+    let w = c.loop-at.invariant.follows in
+    record {
+      ok = c.loop-at.invariant.items ∙ ap (λ xs. c.args.order.now.items ++ xs) (below-end trace a n n c.requires.transaction w (λ _ own. c.if-owner_of-a.false (c.owner_of.ensures.owner ∙ own)));
+      behind = Follows-end trace a n n c.requires.transaction w (λ _ own. c.if-owner_of-a.false (c.owner_of.ensures.owner ∙ own));
+      memory = search rules;
+    }
+
+pub returns-after-loop-at : goal.returns-after-loop-at
+returns-after-loop-at c =
+    let trace = c.args.events.now in let a = c.args.a in let n = c.loop-at.at in
+    let w = c.loop-at.invariant.follows in
+    record {
+      ok = c.loop-at.invariant.items ∙ ap (λ xs. c.args.order.now.items ++ xs) (below-end trace a n n c.requires.transaction w (λ l. absurd (omega (arith, l, c.loop-at-test.false))));
+      behind = Follows-end trace a n n c.requires.transaction w (λ l. absurd (omega (arith, l, c.loop-at-test.false)));
+      memory = search rules;
+    }

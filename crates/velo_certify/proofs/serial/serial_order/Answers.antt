@@ -1,5 +1,5 @@
-use Rattle.std.proofs.Common.{subst, Result, Ok, Err}
-use Rattle.std.specs.Prelude.{IfOk, OnOk}
+use Rattle.std.proofs.Common.{subst}
+use Rattle.std.specs.Prelude.{IfOk}
 use Rattle.velo_events.specs.Certificate.{IsSerialOrder}
 use Rattle.velo_events.specs.Graph.{HasCycle}
 use Rattle.velo_events.proofs.OnSerializing.{IsSerial-no_cycle}

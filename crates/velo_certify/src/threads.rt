@@ -1,0 +1,40 @@
+//! The events of each thread in their order, and how far each thread's are listed.
+ghost use Rattle.std.specs.Prelude.{◌≡◌, ◌<◌, ◌+◌, length, IfOk, OnErr};
+ghost use Rattle.velo_events.specs.Refusals.{GrowthRefused};
+ghost use Rattle.velo_certify.specs.Threads.{AreFirstFrom, AreFollowing, NamesFronts};
+
+use crate::counts::counts_of;
+use std::alloc::Global;
+use velo_events::growth::filled;
+use velo_events::{Event, Memory};
+
+/// Each place that is not there is the number of positions.
+#[derive(Drop)]
+pub(crate) struct Threads {
+    /// For each thread its first position that is not listed.
+    pub fronts: Vec<usize>,
+    /// For each position the next one of its thread.
+    pub following: Vec<usize>,
+}
+
+impl Threads {
+    /// The threads of the events, where none is listed.
+    pub fn new(alloc: Global, events: &[Event]) -> Result<Threads, Memory>
+        ensures names { IfOk result (λ threads. NamesFronts events.now threads.fronts.items) }
+        ensures fronts { IfOk result (λ threads. AreFirstFrom events.now 0 threads.fronts.items) }
+        ensures following { IfOk result (λ threads. AreFollowing events.now 0 threads.following.items) }
+        ensures memory { OnErr result GrowthRefused }
+    {
+        let count = counts_of(events).threads;
+        let mut fronts = filled(alloc, events.len(), count)?;
+        let mut following = filled(alloc, events.len(), events.len())?;
+        let mut at = events.len();
+        while at > 0 {
+            at -= 1;
+            let thread = events[at].thread.0 as usize;
+            following[at] = fronts[thread];
+            fronts[thread] = at;
+        }
+        Ok(Threads { fronts, following })
+    }
+}
