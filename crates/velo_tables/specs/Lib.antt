@@ -7,3 +7,4 @@ pub mod Recorded
 pub mod Last
 pub mod Clocks
 pub mod Noted
+pub mod Reads

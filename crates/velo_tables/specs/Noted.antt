@@ -32,10 +32,6 @@ alones (clock ∷ clocks) (t ∷ ts) = alone_at clock t.0 ∷ alones clocks ts
 abbrev pub joint_at : Clock → List ℕ → ℕ → Clock
 joint_at old clock t = record { known = maxima old.known clock; foreign = slice_set (maxima old.foreign clock) t (slice_index_or old.foreign t 0) }
 
--- what others than each thread know of it, where all events of a place are of one thread: all but its own number
-abbrev pub foreign_in : Bool → ℕ → List ℕ → List ℕ → List ℕ
-foreign_in shared by known foreign = if shared then foreign else slice_set known by 0
-
 -- with room for the numbers of n threads
 abbrev pub with_room : ℕ → Clock → Clock
 with_room n c = record { known = filled_up 0 n c.known; foreign = filled_up 0 n c.foreign }
