@@ -1,10 +1,9 @@
 -- Places whose events are all of one thread.
-use Rattle.std.proofs.Common.{◌≡◌, ℕ, ◌-◌, ◌<◌, Bool, true, false, List, [], ◌∷◌, ◌++◌, zero, suc, length, get_or, max, refl, sym, ap, ◌∙◌, arith}
+use Rattle.std.proofs.Common.{◌≡◌, ℕ, ◌-◌, ◌<◌, List, [], ◌∷◌, ◌++◌, zero, suc, length, get_or, max, refl, sym, ap, ◌∙◌}
 use Rattle.std.specs.Prelude.{replicate}
 use Rattle.std.proofs.Math.ListN.{set}
 use Rattle.std.proofs.lemmas.List.{get_or-set_same, length-set}
 use Rattle.velo_tables.specs.Readers.{filled_up}
-use Rattle.velo_tables.proofs.OnReaders.{length-filled_up}
 use Rattle.velo_tables.specs.Noted.{maxima, alone_at, with_room}
 use Rattle.velo_tables.specs.Clocks.{Clock}
 

@@ -1,5 +1,5 @@
 -- Facts of each place, by number.
-use Rattle.std.proofs.Common.{◌≡◌, ℕ, ◌<◌, List, length, get_or, sym, subst, ⊎_elim}
+use Rattle.std.proofs.Common.{ℕ, ◌<◌, List, length, get_or, sym, subst, ⊎_elim}
 use Rattle.std.proofs.Math.ListN.{set}
 use Rattle.std.proofs.lemmas.Bool.{cases_eq}
 use Rattle.std.proofs.lemmas.List.{get_or-set_same, get_or-set_other}

@@ -9,10 +9,10 @@ use Rattle.velo_tables.specs.declared.read_clocks.ReadBy.{ReadBy}
 use Rattle.velo_tables.specs.declared.read_clocks.ReadBy.TheVariants.{Nobody, One, Several}
 use Rattle.velo_tables.specs.Readers.{filled_up}
 use Rattle.velo_tables.proofs.OnReaders.{get_or-filled_up, length-filled_up}
-use Rattle.velo_tables.proofs.OnKept.{from_either, OnOk-weaker, OnErr-weaker}
+use Rattle.velo_tables.proofs.OnKept.{from_either, OnOk-weaker}
 use Rattle.velo_tables.specs.Clocks.{Clock, blank_clock}
 use Rattle.velo_tables.specs.NumberLists.{with_list}
-use Rattle.velo_tables.specs.Noted.{alone_at, maxima, joint_at, HasRoomAt, AreWithin, KeepNumbers}
+use Rattle.velo_tables.specs.Noted.{maxima, joint_at, HasRoomAt, AreWithin, KeepNumbers}
 use Rattle.velo_tables.specs.Reads.{read_clock, reads_of, AreReads}
 use Rattle.velo_tables.proofs.OnRaised.{length-raised}
 use Rattle.velo_tables.proofs.OnAlone.{alone-again, set-again}

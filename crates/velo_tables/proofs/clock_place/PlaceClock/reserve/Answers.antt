@@ -1,4 +1,4 @@
-use Rattle.std.proofs.Common.{◌≡◌, ap, ◌∙◌}
+use Rattle.std.proofs.Common.{ap, ◌∙◌}
 use Rattle.velo_tables.specs.Readers.{filled_up}
 use Rattle.velo_tables.specs.Noted.{with_room}
 use Rattle.velo_tables.proofs.OnAlone.{alone-roomy}

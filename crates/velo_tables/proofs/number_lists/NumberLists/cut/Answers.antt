@@ -1,5 +1,4 @@
-use Rattle.std.proofs.Common.{◌≡◌, arith}
-use Rattle.velo_tables.proofs.OnNumberLists.{laid-cut, lists-cut, same_count}
+use Rattle.velo_tables.proofs.OnNumberLists.{laid-cut, lists-cut}
 use Rattle.velo_tables.proofs.number_lists.NumberLists.cut.Goals as goal
 
 pub invariant_of-self : goal.invariant_of-self

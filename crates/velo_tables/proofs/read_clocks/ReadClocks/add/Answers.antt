@@ -1,4 +1,4 @@
-use Rattle.std.proofs.Common.{refl, length, arith}
+use Rattle.std.proofs.Common.{refl, arith}
 use Rattle.std.specs.Prelude.{slice_set}
 use Rattle.velo_tables.specs.declared.read_clocks.ReadBy.TheVariants.{Nobody, One, Several}
 use Rattle.velo_tables.proofs.OnReadClocks.{add-there, add-there_foreign, add-there_by, add-long, add-foreign, add-several, read_by-is, nobody-are, nobody-reads, same-are, same-reads, several-are, several-reads, cut-there, cut-long, copied-there, copied-long, other-are, other-reads}

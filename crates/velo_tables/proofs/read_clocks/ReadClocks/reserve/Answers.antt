@@ -1,6 +1,6 @@
-use Rattle.std.proofs.Common.{◌<◌, length, sym, subst, arith}
+use Rattle.std.proofs.Common.{◌<◌, sym, subst, arith}
 use Rattle.velo_tables.specs.Noted.{HasRoomAt, AreWithin, KeepNumbers}
-use Rattle.velo_tables.specs.Reads.{reads_of, AreReads}
+use Rattle.velo_tables.specs.Reads.{reads_of}
 use Rattle.velo_tables.proofs.OnKept.{OnErr-from, OnErr-weaker}
 use Rattle.velo_tables.proofs.OnReadClocks.{no-read_room, no-foreign_room, refused-are, refused-keep, refused-within, read-are, read-keep, read-within, read-room}
 use Rattle.velo_tables.proofs.read_clocks.ReadClocks.reserve.Goals as goal
