@@ -15,6 +15,7 @@ pub mod OnRaised
 pub mod OnClockRoom
 pub mod OnAlone
 pub mod OnNoted
+pub mod OnReadClocks
 pub mod OnAdvance
 pub mod OnBlankClocks
 pub mod OnThreads

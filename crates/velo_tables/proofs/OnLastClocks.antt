@@ -15,7 +15,7 @@ use Rattle.velo_tables.proofs.OnNumberLists.{length-with_list, number-with_list,
 
 -- ---- one place
 
-zeroed : (xs : List ℕ) (t : ℕ) → get_or (set xs t 0) t 0 ≡ 0
+pub zeroed : (xs : List ℕ) (t : ℕ) → get_or (set xs t 0) t 0 ≡ 0
 zeroed xs t = ⊎_elim (λ l. get_or-set_same xs t 0 0 l) (λ past. get_or_past (set xs t 0) t 0 (omega (arith, past, length-set xs t 0))) (cases_lt t (length xs))
 
 -- lists with the same numbers have them still where the same one is taken away
@@ -135,7 +135,7 @@ module _ (ks : List (List ℕ)) (bs : List ThreadId) (all : length ks ≤ length
 
         pub reserve-within : AreWithin n (alones new more_by)
         reserve-within = from_either r _ _ (AreWithin n (alones new more_by)) ok err
-            (λ e. subst (λ xs. AreWithin n (alones xs more_by)) (sym e) (stay (with_list n i ks) still-with (λ j. within-with_list ks i n j short-before)))
+            (λ e. subst (λ xs. AreWithin n (alones xs more_by)) (sym e) (stay (with_list n i ks) still-with (λ j. within-with_list ks i n j (short-before j))))
             (λ e. subst (λ xs. AreWithin n (alones xs more_by)) (sym e) by-within)
 
         pub reserve-room : OnOk r (HasRoomAt n (alones new more_by) i)

@@ -319,11 +319,76 @@ module _ (lists : List (List ℕ)) (i n : ℕ) where
       (cases_eq i j)
 
   -- and no list is longer than that
-  pub within-with_list : (j : ℕ) → ((k : ℕ) → length (get_or lists k []) ≤ n) → length (get_or (with_list n i lists) j []) ≤ n
-  within-with_list j all = ⊎_elim
-      (λ at. subst (λ k. length (get_or (with_list n i lists) k []) ≤ n) at (omega (arith, ap length with_list-here, length-filled_up 0 n (get_or lists i []), all i)))
-      (λ off. subst (λ (xs : List ℕ). length xs ≤ n) (sym (with_list-other j off)) (all j))
+  pub within-with_list : (j : ℕ) → length (get_or lists j []) ≤ n → length (get_or (with_list n i lists) j []) ≤ n
+  within-with_list j few = ⊎_elim
+      (λ at. subst (λ k. length (get_or (with_list n i lists) k []) ≤ n) at (omega (arith, ap length with_list-here, length-filled_up 0 n (get_or lists i []), subst (λ k. length (get_or lists k []) ≤ n) (sym at) few)))
+      (λ off. subst (λ (xs : List ℕ). length xs ≤ n) (sym (with_list-other j off)) few)
+      (cases_eq i j)
+
+  -- nor shorter than it was
+  pub longer-with_list : (j : ℕ) → length (get_or lists j []) ≤ length (get_or (with_list n i lists) j [])
+  longer-with_list j = ⊎_elim
+      (λ at. subst (λ k. length (get_or lists k []) ≤ length (get_or (with_list n i lists) k [])) at (omega (arith, ap length with_list-here, length-filled_up 0 n (get_or lists i []))))
+      (λ off. omega (arith, ap length (with_list-other j off)))
       (cases_eq i j)
 
   pub long-with_list : length (get_or lists i []) ≤ n → length (get_or (with_list n i lists) i []) ≡ n
   long-with_list within = omega (arith, ap length with_list-here, length-filled_up 0 n (get_or lists i []), within)
+
+-- ---- a list is cut
+
+module _ (numbers : List ℕ) (spans : List Span) (lists : List (List ℕ)) (laid : AreLaidOut numbers spans) (view : map (list_in numbers) spans ≡ lists) (i count : ℕ) (span : Span) (there : i < length lists) (at : span ≡ get_or spans i span)
+    (within : count ≤ length (get_or lists i [])) where
+  abbrev short_span : Span
+  short_span = record { start = span.start; count = count }
+
+  there_span : i < length spans
+  there_span = omega (arith, there, same_count numbers spans lists laid view)
+
+  span_is : span ≡ get_or spans i blank_span
+  span_is = at ∙ get_or_default spans i span blank_span there_span
+
+  fewer : count ≤ span.count
+  fewer = omega (arith, within, count-is numbers spans lists laid view i, ap (λ (s : Span). s.count) span_is)
+
+  cut-here : get_or (set spans i short_span) i blank_span ≡ short_span
+  cut-here = get_or-set_same spans i short_span blank_span there_span
+
+  cut-other : (j : ℕ) → ¬ (i ≡ j) → get_or (set spans i short_span) j blank_span ≡ get_or spans j blank_span
+  cut-other j off = get_or-set_other spans i j short_span blank_span (λ e. off (sym e))
+
+  cut-start : (j : ℕ) → (get_or (set spans i short_span) j blank_span).start ≡ (get_or spans j blank_span).start
+  cut-start j = ⊎_elim
+      (λ same. subst (λ k. (get_or (set spans i short_span) k blank_span).start ≡ (get_or spans k blank_span).start) same (ap (λ (s : Span). s.start) (cut-here ) ∙ ap (λ (s : Span). s.start) span_is))
+      (λ off. ap (λ (s : Span). s.start) (cut-other j off)) (cases_eq i j)
+
+  cut-count : (j : ℕ) → (get_or (set spans i short_span) j blank_span).count ≤ (get_or spans j blank_span).count
+  cut-count j = ⊎_elim
+      (λ same. subst (λ k. (get_or (set spans i short_span) k blank_span).count ≤ (get_or spans k blank_span).count) same (omega (arith, ap (λ (s : Span). s.count) cut-here, ap (λ (s : Span). s.count) span_is, fewer)))
+      (λ off. omega (arith, ap (λ (s : Span). s.count) (cut-other j off))) (cases_eq i j)
+
+  pub laid-cut : AreLaidOut numbers (set spans i short_span)
+  laid-cut = record {
+    within = λ j. omega (arith, laid.within j, cut-start j, cut-count j);
+    apart = λ j k off. ⊎_elim (λ before. inl (omega (arith, before, cut-start j, cut-start k, cut-count j))) (λ behind. inr (omega (arith, behind, cut-start j, cut-start k, cut-count k))) (laid.apart j k off);
+  }
+
+  cut-list : list_in numbers short_span ≡ take count (get_or lists i [])
+  cut-list = sym (ap (take count) (list-is numbers spans lists laid view i ∙ ap (list_in numbers) (sym span_is)) ∙ take-take count span.count (drop span.start numbers) fewer)
+
+  pub lists-cut : map (list_in numbers) (set spans i short_span) ≡ set lists i (take count (get_or lists i []))
+  lists-cut = ext_get_or [] (map (list_in numbers) (set spans i short_span)) (set lists i (take count (get_or lists i [])))
+      (omega (arith, length-map (set spans i short_span) (list_in numbers), length-set spans i short_span, length-set lists i (take count (get_or lists i [])), same_count numbers spans lists laid view))
+      (λ j l. get_or-lists numbers (set spans i short_span) j ∙ ⊎_elim
+      (λ same. subst (λ k. list_in numbers (get_or (set spans i short_span) k blank_span) ≡ get_or (set lists i (take count (get_or lists i []))) k []) same
+      (ap (list_in numbers) cut-here ∙ (cut-list ∙ sym (get_or-set_same lists i (take count (get_or lists i [])) [] there))))
+      (λ off. ap (list_in numbers) (cut-other j off) ∙ (sym (list-is numbers spans lists laid view j) ∙ sym (get_or-set_other lists i j (take count (get_or lists i [])) [] (λ e. off (sym e)))))
+      (cases_eq i j))
+
+-- of lists that are no longer than others, neither are the new ones
+pub both-with_list : (xs ys : List (List ℕ)) (i n j : ℕ) → ((k : ℕ) → length (get_or xs k []) ≤ length (get_or ys k [])) → length (get_or (with_list n i xs) j []) ≤ length (get_or (with_list n i ys) j [])
+both-with_list xs ys i n j shorter = ⊎_elim
+    (λ at. subst (λ k. length (get_or (with_list n i xs) k []) ≤ length (get_or (with_list n i ys) k [])) at
+    (omega (arith, shorter i, ap length (with_list-here xs i n), ap length (with_list-here ys i n), length-filled_up 0 n (get_or xs i []), length-filled_up 0 n (get_or ys i []))))
+    (λ off. omega (arith, shorter j, ap length (with_list-other xs i n j off), ap length (with_list-other ys i n j off)))
+    (cases_eq i j)

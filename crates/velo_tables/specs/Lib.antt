@@ -8,3 +8,4 @@ pub mod Recorded
 pub mod Last
 pub mod Clocks
 pub mod Noted
+pub mod Reads

@@ -1,5 +1,5 @@
 -- What the clocks have after an event was noted, list by list. Private contracts cite these words: public ones say it place by place.
-use Rattle.std.specs.Prelude.{◌≡◌, ℕ, ◌+◌, ◌<◌, ◌≤◌, max, Bool, List, [], ◌∷◌, length, slice_index_or, slice_set, if◌then◌else◌, ⊤}
+use Rattle.std.specs.Prelude.{◌≡◌, ℕ, ◌+◌, ◌<◌, ◌≤◌, max, List, [], ◌∷◌, length, slice_index_or, slice_set, ⊤}
 use Rattle.velo_events.specs.declared.event.Event.{Event}
 use Rattle.velo_events.specs.declared.event.ThreadId.{ThreadId}
 use Rattle.velo_events.specs.declared.event.Kind.{Kind}
@@ -31,10 +31,6 @@ alones (clock ∷ clocks) (t ∷ ts) = alone_at clock t.0 ∷ alones clocks ts
 -- it stands there beside the others
 abbrev pub joint_at : Clock → List ℕ → ℕ → Clock
 joint_at old clock t = record { known = maxima old.known clock; foreign = slice_set (maxima old.foreign clock) t (slice_index_or old.foreign t 0) }
-
--- what others than each thread know of it, where all events of a place are of one thread: all but its own number
-abbrev pub foreign_in : Bool → ℕ → List ℕ → List ℕ → List ℕ
-foreign_in shared by known foreign = if shared then foreign else slice_set known by 0
 
 -- with room for the numbers of n threads
 abbrev pub with_room : ℕ → Clock → Clock

@@ -2,7 +2,7 @@ ghost use Rattle.velo_events.specs.Refusals.{GrowthRefused};
 ghost use Rattle.std.specs.Prelude.{◌≡◌, ◌<◌, ◌≤◌, ◌+◌, ◌^◌, length, slice_index_or, slice_set, vec_capacity, OnOk, OnErr};
 ghost use Rattle.velo_tables.specs.Readers.{filled_up};
 ghost use Rattle.velo_tables.specs.Clocks.{blank_clock};
-ghost use Rattle.velo_tables.specs.Noted.{maxima, alone_at, joint_at, with_room};
+ghost use Rattle.velo_tables.specs.Noted.{maxima, alone_at, with_room};
 
 use crate::numbers::{number_of, raise};
 use std::alloc::Global;
@@ -10,29 +10,21 @@ use std::marker::Model;
 use velo_events::growth::reserve;
 use velo_events::{Memory, ThreadId};
 
-/// What the events of one place know of each thread, and what those of other threads than this one know of it. The lists
-/// are empty until the first event.
+/// What the last event of a thread knows of each thread. The list is empty until there is room for it.
 #[derive(Debug, Drop)]
 pub(crate) struct PlaceClock {
     known: Vec<u32>,
-    /// It counts only where events of several threads stand here. Where all are of one, what others know of a thread is
-    /// what is known of it, but nothing of the one itself.
-    foreign: Vec<u32>,
-    shared: bool,
-    /// The one thread.
+    /// The thread of the event. What others know is what is known, but nothing of this thread itself.
     by: ThreadId,
 }
 
 impl Model for PlaceClock {
     ghost use Rattle.velo_tables.specs.Clocks.{Clock};
-    ghost use Rattle.std.specs.Prelude.{◌≡◌, length};
-    ghost use Rattle.velo_tables.specs.Noted.{foreign_in};
+    ghost use Rattle.velo_tables.specs.Noted.{alone_at};
 
     ghost Value = { Clock };
 
-    ghost view = { λ p. record { known = p.known.items; foreign = foreign_in p.shared p.by.0 p.known.items p.foreign.items } };
-
-    ghost invariant = { λ p. length p.foreign.items ≡ length p.known.items };
+    ghost view = { λ p. alone_at p.known.items p.by.0 };
 }
 
 /// Fills the list up with zeros.
@@ -63,36 +55,12 @@ fn reserve_up(numbers: &mut Vec<u32>, count: usize) -> Result<(), Memory>
     Ok(())
 }
 
-/// Copies the numbers, but that of one thread.
-fn copy_but(copy: &mut [u32], numbers: &[u32], by: ThreadId)
-    requires { length copy.old ≡ length numbers.now }
-    ensures { copy.new ≡ slice_set numbers.now by.0 0 }
-{
-    copy.copy_from_slice(numbers);
-    if (by.0 as usize) < copy.len() {
-        copy[by.0 as usize] = 0;
-    }
-}
-
-/// Raises each number but that of one thread to that of the other list.
-fn raise_but(numbers: &mut [u32], others: &[u32], by: ThreadId)
-    requires others { length others.now ≤ length numbers.old }
-    requires by { by.0 < length numbers.old }
-    ensures { numbers.new ≡ slice_set (maxima numbers.old others.now) by.0 (slice_index_or numbers.old by.0 0) }
-{
-    let own = numbers[by.0 as usize];
-    raise(numbers, others);
-    numbers[by.0 as usize] = own;
-}
-
 impl PlaceClock {
     pub fn new(alloc: Global) -> PlaceClock
         ensures { result ≡ blank_clock }
     {
         PlaceClock {
             known: Vec::new(alloc),
-            foreign: Vec::new(alloc),
-            shared: false,
             by: ThreadId(0),
         }
     }
@@ -101,13 +69,11 @@ impl PlaceClock {
     pub fn reserve(&mut self, threads: usize) -> Result<(), Memory>
         ensures ok { OnOk result (self.new ≡ with_room threads self.old) }
         ensures err { OnErr result (self.new ≡ self.old) }
-        ensures refused { OnErr result (threads ≤ length self.old.known → length self.old.foreign < threads) }
+        ensures refused { OnErr result (length self.old.known < threads) }
         ensures memory { OnErr result GrowthRefused }
     {
         reserve_up(&mut self.known, threads)?;
-        reserve_up(&mut self.foreign, threads)?;
         fill_up(&mut self.known, threads);
-        fill_up(&mut self.foreign, threads);
         Ok(())
     }
 
@@ -115,9 +81,7 @@ impl PlaceClock {
     pub fn foreign(&self, t: ThreadId) -> u32
         ensures { result ≡ slice_index_or self.now.foreign t.0 0 }
     {
-        if self.shared {
-            number_of(&self.foreign, t)
-        } else if self.by == t {
+        if self.by == t {
             0
         } else {
             number_of(&self.known, t)
@@ -145,7 +109,6 @@ impl PlaceClock {
         ensures { self.new ≡ alone_at (maxima self.old.known others.now) by.0 }
     {
         raise(&mut self.known, others);
-        self.shared = false;
         self.by = by;
     }
 
@@ -153,7 +116,6 @@ impl PlaceClock {
     pub fn stand_alone(&mut self, by: ThreadId)
         ensures { self.new ≡ alone_at self.old.known by.0 }
     {
-        self.shared = false;
         self.by = by;
     }
 
@@ -163,7 +125,6 @@ impl PlaceClock {
         ensures { self.new ≡ alone_at (slice_set self.old.known by.0 number) by.0 }
     {
         self.known[by.0 as usize] = number;
-        self.shared = false;
         self.by = by;
     }
 
@@ -183,27 +144,6 @@ impl PlaceClock {
         ensures { self.new ≡ alone_at clock.now by.0 }
     {
         self.known.copy_from_slice(clock);
-        self.shared = false;
         self.by = by;
-    }
-
-    /// An event of the thread stands here too.
-    pub fn add(&mut self, clock: &[u32], by: ThreadId)
-        requires known { length self.old.known ≡ length clock.now }
-        requires foreign { length self.old.foreign ≡ length clock.now }
-        requires by { by.0 < length clock.now }
-        ensures { self.new ≡ joint_at self.old clock.now by.0 }
-    {
-        if self.shared {
-            raise_but(&mut self.foreign, clock, by);
-            raise(&mut self.known, clock);
-        } else if self.by.0 == by.0 {
-            raise(&mut self.known, clock);
-        } else {
-            copy_but(&mut self.foreign, &self.known, self.by);
-            raise_but(&mut self.foreign, clock, by);
-            raise(&mut self.known, clock);
-            self.shared = true;
-        }
     }
 }

@@ -7,9 +7,10 @@ ghost use Rattle.velo_tables.specs.Noted.{maxima, alone_at, joint_at, with_room,
 
 use crate::clock_place::PlaceClock;
 use crate::last_clocks::LastClocks;
+use crate::read_clocks::ReadClocks;
 use std::alloc::Global;
 use std::marker::Model;
-use velo_events::growth::{reserve, with_capacity};
+use velo_events::growth::with_capacity;
 use velo_events::{Event, Kind, Memory, ThreadId};
 
 /// What is known at the places of a run, by number.
@@ -17,7 +18,7 @@ use velo_events::{Event, Kind, Memory, ThreadId};
 pub(crate) struct PlaceClocks {
     threads: Vec<PlaceClock>,
     writes: LastClocks,
-    reads: Vec<PlaceClock>,
+    reads: ReadClocks,
     locks: LastClocks,
 }
 
@@ -26,7 +27,7 @@ impl Model for PlaceClocks {
 
     ghost Value = { ClockState };
 
-    ghost view = { λ s. record { threads = s.threads.items; writes = s.writes; reads = s.reads.items; locks = s.locks } };
+    ghost view = { λ s. record { threads = s.threads.items; writes = s.writes; reads = s.reads; locks = s.locks } };
 }
 
 /// The places of that many threads, with room for what their events know.
@@ -43,52 +44,6 @@ fn blank_threads(alloc: Global, threads: usize) -> Result<Vec<PlaceClock>, Memor
     Ok(places)
 }
 
-/// Makes room for the place with this number.
-fn grow(places: &mut Vec<PlaceClock>, number: usize) -> Result<(), Memory>
-    requires { number < 2 ^ 32 }
-    ensures ok { OnOk result (places.new.items ≡ filled_up blank_clock (number + 1) places.old.items) }
-    ensures err { OnErr result (places.new.items ≡ places.old.items) }
-    ensures refused { OnErr result (length places.old.items ≤ number) }
-    ensures memory { OnErr result GrowthRefused }
-{
-    if number < places.len() {
-        return Ok(());
-    }
-    let missing = number + 1 - places.len();
-    reserve(places, missing)?;
-    let alloc = *places.allocator();
-    for _ in 0..missing {
-        places.push_reserved(PlaceClock::new(alloc));
-    }
-    Ok(())
-}
-
-/// Makes room for the numbers of so many threads at the place.
-fn grow_place(places: &mut Vec<PlaceClock>, number: usize, threads: usize) -> Result<(), Memory>
-    requires { number < length places.old.items }
-    ensures ok { OnOk result (places.new.items ≡ slice_set places.old.items number (with_room threads (slice_index_or places.old.items number blank_clock))) }
-    ensures err { OnErr result (places.new.items ≡ places.old.items) }
-    ensures refused { OnErr result (¬ HasRoomAt threads places.old.items number) }
-    ensures memory { OnErr result GrowthRefused }
-{
-    let place = &mut places[number];
-    place.reserve(threads)
-}
-
-/// Makes room for an event of one of so many threads at the place with this number.
-fn make_room(places: &mut Vec<PlaceClock>, number: usize, threads: usize) -> Result<(), Memory>
-    requires fits { number < 2 ^ 32 }
-    requires within { AreWithin threads places.old.items }
-    ensures same { KeepNumbers places.old.items places.new.items }
-    ensures within { AreWithin threads places.new.items }
-    ensures ok { OnOk result (HasRoomAt threads places.new.items number) }
-    ensures refused { OnErr result (0 < threads → ¬ HasRoomAt threads places.old.items number) }
-    ensures memory { OnErr result GrowthRefused }
-{
-    grow(places, number)?;
-    grow_place(places, number, threads)
-}
-
 /// What the events of other threads than this one, at the place with this number, know of it.
 fn foreign_at(places: &[PlaceClock], number: usize, t: ThreadId) -> u32
     ensures { result ≡ slice_index_or (slice_index_or places.now number blank_clock).foreign t.0 0 }
@@ -97,17 +52,6 @@ fn foreign_at(places: &[PlaceClock], number: usize, t: ThreadId) -> u32
         places[number].foreign(t)
     } else {
         0
-    }
-}
-
-/// What the events of the place with this number know.
-fn known_at(places: &[PlaceClock], number: usize) -> &[u32]
-    ensures { result.now ≡ (slice_index_or places.now number blank_clock).known }
-{
-    if number < places.len() {
-        places[number].known()
-    } else {
-        &[]
     }
 }
 
@@ -129,16 +73,6 @@ fn replace_place(places: &mut [PlaceClock], number: usize, clock: &[u32], by: Th
 {
     let place = &mut places[number];
     place.replace(clock, by);
-}
-
-/// An event of the thread stands at the place with this number too.
-fn add_place(places: &mut [PlaceClock], number: usize, clock: &[u32], by: ThreadId)
-    requires room { HasRoomAt (length clock.now) places.old number }
-    requires by { by.0 < length clock.now }
-    ensures { places.new ≡ slice_set places.old number (joint_at (slice_index_or places.old number blank_clock) clock.now by.0) }
-{
-    let place = &mut places[number];
-    place.add(clock, by);
 }
 
 /// The thread knows this too.
@@ -206,7 +140,7 @@ impl PlaceClocks {
         Ok(PlaceClocks {
             threads: blanks,
             writes: LastClocks::new(alloc),
-            reads: Vec::new(alloc),
+            reads: ReadClocks::new(alloc),
             locks: LastClocks::new(alloc),
         })
     }
@@ -221,7 +155,7 @@ impl PlaceClocks {
         ensures memory { OnErr result GrowthRefused }
     {
         match event.kind {
-            Kind::Read(x, _) => make_room(&mut self.reads, x.0 as usize, threads),
+            Kind::Read(x, _) => self.reads.reserve(x.0 as usize, threads),
             Kind::Write(x, _) => self.writes.reserve(x.0 as usize, threads),
             Kind::Acquire(m) | Kind::Release(m) => self.locks.reserve(m.0 as usize, threads),
             _ => Ok(()),
@@ -261,7 +195,7 @@ impl PlaceClocks {
             Kind::Read(x, _) => raise_thread(&mut self.threads, t, self.writes.known(x.0 as usize)),
             Kind::Write(x, _) => {
                 let write = self.writes.known(x.0 as usize);
-                let reads = known_at(&self.reads, x.0 as usize);
+                let reads = self.reads.known(x.0 as usize);
                 raise_by_both(&mut self.threads, t, write, reads)
             }
             Kind::Acquire(m) | Kind::Release(m) => {
@@ -281,7 +215,7 @@ impl PlaceClocks {
         let by = event.thread;
         let clock = self.threads[by.0 as usize].known();
         match event.kind {
-            Kind::Read(x, _) => add_place(&mut self.reads, x.0 as usize, clock, by),
+            Kind::Read(x, _) => self.reads.add(x.0 as usize, clock, by),
             Kind::Write(x, _) => self.writes.replace(x.0 as usize, clock, by),
             Kind::Acquire(m) | Kind::Release(m) => self.locks.replace(m.0 as usize, clock, by),
             Kind::Fork(u) => copy_thread(&mut self.threads, by, u, list),
@@ -298,7 +232,7 @@ impl PlaceClocks {
             Kind::Read(x, _) => self.writes.foreign(x.0 as usize, t) as usize,
             Kind::Write(x, _) => {
                 let writes = self.writes.foreign(x.0 as usize, t);
-                let reads = foreign_at(&self.reads, x.0 as usize, t);
+                let reads = self.reads.foreign(x.0 as usize, t);
                 writes.max(reads) as usize
             }
             Kind::Acquire(m) | Kind::Release(m) => self.locks.foreign(m.0 as usize, t) as usize,

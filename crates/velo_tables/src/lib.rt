@@ -10,6 +10,7 @@ mod filling;
 mod last_clocks;
 mod number_lists;
 mod numbers;
+mod read_clocks;
 mod tables;
 mod variable;
 

@@ -1,14 +1,14 @@
 ghost use Rattle.velo_events.specs.Refusals.{GrowthRefused};
-ghost use Rattle.std.specs.Prelude.{◌≡◌, ◌<◌, ◌≤◌, ◌+◌, ◌^◌, ◌++◌, [], length, slice_index_or, slice_set, vec_len, vec_capacity, IsTrue, ◌↔◌, OnOk, OnErr};
+ghost use Rattle.std.specs.Prelude.{◌≡◌, ◌<◌, ◌≤◌, ◌+◌, ◌^◌, ◌++◌, [], length, take, slice_index_or, slice_set, vec_len, vec_capacity, IsTrue, ◌↔◌, OnOk, OnErr};
 ghost use Rattle.velo_tables.specs.Readers.{filled_up};
 ghost use Rattle.velo_tables.specs.NumberLists.{list_in, with_list, blank_span};
 ghost use Rattle.velo_tables.specs.Noted.{maxima};
 
 use crate::filling::fill_up_to;
-use crate::numbers::raise;
+use crate::numbers::{copy_but, raise, raise_but};
 use std::alloc::Global;
 use std::marker::Model;
-use velo_events::Memory;
+use velo_events::{Memory, ThreadId};
 use velo_events::growth::reserve;
 
 /// Where a list stands among the numbers of all.
@@ -131,5 +131,35 @@ impl NumberLists {
     {
         let span = self.spans[number];
         raise(&mut self.numbers[span.start..span.start + span.count], list);
+    }
+
+    /// Writes another list over that of the place, but nothing for one thread.
+    pub fn copy_but(&mut self, number: usize, list: &[u32], by: ThreadId)
+        requires there { number < length self.old }
+        requires same { length (slice_index_or self.old number []) ≡ length list.now }
+        ensures { self.new ≡ slice_set self.old number (slice_set list.now by.0 0) }
+    {
+        let span = self.spans[number];
+        copy_but(&mut self.numbers[span.start..span.start + span.count], list, by);
+    }
+
+    /// Raises each number of the place but that of one thread to that of the other list.
+    pub fn raise_but(&mut self, number: usize, list: &[u32], by: ThreadId)
+        requires there { number < length self.old }
+        requires within { length list.now ≤ length (slice_index_or self.old number []) }
+        requires by { by.0 < length (slice_index_or self.old number []) }
+        ensures { self.new ≡ slice_set self.old number (slice_set (maxima (slice_index_or self.old number []) list.now) by.0 (slice_index_or (slice_index_or self.old number []) by.0 0)) }
+    {
+        let span = self.spans[number];
+        raise_but(&mut self.numbers[span.start..span.start + span.count], list, by);
+    }
+
+    /// Cuts the list of the place to so many numbers.
+    pub fn cut(&mut self, number: usize, count: usize)
+        requires there { number < length self.old }
+        requires within { count ≤ length (slice_index_or self.old number []) }
+        ensures { self.new ≡ slice_set self.old number (take count (slice_index_or self.old number [])) }
+    {
+        self.spans[number].count = count;
     }
 }

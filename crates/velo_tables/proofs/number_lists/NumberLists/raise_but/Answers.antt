@@ -1,0 +1,20 @@
+use Rattle.std.proofs.Common.{[], get_or, length, ap, ◌∙◌}
+use Rattle.std.proofs.Math.ListN.{set}
+use Rattle.std.proofs.lemmas.List.{with_items_is, length-set}
+use Rattle.velo_tables.specs.Noted.{maxima}
+use Rattle.velo_tables.proofs.OnRaised.{length-raised}
+use Rattle.velo_tables.proofs.OnNumberLists.{part-is, length-put, lists-put}
+use Rattle.velo_tables.proofs.number_lists.NumberLists.raise_but.Goals as goal
+
+pub returns : goal.returns
+returns c =
+    let inside = c.self.inside in
+    let span = c.index-span.result.now in
+    let now = c.deref_mut.result.now in
+    let part = part-is inside.numbers.items inside.spans.items c.args.self.now c.self.invariant c.self.view_is c.args.number span now c.requires.there c.index-span.ensures c.deref_mut.ensures.value in
+    let raised = c.raise_but.ensures ∙ ap (λ xs. set (maxima xs c.args.list.now) c.args.by.0 (get_or xs c.args.by.0 0)) part in
+    let long = ap length raised ∙ (length-set (maxima (get_or c.args.self.now c.args.number []) c.args.list.now) c.args.by.0 _ ∙ length-raised (get_or c.args.self.now c.args.number []) c.args.list.now) in
+    let whole = length-put inside.numbers.items inside.spans.items c.args.self.now c.self.invariant c.self.view_is c.args.number span now c.requires.there c.index-span.ensures c.deref_mut.ensures.value c.raise_but.new.numbers long in
+    lists-put inside.numbers.items inside.spans.items c.args.self.now c.self.invariant c.self.view_is c.args.number span now c.requires.there c.index-span.ensures c.deref_mut.ensures.value c.raise_but.new.numbers long _
+    (with_items_is inside.numbers _ (whole ∙ c.deref_mut.ensures.len))
+    ∙ ap (set c.args.self.now c.args.number) raised
