@@ -359,7 +359,7 @@ module _ (numbers : List ℕ) (spans : List Span) (lists : List (List ℕ)) (lai
 
   cut-start : (j : ℕ) → (get_or (set spans i short_span) j blank_span).start ≡ (get_or spans j blank_span).start
   cut-start j = ⊎_elim
-      (λ same. subst (λ k. (get_or (set spans i short_span) k blank_span).start ≡ (get_or spans k blank_span).start) same (ap (λ (s : Span). s.start) (cut-here ) ∙ ap (λ (s : Span). s.start) span_is))
+      (λ same. subst (λ k. (get_or (set spans i short_span) k blank_span).start ≡ (get_or spans k blank_span).start) same (ap (λ (s : Span). s.start) (cut-here) ∙ ap (λ (s : Span). s.start) span_is))
       (λ off. ap (λ (s : Span). s.start) (cut-other j off)) (cases_eq i j)
 
   cut-count : (j : ℕ) → (get_or (set spans i short_span) j blank_span).count ≤ (get_or spans j blank_span).count

@@ -8,8 +8,8 @@ use crate::filling::fill_up_to;
 use crate::numbers::{copy_but, raise, raise_but};
 use std::alloc::Global;
 use std::marker::Model;
-use velo_events::{Memory, ThreadId};
 use velo_events::growth::reserve;
+use velo_events::{Memory, ThreadId};
 
 /// Where a list stands among the numbers of all.
 #[derive(Clone, Copy, Debug)]
@@ -140,7 +140,11 @@ impl NumberLists {
         ensures { self.new ≡ slice_set self.old number (slice_set list.now by.0 0) }
     {
         let span = self.spans[number];
-        copy_but(&mut self.numbers[span.start..span.start + span.count], list, by);
+        copy_but(
+            &mut self.numbers[span.start..span.start + span.count],
+            list,
+            by,
+        );
     }
 
     /// Raises each number of the place but that of one thread to that of the other list.
@@ -151,7 +155,11 @@ impl NumberLists {
         ensures { self.new ≡ slice_set self.old number (slice_set (maxima (slice_index_or self.old number []) list.now) by.0 (slice_index_or (slice_index_or self.old number []) by.0 0)) }
     {
         let span = self.spans[number];
-        raise_but(&mut self.numbers[span.start..span.start + span.count], list, by);
+        raise_but(
+            &mut self.numbers[span.start..span.start + span.count],
+            list,
+            by,
+        );
     }
 
     /// Cuts the list of the place to so many numbers.
