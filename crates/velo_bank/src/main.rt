@@ -37,8 +37,9 @@ fn day<R: Threads + Wait + Sync>(
     Ok((savings, current, bank.close(alloc)?))
 }
 
-/// Prints the report of a run.
-fn print(rt: &HostRuntime, closed: &Closed) -> anyhow::Result<()> {
+/// Prints the balances, and the report of the run.
+fn print(rt: &HostRuntime, savings: u64, current: u64, closed: &Closed) -> anyhow::Result<()> {
+    println!(rt; "savings {savings} current {current}")?;
     let threads = names(rt.alloc(), &["main", "alice", "bob"])?;
     let labels = names(rt.alloc(), &["transfer", "deposit"])?;
     let names = Names::Words {
@@ -49,11 +50,15 @@ fn print(rt: &HostRuntime, closed: &Closed) -> anyhow::Result<()> {
     Ok(())
 }
 
+/// Shows what a day came to.
+fn show(rt: &HostRuntime, ended: (u64, u64, Closed)) -> anyhow::Result<()> {
+    let (savings, current, closed) = ended;
+    print(rt, savings, current, &closed)
+}
+
 fn main(rt: HostRuntime) -> anyhow::Result<()> {
     for is_locked in [true, false] {
-        let (savings, current, closed) = day(&rt, rt.alloc(), is_locked)?;
-        println!(rt; "savings {savings} current {current}")?;
-        print(&rt, &closed)?;
+        show(&rt, day(&rt, rt.alloc(), is_locked)?)?;
     }
     Ok(())
 }
