@@ -44,9 +44,7 @@ pub fn replay_file<F: Files, O: Sink>(
         Err(fault) => return Fate::Schedule(fault),
     };
     match open_workload(alloc, options.run.file, files) {
-        Ok(workload) => {
-            replay_workload(alloc, &workload, &schedule, &options.run, files, out)
-        }
+        Ok(workload) => { replay_workload(alloc, &workload, &schedule, &options.run, files, out) }
         Err(fate) => fate,
     }
 }

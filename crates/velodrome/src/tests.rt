@@ -528,7 +528,10 @@ fn help_goes_to_standard_output(rt: HostRuntime) {
         );
         let mut full = Text::new(rt.alloc()).failing_after(9);
         let mut err = Text::new(rt.alloc());
-        assert_eq!(rt; run(&rt, rt.alloc(), words, &mut folder, &mut full, &mut err), 5);
+        assert_eq!(rt;
+            run(&rt, rt.alloc(), words, &mut folder, &mut full, &mut err),
+            5
+        );
         assert_eq!(rt; err.as_slice(), b"write failed\n".as_slice());
     }
 }

@@ -51,7 +51,13 @@ pub fn config_of_run(workload: &Workload, options: &RunOptions) -> Result<Config
     ensures bounds { IfOk result (λ config. config.bounds ≡ workload.now.bounds) }
 {
     let limits = options.limits;
-    match Config::new(0, workload.bounds(), limits.events, limits.nodes, options.stop) {
+    match Config::new(
+        0,
+        workload.bounds(),
+        limits.events,
+        limits.nodes,
+        options.stop,
+    ) {
         Ok(config) => Ok(config),
         // No text means such a workload.
         Err(_) => Err(Fate::Work(WorkFault::BadLine(0))),

@@ -31,9 +31,9 @@ struct Sleepy<'a, R: Clock> {
 
 impl<R: Clock> Gate for Sleepy<'_, R> {
     fn pass(&self, thread: ThreadId, step: u64) -> bool {
-        let dice = (self.seed ^ (step << 8) ^ u64::from(thread.0))
-            .wrapping_mul(0x9e37_79b9_7f4a_7c15)
-            >> 60;
+        let dice = (self.seed ^ (step << 8) ^ u64::from(thread.0)).wrapping_mul(
+            0x9e37_79b9_7f4a_7c15,
+        ) >> 60;
         if dice >= 8 {
             thread::sleep(self.rt, Duration::from_micros(dice * 10));
         }
