@@ -1,16 +1,17 @@
 /* Refuses one growth of a program: the Nth call of malloc or realloc that it makes, counted from 1, where the environment
-   says REFUSE=N. At the end the number of calls is written to the descriptor that REFUSE_COUNT names.
+   says REFUSE=N. When it does so, it writes one byte to the descriptor that REFUSED names.
    Built and loaded by sweep.py. */
 #define _GNU_SOURCE
 #include <dlfcn.h>
 #include <stdatomic.h>
-#include <stdio.h>
 #include <stdlib.h>
+#include <unistd.h>
 
 static void *(*next_malloc)(size_t);
 static void *(*next_realloc)(void *, size_t);
 static atomic_long calls;
 static long refused = -1;
+static int descriptor = -1;
 static int started;
 
 static void find_next(void) {
@@ -20,14 +21,19 @@ static void find_next(void) {
 
 __attribute__((constructor)) static void start(void) {
   const char *number = getenv("REFUSE");
+  const char *name = getenv("REFUSED");
   if (number)
     refused = atol(number);
+  if (name)
+    descriptor = atoi(name);
   find_next();
   started = 1;
 }
 
 static int is_refused(void) {
-  return started && atomic_fetch_add(&calls, 1) + 1 == refused;
+  if (!started || atomic_fetch_add(&calls, 1) + 1 != refused)
+    return 0;
+  return write(descriptor, "r", 1) == 1;
 }
 
 void *malloc(size_t size) {
@@ -40,10 +46,4 @@ void *realloc(void *old, size_t size) {
   if (!next_realloc)
     find_next();
   return is_refused() ? NULL : next_realloc(old, size);
-}
-
-__attribute__((destructor)) static void tell(void) {
-  const char *descriptor = getenv("REFUSE_COUNT");
-  if (descriptor)
-    dprintf(atoi(descriptor), "%ld\n", atomic_load(&calls));
 }

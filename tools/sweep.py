@@ -23,16 +23,16 @@ def build_shim(folder):
 
 
 def run(shim, command, number):
-    """The status, both outputs, and how many growths were asked for (None where the run did not live to tell)."""
+    """The status, both outputs, and whether a growth was refused."""
     reader, writer = os.pipe()
-    environment = dict(os.environ, LD_PRELOAD=shim, REFUSE=str(number), REFUSE_COUNT=str(writer))
+    environment = dict(os.environ, LD_PRELOAD=shim, REFUSE=str(number), REFUSED=str(writer))
     with subprocess.Popen(command, env=environment, stdin=subprocess.DEVNULL, stdout=subprocess.PIPE,
                           stderr=subprocess.PIPE, pass_fds=(writer,)) as child:
         os.close(writer)
         out, err = child.communicate(timeout=120)
-    count = os.read(reader, 100).decode()
+    told = os.read(reader, 1)
     os.close(reader)
-    return child.returncode, out, err, int(count) if count else None
+    return child.returncode, out, err, told != b""
 
 
 def kind_of(got, plain, is_test):
@@ -52,14 +52,14 @@ def sweep(shim, command, is_test):
     while True:
         number += 1
         got = run(shim, command, number)
+        if not got[3]:
+            break
         kind = kind_of(got, plain, is_test)
         kinds[kind] = kinds.get(kind, 0) + 1
         if kind == "OTHER":
             print(f"growth {number}: status {got[0]}, {len(got[1])} bytes out, {got[2][:80]!r}")
-        if got[3] is not None and got[3] < number:
-            break
-    print(f"{number} runs: {kinds}; without a refusal status {plain[0]}, {plain[3]} growths")
-    return "OTHER" not in kinds
+    print(f"{number - 1} growths refused: {kinds}; without a refusal status {plain[0]}")
+    return "OTHER" not in kinds and kind_of(got, plain, is_test) != "OTHER"
 
 
 def main():

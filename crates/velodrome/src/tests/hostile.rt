@@ -210,6 +210,14 @@ const LOGS: [&str; 3] = [
     "vlog 1 2 1 1\n0 fork 1\n0 begin 1\n0 begin 2\n1 begin 3\n0 wr 0 7\n1 rd 0 7\n0 end\n1 acq 0\n1 rel 0\n1 end\n0 end\n1 wr 0 2\n0 rd 0 2\n0 exit\n",
 ];
 
+/// What a run told: its report, or the line of its fault.
+fn told(shown: &Shown) -> &[u8] {
+    match shown.status {
+        0 | 3 => shown.out.as_slice(),
+        _ => shown.err.as_slice(),
+    }
+}
+
 #[test]
 fn spoiled_logs(rt: HostRuntime) -> Result<(), Fail> {
     let mut dice = Dice::new(20);
@@ -219,11 +227,7 @@ fn spoiled_logs(rt: HostRuntime) -> Result<(), Fail> {
         let words = ["velodrome", "check", "a.log"];
         let shown = show(&rt, &words, &mut devices, usize::MAX);
         let answer = slow_answer(rt.alloc(), &log)?;
-        let told = match shown.status {
-            0 | 3 => &shown.out,
-            _ => &shown.err,
-        };
-        assert!(rt; told.as_slice().starts_with(answer.as_bytes()), "{answer}");
+        assert!(rt; told(&shown).starts_with(answer.as_bytes()), "{answer}");
     }
     Ok(())
 }
