@@ -1,5 +1,6 @@
 //! The program over logs and devices in memory.
 mod chance;
+mod hostile;
 mod slow;
 mod workloads;
 
@@ -767,7 +768,7 @@ fn reports_are_those_of_the_definitions(rt: HostRuntime) -> Result<(), Fail> {
         let mut sink = Text::new(rt.alloc());
         let answer = check_run(rt.alloc(), &mut source, &mut sink, 48, 1024, false);
         assert!(rt; answer.is_ok());
-        let lines = first_lines(rt.alloc(), trace)?;
+        let lines = first_lines(rt.alloc(), trace, BOUNDS.threads)?;
         assert!(rt; sink.as_slice().starts_with(lines.as_bytes()), "{lines}");
     }
     Ok(())

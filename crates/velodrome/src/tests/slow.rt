@@ -64,22 +64,49 @@ fn action_by(dice: u64) -> Action {
     ACTIONS[(dice % 32) as usize]
 }
 
+/// Throws by chance, each sequence by its seed: a linear congruential generator of D. E. Knuth's (MMIX).
+#[derive(Drop)]
+pub struct Dice {
+    state: u64,
+}
+
+impl Dice {
+    pub fn new(seed: u64) -> Dice {
+        Dice { state: seed }
+    }
+
+    /// The high bits of the next state.
+    pub fn throw(&mut self) -> u64 {
+        self.state = self
+            .state
+            .wrapping_mul(6_364_136_223_846_793_005)
+            .wrapping_add(1_442_695_040_888_963_407);
+        self.state >> 33
+    }
+
+    /// A number below this one, or 0.
+    pub fn below(&mut self, count: usize) -> usize {
+        match (self.throw() as usize).checked_rem(count) {
+            Some(number) => number,
+            None => 0,
+        }
+    }
+}
+
 /// A world whose log came about by chance: of 48 actions those that were not refused.
 pub fn world_by_chance(alloc: Global, seed: u64) -> Result<World, Fail> {
     let config = config_of(BOUNDS, MOST_EVENTS, MOST_NODES);
     let Ok((mut world, mut shares)) = World::relive(alloc, config, Trace::new(alloc)) else {
         return Err("no world".into());
     };
-    let mut dice = seed;
+    let mut dice = Dice::new(seed);
     for i in 0..48u8 {
-        dice = dice
-            .wrapping_mul(6_364_136_223_846_793_005)
-            .wrapping_add(1_442_695_040_888_963_407);
-        let thread = if i < 2 { 0 } else { (dice >> 33) % 4 };
+        let throw = dice.throw();
+        let thread = if i < 2 { 0 } else { throw % 4 };
         let action = match i {
             0 => Action::Fork(ThreadId(1)),
             1 => Action::Fork(ThreadId(2)),
-            _ => action_by(dice >> 35),
+            _ => action_by(throw >> 2),
         };
         let _outcome = world.step(&mut shares, ThreadId(thread as u8), action);
     }
@@ -135,9 +162,9 @@ fn first_closing(alloc: Global, trace: &Trace) -> Result<Option<usize>, Memory> 
 }
 
 /// The first lines of the report of a trace, up to the transaction of an alarm.
-pub fn first_lines(alloc: Global, trace: &Trace) -> Result<String, Fail> {
+pub fn first_lines(alloc: Global, trace: &Trace, threads: u8) -> Result<String, Fail> {
     let mut text = format!(in alloc; "events {}\n", trace.len())?;
-    for t in 0..BOUNDS.threads {
+    for t in 0..threads {
         let mut count = 0usize;
         for event in trace.as_slice() {
             if event.thread == ThreadId(t) {

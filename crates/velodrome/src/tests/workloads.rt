@@ -4,7 +4,7 @@ use crate::tests::{Folder, show};
 use std::test::Fail;
 
 /// The lost update as a workload.
-const COLLIDING: &str =
+pub const COLLIDING: &str =
     "var x\nthread main\nfork a\nbegin inc\nread x\nadd 1\nwrite x\nend\njoin a\nthread a\nset 5\nwrite x\n";
 
 /// Two locks that are taken in opposite orders.

@@ -1,0 +1,254 @@
+//! Devices that fail at each byte, texts that are cut off at each byte, and texts that were spoiled by chance.
+ghost use Rattle.std.specs.Prelude.{◌≤◌};
+
+use crate::files::Files;
+use crate::program::run;
+use crate::tests::slow::{Dice, first_lines};
+use crate::tests::workloads::COLLIDING;
+use crate::tests::{LOST_UPDATE, Shown};
+use std::alloc::Global;
+use std::process::Abort;
+use std::sync::Wait;
+use std::test::Fail;
+use std::thread::Threads;
+use velo_logtext::{Bytes, LogFault, Text, read_log};
+use velo_traces::{Flaw, well_formed};
+
+/// One text for each path, and one file to be written, which both fail after so many bytes.
+#[derive(Drop)]
+struct Devices<'a> {
+    text: &'a [u8],
+    readable: usize,
+    writable: usize,
+    alloc: Global,
+    /// What was written to a file.
+    output: Text,
+}
+
+impl<'a> Devices<'a> {
+    fn new(alloc: Global, text: &'a [u8]) -> Devices<'a> {
+        Devices {
+            text,
+            readable: usize::MAX,
+            writable: usize::MAX,
+            alloc,
+            output: Text::new(alloc),
+        }
+    }
+}
+
+impl<'a> Files for Devices<'a> {
+    type Input = Bytes<'a>;
+
+    type StandardInput = Bytes<'a>;
+
+    type Output = Text;
+
+    fn open(&self, _path: &str) -> Option<Bytes<'a>> {
+        Some(self.standard_input())
+    }
+
+    fn standard_input(&self) -> Bytes<'a> {
+        Bytes::new(self.text).failing_after(self.readable)
+    }
+
+    fn create(&mut self, _path: &str) -> Option<&mut Text> {
+        self.output = Text::new(self.alloc).failing_after(self.writable);
+        Some(&mut self.output)
+    }
+}
+
+/// Runs the program on these words with a standard output that fails after so many bytes.
+fn show<R: Threads + Wait + Sync>(
+    rt: &R,
+    words: &[&str],
+    devices: &mut Devices,
+    room: usize,
+) -> Shown {
+    let alloc = devices.alloc;
+    let mut out = Text::new(alloc).failing_after(room);
+    let mut err = Text::new(alloc);
+    let status = run(rt, alloc, words, devices, &mut out, &mut err);
+    Shown { out, err, status }
+}
+
+/// Command lines with the text that they read, and their status.
+const COMMANDS: [(&[&str], &str, u8); 4] = [
+    (&["velodrome", "check", "a.log"], LOST_UPDATE, 3),
+    (
+        &["velodrome", "check", "-", "--certificate"],
+        LOST_UPDATE,
+        3,
+    ),
+    (
+        &["velodrome", "explain", "a.log", "--dot", "o.dot"],
+        LOST_UPDATE,
+        3,
+    ),
+    (
+        &[
+            "velodrome",
+            "replay",
+            "w",
+            "--schedule",
+            "0 0 0 1 0",
+            "--log",
+            "o.log",
+            "--certificate",
+        ],
+        COLLIDING,
+        3,
+    ),
+];
+
+#[test]
+fn reads_fail_at_each_byte(rt: HostRuntime) {
+    for (words, text, _) in COMMANDS {
+        for count in 0..=text.len() {
+            let mut devices = Devices::new(rt.alloc(), text.as_bytes());
+            devices.readable = count;
+            let shown = show(&rt, words, &mut devices, usize::MAX);
+            assert_eq!(rt; shown.out.as_slice(), b"".as_slice());
+            assert_eq!(rt; devices.output.as_slice(), b"".as_slice());
+            assert_eq!(rt; shown.err.as_slice(), b"read failed\n".as_slice());
+            assert_eq!(rt; shown.status, 5);
+        }
+    }
+}
+
+/// Compares what went out before a write failed with the beginning of what was to go out.
+fn compare_failed(rt: &impl Abort, written: &Text, whole: &Text, count: usize, shown: &Shown) {
+    assert_eq!(rt; Some(written.as_slice()), whole.as_slice().get(..count));
+    assert_eq!(rt; shown.err.as_slice(), b"write failed\n".as_slice());
+    assert_eq!(rt; shown.status, 5);
+}
+
+#[test]
+fn writes_fail_at_each_byte(rt: HostRuntime) {
+    for (words, text, status) in COMMANDS {
+        let mut devices = Devices::new(rt.alloc(), text.as_bytes());
+        let whole = show(&rt, words, &mut devices, usize::MAX);
+        assert_eq!(rt; whole.status, status);
+        for count in 0..whole.out.as_slice().len() {
+            let mut devices = Devices::new(rt.alloc(), text.as_bytes());
+            let shown = show(&rt, words, &mut devices, count);
+            compare_failed(&rt, &shown.out, &whole.out, count, &shown);
+        }
+        for count in 0..devices.output.as_slice().len() {
+            let mut failing = Devices::new(rt.alloc(), text.as_bytes());
+            failing.writable = count;
+            let shown = show(&rt, words, &mut failing, usize::MAX);
+            compare_failed(&rt, &failing.output, &devices.output, count, &shown);
+            assert_eq!(rt; shown.out.as_slice(), b"".as_slice());
+        }
+    }
+}
+
+/// Bytes that spoil a text in ways that matter.
+const BYTES: &[u8] = b"0123456789 \n\r\tabdefgijklnoqrtwx#_-\0\xff";
+
+/// Changes, leaves out or puts in one byte, or cuts the text off.
+fn spoil(text: &mut Vec<u8>, dice: &mut Dice) -> Result<(), Fail> {
+    let at = dice.below(text.len());
+    let byte = match BYTES.get(dice.below(BYTES.len())) {
+        Some(byte) => *byte,
+        None => b' ',
+    };
+    match dice.below(16) {
+        0 => text.truncate(at),
+        1..4 if at < text.len() => {
+            text.remove(at);
+        }
+        4..8 if at < text.len() => text.insert(at, byte)?,
+        _ => {
+            if let Some(place) = text.get_mut(at) {
+                *place = byte;
+            }
+        }
+    }
+    Ok(())
+}
+
+/// A text that was spoiled at up to four places.
+fn spoiled(alloc: Global, text: &str, dice: &mut Dice) -> Result<Vec<u8>, Fail> {
+    let mut bytes = Vec::new(alloc);
+    bytes.extend_from_slice(text.as_bytes())?;
+    for _ in 0..=dice.below(4) {
+        spoil(&mut bytes, dice)?;
+    }
+    Ok(bytes)
+}
+
+/// What the program says of a log that can't be read.
+fn words_of(alloc: Global, fault: LogFault) -> Result<String, Fail> {
+    match fault {
+        LogFault::BadLine(line) => Ok(format!(in alloc; "log fault 2 line {line}\n")?),
+        LogFault::Truncated(line) => Ok(format!(in alloc; "log fault 3 line {line}\n")?),
+        _ => Ok(String::from_str(alloc, "log fault 1\n")?),
+    }
+}
+
+/// What the program says first of a log, by the definitions in the slowest way: the beginning of its report or its fault.
+fn slow_answer(alloc: Global, log: &[u8]) -> Result<String, Fail> {
+    let (bounds, trace) = match read_log(alloc, &mut Bytes::new(log)) {
+        Ok(read) => read,
+        Err(fault) => return words_of(alloc, fault),
+    };
+    match well_formed(&trace, bounds) {
+        Ok(()) => first_lines(alloc, &trace, bounds.threads),
+        Err((at, Flaw::WrongValue)) => Ok(format!(in alloc; "wrong value at {at}\n")?),
+        Err((at, Flaw::Refused(refusal))) => {
+            Ok(format!(in alloc; "refused {} at {at}\n", refusal as u8)?)
+        }
+    }
+}
+
+/// Logs that are spoiled.
+const LOGS: [&str; 3] = [
+    LOST_UPDATE,
+    "vlog 1 3 2 2\n0 fork 1\n0 begin 1\n0 acq 0\n0 rd 0 0\n0 wr 0 1\n0 rel 0\n1 acq 0\n1 rd 0 1\n1 wr 1 4\n1 rel 0\n0 rd 1 4\n0 end\n1 exit\n0 join 1\n",
+    "vlog 1 2 1 1\n0 fork 1\n0 begin 1\n0 begin 2\n1 begin 3\n0 wr 0 7\n1 rd 0 7\n0 end\n1 acq 0\n1 rel 0\n1 end\n0 end\n1 wr 0 2\n0 rd 0 2\n0 exit\n",
+];
+
+/// What a run told: its report, or the line of its fault.
+fn told(shown: &Shown) -> &[u8] {
+    match shown.status {
+        0 | 3 => shown.out.as_slice(),
+        _ => shown.err.as_slice(),
+    }
+}
+
+#[test]
+fn spoiled_logs(rt: HostRuntime) -> Result<(), Fail> {
+    let mut dice = Dice::new(20);
+    for turn in 0..1000 {
+        let log = spoiled(rt.alloc(), LOGS[turn % 3], &mut dice)?;
+        let mut devices = Devices::new(rt.alloc(), &log);
+        let words = ["velodrome", "check", "a.log"];
+        let shown = show(&rt, &words, &mut devices, usize::MAX);
+        let answer = slow_answer(rt.alloc(), &log)?;
+        assert!(rt; told(&shown).starts_with(answer.as_bytes()), "{answer}");
+    }
+    Ok(())
+}
+
+#[test]
+fn spoiled_workloads(rt: HostRuntime) -> Result<(), Fail> {
+    let mut dice = Dice::new(21);
+    let replay = ["velodrome", "replay", "w", "--log", "o.log"];
+    let check = ["velodrome", "check", "o.log"];
+    for _ in 0..1000 {
+        let workload = spoiled(rt.alloc(), COLLIDING, &mut dice)?;
+        let mut devices = Devices::new(rt.alloc(), &workload);
+        let shown = show(&rt, &replay, &mut devices, usize::MAX);
+        if shown.status == 2 {
+            assert!(rt; shown.err.as_slice().starts_with(b"workload fault "));
+            continue;
+        }
+        let mut again = Devices::new(rt.alloc(), devices.output.as_slice());
+        let checked = show(&rt, &check, &mut again, usize::MAX);
+        assert!(rt; shown.status == checked.status || shown.status == 4);
+        assert!(rt; checked.status == 0 || checked.status == 3);
+    }
+    Ok(())
+}
