@@ -1,5 +1,3 @@
-mod refusals;
-
 ghost use Rattle.std.specs.Prelude.{IfOk};
 ghost use Rattle.velo_world.specs.World.{FitsLog, HoldsLiveShares};
 
