@@ -1,8 +1,7 @@
-#!/usr/bin/env python3
 """Runs a program again and again and refuses it one growth each time: the first, the second, and so on until it meets none.
 
-    tools/sweep.py crates/velodrome/out/velodrome check LOG
-    tools/sweep.py --test crates/velo_world/out/velo_world_tests tests::NAME
+    python3 tools/sweep.py crates/velodrome/out/velodrome check LOG
+    python3 tools/sweep.py --test crates/velo_world/out/velo_world_tests tests::NAME
 
 A run of the program has to end as the one without a refusal, or with status 5 and `out of memory` (for `run` also `seat lost`)
 on standard error and nothing on standard output. A test has to pass, or to say `out of memory`.
