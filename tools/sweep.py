@@ -1,10 +1,9 @@
 """Runs a program again and again and refuses it one growth each time: the first, the second, and so on until it meets none.
 
     python3 tools/sweep.py crates/velodrome/out/velodrome check LOG
-    python3 tools/sweep.py --test crates/velo_world/out/velo_world_tests tests::NAME
 
 A run of the program has to end as the one without a refusal, or with status 5 and `out of memory` (for `run` also `seat lost`)
-on standard error and nothing on standard output. A test has to pass, or to say `out of memory`.
+on standard error and nothing on standard output.
 """
 import os
 import subprocess
@@ -34,17 +33,15 @@ def run(shim, command, number):
     return child.returncode, out, err, told != b""
 
 
-def kind_of(got, plain, is_test):
-    if got[0] == plain[0] and (is_test or got[1:3] == plain[1:3]):
+def kind_of(got, plain):
+    if got[:3] == plain[:3]:
         return "as without"
-    if is_test:
-        return "out of memory" if b"out of memory" in got[1] + got[2] else "OTHER"
     if got[0] == 5 and got[1] == b"" and got[2] in (b"out of memory\n", b"seat lost\n"):
         return got[2].decode().strip()
     return "OTHER"
 
 
-def sweep(shim, command, is_test):
+def sweep(shim, command):
     plain = run(shim, command, 0)
     kinds = {}
     number = 0
@@ -53,22 +50,20 @@ def sweep(shim, command, is_test):
         got = run(shim, command, number)
         if not got[3]:
             break
-        kind = kind_of(got, plain, is_test)
+        kind = kind_of(got, plain)
         kinds[kind] = kinds.get(kind, 0) + 1
         if kind == "OTHER":
             print(f"growth {number}: status {got[0]}, {len(got[1])} bytes out, {got[2][:80]!r}")
     print(f"{number - 1} growths refused: {kinds}; without a refusal status {plain[0]}")
-    return "OTHER" not in kinds and kind_of(got, plain, is_test) != "OTHER"
+    return "OTHER" not in kinds and kind_of(got, plain) != "OTHER"
 
 
 def main():
-    words = sys.argv[1:]
-    is_test = words[:1] == ["--test"]
-    command = words[1:] if is_test else words
+    command = sys.argv[1:]
     if not command:
         sys.exit(__doc__)
     with tempfile.TemporaryDirectory() as folder:
-        sys.exit(0 if sweep(build_shim(folder), command, is_test) else 1)
+        sys.exit(0 if sweep(build_shim(folder), command) else 1)
 
 
 main()
