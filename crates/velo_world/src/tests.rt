@@ -1,9 +1,9 @@
-ghost use Rattle.std.specs.Prelude.{IfOk};
+ghost use Rattle.std.specs.Prelude.{◌≡◌, None, Some, replicate, slice_set};
 ghost use Rattle.velo_world.specs.World.{FitsLog, HoldsLiveShares};
 
 use crate::{Alarm, ReliveFault, Reply, World};
 use std::alloc::Global;
-use std::test::Fail;
+use std::process::Abort;
 use velo_events::{Action, Bounds, Config, Event, Kind, Label, LockId, Refusal, ThreadId, VarId};
 use velo_ledger::{Share, Shares};
 use velo_traces::{Block, Trace};
@@ -45,22 +45,27 @@ fn is_the_alarm(alarm: Option<&Alarm>) -> bool {
     })
 }
 
+/// So many places, with the share at its own.
+fn holding(rt: &impl Abort, alloc: Global, threads: u8, share: Share) -> Shares
+    ensures { result ≡ slice_set (replicate threads None) share.thread.0 (Some share) }
+{
+    let mut shares = Shares::none(alloc, threads).expect(rt, "memory");
+    assert!(rt; shares.put(share).is_ok());
+    shares
+}
+
 /// A world of so many threads, one variable and one lock, with thread 0's share at its place.
-fn opened(alloc: Global, threads: u8, nodes: u16, stop: bool) -> Result<(World, Shares), Fail>
-    ensures { IfOk result (λ opened. HoldsLiveShares opened.0 opened.1) }
+fn opened(rt: &impl Abort, alloc: Global, threads: u8, nodes: u16, stop: bool) -> (World, Shares)
+    ensures { HoldsLiveShares result.0 result.1 }
 {
     let bounds = Bounds {
         threads,
         variables: 1,
         locks: 1,
     };
-    let config = Config::new(1, bounds, 100, nodes, stop)?;
-    let (world, share) = World::new(alloc, config)?;
-    let mut shares = Shares::none(alloc, threads)?;
-    if shares.put(share).is_err() {
-        return Err("no place".into());
-    }
-    Ok((world, shares))
+    let config = Config::new(1, bounds, 100, nodes, stop).expect(rt, "a configuration");
+    let (world, share) = World::new(alloc, config).expect(rt, "memory");
+    (world, holding(rt, alloc, threads, share))
 }
 
 /// What became of a world in which steps were done.
@@ -72,16 +77,23 @@ struct Played {
     used: u16,
 }
 
-/// Does the steps in a world of two threads.
-fn play(alloc: Global, nodes: u16, stop: bool, steps: &[Step]) -> Result<Played, Fail> {
-    let (mut world, mut shares) = opened(alloc, 2, nodes, stop)?;
-    let outcomes = world.run(&mut shares, steps)?;
-    Ok(Played {
+/// What a world shows in which steps came to these outcomes.
+fn shown(world: &World, outcomes: Vec<Outcome>) -> Played {
+    Played {
         outcomes,
         is_the_alarm: is_the_alarm(world.alarm()),
         is_halted: world.is_halted(),
         used: world.monitor().used(),
-    })
+    }
+}
+
+/// Does the steps in a world of two threads.
+fn play(rt: &impl Abort, alloc: Global, nodes: u16, stop: bool, steps: &[Step]) -> Played {
+    let (mut world, mut shares) = opened(rt, alloc, 2, nodes, stop);
+    let outcomes = world.run(&mut shares, steps).expect(rt, "memory");
+    let played = shown(&world, outcomes);
+    drop((world, shares));
+    played
 }
 
 fn replied(position: usize, value: Option<u64>, alarmed: bool) -> Outcome {
@@ -97,39 +109,30 @@ fn done(position: usize) -> Outcome {
     replied(position, None, false)
 }
 
-/// 33 begins and 32 ends.
-fn nested_step(i: usize) -> Step {
-    if i < 33 {
-        (MAIN, Action::Begin(Label(0)))
-    } else {
-        (MAIN, Action::End)
-    }
-}
-
 /// The 33rd begin is one too deep.
-fn nested_outcome(i: usize) -> Outcome {
-    match i {
-        0..32 => done(i),
+fn nested_outcome(place: usize) -> Outcome {
+    match place {
+        0..32 => done(place),
         32 => Err(Refusal::TooDeep),
-        _ => done(i - 1),
+        _ => done(place - 1),
     }
 }
 
 #[test]
-fn blocks_nest_32_deep(rt: HostRuntime) -> Result<(), Fail> {
-    let mut steps = Vec::new(rt.alloc());
-    let mut wanted = Vec::new(rt.alloc());
-    for i in 0..65 {
-        steps.push(nested_step(i))?;
-        wanted.push(nested_outcome(i))?;
+fn blocks_nest_32_deep(rt: HostRuntime) {
+    let mut steps = [(MAIN, Action::End); 65];
+    for step in &mut steps[..33] {
+        step.1 = Action::Begin(Label(0));
     }
-    let played = play(rt.alloc(), 1, false, &steps)?;
-    assert_eq!(rt; played.outcomes.as_slice(), wanted.as_slice());
-    Ok(())
+    let played = play(&rt, rt.alloc(), 1, false, &steps);
+    assert_eq!(rt; played.outcomes.len(), 65);
+    for (place, outcome) in played.outcomes.iter().enumerate() {
+        assert_eq!(rt; *outcome, nested_outcome(place));
+    }
 }
 
 #[test]
-fn refused_at_the_third_step(rt: HostRuntime) -> Result<(), Fail> {
+fn refused_at_the_third_step(rt: HostRuntime) {
     for (thread, action, refusal) in [
         (OTHER, Action::Acquire(M), Refusal::Busy),
         (MAIN, Action::Acquire(M), Refusal::AlreadyHeld),
@@ -141,54 +144,48 @@ fn refused_at_the_third_step(rt: HostRuntime) -> Result<(), Fail> {
             (MAIN, Action::Acquire(M)),
             (thread, action),
         ];
-        let played = play(rt.alloc(), 1, false, &steps)?;
+        let played = play(&rt, rt.alloc(), 1, false, &steps);
         let wanted = [done(0), done(1), Err(refusal)];
         assert_eq!(rt; played.outcomes.as_slice(), wanted.as_slice());
     }
-    Ok(())
+}
+
+/// What comes of the step of the lost update at the place, where an alarm leaves the rest to this.
+fn lost_update_outcome(place: usize, rest: Outcome) -> Outcome {
+    match place {
+        2 => replied(2, Some(0), false),
+        0..4 => done(place),
+        4 => replied(4, None, true),
+        _ => rest,
+    }
 }
 
 #[test]
-fn an_alarm_stays_and_needs_no_node(rt: HostRuntime) -> Result<(), Fail> {
-    let played = play(rt.alloc(), 2, false, &LOST_UPDATE)?;
-    let wanted = [
-        done(0),
-        done(1),
-        replied(2, Some(0), false),
-        done(3),
-        replied(4, None, true),
-        replied(5, None, true),
-        replied(6, None, true),
-        replied(7, None, true),
-    ];
-    assert_eq!(rt; played.outcomes.as_slice(), wanted.as_slice());
-    assert!(rt; played.is_the_alarm);
-    assert!(rt; !played.is_halted);
-    Ok(())
+fn an_alarm_stays_and_needs_no_node(rt: HostRuntime) {
+    let played = play(&rt, rt.alloc(), 2, false, &LOST_UPDATE);
+    assert_eq!(rt; played.outcomes.len(), 8);
+    for (place, outcome) in played.outcomes.iter().enumerate() {
+        assert_eq!(rt;
+            *outcome,
+            lost_update_outcome(place, replied(place, None, true))
+        );
+    }
+    assert_eq!(rt; (played.is_the_alarm, played.is_halted), (true, false));
 }
 
 #[test]
-fn an_alarm_stops_the_world(rt: HostRuntime) -> Result<(), Fail> {
-    let played = play(rt.alloc(), 4096, true, &LOST_UPDATE)?;
-    let wanted = [
-        done(0),
-        done(1),
-        replied(2, Some(0), false),
-        done(3),
-        replied(4, None, true),
-        Err(Refusal::Halted),
-        Err(Refusal::Halted),
-        Err(Refusal::Halted),
-    ];
-    assert_eq!(rt; played.outcomes.as_slice(), wanted.as_slice());
-    assert!(rt; played.is_the_alarm);
-    assert!(rt; played.is_halted);
-    Ok(())
+fn an_alarm_stops_the_world(rt: HostRuntime) {
+    let played = play(&rt, rt.alloc(), 4096, true, &LOST_UPDATE);
+    assert_eq!(rt; played.outcomes.len(), 8);
+    for (place, outcome) in played.outcomes.iter().enumerate() {
+        assert_eq!(rt; *outcome, lost_update_outcome(place, Err(Refusal::Halted)));
+    }
+    assert_eq!(rt; (played.is_the_alarm, played.is_halted), (true, true));
 }
 
 /// The second block finds no node while the first is open, and the log goes on.
 #[test]
-fn a_full_graph_refuses_a_block(rt: HostRuntime) -> Result<(), Fail> {
+fn a_full_graph_refuses_a_block(rt: HostRuntime) {
     let steps = [
         (MAIN, Action::Fork(OTHER)),
         (MAIN, Action::Begin(Label(1))),
@@ -197,7 +194,7 @@ fn a_full_graph_refuses_a_block(rt: HostRuntime) -> Result<(), Fail> {
         (MAIN, Action::End),
         (OTHER, Action::Begin(Label(2))),
     ];
-    let played = play(rt.alloc(), 1, false, &steps)?;
+    let played = play(&rt, rt.alloc(), 1, false, &steps);
     let wanted = [
         done(0),
         done(1),
@@ -208,7 +205,6 @@ fn a_full_graph_refuses_a_block(rt: HostRuntime) -> Result<(), Fail> {
     ];
     assert_eq!(rt; played.outcomes.as_slice(), wanted.as_slice());
     assert_eq!(rt; played.used, 1);
-    Ok(())
 }
 
 /// A recorded lost update.
@@ -223,73 +219,130 @@ const RECORDED: [(ThreadId, Kind); 8] = [
     (MAIN, Kind::Read(X, 1)),
 ];
 
+/// The recorded events, the one at the place changed.
+fn recorded(rt: &impl Abort, alloc: Global, place: usize, kind: Kind) -> Trace {
+    let mut log = Trace::new(alloc);
+    for (i, (thread, recorded)) in RECORDED.into_iter().enumerate() {
+        let kind = if i == place { kind } else { recorded };
+        log.push(Event { thread, kind }).expect(rt, "memory");
+    }
+    log
+}
+
+/// Whether the world has the alarm of the lost update and all its events.
+fn has_it_all(world: &World) -> bool {
+    is_the_alarm(world.alarm()) && world.log().len() == RECORDED.len()
+}
+
 /// Relives the recorded events, the one at the place changed, and answers whether the world has the alarm and the whole log.
 fn relived(
+    rt: &impl Abort,
     alloc: Global,
     events: u32,
     nodes: u16,
     place: usize,
     kind: Kind,
-) -> Result<Result<bool, ReliveFault>, Fail> {
-    let mut log = Trace::new(alloc);
-    for (i, (thread, recorded)) in RECORDED.into_iter().enumerate() {
-        let kind = if i == place { kind } else { recorded };
-        log.push(Event { thread, kind })?;
-    }
+) -> Result<bool, ReliveFault> {
     let bounds = Bounds {
         threads: 2,
         variables: 1,
         locks: 1,
     };
-    let config = Config::new(1, bounds, events, nodes, false)?;
-    let (world, _shares) = match World::relive(alloc, config, log) {
-        Ok(relived) => relived,
-        Err(fault) => return Ok(Err(fault)),
-    };
-    Ok(Ok(is_the_alarm(world.alarm()) && world.log().len() == RECORDED.len()))
-}
-
-#[test]
-fn a_recorded_log_is_relived(rt: HostRuntime) -> Result<(), Fail> {
-    let refused = |position, refusal| Err(ReliveFault::Refused { position, refusal });
-    for (events, nodes, place, kind, wanted) in [
-        (100, 2, 0, Kind::Fork(OTHER), Ok(true)),
-        (8, 2, 0, Kind::Fork(OTHER), Ok(true)),
-        (7, 2, 0, Kind::Fork(OTHER), refused(7, Refusal::LogFull)),
-        (100, 1, 0, Kind::Fork(OTHER), refused(3, Refusal::GraphFull)),
-        (100, 2, 3, Kind::Write(X, 0), Ok(true)),
-        (100, 2, 5, Kind::Exit, refused(5, Refusal::BlockOpen)),
-        (
-            100,
-            2,
-            2,
-            Kind::Read(X, 9),
-            Err(ReliveFault::WrongValue { position: 2 }),
-        ),
-        (
-            7,
-            2,
-            7,
-            Kind::Read(X, 9),
-            Err(ReliveFault::WrongValue { position: 7 }),
-        ),
-    ] {
-        let outcome = relived(rt.alloc(), events, nodes, place, kind)?;
-        assert_eq!(rt; outcome, wanted);
+    let config = Config::new(1, bounds, events, nodes, false).expect(rt, "a configuration");
+    match World::relive(alloc, config, recorded(rt, alloc, place, kind)) {
+        Ok(relived) => {
+            let has_it_all = has_it_all(&relived.0);
+            drop(relived);
+            Ok(has_it_all)
+        }
+        Err(fault) => Err(fault),
     }
-    Ok(())
+}
+
+/// Limits, a changed event, and what comes of the log.
+const RELIVED: [(u32, u16, usize, Kind, Result<bool, ReliveFault>); 8] = [
+    (100, 2, 0, Kind::Fork(OTHER), Ok(true)),
+    (8, 2, 0, Kind::Fork(OTHER), Ok(true)),
+    (
+        7,
+        2,
+        0,
+        Kind::Fork(OTHER),
+        Err(ReliveFault::Refused {
+            position: 7,
+            refusal: Refusal::LogFull,
+        }),
+    ),
+    (
+        100,
+        1,
+        0,
+        Kind::Fork(OTHER),
+        Err(ReliveFault::Refused {
+            position: 3,
+            refusal: Refusal::GraphFull,
+        }),
+    ),
+    (100, 2, 3, Kind::Write(X, 0), Ok(true)),
+    (
+        100,
+        2,
+        5,
+        Kind::Exit,
+        Err(ReliveFault::Refused {
+            position: 5,
+            refusal: Refusal::BlockOpen,
+        }),
+    ),
+    (
+        100,
+        2,
+        2,
+        Kind::Read(X, 9),
+        Err(ReliveFault::WrongValue { position: 2 }),
+    ),
+    (
+        7,
+        2,
+        7,
+        Kind::Read(X, 9),
+        Err(ReliveFault::WrongValue { position: 7 }),
+    ),
+];
+
+#[test]
+fn a_recorded_log_is_relived(rt: HostRuntime) {
+    for (events, nodes, place, kind, wanted) in RELIVED {
+        assert_eq!(rt;
+            relived(&rt, rt.alloc(), events, nodes, place, kind),
+            wanted
+        );
+    }
 }
 
 #[test]
-fn a_share_is_missing(rt: HostRuntime) -> Result<(), Fail> {
-    let (world, shares) = opened(rt.alloc(), 2, 1, false)?;
-    let none = Shares::none(rt.alloc(), 2)?;
-    let Err((world, _)) = world.close(none) else {
-        return Err("closed without a share".into());
-    };
-    let closed = world.close(shares).ok().ok_or("not closed")?;
-    assert_eq!(rt; closed.total(), 0);
-    Ok(())
+fn a_share_is_missing(rt: HostRuntime) {
+    let (world, shares) = opened(&rt, rt.alloc(), 2, 1, false);
+    let none = Shares::none(rt.alloc(), 2).expect(&rt, "memory");
+    match world.close(none) {
+        Ok(_) => panic!(rt; "closed without a share"),
+        Err((world, _)) => assert_eq!(rt; events_at_its_end(world, shares), Some(0)),
+    }
+}
+
+/// How many events a world has at its end; none where it is not closed.
+fn events_at_its_end(world: World, shares: Shares) -> Option<u64> {
+    match world.close(shares) {
+        Ok(closed) => {
+            let total = closed.total();
+            drop(closed);
+            Some(total)
+        }
+        Err(given_back) => {
+            drop(given_back);
+            None
+        }
+    }
 }
 
 /// Forks the other thread, reads, and answers what the read came to.
@@ -301,15 +354,13 @@ fn forks_and_reads(world: &mut World, main: &mut Share) -> Outcome
 }
 
 #[test]
-fn a_share_acts_again(rt: HostRuntime) -> Result<(), Fail> {
-    let (mut world, mut shares) = opened(rt.alloc(), 2, 1, false)?;
-    let Some(mut main) = shares.take(MAIN) else {
-        return Err("no share".into());
-    };
+fn a_share_acts_again(rt: HostRuntime) {
+    let (mut world, mut shares) = opened(&rt, rt.alloc(), 2, 1, false);
+    let mut main = shares.take(MAIN).expect(&rt, "no share");
     assert!(rt; world.fits(&main));
     assert_eq!(rt;
         forks_and_reads(&mut world, &mut main),
         replied(1, Some(0), false)
     );
-    Ok(())
+    drop((world, shares));
 }
