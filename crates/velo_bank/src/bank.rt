@@ -100,10 +100,7 @@ impl Bank {
         } = self;
         alice.exit(rt, accounts)?;
         bob.exit(rt, accounts)?;
-        main.join(rt, accounts, ALICE)?;
-        main.join(rt, accounts, BOB)?;
-        let savings = main.read(rt, accounts, SAVINGS)?;
-        Ok((savings, main.read(rt, accounts, CURRENT)?))
+        wait_and_read(rt, accounts, main)
     }
 
     /// Ends the run, for its report.
@@ -117,6 +114,18 @@ impl Bank {
         let seats = vec![in alloc; main, alice, bob]?;
         Ok(close(accounts, seats)?)
     }
+}
+
+/// Waits for Alice and Bob, and reads both accounts.
+fn wait_and_read<R: Wait>(
+    rt: &R,
+    accounts: &Shared,
+    main: &mut Seat,
+) -> Result<(u64, u64), RunError> {
+    main.join(rt, accounts, ALICE)?;
+    main.join(rt, accounts, BOB)?;
+    let savings = main.read(rt, accounts, SAVINGS)?;
+    Ok((savings, main.read(rt, accounts, CURRENT)?))
 }
 
 /// Moves an amount from one account to another, in a block and under the lock.

@@ -53,7 +53,9 @@ fn print(rt: &HostRuntime, savings: u64, current: u64, closed: &Closed) -> anyho
 /// Shows what a day came to.
 fn show(rt: &HostRuntime, ended: (u64, u64, Closed)) -> anyhow::Result<()> {
     let (savings, current, closed) = ended;
-    print(rt, savings, current, &closed)
+    let printed = print(rt, savings, current, &closed);
+    drop(closed);
+    printed
 }
 
 fn main(rt: HostRuntime) -> anyhow::Result<()> {

@@ -194,6 +194,21 @@ fn write_answer<O: Sink>(
     }
 }
 
+/// Writes what a closed world shows, and lets go of it.
+fn finish<O: Sink>(
+    alloc: Global,
+    closed: Closed,
+    certificate: bool,
+    sink: &mut O,
+) -> Result<Verdict, CheckFault>
+    ensures answer { Shows Numbers certificate closed (O.contents sink.old) (O.contents sink.new) result }
+    ensures written { O.failures sink.new ≡ write_failures result (O.failures sink.old) }
+{
+    let answer = write_answer(alloc, &closed, certificate, sink);
+    drop(closed);
+    answer
+}
+
 /// Reads a whole log, does its events one after another, and writes the report, and behind it, if it is asked for, the
 /// certificate of the verdict: the lines of a serial order, or with an alarm the line of a shortest cycle at its position.
 ///
@@ -223,5 +238,5 @@ pub fn check_run<I: Source, O: Sink>(
         Err(fault) => return Err(CheckFault::Log(fault)),
     };
     let closed = do_log(alloc, config_of(bounds, events, nodes), log)?;
-    write_answer(alloc, &closed, certificate, sink)
+    finish(alloc, closed, certificate, sink)
 }

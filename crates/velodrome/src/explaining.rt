@@ -93,7 +93,11 @@ fn explain_log<I: Source, F: Files, O: Sink>(
         Err(fault) => return Fate::Check(CheckFault::Log(fault)),
     };
     match do_log(alloc, config_of(bounds, MOST_EVENTS, MOST_NODES), log) {
-        Ok(closed) => explain_closed(alloc, &closed, path, files, out),
+        Ok(closed) => {
+            let fate = explain_closed(alloc, &closed, path, files, out);
+            drop(closed);
+            fate
+        }
         Err(fault) => Fate::Check(fault),
     }
 }

@@ -5,7 +5,7 @@ use crate::arguments::{ReplayOptions, RunOptions};
 use crate::fate::Fate;
 use crate::files::Files;
 use crate::schedule::schedule_of;
-use crate::work::{config_of_run, open_workload, show_run};
+use crate::work::{config_of_run, finish_run, open_workload};
 use std::alloc::Global;
 use velo_events::{Memory, ThreadId};
 use velo_logtext::Sink;
@@ -21,12 +21,9 @@ fn replay_workload<F: Files, O: Sink>(
     files: &mut F,
     out: &mut O,
 ) -> Fate {
-    let config = match config_of_run(workload, options) {
-        Ok(config) => config,
-        Err(fate) => return fate,
-    };
+    let config = config_of_run(workload, options);
     match replay(alloc, workload, schedule, config) {
-        Ok((closed, ending)) => show_run(alloc, workload, &closed, ending, options, files, out),
+        Ok(ended) => finish_run(alloc, workload, ended, options, files, out),
         Err(Memory) => Fate::Memory,
     }
 }

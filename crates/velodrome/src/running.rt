@@ -4,7 +4,7 @@ ghost use Rattle.std.specs.Prelude.{◌≡◌};
 use crate::arguments::RunOptions;
 use crate::fate::Fate;
 use crate::files::Files;
-use crate::work::{config_of_run, open_workload, show_run};
+use crate::work::{config_of_run, finish_run, open_workload};
 use std::alloc::Global;
 use std::sync::Wait;
 use std::thread::Threads;
@@ -21,12 +21,9 @@ fn run_workload<R: Threads + Wait + Sync, F: Files, O: Sink>(
     files: &mut F,
     out: &mut O,
 ) -> Fate {
-    let config = match config_of_run(workload, options) {
-        Ok(config) => config,
-        Err(fate) => return fate,
-    };
+    let config = config_of_run(workload, options);
     match live(rt, alloc, workload, config, &OpenGate) {
-        Ok((closed, ending)) => show_run(alloc, workload, &closed, ending, options, files, out),
+        Ok(ended) => finish_run(alloc, workload, ended, options, files, out),
         Err(LiveFault::Memory) => Fate::Memory,
         Err(LiveFault::Lost) => Fate::Lost,
     }

@@ -639,7 +639,11 @@ fn compare_named(rt: &impl Abort, alloc: Global, closed: &Closed) -> Result<(), 
 fn names_stand_for_numbers(rt: HostRuntime) -> Result<(), Fail> {
     let (bounds, log) = read_log(rt.alloc(), &mut Bytes::new(LOST_UPDATE.as_bytes()))?;
     match do_log(rt.alloc(), config_of(bounds, 5, 2), log) {
-        Ok(closed) => compare_named(&rt, rt.alloc(), &closed),
+        Ok(closed) => {
+            let compared = compare_named(&rt, rt.alloc(), &closed);
+            drop(closed);
+            compared
+        }
         Err(_) => Err("the log was not done".into()),
     }
 }
@@ -755,21 +759,28 @@ fn event(thread: ThreadId, kind: Kind) -> Event {
     Event { thread, kind }
 }
 
+/// Compares the report of a log with what the definitions say.
+fn compare_with_definitions(rt: &impl Abort, alloc: Global, trace: &Trace) -> Result<(), Fail> {
+    assert!(rt; trace.len() <= 48);
+    let mut log = Text::new(alloc);
+    write_log(BOUNDS, trace, &mut log)?;
+    let mut source = Bytes::new(log.as_slice());
+    let mut sink = Text::new(alloc);
+    let answer = check_run(alloc, &mut source, &mut sink, 48, 1024, false);
+    assert!(rt; answer.is_ok());
+    let lines = first_lines(alloc, trace, BOUNDS.threads)?;
+    assert!(rt; sink.as_slice().starts_with(lines.as_bytes()), "{lines}");
+    Ok(())
+}
+
 /// Logs by chance are reported as the definitions say.
 #[test]
 fn reports_are_those_of_the_definitions(rt: HostRuntime) -> Result<(), Fail> {
     for seed in 0..400u64 {
-        let world = world_by_chance(rt.alloc(), seed)?;
-        let trace = world.log();
-        assert!(rt; trace.len() <= 48);
-        let mut log = Text::new(rt.alloc());
-        write_log(BOUNDS, trace, &mut log)?;
-        let mut source = Bytes::new(log.as_slice());
-        let mut sink = Text::new(rt.alloc());
-        let answer = check_run(rt.alloc(), &mut source, &mut sink, 48, 1024, false);
-        assert!(rt; answer.is_ok());
-        let lines = first_lines(rt.alloc(), trace, BOUNDS.threads)?;
-        assert!(rt; sink.as_slice().starts_with(lines.as_bytes()), "{lines}");
+        let world = world_by_chance(&rt, rt.alloc(), seed);
+        let compared = compare_with_definitions(&rt, rt.alloc(), world.log());
+        drop(world);
+        compared?;
     }
     Ok(())
 }

@@ -1,5 +1,5 @@
 //! Workloads that run: where they are read, and what their runs show.
-ghost use Rattle.std.specs.Prelude.{◌≡◌, IfOk};
+ghost use Rattle.std.specs.Prelude.{◌≡◌};
 
 use crate::arguments::RunOptions;
 use crate::check::{CheckFault, Verdict, evidence_of, write_certified, write_report};
@@ -47,8 +47,11 @@ pub fn open_workload<F: Files>(alloc: Global, path: &str, files: &F) -> Result<W
 }
 
 /// The configuration of a run of the workload.
-pub fn config_of_run(workload: &Workload, options: &RunOptions) -> Result<Config, Fate>
-    ensures bounds { IfOk result (λ config. config.bounds ≡ workload.now.bounds) }
+pub fn config_of_run(workload: &Workload, options: &RunOptions) -> Config
+    ensures bounds { result.bounds ≡ workload.now.bounds }
+    ensures events { result.events ≡ options.now.limits.events }
+    ensures nodes { result.nodes ≡ options.now.limits.nodes }
+    ensures stop { result.stop ≡ options.now.stop }
 {
     let limits = options.limits;
     match Config::new(
@@ -58,9 +61,8 @@ pub fn config_of_run(workload: &Workload, options: &RunOptions) -> Result<Config
         limits.nodes,
         options.stop,
     ) {
-        Ok(config) => Ok(config),
-        // No text means such a workload.
-        Err(_) => Err(Fate::Work(WorkFault::BadLine(0))),
+        Ok(config) => config,
+        Err(_) => unreachable!(),
     }
 }
 
@@ -125,8 +127,23 @@ fn tell<F: Files, O: Sink>(
     }
 }
 
+/// Writes what a run of a workload shows, and lets go of it.
+pub fn finish_run<F: Files, O: Sink>(
+    alloc: Global,
+    workload: &Workload,
+    ended: (Closed, Ending),
+    options: &RunOptions,
+    files: &mut F,
+    out: &mut O,
+) -> Fate {
+    let (closed, ending) = ended;
+    let fate = show_run(alloc, workload, &closed, ending, options, files, out);
+    drop(closed);
+    fate
+}
+
 /// Writes what a run of a workload shows, by its names. A run in which a growth was refused has no report.
-pub fn show_run<F: Files, O: Sink>(
+fn show_run<F: Files, O: Sink>(
     alloc: Global,
     workload: &Workload,
     closed: &Closed,

@@ -3,7 +3,6 @@ use crate::check::{check_run, evidence_of, write_certified};
 use std::alloc::Global;
 use std::process::Abort;
 use std::sync::Wait;
-use std::test::Fail;
 use std::thread;
 use std::thread::Threads;
 use std::time::{Clock, Duration};
@@ -42,10 +41,10 @@ impl<R: Clock> Gate for Sleepy<'_, R> {
 }
 
 /// What a run shows, and what a check of its log does.
-fn compare(rt: &impl Abort, alloc: Global, closed: &Closed) -> Result<(), Fail> {
+fn compare(rt: &impl Abort, alloc: Global, closed: &Closed) {
     let mut log = Text::new(alloc);
-    write_log(closed.bounds(), closed.log(), &mut log)?;
-    let list = evidence_of(alloc, closed)?;
+    write_log(closed.bounds(), closed.log(), &mut log).expect(rt, "memory");
+    let list = evidence_of(alloc, closed).expect(rt, "memory");
     let mut shown = Text::new(alloc);
     let verdict = write_certified(closed, &Names::Numbers, &list, &mut shown);
     let mut checked = Text::new(alloc);
@@ -54,32 +53,27 @@ fn compare(rt: &impl Abort, alloc: Global, closed: &Closed) -> Result<(), Fail> 
     assert!(rt; again.is_ok());
     assert_eq!(rt; again, verdict);
     assert_eq!(rt; checked.as_slice(), shown.as_slice());
-    Ok(())
 }
 
 /// Runs a workload by threads that are held up by chance, and compares what it shows.
-fn run_by_chance<R: Threads + Wait + Clock + Abort + Sync>(
-    rt: &R,
-    alloc: Global,
-    seed: u64,
-) -> Result<(), Fail> {
-    let workload = parse(alloc, WORKLOADS[(seed % 4) as usize])?;
-    let config = Config::new(seed, workload.bounds(), 64, 64, false)?;
+fn run_by_chance<R: Threads + Wait + Clock + Abort + Sync>(rt: &R, alloc: Global, seed: u64) {
+    let workload = parse(alloc, WORKLOADS[(seed % 4) as usize]).expect(rt, "a workload");
+    let config = Config::new(seed, workload.bounds(), 64, 64, false).expect(rt, "a configuration");
     let gate = Sleepy { rt, seed };
     match live(rt, alloc, &workload, config, &gate) {
         Ok((closed, ending)) => {
             assert!(rt; matches!(ending, Ending::Done | Ending::Stuck));
-            compare(rt, alloc, &closed)
+            compare(rt, alloc, &closed);
+            drop(closed);
         }
-        Err(_) => Err("a run was lost".into()),
+        Err(_) => panic!(rt; "a run was lost"),
     }
 }
 
 /// The log of each run is checked again, to the same report and the same certificate.
 #[test]
-fn logs_of_runs_are_checked_again(rt: HostRuntime) -> Result<(), Fail> {
+fn logs_of_runs_are_checked_again(rt: HostRuntime) {
     for seed in 0..200u64 {
-        run_by_chance(&rt, rt.alloc(), seed)?;
+        run_by_chance(&rt, rt.alloc(), seed);
     }
-    Ok(())
 }

@@ -11,8 +11,9 @@ use std::process::Abort;
 use std::sync::Wait;
 use std::test::Fail;
 use std::thread::Threads;
+use velo_events::Bounds;
 use velo_logtext::{Bytes, LogFault, Text, read_log};
-use velo_traces::{Flaw, well_formed};
+use velo_traces::{Flaw, Trace, well_formed};
 
 /// One text for each path, and one file to be written, which both fail after so many bytes.
 #[derive(Drop)]
@@ -190,12 +191,20 @@ fn words_of(alloc: Global, fault: LogFault) -> Result<String, Fail> {
 
 /// What the program says first of a log, by the definitions in the slowest way: the beginning of its report or its fault.
 fn slow_answer(alloc: Global, log: &[u8]) -> Result<String, Fail> {
-    let (bounds, trace) = match read_log(alloc, &mut Bytes::new(log)) {
-        Ok(read) => read,
-        Err(fault) => return words_of(alloc, fault),
-    };
-    match well_formed(&trace, bounds) {
-        Ok(()) => first_lines(alloc, &trace, bounds.threads),
+    match read_log(alloc, &mut Bytes::new(log)) {
+        Ok((bounds, trace)) => {
+            let answer = slow_answer_of(alloc, bounds, &trace);
+            drop(trace);
+            answer
+        }
+        Err(fault) => words_of(alloc, fault),
+    }
+}
+
+/// The beginning of the report of a log or its fault.
+fn slow_answer_of(alloc: Global, bounds: Bounds, trace: &Trace) -> Result<String, Fail> {
+    match well_formed(trace, bounds) {
+        Ok(()) => first_lines(alloc, trace, bounds.threads),
         Err((at, Flaw::WrongValue)) => Ok(format!(in alloc; "wrong value at {at}\n")?),
         Err((at, Flaw::Refused(refusal))) => {
             Ok(format!(in alloc; "refused {} at {at}\n", refusal as u8)?)

@@ -3,6 +3,7 @@ ghost use Rattle.std.specs.Prelude.{◌≤◌};
 
 use crate::check::config_of;
 use std::alloc::{AllocError, Global};
+use std::process::Abort;
 use std::test::Fail;
 use velo_events::{
     Action, Bounds, Label, LockId, MOST_EVENTS, MOST_NODES, Memory, ThreadId, VarId, conflicts,
@@ -94,11 +95,10 @@ impl Dice {
 }
 
 /// A world whose log came about by chance: of 48 actions those that were not refused.
-pub fn world_by_chance(alloc: Global, seed: u64) -> Result<World, Fail> {
+pub fn world_by_chance(rt: &impl Abort, alloc: Global, seed: u64) -> World {
     let config = config_of(BOUNDS, MOST_EVENTS, MOST_NODES);
-    let Ok((mut world, mut shares)) = World::relive(alloc, config, Trace::new(alloc)) else {
-        return Err("no world".into());
-    };
+    let relived = World::relive(alloc, config, Trace::new(alloc));
+    let (mut world, mut shares) = relived.expect(rt, "a world");
     let mut dice = Dice::new(seed);
     for i in 0..48u8 {
         let throw = dice.throw();
@@ -110,7 +110,7 @@ pub fn world_by_chance(alloc: Global, seed: u64) -> Result<World, Fail> {
         };
         let _outcome = world.step(&mut shares, ThreadId(thread as u8), action);
     }
-    Ok(world)
+    world
 }
 
 /// Joins to the pairs, where the first reaches the second, all that one more edge makes reachable.

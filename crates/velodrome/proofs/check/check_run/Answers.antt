@@ -11,11 +11,11 @@ returns-clause-answer g c =
     let input : IsInput known c.in-Ok.read.0 c.in-Ok.read.1.events = input_found known _ _ _ c.in-Ok.ensures.found in
     let configured : IsInput known c.config_of.result.bounds c.in-Ok.read.1.events =
     subst (λ b. IsInput known b c.in-Ok.read.1.events) (sym c.config_of.ensures.bounds) input in
-    checked_by c.args.events c.args.nodes c.args.certificate known c.in_ok-closed.closed _ _ c.write_answer.result
+    checked_by c.args.events c.args.nodes c.args.certificate known c.in_ok-closed.closed _ _ c.finish.result
     (ap (λ w. w.config.events) world ∙ c.config_of.ensures.events)
     (subst (λ (w : WorldState). IsInput known w.config.bounds w.log) (sym world) configured)
-    c.in_ok-closed.ensures.well_formed c.in_ok-closed.ensures.short c.write_answer.ensures.answer
+    c.in_ok-closed.ensures.well_formed c.in_ok-closed.ensures.short c.finish.ensures.answer
 
 pub returns-clause-read : goal.returns-clause-read
 returns-clause-read g c =
-    c.in-Ok.ensures.failures ∙ sym (reads_nothing c.args.certificate c.in_ok-closed.closed _ _ c.write_answer.result _ c.write_answer.ensures.answer)
+    c.in-Ok.ensures.failures ∙ sym (reads_nothing c.args.certificate c.in_ok-closed.closed _ _ c.finish.result _ c.finish.ensures.answer)
