@@ -42,11 +42,28 @@ fn opened<R: Wait>(
 ) -> Result<(Shared, Vec<Seat>), RunError> {
     let mut seats = Vec::new(alloc);
     let (shared, first) = Shared::open(alloc, config)?;
+    match add_threads(rt, &shared, &mut seats, first, forks) {
+        Ok(()) => Ok((shared, seats)),
+        Err(error) => {
+            drop((shared, seats));
+            Err(error)
+        }
+    }
+}
+
+/// Adds the first seat, and the seats of so many threads that it forks.
+fn add_threads<R: Wait>(
+    rt: &R,
+    shared: &Shared,
+    seats: &mut Vec<Seat>,
+    first: Seat,
+    forks: u8,
+) -> Result<(), RunError> {
     seats.push(first)?;
     for child in 1..=forks {
-        add_thread(rt, &shared, &mut seats, ThreadId(child))?;
+        add_thread(rt, shared, seats, ThreadId(child))?;
     }
-    Ok((shared, seats))
+    Ok(())
 }
 
 /// Forks a thread by the first seat, and adds its seat.
@@ -320,8 +337,13 @@ fn ends_as(closed: &Closed, case: &Case) -> bool {
 /// Opens a run of two threads, with their seats.
 fn pair<R: Wait>(rt: &R, alloc: Global, stop: bool) -> Result<(Shared, Seat, Seat), RunError> {
     let (shared, mut first) = Shared::open(alloc, config(1, 2, 100, stop)?)?;
-    let second = first.fork(rt, &shared, OTHER)?;
-    Ok((shared, first, second))
+    match first.fork(rt, &shared, OTHER) {
+        Ok(second) => Ok((shared, first, second)),
+        Err(refusal) => {
+            drop((shared, first));
+            Err(refusal.into())
+        }
+    }
 }
 
 /// Plays a case. The first step of each thread that goes wrong, and whether the run ends as it should.
@@ -332,7 +354,10 @@ fn played<R: Wait + Clock + Threads + Sync>(
 ) -> Result<((Option<usize>, Option<usize>), bool), RunError> {
     let (shared, mut first, mut second) = pair(rt, alloc, case.stop)?;
     let wrong = follow(rt, &shared, &mut first, &mut second, case);
-    Ok((wrong, ends_as(&closed(alloc, shared, first, second)?, case)))
+    let closed = closed(alloc, shared, first, second)?;
+    let is_right = ends_as(&closed, case);
+    drop(closed);
+    Ok((wrong, is_right))
 }
 
 /// Ends a run of two threads.
@@ -372,9 +397,13 @@ fn all_write<R: Wait + Abort + Threads + Sync>(
 
 /// Keeps the last seat back, so that the run is not closed.
 fn close_too_early(shared: Shared, mut seats: Vec<Seat>) -> Option<(Missing, Seat)> {
-    let kept = seats.pop()?;
-    let missing = close(shared, seats).err()?;
-    Some((missing, kept))
+    match seats.pop() {
+        Some(kept) => Some((close(shared, seats).err()?, kept)),
+        None => {
+            drop((shared, seats));
+            None
+        }
+    }
 }
 
 /// Whether the room is as it was, and the seats stand in their order.
@@ -386,8 +415,13 @@ fn is_as_before(rt: &impl Wait, missing: &Missing) -> bool {
 /// Adds the seat that was kept back.
 fn close_after_all(missing: Missing, kept: Seat) -> Option<Closed> {
     let Missing { shared, mut seats } = missing;
-    seats.push(kept).ok()?;
-    close(shared, seats).ok()
+    match seats.push(kept) {
+        Ok(()) => close(shared, seats).ok(),
+        Err(_) => {
+            drop((shared, seats));
+            None
+        }
+    }
 }
 
 fn has_all_numbers(closed: &Closed) -> bool {
@@ -409,7 +443,9 @@ fn close_twice(rt: &impl Wait, shared: Shared, seats: Vec<Seat>) -> Option<(bool
     let (missing, kept) = close_too_early(shared, seats)?;
     let is_back = is_as_before(rt, &missing);
     let closed = close_after_all(missing, kept)?;
-    Some((is_back, has_all_numbers(&closed)))
+    let has_all = has_all_numbers(&closed);
+    drop(closed);
+    Some((is_back, has_all))
 }
 
 #[test]
@@ -541,24 +577,42 @@ fn first_other_answer(
 }
 
 /// Does the actions of a hold. The first step that is answered otherwise, and what the room tells at the end.
-fn held(
+fn answered(
     rt: &impl Wait,
+    shared: &Shared,
+    seats: &mut Vec<Seat>,
+    hold: &Hold,
+) -> (Option<usize>, (usize, bool, bool)) {
+    let mut room = shared.room.lock(rt);
+    let other = first_other_answer(&mut room, seats, hold.steps);
+    let has_alarm = room.alarm().is_some();
+    (other, (room.count_events(), room.is_halted(), has_alarm))
+}
+
+/// Opens a run of two threads.
+fn open(rt: &impl Abort, alloc: Global, run: u64, events: u32, stop: bool) -> (Shared, Seat) {
+    let config = config(run, 2, events, stop).expect(rt, "in range");
+    Shared::open(alloc, config).expect(rt, "memory")
+}
+
+/// Does the actions of a hold in a run of its own, with the seat of another run as the second one.
+fn held(
+    rt: &(impl Wait + Abort),
     alloc: Global,
     hold: &Hold,
-) -> Result<(Option<usize>, (usize, bool, bool)), RunError> {
-    let (_, foreign) = Shared::open(alloc, config(2, 2, 100, false)?)?;
-    let (shared, first) = Shared::open(alloc, config(1, 2, hold.events, hold.stop)?)?;
-    let mut seats = vec![in alloc; first, foreign]?;
-    let mut room = shared.room.lock(rt);
-    let other = first_other_answer(&mut room, &mut seats, hold.steps);
-    let has_alarm = room.alarm().is_some();
-    Ok((other, (room.count_events(), room.is_halted(), has_alarm)))
+) -> (Option<usize>, (usize, bool, bool)) {
+    let (foreign_shared, foreign) = open(rt, alloc, 2, 100, false);
+    drop(foreign_shared);
+    let (shared, first) = open(rt, alloc, 1, hold.events, hold.stop);
+    let mut seats = vec![in alloc; first, foreign].expect(rt, "memory");
+    let answered = answered(rt, &shared, &mut seats, hold);
+    drop((shared, seats));
+    answered
 }
 
 #[test]
 fn one_hold_of_a_room(rt: HostRuntime) {
     for hold in [CONFIGURED, HALTED, TURNS] {
-        let outcome = held(&rt, rt.alloc(), &hold).ok();
-        assert_eq!(rt; outcome, Some((None, hold.end)));
+        assert_eq!(rt; held(&rt, rt.alloc(), &hold), (None, hold.end));
     }
 }
