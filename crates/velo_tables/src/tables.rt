@@ -13,7 +13,7 @@ ghost use Rattle.velo_events.specs.Event.{thread_of, is_write};
 ghost use Rattle.velo_tables.specs.Recorded.{kept_after, with_variable, with_read, with_reads_of};
 
 use crate::entry::{Entry, entry_at};
-use crate::variable::{Variable, but_for, push_step};
+use crate::variables::{Variables, push_step};
 use smallvec::SmallVec;
 use std::alloc::Global;
 use std::marker::Model;
@@ -29,7 +29,7 @@ pub const MOST_PREDECESSORS: usize = MOST_THREADS as usize + 2;
 #[derive(Debug, Drop)]
 pub struct Tables {
     threads: Vec<Entry>,
-    variables: Vec<Variable>,
+    variables: Variables,
     locks: Vec<Entry>,
 }
 
@@ -40,7 +40,7 @@ impl Model for Tables {
 
     ghost Value = { Kept };
 
-    ghost view = { λ s. record { threads = s.threads.items; variables = s.variables.items; locks = s.locks.items } };
+    ghost view = { λ s. record { threads = s.threads.items; variables = s.variables; locks = s.locks.items } };
 
     ghost invariant = { λ s. length s.threads.items ≤ MOST_THREADS };
 }
@@ -59,38 +59,6 @@ fn grow_entries(entries: &mut Vec<Entry>, number: usize) -> Result<(), Memory>
     Ok(())
 }
 
-/// Makes room for the variable with this number.
-fn grow_variables(variables: &mut Vec<Variable>, number: usize) -> Result<(), Memory>
-    requires { number < 2 ^ 32 }
-    ensures ok { OnOk result (variables.new.items ≡ filled_up no_accesses (number + 1) variables.old.items) }
-    ensures err { OnErr result (variables.new.items ≡ variables.old.items) }
-    ensures refused { OnErr result (length variables.old.items ≤ number) }
-    ensures memory { OnErr result GrowthRefused }
-{
-    if number < variables.len() {
-        return Ok(());
-    }
-    let missing = number + 1 - variables.len();
-    reserve(variables, missing)?;
-    let alloc = *variables.allocator();
-    for _ in 0..missing {
-        variables.push_reserved(Variable::new(alloc));
-    }
-    Ok(())
-}
-
-/// Makes room for the reads of the variable with this number by so many threads.
-fn grow_reads(variables: &mut Vec<Variable>, number: usize, threads: usize) -> Result<(), Memory>
-    requires there { number < length variables.old.items }
-    requires few { threads ≤ MOST_THREADS }
-    ensures ok { OnOk result (variables.new.items ≡ slice_set variables.old.items number (with_reads_of threads (slice_index_or variables.old.items number no_accesses))) }
-    ensures err { OnErr result (variables.new.items ≡ variables.old.items) }
-    ensures memory { OnErr result GrowthRefused }
-{
-    let variable = &mut variables[number];
-    variable.reserve_reads(threads)
-}
-
 impl Tables {
     /// Tables of a run's threads, without a step.
     pub fn new(alloc: Global, config: &Config) -> Result<Tables, Memory>
@@ -106,7 +74,7 @@ impl Tables {
         )?;
         Ok(Tables {
             threads,
-            variables: Vec::new(alloc),
+            variables: Variables::new(alloc),
             locks: Vec::new(alloc),
         })
     }
@@ -122,22 +90,14 @@ impl Tables {
     pub fn last_write(&self, x: VarId) -> Option<Step>
         ensures { result ≡ entry self.now (LastWrite x.0) }
     {
-        if (x.0 as usize) < self.variables.len() {
-            self.variables[x.0 as usize].last_write()
-        } else {
-            None
-        }
+        self.variables.last_write(x)
     }
 
     /// The step of the variable's last read by the thread.
     pub fn last_read(&self, x: VarId, t: ThreadId) -> Option<Step>
         ensures { result ≡ entry self.now (LastRead x.0 t.0) }
     {
-        if (x.0 as usize) < self.variables.len() {
-            self.variables[x.0 as usize].last_read(t)
-        } else {
-            None
-        }
+        self.variables.last_read(x, t)
     }
 
     /// A bit for each thread whose last read of the variable has a step, and perhaps for others that read it: no other
@@ -145,12 +105,7 @@ impl Tables {
     pub fn readers(&self, x: VarId) -> u64
         ensures { CoverReaders self.now x.0 result }
     {
-        if (x.0 as usize) < self.variables.len() {
-            let variable = &self.variables[x.0 as usize];
-            variable.readers()
-        } else {
-            0
-        }
+        self.variables.readers(x)
     }
 
     /// The step of the lock's last event.
@@ -172,7 +127,7 @@ impl Tables {
     {
         match event.kind {
             Kind::Read(x, _) => {
-                if self.has_room_to_read(x, event.thread) {
+                if self.variables.has_room_to_read(x, event.thread) {
                     Ok(())
                 } else {
                     self.reserve_reads(x)
@@ -184,18 +139,6 @@ impl Tables {
         }
     }
 
-    /// Whether there is room for a read of the variable by the thread.
-    fn has_room_to_read(&self, x: VarId, t: ThreadId) -> bool
-        ensures { IsTrue result ↔ HasRoomBeside self.now t.0 (Kind.Read x 0) }
-    {
-        if (x.0 as usize) < self.variables.len() {
-            let variable = &self.variables[x.0 as usize];
-            variable.has_room_for(t)
-        } else {
-            false
-        }
-    }
-
     /// Makes room for a write of the variable.
     fn reserve_variable(&mut self, x: VarId) -> Result<(), Memory>
         ensures same { IsUnchanged self.old self.new }
@@ -204,7 +147,7 @@ impl Tables {
         ensures err { OnErr result (length self.old.variables ≤ x.0) }
         ensures memory { OnErr result GrowthRefused }
     {
-        grow_variables(&mut self.variables, x.0 as usize)
+        self.variables.reserve(x)
     }
 
     /// Makes room for a read of the variable by each thread.
@@ -215,8 +158,7 @@ impl Tables {
         ensures memory { OnErr result GrowthRefused }
     {
         self.reserve_variable(x)?;
-        let threads = self.threads.len();
-        grow_reads(&mut self.variables, x.0 as usize, threads)
+        self.variables.reserve_reads(x, self.threads.len())
     }
 
     /// Makes room for an event of the lock.
@@ -248,14 +190,8 @@ impl Tables {
         let entry = Entry::new(step);
         self.threads[event.thread.0 as usize] = entry;
         match event.kind {
-            Kind::Read(x, _) => {
-                let variable = &mut self.variables[x.0 as usize];
-                variable.record_read(event.thread, step);
-            }
-            Kind::Write(x, _) => {
-                let variable = &mut self.variables[x.0 as usize];
-                variable.record_write(step);
-            }
+            Kind::Read(x, _) => self.variables.record_read(x, event.thread, step),
+            Kind::Write(x, _) => self.variables.record_write(x, step),
             Kind::Acquire(m) | Kind::Release(m) => self.locks[m.0 as usize] = entry,
             Kind::Fork(u) => self.threads[u.0 as usize] = entry,
             _ => {}
@@ -273,10 +209,7 @@ impl Tables {
     fn forget_in_place(&mut self, x: VarId, t: ThreadId)
         ensures { self.new ≡ with_variable self.old x.0 (with_read (accesses_of self.old x.0) t.0 None) }
     {
-        if (x.0 as usize) < self.variables.len() {
-            let variable = &mut self.variables[x.0 as usize];
-            variable.forget_read(t);
-        }
+        self.variables.forget_read(x, t);
     }
 
     /// Puts the steps that the event looks up into the list, in place of what it had: first that of the thread's last
@@ -336,11 +269,7 @@ impl Tables {
         ensures items { list.new.items ≡ list.old.items ++ filter_map (λ p. but_for slot (entry self.now p)) (LastWrite x.0 ∷ map (LastRead x.0) thread_numbers) }
         ensures capacity { list.new.capacity ≡ list.old.capacity }
     {
-        if (x.0 as usize) < self.variables.len() {
-            let variable = &self.variables[x.0 as usize];
-            push_step(list, but_for(slot, variable.last_write()));
-            variable.push_reads(slot, list);
-        }
+        self.variables.push_accesses(x, slot, list);
     }
 
     /// The steps that the event looks up: first that of the thread's last event, and a write's reads in the order of their
