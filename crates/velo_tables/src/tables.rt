@@ -1,5 +1,5 @@
 ghost use Rattle.velo_events.specs.Refusals.{GrowthRefused};
-ghost use Rattle.std.specs.Prelude.{◌≡◌, ◌+◌, ◌^◌, ◌<◌, ◌≤◌, ◌++◌, ◌∷◌, None, length, map, slice_index_or, slice_set, IsTrue, IsFalse, ◌↔◌, IfOk, OnOk, OnErr};
+ghost use Rattle.std.specs.Prelude.{◌≡◌, ◌+◌, ◌^◌, ◌<◌, ◌≤◌, ◌++◌, ◌∷◌, None, Some, length, map, slice_index_or, slice_set, IsTrue, IsFalse, ◌↔◌, IfOk, OnOk, OnErr};
 ghost use Rattle.std.specs.List.{filter_map};
 ghost use Rattle.std.specs.Option.{option_to_list};
 ghost use Rattle.smallvec.specs.SmallVec.{HasRoomFor as HasSpace};
@@ -10,7 +10,7 @@ ghost use Rattle.velo_tables.specs.Readers.{filled_up};
 ghost use Rattle.velo_tables.specs.Kept.{entry, no_accesses, steps_looked_up, HasItsThreads, HasRoomFor, HasRoomToRead, HasRoomBeside, CoverReaders, IsBlank, IsUnchanged, IsRecorded, IsReadForgotten, accesses_of};
 ghost use Rattle.velo_tables.specs.Others.{but_for, accesses_but_for};
 ghost use Rattle.velo_events.specs.Event.{thread_of, is_write};
-ghost use Rattle.velo_tables.specs.Recorded.{kept_after, with_variable, with_read, with_reads_of};
+ghost use Rattle.velo_tables.specs.Recorded.{kept_after, kept_after_beside, with_variable, with_read, with_reads_of};
 
 use crate::entry::{Entry, entry_at};
 use crate::variables::{Variables, push_step};
@@ -125,14 +125,38 @@ impl Tables {
         ensures err { OnErr result (¬ HasRoomFor self.old event.now) }
         ensures memory { OnErr result GrowthRefused }
     {
+        if self.has_room_beside(event) {
+            Ok(())
+        } else {
+            self.grow_for(event)
+        }
+    }
+
+    /// Whether there is room for what the event records beside the last event of its thread.
+    #[inline(always)]
+    fn has_room_beside(&self, event: &Event) -> bool
+        ensures { IsTrue result ↔ HasRoomBeside self.now (thread_of event.now) event.now.kind }
+    {
         match event.kind {
-            Kind::Read(x, _) => {
-                if self.variables.has_room_to_read(x, event.thread) {
-                    Ok(())
-                } else {
-                    self.reserve_reads(x)
-                }
-            }
+            Kind::Read(x, _) => self.variables.has_room_to_read(x, event.thread),
+            Kind::Write(x, _) => self.variables.has_room_to_write(x),
+            Kind::Acquire(m) | Kind::Release(m) => (m.0 as usize) < self.locks.len(),
+            Kind::Fork(u) => (u.0 as usize) < self.threads.len(),
+            _ => true,
+        }
+    }
+
+    /// Makes room for what the event records, where there was none.
+    #[inline(never)]
+    fn grow_for(&mut self, event: &Event) -> Result<(), Memory>
+        requires { ¬ HasRoomBeside self.old (thread_of event.now) event.now.kind }
+        ensures unchanged { IsUnchanged self.old self.new }
+        ensures threads { length self.new.threads ≡ length self.old.threads }
+        ensures ok { OnOk result (HasItsThreads self.old event.now → HasRoomFor self.new event.now) }
+        ensures memory { OnErr result GrowthRefused }
+    {
+        match event.kind {
+            Kind::Read(x, _) => self.reserve_reads(x),
             Kind::Write(x, _) => self.reserve_variable(x),
             Kind::Acquire(m) | Kind::Release(m) => self.reserve_lock(m),
             _ => Ok(()),
@@ -187,13 +211,32 @@ impl Tables {
         requires { HasRoomFor self.old event.now }
         ensures { self.new ≡ kept_after self.old event.now step }
     {
-        let entry = Entry::new(step);
-        self.threads[event.thread.0 as usize] = entry;
+        self.threads[event.thread.0 as usize] = Entry::new(step);
+        self.record_beside(event, step);
+    }
+
+    /// Keeps the step as that of the last event at each place that the event records, where it is that of the thread's last
+    /// event already.
+    pub fn record_inside(&mut self, event: &Event, step: Step)
+        requires room { HasRoomFor self.old event.now }
+        requires current { entry self.old (LastOf (thread_of event.now)) ≡ Some step }
+        ensures recorded { IsRecorded self.old event.now (Some step) self.new }
+        ensures threads { length self.new.threads ≡ length self.old.threads }
+    {
+        self.record_beside(event, Some(step));
+    }
+
+    /// Keeps the step at the places that the event records beside the last event of its thread.
+    #[inline(always)]
+    fn record_beside(&mut self, event: &Event, step: Option<Step>)
+        requires { HasRoomBeside self.old (thread_of event.now) event.now.kind }
+        ensures { self.new ≡ kept_after_beside self.old (thread_of event.now) event.now.kind step }
+    {
         match event.kind {
             Kind::Read(x, _) => self.variables.record_read(x, event.thread, step),
             Kind::Write(x, _) => self.variables.record_write(x, step),
-            Kind::Acquire(m) | Kind::Release(m) => self.locks[m.0 as usize] = entry,
-            Kind::Fork(u) => self.threads[u.0 as usize] = entry,
+            Kind::Acquire(m) | Kind::Release(m) => self.locks[m.0 as usize] = Entry::new(step),
+            Kind::Fork(u) => self.threads[u.0 as usize] = Entry::new(step),
             _ => {}
         }
     }

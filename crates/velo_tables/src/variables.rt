@@ -212,6 +212,13 @@ impl Variables {
             && (t.0 as usize) < self.variables[x.0 as usize].reads.count
     }
 
+    /// Whether there is room for a write of the variable.
+    pub fn has_room_to_write(&self, x: VarId) -> bool
+        ensures { IsTrue result ↔ (x.0 < length self.now) }
+    {
+        (x.0 as usize) < self.variables.len()
+    }
+
     /// Appends the steps of the variable's last write and reads but for those of the slot, the reads in the order of their
     /// threads.
     #[inline]
