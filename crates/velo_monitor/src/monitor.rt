@@ -1,6 +1,6 @@
 ghost use Rattle.velo_events.specs.Refusals.{GrowthRefused};
 ghost use Rattle.std.specs.Prelude.{◌≡◌, ◌≤◌, ◌<◌, ℕ, [], ◌∷◌, ◌++◌, List, length, IsTrue, IsFalse, IfOk, OnOk, OnErr, ◌↔◌, Some};
-ghost use Rattle.std.specs.Option.{ForSome};
+ghost use Rattle.std.specs.Option.{ForSome, option_to_list};
 ghost use Rattle.velo_events.specs.declared.config.Bounds.{Bounds as BoundsOf};
 ghost use Rattle.velo_events.specs.declared.event.Event.{Event as EventOf};
 ghost use Rattle.velo_events.specs.Event.{thread_of};
@@ -172,6 +172,25 @@ fn place_operation(graph: &mut Graph<BitRow>, steps: &[Step], position: u32) -> 
     }
 }
 
+/// Where an event outside blocks goes after the one step, the other, both or none.
+fn place_after_both(
+    graph: &mut Graph<BitRow>,
+    own: Option<Step>,
+    beside: Option<Step>,
+    position: u32,
+) -> Option<Step>
+    requires stamp { ForSome graph.old.slots.newest (λ newest. newest < position) }
+    requires slot { GetsNew (HasFinished graph.old) (IsAncestor graph.old) (live_stamps graph.old (option_to_list own ++ option_to_list beside)) → used_in graph.old.slots < limit_of graph.old.slots }
+    ensures placed { IsPlaced graph.old (option_to_list own ++ option_to_list beside) position result graph.new }
+    ensures limit { limit_of graph.new.slots ≡ limit_of graph.old.slots }
+{
+    match (own, beside) {
+        (Some(own), Some(beside)) => place_operation(graph, &[own, beside], position),
+        (Some(only), None) | (None, Some(only)) => place_operation(graph, &[only], position),
+        (None, None) => place_operation(graph, &[], position),
+    }
+}
+
 impl Monitor {
     /// How many blocks the thread has open.
     fn depth(&self, t: ThreadId) -> u8
@@ -255,7 +274,7 @@ impl Monitor {
                 transaction: own.stamp as usize,
             };
         }
-        self.tables.record(event, Some(own));
+        self.tables.record_inside(event, own);
         self.count_blocks(event, own);
         Seen::Quiet
     }
@@ -369,8 +388,14 @@ impl Monitor {
         ensures operates { Operates self.old position event.now self.new }
         ensures limit { limit_of self.new.nodes.slots ≡ limit_of self.old.nodes.slots }
     {
-        self.tables.predecessors_into(event, &mut self.steps);
-        let step = place_operation(&mut self.graph, &self.steps, position);
+        let step = if let Kind::Write(..) = event.kind {
+            self.tables.predecessors_into(event, &mut self.steps);
+            place_operation(&mut self.graph, &self.steps, position)
+        } else {
+            let own = self.tables.last_of(event.thread);
+            let beside = self.tables.step_beside(event);
+            place_after_both(&mut self.graph, own, beside, position)
+        };
         self.tables.record(event, step);
     }
 }

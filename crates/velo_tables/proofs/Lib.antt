@@ -2,6 +2,7 @@ pub mod OnReaders
 pub mod OnNumberLists
 pub mod OnKept
 pub mod OnOthers
+pub mod OnVariables
 pub mod OnLastClocks
 pub mod OnForgotten
 pub mod OnLast

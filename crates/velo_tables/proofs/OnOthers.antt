@@ -7,8 +7,8 @@ use Rattle.std.specs.Option.{option_to_list}
 use Rattle.velo_arena.specs.declared.step.Step.{Step}
 use Rattle.velo_tables.specs.Place.{LastWrite, LastRead, thread_numbers}
 use Rattle.velo_tables.specs.Readers.{AreReaders}
-use Rattle.velo_tables.specs.Kept.{Kept, Accesses, entry, accesses_of, no_accesses}
-use Rattle.velo_tables.specs.Others.{but_for}
+use Rattle.velo_tables.specs.Kept.{Kept, entry, accesses_of, no_accesses}
+use Rattle.velo_tables.specs.Others.{but_for, steps_of}
 use Rattle.velo_tables.proofs.OnReaders.{HaveBits, filter_map-cons}
 
 pub but_for-none : (slot : Option ℕ) → but_for slot None ≡ None
@@ -30,9 +30,6 @@ filter_map-none f (x ∷ xs) none = ap (λ o. cons_option o (filter_map f xs)) (
 -- the steps of one variable's accesses
 abbrev pub accesses_of_places : Option ℕ → Kept → ℕ → List Step
 accesses_of_places slot kept x = filter_map (λ p. but_for slot (entry kept p)) (LastWrite x ∷ map (LastRead x) thread_numbers)
-
-abbrev pub steps_of : Option ℕ → Accesses → List Step
-steps_of slot accesses = option_to_list (but_for slot accesses.write) ++ filter_map (λ t. but_for slot (get_or accesses.reads t None)) thread_numbers
 
 pub steps_of_accesses : (slot : Option ℕ) (kept : Kept) (x : ℕ) → accesses_of_places slot kept x ≡ steps_of slot (accesses_of kept x)
 steps_of_accesses slot kept x =

@@ -4,6 +4,7 @@ pub mod Readers
 pub mod NumberLists
 pub mod Kept
 pub mod Others
+pub mod Variables
 pub mod Recorded
 pub mod Last
 pub mod Clocks

@@ -12,7 +12,7 @@ mod number_lists;
 mod numbers;
 mod read_clocks;
 mod tables;
-mod variable;
+mod variables;
 
 pub use clocks::ClockTables;
 pub use tables::{MOST_PREDECESSORS, Tables};

@@ -1,5 +1,5 @@
 ghost use Rattle.velo_events.specs.Refusals.{GrowthRefused};
-ghost use Rattle.std.specs.Prelude.{◌≡◌, ◌+◌, ◌^◌, ◌<◌, ◌≤◌, ◌++◌, ◌∷◌, None, length, map, slice_index_or, slice_set, IsTrue, IsFalse, ◌↔◌, IfOk, OnOk, OnErr};
+ghost use Rattle.std.specs.Prelude.{◌≡◌, ◌+◌, ◌^◌, ◌<◌, ◌≤◌, ◌++◌, ◌∷◌, None, Some, length, map, slice_index_or, slice_set, IsTrue, IsFalse, ◌↔◌, IfOk, OnOk, OnErr};
 ghost use Rattle.std.specs.List.{filter_map};
 ghost use Rattle.std.specs.Option.{option_to_list};
 ghost use Rattle.smallvec.specs.SmallVec.{HasRoomFor as HasSpace};
@@ -10,10 +10,10 @@ ghost use Rattle.velo_tables.specs.Readers.{filled_up};
 ghost use Rattle.velo_tables.specs.Kept.{entry, no_accesses, steps_looked_up, HasItsThreads, HasRoomFor, HasRoomToRead, HasRoomBeside, CoverReaders, IsBlank, IsUnchanged, IsRecorded, IsReadForgotten, accesses_of};
 ghost use Rattle.velo_tables.specs.Others.{but_for, accesses_but_for};
 ghost use Rattle.velo_events.specs.Event.{thread_of, is_write};
-ghost use Rattle.velo_tables.specs.Recorded.{kept_after, with_variable, with_read, with_reads_of};
+ghost use Rattle.velo_tables.specs.Recorded.{kept_after, kept_after_beside, with_variable, with_read, with_reads_of};
 
 use crate::entry::{Entry, entry_at};
-use crate::variable::{Variable, but_for, push_step};
+use crate::variables::{Variables, push_step};
 use smallvec::SmallVec;
 use std::alloc::Global;
 use std::marker::Model;
@@ -29,7 +29,7 @@ pub const MOST_PREDECESSORS: usize = MOST_THREADS as usize + 2;
 #[derive(Debug, Drop)]
 pub struct Tables {
     threads: Vec<Entry>,
-    variables: Vec<Variable>,
+    variables: Variables,
     locks: Vec<Entry>,
 }
 
@@ -40,7 +40,7 @@ impl Model for Tables {
 
     ghost Value = { Kept };
 
-    ghost view = { λ s. record { threads = s.threads.items; variables = s.variables.items; locks = s.locks.items } };
+    ghost view = { λ s. record { threads = s.threads.items; variables = s.variables; locks = s.locks.items } };
 
     ghost invariant = { λ s. length s.threads.items ≤ MOST_THREADS };
 }
@@ -59,38 +59,6 @@ fn grow_entries(entries: &mut Vec<Entry>, number: usize) -> Result<(), Memory>
     Ok(())
 }
 
-/// Makes room for the variable with this number.
-fn grow_variables(variables: &mut Vec<Variable>, number: usize) -> Result<(), Memory>
-    requires { number < 2 ^ 32 }
-    ensures ok { OnOk result (variables.new.items ≡ filled_up no_accesses (number + 1) variables.old.items) }
-    ensures err { OnErr result (variables.new.items ≡ variables.old.items) }
-    ensures refused { OnErr result (length variables.old.items ≤ number) }
-    ensures memory { OnErr result GrowthRefused }
-{
-    if number < variables.len() {
-        return Ok(());
-    }
-    let missing = number + 1 - variables.len();
-    reserve(variables, missing)?;
-    let alloc = *variables.allocator();
-    for _ in 0..missing {
-        variables.push_reserved(Variable::new(alloc));
-    }
-    Ok(())
-}
-
-/// Makes room for the reads of the variable with this number by so many threads.
-fn grow_reads(variables: &mut Vec<Variable>, number: usize, threads: usize) -> Result<(), Memory>
-    requires there { number < length variables.old.items }
-    requires few { threads ≤ MOST_THREADS }
-    ensures ok { OnOk result (variables.new.items ≡ slice_set variables.old.items number (with_reads_of threads (slice_index_or variables.old.items number no_accesses))) }
-    ensures err { OnErr result (variables.new.items ≡ variables.old.items) }
-    ensures memory { OnErr result GrowthRefused }
-{
-    let variable = &mut variables[number];
-    variable.reserve_reads(threads)
-}
-
 impl Tables {
     /// Tables of a run's threads, without a step.
     pub fn new(alloc: Global, config: &Config) -> Result<Tables, Memory>
@@ -106,7 +74,7 @@ impl Tables {
         )?;
         Ok(Tables {
             threads,
-            variables: Vec::new(alloc),
+            variables: Variables::new(alloc),
             locks: Vec::new(alloc),
         })
     }
@@ -122,22 +90,14 @@ impl Tables {
     pub fn last_write(&self, x: VarId) -> Option<Step>
         ensures { result ≡ entry self.now (LastWrite x.0) }
     {
-        if (x.0 as usize) < self.variables.len() {
-            self.variables[x.0 as usize].last_write()
-        } else {
-            None
-        }
+        self.variables.last_write(x)
     }
 
     /// The step of the variable's last read by the thread.
     pub fn last_read(&self, x: VarId, t: ThreadId) -> Option<Step>
         ensures { result ≡ entry self.now (LastRead x.0 t.0) }
     {
-        if (x.0 as usize) < self.variables.len() {
-            self.variables[x.0 as usize].last_read(t)
-        } else {
-            None
-        }
+        self.variables.last_read(x, t)
     }
 
     /// A bit for each thread whose last read of the variable has a step, and perhaps for others that read it: no other
@@ -145,12 +105,7 @@ impl Tables {
     pub fn readers(&self, x: VarId) -> u64
         ensures { CoverReaders self.now x.0 result }
     {
-        if (x.0 as usize) < self.variables.len() {
-            let variable = &self.variables[x.0 as usize];
-            variable.readers()
-        } else {
-            0
-        }
+        self.variables.readers(x)
     }
 
     /// The step of the lock's last event.
@@ -170,29 +125,41 @@ impl Tables {
         ensures err { OnErr result (¬ HasRoomFor self.old event.now) }
         ensures memory { OnErr result GrowthRefused }
     {
-        match event.kind {
-            Kind::Read(x, _) => {
-                if self.has_room_to_read(x, event.thread) {
-                    Ok(())
-                } else {
-                    self.reserve_reads(x)
-                }
-            }
-            Kind::Write(x, _) => self.reserve_variable(x),
-            Kind::Acquire(m) | Kind::Release(m) => self.reserve_lock(m),
-            _ => Ok(()),
+        if self.has_room_beside(event) {
+            Ok(())
+        } else {
+            self.grow_for(event)
         }
     }
 
-    /// Whether there is room for a read of the variable by the thread.
-    fn has_room_to_read(&self, x: VarId, t: ThreadId) -> bool
-        ensures { IsTrue result ↔ HasRoomBeside self.now t.0 (Kind.Read x 0) }
+    /// Whether there is room for what the event records beside the last event of its thread.
+    #[inline(always)]
+    fn has_room_beside(&self, event: &Event) -> bool
+        ensures { IsTrue result ↔ HasRoomBeside self.now (thread_of event.now) event.now.kind }
     {
-        if (x.0 as usize) < self.variables.len() {
-            let variable = &self.variables[x.0 as usize];
-            variable.has_room_for(t)
-        } else {
-            false
+        match event.kind {
+            Kind::Read(x, _) => self.variables.has_room_to_read(x, event.thread),
+            Kind::Write(x, _) => self.variables.has_room_to_write(x),
+            Kind::Acquire(m) | Kind::Release(m) => (m.0 as usize) < self.locks.len(),
+            Kind::Fork(u) => (u.0 as usize) < self.threads.len(),
+            _ => true,
+        }
+    }
+
+    /// Makes room for what the event records, where there was none.
+    #[inline(never)]
+    fn grow_for(&mut self, event: &Event) -> Result<(), Memory>
+        requires { ¬ HasRoomBeside self.old (thread_of event.now) event.now.kind }
+        ensures unchanged { IsUnchanged self.old self.new }
+        ensures threads { length self.new.threads ≡ length self.old.threads }
+        ensures ok { OnOk result (HasItsThreads self.old event.now → HasRoomFor self.new event.now) }
+        ensures memory { OnErr result GrowthRefused }
+    {
+        match event.kind {
+            Kind::Read(x, _) => self.reserve_reads(x),
+            Kind::Write(x, _) => self.reserve_variable(x),
+            Kind::Acquire(m) | Kind::Release(m) => self.reserve_lock(m),
+            _ => Ok(()),
         }
     }
 
@@ -204,7 +171,7 @@ impl Tables {
         ensures err { OnErr result (length self.old.variables ≤ x.0) }
         ensures memory { OnErr result GrowthRefused }
     {
-        grow_variables(&mut self.variables, x.0 as usize)
+        self.variables.reserve(x)
     }
 
     /// Makes room for a read of the variable by each thread.
@@ -215,8 +182,7 @@ impl Tables {
         ensures memory { OnErr result GrowthRefused }
     {
         self.reserve_variable(x)?;
-        let threads = self.threads.len();
-        grow_reads(&mut self.variables, x.0 as usize, threads)
+        self.variables.reserve_reads(x, self.threads.len())
     }
 
     /// Makes room for an event of the lock.
@@ -245,19 +211,32 @@ impl Tables {
         requires { HasRoomFor self.old event.now }
         ensures { self.new ≡ kept_after self.old event.now step }
     {
-        let entry = Entry::new(step);
-        self.threads[event.thread.0 as usize] = entry;
+        self.threads[event.thread.0 as usize] = Entry::new(step);
+        self.record_beside(event, step);
+    }
+
+    /// Keeps the step as that of the last event at each place that the event records, where it is that of the thread's last
+    /// event already.
+    pub fn record_inside(&mut self, event: &Event, step: Step)
+        requires room { HasRoomFor self.old event.now }
+        requires current { entry self.old (LastOf (thread_of event.now)) ≡ Some step }
+        ensures recorded { IsRecorded self.old event.now (Some step) self.new }
+        ensures threads { length self.new.threads ≡ length self.old.threads }
+    {
+        self.record_beside(event, Some(step));
+    }
+
+    /// Keeps the step at the places that the event records beside the last event of its thread.
+    #[inline(always)]
+    fn record_beside(&mut self, event: &Event, step: Option<Step>)
+        requires { HasRoomBeside self.old (thread_of event.now) event.now.kind }
+        ensures { self.new ≡ kept_after_beside self.old (thread_of event.now) event.now.kind step }
+    {
         match event.kind {
-            Kind::Read(x, _) => {
-                let variable = &mut self.variables[x.0 as usize];
-                variable.record_read(event.thread, step);
-            }
-            Kind::Write(x, _) => {
-                let variable = &mut self.variables[x.0 as usize];
-                variable.record_write(step);
-            }
-            Kind::Acquire(m) | Kind::Release(m) => self.locks[m.0 as usize] = entry,
-            Kind::Fork(u) => self.threads[u.0 as usize] = entry,
+            Kind::Read(x, _) => self.variables.record_read(x, event.thread, step),
+            Kind::Write(x, _) => self.variables.record_write(x, step),
+            Kind::Acquire(m) | Kind::Release(m) => self.locks[m.0 as usize] = Entry::new(step),
+            Kind::Fork(u) => self.threads[u.0 as usize] = Entry::new(step),
             _ => {}
         }
     }
@@ -273,10 +252,7 @@ impl Tables {
     fn forget_in_place(&mut self, x: VarId, t: ThreadId)
         ensures { self.new ≡ with_variable self.old x.0 (with_read (accesses_of self.old x.0) t.0 None) }
     {
-        if (x.0 as usize) < self.variables.len() {
-            let variable = &mut self.variables[x.0 as usize];
-            variable.forget_read(t);
-        }
+        self.variables.forget_read(x, t);
     }
 
     /// Puts the steps that the event looks up into the list, in place of what it had: first that of the thread's last
@@ -336,11 +312,7 @@ impl Tables {
         ensures items { list.new.items ≡ list.old.items ++ filter_map (λ p. but_for slot (entry self.now p)) (LastWrite x.0 ∷ map (LastRead x.0) thread_numbers) }
         ensures capacity { list.new.capacity ≡ list.old.capacity }
     {
-        if (x.0 as usize) < self.variables.len() {
-            let variable = &self.variables[x.0 as usize];
-            push_step(list, but_for(slot, variable.last_write()));
-            variable.push_reads(slot, list);
-        }
+        self.variables.push_accesses(x, slot, list);
     }
 
     /// The steps that the event looks up: first that of the thread's last event, and a write's reads in the order of their

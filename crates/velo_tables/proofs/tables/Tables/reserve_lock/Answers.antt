@@ -6,8 +6,8 @@ use Rattle.velo_tables.proofs.tables.Tables.reserve_lock.Goals as goal
 
 pub returns-clause-same : goal.returns-clause-same
 returns-clause-same c =
-    let kept : Kept = record { threads = c.self.inside.threads.items; variables = c.self.inside.variables.items; locks = c.self.inside.locks.items } in
-    subst (λ old. IsUnchanged old (record { threads = c.self.inside.threads.items; variables = c.self.inside.variables.items; locks = c.grow_entries.new.entries.items })) c.self.view_is
+    let kept : Kept = record { threads = c.self.inside.threads.items; variables = c.self.inside.variables; locks = c.self.inside.locks.items } in
+    subst (λ old. IsUnchanged old (record { threads = c.self.inside.threads.items; variables = c.self.inside.variables; locks = c.grow_entries.new.entries.items })) c.self.view_is
     (locks_grown c.grow_entries.result kept c.args.m.0 c.grow_entries.new.entries.items c.grow_entries.ensures.ok c.grow_entries.ensures.err)
 
 pub returns-clause-ok : goal.returns-clause-ok

@@ -5,9 +5,9 @@ use Rattle.velo_tables.proofs.tables.Tables.reserve_variable.Goals as goal
 
 pub returns-clause-same : goal.returns-clause-same
 returns-clause-same c =
-    let kept : Kept = record { threads = c.self.inside.threads.items; variables = c.self.inside.variables.items; locks = c.self.inside.locks.items } in
-    subst (λ old. IsUnchanged old (record { threads = c.self.inside.threads.items; variables = c.grow_variables.new.variables.items; locks = c.self.inside.locks.items })) c.self.view_is
-    (variables_grown c.grow_variables.result kept c.args.x.0 c.grow_variables.new.variables.items c.grow_variables.ensures.ok c.grow_variables.ensures.err)
+    let kept : Kept = record { threads = c.self.inside.threads.items; variables = c.self.inside.variables; locks = c.self.inside.locks.items } in
+    subst (λ old. IsUnchanged old (record { threads = c.self.inside.threads.items; variables = c.reserve.new.self; locks = c.self.inside.locks.items })) c.self.view_is
+    (variables_grown c.reserve.result kept c.args.x.0 c.reserve.new.self c.reserve.ensures.ok c.reserve.ensures.err)
 
 pub returns-clause-ok : goal.returns-clause-ok
-returns-clause-ok c = entries_room c.grow_variables.result c.args.self.now no_accesses c.args.x.0 c.self.inside.variables.items c.grow_variables.new.variables.items c.grow_variables.ensures.ok
+returns-clause-ok c = entries_room c.reserve.result c.args.self.now no_accesses c.args.x.0 c.self.inside.variables c.reserve.new.self c.reserve.ensures.ok

@@ -8,7 +8,7 @@ use Rattle.velo_arena.specs.declared.step.Step.{Step}
 use Rattle.velo_tables.specs.Others.{but_for}
 use Rattle.velo_tables.proofs.OnReaders.{IsWalked, IsWalked-next, IsWalked-all}
 use Rattle.velo_tables.proofs.OnOthers.{HaveBits-but_for}
-use Rattle.velo_tables.proofs.variable.push_reads_of.Goals as goal
+use Rattle.velo_tables.proofs.variables.push_reads_of.Goals as goal
 
 pub loop-rest-preserved : goal.loop-rest-preserved
 loop-rest-preserved c =

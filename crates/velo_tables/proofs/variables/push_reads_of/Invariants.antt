@@ -2,7 +2,7 @@ use Rattle.std.proofs.Common.{◌≡◌, ◌-◌, get_or}
 use Rattle.std.specs.Prelude.{None}
 use Rattle.velo_tables.specs.Others.{but_for}
 use Rattle.velo_tables.proofs.OnReaders.{IsWalked}
-use Rattle.velo_tables.proofs.variable.push_reads_of.Given as goal
+use Rattle.velo_tables.proofs.variables.push_reads_of.Given as goal
 
 abbrev pub invariant-loop-rest : goal.invariant-loop-rest
 invariant-loop-rest l = record {

@@ -1,0 +1,319 @@
+-- The last accesses of each variable, where the last reads of all stand in one list: what becomes of them where one changes.
+use Rattle.std.proofs.Common.{◌≡◌, ℕ, zero, suc, ◌+◌, ◌-◌, ◌<◌, ◌≤◌, List, ◌∷◌, ◌++◌, Option, None, length, take, drop, get_or, map, refl, sym, ap, ◌∙◌, subst, arith, length-append, length-drop, ⊎_elim, inl, inr}
+use Rattle.std.specs.Prelude.{replicate}
+use Rattle.std.proofs.Math.ListN.{set, get_or-map}
+use Rattle.std.proofs.Math.Seq.{take-set-lt}
+use Rattle.std.proofs.lemmas.Bool.{cases_eq, cases_lt}
+use Rattle.std.proofs.lemmas.List.{ext_get_or, get_or-set_same, get_or-set_other, get_or_default, length-map, length-set, length-take-le, take-append-le, drop-append-le, drop_at, take_all, take-set-le, drop-set-lt, drop-set-add, set_past, set-get_or, map-append}
+use Rattle.velo_arena.specs.declared.step.Step.{Step}
+use Rattle.velo_tables.specs.declared.variables.Reads.{Reads}
+use Rattle.velo_tables.specs.declared.variables.Variable.{Variable}
+use Rattle.velo_tables.specs.Readers.{filled_up, AreReaders}
+use Rattle.velo_tables.specs.Kept.{Accesses, no_accesses}
+use Rattle.velo_tables.specs.Recorded.{with_write, with_read, with_reads_of}
+use Rattle.velo_tables.specs.Variables.{reads_in, accesses_in, blank_variable, AreApart, place_of, AreReadsLaidOut}
+use Rattle.velo_tables.proofs.OnReaders.{get_or-filled_up, length-filled_up, filled_up-long, AreReaders-filled_up}
+
+abbrev Entries : Type 0
+Entries = List (Option Step)
+
+-- ---- the reads of one variable
+
+abbrev Fits : Entries → Reads → Type 0
+Fits entries v = v.start + v.count ≤ length entries
+
+pub length-reads_in : (entries : Entries) (v : Reads) → Fits entries v → length (reads_in entries v) ≡ v.count
+length-reads_in entries v fits = length-take-le v.count (drop v.start entries) (omega (arith, fits, length-drop v.start entries))
+
+-- more behind change nothing
+pub reads_in-append : (entries more : Entries) (v : Reads) → Fits entries v → reads_in (entries ++ more) v ≡ reads_in entries v
+reads_in-append entries more v fits =
+    ap (take v.count) (drop-append-le v.start entries more (omega (arith, fits)))
+    ∙ take-append-le v.count (drop v.start entries) more (omega (arith, fits, length-drop v.start entries))
+
+pub length-longer : (entries : Entries) (v : Reads) (count : ℕ) → Fits entries v → v.count ≤ count → length (filled_up None count (reads_in entries v)) ≡ count
+length-longer entries v count fits longer = omega (arith, length-filled_up None count (reads_in entries v), length-reads_in entries v fits, longer)
+
+-- one of its own is written
+pub reads_in-set : (entries : Entries) (v : Reads) (t : ℕ) (step : Option Step) → t < v.count → reads_in (set entries (v.start + t) step) v ≡ set (reads_in entries v) t step
+reads_in-set entries v t step inside = ap (take v.count) (drop-set-add v.start entries t step) ∙ take-set-lt v.count (drop v.start entries) t step inside
+
+-- one of another variable is written
+pub reads_in-set_other : (entries : Entries) (v w : Reads) (t : ℕ) (step : Option Step) → t < v.count → AreApart v w → reads_in (set entries (v.start + t) step) w ≡ reads_in entries w
+reads_in-set_other entries v w t step inside apart =
+    ⊎_elim
+    (λ before. ap (take w.count) (drop-set-lt w.start entries (v.start + t) step (omega (arith, before, inside))))
+    (λ behind.
+    let beyond : v.start + t ≡ w.start + (v.start + t - w.start) = omega (arith, behind) in
+    ap (λ k. take w.count (drop w.start (set entries k step))) beyond
+    ∙ (ap (take w.count) (drop-set-add w.start entries (v.start + t - w.start) step)
+    ∙ take-set-le w.count (drop w.start entries) (v.start + t - w.start) step (omega (arith, behind))))
+    apart
+
+-- ---- one variable is replaced
+
+AreApart-sym : (v w : Reads) → AreApart v w → AreApart w v
+AreApart-sym v w apart = ⊎_elim (λ before. inr before) (λ behind. inl behind) apart
+
+pub get_or-accesses : (entries : Entries) (variables : List Variable) (i : ℕ) → get_or (map (accesses_in entries) variables) i no_accesses ≡ accesses_in entries (get_or variables i blank_variable)
+get_or-accesses entries variables i = get_or-map (accesses_in entries) variables i blank_variable
+
+-- nothing is changed in the reads of the others, and the new one is laid out like them
+pub record Replaces (entries : Entries) (variables : List Variable) (x : ℕ) (new : Variable) (after : Entries) : Type 0 where
+  pub there : x < length variables
+  pub longer : length entries ≤ length after
+  pub others : (j : ℕ) → ¬ (x ≡ j) → reads_in after (place_of variables j) ≡ reads_in entries (place_of variables j)
+  pub fits : Fits after new.reads
+  pub apart : (j : ℕ) → ¬ (x ≡ j) → AreApart new.reads (place_of variables j)
+  pub readers : AreReaders new.readers (reads_in after new.reads)
+
+module _ (entries : Entries) (variables : List Variable) (x : ℕ) (new : Variable) (after : Entries) (replaces : Replaces entries variables x new after) where
+  abbrev replaced : List Variable
+  replaced = set variables x new
+
+  here : get_or replaced x blank_variable ≡ new
+  here = get_or-set_same variables x new blank_variable replaces.there
+
+  other : (j : ℕ) → ¬ (x ≡ j) → get_or replaced j blank_variable ≡ get_or variables j blank_variable
+  other j off = get_or-set_other variables x j new blank_variable (λ e. off (sym e))
+
+  abbrev accesses_after : List Accesses
+  accesses_after = set (map (accesses_in entries) variables) x (accesses_in after new)
+
+  each-access : (j : ℕ) → get_or (map (accesses_in after) replaced) j no_accesses ≡ get_or accesses_after j no_accesses
+  each-access j = get_or-accesses after replaced j ∙ ⊎_elim
+      (λ at. subst (λ k. accesses_in after (get_or replaced k blank_variable) ≡ get_or accesses_after k no_accesses) at
+      (ap (accesses_in after) here ∙ sym (get_or-set_same (map (accesses_in entries) variables) x (accesses_in after new) no_accesses (omega (arith, replaces.there, length-map variables (accesses_in entries))))))
+      (λ off. ap (accesses_in after) (other j off)
+      ∙ (ap (λ reads. accesses (get_or variables j blank_variable).write reads) (replaces.others j off)
+      ∙ (sym (get_or-accesses entries variables j) ∙ sym (get_or-set_other (map (accesses_in entries) variables) x j (accesses_in after new) no_accesses (λ e. off (sym e))))))
+      (cases_eq x j)
+    where
+      accesses : Option Step → Entries → Accesses
+      accesses write reads = record { write = write; reads = reads }
+
+  pub accesses-replaced : map (accesses_in after) replaced ≡ accesses_after
+  accesses-replaced = ext_get_or no_accesses (map (accesses_in after) replaced) accesses_after
+      (omega (arith, length-map replaced (accesses_in after), length-set variables x new, length-map variables (accesses_in entries), length-set (map (accesses_in entries) variables) x (accesses_in after new))) (λ j l. each-access j)
+
+  module _ (laid : AreReadsLaidOut entries variables) where
+    within-replaced : (j : ℕ) → Fits after (place_of replaced j)
+    within-replaced j = ⊎_elim
+        (λ at. subst (λ k. Fits after (place_of replaced k)) at (subst (λ (v : Variable). Fits after v.reads) (sym here) replaces.fits))
+        (λ off. subst (λ (v : Variable). Fits after v.reads) (sym (other j off)) (omega (arith, laid.within j, replaces.longer)))
+        (cases_eq x j)
+
+    apart-replaced : (j k : ℕ) → ¬ (j ≡ k) → AreApart (place_of replaced j) (place_of replaced k)
+    apart-replaced j k off = ⊎_elim
+        (λ at. subst (λ m. AreApart (place_of replaced m) (place_of replaced k)) at
+        (subst (λ (v : Variable). AreApart v.reads (place_of replaced k)) (sym here)
+        (subst (λ (v : Variable). AreApart new.reads v.reads) (sym (other k (λ e. off (sym at ∙ e)))) (replaces.apart k (λ e. off (sym at ∙ e))))))
+        (λ j_off. subst (λ (v : Variable). AreApart v.reads (place_of replaced k)) (sym (other j j_off))
+        (⊎_elim
+        (λ at. subst (λ m. AreApart (place_of variables j) (place_of replaced m)) at
+        (subst (λ (v : Variable). AreApart (place_of variables j) v.reads) (sym here) (AreApart-sym new.reads (place_of variables j) (replaces.apart j j_off))))
+        (λ k_off. subst (λ (v : Variable). AreApart (place_of variables j) v.reads) (sym (other k k_off)) (laid.apart j k off))
+        (cases_eq x k)))
+        (cases_eq x j)
+
+    readers-replaced : (j : ℕ) → AreReaders (get_or replaced j blank_variable).readers (reads_in after (place_of replaced j))
+    readers-replaced j = ⊎_elim
+        (λ at. subst (λ k. AreReaders (get_or replaced k blank_variable).readers (reads_in after (place_of replaced k))) at
+        (subst (λ (v : Variable). AreReaders v.readers (reads_in after v.reads)) (sym here) replaces.readers))
+        (λ off. subst (λ (v : Variable). AreReaders v.readers (reads_in after v.reads)) (sym (other j off))
+        (subst (AreReaders (get_or variables j blank_variable).readers) (sym (replaces.others j off)) (laid.readers j)))
+        (cases_eq x j)
+
+    pub laid-replaced : AreReadsLaidOut after replaced
+    laid-replaced = record { within = within-replaced; apart = apart-replaced; readers = readers-replaced }
+
+-- ---- what the calls do, by place
+
+abbrev written : Variable → Option Step → Variable
+written v step = record { write = step; readers = v.readers; reads = v.reads }
+
+abbrev with_readers : Variable → ℕ → Variable
+with_readers v readers = record { write = v.write; readers = readers; reads = v.reads }
+
+abbrev moved : ℕ → ℕ → Variable → Variable
+moved start count v = record { write = v.write; readers = v.readers; reads = record { start = start; count = count } }
+
+abbrev with_reads_in : Option Step → Entries → Accesses
+with_reads_in write reads = record { write = write; reads = reads }
+
+module _ (entries : Entries) (variables : List Variable) (laid : AreReadsLaidOut entries variables) (x : ℕ) (there : x < length variables) where
+  abbrev old : Variable
+  old = get_or variables x blank_variable
+
+  -- a write is recorded
+  Replaces-write : (step : Option Step) → Replaces entries variables x (written old step) entries
+  Replaces-write step = record { there = there; longer = omega arith; others = λ j off. refl; fits = laid.within x; apart = λ j off. laid.apart x j off; readers = laid.readers x }
+
+  -- a read is recorded, or forgotten
+  Replaces-read : (t readers : ℕ) (step : Option Step) → t < old.reads.count → AreReaders readers (set (reads_in entries old.reads) t step) → Replaces entries variables x (with_readers old readers) (set entries (old.reads.start + t) step)
+  Replaces-read t readers step inside are = record {
+    there = there;
+    longer = omega (arith, length-set entries (old.reads.start + t) step);
+    others = λ j off. reads_in-set_other entries old.reads (place_of variables j) t step inside (laid.apart x j off);
+    fits = omega (arith, laid.within x, length-set entries (old.reads.start + t) step);
+    apart = λ j off. laid.apart x j off;
+    readers = subst (AreReaders readers) (sym (reads_in-set entries old.reads t step inside)) are;
+  }
+
+  -- room for more reads is made
+  module _ (count : ℕ) (longer : old.reads.count ≤ count) (few : count ≤ 64) where
+    abbrev more : Entries
+    more = entries ++ filled_up None count (reads_in entries old.reads)
+
+    long : length (filled_up None count (reads_in entries old.reads)) ≡ count
+    long = length-longer entries old.reads count (laid.within x) longer
+
+    long_more : length more ≡ length entries + count
+    long_more = omega (arith, length-append entries (filled_up None count (reads_in entries old.reads)), long)
+
+    reads_in-moved : reads_in more (moved (length entries) count old).reads ≡ filled_up None count (reads_in entries old.reads)
+    reads_in-moved =
+        ap (take count) (drop_at entries (filled_up None count (reads_in entries old.reads)) (length entries) refl)
+        ∙ take_all count (filled_up None count (reads_in entries old.reads)) (omega (arith, long))
+
+    Replaces-more : Replaces entries variables x (moved (length entries) count old) more
+    Replaces-more = record {
+      there = there;
+      longer = omega (arith, long_more);
+      others = λ j off. reads_in-append entries (filled_up None count (reads_in entries old.reads)) (place_of variables j) (laid.within j);
+      fits = omega (arith, long_more);
+      apart = λ j off. inr (laid.within j);
+      readers = subst (AreReaders old.readers) (sym reads_in-moved) (AreReaders-filled_up old.readers count (reads_in entries old.reads) few (laid.readers x));
+    }
+
+-- ---- what the calls do, as callers see it
+
+module _ (entries : Entries) (variables : List Variable) (lists : List Accesses) (laid : AreReadsLaidOut entries variables) (view : map (accesses_in entries) variables ≡ lists) where
+  pub same_count : length variables ≡ length lists
+  same_count = sym (length-map variables (accesses_in entries)) ∙ ap length view
+
+  pub accesses-are : (i : ℕ) → get_or lists i no_accesses ≡ accesses_in entries (get_or variables i blank_variable)
+  accesses-are i = ap (λ ls. get_or ls i no_accesses) (sym view) ∙ get_or-accesses entries variables i
+
+  pub count-is : (i : ℕ) → length (get_or lists i no_accesses).reads ≡ (place_of variables i).count
+  count-is i = ap (λ (a : Accesses). length a.reads) (accesses-are i) ∙ length-reads_in entries (place_of variables i) (laid.within i)
+
+  module _ (x : ℕ) (inside : x < length lists) where
+    there : x < length variables
+    there = omega (arith, inside, same_count)
+
+    pub found-is : (v : Variable) → v ≡ get_or variables x v → v ≡ get_or variables x blank_variable
+    found-is v at = at ∙ get_or_default variables x v blank_variable there
+
+    pub found-fits : (v : Variable) → v ≡ get_or variables x v → Fits entries v.reads
+    found-fits v at = subst (λ (u : Variable). Fits entries u.reads) (sym (found-is v at)) (laid.within x)
+
+    accesses-set : (new : Variable) (after : Entries) (accesses : Accesses) → Replaces entries variables x new after → accesses_in after new ≡ accesses → map (accesses_in after) (set variables x new) ≡ set lists x accesses
+    accesses-set new after accesses replaces same = accesses-replaced entries variables x new after replaces ∙ (ap (set (map (accesses_in entries) variables) x) same ∙ ap (λ ls. set ls x accesses) view)
+
+    -- a write
+    module _ (v : Variable) (at : v ≡ get_or variables x v) where
+      pub laid-written : (step : Option Step) → AreReadsLaidOut entries (set variables x (written v step))
+      laid-written step =
+          subst (λ w. AreReadsLaidOut entries (set variables x (written w step))) (sym (found-is v at))
+          (laid-replaced entries variables x _ entries (Replaces-write entries variables laid x there step) laid)
+
+      pub accesses-written : (step : Option Step) → map (accesses_in entries) (set variables x (written v step)) ≡ set lists x (with_write (get_or lists x no_accesses) step)
+      accesses-written step =
+          ap (λ w. map (accesses_in entries) (set variables x (written w step))) (found-is v at)
+          ∙ accesses-set _ entries _ (Replaces-write entries variables laid x there step) (ap (λ (a : Accesses). with_write a step) (sym (accesses-are x)))
+
+    -- a read
+    module _ (v w : Variable) (at : v ≡ get_or variables x v) (at_too : w ≡ get_or variables x w) (t readers : ℕ) (step : Option Step) (within : t < length (get_or lists x no_accesses).reads)
+        (are : (reads : Entries) → t < length reads → AreReaders v.readers reads → AreReaders readers (set reads t step)) where
+      abbrev place : Reads
+      place = place_of variables x
+
+      counted : t < place.count
+      counted = omega (arith, within, count-is x)
+
+      read_replaces : Replaces entries variables x (with_readers (get_or variables x blank_variable) readers) (set entries (place.start + t) step)
+      read_replaces = Replaces-read entries variables laid x there t readers step counted
+          (are (reads_in entries place) (omega (arith, counted, length-reads_in entries place (laid.within x))) (subst (λ (u : Variable). AreReaders u.readers (reads_in entries place)) (sym (found-is v at)) (laid.readers x)))
+
+      pub place-inside : v.reads.start + t < length entries
+      place-inside = subst (λ (u : Variable). u.reads.start + t < length entries) (sym (found-is v at)) (omega (arith, counted, laid.within x))
+
+      pub laid-read : AreReadsLaidOut (set entries (v.reads.start + t) step) (set variables x (with_readers w readers))
+      laid-read =
+          subst (λ (u : Variable). AreReadsLaidOut (set entries (u.reads.start + t) step) (set variables x (with_readers w readers))) (sym (found-is v at))
+          (subst (λ u. AreReadsLaidOut (set entries (place.start + t) step) (set variables x (with_readers u readers))) (sym (found-is w at_too))
+          (laid-replaced entries variables x _ (set entries (place.start + t) step) read_replaces laid))
+
+      pub accesses-read : map (accesses_in (set entries (v.reads.start + t) step)) (set variables x (with_readers w readers)) ≡ set lists x (with_read (get_or lists x no_accesses) t step)
+      accesses-read =
+          ap (λ (u : Variable). map (accesses_in (set entries (u.reads.start + t) step)) (set variables x (with_readers w readers))) (found-is v at)
+          ∙ (ap (λ u. map (accesses_in (set entries (place.start + t) step)) (set variables x (with_readers u readers))) (found-is w at_too)
+          ∙ accesses-set _ (set entries (place.start + t) step) _ read_replaces
+          (ap (with_reads_in (get_or variables x blank_variable).write) (reads_in-set entries place t step counted) ∙ ap (λ (a : Accesses). with_read a t step) (sym (accesses-are x))))
+
+    -- room for reads
+    module _ (v w : Variable) (at : v ≡ get_or variables x v) (at_too : w ≡ get_or variables x w) (count : ℕ) (longer : v.reads.count < count) (few : count ≤ 64)
+        (start : ℕ) (from : start ≡ length entries) (after : Entries) (is : after ≡ entries ++ filled_up None count (reads_in entries v.reads)) where
+      longer_too : (place_of variables x).count ≤ count
+      longer_too = subst (λ (u : Variable). u.reads.count ≤ count) (found-is v at) (omega (arith, longer))
+
+      more_replaces : Replaces entries variables x (moved (length entries) count (get_or variables x blank_variable)) (entries ++ filled_up None count (reads_in entries (place_of variables x)))
+      more_replaces = Replaces-more entries variables laid x there count longer_too few
+
+      is-more : after ≡ entries ++ filled_up None count (reads_in entries (place_of variables x))
+      is-more = is ∙ ap (λ (u : Variable). entries ++ filled_up None count (reads_in entries u.reads)) (found-is v at)
+
+      new-is : moved start count w ≡ moved (length entries) count (get_or variables x blank_variable)
+      new-is = ap (λ n. moved n count w) from ∙ ap (moved (length entries) count) (found-is w at_too)
+
+      pub laid-more : AreReadsLaidOut after (set variables x (moved start count w))
+      laid-more =
+          subst (λ es. AreReadsLaidOut es (set variables x (moved start count w))) (sym is-more)
+          (subst (λ u. AreReadsLaidOut (entries ++ filled_up None count (reads_in entries (place_of variables x))) (set variables x u)) (sym new-is) (laid-replaced entries variables x _ _ more_replaces laid))
+
+      pub accesses-more : map (accesses_in after) (set variables x (moved start count w)) ≡ set lists x (with_reads_of count (get_or lists x no_accesses))
+      accesses-more =
+          ap (λ es. map (accesses_in es) (set variables x (moved start count w))) is-more
+          ∙ (ap (λ u. map (accesses_in (entries ++ filled_up None count (reads_in entries (place_of variables x)))) (set variables x u)) new-is
+          ∙ accesses-set _ _ _ more_replaces
+          (ap (with_reads_in (get_or variables x blank_variable).write) (reads_in-moved entries variables laid x there count longer_too few) ∙ ap (with_reads_of count) (sym (accesses-are x))))
+
+  -- where there is room already
+  pub had-room : (x count : ℕ) (v : Variable) → x < length lists → v ≡ get_or variables x v → count ≤ v.reads.count → lists ≡ set lists x (with_reads_of count (get_or lists x no_accesses))
+  had-room x count v inside at h =
+      sym (ap (set lists x) (ap (with_reads_in (get_or lists x no_accesses).write) (filled_up-long None count (get_or lists x no_accesses).reads
+      (omega (arith, h, count-is x, ap (λ (u : Variable). u.reads.count) (found-is x inside v at))))) ∙ set-get_or lists x no_accesses)
+
+  -- where there is no room nothing is forgotten
+  pub none-forgotten : (x t : ℕ) → ¬ ((x < length lists) × (t < length (get_or lists x no_accesses).reads)) → lists ≡ set lists x (with_read (get_or lists x no_accesses) t None)
+  none-forgotten x t refused =
+      ⊎_elim
+      (λ within. sym (ap (set lists x) (ap (with_reads_in (get_or lists x no_accesses).write) (set_past (get_or lists x no_accesses).reads t None
+      (⊎_elim (λ h. absurd (refused (within, h))) (λ h. h) (cases_lt t (length (get_or lists x no_accesses).reads))))) ∙ set-get_or lists x no_accesses))
+      (λ past. sym (set_past lists x _ past))
+      (cases_lt x (length lists))
+
+-- blank variables are added
+map-replicate : {X Y : Type 0} (f : X → Y) (n : ℕ) (x : X) → map f (replicate n x) ≡ replicate n (f x)
+map-replicate f zero x = refl
+map-replicate f (suc n) x = ap (λ ys. f x ∷ ys) (map-replicate f n x)
+
+module _ (entries : Entries) (variables : List Variable) (n : ℕ) where
+  abbrev filled : List Variable
+  filled = filled_up blank_variable n variables
+
+  pub laid-filled : AreReadsLaidOut entries variables → AreReadsLaidOut entries filled
+  laid-filled laid = record {
+    within = λ i. subst (λ (v : Variable). Fits entries v.reads) (sym (get_or-filled_up blank_variable n variables i)) (laid.within i);
+    apart = λ i j off. subst (λ (v : Variable). AreApart v.reads (place_of filled j)) (sym (get_or-filled_up blank_variable n variables i))
+        (subst (λ (v : Variable). AreApart (place_of variables i) v.reads) (sym (get_or-filled_up blank_variable n variables j)) (laid.apart i j off));
+    readers = λ i. subst (λ (v : Variable). AreReaders v.readers (reads_in entries v.reads)) (sym (get_or-filled_up blank_variable n variables i)) (laid.readers i);
+  }
+
+  pub accesses-filled : map (accesses_in entries) filled ≡ filled_up no_accesses n (map (accesses_in entries) variables)
+  unfolding filled_up
+  accesses-filled =
+      map-append (accesses_in entries) variables (replicate (n - length variables) blank_variable)
+      ∙ ap (λ blanks. map (accesses_in entries) variables ++ blanks)
+      (map-replicate (accesses_in entries) (n - length variables) blank_variable ∙ ap (λ k. replicate (n - k) no_accesses) (sym (length-map variables (accesses_in entries))))

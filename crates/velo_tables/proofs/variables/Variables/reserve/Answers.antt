@@ -1,0 +1,26 @@
+use Rattle.std.proofs.Common.{ℕ, ◌+◌, List, Option, map, sym, ap, subst, ◌∙◌}
+use Rattle.velo_arena.specs.declared.step.Step.{Step}
+use Rattle.velo_tables.specs.declared.variables.Variable.{Variable}
+use Rattle.velo_tables.specs.Readers.{filled_up}
+use Rattle.velo_tables.specs.Kept.{no_accesses}
+use Rattle.velo_tables.specs.Variables.{accesses_in, AreReadsLaidOut}
+use Rattle.velo_tables.proofs.OnKept.{from_either, OnOk-weaker}
+use Rattle.velo_tables.proofs.OnVariables.{laid-filled, accesses-filled}
+use Rattle.velo_tables.proofs.variables.Variables.reserve.Goals as goal
+
+abbrev filled_with : Option Step → ℕ → List Variable → List Variable
+filled_with write n variables = filled_up (record { write = write; readers = 0; reads = record { start = 0; count = 0 } }) n variables
+
+pub invariant_of-self : goal.invariant_of-self
+invariant_of-self c =
+    let inside = c.self.inside in
+    from_either c.fill_up_to.result _ _ (AreReadsLaidOut inside.reads.items c.fill_up_to.new.items.items) c.fill_up_to.ensures.ok c.fill_up_to.ensures.err
+    (λ e. subst (AreReadsLaidOut inside.reads.items) (sym (e ∙ ap (λ w. filled_with w (c.args.x.0 + 1) inside.variables.items) c.new.ensures)) (laid-filled inside.reads.items inside.variables.items (c.args.x.0 + 1) c.self.invariant))
+    (λ e. subst (AreReadsLaidOut inside.reads.items) (sym e) c.self.invariant)
+
+pub returns-clause-ok : goal.returns-clause-ok
+returns-clause-ok c =
+    let inside = c.self.inside in
+    OnOk-weaker c.fill_up_to.result _ _ c.fill_up_to.ensures.ok
+    (λ e. ap (map (accesses_in inside.reads.items)) (e ∙ ap (λ w. filled_with w (c.args.x.0 + 1) inside.variables.items) c.new.ensures)
+    ∙ (accesses-filled inside.reads.items inside.variables.items (c.args.x.0 + 1) ∙ ap (filled_up no_accesses (c.args.x.0 + 1)) c.self.view_is))

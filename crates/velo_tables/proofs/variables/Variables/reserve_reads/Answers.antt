@@ -1,0 +1,26 @@
+use Rattle.std.proofs.Common.{◌++◌, length, ◌∙◌, ap, arith}
+use Rattle.std.specs.Prelude.{None}
+use Rattle.velo_tables.specs.Readers.{filled_up}
+use Rattle.velo_tables.specs.Variables.{reads_in}
+use Rattle.velo_tables.proofs.OnVariables.{found-fits, had-room, laid-more, accesses-more}
+use Rattle.velo_tables.proofs.variables.Variables.reserve_reads.Goals as goal
+
+pub returns-then-threads-reads-clause-ok : goal.returns-then-threads-reads-clause-ok
+returns-then-threads-reads-clause-ok c =
+    let inside = c.self.inside in
+    had-room inside.reads.items inside.variables.items c.args.self.now c.self.invariant c.self.view_is c.args.x.0 c.args.threads c.index.result.now c.requires.there c.index.ensures (omega (arith, c.if-threads-reads.true))
+
+pub append_longer-requires-clause-inside : goal.append_longer-requires-clause-inside
+append_longer-requires-clause-inside c =
+    let inside = c.self.inside in
+    omega (arith, found-fits inside.reads.items inside.variables.items c.args.self.now c.self.invariant c.self.view_is c.args.x.0 c.requires.there c.index.result.now c.index.ensures, ap length c.reserve.ensures.items)
+
+pub invariant_of-self-2 : goal.invariant_of-self-2
+invariant_of-self-2 c =
+    let inside = c.self.inside in
+    laid-more inside.reads.items inside.variables.items c.args.self.now c.self.invariant c.self.view_is c.args.x.0 c.requires.there c.index.result.now c.index_mut.result.now c.index.ensures c.index_mut.ensures.value c.args.threads (omega (arith, c.if-threads-reads.false)) c.requires.few c.len-start.result (omega (arith, c.len-start.ensures, c.reserve.new.items.ok.0, ap length c.reserve.ensures.items)) c.append_longer.new.entries.items (c.append_longer.ensures ∙ ap (λ es. es ++ filled_up None c.args.threads (reads_in es c.index.result.now.reads)) c.reserve.ensures.items)
+
+pub returns-clause-ok : goal.returns-clause-ok
+returns-clause-ok c =
+    let inside = c.self.inside in
+    accesses-more inside.reads.items inside.variables.items c.args.self.now c.self.invariant c.self.view_is c.args.x.0 c.requires.there c.index.result.now c.index_mut.result.now c.index.ensures c.index_mut.ensures.value c.args.threads (omega (arith, c.if-threads-reads.false)) c.requires.few c.len-start.result (omega (arith, c.len-start.ensures, c.reserve.new.items.ok.0, ap length c.reserve.ensures.items)) c.append_longer.new.entries.items (c.append_longer.ensures ∙ ap (λ es. es ++ filled_up None c.args.threads (reads_in es c.index.result.now.reads)) c.reserve.ensures.items)
