@@ -18,4 +18,6 @@ pub mod OnNoted
 pub mod OnReadClocks
 pub mod OnAdvance
 pub mod OnBlankClocks
+pub mod OnOrder
+pub mod OnTops
 pub mod OnThreads

@@ -1,7 +1,8 @@
 ghost use Rattle.velo_events.specs.Refusals.{GrowthRefused};
-ghost use Rattle.std.specs.Prelude.{◌≡◌, ◌<◌, ◌≤◌, ◌^◌, [], length, slice_index_or, slice_set, OnOk, OnErr};
+ghost use Rattle.std.specs.Prelude.{◌≡◌, ◌<◌, ◌≤◌, ◌^◌, [], length, slice_index_or, slice_set, IsTrue, OnOk, OnErr};
 ghost use Rattle.velo_tables.specs.Clocks.{blank_clock};
 ghost use Rattle.velo_tables.specs.Noted.{alone_at, alones, HasRoomAt, AreWithin, KeepNumbers};
+ghost use Rattle.velo_tables.specs.Order.{KnowsTops};
 
 use crate::filling::fill_up_to;
 use crate::number_lists::NumberLists;
@@ -60,6 +61,17 @@ impl LastClocks {
         ensures { result.now ≡ (slice_index_or self.now number blank_clock).known }
     {
         self.known.list(number)
+    }
+
+    /// Whether the clock knows the event at the place, or there is none.
+    pub fn is_known(&self, number: usize, clock: &[u32]) -> bool
+        ensures { IsTrue result → KnowsTops (slice_index_or self.now number blank_clock) clock.now }
+    {
+        if number >= self.by.len() {
+            return true;
+        }
+        let by = self.by[number];
+        number_of(self.known.list(number), by) <= number_of(clock, by)
     }
 
     /// What the event at the place knows of the thread, if it is of another.
