@@ -4,14 +4,15 @@ use Rattle.std.proofs.Math.ListN.{set}
 use Rattle.std.proofs.lemmas.Bool.{cases_eq, cases_lt}
 use Rattle.std.proofs.lemmas.List.{get_or-set_other, get_or_past, get_or_default}
 use Rattle.velo_events.specs.declared.event.ThreadId.{ThreadId}
+use Rattle.velo_tables.specs.declared.last_clocks.LastEvent.{LastEvent}
 use Rattle.velo_tables.specs.declared.read_clocks.ReadBy.{ReadBy}
 use Rattle.velo_tables.specs.declared.read_clocks.ReadBy.TheVariants.{Nobody, One}
 use Rattle.velo_tables.specs.Reads.{read_clock, reads_of, AreReads}
 use Rattle.velo_tables.specs.Clocks.{Clock, ClockState, ClockPlace, OfLast, OfWrite, blank_clock, clock_at, known_at}
-use Rattle.velo_tables.specs.Noted.{maxima, alone_at, alones, IsSized}
+use Rattle.velo_tables.specs.Noted.{maxima, alone_at, alones, no_event, AreLast, IsSized}
 use Rattle.velo_tables.specs.Order.{IsTop, KnowsTops, TopsTell, IsLed, IsClosed}
 use Rattle.velo_tables.proofs.OnRaised.{get_or-raised, length-raised, raised-same}
-use Rattle.velo_tables.proofs.OnLastClocks.{get_or-alones}
+use Rattle.velo_tables.proofs.OnLastClocks.{get_or-alones, last-number}
 use Rattle.velo_tables.proofs.OnReadClocks.{get_or-reads}
 use Rattle.velo_tables.proofs.OnOrder.{IsGathered, follows-gathered}
 
@@ -28,15 +29,16 @@ tops-alone known clock by upto = record {
 pub tops-none : (known clock : List ℕ) → KnowsTops (record { known = known; foreign = known }) clock
 tops-none known clock = record { each = λ u top. absurd (omega (arith, top)) }
 
-module _ (ks : List (List ℕ)) (bs : List ThreadId) (all : length ks ≤ length bs) (i : ℕ) (clock : List ℕ) where
-  pub tops-past : length bs ≤ i → (d : ThreadId) → KnowsTops (get_or (alones ks bs) i blank_clock) clock
-  tops-past past d = subst (λ (k : Clock). KnowsTops k clock) (sym (get_or-alones ks bs i d all))
-      (tops-alone (get_or ks i []) clock (get_or bs i d).0
-      (let none = ap (λ (xs : List ℕ). get_or xs (get_or bs i d).0 0) (get_or_past ks i [] (omega (arith, past, all))) in omega (arith, none)))
+module _ (ks : List (List ℕ)) (bs : List LastEvent) (are : AreLast ks bs) (i : ℕ) (clock : List ℕ) where
+  pub tops-past : length bs ≤ i → KnowsTops (get_or (alones ks bs) i blank_clock) clock
+  tops-past past = subst (λ (k : Clock). KnowsTops k clock) (sym (get_or-alones ks bs i no_event are.places))
+      (tops-alone (get_or ks i []) clock (get_or bs i no_event).by.0
+      (let none = ap (λ (xs : List ℕ). get_or xs (get_or bs i no_event).by.0 0) (get_or_past ks i [] (omega (arith, past, are.places))) in omega (arith, none)))
 
-  pub tops-last : (b : ThreadId) → b ≡ get_or bs i b → get_or (get_or ks i []) b.0 0 ≤ get_or clock b.0 0 → KnowsTops (get_or (alones ks bs) i blank_clock) clock
-  tops-last b at upto = subst (λ (k : Clock). KnowsTops k clock) (sym (get_or-alones ks bs i b all))
-      (subst (λ (d : ThreadId). KnowsTops (alone_at (get_or ks i []) d.0) clock) at (tops-alone (get_or ks i []) clock b.0 upto))
+  pub tops-last : (b : LastEvent) → i < length bs → b ≡ get_or bs i b → b.number ≤ get_or clock b.by.0 0 → KnowsTops (get_or (alones ks bs) i blank_clock) clock
+  tops-last b there at upto = subst (λ (k : Clock). KnowsTops k clock) (sym (get_or-alones ks bs i b are.places))
+      (subst (λ (e : LastEvent). KnowsTops (alone_at (get_or ks i []) e.by.0) clock) at
+      (tops-alone (get_or ks i []) clock b.by.0 (omega (arith, upto, last-number ks bs are i b there at))))
 
 module _ (ks fs : List (List ℕ)) (rs : List ReadBy) (are : AreReads ks fs rs) (now : List Clock) (view : reads_of ks fs rs ≡ now) (i : ℕ) (clock : List ℕ) where
   tops-by : (r : ReadBy) → get_or rs i Nobody ≡ r → KnowsTops (read_clock (get_or ks i []) (get_or fs i []) r) clock → KnowsTops (get_or now i blank_clock) clock

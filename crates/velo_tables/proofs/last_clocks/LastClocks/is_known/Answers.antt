@@ -8,11 +8,11 @@ use Rattle.velo_tables.proofs.last_clocks.LastClocks.is_known.Goals as goal
 pub returns-then-number-len : goal.returns-then-number-len
 returns-then-number-len c = λ said.
     subst (λ (places : List Clock). KnowsTops (get_or places c.args.number blank_clock) c.args.clock.now) c.self.view_is
-    (tops-past c.self.inside.known c.self.inside.by.items c.self.invariant c.args.number c.args.clock.now (omega (arith, c.if-number-len.true, c.len.ensures, c.self.inside.by.ok.0)) (record { 0 = 0 }))
+    (tops-past c.self.inside.known c.self.inside.last.items c.self.invariant c.args.number c.args.clock.now (omega (arith, c.if-number-len.true, c.len.ensures, c.self.inside.last.ok.0)))
 
 pub returns : goal.returns
 returns c = λ said.
-    let list = ap (λ (xs : List _). get_or xs c.index-by.result.now.0 0) c.list.ensures in
     subst (λ (places : List Clock). KnowsTops (get_or places c.args.number blank_clock) c.args.clock.now) c.self.view_is
-    (tops-last c.self.inside.known c.self.inside.by.items c.self.invariant c.args.number c.args.clock.now c.index-by.result.now c.index-by.ensures
-    (omega (arith, leb-true c.number_of.result c.number_of-2.result said, c.number_of.ensures, c.number_of-2.ensures, list)))
+    (tops-last c.self.inside.known c.self.inside.last.items c.self.invariant c.args.number c.args.clock.now c.index-last.result.now
+    (omega (arith, c.if-number-len.false, c.len.ensures, c.self.inside.last.ok.0)) c.index-last.ensures
+    (omega (arith, leb-true c.index-last.result.now.number c.number_of.result said, c.number_of.ensures)))
