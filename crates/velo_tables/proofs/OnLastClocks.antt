@@ -80,6 +80,17 @@ module _ (ks : List (List ℕ)) (bs : List LastEvent) (all : length ks ≤ lengt
       let less = short (room-there n i some room) in
       absurd (omega (arith, less, room.known, ap length (known-alones ks bs i all)))
 
+  -- a place that has so many numbers, and no more, has room
+  pub room-has : (n i : ℕ) → AreWithin n (alones ks bs) → n ≤ length (get_or ks i []) → HasRoomAt n (alones ks bs) i
+  room-has n i within has =
+      let all_known = within.known i in
+      let same = ap length (known-alones ks bs i all) in
+      let long = length-set (get_or ks i []) (get_or bs i no_event).by.0 0 in
+      record {
+        known = omega (arith, all_known, same, has);
+        foreign = omega (arith, all_known, same, has, long, ap length (foreign-alones i no_event));
+      }
+
   -- ---- room for an event
 
   module _ (n i : ℕ) (d : LastEvent) (more_by : List LastEvent) (is_more : more_by ≡ filled_up d (i + 1) bs) where

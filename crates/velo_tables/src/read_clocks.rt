@@ -65,6 +65,23 @@ impl ReadClocks {
         ensures refused { OnErr result (0 < threads → ¬ HasRoomAt threads self.old number) }
         ensures memory { OnErr result GrowthRefused }
     {
+        if self.known.has(number, threads) {
+            return Ok(());
+        }
+        self.grow(number, threads)
+    }
+
+    /// The rare case: there is no room yet. What is known gets it last, so that there is room for both where there is for this.
+    #[inline(never)]
+    fn grow(&mut self, number: usize, threads: usize) -> Result<(), Memory>
+        requires fits { number < 2 ^ 32 }
+        requires within { AreWithin threads self.old }
+        ensures same { KeepNumbers self.old self.new }
+        ensures within { AreWithin threads self.new }
+        ensures ok { OnOk result (HasRoomAt threads self.new number) }
+        ensures refused { OnErr result (0 < threads → ¬ HasRoomAt threads self.old number) }
+        ensures memory { OnErr result GrowthRefused }
+    {
         fill_up_to(&mut self.read_by, number, ReadBy::Nobody)?;
         self.foreign.reserve(number, threads)?;
         self.known.reserve(number, threads)
