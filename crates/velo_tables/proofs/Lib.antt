@@ -19,4 +19,6 @@ pub mod OnNoted
 pub mod OnReadClocks
 pub mod OnAdvance
 pub mod OnBlankClocks
+pub mod OnOrder
+pub mod OnTops
 pub mod OnThreads

@@ -31,3 +31,12 @@ raised-more (x ∷ xs) [] i l h = absurd (omega (arith, l))
 raised-more (x ∷ xs) (y ∷ ys) zero l h = ap (λ zs. max x y ∷ zs) (raised-nil xs)
 raised-more (x ∷ xs) (y ∷ ys) (suc i) l h =
     ap (λ k. maxima (x ∷ xs) (take k (y ∷ ys))) (let next : suc i + 1 ≡ suc (i + 1) = omega arith in next) ∙ ap (λ zs. max x y ∷ zs) (raised-more xs ys i (omega (arith, l)) (omega (arith, h)))
+
+-- numbers that are no greater raise nothing
+pub raised-same : (xs ys : List ℕ) → length ys ≤ length xs → ((i : ℕ) → get_or ys i 0 ≤ get_or xs i 0) → maxima xs ys ≡ xs
+unfolding maxima
+raised-same [] ys h less = refl
+raised-same (x ∷ xs) [] h less = refl
+raised-same (x ∷ xs) (y ∷ ys) h less =
+    let here : max x y ≡ x = omega (arith, less 0) in
+    ap (λ z. z ∷ maxima xs ys) here ∙ ap (λ zs. x ∷ zs) (raised-same xs ys (omega (arith, h)) (λ i. less (suc i)))

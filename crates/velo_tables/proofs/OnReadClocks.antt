@@ -82,6 +82,24 @@ module _ (ks fs : List (List ℕ)) (rs : List ReadBy) (are : AreReads ks fs rs) 
   pub no-foreign_room : (n i : ℕ) → (i < length fs → length (get_or fs i []) < n) → 0 < n → ¬ HasRoomAt n (reads_of ks fs rs) i
   no-foreign_room n i short = no-read_room n i (λ there. let less = short (omega (arith, there, are.places)) in omega (arith, less, are.foreign i))
 
+foreign-has : (k f : List ℕ) (r : ReadBy) (n : ℕ) → length k ≡ n → n ≤ length f → length (read_clock k f r).foreign ≤ n → length (read_clock k f r).foreign ≡ n
+foreign-has k f Nobody n long has short = long
+foreign-has k f (One t) n long has short = length-set k t.0 0 ∙ long
+foreign-has k f Several n long has short = omega (arith, has, short)
+
+-- a place that has so many numbers, and no more, has room
+pub read-has : (ks fs : List (List ℕ)) (rs : List ReadBy) (are : AreReads ks fs rs) (n i : ℕ) → AreWithin n (reads_of ks fs rs) → n ≤ length (get_or ks i []) → HasRoomAt n (reads_of ks fs rs) i
+read-has ks fs rs are n i within has =
+    let all_known = within.known i in
+    let same = ap length (known-reads ks fs rs are i) in
+    let long : length (get_or ks i []) ≡ n = omega (arith, all_known, same, has) in
+    record {
+      known = omega (arith, same, long);
+      foreign = subst (λ (c : Clock). length c.foreign ≡ n) (sym (get_or-reads ks fs rs are i))
+          (foreign-has (get_or ks i []) (get_or fs i []) (get_or rs i Nobody) n long (omega (arith, has, are.foreign i))
+          (subst (λ (c : Clock). length c.foreign ≤ n) (get_or-reads ks fs rs are i) (within.foreign i)));
+    }
+
 -- ---- room for a read
 
 foreign-within : (k l f g : List ℕ) (r : ReadBy) (n : ℕ) → length k ≤ n → length (read_clock l g r).foreign ≤ n → (length g ≤ n → length f ≤ n) → length (read_clock k f r).foreign ≤ n

@@ -9,4 +9,5 @@ pub mod Recorded
 pub mod Last
 pub mod Clocks
 pub mod Noted
+pub mod Order
 pub mod Reads

@@ -1,7 +1,7 @@
 -- What the clocks have after an event was noted, list by list. Private contracts cite these words: public ones say it place by place.
 use Rattle.std.specs.Prelude.{◌≡◌, ℕ, ◌+◌, ◌<◌, ◌≤◌, max, List, [], ◌∷◌, length, slice_index_or, slice_set, ⊤}
 use Rattle.velo_events.specs.declared.event.Event.{Event}
-use Rattle.velo_events.specs.declared.event.ThreadId.{ThreadId}
+use Rattle.velo_tables.specs.declared.last_clocks.LastEvent.{LastEvent}
 use Rattle.velo_events.specs.declared.event.Kind.{Kind}
 use Rattle.velo_events.specs.declared.event.Kind.TheVariants.{Read, Write, Acquire, Release, Fork, Join}
 use Rattle.velo_events.specs.Event.{thread_of}
@@ -22,11 +22,19 @@ maxima (x ∷ xs) (y ∷ ys) = max x y ∷ maxima xs ys
 abbrev pub alone_at : List ℕ → ℕ → Clock
 alone_at clock t = record { known = clock; foreign = slice_set clock t 0 }
 
--- by number of a place: an event with this clock stands there alone, and is of this thread
-abbrev pub alones : List (List ℕ) → List ThreadId → List Clock
-alones [] by = []
+-- by number of a place: an event with this clock stands there alone, and is this one
+abbrev pub alones : List (List ℕ) → List LastEvent → List Clock
+alones [] last = []
 alones (clock ∷ clocks) [] = alone_at clock 0 ∷ alones clocks []
-alones (clock ∷ clocks) (t ∷ ts) = alone_at clock t.0 ∷ alones clocks ts
+alones (clock ∷ clocks) (e ∷ es) = alone_at clock e.by.0 ∷ alones clocks es
+
+abbrev pub no_event : LastEvent
+no_event = record { by = record { 0 = 0 }; number = 0 }
+
+-- these are the events, and know their own threads by these numbers
+pub record AreLast (clocks : List (List ℕ)) (last : List LastEvent) : Type 0 where
+  pub places : length clocks ≤ length last
+  pub numbers : (i : ℕ) → (slice_index_or last i no_event).number ≡ slice_index_or (slice_index_or clocks i []) (slice_index_or last i no_event).by.0 0
 
 -- it stands there beside the others
 abbrev pub joint_at : Clock → List ℕ → ℕ → Clock

@@ -1,12 +1,14 @@
 ghost use Rattle.velo_events.specs.Refusals.{GrowthRefused};
-ghost use Rattle.std.specs.Prelude.{◌≡◌, ◌<◌, ◌≤◌, ◌+◌, ◌^◌, [], length, slice_index_or, slice_set, replicate, IfOk, OnOk, OnErr};
+ghost use Rattle.std.specs.Prelude.{◌≡◌, ◌<◌, ◌≤◌, ◌+◌, ◌^◌, [], length, slice_index_or, slice_set, replicate, IsTrue, IfOk, OnOk, OnErr};
 ghost use Rattle.velo_tables.specs.Readers.{filled_up};
 ghost use Rattle.velo_events.specs.Event.{thread_of};
 ghost use Rattle.velo_tables.specs.Clocks.{blank_clock, clock_at, OfLast, blame_bound, KnowsNothing, KnowsTheSame};
 ghost use Rattle.velo_tables.specs.Noted.{maxima, alone_at, joint_at, with_room, with_thread, clock_beside, joined_clock, state_after_beside, state_after, HasRoomAt, AreWithin, KeepNumbers, IsSized, HasRoomToNote, IsOfThreads};
+ghost use Rattle.velo_tables.specs.Order.{TopsTell, IsClosed, KeepsOrder};
 
 use crate::clock_place::PlaceClock;
 use crate::last_clocks::LastClocks;
+use crate::numbers::number_of;
 use crate::read_clocks::ReadClocks;
 use std::alloc::Global;
 use std::marker::Model;
@@ -55,6 +57,17 @@ fn foreign_at(places: &[PlaceClock], number: usize, t: ThreadId) -> u32
     }
 }
 
+/// What the events at the place with this number know of the thread.
+fn known_at(places: &[PlaceClock], number: usize, t: ThreadId) -> u32
+    ensures { result ≡ slice_index_or (slice_index_or places.now number blank_clock).known t.0 0 }
+{
+    if number < places.len() {
+        number_of(places[number].known(), t)
+    } else {
+        0
+    }
+}
+
 /// Raises what an event knows by what the events of the place with this number know.
 fn join_place(clock: &mut [u32], places: &[PlaceClock], number: usize)
     requires { AreWithin (length clock.old) places.now }
@@ -84,15 +97,64 @@ fn raise_thread(threads: &mut [PlaceClock], t: ThreadId, known: &[u32])
     threads[t.0 as usize].raise_by(known, t);
 }
 
-/// The thread knows what the last write and the reads of a variable know.
-fn raise_by_both(threads: &mut [PlaceClock], t: ThreadId, write: &[u32], reads: &[u32])
+/// The thread knows what the event at the place with this number knows.
+fn learn_last(
+    threads: &mut [PlaceClock],
+    t: ThreadId,
+    places: &LastClocks,
+    number: usize,
+    is_closed: bool,
+)
     requires own { t.0 < length threads.old }
-    requires write { length write.now ≤ length (slice_index_or threads.old t.0 blank_clock).known }
-    requires reads { length reads.now ≤ length (slice_index_or threads.old t.0 blank_clock).known }
-    ensures { threads.new ≡ slice_set threads.old t.0 (alone_at (maxima (maxima (slice_index_or threads.old t.0 blank_clock).known write.now) reads.now) t.0) }
+    requires within { AreWithin (length (slice_index_or threads.old t.0 blank_clock).known) places.now }
+    requires closed { IsTrue is_closed → TopsTell (slice_index_or places.now number blank_clock) (slice_index_or threads.old t.0 blank_clock).known }
+    ensures { threads.new ≡ slice_set threads.old t.0 (alone_at (maxima (slice_index_or threads.old t.0 blank_clock).known (slice_index_or places.now number blank_clock).known) t.0) }
 {
-    raise_thread(threads, t, write);
-    raise_thread(threads, t, reads);
+    if is_closed && places.is_known(number, threads[t.0 as usize].known()) {
+        threads[t.0 as usize].stand_alone(t);
+    } else {
+        raise_thread(threads, t, places.known(number));
+    }
+}
+
+/// The thread knows what the reads at the place with this number know.
+fn learn_reads(
+    threads: &mut [PlaceClock],
+    t: ThreadId,
+    places: &ReadClocks,
+    number: usize,
+    is_closed: bool,
+)
+    requires own { t.0 < length threads.old }
+    requires within { AreWithin (length (slice_index_or threads.old t.0 blank_clock).known) places.now }
+    requires closed { IsTrue is_closed → TopsTell (slice_index_or places.now number blank_clock) (slice_index_or threads.old t.0 blank_clock).known }
+    ensures { threads.new ≡ slice_set threads.old t.0 (alone_at (maxima (slice_index_or threads.old t.0 blank_clock).known (slice_index_or places.now number blank_clock).known) t.0) }
+{
+    if is_closed && places.is_known(number, threads[t.0 as usize].known()) {
+        threads[t.0 as usize].stand_alone(t);
+    } else {
+        raise_thread(threads, t, places.known(number));
+    }
+}
+
+/// The thread knows what the last write and the reads of the variable with this number know.
+fn learn_both(
+    threads: &mut [PlaceClock],
+    t: ThreadId,
+    writes: &LastClocks,
+    reads: &ReadClocks,
+    number: usize,
+    is_closed: bool,
+)
+    requires own { t.0 < length threads.old }
+    requires writes { AreWithin (length (slice_index_or threads.old t.0 blank_clock).known) writes.now }
+    requires reads { AreWithin (length (slice_index_or threads.old t.0 blank_clock).known) reads.now }
+    requires write_closed { IsTrue is_closed → TopsTell (slice_index_or writes.now number blank_clock) (slice_index_or threads.old t.0 blank_clock).known }
+    requires reads_closed { IsTrue is_closed → TopsTell (slice_index_or reads.now number blank_clock) (maxima (slice_index_or threads.old t.0 blank_clock).known (slice_index_or writes.now number blank_clock).known) }
+    ensures { threads.new ≡ slice_set threads.old t.0 (alone_at (maxima (maxima (slice_index_or threads.old t.0 blank_clock).known (slice_index_or writes.now number blank_clock).known) (slice_index_or reads.now number blank_clock).known) t.0) }
+{
+    learn_last(threads, t, writes, number, is_closed);
+    learn_reads(threads, t, reads, number, is_closed);
 }
 
 /// The thread's last event is one that it knows by this number.
@@ -162,44 +224,70 @@ impl PlaceClocks {
         }
     }
 
+    /// Whether the places were in order and the event at the position keeps them so: it is later than all, and no thread is
+    /// forked after its first event.
+    pub fn stay_in_order(&self, in_order: bool, latest: u32, position: u32, event: &Event) -> bool
+        ensures were { IsTrue result → IsTrue in_order }
+        ensures keeps { IsTrue result → KeepsOrder self.now latest position event.now }
+    {
+        if !in_order || position < latest {
+            return false;
+        }
+        match event.kind {
+            Kind::Fork(u) => known_at(&self.threads, u.0 as usize, u) == 0,
+            _ => true,
+        }
+    }
+
     /// Notes the event at the position. The list is for what it needs to write down.
-    pub fn note(&mut self, list: &mut [u32], position: u32, event: &Event)
+    pub fn note(&mut self, list: &mut [u32], position: u32, event: &Event, is_closed: bool)
         requires sized { IsSized (length list.old) self.old }
         requires room { HasRoomToNote (length list.old) self.old event.now }
         requires fits { position + 1 < 2 ^ 32 }
+        requires closed { IsTrue is_closed → IsClosed self.old }
         ensures { self.new ≡ state_after self.old (joined_clock self.old position event.now) event.now }
     {
-        self.advance(list, position, event);
+        self.advance(list, position, event, is_closed);
         self.spread(list, event);
     }
 
     /// The thread of the event at the position knows what the event does.
-    fn advance(&mut self, list: &mut [u32], position: u32, event: &Event)
+    fn advance(&mut self, list: &mut [u32], position: u32, event: &Event, is_closed: bool)
         requires sized { IsSized (length list.old) self.old }
         requires own { thread_of event.now < length list.old }
         requires fits { position + 1 < 2 ^ 32 }
+        requires closed { IsTrue is_closed → IsClosed self.old }
         ensures { self.new ≡ with_thread self.old (thread_of event.now) (alone_at (joined_clock self.old position event.now) (thread_of event.now)) }
     {
-        self.gather(list, event);
+        self.gather(list, event, is_closed);
         tick_thread(&mut self.threads, event.thread, position + 1);
     }
 
     /// The thread of the event knows what the events at the places beside know.
-    fn gather(&mut self, list: &mut [u32], event: &Event)
+    fn gather(&mut self, list: &mut [u32], event: &Event, is_closed: bool)
         requires sized { IsSized (length list.old) self.old }
         requires own { thread_of event.now < length list.old }
+        requires closed { IsTrue is_closed → IsClosed self.old }
         ensures { self.new ≡ with_thread self.old (thread_of event.now) (alone_at (clock_beside self.old event.now.kind (clock_at self.old (OfLast (thread_of event.now))).known) (thread_of event.now)) }
     {
         let t = event.thread;
         match event.kind {
-            Kind::Read(x, _) => raise_thread(&mut self.threads, t, self.writes.known(x.0 as usize)),
+            Kind::Read(x, _) => {
+                learn_last(&mut self.threads, t, &self.writes, x.0 as usize, is_closed)
+            }
             Kind::Write(x, _) => {
-                let write = self.writes.known(x.0 as usize);
-                let reads = self.reads.known(x.0 as usize);
-                raise_by_both(&mut self.threads, t, write, reads)
+                let number = x.0 as usize;
+                learn_both(
+                    &mut self.threads,
+                    t,
+                    &self.writes,
+                    &self.reads,
+                    number,
+                    is_closed,
+                )
             }
             Kind::Acquire(m) | Kind::Release(m) => {
-                raise_thread(&mut self.threads, t, self.locks.known(m.0 as usize))
+                learn_last(&mut self.threads, t, &self.locks, m.0 as usize, is_closed)
             }
             Kind::Join(u) => join_threads(&mut self.threads, t, u, list),
             _ => self.threads[t.0 as usize].stand_alone(t),

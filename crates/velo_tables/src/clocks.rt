@@ -16,18 +16,23 @@ pub struct ClockTables {
     places: PlaceClocks,
     /// For the clock of an event that forks or joins, so that noting takes no memory.
     clock: Vec<u32>,
+    /// Whether the events were noted in the order of a run: each at a later position than all before it, and no thread forked
+    /// after its first event. Then who knows an event knows all that it knows, and what is known needs no join.
+    in_order: bool,
+    /// While they were, no number is greater.
+    latest: u32,
 }
 
 impl Model for ClockTables {
     ghost use Rattle.std.specs.Prelude.{length};
     ghost use Rattle.velo_tables.specs.Clocks.{ClockState};
-    ghost use Rattle.velo_tables.specs.Noted.{IsSized};
+    ghost use Rattle.velo_tables.specs.Order.{AreTables};
 
     ghost Value = { ClockState };
 
     ghost view = { λ t. t.places };
 
-    ghost invariant = { λ t. IsSized (length t.clock.items) t.places };
+    ghost invariant = { λ t. AreTables (length t.clock.items) t.latest t.in_order t.places };
 }
 
 impl ClockTables {
@@ -40,7 +45,12 @@ impl ClockTables {
         let threads = config.bounds.threads as usize;
         let clock = filled(alloc, 0u32, threads)?;
         let places = PlaceClocks::new(alloc, threads)?;
-        Ok(ClockTables { places, clock })
+        Ok(ClockTables {
+            places,
+            clock,
+            in_order: true,
+            latest: 0,
+        })
     }
 
     /// Makes room for what the event notes. Nothing that is known changes, also where it is refused.
@@ -62,7 +72,13 @@ impl ClockTables {
         ensures noted { IsNoted self.old position event.now self.new }
         ensures threads { length self.new.threads ≡ length self.old.threads }
     {
-        self.places.note(&mut self.clock, position, event);
+        let in_order = self
+            .places
+            .stay_in_order(self.in_order, self.latest, position, event);
+        self.places
+            .note(&mut self.clock, position, event, self.in_order);
+        self.in_order = in_order;
+        self.latest = position + 1;
     }
 
     /// The open blocks of the event's thread that begin below it are to blame.

@@ -88,7 +88,8 @@ impl NumberLists {
     }
 
     /// Whether the place has so many numbers.
-    fn has(&self, number: usize, count: usize) -> bool
+    #[inline(always)]
+    pub fn has(&self, number: usize, count: usize) -> bool
         ensures { IsTrue result ↔ ((number < length self.now) × (count ≤ length (slice_index_or self.now number []))) }
     {
         number < self.spans.len() && count <= self.spans[number].count

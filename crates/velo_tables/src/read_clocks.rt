@@ -1,7 +1,8 @@
 ghost use Rattle.velo_events.specs.Refusals.{GrowthRefused};
-ghost use Rattle.std.specs.Prelude.{◌≡◌, ◌<◌, ◌≤◌, ◌^◌, [], length, slice_index_or, slice_set, OnOk, OnErr};
+ghost use Rattle.std.specs.Prelude.{◌≡◌, ◌<◌, ◌≤◌, ◌^◌, [], length, slice_index_or, slice_set, IsTrue, OnOk, OnErr};
 ghost use Rattle.velo_tables.specs.Clocks.{blank_clock};
 ghost use Rattle.velo_tables.specs.Noted.{joint_at, HasRoomAt, AreWithin, KeepNumbers};
+ghost use Rattle.velo_tables.specs.Order.{KnowsTops};
 
 use crate::filling::fill_up_to;
 use crate::number_lists::NumberLists;
@@ -64,6 +65,23 @@ impl ReadClocks {
         ensures refused { OnErr result (0 < threads → ¬ HasRoomAt threads self.old number) }
         ensures memory { OnErr result GrowthRefused }
     {
+        if self.known.has(number, threads) {
+            return Ok(());
+        }
+        self.grow(number, threads)
+    }
+
+    /// The rare case: there is no room yet. What is known gets it last, so that there is room for both where there is for this.
+    #[inline(never)]
+    fn grow(&mut self, number: usize, threads: usize) -> Result<(), Memory>
+        requires fits { number < 2 ^ 32 }
+        requires within { AreWithin threads self.old }
+        ensures same { KeepNumbers self.old self.new }
+        ensures within { AreWithin threads self.new }
+        ensures ok { OnOk result (HasRoomAt threads self.new number) }
+        ensures refused { OnErr result (0 < threads → ¬ HasRoomAt threads self.old number) }
+        ensures memory { OnErr result GrowthRefused }
+    {
         fill_up_to(&mut self.read_by, number, ReadBy::Nobody)?;
         self.foreign.reserve(number, threads)?;
         self.known.reserve(number, threads)
@@ -74,6 +92,20 @@ impl ReadClocks {
         ensures { result.now ≡ (slice_index_or self.now number blank_clock).known }
     {
         self.known.list(number)
+    }
+
+    /// Whether the clock knows all reads at the place. It is not looked for where several threads read.
+    pub fn is_known(&self, number: usize, clock: &[u32]) -> bool
+        ensures { IsTrue result → KnowsTops (slice_index_or self.now number blank_clock) clock.now }
+    {
+        if number >= self.read_by.len() {
+            return true;
+        }
+        match self.read_by[number] {
+            ReadBy::Nobody => true,
+            ReadBy::One(one) => { number_of(self.known.list(number), one) <= number_of(clock, one) }
+            ReadBy::Several => false,
+        }
     }
 
     /// What the reads of other threads at the place know of this one.

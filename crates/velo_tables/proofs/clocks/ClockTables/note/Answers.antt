@@ -4,6 +4,7 @@ use Rattle.velo_events.specs.declared.event.Event.{Event}
 use Rattle.velo_tables.specs.Clocks.{ClockState, IsNoted}
 use Rattle.velo_tables.specs.Noted.{IsSized, HasRoomToNote, joined_clock, state_after}
 use Rattle.velo_tables.proofs.OnNoted.{IsNoted-noted, IsSized-noted, length-joined_clock}
+use Rattle.velo_tables.proofs.OnOrder.{order-noted}
 use Rattle.velo_tables.proofs.clocks.ClockTables.note.Goals as goal
 
 record Noted (n position : ℕ) (e : Event) (now after : ClockState) : Type 0 where
@@ -19,15 +20,20 @@ noted n s now after position e is_after is_now sized room =
     (subst (λ (k : ClockState). Noted n position e s k) (sym is_after) (record { is_noted = IsNoted-noted n s position e sized roomy; sized = after_sized; threads = after_sized.count ∙ sym sized.count }))
 
 pub returns-clause-noted : goal.returns-clause-noted
-returns-clause-noted c = (noted (length c.self.inside.clock.items) c.self.inside.places c.args.self.now c.note.new.self c.args.position c.args.event.now c.note.ensures c.self.view_is c.self.invariant c.requires.room).is_noted
+returns-clause-noted c = (noted (length c.self.inside.clock.items) c.self.inside.places c.args.self.now c.note.new.self c.args.position c.args.event.now c.note.ensures c.self.view_is c.self.invariant.sized c.requires.room).is_noted
 
 pub returns-clause-threads : goal.returns-clause-threads
-returns-clause-threads c = (noted (length c.self.inside.clock.items) c.self.inside.places c.args.self.now c.note.new.self c.args.position c.args.event.now c.note.ensures c.self.view_is c.self.invariant c.requires.room).threads
+returns-clause-threads c = (noted (length c.self.inside.clock.items) c.self.inside.places c.args.self.now c.note.new.self c.args.position c.args.event.now c.note.ensures c.self.view_is c.self.invariant.sized c.requires.room).threads
 
 pub invariant_of-self : goal.invariant_of-self
 invariant_of-self c =
     let list = c.self.inside.clock in
     let back = with_items_is list c.note.new.list (omega (arith, c.note.auto.list, c.deref_mut.ensures.len)) in
     let same : length list.items ≡ length (take list.len (c.note.new.list ++ drop (length c.note.new.list) list.items)) = omega (arith, ap length back, c.note.auto.list, c.deref_mut.ensures.len, list.ok.0) in
-    subst (λ n. IsSized n c.note.new.self) same
-    (noted (length list.items) c.self.inside.places c.args.self.now c.note.new.self c.args.position c.args.event.now c.note.ensures c.self.view_is c.self.invariant c.requires.room).sized
+    let after = noted (length list.items) c.self.inside.places c.args.self.now c.note.new.self c.args.position c.args.event.now c.note.ensures c.self.view_is c.self.invariant.sized c.requires.room in
+    record {
+      sized = subst (λ n. IsSized n c.note.new.self) same after.sized;
+      order = λ said.
+          order-noted c.self.inside.places c.self.inside.latest c.args.position c.args.event.now (c.self.invariant.order (c.stay_in_order-in_order.ensures.were said)) (c.stay_in_order-in_order.ensures.keeps said) c.note.new.self
+          (subst (λ (s : ClockState). IsNoted s c.args.position c.args.event.now c.note.new.self) (sym c.self.view_is) after.is_noted);
+    }
