@@ -85,22 +85,26 @@ module _ (heap : Contents) (trace : List Event) (stands : IsHeapOf heap trace) (
       (standing-own (bounds_of heap) trace by k facts f own ∙ ap (λ s. standing_after s k) (sym now))
       (λ i differ. let untouched = not_handled k i own in standing-elsewhere trace by k i differ untouched.0 untouched.1)
 
+  -- all places, where the acting thread stands as before
+  places-kept : (k : Kind) → MayFollow (bounds_of heap) trace (record { thread = by; kind = k }) → handled_by k ≡ None → ((s : Standing) → standing_after s k ≡ s) → Tabulates heap.threads (standing_in (trace ++ record { thread = by; kind = k } ∷ []))
+  places-kept k f own kept =
+      let same : set heap.threads by.0 (standing_after (standing_at heap.threads by.0) k) ≡ heap.threads = ap (set heap.threads by.0) (kept (standing_at heap.threads by.0)) ∙ set-get_or heap.threads by.0 unborn in
+      subst (λ threads. Tabulates threads (standing_in (trace ++ record { thread = by; kind = k } ∷ []))) same (own_place-after k f own)
+
   -- the place of a thread that is forked or joined
   status-after : (k : Kind) (u : ThreadId) (status : Status) → u.0 < length heap.threads →
       standing_in (trace ++ record { thread = by; kind = k } ∷ []) u.0 ≡ record { status = status; depth = depth_in trace u.0; locks = locks_in trace u.0 } →
       ((i : ℕ) → (i ≡ u.0 → ⊥) → standing_in (trace ++ record { thread = by; kind = k } ∷ []) i ≡ standing_in trace i) →
-      Tabulates (with_status (set heap.threads by.0 (standing_at heap.threads by.0)) u.0 status) (standing_in (trace ++ record { thread = by; kind = k } ∷ []))
+      Tabulates (with_status heap.threads u.0 status) (standing_in (trace ++ record { thread = by; kind = k } ∷ []))
   status-after k u status known here elsewhere =
-      let same : set heap.threads by.0 (standing_at heap.threads by.0) ≡ heap.threads = set-get_or heap.threads by.0 unborn in
       let now = get_or-tabulated heap.threads (standing_in trace) unborn u.0 stands.threads known in
-      subst (λ threads. Tabulates (with_status threads u.0 status) (standing_in (trace ++ record { thread = by; kind = k } ∷ []))) (sym same)
-      (Tabulates-set heap.threads (standing_in trace) _ u.0 _ stands.threads known
+      Tabulates-set heap.threads (standing_in trace) _ u.0 _ stands.threads known
       (here ∙ ap (λ (s : Standing). record s { status = status }) (sym now))
-      elsewhere)
+      elsewhere
 
   threads-after : (k : Kind) → MayFollow (bounds_of heap) trace (record { thread = by; kind = k }) → Tabulates (contents_after heap (record { thread = by; kind = k })).threads (standing_in (trace ++ record { thread = by; kind = k } ∷ []))
-  threads-after (Read x v) f = own_place-after (Read x v) f refl
-  threads-after (Write x v) f = own_place-after (Write x v) f refl
+  threads-after (Read x v) f = places-kept (Read x v) f refl (λ s. refl)
+  threads-after (Write x v) f = places-kept (Write x v) f refl (λ s. refl)
   threads-after (Acquire m) f = own_place-after (Acquire m) f refl
   threads-after (Release m) f = own_place-after (Release m) f refl
   threads-after (Begin label) f = own_place-after (Begin label) f refl
@@ -115,14 +119,14 @@ as_many : (heap : Contents) (values : List ℕ) (holders : List (Option ThreadId
 as_many heap values holders threads hv hh ht = rw (hv, hh, ht) refl
 
 pub bounds_of-contents_after : (heap : Contents) (by : ThreadId) (k : Kind) → bounds_of (contents_after heap (record { thread = by; kind = k })) ≡ bounds_of heap
-bounds_of-contents_after heap by (Read x v) = as_many heap _ _ _ refl refl (length-set _ _ _)
-bounds_of-contents_after heap by (Write x v) = as_many heap _ _ _ (length-set _ _ _) refl (length-set _ _ _)
+bounds_of-contents_after heap by (Read x v) = refl
+bounds_of-contents_after heap by (Write x v) = as_many heap _ _ _ (length-set _ _ _) refl refl
 bounds_of-contents_after heap by (Acquire m) = as_many heap _ _ _ refl (length-set _ _ _) (length-set _ _ _)
 bounds_of-contents_after heap by (Release m) = as_many heap _ _ _ refl (length-set _ _ _) (length-set _ _ _)
 bounds_of-contents_after heap by (Begin label) = as_many heap _ _ _ refl refl (length-set _ _ _)
 bounds_of-contents_after heap by End = as_many heap _ _ _ refl refl (length-set _ _ _)
-bounds_of-contents_after heap by (Fork u) = as_many heap _ _ _ refl refl (length-set _ _ _ ∙ length-set _ _ _)
-bounds_of-contents_after heap by (Join u) = as_many heap _ _ _ refl refl (length-set _ _ _ ∙ length-set _ _ _)
+bounds_of-contents_after heap by (Fork u) = as_many heap _ _ _ refl refl (length-set _ _ _)
+bounds_of-contents_after heap by (Join u) = as_many heap _ _ _ refl refl (length-set _ _ _)
 bounds_of-contents_after heap by Exit = as_many heap _ _ _ refl refl (length-set _ _ _)
 
 -- ---- the whole

@@ -153,14 +153,3 @@ CountsFit-admitted bounds trace by (Write x v) after f = tt
 CountsFit-admitted bounds trace by (Fork u) after f = tt
 CountsFit-admitted bounds trace by (Join u) after f = tt
 CountsFit-admitted bounds trace by Exit after f = tt
-
-pub CountsFit-more : (few most : ℕ) (own : Standing) (k : Kind) → few ≤ most → CountsFit few own k → CountsFit most own k
-CountsFit-more few most own (Acquire m) le room = omega (arith, le, room)
-CountsFit-more few most own (Release m) le room = room
-CountsFit-more few most own (Begin label) le room = room
-CountsFit-more few most own End le room = room
-CountsFit-more few most own (Read x v) le room = tt
-CountsFit-more few most own (Write x v) le room = tt
-CountsFit-more few most own (Fork u) le room = tt
-CountsFit-more few most own (Join u) le room = tt
-CountsFit-more few most own Exit le room = tt

@@ -118,21 +118,24 @@ standing_at threads t = get_or threads t unborn
 abbrev pub with_status : List Standing → ℕ → Status → List Standing
 with_status threads t status = slice_set threads t (record (standing_at threads t) { status = status })
 
--- the operation changes what it names
-abbrev pub named_after : Contents → ThreadId → Kind → Contents
-named_after heap t (Write x v) = record heap { values = slice_set heap.values x.0 v }
-named_after heap t (Acquire m) = record heap { holders = slice_set heap.holders m.0 (Some t) }
-named_after heap t (Release m) = record heap { holders = slice_set heap.holders m.0 None }
-named_after heap t (Fork u) = record heap { threads = with_status heap.threads u.0 Live }
-named_after heap t (Join u) = record heap { threads = with_status heap.threads u.0 Joined }
-named_after heap t _ = heap
+-- the thread stands as after its own operation
+abbrev pub own_after : List Standing → ℕ → Kind → List Standing
+own_after threads t kind = slice_set threads t (standing_after (standing_at threads t) kind)
 
--- and it changes its own thread
-abbrev pub own_after : Contents → ThreadId → Kind → Contents
-own_after heap t kind = record heap { threads = slice_set heap.threads t.0 (standing_after (standing_at heap.threads t.0) kind) }
+-- the operation changes what it names, and its own thread where that stands otherwise then
+abbrev pub after_kind : Contents → ThreadId → Kind → Contents
+after_kind heap t (Read x v) = heap
+after_kind heap t (Write x v) = record heap { values = slice_set heap.values x.0 v }
+after_kind heap t (Acquire m) = record heap { holders = slice_set heap.holders m.0 (Some t); threads = own_after heap.threads t.0 (Acquire m) }
+after_kind heap t (Release m) = record heap { holders = slice_set heap.holders m.0 None; threads = own_after heap.threads t.0 (Release m) }
+after_kind heap t (Begin label) = record heap { threads = own_after heap.threads t.0 (Begin label) }
+after_kind heap t End = record heap { threads = own_after heap.threads t.0 End }
+after_kind heap t (Fork u) = record heap { threads = with_status heap.threads u.0 Live }
+after_kind heap t (Join u) = record heap { threads = with_status heap.threads u.0 Joined }
+after_kind heap t Exit = record heap { threads = own_after heap.threads t.0 Exit }
 
 abbrev pub contents_after : Contents → Event → Contents
-contents_after heap event = named_after (own_after heap event.thread event.kind) event.thread event.kind
+contents_after heap event = after_kind heap event.thread event.kind
 
 -- the operation fits the contents
 pub record CanChange (heap : Contents) (event : Event) : Type 0 where

@@ -100,7 +100,7 @@ impl Heap {
         ensures next { (trace : List Event) → IsHeapOf self.old trace →
             IsHeapOf self.new (trace ++ event.now ∷ []) }
     {
-        self.change(*event);
+        self.change(event);
     }
 
     /// The value of a variable.
@@ -259,20 +259,28 @@ impl Heap {
         }
     }
 
-    /// Changes what the event names, and its thread.
-    fn change(&mut self, event: Event)
-        requires { CanChange self.old event }
-        ensures { self.new ≡ contents_after self.old event }
+    /// Changes what the event names, and its thread where that stands otherwise then.
+    fn change(&mut self, event: &Event)
+        requires { CanChange self.old event.now }
+        ensures { self.new ≡ contents_after self.old event.now }
     {
         let own = usize::from(event.thread.0);
-        self.threads[own] = self.threads[own].after(event.kind);
         match event.kind {
+            Kind::Read(..) => {}
             Kind::Write(x, value) => self.values[usize::from(x.0)] = value,
-            Kind::Acquire(m) => self.holders[usize::from(m.0)] = Some(event.thread),
-            Kind::Release(m) => self.holders[usize::from(m.0)] = None,
+            Kind::Acquire(m) => {
+                self.holders[usize::from(m.0)] = Some(event.thread);
+                self.threads[own].locks += 1;
+            }
+            Kind::Release(m) => {
+                self.holders[usize::from(m.0)] = None;
+                self.threads[own].locks -= 1;
+            }
+            Kind::Begin(_) => self.threads[own].depth += 1,
+            Kind::End => self.threads[own].depth -= 1,
             Kind::Fork(u) => self.threads[usize::from(u.0)].status = Status::Live,
             Kind::Join(u) => self.threads[usize::from(u.0)].status = Status::Joined,
-            Kind::Read(..) | Kind::Begin(_) | Kind::End | Kind::Exit => {}
+            Kind::Exit => self.threads[own].status = Status::Exited,
         }
     }
 }

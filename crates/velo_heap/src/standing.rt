@@ -1,7 +1,6 @@
 ghost use Rattle.std.specs.Prelude.{◌≡◌};
 ghost use Rattle.velo_events.specs.Meaning.{is_live};
-ghost use Rattle.velo_events.specs.declared.limits.TheConstants.{MOST_LOCKS};
-ghost use Rattle.velo_heap.specs.Steps.{CountsFit, standing_after, begin_in, end_in, exit_in, fork_by, join_by, unborn};
+ghost use Rattle.velo_heap.specs.Steps.{begin_in, end_in, exit_in, fork_by, join_by, unborn};
 
 use velo_events::{Kind, Label, MOST_OPEN_BLOCKS, Refusal, Status, ThreadId};
 
@@ -84,36 +83,6 @@ impl Standing {
             Status::Live => Err(Refusal::NotExited),
             Status::Exited => Ok(Kind::Join(u)),
             Status::Joined => Err(Refusal::AlreadyJoined),
-        }
-    }
-
-    /// The thread after its own operation.
-    pub fn after(self, kind: Kind) -> Standing
-        requires { CountsFit MOST_LOCKS self kind }
-        ensures { result ≡ standing_after self kind }
-    {
-        match kind {
-            Kind::Acquire(_) => Standing {
-                locks: self.locks + 1,
-                ..self
-            },
-            Kind::Release(_) => Standing {
-                locks: self.locks - 1,
-                ..self
-            },
-            Kind::Begin(_) => Standing {
-                depth: self.depth + 1,
-                ..self
-            },
-            Kind::End => Standing {
-                depth: self.depth - 1,
-                ..self
-            },
-            Kind::Exit => Standing {
-                status: Status::Exited,
-                ..self
-            },
-            Kind::Read(..) | Kind::Write(..) | Kind::Fork(_) | Kind::Join(_) => self,
         }
     }
 }

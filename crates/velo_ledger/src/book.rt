@@ -90,8 +90,9 @@ impl Book {
         ensures fit { FitsBook self.new share.new }
     {
         let row = &mut self.rows[usize::from(share.thread.0)];
-        share.tally.add(position as u64, event);
-        *row = share.tally;
+        let tally = share.tally.with(position as u64, event);
+        *row = tally;
+        share.tally = tally;
     }
 
     /// Adds an event to the row of its thread and to the share at its thread's place, which stays there.

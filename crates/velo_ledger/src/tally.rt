@@ -34,21 +34,24 @@ impl Tally {
         }
     }
 
-    /// Adds one event.
+    /// The tally with one event more. It is made anew and then written to row and share: a copy of one of them would wait
+    /// for the parts just written.
     #[inline]
-    pub(crate) fn add(&mut self, position: u64, event: &Event)
-        requires small { IsSmall self.old }
-        requires later { self.old.next ≤ position }
+    pub(crate) fn with(&self, position: u64, event: &Event) -> Tally
+        requires small { IsSmall self.now }
+        requires later { self.now.next ≤ position }
         requires room { position < MOST_EVENTS }
-        ensures event { self.new ≡ with_event self.old position event.now }
-        ensures small { IsSmall self.new }
+        ensures event { result ≡ with_event self.now position event.now }
+        ensures small { IsSmall result }
     {
         let (read, written) = amounts(&event.kind);
-        self.events += 1;
-        self.next = position + 1;
-        self.last = Some(*event);
-        self.read_total += u128::from(read);
-        self.written_total += u128::from(written);
+        Tally {
+            events: self.events + 1,
+            next: position + 1,
+            last: Some(*event),
+            read_total: self.read_total + u128::from(read),
+            written_total: self.written_total + u128::from(written),
+        }
     }
 
     /// Whether all five numbers are the same.
