@@ -1,78 +1,35 @@
 //! How far transactions are from one that they reach, found backwards along the edges of the graph.
-ghost use Rattle.std.specs.Prelude.{◌≡◌, ◌≤◌, ◌<◌, ◌+◌, ℕ, List, length, slice_index, IfOk, OnErr, IsTrue, IsFalse};
+ghost use Rattle.std.specs.Prelude.{◌≡◌, ◌<◌, length, slice_index, IfOk, OnErr};
 ghost use Rattle.velo_events.specs.Refusals.{GrowthRefused};
 ghost use Rattle.velo_certify.specs.Owners.{AreOwners};
-ghost use Rattle.velo_certify.specs.Table.{HasNumbers, numbers_from, AllNameRows, sizes};
-ghost use Rattle.velo_certify.specs.Distances.{AreDistances, FindsLevel, FindsLevelFrom, on_level, unreached};
+ghost use Rattle.velo_certify.specs.Distances.{AreDistances};
+ghost use Rattle.velo_certify.specs.Search.{ArePassed, Expands};
 
+use crate::lists::Lists;
 use crate::owners::owner_of;
-use crate::table::Table;
+use crate::reached::Reached;
 use std::alloc::Global;
-use velo_events::growth::filled;
 use velo_events::{Event, Memory};
 
-/// Takes in the event at a position, where those behind it were taken in. If its transaction was not reached, and has an edge
-/// to one on the level, it is on the next level from now on.
-fn reach_from(
+/// Reaches the transactions from which an edge leads to this one.
+fn expand(
     events: &[Event],
     owners: &[usize],
-    table: &mut Table,
-    level: usize,
-    at: usize,
-    far: &mut [usize],
-) -> bool
-    requires within { at < length events.now }
+    lists: &mut Lists,
+    reached: &mut Reached,
+    transaction: usize,
+)
     requires owners { AreOwners owners.now events.now }
-    requires names { AllNameRows (sizes table.old) events.now (length events.now) }
-    requires count { length far.old ≡ length events.now }
-    requires positive { 0 < level }
-    requires small { level ≤ length events.now }
-    ensures names { sizes table.new ≡ sizes table.old }
-    ensures finds { (first : List ℕ) → HasNumbers events.now (numbers_from (on_level events.now first level) (at + 1)) table.old → FindsLevelFrom events.now level (at + 1) first far.old → HasNumbers events.now (numbers_from (on_level events.now first level) at) table.new × FindsLevelFrom events.now level at first far.new }
-    ensures yes { IsTrue result → unreached far.new < unreached far.old }
-    ensures no { IsFalse result → far.new ≡ far.old }
+    requires lists { ArePassed events.now lists.old reached.old }
+    requires positive { 0 < slice_index reached.old.far.items transaction }
+    ensures lists { ArePassed events.now lists.new reached.new }
+    ensures expands { Expands events.now transaction reached.old reached.new }
 {
-    let transaction = owner_of(events, owners, at);
-    let number = if far[transaction] == level { 1 } else { 0 };
-    let found = table.take_in(events, at, number);
-    if found == 0 {
-        return false;
+    let mut at = transaction;
+    while at < events.len() && owner_of(events, owners, at) == transaction {
+        lists.pass_conflicts(events, owners, reached, at);
+        at = lists.following[at];
     }
-    if far[transaction] > 0 {
-        return false;
-    }
-    far[transaction] = level + 1;
-    true
-}
-
-/// Finds the next level: what has an edge to a transaction on this one, and was not reached yet.
-fn find_level(
-    events: &[Event],
-    owners: &[usize],
-    table: &mut Table,
-    level: usize,
-    far: &mut [usize],
-) -> bool
-    requires owners { AreOwners owners.now events.now }
-    requires names { AllNameRows (sizes table.old) events.now (length events.now) }
-    requires count { length far.old ≡ length events.now }
-    requires positive { 0 < level }
-    requires small { level ≤ length events.now }
-    ensures names { sizes table.new ≡ sizes table.old }
-    ensures finds { FindsLevel events.now level far.old far.new }
-    ensures yes { IsTrue result → unreached far.new < unreached far.old }
-    ensures no { IsFalse result → far.new ≡ far.old }
-{
-    table.clear();
-    let mut grown = false;
-    let mut at = events.len();
-    while at > 0 {
-        at -= 1;
-        if reach_from(events, owners, table, level, at, far) {
-            grown = true;
-        }
-    }
-    grown
 }
 
 /// For each transaction the least number of edges that lead from it to the target, plus one; 0 where none do.
@@ -87,12 +44,13 @@ pub(crate) fn distances(
     ensures distances { IfOk result (λ far. AreDistances events.now target far.items) }
     ensures memory { OnErr result GrowthRefused }
 {
-    let mut table = Table::new(alloc, events)?;
-    let mut far = filled(alloc, 0, events.len())?;
-    far[target] = 1;
-    let mut level = 1;
-    while find_level(events, owners, &mut table, level, &mut far) {
-        level += 1;
+    let mut lists = Lists::new(alloc, events)?;
+    let mut reached = Reached::new(alloc, events.len(), target)?;
+    let mut k = 0;
+    while k < reached.found.len() {
+        let transaction = reached.found[k];
+        expand(events, owners, &mut lists, &mut reached, transaction);
+        k += 1;
     }
-    Ok(far)
+    Ok(reached.far)
 }

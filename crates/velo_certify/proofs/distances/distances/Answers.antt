@@ -1,26 +1,20 @@
-use Rattle.std.proofs.Common.{◌+◌, ◌<◌, length, sym, subst, ◌∙◌, arith}
-use Rattle.velo_certify.specs.Distances.{AreDistances, HasLevels, FindsLevel, unreached}
-use Rattle.velo_certify.specs.Table.{AllNameRows}
-use Rattle.velo_certify.proofs.OnDistances.{HasLevels-next, AreDistances-end, whole_again}
+use Rattle.std.proofs.Common.{◌≡◌, ◌<◌, length, subst, ◌∙◌, arith}
+use Rattle.std.specs.Prelude.{slice_index}
+use Rattle.std.proofs.lemmas.List.{get_or_default}
+use Rattle.velo_certify.specs.Search.{Expands}
+use Rattle.velo_certify.proofs.OnSearch.{IsSearched-next, AreDistances-end}
 use Rattle.velo_certify.proofs.distances.distances.Goals as goal
 
-pub loop-level-preserved : goal.loop-level-preserved
-loop-level-preserved c =
-    let trace = c.args.events.now in let far = c.loop-level.far in let new = c.find_level.new.far in
-    let before = c.deref_mut.ensures.value in
-    let finds = subst (λ xs. FindsLevel trace c.loop-level.level xs new) before c.find_level.ensures.finds in
-    let less = subst (λ xs. unreached new < unreached xs) before (c.find_level.ensures.yes c.loop-level-test.true) in
+pub loop-k-preserved : goal.loop-k-preserved
+loop-k-preserved c =
+    let trace = c.args.events.now in let k = c.loop-k.k in let old = c.loop-k.reached in let new = c.expand.new.reached in
+    let a = c.index-transaction.result.now in
+    let inside : k < length old.found.items = omega (arith, c.loop-k-test.true, c.len.ensures) in
+    let there : a ≡ slice_index old.found.items k = c.index-transaction.ensures ∙ get_or_default old.found.items k a 0 inside in
     record {
-      names = subst (λ s. AllNameRows s trace (length trace)) (sym c.find_level.ensures.names) c.loop-level.invariant.names;
-      levels = subst (HasLevels trace c.args.target (c.loop-level.level + 1)) (sym (whole_again new far.items far.len (omega (arith, far.ok, finds.count))))
-          (HasLevels-next trace c.args.target c.loop-level.level far.items new c.loop-level.invariant.levels finds less);
+      lists = c.expand.ensures.lists;
+      searched = IsSearched-next trace c.args.target k old new c.loop-k.invariant.searched inside (subst (λ b. Expands trace b old new) there c.expand.ensures.expands);
     }
 
 pub returns-clause-distances : goal.returns-clause-distances
-returns-clause-distances c =
-    let trace = c.args.events.now in let far = c.loop-level.far in let new = c.find_level.new.far in
-    let before = c.deref_mut.ensures.value in
-    let same = c.find_level.ensures.no c.loop-level-test.false ∙ before in
-    let finds = subst (λ xs. FindsLevel trace c.loop-level.level xs new) before c.find_level.ensures.finds in
-    subst (AreDistances trace c.args.target) (sym (whole_again new far.items far.len (omega (arith, far.ok, finds.count)) ∙ same))
-    (AreDistances-end trace c.args.target c.loop-level.level far.items c.loop-level.invariant.levels (subst (FindsLevel trace c.loop-level.level far.items) same finds))
+returns-clause-distances c = AreDistances-end c.args.events.now c.args.target c.loop-k.k c.loop-k.reached c.loop-k.invariant.searched (omega (arith, c.loop-k-test.false, c.len.ensures))

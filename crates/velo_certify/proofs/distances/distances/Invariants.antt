@@ -1,13 +1,12 @@
-use Rattle.std.proofs.Common.{length}
-use Rattle.velo_certify.specs.Table.{AllNameRows, sizes}
-use Rattle.velo_certify.specs.Distances.{HasLevels, unreached}
+use Rattle.std.proofs.Common.{◌-◌, length}
+use Rattle.velo_certify.specs.Search.{ArePassed, IsSearched}
 use Rattle.velo_certify.proofs.distances.distances.Given as goal
 
-abbrev pub invariant-loop-level : goal.invariant-loop-level
-invariant-loop-level l = record {
-  names : AllNameRows (sizes l.table) l.events (length l.events);
-  levels : HasLevels l.events l.target l.level l.far.items;
+abbrev pub invariant-loop-k : goal.invariant-loop-k
+invariant-loop-k l = record {
+  lists : ArePassed l.events l.lists l.reached;
+  searched : IsSearched l.events l.target l.k l.reached;
 }
 
-abbrev pub decreases-loop-level : goal.decreases-loop-level
-decreases-loop-level l = unreached l.far.items
+abbrev pub decreases-loop-k : goal.decreases-loop-k
+decreases-loop-k l = length l.events - l.k
