@@ -8,6 +8,7 @@ pub mod OnRows
 pub mod OnOwners
 pub mod OnOrders
 pub mod OnReached
+pub mod OnSorting
 pub mod OnLists
 pub mod OnPasses
 pub mod OnSearch

@@ -13,16 +13,16 @@ use Rattle.velo_events.proofs.OnOwners.{owner-between}
 use Rattle.velo_events.proofs.OnScans.{owner-owner}
 use Rattle.velo_certify.specs.declared.lists.Lists.{Lists}
 use Rattle.velo_certify.specs.declared.reached.Reached.{Reached}
-use Rattle.velo_certify.specs.Distances.{AreDistances}
+use Rattle.velo_certify.specs.Distances.{AreDistances, AreTowards}
 use Rattle.velo_certify.specs.Lists.{IsFirst, IsListed, AreListed, list_sizes}
 use Rattle.velo_certify.specs.Owners.{event_at}
-use Rattle.velo_certify.specs.Search.{IsStart, IsQueued, Grows, IsPassed, ArePassed, level_at, Passes, PassesConflicts, ExpandsBelow, Expands, IsSearched}
+use Rattle.velo_certify.specs.Search.{IsStart, IsQueued, Grows, Leads, AreOnLevel, IsSortedFrom, IsPassed, ArePassed, level_at, Passes, PassesConflicts, ExpandsBelow, Expands, IsSearched}
 use Rattle.velo_certify.specs.Table.{AllNameRows, is_about, thread_in, handled_in, written_in, read_in, lock_in}
 use Rattle.velo_certify.specs.Threads.{thread_at, IsFirstFrom}
 use Rattle.velo_certify.proofs.OnGreatest.{passes-conflict, conflict-passes}
 use Rattle.velo_certify.proofs.OnLists.{here, about-named, named-about}
 use Rattle.velo_certify.proofs.OnPasses.{Grows-reached}
-use Rattle.velo_certify.proofs.OnReached.{cases_zero, Grows-same, Grows-twice}
+use Rattle.velo_certify.proofs.OnReached.{cases_zero, Grows-same, Grows-twice, Leads-same, Leads-twice}
 use Rattle.velo_certify.proofs.OnThreads.{one-thread, own-thread, Follows, Follows-next}
 
 -- ---- before anything is passed
@@ -72,6 +72,7 @@ reached-within far a has = ⊎_elim (λ l. l) (λ g. absurd (let none = get_or_p
 pub ExpandsBelow-start : (trace : List Event) (b : ℕ) (old : Reached) → ExpandsBelow trace b b old old
 ExpandsBelow-start trace b old = record {
   grows = Grows-same (slice_index old.far.items b) old;
+  leads = Leads-same b old;
   found = λ a none has. absurd (omega (arith, none, has));
   all = λ i j before upto clash own. absurd (let most = owner-le trace j in omega (arith, most, own, upto));
 }
@@ -93,6 +94,7 @@ module _ (trace : List Event) (b n : ℕ) (old now : Reached) (positive : 0 < sl
     pub ExpandsBelow-next : ExpandsBelow trace b k old new
     ExpandsBelow-next = record {
       grows = Grows-twice (slice_index old.far.items b) old now new v.grows grown;
+      leads = Leads-twice (slice_index old.far.items b) b old now new v.grows v.leads (subst (λ c. Leads c now new) of_b by_event.leads);
       found = λ a none has. ⊎_elim
           (λ z.
           let is = by_event.reaches.found a z has in
@@ -142,6 +144,7 @@ module _ (trace : List Event) (b n : ℕ) (old now : Reached) (positive : 0 < sl
     pub Expands-end : Expands trace b old now
     Expands-end = record {
       grows = v.grows;
+      leads = v.leads;
       found = v.found;
       all = λ i j before inside clash own. ⊎_elim (λ early. v.all i j before early clash own) (λ late. absurd (none-left j late inside own)) (cases_lt j n);
     }
@@ -153,7 +156,10 @@ IsSearched-start trace target reached w = record {
   count = w.long;
   begins = w.begins;
   alone = λ a is. w.alone a (omega (arith, is));
-  step = λ a d is. absurd (let same = ap (slice_index reached.far.items) (w.alone a (omega (arith, is))) in let one = w.begins in omega (arith, is, same, one));
+  towards = record {
+    edges = λ a has other. absurd (other (w.alone a has));
+    nearer = record { each = λ a has other. absurd (other (w.alone a has)) };
+  };
   queued = λ a has. subst (IsQueued reached) (sym (w.alone a has)) w.queued;
   sorted = λ i j l h. let x = one i (omega (arith, l, h)) in let y = one j h in omega (arith, x, y);
   close = λ i l h. let x = one i l in let y = one 0 h in omega (arith, x, y);
@@ -194,15 +200,29 @@ module _ (trace : List Event) (target k : ℕ) (old new : Reached) (w : IsSearch
         (λ none. absurd (let fresh = (x.found a none (omega (arith, is))).0 in omega (arith, fresh, is, positive)))
         (λ had. w.alone a (sym (x.grows.kept a had) ∙ is))
         (cases_zero (slice_index old.far.items a));
-    step = λ a e is. ⊎_elim
-        (λ none.
-        let fresh = x.found a none (omega (arith, is)) in
-        let first = fresh.0 in
-        (b, fresh.1, let kept = x.grows.kept b positive in let same : slice_index new.far.items b ≡ suc e = omega (arith, kept, first, is) in same))
-        (λ had.
-        let (c, edge, of_c) = w.step a e (sym (x.grows.kept a had) ∙ is) in
-        (c, edge, x.grows.kept c (omega (arith, of_c)) ∙ of_c))
-        (cases_zero (slice_index old.far.items a));
+    towards = record {
+      edges = λ a has other. ⊎_elim
+          (λ none. subst (Edge trace a) (sym (x.leads.towards a none has)) (x.found a none has).1)
+          (λ had. subst (Edge trace a) (sym (x.leads.kept a had)) (w.towards.edges a had other))
+          (cases_zero (slice_index old.far.items a));
+      nearer = record {
+        each = λ a has other. ⊎_elim
+            (λ none.
+            let first = (x.found a none has).0 in
+            let there = ap (slice_index new.far.items) (x.leads.towards a none has) in
+            let kept = x.grows.kept b positive in
+            (omega (arith, there, kept, positive), omega (arith, there, kept, first)))
+            (λ had.
+            let near = w.towards.nearer.each a had other in
+            let there = ap (slice_index new.far.items) (x.leads.kept a had) in
+            let one = x.grows.kept a had in
+            let kept = x.grows.kept (slice_index old.next.items a) near.0 in
+            let some = near.0 in
+            let less = near.1 in
+            (omega (arith, there, kept, some), omega (arith, there, kept, one, less)))
+            (cases_zero (slice_index old.far.items a));
+      };
+    };
     queued = λ a has. ⊎_elim
         (λ none. x.grows.queued a none has)
         (λ had. let (i, l, is) = w.queued a had in (i, let more = x.grows.longer in omega (arith, l, more), x.grows.same i l ∙ is))
@@ -238,10 +258,80 @@ AreDistances-end trace target k reached w end = record {
   count = w.count;
   begins = w.begins;
   alone = w.alone;
-  step = w.step;
+  step = λ a d is.
+      let near = w.towards.nearer.each a (omega (arith, is)) (λ e. let same = ap (slice_index reached.far.items) e in let one = w.begins in omega (arith, same, one, is)) in (
+        slice_index reached.next.items a,
+        w.towards.edges a (omega (arith, is)) (λ e. let same = ap (slice_index reached.far.items) e in let one = w.begins in omega (arith, same, one, is)),
+        let less = near.1 in let at_d : slice_index reached.far.items (slice_index reached.next.items a) ≡ suc d = omega (arith, less, is) in at_d,
+      );
   least = λ a b e some.
       let (i, l, is) = w.queued b some in
       let v = w.least i a (omega (arith, l, end)) l (subst (Edge trace a) (sym is) e) in
       let same = ap (slice_index reached.far.items) is in
       (v.0, let most = v.1 in omega (arith, most, same));
 }
+
+-- ---- one level
+
+-- what is put in rising order is on one level still
+pub AreOnLevel-sorted : (from : ℕ) (old new : Reached) → from < length old.found.items → IsSortedFrom from old new → AreOnLevel old from → AreOnLevel new from
+AreOnLevel-sorted from old new inside s w = record {
+  each = λ i g l. one i g (let n = s.found.count in omega (arith, l, n)) ∙ sym (one from (omega arith) inside);
+}
+  where
+    one : (i : ℕ) → from ≤ i → i < length old.found.items → slice_index new.far.items (slice_index new.found.items i) ≡ slice_index old.far.items (slice_index old.found.items from)
+    one i g l = let (j, h, m, is) = s.found.has i g l in ap (λ xs. slice_index xs (slice_index new.found.items i)) s.far ∙ (ap (slice_index old.far.items) is ∙ w.each j h m)
+
+pub IsSearched-sorted : (trace : List Event) (target from : ℕ) (old new : Reached) → from < length old.found.items → IsSortedFrom from old new → AreOnLevel old from → IsSearched trace target from old → IsSearched trace target from new
+IsSearched-sorted trace target from old new inside s level w = record {
+  count = ap length s.far ∙ w.count;
+  begins = same target ∙ w.begins;
+  alone = λ a is. w.alone a (sym (same a) ∙ is);
+  towards = subst (λ far. AreTowards trace target far new.next.items) (sym s.far) (subst (AreTowards trace target old.far.items) (sym s.next) w.towards);
+  queued = λ a has.
+      let (i, l, is) = w.queued a (let e = same a in omega (arith, has, e)) in
+      ⊎_elim (λ early. (i, let n = s.found.count in omega (arith, l, n), s.found.before i early ∙ is)) (λ late. let (j, g, m, there) = s.found.kept i late l in (j, let n = s.found.count in omega (arith, m, n), there ∙ is)) (cases_lt i from);
+  sorted = λ i j l h. let n = s.found.count in ⊎_elim
+      (λ early. let x = early_one i early in ⊎_elim
+      (λ both. let y = early_one j both in let most = w.sorted i j l (omega (arith, h, n)) in omega (arith, x, y, most))
+      (λ late. let y = late_one j late (omega (arith, h, n)) in let most = w.sorted i from (omega (arith, early)) inside in omega (arith, x, y, most))
+      (cases_lt j from))
+      (λ late. let x = late_one i late (omega (arith, l, h, n)) in let y = late_one j (omega (arith, late, l)) (omega (arith, h, n)) in omega (arith, x, y))
+      (cases_lt i from);
+  close = λ i l h. let n = s.found.count in let y = late_one from (omega arith) inside in ⊎_elim
+      (λ early. let x = early_one i early in let most = w.sorted i from (omega (arith, early)) inside in omega (arith, x, y, most))
+      (λ late. let x = late_one i late (omega (arith, l, n)) in omega (arith, x, y))
+      (cases_lt i from);
+  least = λ i a l h e.
+      let v = w.least i a l (omega (arith, l, inside)) (subst (Edge trace a) (s.found.before i l) e) in
+      let x = early_one i l in
+      let y = same a in
+      (let some = v.0 in omega (arith, some, y), let most = v.1 in omega (arith, most, x, y));
+}
+  where
+    same : (a : ℕ) → slice_index new.far.items a ≡ slice_index old.far.items a
+    same a = ap (λ xs. slice_index xs a) s.far
+
+    early_one : (i : ℕ) → i < from → slice_index new.far.items (slice_index new.found.items i) ≡ slice_index old.far.items (slice_index old.found.items i)
+    early_one i l = same (slice_index new.found.items i) ∙ ap (slice_index old.far.items) (s.found.before i l)
+
+    late_one : (i : ℕ) → from ≤ i → i < length old.found.items → slice_index new.far.items (slice_index new.found.items i) ≡ slice_index old.far.items (slice_index old.found.items from)
+    late_one i g l = let (j, h, m, is) = s.found.has i g l in same (slice_index new.found.items i) ∙ (ap (slice_index old.far.items) is ∙ level.each j h m)
+
+-- only the target is on the first level
+pub AreOnLevel-start : (count target : ℕ) (reached : Reached) → IsStart count target reached → AreOnLevel reached 0
+AreOnLevel-start count target reached w = record {
+  each = λ i g l. ap (slice_index reached.far.items) (w.alone (slice_index reached.found.items i) (reached.queue.each i l) ∙ sym (w.alone (slice_index reached.found.items 0) (reached.queue.each 0 (omega (arith, l)))));
+}
+
+-- what the transactions of one level reach is on the next one
+pub AreOnLevel-end : (level : ℕ) (old new : Reached) → Grows level old new → AreOnLevel new (length old.found.items)
+AreOnLevel-end level old new w = record { each = λ i g l. w.behind i g l ∙ sym (w.behind (length old.found.items) (omega arith) (omega (arith, g, l))) }
+
+-- one transaction of the level more
+module _ (trace : List Event) (begin k : ℕ) (old now new : Reached) (level : AreOnLevel old begin) (from : begin ≤ k) (inside : k < length old.found.items) (grown : Grows (slice_index old.far.items (slice_index old.found.items begin)) old now) (x : Expands trace (slice_index now.found.items k) now new) where
+  level_is : slice_index now.far.items (slice_index now.found.items k) ≡ slice_index old.far.items (slice_index old.found.items begin)
+  level_is = ap (slice_index now.far.items) (grown.same k inside) ∙ (grown.kept (slice_index old.found.items k) (old.queue.each k inside) ∙ level.each k from inside)
+
+  pub Grows-level : Grows (slice_index old.far.items (slice_index old.found.items begin)) old new
+  Grows-level = Grows-twice (slice_index old.far.items (slice_index old.found.items begin)) old now new grown (subst (λ l. Grows l now new) level_is x.grows)

@@ -1,5 +1,5 @@
 -- Distances to a transaction, backwards along the edges of the graph.
-use Rattle.std.specs.Prelude.{◌≡◌, ℕ, suc, ◌+◌, ◌<◌, ◌≤◌, List, length, slice_index}
+use Rattle.std.specs.Prelude.{◌≡◌, ◌≢◌, ℕ, suc, ◌+◌, ◌<◌, ◌≤◌, List, length, slice_index}
 use Rattle.velo_events.specs.declared.event.Event.{Event}
 use Rattle.velo_events.specs.Graph.{Edge}
 
@@ -10,3 +10,12 @@ pub record AreDistances (trace : List Event) (target : ℕ) (far : List ℕ) : T
   pub alone : (a : ℕ) → slice_index far a ≡ 1 → a ≡ target
   pub step : (a d : ℕ) → slice_index far a ≡ suc (suc d) → (b : ℕ) × Edge trace a b × (slice_index far b ≡ suc d)
   pub least : (a b : ℕ) → Edge trace a b → 0 < slice_index far b → (0 < slice_index far a) × (slice_index far a ≤ slice_index far b + 1)
+
+-- what each but the target leads to is nearer by one
+pub record AreNearer (target : ℕ) (far next : List ℕ) : Type 0 where
+  pub each : (a : ℕ) → 0 < slice_index far a → a ≢ target → (0 < slice_index far (slice_index next a)) × (slice_index far (slice_index next a) + 1 ≡ slice_index far a)
+
+-- and an edge leads to it
+pub record AreTowards (trace : List Event) (target : ℕ) (far next : List ℕ) : Type 0 where
+  pub edges : (a : ℕ) → 0 < slice_index far a → a ≢ target → Edge trace a (slice_index next a)
+  pub nearer : AreNearer target far next

@@ -1,9 +1,9 @@
 //! How far transactions are from one that they reach, found backwards along the edges of the graph.
-ghost use Rattle.std.specs.Prelude.{◌≡◌, ◌<◌, length, slice_index, IfOk, OnErr};
+ghost use Rattle.std.specs.Prelude.{◌≡◌, ◌<◌, ℕ, length, slice_index, IfOk, OnErr};
 ghost use Rattle.velo_events.specs.Refusals.{GrowthRefused};
 ghost use Rattle.velo_certify.specs.Owners.{AreOwners};
-ghost use Rattle.velo_certify.specs.Distances.{AreDistances};
-ghost use Rattle.velo_certify.specs.Search.{ArePassed, Expands};
+ghost use Rattle.velo_certify.specs.Distances.{AreDistances, AreTowards};
+ghost use Rattle.velo_certify.specs.Search.{AreOnLevel, ArePassed, Expands, IsSearched};
 
 use crate::lists::Lists;
 use crate::owners::owner_of;
@@ -32,25 +32,51 @@ fn expand(
     }
 }
 
-/// For each transaction the least number of edges that lead from it to the target, plus one; 0 where none do.
-pub(crate) fn distances(
+/// Expands the transactions of the queue from a place on, which are on one level.
+fn expand_level(
+    events: &[Event],
+    owners: &[usize],
+    lists: &mut Lists,
+    reached: &mut Reached,
+    begin: usize,
+)
+    requires owners { AreOwners owners.now events.now }
+    requires lists { ArePassed events.now lists.old reached.old }
+    requires begin { begin < length reached.old.found.items }
+    requires level { AreOnLevel reached.old begin }
+    ensures lists { ArePassed events.now lists.new reached.new }
+    ensures searched { (target : ℕ) → IsSearched events.now target begin reached.old → IsSearched events.now target (length reached.old.found.items) reached.new }
+    ensures level { AreOnLevel reached.new (length reached.old.found.items) }
+{
+    let end = reached.found.len();
+    for k in begin..end {
+        let transaction = reached.found[k];
+        expand(events, owners, lists, reached, transaction);
+    }
+}
+
+/// The transactions that reach the target, with the least numbers of edges that lead from them to it. On each level the lower
+/// numbers come first, so that each leads to the lowest one that is nearer.
+pub(crate) fn reach_target(
     alloc: Global,
     events: &[Event],
     owners: &[usize],
     target: usize,
-) -> Result<Vec<usize>, Memory>
+) -> Result<Reached, Memory>
     requires owners { AreOwners owners.now events.now }
     requires target { target < length events.now }
-    ensures distances { IfOk result (λ far. AreDistances events.now target far.items) }
+    ensures distances { IfOk result (λ reached. AreDistances events.now target reached.far.items) }
+    ensures next { IfOk result (λ reached. AreTowards events.now target reached.far.items reached.next.items) }
     ensures memory { OnErr result GrowthRefused }
 {
     let mut lists = Lists::new(alloc, events)?;
     let mut reached = Reached::new(alloc, events.len(), target)?;
-    let mut k = 0;
-    while k < reached.found.len() {
-        let transaction = reached.found[k];
-        expand(events, owners, &mut lists, &mut reached, transaction);
-        k += 1;
+    let mut done = 0;
+    while done < reached.found.len() {
+        let end = reached.found.len();
+        reached.sort_from(done);
+        expand_level(events, owners, &mut lists, &mut reached, done);
+        done = end;
     }
-    Ok(reached.far)
+    Ok(reached)
 }

@@ -6,6 +6,16 @@ use Rattle.velo_certify.proofs.OnRows.{plain_kind}
 use Rattle.velo_certify.proofs.OnPasses.{places, Passes-near, PassesConflicts-read, PassesConflicts-write, PassesConflicts-lock, PassesConflicts-handled, PassesConflicts-plain}
 use Rattle.velo_certify.proofs.lists.Lists.pass_conflicts.Goals as goal
 
+pub pass_writes-requires-clause-thing : goal.pass_writes-requires-clause-thing
+pass_writes-requires-clause-thing c =
+    let lists = c.pass_handle.new.self in
+    (subst (HasPlaces (list_sizes lists)) c.in-Read.is (places c.args.events.now c.args.owners.now c.args.at lists c.pass_handle.new.reached c.pass_handle.ensures.search).names).0
+
+pub pass_writes-requires-in-Write-clause-thing : goal.pass_writes-requires-in-Write-clause-thing
+pass_writes-requires-in-Write-clause-thing c =
+    let lists = c.pass_handle.new.self in
+    (subst (HasPlaces (list_sizes lists)) c.in-Write.is (places c.args.events.now c.args.owners.now c.args.at lists c.pass_handle.new.reached c.pass_handle.ensures.search).names).0
+
 pub pass_reads-requires-clause-thing : goal.pass_reads-requires-clause-thing
 pass_reads-requires-clause-thing c =
     let lists = c.pass_writes-in-Write.new.self in
