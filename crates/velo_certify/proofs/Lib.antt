@@ -7,6 +7,11 @@ pub mod OnGreatest
 pub mod OnRows
 pub mod OnOwners
 pub mod OnOrders
+pub mod OnReached
+pub mod OnSorting
+pub mod OnLists
+pub mod OnPasses
+pub mod OnSearch
 pub mod OnDistances
 pub mod OnNearest
 pub mod OnCycles

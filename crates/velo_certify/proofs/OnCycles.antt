@@ -12,7 +12,7 @@ use Rattle.velo_events.proofs.OnGraphs.{Path-append}
 use Rattle.velo_events.proofs.OnReaching.{IsCycle-next}
 use Rattle.velo_certify.specs.declared.fault.CertFault.{CertFault}
 use Rattle.velo_certify.specs.declared.fault.CertFault.TheVariants.{HasCycle, NoCycle, NotThere, Memory}
-use Rattle.velo_certify.specs.Distances.{AreDistances}
+use Rattle.velo_certify.specs.Distances.{AreDistances, AreTowards}
 use Rattle.velo_certify.specs.Nearest.{IsNearest}
 use Rattle.velo_certify.specs.Cycle.{IsCycleFault, IsLastFault, IsOnNone, IsCycleFrom, IsShortestFrom, WalksBack, IsLinked, next_in}
 use Rattle.velo_certify.proofs.OnDistances.{AreDistances-path}
@@ -23,36 +23,14 @@ module _ (trace : List Event) (far : List ℕ) (start second : ℕ) (w : AreDist
   pub WalksBack-start : IsNearest trace far start second → WalksBack trace far start second (start ∷ []) second
   WalksBack-start n = record { between = []; items = refl; path = n.edge; steps = omega arith; reached = n.reached }
 
-  -- what is not the start, and has a distance, has an edge to what is nearer by one
-  nearer_one : (present : ℕ) → present ≢ start → 0 < slice_index far present → (b : ℕ) × Edge trace present b × (slice_index far b + 1 ≡ slice_index far present) × (0 < slice_index far b)
-  nearer_one present other some = at (slice_index far present) refl
-    where
-      at : (n : ℕ) → slice_index far present ≡ n → (b : ℕ) × Edge trace present b × (slice_index far b + 1 ≡ slice_index far present) × (0 < slice_index far b)
-      at zero is = absurd (omega (arith, is, some))
-      at (suc zero) is = absurd (other (w.alone present is))
-      at (suc (suc d)) is = let b = w.step present d is in (b.0, b.1, let near = b.2 in omega (arith, near, is), let near = b.2 in omega (arith, near))
-
-  -- the nearest next one is nearer by one
-  pub nearest-nearer : (present next : ℕ) → present ≢ start → 0 < slice_index far present → IsNearest trace far present next → slice_index far next + 1 ≡ slice_index far present
-  nearest-nearer present next other some n =
-      let b = nearer_one present other some in
-      let most = n.nearest b.0 b.1 b.3 in
-      let least = (w.least present next n.edge n.reached).1 in
-      let one = b.2 in
-      omega (arith, most, least, one)
-
-  pub WalksBack-next : (cycle : List ℕ) (present next : ℕ) → present ≢ start → IsNearest trace far present next → WalksBack trace far start second cycle present → WalksBack trace far start second (cycle ++ present ∷ []) next
-  WalksBack-next cycle present next other n v = record {
+  pub WalksBack-next : (next : List ℕ) → AreTowards trace start far next → (cycle : List ℕ) (present : ℕ) → present ≢ start → WalksBack trace far start second cycle present → WalksBack trace far start second (cycle ++ present ∷ []) (slice_index next present)
+  WalksBack-next next t cycle present other v = record {
     between = v.between ++ present ∷ [];
     items = ap (λ xs. xs ++ present ∷ []) v.items;
-    path = Path-append (Edge trace) start v.between present [] next v.path n.edge;
-    steps = let one = nearest-nearer present next other v.reached n in let long = length_push v.between present in let was = v.steps in omega (arith, one, long, was);
-    reached = n.reached;
+    path = Path-append (Edge trace) start v.between present [] (slice_index next present) v.path (t.edges present v.reached other);
+    steps = let one = (t.nearer.each present v.reached other).1 in let long = length_push v.between present in let was = v.steps in omega (arith, one, long, was);
+    reached = (t.nearer.each present v.reached other).0;
   }
-
-  -- the walk never ends before it comes back
-  pub never_stops : (present : ℕ) → present ≢ start → 0 < slice_index far present → ((b : ℕ) → Edge trace present b → slice_index far b ≡ 0) → ⊥
-  never_stops present other some none = let b = nearer_one present other some in let has = b.3 in let is = none b.0 b.1 in omega (arith, has, is)
 
   -- no cycle through the start is shorter
   second-least : IsNearest trace far start second → (other : List ℕ) → IsCycleFrom trace start other → slice_index far second ≤ length other

@@ -123,21 +123,21 @@ IsNumbered-from numbers n number is = record {
       (cases_lt i n);
 }
 
-module _ (trace : List Event) (j : ℕ) (e : Event) (here : slice_get trace j ≡ Some e) (numbers : ℕ → ℕ) (m : ℕ) where
+module _ (trace : List Event) (j : ℕ) (e : Event) (here : slice_get trace j ≡ Some e) where
   conflict-here : (i : ℕ) (f : Event) → slice_get trace i ≡ Some f → conflict_at trace i j ≡ conflict f e
   unfolding conflict_at
   conflict-here i f there = rw (there, here) refl
 
-  passes-conflict : (i : ℕ) → IsTrue (conflict_at trace i j) → IsTrue (passes_at trace (λ f. conflict f e) i)
+  pub passes-conflict : (i : ℕ) → IsTrue (conflict_at trace i j) → IsTrue (passes_at trace (λ f. conflict f e) i)
   passes-conflict i c =
       let f = event_at trace i (conflict_at-within trace i j c).0 in
       passes_at-is trace (λ g. conflict g e) i f.0 f.1 ∙ (sym (conflict-here i f.0 f.1) ∙ c)
 
-  conflict-passes : (i : ℕ) → IsTrue (passes_at trace (λ f. conflict f e) i) → IsTrue (conflict_at trace i j)
+  pub conflict-passes : (i : ℕ) → IsTrue (passes_at trace (λ f. conflict f e) i) → IsTrue (conflict_at trace i j)
   conflict-passes i h = let f = passes_at-event trace (λ g. conflict g e) i h in conflict-here i f.0 f.1 ∙ f.2
 
-  pub IsGreatestBefore-by : IsGreatest trace (numbers_before numbers j) (λ f. conflict f e) m → IsGreatestBefore trace numbers j m
-  IsGreatestBefore-by w = record {
+  pub IsGreatestBefore-by : (numbers : ℕ → ℕ) (m : ℕ) → IsGreatest trace (numbers_before numbers j) (λ f. conflict f e) m → IsGreatestBefore trace numbers j m
+  IsGreatestBefore-by numbers m w = record {
     covers = λ i l c. let most = w.covers i (passes-conflict i c) in let is = cond-true (nat_lt i j) (numbers i) 0 (lt-ltb i j l) in omega (arith, most, is);
     reached = λ some.
         let k = w.reached some in
@@ -189,12 +189,12 @@ conflict_at-comm trace i j = both_conflict-comm (slice_get trace i) (slice_get t
 pub IsGreatestAfter-by : (trace : List Event) (j : ℕ) (e : Event) → slice_get trace j ≡ Some e → (numbers : ℕ → ℕ) (m : ℕ) → IsGreatest trace (numbers_from numbers (j + 1)) (λ f. conflict f e) m → IsGreatestAfter trace numbers j m
 IsGreatestAfter-by trace j e here numbers m w = record {
   covers = λ i l c.
-      let most = w.covers i (passes-conflict trace j e here numbers m i (conflict_at-comm trace i j ∙ c)) in
+      let most = w.covers i (passes-conflict trace j e here i (conflict_at-comm trace i j ∙ c)) in
       let is = cond-true (nat_le (j + 1) i) (numbers i) 0 (le-leb (j + 1) i (omega (arith, l))) in omega (arith, most, is);
   reached = λ some.
       let k = w.reached some in
       ⊎_elim
-      (λ l. (k.0, l, conflict_at-comm trace j k.0 ∙ conflict-passes trace j e here numbers m k.0 k.1, sym (cond-true (nat_le (j + 1) k.0) (numbers k.0) 0 (le-leb (j + 1) k.0 (omega (arith, l)))) ∙ k.2))
+      (λ l. (k.0, l, conflict_at-comm trace j k.0 ∙ conflict-passes trace j e here k.0 k.1, sym (cond-true (nat_le (j + 1) k.0) (numbers k.0) 0 (le-leb (j + 1) k.0 (omega (arith, l)))) ∙ k.2))
       (λ g. absurd (let none : numbers_from numbers (j + 1) k.0 ≡ 0 = ap (λ b. cond {A = ℕ} b (numbers k.0) 0) (lt-leb (j + 1) k.0 (omega (arith, g))) in omega (arith, none, k.2, some)))
       (cases_lt j k.0);
 }

@@ -24,10 +24,10 @@ use Rattle.velo_certify.proofs.OnSerial.{has-set, positions_below, below-stays, 
 
 -- ---- positions of one thread
 
-own-thread : (trace : List Event) (t i : ℕ) → i < length trace → thread_at trace i ≡ t → IsTrue (passes_at trace (is_by t) i)
+pub own-thread : (trace : List Event) (t i : ℕ) → i < length trace → thread_at trace i ≡ t → IsTrue (passes_at trace (is_by t) i)
 own-thread trace t i within own = passes_at-is trace (is_by t) i (event_at trace i) (slice_get-get_or trace i past within) ∙ eq-eqb (thread_at trace i) t own
 
-one-thread : (trace : List Event) (i : ℕ) → i < length trace → thread_at trace (owner trace i) ≡ thread_at trace i
+pub one-thread : (trace : List Event) (i : ℕ) → i < length trace → thread_at trace (owner trace i) ≡ thread_at trace i
 one-thread trace i within =
     owner-thread trace i (event_at trace i) (event_at trace (owner trace i)) (slice_get-get_or trace i past within)
     (slice_get-get_or trace (owner trace i) past (let most = owner-le trace i in omega (arith, most, within)))

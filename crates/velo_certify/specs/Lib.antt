@@ -3,6 +3,9 @@ pub mod Counts
 pub mod Owners
 pub mod Order
 pub mod Distances
+pub mod Reached
+pub mod Lists
+pub mod Search
 pub mod Nearest
 pub mod Cycle
 pub mod Faults

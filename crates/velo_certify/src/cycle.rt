@@ -1,5 +1,5 @@
 //! A shortest cycle through the transaction of a position, and whether a list is one.
-ghost use Rattle.std.specs.Prelude.{◌≡◌, ◌-◌, ◌<◌, ◌↔◌, ◌++◌, ℕ, List, length, IfOk, IfErr, OnErr, IsTrue};
+ghost use Rattle.std.specs.Prelude.{◌≡◌, ◌-◌, ◌<◌, ◌↔◌, ◌++◌, ℕ, List, length, slice_index, IfOk, IfErr, OnErr, IsTrue};
 ghost use Rattle.velo_events.specs.Block.{is_begin_at, owner};
 ghost use Rattle.velo_events.specs.Certificate.{IsShortestCycleAt};
 ghost use Rattle.velo_events.specs.Refusals.{GrowthRefused};
@@ -7,35 +7,26 @@ ghost use Rattle.velo_events.specs.Reordering.{IsSelfSerializable};
 ghost use Rattle.velo_events.specs.declared.event.Event.{Event};
 ghost use Rattle.velo_certify.specs.Owners.{AreOwners};
 ghost use Rattle.velo_certify.specs.Table.{AllNameRows, sizes};
-ghost use Rattle.velo_certify.specs.Distances.{AreDistances};
+ghost use Rattle.velo_certify.specs.Distances.{AreDistances, AreNearer, AreTowards};
 ghost use Rattle.velo_certify.specs.Nearest.{IsNearest};
 ghost use Rattle.velo_certify.specs.Cycle.{IsCycleFault, IsLastFault, IsCycleFrom, IsShortestFrom, IsLinked, next_in};
 
 use crate::CertFault;
-use crate::distances::distances;
+use crate::distances::reach_target;
 use crate::nearest::{has_edge, nearest_next};
 use crate::owners::{owner_of, owners_of};
+use crate::reached::Reached;
 use crate::table::Table;
 use std::alloc::Global;
 use velo_events::growth::reserve;
 use velo_events::{Event, Memory};
 use velo_traces::Trace;
 
-/// Walks from the first transaction of a cycle by way of the second back to the first, each time to the nearest next one.
-fn walk(
-    alloc: Global,
-    events: &[Event],
-    owners: &[usize],
-    table: &mut Table,
-    far: &[usize],
-    start: usize,
-    second: usize,
-) -> Result<Vec<usize>, Memory>
-    requires owners { AreOwners owners.now events.now }
-    requires names { AllNameRows (sizes table.old) events.now (length events.now) }
-    requires far { AreDistances events.now start far.now }
-    requires second { IsNearest events.now far.now start second }
-    ensures cycle { IfOk result (λ cycle. IsShortestFrom events.now start cycle.items) }
+/// Walks from the first transaction of a cycle by way of the second back to the first.
+fn walk(alloc: Global, reached: &Reached, start: usize, second: usize) -> Result<Vec<usize>, Memory>
+    requires nearer { AreNearer start reached.now.far.items reached.now.next.items }
+    requires second { 0 < slice_index reached.now.far.items second }
+    ensures cycle { IfOk result (λ cycle. (trace : List Event) → AreDistances trace start reached.now.far.items → AreTowards trace start reached.now.far.items reached.now.next.items → IsNearest trace reached.now.far.items start second → IsShortestFrom trace start cycle.items) }
     ensures memory { OnErr result GrowthRefused }
 {
     let mut cycle = Vec::new(alloc);
@@ -45,10 +36,7 @@ fn walk(
     while present != start {
         reserve(&mut cycle, 1)?;
         cycle.push_reserved(present);
-        match nearest_next(events, owners, table, far, present) {
-            Some(next) => present = next,
-            None => unreachable!(),
-        }
+        present = reached.next[present];
     }
     Ok(cycle)
 }
@@ -61,10 +49,10 @@ fn last_cycle(alloc: Global, events: &[Event]) -> Result<Vec<usize>, CertFault>
 {
     let owners = owners_of(alloc, events)?;
     let start = owner_of(events, &owners, events.len() - 1);
-    let far = distances(alloc, events, &owners, start)?;
+    let reached = reach_target(alloc, events, &owners, start)?;
     let mut table = Table::new(alloc, events)?;
-    match nearest_next(events, &owners, &mut table, &far, start) {
-        Some(second) => Ok(walk(alloc, events, &owners, &mut table, &far, start, second)?),
+    match nearest_next(events, &owners, &mut table, &reached.far, start) {
+        Some(second) => Ok(walk(alloc, &reached, start, second)?),
         None => Err(CertFault::NoCycle),
     }
 }
@@ -74,7 +62,8 @@ fn last_cycle(alloc: Global, events: &[Event]) -> Result<Vec<usize>, CertFault>
 ///
 /// A block that is not self-serializable in the trace stays so, whatever events follow.
 ///
-/// Its time grows with the number of events times the length of the longest of the shortest paths to the transaction.
+/// Each event is passed a bounded number of times, however long the cycle is, and the transactions that are at one distance are
+/// sorted.
 pub fn cycle_of(alloc: Global, trace: &Trace, position: usize) -> Result<Vec<usize>, CertFault>
     ensures cycle { IfOk result (λ cycle. IsShortestCycleAt trace.now.events position cycle.items) }
     ensures fault { IfErr result (IsCycleFault trace.now.events position) }

@@ -1,98 +1,82 @@
 //! How far transactions are from one that they reach, found backwards along the edges of the graph.
-ghost use Rattle.std.specs.Prelude.{◌≡◌, ◌≤◌, ◌<◌, ◌+◌, ℕ, List, length, slice_index, IfOk, OnErr, IsTrue, IsFalse};
+ghost use Rattle.std.specs.Prelude.{◌≡◌, ◌<◌, ℕ, length, slice_index, IfOk, OnErr};
 ghost use Rattle.velo_events.specs.Refusals.{GrowthRefused};
 ghost use Rattle.velo_certify.specs.Owners.{AreOwners};
-ghost use Rattle.velo_certify.specs.Table.{HasNumbers, numbers_from, AllNameRows, sizes};
-ghost use Rattle.velo_certify.specs.Distances.{AreDistances, FindsLevel, FindsLevelFrom, on_level, unreached};
+ghost use Rattle.velo_certify.specs.Distances.{AreDistances, AreTowards};
+ghost use Rattle.velo_certify.specs.Search.{AreOnLevel, ArePassed, Expands, IsSearched};
 
+use crate::lists::Lists;
 use crate::owners::owner_of;
-use crate::table::Table;
+use crate::reached::Reached;
 use std::alloc::Global;
-use velo_events::growth::filled;
 use velo_events::{Event, Memory};
 
-/// Takes in the event at a position, where those behind it were taken in. If its transaction was not reached, and has an edge
-/// to one on the level, it is on the next level from now on.
-fn reach_from(
+/// Reaches the transactions from which an edge leads to this one.
+fn expand(
     events: &[Event],
     owners: &[usize],
-    table: &mut Table,
-    level: usize,
-    at: usize,
-    far: &mut [usize],
-) -> bool
-    requires within { at < length events.now }
+    lists: &mut Lists,
+    reached: &mut Reached,
+    transaction: usize,
+)
     requires owners { AreOwners owners.now events.now }
-    requires names { AllNameRows (sizes table.old) events.now (length events.now) }
-    requires count { length far.old ≡ length events.now }
-    requires positive { 0 < level }
-    requires small { level ≤ length events.now }
-    ensures names { sizes table.new ≡ sizes table.old }
-    ensures finds { (first : List ℕ) → HasNumbers events.now (numbers_from (on_level events.now first level) (at + 1)) table.old → FindsLevelFrom events.now level (at + 1) first far.old → HasNumbers events.now (numbers_from (on_level events.now first level) at) table.new × FindsLevelFrom events.now level at first far.new }
-    ensures yes { IsTrue result → unreached far.new < unreached far.old }
-    ensures no { IsFalse result → far.new ≡ far.old }
+    requires lists { ArePassed events.now lists.old reached.old }
+    requires positive { 0 < slice_index reached.old.far.items transaction }
+    ensures lists { ArePassed events.now lists.new reached.new }
+    ensures expands { Expands events.now transaction reached.old reached.new }
 {
-    let transaction = owner_of(events, owners, at);
-    let number = if far[transaction] == level { 1 } else { 0 };
-    let found = table.take_in(events, at, number);
-    if found == 0 {
-        return false;
+    let mut at = transaction;
+    while at < events.len() && owner_of(events, owners, at) == transaction {
+        lists.pass_conflicts(events, owners, reached, at);
+        at = lists.following[at];
     }
-    if far[transaction] > 0 {
-        return false;
-    }
-    far[transaction] = level + 1;
-    true
 }
 
-/// Finds the next level: what has an edge to a transaction on this one, and was not reached yet.
-fn find_level(
+/// Expands the transactions of the queue from a place on, which are on one level.
+fn expand_level(
     events: &[Event],
     owners: &[usize],
-    table: &mut Table,
-    level: usize,
-    far: &mut [usize],
-) -> bool
+    lists: &mut Lists,
+    reached: &mut Reached,
+    begin: usize,
+)
     requires owners { AreOwners owners.now events.now }
-    requires names { AllNameRows (sizes table.old) events.now (length events.now) }
-    requires count { length far.old ≡ length events.now }
-    requires positive { 0 < level }
-    requires small { level ≤ length events.now }
-    ensures names { sizes table.new ≡ sizes table.old }
-    ensures finds { FindsLevel events.now level far.old far.new }
-    ensures yes { IsTrue result → unreached far.new < unreached far.old }
-    ensures no { IsFalse result → far.new ≡ far.old }
+    requires lists { ArePassed events.now lists.old reached.old }
+    requires begin { begin < length reached.old.found.items }
+    requires level { AreOnLevel reached.old begin }
+    ensures lists { ArePassed events.now lists.new reached.new }
+    ensures searched { (target : ℕ) → IsSearched events.now target begin reached.old → IsSearched events.now target (length reached.old.found.items) reached.new }
+    ensures level { AreOnLevel reached.new (length reached.old.found.items) }
 {
-    table.clear();
-    let mut grown = false;
-    let mut at = events.len();
-    while at > 0 {
-        at -= 1;
-        if reach_from(events, owners, table, level, at, far) {
-            grown = true;
-        }
+    let end = reached.found.len();
+    for k in begin..end {
+        let transaction = reached.found[k];
+        expand(events, owners, lists, reached, transaction);
     }
-    grown
 }
 
-/// For each transaction the least number of edges that lead from it to the target, plus one; 0 where none do.
-pub(crate) fn distances(
+/// The transactions that reach the target, with the least numbers of edges that lead from them to it. On each level the lower
+/// numbers come first, so that each leads to the lowest one that is nearer.
+pub(crate) fn reach_target(
     alloc: Global,
     events: &[Event],
     owners: &[usize],
     target: usize,
-) -> Result<Vec<usize>, Memory>
+) -> Result<Reached, Memory>
     requires owners { AreOwners owners.now events.now }
     requires target { target < length events.now }
-    ensures distances { IfOk result (λ far. AreDistances events.now target far.items) }
+    ensures distances { IfOk result (λ reached. AreDistances events.now target reached.far.items) }
+    ensures next { IfOk result (λ reached. AreTowards events.now target reached.far.items reached.next.items) }
     ensures memory { OnErr result GrowthRefused }
 {
-    let mut table = Table::new(alloc, events)?;
-    let mut far = filled(alloc, 0, events.len())?;
-    far[target] = 1;
-    let mut level = 1;
-    while find_level(events, owners, &mut table, level, &mut far) {
-        level += 1;
+    let mut lists = Lists::new(alloc, events)?;
+    let mut reached = Reached::new(alloc, events.len(), target)?;
+    let mut done = 0;
+    while done < reached.found.len() {
+        let end = reached.found.len();
+        reached.sort_from(done);
+        expand_level(events, owners, &mut lists, &mut reached, done);
+        done = end;
     }
-    Ok(far)
+    Ok(reached)
 }

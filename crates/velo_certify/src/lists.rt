@@ -1,0 +1,301 @@
+//! The positions in rising lists, by what their events are about, and a search that passes each list from its front.
+ghost use Rattle.std.specs.Prelude.{◌≡◌, ◌≤◌, ◌<◌, ◌+◌, length, slice_index, slice_set, IfOk, OnErr};
+ghost use Rattle.velo_events.specs.Refusals.{GrowthRefused};
+ghost use Rattle.velo_certify.specs.Lists.{AreListed, IsRising, list_sizes};
+ghost use Rattle.velo_certify.specs.Owners.{AreOwners};
+ghost use Rattle.velo_certify.specs.Search.{ArePassed, IsSearching, Passes, PassesConflicts, PassesList, level_at};
+ghost use Rattle.velo_certify.specs.Table.{AllNameRows, is_about, thread_in, handled_in, written_in, read_in, lock_in};
+
+use crate::counts::counts_of;
+use crate::reached::Reached;
+use std::alloc::Global;
+use velo_events::growth::filled;
+use velo_events::{Event, Kind, Memory};
+
+/// The fronts: for each list its first position that was not passed. What follows: for each position the next one in its
+/// list. A place that is not there is the number of positions.
+#[derive(Drop)]
+pub(crate) struct Lists {
+    /// Of the events of each thread.
+    threads: Vec<usize>,
+    /// Of the forks and joins of each thread.
+    handles: Vec<usize>,
+    /// Of the writes of each variable.
+    writes: Vec<usize>,
+    /// Of its reads.
+    reads: Vec<usize>,
+    /// Of the events of each lock.
+    locks: Vec<usize>,
+    /// What follows each position in the list of its thread.
+    pub following: Vec<usize>,
+    /// What follows it in its other list, if it is in one.
+    alike: Vec<usize>,
+}
+
+/// Puts a position at the front of a list.
+fn put_first(fronts: &mut Vec<usize>, following: &mut Vec<usize>, thing: usize, at: usize)
+    requires thing { thing < length fronts.old.items }
+    requires within { at < length following.old.items }
+    ensures fronts { fronts.new.items ≡ slice_set fronts.old.items thing at }
+    ensures following { following.new.items ≡ slice_set following.old.items at (slice_index fronts.old.items thing) }
+{
+    following[at] = fronts[thing];
+    fronts[thing] = at;
+}
+
+/// Passes the positions of a list that are before the one at hand, and reaches their transactions.
+fn pass_list(
+    events: &[Event],
+    owners: &[usize],
+    reached: &mut Reached,
+    fronts: &mut Vec<usize>,
+    following: &[usize],
+    thing: usize,
+    at: usize,
+)
+    requires within { at < length events.now }
+    requires owners { AreOwners owners.now events.now }
+    requires count { length reached.old.far.items ≡ length events.now }
+    requires positive { 0 < level_at events.now reached.old at }
+    requires rising { IsRising events.now following.now }
+    requires thing { thing < length fronts.old.items }
+    ensures { PassesList events.now at thing following.now fronts.old.items fronts.new.items reached.old reached.new }
+{
+    let mut front = fronts[thing];
+    while front < at {
+        reached.reach(events, owners, front, at);
+        front = following[front];
+    }
+    fronts[thing] = front;
+}
+
+impl Lists {
+    /// The lists of the events, none of which is passed.
+    pub fn new(alloc: Global, events: &[Event]) -> Result<Lists, Memory>
+        ensures names { IfOk result (λ lists. AllNameRows (list_sizes lists) events.now (length events.now)) }
+        ensures lists { IfOk result (AreListed events.now 0) }
+        ensures memory { OnErr result GrowthRefused }
+    {
+        let counts = counts_of(events);
+        let none = events.len();
+        let mut lists = Lists {
+            threads: filled(alloc, none, counts.threads)?,
+            handles: filled(alloc, none, counts.threads)?,
+            writes: filled(alloc, none, counts.variables)?,
+            reads: filled(alloc, none, counts.variables)?,
+            locks: filled(alloc, none, counts.locks)?,
+            following: filled(alloc, none, none)?,
+            alike: filled(alloc, none, none)?,
+        };
+        let mut at = none;
+        while at > 0 {
+            at -= 1;
+            lists.put(events, at);
+        }
+        Ok(lists)
+    }
+
+    /// Puts a position at the front of its lists.
+    fn put(&mut self, events: &[Event], at: usize)
+        requires within { at < length events.now }
+        requires names { AllNameRows (list_sizes self.old) events.now (length events.now) }
+        requires lists { AreListed events.now (at + 1) self.old }
+        ensures sizes { list_sizes self.new ≡ list_sizes self.old }
+        ensures lists { AreListed events.now at self.new }
+    {
+        let event = events[at];
+        put_first(
+            &mut self.threads,
+            &mut self.following,
+            event.thread.0 as usize,
+            at,
+        );
+        match event.kind {
+            Kind::Read(x, _) => put_first(&mut self.reads, &mut self.alike, x.0 as usize, at),
+            Kind::Write(x, _) => put_first(&mut self.writes, &mut self.alike, x.0 as usize, at),
+            Kind::Acquire(m) | Kind::Release(m) => put_first(
+                &mut self.locks,
+                &mut self.alike,
+                m.0 as usize,
+                at,
+            ),
+            Kind::Fork(u) | Kind::Join(u) => put_first(
+                &mut self.handles,
+                &mut self.alike,
+                u.0 as usize,
+                at,
+            ),
+            _ => {}
+        }
+    }
+
+    /// Passes the events of a thread.
+    fn pass_thread(
+        &mut self,
+        events: &[Event],
+        owners: &[usize],
+        reached: &mut Reached,
+        thread: usize,
+        at: usize,
+    )
+        requires search { IsSearching events.now owners.now self.old reached.old at }
+        requires thing { thread < length self.old.threads.items }
+        ensures search { IsSearching events.now owners.now self.new reached.new at }
+        ensures sizes { list_sizes self.new ≡ list_sizes self.old }
+        ensures passes { Passes events.now at (is_about thread_in thread) reached.old reached.new }
+    {
+        pass_list(
+            events,
+            owners,
+            reached,
+            &mut self.threads,
+            &self.following,
+            thread,
+            at,
+        );
+    }
+
+    /// Passes the forks and joins of a thread.
+    fn pass_handle(
+        &mut self,
+        events: &[Event],
+        owners: &[usize],
+        reached: &mut Reached,
+        thread: usize,
+        at: usize,
+    )
+        requires search { IsSearching events.now owners.now self.old reached.old at }
+        requires thing { thread < length self.old.handles.items }
+        ensures search { IsSearching events.now owners.now self.new reached.new at }
+        ensures sizes { list_sizes self.new ≡ list_sizes self.old }
+        ensures passes { Passes events.now at (is_about handled_in thread) reached.old reached.new }
+    {
+        pass_list(
+            events,
+            owners,
+            reached,
+            &mut self.handles,
+            &self.alike,
+            thread,
+            at,
+        );
+    }
+
+    /// Passes the writes of a variable.
+    fn pass_writes(
+        &mut self,
+        events: &[Event],
+        owners: &[usize],
+        reached: &mut Reached,
+        variable: usize,
+        at: usize,
+    )
+        requires search { IsSearching events.now owners.now self.old reached.old at }
+        requires thing { variable < length self.old.writes.items }
+        ensures search { IsSearching events.now owners.now self.new reached.new at }
+        ensures sizes { list_sizes self.new ≡ list_sizes self.old }
+        ensures passes { Passes events.now at (is_about written_in variable) reached.old reached.new }
+    {
+        pass_list(
+            events,
+            owners,
+            reached,
+            &mut self.writes,
+            &self.alike,
+            variable,
+            at,
+        );
+    }
+
+    /// Passes its reads.
+    fn pass_reads(
+        &mut self,
+        events: &[Event],
+        owners: &[usize],
+        reached: &mut Reached,
+        variable: usize,
+        at: usize,
+    )
+        requires search { IsSearching events.now owners.now self.old reached.old at }
+        requires thing { variable < length self.old.reads.items }
+        ensures search { IsSearching events.now owners.now self.new reached.new at }
+        ensures sizes { list_sizes self.new ≡ list_sizes self.old }
+        ensures passes { Passes events.now at (is_about read_in variable) reached.old reached.new }
+    {
+        pass_list(
+            events,
+            owners,
+            reached,
+            &mut self.reads,
+            &self.alike,
+            variable,
+            at,
+        );
+    }
+
+    /// Passes the events of a lock.
+    fn pass_lock(
+        &mut self,
+        events: &[Event],
+        owners: &[usize],
+        reached: &mut Reached,
+        lock: usize,
+        at: usize,
+    )
+        requires search { IsSearching events.now owners.now self.old reached.old at }
+        requires thing { lock < length self.old.locks.items }
+        ensures search { IsSearching events.now owners.now self.new reached.new at }
+        ensures sizes { list_sizes self.new ≡ list_sizes self.old }
+        ensures passes { Passes events.now at (is_about lock_in lock) reached.old reached.new }
+    {
+        pass_list(
+            events,
+            owners,
+            reached,
+            &mut self.locks,
+            &self.alike,
+            lock,
+            at,
+        );
+    }
+
+    /// Passes what conflicts with the event at hand and is before it.
+    pub fn pass_conflicts(
+        &mut self,
+        events: &[Event],
+        owners: &[usize],
+        reached: &mut Reached,
+        at: usize,
+    )
+        requires search { IsSearching events.now owners.now self.old reached.old at }
+        ensures search { IsSearching events.now owners.now self.new reached.new at }
+        ensures passes { PassesConflicts events.now at reached.old reached.new }
+    {
+        let event = events[at];
+        let thread = event.thread.0 as usize;
+        self.pass_thread(events, owners, reached, thread, at);
+        self.pass_handle(events, owners, reached, thread, at);
+        match event.kind {
+            Kind::Read(x, _) => self.pass_writes(events, owners, reached, x.0 as usize, at),
+            Kind::Write(x, _) => {
+                self.pass_writes(events, owners, reached, x.0 as usize, at);
+                self.pass_reads(events, owners, reached, x.0 as usize, at);
+            }
+            Kind::Acquire(m) | Kind::Release(m) => self.pass_lock(
+                events,
+                owners,
+                reached,
+                m.0 as usize,
+                at,
+            ),
+            Kind::Fork(u) | Kind::Join(u) => self.pass_thread(
+                events,
+                owners,
+                reached,
+                u.0 as usize,
+                at,
+            ),
+            _ => {}
+        }
+    }
+}
