@@ -178,7 +178,13 @@ impl Variables {
     pub fn last_read(&self, x: VarId, t: ThreadId) -> Option<Step>
         ensures { result ≡ slice_index_or (slice_index_or self.now x.0 no_accesses).reads t.0 None }
     {
-        entry_at(self.reads_of(x), t.0 as usize)
+        if (x.0 as usize) < self.variables.len() {
+            let reads = self.variables[x.0 as usize].reads;
+            let read = read_in(&self.reads, reads, t.0 as usize);
+            read.step()
+        } else {
+            None
+        }
     }
 
     /// The last reads of the variable, by number of their threads.
