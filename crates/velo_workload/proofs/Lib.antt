@@ -5,5 +5,7 @@ pub mod OnNumbers
 pub mod OnParsing
 pub mod OnPhrases
 pub mod OnReading
-pub mod OnTold
+pub mod OnSketches
+pub mod OnSettling
+pub mod OnLonger
 pub mod OnWords

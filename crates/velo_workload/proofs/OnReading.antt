@@ -19,10 +19,11 @@ use Rattle.velo_workload.specs.declared.outline.Outline.{Outline}
 use Rattle.velo_workload.specs.declared.nesting.Open.{Open}
 use Rattle.velo_workload.specs.Words.{Word, lines}
 use Rattle.velo_workload.specs.Phrase.{phrase_of, phrases, Spoken, Begin, Repeat, Done, Phrase, Blank, Bad, BadThread, Variable, Lock, Thread, Body}
-use Rattle.velo_workload.specs.Outline.{AreFew, is_among, Judges, fault_from, first_fault, variable_in, lock_in, thread_in, label_in, label_of, statement_in, variables, locks, threads, labels, statements, reading, Known, known, names_in, first_of_two, fault_of_line, fault_at_end, declared_fault, statement_fault, full_fault}
+use Rattle.velo_workload.specs.Outline.{AreFew, is_among, Judges, fault_from, first_fault, variable_in, lock_in, thread_in, label_in, label_of, statement_in, variables, locks, threads, labels, statements, reading, Known, known, Names, names_in, first_of_two, fault_of_line, fault_at_end, declared_fault, statement_fault, full_fault}
 use Rattle.velo_workload.specs.Tally.{Tally, new_tally, last_open, statement_tallied, line_tallied, tally_from, tally, tally_fault, most_kept, kept_open, kept}
 use Rattle.velo_workload.specs.Known.{IsReadUpTo, lines_left, phrases_left, Kept, kept_of, known_by, known_of, statement_kept, labelled, with_line, whole, up_to_most}
 use Rattle.velo_workload.proofs.OnCosts.{agrees, same_depth, same_end}
+use Rattle.velo_workload.proofs.OnLonger.{IsLonger, names_longer}
 
 -- an answer that is this fault
 abbrev pub wrong : WorkFault → Result (Unit {0}) WorkFault
@@ -300,8 +301,15 @@ module _ (text : List ℕ) where
   pub end_is : (o : Outline) (n : ℕ) → IsReadUpTo text None o n → fault_at_end (known_of o) ≡ first_fault (phrases text)
   end_is o n r = ap fault_at_end (known_then None o n r ∙ known_whole r.before) ∙ r.fault
 
-  pub all_few : (o : Outline) (n : ℕ) → IsReadUpTo text None o n → AreFew (known_of o)
-  all_few o n r = subst AreFew (sym (known_then None o n r)) r.few
+  pub few_then : (rest : Option (List ℕ)) (o : Outline) (n : ℕ) → IsReadUpTo text rest o n → AreFew (known_of o)
+  few_then rest o n r = subst AreFew (sym (known_then rest o n r)) r.few
+
+  -- the names of the text are those so far, and then others
+  pub longer_then : (rest : Option (List ℕ)) (o : Outline) (n : ℕ) → IsReadUpTo text rest o n → IsLonger (names_in (known_of o)) (names_in (known (phrases text)))
+  longer_then rest o n r =
+      let here : names_in (known r.before) ≡ names_in (known_of o) = sym (ap names_in (known_then rest o n r ∙ known_whole r.before)) in
+      subst (λ (some : Names). IsLonger some (names_in (known (phrases text)))) here
+      (subst (λ (ps : List Phrase). IsLonger (names_in (known r.before)) (names_in (known ps))) r.all (names_longer r.before (phrases_left rest)))
 
 pub on_ok : {X E P : Type 0} → P → (r : Result X E) → OnOk r P
 on_ok p (Ok x) = p

@@ -1,32 +1,51 @@
--- How far the second pass has come.
-use Rattle.std.specs.Prelude.{ℕ, ◌≡◌, List, [], ◌∷◌, ◌++◌, map, drop}
+-- How far the two passes have come with the bodies.
+use Rattle.std.specs.Prelude.{ℕ, ◌≡◌, ◌<◌, List, [], ◌∷◌, ◌++◌, length, map, drop, None, ⊤}
 use Rattle.std.specs.Option.{option_to_list}
 use Rattle.velo_workload.specs.declared.statement.Statement.{Statement}
-use Rattle.velo_workload.specs.declared.bodies.Bodies.{Bodies}
 use Rattle.velo_workload.specs.Phrase.{Phrase, Thread, Body}
-use Rattle.velo_workload.specs.Outline.{Names}
-use Rattle.velo_workload.specs.Told.{Told, phrases_of, unknown_told}
-use Rattle.velo_workload.specs.Program.{statement_of, body_from, bodies}
+use Rattle.velo_workload.specs.Outline.{Names, first_of_two}
+use Rattle.velo_workload.specs.Program.{statement_of, first_unknown, body_from, bodies}
+use Rattle.velo_workload.specs.declared.draft.Later.{Later}
+use Rattle.velo_workload.specs.declared.draft.Draft.{Draft}
+use Rattle.velo_workload.specs.Sketch.{Put, Sketches, put_of, sketch_of, drafted, unknown_later, settled, unknown_in_sketches, bodies_settled}
 
--- The bodies that are whole, and the one that is read. The first is what stands before the first thread.
+-- The bodies that are whole, and the one that is read, by all names.
 pub record Built : Type 0 where
   pub whole : List (List Statement)
   pub current : List Statement
 
-abbrev pub built_of : Bodies → Built
-built_of b = record { whole = map (λ body. body.items) b.whole.items; current = b.current.items }
+abbrev pub built_by : Names → Sketches → Built
+built_by names b = record { whole = bodies_settled names b.whole; current = settled names b.current.statements b.current.later }
 
 -- with one more line
-abbrev pub with_phrase : Names → Built → Phrase → Built
-with_phrase names b (Thread name) = record { whole = b.whole ++ b.current ∷ []; current = [] }
-with_phrase names b (Body s) = record { whole = b.whole; current = b.current ++ option_to_list (statement_of names s) }
-with_phrase names b p = b
+abbrev pub with_line_built : Names → Built → Phrase → Built
+with_line_built names b (Thread name) = record { whole = b.whole ++ b.current ∷ []; current = [] }
+with_line_built names b (Body s) = record { whole = b.whole; current = b.current ++ option_to_list (statement_of names s) }
+with_line_built names b p = b
 
 -- with all lines that are left
 abbrev pub bodies_with : Names → Built → List Phrase → List (List Statement)
 bodies_with names b ps = b.whole ++ (b.current ++ body_from names ps) ∷ bodies names ps
 
--- the lines of ts from place i on are left, and no line before it uses an undeclared name
-pub record IsBuiltUpTo (ts : List Told) (i : ℕ) (names : Names) (b : Bodies) : Type 0 where
-  pub all : bodies_with names (built_of b) (phrases_of (drop i ts)) ≡ body_from names (phrases_of ts) ∷ bodies names (phrases_of ts)
-  pub fault : unknown_told names (drop i ts) ≡ unknown_told names ts
+-- each statement that is not known has its place among so many
+abbrev pub AreBelow : ℕ → List Put → Type 0
+AreBelow n [] = ⊤
+AreBelow n (l ∷ ls) = (l.place < n) × AreBelow n ls
+
+-- n of these lines are read, and those of rest are left
+pub record IsSketchedUpTo (names : Names) (ps rest : List Phrase) (n : ℕ) (b : Sketches) : Type 0 where
+  pub within : AreBelow (length b.current.statements) b.current.later
+  pub fault : first_of_two (unknown_in_sketches names (drafted b)) (first_unknown names n rest) ≡ first_unknown names 0 ps
+  pub all : unknown_in_sketches names (drafted b) ≡ None → bodies_with names (built_by names b) rest ≡ body_from names ps ∷ bodies names ps
+
+-- ---- how far the second pass has come
+
+-- the first i of these statements are known and in their places
+pub record IsSettledUpTo (names : Names) (ls : List Later) (old : List Statement) (i : ℕ) (ss : List Statement) : Type 0 where
+  pub fault : unknown_later names (drop i (map put_of ls)) ≡ unknown_later names (map put_of ls)
+  pub all : settled names ss (drop i (map put_of ls)) ≡ settled names old (map put_of ls)
+
+-- the first i of these drafts are bodies now
+pub record AreSettledUpTo (names : Names) (ds : List Draft) (i : ℕ) (found : List (List Statement)) : Type 0 where
+  pub fault : unknown_in_sketches names (drop i (map sketch_of ds)) ≡ unknown_in_sketches names (map sketch_of ds)
+  pub all : found ++ bodies_settled names (drop i (map sketch_of ds)) ≡ bodies_settled names (map sketch_of ds)

@@ -5,6 +5,6 @@ pub mod Outline
 pub mod Tally
 pub mod Known
 pub mod Program
-pub mod Told
+pub mod Sketch
 pub mod Building
 pub mod Bodies

@@ -1,18 +1,15 @@
-//! The second pass: the bodies of a text's threads.
-ghost use Rattle.std.specs.Prelude.{◌≡◌, ◌++◌, ◌∷◌, [], OnOk, OnErr};
+//! The bodies of a text's threads: drafts in the first pass, whole after the second.
+ghost use Rattle.std.specs.Prelude.{◌≡◌, ◌++◌, ◌∷◌, [], map, IfOk, OnOk, OnErr};
 ghost use Rattle.velo_events.specs.Refusals.{GrowthRefused};
 ghost use Rattle.velo_workload.specs.Phrase.{said};
 ghost use Rattle.velo_workload.specs.Outline.{AreFew, names_in, Judges};
 ghost use Rattle.velo_workload.specs.Known.{known_of};
-ghost use Rattle.velo_workload.specs.Program.{unknown_in, body_from, bodies};
-ghost use Rattle.velo_workload.specs.Told.{told_of, phrases_of, unknown_told};
-ghost use Rattle.velo_workload.specs.Building.{built_of, with_phrase};
+ghost use Rattle.velo_workload.specs.Sketch.{sketch_of, sketches_of, with_phrase, unknown_in_sketches, bodies_settled};
 
+use crate::draft::{Draft, settle};
 use crate::fault::WorkFault;
-use crate::lines::Line;
 use crate::outline::Outline;
 use crate::phrase::Phrase;
-use crate::resolving::statement;
 use crate::statement::Statement;
 use std::alloc::Global;
 use std::mem::replace;
@@ -21,83 +18,68 @@ use velo_events::growth::reserve;
 
 /// The bodies that are read. The first is what stands before the first thread.
 #[derive(Drop)]
-pub struct Bodies {
+pub struct Bodies<'a> {
     alloc: Global,
-    pub whole: Vec<Vec<Statement>>,
-    current: Vec<Statement>,
+    pub whole: Vec<Draft<'a>>,
+    current: Draft<'a>,
 }
 
-impl Bodies {
+impl<'a> Bodies<'a> {
     /// Before the first line.
-    pub fn new(alloc: Global) -> Bodies
-        ensures { built_of result ≡ record { whole = []; current = [] } }
+    pub fn new(alloc: Global) -> Bodies<'a>
+        ensures { sketches_of result ≡ record { whole = []; current = record { statements = []; later = [] } } }
     {
         Bodies {
             alloc,
             whole: Vec::new(alloc),
-            current: Vec::new(alloc),
+            current: Draft::new(alloc),
         }
     }
 
-    /// The next statement of the current body.
-    fn put(&mut self, statement: Statement) -> Result<(), Memory>
-        ensures built { OnOk result (built_of self.new ≡ record { whole = (built_of self.old).whole; current = (built_of self.old).current ++ statement ∷ [] }) }
-        ensures memory { OnErr result GrowthRefused }
-    {
-        reserve(&mut self.current, 1)?;
-        self.current.push_reserved(statement);
-        Ok(())
-    }
-
     /// The current body is whole.
-    fn finish(&mut self) -> Result<(), Memory>
-        ensures built { OnOk result (built_of self.new ≡ record { whole = (built_of self.old).whole ++ (built_of self.old).current ∷ []; current = [] }) }
+    pub fn finish(&mut self) -> Result<(), Memory>
+        ensures sketches { OnOk result (sketches_of self.new ≡ record { whole = (sketches_of self.old).whole ++ (sketches_of self.old).current ∷ []; current = record { statements = []; later = [] } }) }
         ensures memory { OnErr result GrowthRefused }
     {
         reserve(&mut self.whole, 1)?;
-        let whole = replace(&mut self.current, Vec::new(self.alloc));
+        let whole = replace(&mut self.current, Draft::new(self.alloc));
         self.whole.push_reserved(whole);
         Ok(())
     }
 
     /// Takes in a line of this number.
-    fn take(&mut self, outline: &Outline, phrase: Phrase, line: usize) -> Result<(), WorkFault>
+    pub fn take(&mut self, outline: &Outline, phrase: Phrase<'a>, line: usize) -> Result<(), Memory>
         requires { AreFew (known_of outline.now) }
-        ensures judged { Judges (unknown_in (names_in (known_of outline.now)) (said phrase.entry) line) result }
-        ensures built { OnOk result (built_of self.new ≡ with_phrase (names_in (known_of outline.now)) (built_of self.old) (said phrase.entry)) }
+        ensures sketches { OnOk result (sketches_of self.new ≡ with_phrase (names_in (known_of outline.now)) (sketches_of self.old) (said phrase.entry) line) }
+        ensures memory { OnErr result GrowthRefused }
     {
         match phrase {
-            Phrase::Thread(_) => match self.finish() {
-                Ok(()) => Ok(()),
-                Err(_) => Err(WorkFault::Memory),
-            },
-            Phrase::Body(said) => match statement(outline, said) {
-                None => Err(WorkFault::Unknown(line)),
-                Some(statement) => match self.put(statement) {
-                    Ok(()) => Ok(()),
-                    Err(_) => Err(WorkFault::Memory),
-                },
-            },
+            Phrase::Thread(_) => self.finish(),
+            Phrase::Body(said) => self.current.take(outline, said, line),
             _ => Ok(()),
         }
     }
+}
 
-    /// Reads the lines that the first pass has kept, before any other.
-    pub fn read(&mut self, outline: &Outline, lines: &[Line]) -> Result<(), WorkFault>
-        requires few { AreFew (known_of outline.now) }
-        requires none { built_of self.old ≡ record { whole = []; current = [] } }
-        ensures judged { Judges (unknown_told (names_in (known_of outline.now)) (told_of lines.now)) result }
-        ensures bodies { OnOk result ((built_of self.new).whole ≡ body_from (names_in (known_of outline.now)) (phrases_of (told_of lines.now)) ∷ bodies (names_in (known_of outline.now)) (phrases_of (told_of lines.now))) }
-    {
-        for line in lines {
-            match self.take(outline, line.phrase, line.number) {
-                Ok(()) => {}
-                Err(fault) => return Err(fault),
-            }
-        }
-        match self.finish() {
-            Ok(()) => Ok(()),
-            Err(_) => Err(WorkFault::Memory),
-        }
+/// The bodies of drafts, by all names of the text.
+pub fn settle_all(
+    alloc: Global,
+    outline: &Outline,
+    mut drafts: Vec<Draft>,
+) -> Result<Vec<Vec<Statement>>, WorkFault>
+    requires { AreFew (known_of outline.now) }
+    ensures judged { Judges (unknown_in_sketches (names_in (known_of outline.now)) (map sketch_of drafts.entry.items)) result }
+    ensures bodies { IfOk result (λ found. map (λ body. body.items) found.items ≡ bodies_settled (names_in (known_of outline.now)) (map sketch_of drafts.entry.items)) }
+{
+    let mut bodies = Vec::new(alloc);
+    for place in drafts.iter_mut() {
+        let draft = replace(place, Draft::new(alloc));
+        let body = match settle(outline, draft) {
+            Ok(body) => body,
+            Err(fault) => return Err(fault),
+        };
+        reserve(&mut bodies, 1)?;
+        bodies.push_reserved(body);
     }
+    Ok(bodies)
 }

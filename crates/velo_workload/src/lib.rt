@@ -2,10 +2,10 @@
 #![tactic(auto)]
 
 mod bodies;
+mod draft;
 mod fault;
 mod growth;
 mod limits;
-mod lines;
 mod names;
 mod naming;
 mod nesting;

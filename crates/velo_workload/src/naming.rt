@@ -32,8 +32,6 @@ pub fn name(word: &[u8]) -> Option<&str>
     if !is_name(word) {
         return None;
     }
-    match std::str::from_utf8(word) {
-        Ok(name) => Some(name),
-        Err(_) => None,
-    }
+    // The bytes of a name are text, which is proved, so no line pays for a look at them again.
+    Some(unsafe { std::str::from_utf8_unchecked(word) })
 }

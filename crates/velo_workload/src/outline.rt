@@ -4,12 +4,12 @@ ghost use Rattle.velo_workload.specs.Phrase.{said, spoken, phrases, Body, Thread
 ghost use Rattle.velo_workload.specs.Outline.{AreFew, names_in, Judges, known, first_fault, fault_of_line, statement_fault, full_fault, fault_at_end};
 ghost use Rattle.velo_events.specs.Refusals.{GrowthRefused};
 ghost use Rattle.velo_workload.specs.Known.{known_of, kept_of, whole, with_line};
-ghost use Rattle.velo_workload.specs.Told.{told, told_of};
+ghost use Rattle.velo_workload.specs.Sketch.{sketches_of, AreSketches};
 
+use crate::bodies::Bodies;
 use crate::fault::WorkFault;
 use crate::growth::insert;
 use crate::limits::{MOST_OPEN_REPEATS, MOST_STATEMENTS, MOST_VARIABLES};
-use crate::lines::{Line, keep};
 use crate::names::{count, declare};
 use crate::nesting::Nesting;
 use crate::phrase::{Phrase, Spoken, next_phrase};
@@ -154,14 +154,14 @@ impl<'a> Outline<'a> {
         }
     }
 
-    /// Reads a text's lines, before any other, and keeps those of threads and bodies.
-    pub fn read(&mut self, text: &'a [u8], lines: &mut Vec<Line<'a>>) -> Result<(), WorkFault>
+    /// Reads a text's lines, before any other, and puts down its bodies.
+    pub fn read(&mut self, text: &'a [u8], bodies: &mut Bodies<'a>) -> Result<(), WorkFault>
         requires first { kept_of self.old ≡ whole [] }
-        requires none { lines.old.items ≡ [] }
+        requires none { sketches_of bodies.old ≡ record { whole = []; current = record { statements = []; later = [] } } }
         ensures judged { Judges (first_fault (phrases text.now)) result }
         ensures names { OnOk result (names_in (known_of self.new) ≡ names_in (known (phrases text.now))) }
         ensures few { OnOk result (AreFew (known_of self.new)) }
-        ensures lines { OnOk result (told_of lines.new.items ≡ told 0 (phrases text.now)) }
+        ensures bodies { OnOk result (AreSketches (names_in (known (phrases text.now))) (phrases text.now) (sketches_of bodies.new)) }
     {
         let mut rest = Some(text);
         let mut number = 0;
@@ -172,7 +172,7 @@ impl<'a> Outline<'a> {
                 Ok(()) => {}
                 Err(fault) => return Err(fault),
             }
-            match keep(lines, phrase, number) {
+            match bodies.take(self, phrase, number) {
                 Ok(()) => {}
                 Err(_) => return Err(WorkFault::Memory),
             }

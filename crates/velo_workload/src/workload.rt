@@ -1,5 +1,5 @@
 //! Parsing a text to a workload.
-ghost use Rattle.std.specs.Prelude.{◌≡◌, ◌≤◌, ◌<◌, ◌↔◌, [], Some, length, map, slice_get, IfOk, OnOk, OnErr, Err};
+ghost use Rattle.std.specs.Prelude.{◌≡◌, ◌≤◌, ◌<◌, ◌↔◌, [], Some, length, map, drop, slice_get, IfOk, OnOk, OnErr, Err};
 ghost use Rattle.std.specs.String.{string_bytes};
 ghost use Rattle.std.specs.Str.{IsUtf8};
 ghost use Rattle.velo_events.specs.Refusals.{GrowthRefused};
@@ -7,16 +7,15 @@ ghost use Rattle.velo_workload.specs.Names.{names_of};
 ghost use Rattle.velo_workload.specs.Bodies.{AreBodies};
 ghost use Rattle.velo_workload.specs.Outline.{AreFew, Judges, names_in};
 ghost use Rattle.velo_workload.specs.Known.{known_of, kept_of, whole};
-ghost use Rattle.velo_workload.specs.Program.{Program, bodies, meaning_of, Answers};
-ghost use Rattle.velo_workload.specs.Told.{told_of, phrases_of, unknown_told};
+ghost use Rattle.velo_workload.specs.Program.{Program, meaning_of, Answers};
+ghost use Rattle.velo_workload.specs.Sketch.{sketches_of, drafted, unknown_in_sketches, bodies_settled};
 ghost use Rattle.velo_events.specs.declared.limits.TheConstants.{MOST_THREADS, MOST_LOCKS};
 ghost use Rattle.velo_workload.specs.declared.limits.TheConstants.{MOST_WORKLOAD_BYTES};
 
-use crate::bodies::Bodies;
+use crate::bodies::{Bodies, settle_all};
 use crate::fault::WorkFault;
 use crate::growth::copied;
 use crate::limits::MOST_WORKLOAD_BYTES;
-use crate::lines::Line;
 use crate::names::count;
 use crate::outline::Outline;
 use crate::statement::Statement;
@@ -126,25 +125,21 @@ fn assemble(
     })
 }
 
-/// The bodies of the threads of a text, of which the first pass has kept these lines.
+/// The bodies of the threads of a text, by what the first pass has put down.
 fn bodies_of(
     alloc: Global,
     outline: &Outline,
-    lines: &[Line],
+    bodies: &mut Bodies,
 ) -> Result<Vec<Vec<Statement>>, WorkFault>
     requires { AreFew (known_of outline.now) }
-    ensures judged { Judges (unknown_told (names_in (known_of outline.now)) (told_of lines.now)) result }
-    ensures bodies { IfOk result (λ found. map (λ body. body.items) found.items ≡ bodies (names_in (known_of outline.now)) (phrases_of (told_of lines.now))) }
+    ensures judged { Judges (unknown_in_sketches (names_in (known_of outline.now)) (drafted (sketches_of bodies.old))) result }
+    ensures bodies { IfOk result (λ found. map (λ body. body.items) found.items ≡ drop 1 (bodies_settled (names_in (known_of outline.now)) (drafted (sketches_of bodies.old)))) }
 {
-    let mut bodies = Bodies::new(alloc);
-    match bodies.read(outline, lines) {
-        Ok(()) => {
-            let mut whole = replace(&mut bodies.whole, Vec::new(alloc));
-            let _before_threads = whole.remove(0);
-            Ok(whole)
-        }
-        Err(fault) => Err(fault),
-    }
+    bodies.finish()?;
+    let drafts = replace(&mut bodies.whole, Vec::new(alloc));
+    let mut found = settle_all(alloc, outline, drafts)?;
+    let _before_threads = found.remove(0);
+    Ok(found)
 }
 
 /// The workload of a text, by an outline of no line.
@@ -156,10 +151,10 @@ fn parse_into<'a>(
     requires { kept_of outline.old ≡ whole [] }
     ensures { Answers (meaning_of text.now) result }
 {
-    let mut lines = Vec::new(alloc);
-    match outline.read(text, &mut lines) {
+    let mut drafts = Bodies::new(alloc);
+    match outline.read(text, &mut drafts) {
         Err(fault) => Err(fault),
-        Ok(()) => match bodies_of(alloc, outline, &lines) {
+        Ok(()) => match bodies_of(alloc, outline, &mut drafts) {
             Err(fault) => Err(fault),
             Ok(bodies) => match assemble(alloc, outline, bodies) {
                 Ok(workload) => Ok(workload),
@@ -173,7 +168,7 @@ fn parse_into<'a>(
 ///
 /// It answers the program that the text means, or the first fault: the first pass judges all but undeclared names, line by
 /// line, and the second pass these. Its time and memory grow with the text. The text is read once: the second pass goes over
-/// what the first has kept.
+/// the statements alone whose names are not declared up to their line.
 pub fn parse(alloc: Global, text: &str) -> Result<Workload, WorkFault>
     ensures { Answers (meaning_of text.now) result }
 {
