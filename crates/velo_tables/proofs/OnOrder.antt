@@ -1,13 +1,13 @@
 -- Events noted in order: who knows an event knows all that it knows, and it stays so.
-use Rattle.std.proofs.Common.{◌≡◌, ℕ, ◌+◌, ◌<◌, ◌≤◌, max, Some, Bool, true, false, List, [], ◌∷◌, length, map, get_or, refl, sym, ap, ◌∙◌, subst, arith, ⊎_elim, inl, inr}
+use Rattle.std.proofs.Common.{◌≡◌, ℕ, ◌+◌, ◌<◌, ◌≤◌, max, Some, true, false, List, ◌∷◌, map, refl, sym, ap, ◌∙◌, subst, arith, ⊎_elim, inl, inr}
 use Rattle.std.specs.Prelude.{◌⊎◌, ◌==◌, ◌||◌, IsTrue, if◌then◌else◌}
 use Rattle.std.proofs.lemmas.Bool.{false≢true, cases_eq, cases_lt, ne_eqb, eq-eqb, eqb-true}
 use Rattle.velo_events.specs.declared.event.Event.{Event}
 use Rattle.velo_events.specs.declared.event.Kind.{Kind}
 use Rattle.velo_events.specs.declared.event.Kind.TheVariants.{Read, Write, Acquire, Release, Begin, End, Fork, Join, Exit}
 use Rattle.velo_events.specs.Event.{thread_of, is_fork_of, are_same, forked_by}
-use Rattle.velo_tables.specs.Clocks.{Clock, ClockState, ClockPlace, OfLast, OfWrite, OfReads, OfLock, IsNoted, KnowsNothing, KnowsTheSame, clock_at, known_at, foreign_at, clock_of, beside, greatest_of, stays, is_noted}
-use Rattle.velo_tables.specs.Order.{IsTop, IsLed, IsClosed, IsInOrder, ForksUnknown, KeepsOrder}
+use Rattle.velo_tables.specs.Clocks.{ClockState, ClockPlace, OfLast, OfWrite, OfReads, OfLock, IsNoted, KnowsNothing, KnowsTheSame, known_at, foreign_at, clock_of, beside, greatest_of, stays, is_noted}
+use Rattle.velo_tables.specs.Order.{IsLed, IsInOrder, ForksUnknown, KeepsOrder}
 use Rattle.velo_tables.proofs.OnLatest.{Among, most-at, most-some}
 
 -- ---- what is gathered from some places

@@ -1,6 +1,5 @@
 -- A clock that knows the events of a place that no other there knows.
 use Rattle.std.proofs.Common.{◌≡◌, ℕ, ◌<◌, ◌≤◌, max, List, [], length, get_or, sym, ap, ◌∙◌, subst, arith, ⊎_elim}
-use Rattle.std.proofs.Math.ListN.{set}
 use Rattle.std.proofs.lemmas.Bool.{cases_eq, cases_lt}
 use Rattle.std.proofs.lemmas.List.{get_or-set_other, get_or_past, get_or_default}
 use Rattle.velo_events.specs.declared.event.ThreadId.{ThreadId}
@@ -8,9 +7,9 @@ use Rattle.velo_tables.specs.declared.last_clocks.LastEvent.{LastEvent}
 use Rattle.velo_tables.specs.declared.read_clocks.ReadBy.{ReadBy}
 use Rattle.velo_tables.specs.declared.read_clocks.ReadBy.TheVariants.{Nobody, One}
 use Rattle.velo_tables.specs.Reads.{read_clock, reads_of, AreReads}
-use Rattle.velo_tables.specs.Clocks.{Clock, ClockState, ClockPlace, OfLast, OfWrite, blank_clock, clock_at, known_at}
+use Rattle.velo_tables.specs.Clocks.{Clock, ClockState, ClockPlace, OfLast, blank_clock, clock_at, known_at}
 use Rattle.velo_tables.specs.Noted.{maxima, alone_at, alones, no_event, AreLast, IsSized}
-use Rattle.velo_tables.specs.Order.{IsTop, KnowsTops, TopsTell, IsLed, IsClosed}
+use Rattle.velo_tables.specs.Order.{KnowsTops, TopsTell, IsClosed}
 use Rattle.velo_tables.proofs.OnRaised.{get_or-raised, length-raised, raised-same}
 use Rattle.velo_tables.proofs.OnLastClocks.{get_or-alones, last-number}
 use Rattle.velo_tables.proofs.OnReadClocks.{get_or-reads}

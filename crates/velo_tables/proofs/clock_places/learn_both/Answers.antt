@@ -1,4 +1,4 @@
-use Rattle.std.proofs.Common.{◌∙◌, length, get_or, sym, subst, refl}
+use Rattle.std.proofs.Common.{length, get_or, sym, subst}
 use Rattle.velo_tables.specs.Clocks.{blank_clock}
 use Rattle.velo_tables.specs.Noted.{maxima}
 use Rattle.velo_tables.specs.Order.{TopsTell}

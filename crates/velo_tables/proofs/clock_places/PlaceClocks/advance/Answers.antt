@@ -6,7 +6,6 @@ use Rattle.velo_tables.specs.Clocks.{OfLast, clock_at, blank_clock}
 use Rattle.velo_tables.specs.Noted.{joined_clock, clock_beside, alone_at}
 use Rattle.velo_tables.proofs.OnNoted.{length-joined}
 use Rattle.velo_tables.proofs.OnAdvance.{thread-known, thread-changed}
-use Rattle.velo_tables.proofs.OnOrder.{follows-gathered}
 use Rattle.velo_tables.proofs.clock_places.PlaceClocks.advance.Goals as goal
 
 pub tick_thread-requires-clause-by : goal.tick_thread-requires-clause-by

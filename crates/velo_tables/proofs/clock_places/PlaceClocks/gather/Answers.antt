@@ -1,6 +1,6 @@
 use Rattle.std.proofs.Common.{length, get_or, sym, subst, List}
 use Rattle.velo_events.specs.Event.{thread_of}
-use Rattle.velo_tables.specs.Clocks.{Clock, ClockState, OfLast, OfWrite, OfReads, OfLock, blank_clock}
+use Rattle.velo_tables.specs.Clocks.{Clock, ClockState, OfWrite, OfReads, OfLock, blank_clock}
 use Rattle.velo_tables.specs.Noted.{maxima}
 use Rattle.velo_tables.specs.Order.{TopsTell}
 use Rattle.velo_tables.proofs.OnTops.{tell-own, tell-both}

@@ -1,4 +1,4 @@
-use Rattle.std.proofs.Common.{List, length, get_or, sym, ap, ◌∙◌, subst, arith}
+use Rattle.std.proofs.Common.{List, get_or, subst, arith}
 use Rattle.std.proofs.lemmas.Bool.{leb-true}
 use Rattle.velo_tables.specs.Clocks.{Clock, blank_clock}
 use Rattle.velo_tables.specs.Order.{KnowsTops}

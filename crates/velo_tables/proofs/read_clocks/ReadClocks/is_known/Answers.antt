@@ -1,8 +1,5 @@
-use Rattle.std.proofs.Common.{List, length, get_or, sym, ap, ◌∙◌, subst, arith}
+use Rattle.std.proofs.Common.{List, get_or, ap, arith}
 use Rattle.std.proofs.lemmas.Bool.{leb-true}
-use Rattle.velo_tables.specs.declared.read_clocks.ReadBy.TheVariants.{Nobody, One}
-use Rattle.velo_tables.specs.Clocks.{Clock, blank_clock}
-use Rattle.velo_tables.specs.Order.{KnowsTops}
 use Rattle.velo_tables.proofs.OnTops.{tops-unread, tops-nobody, tops-one}
 use Rattle.velo_tables.proofs.read_clocks.ReadClocks.is_known.Goals as goal
 
