@@ -116,7 +116,7 @@ fn all_edges(alloc: Global, events: &[Event], cycle: &[usize]) -> Result<Vec<Edg
 /// The events behind the edges of a cycle of the events up to the position, in its order: for each transaction two
 /// conflicting events, the earlier one of it and the later one of the next transaction.
 ///
-/// It takes one pass over the events up to the position for each transaction of the cycle.
+/// It takes one pass over the events up to the position for each transaction of the cycle, and one to make the table.
 pub fn edges_of(
     alloc: Global,
     trace: &Trace,

@@ -1,4 +1,4 @@
-//! Whether a list is a serial reordering of a trace, told by one pass over each.
+//! Whether a list is a serial reordering of a trace, told by a few passes over each.
 ghost use Rattle.std.specs.Prelude.{◌≡◌, ◌≤◌, ◌<◌, ◌+◌, ◌↔◌, ℕ, length, slice_index, IfOk, OnErr, IfSome, IfNone, IsTrue, IsFalse};
 ghost use Rattle.velo_events.specs.Reordering.{IsReordering, IsSerial};
 ghost use Rattle.velo_events.specs.Refusals.{GrowthRefused};

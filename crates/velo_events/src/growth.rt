@@ -1,4 +1,5 @@
-//! The growing calls of the library, each with the fact that its refusal leaves. No other code can show this fact.
+//! The growing calls of the library, each with the fact that its refusal leaves. Only the crates that list `velo_seal` can
+//! show this fact.
 ghost use Rattle.std.specs.Prelude.{◌≡◌, ◌≤◌, ◌<◌, ◌+◌, ◌-◌, ◌++◌, [], if◌then◌else◌, is_ok, take, replicate, vec_len, vec_capacity, IfOk, OnOk, OnErr};
 ghost use Rattle.velo_events.specs.Refusals.{GrowthRefused};
 

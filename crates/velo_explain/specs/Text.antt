@@ -49,7 +49,7 @@ edge_text trace count k edge = joined (
     ∷ codes ": line " ∷ decimal (line_of edge.from) ∷ codes " `" ∷ event_text (event_at trace edge.from)
     ∷ codes "`, then line " ∷ decimal (line_of edge.to) ∷ codes " `" ∷ event_text (event_at trace edge.to) ∷ codes "`\n" ∷ [])
 
--- "  block 7, from line 3: line 5 `1 wr 0 5` comes after its begin and before line 6"
+-- "  block 7, from line 3: line 5 `1 wr 0 5` must come after its begin and before line 6"
 unfoldable pub blame_text : List Event → ℕ → Blame → List ℕ
 blame_text trace p blame = joined (
     codes "  block " ∷ decimal blame.block.label.0 ∷ codes ", from line " ∷ decimal (line_of blame.block.first)

@@ -17,7 +17,7 @@ with_row book t tally = record book { rows = slice_set book.rows t.0 tally }
 abbrev pub with_tally : Holding → Tally → Holding
 with_tally share tally = record share { tally = tally }
 
--- the share is of the book's run and of one of its threads, and has all five numbers of the row
+-- the share is of the book's run and of one of its threads, and has all five parts of the row
 pub record FitsBook (book : Accounts) (share : Holding) : Type 0 where
   pub run : share.run ≡ book.run
   pub row : slice_get book.rows share.thread.0 ≡ Some share.tally

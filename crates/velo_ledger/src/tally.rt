@@ -54,7 +54,7 @@ impl Tally {
         }
     }
 
-    /// Whether all five numbers are the same.
+    /// Whether all five parts are the same.
     pub(crate) fn is_same(&self, other: &Tally) -> bool
         ensures { IsTrue result ↔ (self.now ≡ other.now) }
     {

@@ -11,7 +11,7 @@ use velo_events::growth::filled;
 #[derive(Debug, Drop)]
 pub struct BitRow {
     words: Vec<u64>,
-    /// The words from here on are 0, and the one before is not: no call looks at more of them.
+    /// The words from here on are 0, and the one before is not: no call that goes through the words looks at more of them.
     end: usize,
     limit: u16,
     ghost room: { length words.items ≡ (limit + 63) / 64 },

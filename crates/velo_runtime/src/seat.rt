@@ -92,7 +92,7 @@ impl Seat {
         self.turn(rt, shared, Action::Acquire(lock))
     }
 
-    /// Releases a lock, and wakes the threads that wait.
+    /// Releases a lock, and notifies the threads that wait.
     pub fn release<R: Wait>(
         &mut self,
         rt: &R,
@@ -161,7 +161,7 @@ impl Seat {
         self.turn(rt, shared, Action::Join(thread))
     }
 
-    /// Ends the thread, and wakes the threads that wait.
+    /// Ends the thread, and notifies those that wait.
     pub fn exit<R: Wait>(&mut self, rt: &R, shared: &Shared) -> Result<Reply, Refusal>
         ensures exited { IfOk result (λ reply. GainsEventOf self.old self.new reply kind.Exit) }
         ensures unchanged { OnErr result (self.new ≡ self.old) }

@@ -52,18 +52,18 @@ impl Shared {
         Ok((shared, seat))
     }
 
-    /// Refuses every action from now on, and wakes the threads that wait.
+    /// Refuses every action from now on, and notifies the threads that wait.
     pub fn halt<R: Wait>(&self, rt: &R) {
         self.room.lock(rt).halt();
         self.wake_all();
     }
 
-    /// Wakes the threads that wait: each tries its action again.
+    /// Notifies the threads that wait: each that wakes tries its action again.
     pub(crate) fn wake_all(&self) {
         self.changed.notify_all();
     }
 
-    /// Lets the room go until another thread has acted, and takes it again.
+    /// Lets the room go until it is woken, and takes it again.
     pub(crate) fn wait<'a, R: Wait>(
         &self,
         rt: &R,

@@ -15,7 +15,7 @@ pub enum Wanted {
 pub enum Turn {
     /// The action is an event of the log.
     Done(Reply),
-    /// Nothing was done, and the thread waits for nothing.
+    /// Nothing was done, and the thread waits for nothing; but for a foreign share, whose thread's wait stays as it was.
     Refused(Refusal),
     /// Nothing was done yet: the thread waits until the lock is free, or the thread to join has exited.
     Wait,

@@ -1,2 +1,2 @@
-//! The word for 'a growth was refused'. Only the crate that lists this one can show it.
+//! The word for 'a growth was refused'. Only a crate that lists this one can show it.
 #![tactic(auto)]

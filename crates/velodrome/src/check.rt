@@ -37,7 +37,7 @@ pub enum CheckFault {
     Refused { position: usize, refusal: Refusal },
     /// The event at the position reads a value that the variable does not have.
     WrongValue { position: usize },
-    /// The sink failed; a beginning of the report was written.
+    /// The sink failed; a beginning of the report, or of the certificate behind it, was written.
     Write,
     /// A growth was refused.
     Memory,
