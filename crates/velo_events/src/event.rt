@@ -67,8 +67,8 @@ pub enum Action {
 /// Whether two events of one trace conflict, so that no equivalent trace exchanges them.
 ///
 /// They do where one thread did both, where both access one variable and one of them writes it, where both operate on one
-/// lock (these are the rules of the paper on Velodrome), and where one of them forks or joins the other's thread. Two forks
-/// or joins of one thread by two others do not conflict by themselves.
+/// lock (these are the rules of Flanagan, Freund and Yi, *Velodrome*, PLDI 2008), and where one of them forks or joins the
+/// other's thread. Two forks or joins of one thread by two others do not conflict by themselves.
 pub fn conflicts(earlier: &Event, later: &Event) -> bool
     ensures { result ≡ conflict earlier.now later.now }
 {

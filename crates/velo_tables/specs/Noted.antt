@@ -1,4 +1,4 @@
--- What the clocks have after an event was noted, list by list. Private contracts cite these words: public ones say it place by place.
+-- What the clocks have after an event was noted, list by list. Private contracts cite these words, and public ones those of room; else public ones say it place by place.
 use Rattle.std.specs.Prelude.{◌≡◌, ℕ, ◌+◌, ◌<◌, ◌≤◌, max, List, [], ◌∷◌, length, slice_index_or, slice_set, ⊤}
 use Rattle.velo_events.specs.declared.event.Event.{Event}
 use Rattle.velo_tables.specs.declared.last_clocks.LastEvent.{LastEvent}
