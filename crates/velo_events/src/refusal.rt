@@ -69,7 +69,7 @@ pub enum Refusal {
     /// The room could not be made, or a thread not started.
     #[error("runtime out of memory")]
     RuntimeMemory = 21,
-    /// The seat's share does not say what the room's log says of its thread: mostly it belongs to another room.
+    /// The seat's share does not say what the room's log says of its thread, as that of another room's seat.
     #[error("foreign seat")]
     Foreign = 22,
 }

@@ -44,7 +44,7 @@ impl From<Memory> for LiveFault {
 /// that world, and how the run ended.
 ///
 /// Before each of its events a thread asks the gate. One that the gate does not let pass, or whose action is refused, halts the
-/// world, so that the others end too. It may wait for locks, for threads to join, and for the gate.
+/// world: what the others try after that is refused. It may wait for locks, for threads to join, and for the gate.
 ///
 /// # Errors
 /// `Memory` where a growth was refused before the first event; one that is refused later ends the run as `Refused`. `Lost` where
