@@ -176,7 +176,7 @@ fn shows<G: Gate + Sync, R: Threads + Wait + Sync>(
     shown: &Shown<'_>,
 ) -> Option<bool> {
     let workload = parse(alloc, text).ok()?;
-    let config = Config::new(0, workload.bounds(), 20_000, 64, false).ok()?;
+    let config = Config::new(0, workload.bounds(), 20_000, 4_096, false).ok()?;
     let (closed, ending) = live(rt, alloc, &workload, config, gate).ok()?;
     Some(looks_as(&closed, shown) && ending == shown.ending)
 }
