@@ -1,4 +1,5 @@
 pub mod OnAlarms
+pub mod OnLate
 pub mod OnRuns
 pub mod OnCourses
 pub mod OnAnswers

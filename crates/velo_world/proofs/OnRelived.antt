@@ -1,6 +1,6 @@
 -- A recorded log that comes about again, or does not.
-use Rattle.std.proofs.Common.{◌≡◌, ℕ, ◌+◌, ◌<◌, ◌≤◌, Bool, true, false, List, [], ◌∷◌, ◌++◌, length, length-append, take, Option, Some, None, Ok, refl, sym, ap, ◌∙◌, subst, arith, inl, inr}
-use Rattle.std.specs.Prelude.{slice_get, ◌⊎◌, ◌==◌, ◌&&◌, IsTrue, is_some}
+use Rattle.std.proofs.Common.{◌≡◌, ℕ, ◌+◌, ◌<◌, ◌≤◌, Bool, true, false, List, [], ◌∷◌, ◌++◌, length, take, Option, Some, None, Ok, refl, sym, ap, ◌∙◌, subst, arith, inl, inr}
+use Rattle.std.specs.Prelude.{slice_get, ◌⊎◌, IsTrue, is_some}
 use Rattle.std.proofs.lemmas.Bool.{eqb-true, lt-leb}
 use Rattle.std.proofs.lemmas.Option.{slice_get_within}
 use Rattle.velo_events.specs.declared.config.Bounds.{Bounds}
@@ -17,14 +17,13 @@ use Rattle.velo_events.proofs.OnMeaning.{HasItsValue-kind_for, MayFollow-refusal
 use Rattle.velo_events.proofs.OnWellFormed.{IsWellFormed-push}
 use Rattle.velo_events.proofs.OnScans.{take-next}
 use Rattle.velo_traces.specs.declared.judge.Flaw.{Flaw}
-use Rattle.velo_traces.specs.declared.judge.Flaw.TheVariants as flaw
 use Rattle.velo_traces.specs.Flaws.{flaw_by, flaw_of, IsFirstFlaw}
 use Rattle.velo_traces.proofs.OnFlaws.{flaw-not_MayFollow, MayFollow-from_no_flaw}
 use Rattle.velo_world.specs.declared.relive.ReliveFault.{ReliveFault}
 use Rattle.velo_world.specs.declared.relive.ReliveFault.TheVariants.{Refused, WrongValue, Memory}
 use Rattle.velo_world.specs.declared.run.Alarm.{Alarm}
 use Rattle.velo_world.specs.declared.run.Reply.{Reply}
-use Rattle.velo_world.specs.World.{WorldState, meaning, value_read, AlarmOf, IsBookOf, HoldsLiveShares, CompletesShares}
+use Rattle.velo_world.specs.World.{meaning, value_read, AlarmOf}
 use Rattle.velo_world.specs.Course.{AddsToLog}
 use Rattle.velo_world.specs.Faults.{world_of, IsLimit, IsFaultAtEvent, FindsNoNodeAt, IsFaultOfLog}
 use Rattle.velo_world.proofs.OnAlarms.{AlarmOf-alarmed, length-before}
@@ -75,9 +74,6 @@ known_names bounds log e well none =
     (MayFollow-refusal_of bounds log (event_for log e.thread (action_of e.kind)) well).1
     (refusal_of-asked bounds log e.thread.0 e.kind ∙ none, HasItsValue-kind_for log (action_of e.kind)) in
     names_asked bounds log e.kind may.known_names
-
-pub well_formed-by : (bounds bounds' : Bounds) (trace : List Event) → bounds ≡ bounds' → IsWellFormed bounds trace → IsWellFormed bounds' trace
-well_formed-by bounds bounds' trace same well = subst (λ b. IsWellFormed b trace) same well
 
 pub follows-by : (bounds bounds' : Bounds) (trace : List Event) (e : Event) → bounds ≡ bounds' → MayFollow bounds trace e → MayFollow bounds' trace e
 follows-by bounds bounds' trace e same follows = subst (λ b. MayFollow b trace e) same follows

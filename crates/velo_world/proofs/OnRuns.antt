@@ -18,10 +18,13 @@ use Rattle.velo_merge.specs.Named.{live_stamps, HasFinished, IsAncestor}
 use Rattle.velo_monitor.specs.Watched.{Watched, IsMonitorOf}
 use Rattle.velo_monitor.specs.Answers.{NeedsNode}
 use Rattle.velo_world.specs.declared.run.Alarm.{Alarm}
-use Rattle.velo_tables.specs.Clocks.{AreClocksOf}
-use Rattle.velo_tables.specs.Noted.{HasRoomToNote}
+use Rattle.velo_heap.specs.Contents.{bounds_of}
+use Rattle.velo_events.specs.WellFormed.{IsWellFormed}
+use Rattle.velo_events.proofs.OnWellFormed.{IsWellFormed-push}
+use Rattle.velo_world.specs.Late.{AreLateClocksOf}
+use Rattle.velo_world.specs.declared.late.LateClocks.{LateClocks}
 use Rattle.velo_world.specs.World.{IsAlarm, AlarmOf, IsWatchedPart}
-use Rattle.velo_world.specs.Run.{events_watched, IsWatched, HasSlotFor, HasRoomForNext}
+use Rattle.velo_world.specs.Run.{events_watched, IsWatched, IsRunOf, HasSlotFor, HasRoomToWatch, HasRoomForNext, ComesNext}
 use Rattle.velo_world.proofs.OnAlarms.{AlarmOf-stays, AlarmOf-quiet}
 use Rattle.velo_world.specs.declared.run.Run.{Run}
 
@@ -81,19 +84,29 @@ pub OnOk-then : {T E : Type 0} (result : Result T E) (P Q : Type 0) → OnOk res
 OnOk-then (Ok x) P Q h f = f h
 OnOk-then (Err x) P Q h f = tt
 
--- the event that may come next finds room, where room was made for it
-pub room-reserved : (old new : Run) (trace : List Event) (e : Event) → new.alarm ≡ old.alarm → new.monitor.nodes ≡ old.monitor.nodes → ((p : Place) → entry new.monitor.kept p ≡ entry old.monitor.kept p) → HasSlotFor old trace e → HasRoomFor new.monitor.kept e → HasRoomToNote new.clocks.bounds.threads new.clocks.state e → HasRoomForNext new trace e
-room-reserved old new trace e alarm nodes entries slot monitor clocks = record {
+pub OnOk-both : {T E : Type 0} (result : Result T E) (P Q R : Type 0) → OnOk result P → OnOk result Q → (P → Q → R) → OnOk result R
+OnOk-both (Ok x) P Q R h g f = f h g
+OnOk-both (Err x) P Q R h g f = tt
+
+-- the event that may come next finds room at the monitor, where room was made for it
+pub room-reserved : (old new : Run) (trace : List Event) (e : Event) → new.alarm ≡ old.alarm → new.monitor.nodes ≡ old.monitor.nodes → ((p : Place) → entry new.monitor.kept p ≡ entry old.monitor.kept p) → HasSlotFor old trace e → HasRoomFor new.monitor.kept e → HasRoomToWatch new trace e
+room-reserved old new trace e alarm nodes entries slot monitor = record {
   monitor = λ _. monitor;
-  clocks = λ _. clocks;
   slot = record { slot = λ none needs. rw nodes (slot.slot (sym alarm ∙ none) (NeedsNode-reserved old.monitor new.monitor trace e nodes entries needs)) };
+}
+
+-- after an alarm nothing needs room
+pub watch-alarmed : (run : Run) (trace : List Event) (e : Event) → IsTrue (is_some run.alarm) → HasRoomToWatch run trace e
+watch-alarmed run trace e some = record {
+  monitor = λ none. absurd (alarm-not_none run.alarm some none);
+  slot = record { slot = λ none. absurd (alarm-not_none run.alarm some none) };
 }
 
 pub room-alarmed : (run : Run) (trace : List Event) (e : Event) → IsTrue (is_some run.alarm) → HasRoomForNext run trace e
 room-alarmed run trace e some = record {
-  monitor = λ none. absurd (alarm-not_none run.alarm some none);
+  watch = watch-alarmed run trace e some;
   clocks = λ none. absurd (alarm-not_none run.alarm some none);
-  slot = record { slot = λ none. absurd (alarm-not_none run.alarm some none) };
+  up_to_date = λ none. absurd (alarm-not_none run.alarm some none);
 }
 
 -- ---- what monitor and clocks saw
@@ -105,7 +118,7 @@ IsWatched-stays run bounds trace e some is =
     record {
       alarm = AlarmOf-stays trace e run.alarm some is.alarm;
       monitor = subst (IsMonitorOf bounds run.monitor) same is.monitor;
-      clocks = subst (AreClocksOf run.clocks.state) same is.clocks;
+      clocks = subst (AreLateClocksOf run.clocks) same is.clocks;
       bounds_are = is.bounds_are;
     }
 
@@ -113,26 +126,43 @@ IsWatched-stays run bounds trace e some is =
 pub monitor-quiet : (run : Run) (bounds : Bounds) (trace : List Event) → IsFalse (is_some run.alarm) → IsWatched run bounds trace → IsMonitorOf bounds run.monitor trace
 monitor-quiet run bounds trace quiet is = subst (IsMonitorOf bounds run.monitor) (events_watched-none trace run.alarm quiet) is.monitor
 
-pub clocks-quiet : (run : Run) (bounds : Bounds) (trace : List Event) → IsFalse (is_some run.alarm) → IsWatched run bounds trace → AreClocksOf run.clocks.state trace
-clocks-quiet run bounds trace quiet is = subst (AreClocksOf run.clocks.state) (events_watched-none trace run.alarm quiet) is.clocks
+pub clocks-quiet : (run : Run) (bounds : Bounds) (trace : List Event) → IsFalse (is_some run.alarm) → IsWatched run bounds trace → AreLateClocksOf run.clocks trace
+clocks-quiet run bounds trace quiet is = subst (AreLateClocksOf run.clocks) (events_watched-none trace run.alarm quiet) is.clocks
 
-pub IsWatched-quiet : (run : Run) (bounds : Bounds) (trace : List Event) → IsFalse (is_some run.alarm) → ¬ HasCycle trace → IsMonitorOf bounds run.monitor trace → AreClocksOf run.clocks.state trace → run.clocks.bounds ≡ bounds → IsWatched run bounds trace
+pub IsWatched-quiet : (run : Run) (bounds : Bounds) (trace : List Event) → IsFalse (is_some run.alarm) → ¬ HasCycle trace → IsMonitorOf bounds run.monitor trace → AreLateClocksOf run.clocks trace → run.clocks.clocks.bounds ≡ bounds → IsWatched run bounds trace
 IsWatched-quiet run bounds trace quiet acyclic monitor clocks bounds_are =
     let same = sym (events_watched-none trace run.alarm quiet) in
     record {
       alarm = AlarmOf-quiet trace run.alarm quiet acyclic;
       monitor = subst (IsMonitorOf bounds run.monitor) same monitor;
-      clocks = subst (AreClocksOf run.clocks.state) same clocks;
+      clocks = subst (AreLateClocksOf run.clocks) same clocks;
       bounds_are = bounds_are;
     }
 
+-- other clocks of the same events do as well
+pub IsRunOf-clocks : (run : Run) (clocks : LateClocks) (trace : List Event) → IsFalse (is_some run.alarm) → AreLateClocksOf clocks trace → clocks.clocks.bounds ≡ run.clocks.clocks.bounds → IsRunOf run trace → IsRunOf (record run { clocks = clocks }) trace
+IsRunOf-clocks run clocks trace quiet are same is = record {
+  heap = is.heap;
+  watched = record {
+    alarm = is.watched.alarm;
+    monitor = is.watched.monitor;
+    clocks = subst (AreLateClocksOf clocks) (sym (events_watched-none trace run.alarm quiet)) are;
+    bounds_are = same ∙ is.watched.bounds_are;
+  };
+}
+
 -- at it they stand for the events before
-pub IsWatched-raised : (run : Run) (bounds : Bounds) (trace : List Event) (e : Event) (alarm : Alarm) → run.alarm ≡ Some alarm → alarm.position ≡ length trace → IsAlarm (trace ++ e ∷ []) alarm → IsMonitorOf bounds run.monitor trace → AreClocksOf run.clocks.state trace → run.clocks.bounds ≡ bounds → IsWatched run bounds (trace ++ e ∷ [])
+pub IsWatched-raised : (run : Run) (bounds : Bounds) (trace : List Event) (e : Event) (alarm : Alarm) → run.alarm ≡ Some alarm → alarm.position ≡ length trace → IsAlarm (trace ++ e ∷ []) alarm → IsMonitorOf bounds run.monitor trace → AreLateClocksOf run.clocks trace → run.clocks.clocks.bounds ≡ bounds → IsWatched run bounds (trace ++ e ∷ [])
 IsWatched-raised run bounds trace e alarm raised here is monitor clocks bounds_are =
     let part : events_watched (trace ++ e ∷ []) run.alarm ≡ trace = rw (raised, here) (take-before trace e) in
     record {
       alarm = rw raised is;
       monitor = subst (IsMonitorOf bounds run.monitor) (sym part) monitor;
-      clocks = subst (AreClocksOf run.clocks.state) (sym part) clocks;
+      clocks = subst (AreLateClocksOf run.clocks) (sym part) clocks;
       bounds_are = bounds_are;
     }
+
+-- the next event keeps the trace well-formed
+pub well-next : (run : Run) (trace : List Event) (e : Event) → ComesNext run trace e → IsWellFormed run.clocks.clocks.bounds (trace ++ e ∷ [])
+well-next run trace e next =
+    subst (λ b. IsWellFormed b (trace ++ e ∷ [])) (sym next.stands.watched.bounds_are) (IsWellFormed-push (bounds_of run.heap) trace e next.stands.heap.well_formed next.follows)

@@ -56,6 +56,7 @@ impl Course {
     fn make_room(&mut self, event: &Event) -> Result<(), Refusal>
         requires stands { IsCourseOfItsLog self.old }
         requires follows { MayFollow self.old.config.bounds self.old.log.events event.now }
+        requires short { length self.old.log.events < self.old.config.events }
         ensures stands { IsCourseOfItsLog self.new }
         ensures same { course_of self.new ≡ course_of self.old }
         ensures log { OnOk result (0 < self.new.log.room) }
@@ -68,7 +69,7 @@ impl Course {
         if self.log.reserve_one().is_err() {
             return Err(Refusal::Memory);
         }
-        if self.run.reserve_for(event).is_err() {
+        if self.run.reserve_for(self.log.as_slice(), event).is_err() {
             return Err(Refusal::Memory);
         }
         Ok(())

@@ -3,6 +3,7 @@
 
 mod closed;
 mod course;
+mod late;
 mod relive;
 mod run;
 mod world;

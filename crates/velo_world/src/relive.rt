@@ -7,7 +7,7 @@ ghost use Rattle.velo_traces.specs.Flaws.{flaw_of};
 ghost use Rattle.velo_world.specs.World.{CompletesShares, HoldsLiveShares};
 ghost use Rattle.velo_world.specs.Faults.{world_of, IsFaultAtEvent, IsFaultOfLog};
 ghost use Rattle.velo_world.specs.Relived.{IsReliveOf};
-ghost use Rattle.velo_world.specs.Run.{ComesNext};
+ghost use Rattle.velo_world.specs.Run.{ComesNext, HasRoomToWatch};
 
 use crate::course::Course;
 use crate::run::Run;
@@ -57,7 +57,10 @@ impl World {
         };
         match relived.follow(&config, log.as_slice()) {
             Ok(()) => Ok(relived.into_world(alloc, config, log)),
-            Err(fault) => Err(fault),
+            Err(fault) => {
+                drop((relived, log));
+                Err(fault)
+            }
         }
     }
 }
@@ -68,7 +71,6 @@ impl Relived {
         ensures start { IfOk result (λ relived. IsReliveOf config.now relived []) }
         ensures memory { OnErr result GrowthRefused }
     {
-        let run = Run::new(alloc, config)?;
         let (book, mut kept) = Book::open(alloc, config.run, config.bounds.threads)?;
         let mut shares = Shares::none(alloc, config.bounds.threads)?;
         let Some(share) = kept.take(ThreadId(0)) else {
@@ -77,6 +79,7 @@ impl Relived {
         if shares.put(share).is_err() {
             unreachable!()
         }
+        let run = Run::new(alloc, config)?;
         Ok(Relived {
             run,
             book,
@@ -114,10 +117,10 @@ impl Relived {
     {
         let event = &events[position];
         match self.make_room(config, events, position, event) {
-            Ok(()) => {
-                self.take_in(config, events, position, event);
-                Ok(())
-            }
+            Ok(()) => match self.take_in(config, events, position, event) {
+                Ok(()) => Ok(()),
+                Err(Memory) => Err(ReliveFault::Memory),
+            },
             Err(fault) => Err(fault),
         }
     }
@@ -137,6 +140,7 @@ impl Relived {
         ensures flawless { OnOk result (flaw_of config.now.bounds (take position events.now) event.now ≡ None) }
         ensures short { OnOk result (position < config.now.events) }
         ensures next { OnOk result (ComesNext self.new.run (take position events.now) event.now) }
+        ensures room { OnOk result (HasRoomToWatch self.new.run (take position events.now) event.now) }
         ensures fault { IfErr result (λ fault. IsFaultAtEvent config.now (take position events.now) event.now fault) }
     {
         match flaw_in(&self.run.heap, event) {
@@ -156,26 +160,38 @@ impl Relived {
                 refusal: Refusal::GraphFull,
             });
         }
-        match self.run.reserve_for(event) {
+        match self.run.reserve_to_watch(event) {
             Ok(()) => Ok(()),
             Err(Memory) => Err(ReliveFault::Memory),
         }
     }
 
     /// Takes in the event at the position, for which there is room.
+    ///
+    /// # Errors
+    /// `Memory` where the event closes the first cycle and a growth for its blame was refused.
     #[inline(always)]
-    fn take_in(&mut self, config: &Config, events: &[Event], position: usize, event: &Event)
+    fn take_in(
+        &mut self,
+        config: &Config,
+        events: &[Event],
+        position: usize,
+        event: &Event,
+    ) -> Result<(), Memory>
         requires goes_on { config.now.stop ≡ false }
         requires here { slice_get events.now position ≡ Some event.now }
         requires stands { IsReliveOf config.now self.old (take position events.now) }
         requires flawless { flaw_of config.now.bounds (take position events.now) event.now ≡ None }
         requires short { position < config.now.events }
         requires next { ComesNext self.old.run (take position events.now) event.now }
-        ensures { IsReliveOf config.now self.new (take position events.now ++ event.now ∷ []) }
+        requires room { HasRoomToWatch self.old.run (take position events.now) event.now }
+        ensures ok { OnOk result (IsReliveOf config.now self.new (take position events.now ++ event.now ∷ [])) }
+        ensures memory { OnErr result GrowthRefused }
     {
-        self.run.take_in(events, position, event);
+        self.run.take_in_recorded(events, position, event)?;
         self.book.enter_at(&mut self.shares, position, event);
         hand_over(&mut self.kept, &mut self.shares, event);
+        Ok(())
     }
 
     /// The world of the log that came about.

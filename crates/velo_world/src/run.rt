@@ -9,12 +9,13 @@ ghost use Rattle.velo_events.specs.WellFormed.{IsWellFormed, MayFollow};
 ghost use Rattle.velo_arena.specs.Slots.{limit_of};
 ghost use Rattle.velo_heap.specs.Contents.{bounds_of};
 ghost use Rattle.velo_tables.specs.Clocks.{AreClocksOf};
+ghost use Rattle.velo_world.specs.Late.{AreLateClocksOf};
 ghost use Rattle.velo_world.specs.World.{FindsNoNode, IsAlarm};
-ghost use Rattle.velo_world.specs.Run.{ComesNext, HasRoomForNext, HasSlotFor, IsRunOf, IsWatched, Raises};
+ghost use Rattle.velo_world.specs.Run.{ComesNext, HasRoomForNext, HasRoomToWatch, HasSlotFor, IsRunOf, IsWatched, KeepsAlarm, Raises};
 
+use crate::late::LateClocks;
 use smallvec::SmallVec;
 use std::alloc::Global;
-use velo_blame::Clocks;
 use velo_events::{Config, Event, MOST_OPEN_BLOCKS, Memory};
 use velo_heap::Heap;
 use velo_monitor::{Monitor, Seen};
@@ -49,8 +50,8 @@ pub struct Run {
     pub heap: Heap,
     /// The monitor of the events before the alarm.
     pub monitor: Monitor,
-    /// The clocks of the events before the alarm.
-    clocks: Clocks,
+    /// The clocks of the events before the alarm, or of the first of them.
+    clocks: LateClocks,
     pub alarm: Option<Alarm>,
     alloc: Global,
 }
@@ -65,7 +66,7 @@ impl Run {
     {
         let heap = Heap::new(alloc, config)?;
         let monitor = Monitor::new(alloc, config)?;
-        let clocks = Clocks::new(alloc, config)?;
+        let clocks = LateClocks::new(alloc, config)?;
         Ok(Run {
             heap,
             monitor,
@@ -93,17 +94,37 @@ impl Run {
 
     /// Makes room for the next event, which finds a slot for its node if it needs one.
     #[inline]
-    pub fn reserve_for(&mut self, event: &Event) -> Result<(), Memory>
+    pub fn reserve_for(&mut self, events: &[Event], event: &Event) -> Result<(), Memory>
+        requires next { ComesNext self.old events.now event.now }
+        requires slot { HasSlotFor self.old events.now event.now }
         ensures heap { self.new.heap ≡ self.old.heap }
         ensures nodes { self.new.monitor.nodes ≡ self.old.monitor.nodes }
-        ensures follows { (trace : List EventOf) → IsRunOf self.old trace → IsRunOf self.new trace }
-        ensures room { OnOk result ((trace : List EventOf) → IsRunOf self.old trace → MayFollow (bounds_of self.old.heap) trace event.now → HasSlotFor self.old trace event.now → HasRoomForNext self.new trace event.now) }
+        ensures follows { IsRunOf self.new events.now }
+        ensures room { OnOk result (HasRoomForNext self.new events.now event.now) }
         ensures memory { OnErr result GrowthRefused }
     {
         if self.alarm.is_some() {
             return Ok(());
         }
+        self.clocks.catch_up(events)?;
         self.clocks.reserve_for(event)?;
+        self.reserve_to_watch(event)
+    }
+
+    /// Makes room for the monitor to see the next event, which finds a slot for its node if it needs one.
+    #[inline]
+    pub fn reserve_to_watch(&mut self, event: &Event) -> Result<(), Memory>
+        ensures heap { self.new.heap ≡ self.old.heap }
+        ensures clocks { self.new.clocks ≡ self.old.clocks }
+        ensures nodes { self.new.monitor.nodes ≡ self.old.monitor.nodes }
+        ensures alarm { self.new.alarm ≡ self.old.alarm }
+        ensures follows { (trace : List EventOf) → IsRunOf self.old trace → IsRunOf self.new trace }
+        ensures room { OnOk result ((trace : List EventOf) → IsRunOf self.old trace → MayFollow (bounds_of self.old.heap) trace event.now → HasSlotFor self.old trace event.now → HasRoomToWatch self.new trace event.now) }
+        ensures memory { OnErr result GrowthRefused }
+    {
+        if self.alarm.is_some() {
+            return Ok(());
+        }
         self.monitor.reserve(event)
     }
 
@@ -112,6 +133,7 @@ impl Run {
     pub fn take_in(&mut self, events: &[Event], position: usize, event: &Event)
         requires here { slice_get events.now position ≡ Some event.now }
         requires next { ComesNext self.old (take position events.now) event.now }
+        requires room { HasRoomForNext self.old (take position events.now) event.now }
         ensures bounds { bounds_of self.new.heap ≡ bounds_of self.old.heap }
         ensures nodes { limit_of self.new.monitor.nodes.slots ≡ limit_of self.old.monitor.nodes.slots }
         ensures follows { IsRunOf self.new (take position events.now ++ event.now ∷ []) }
@@ -120,11 +142,37 @@ impl Run {
         self.heap.apply(event);
     }
 
+    /// Takes in the event at the position of a recorded log, which may follow those before it and for which the monitor has
+    /// room. Its clocks note nothing before a cycle closes.
+    ///
+    /// # Errors
+    /// `Memory` where a growth for the clocks was refused.
+    #[inline]
+    pub fn take_in_recorded(
+        &mut self,
+        events: &[Event],
+        position: usize,
+        event: &Event,
+    ) -> Result<(), Memory>
+        requires here { slice_get events.now position ≡ Some event.now }
+        requires next { ComesNext self.old (take position events.now) event.now }
+        requires room { HasRoomToWatch self.old (take position events.now) event.now }
+        ensures bounds { OnOk result (bounds_of self.new.heap ≡ bounds_of self.old.heap) }
+        ensures nodes { OnOk result (limit_of self.new.monitor.nodes.slots ≡ limit_of self.old.monitor.nodes.slots) }
+        ensures follows { OnOk result (IsRunOf self.new (take position events.now ++ event.now ∷ [])) }
+        ensures memory { OnErr result GrowthRefused }
+    {
+        self.watch_recorded(events, position, event)?;
+        self.heap.apply(event);
+        Ok(())
+    }
+
     /// Lets monitor and clocks see the event, unless an alarm is kept already, and raises the alarm if it closes a cycle.
     #[inline]
     fn watch(&mut self, events: &[Event], position: usize, event: &Event)
         requires here { slice_get events.now position ≡ Some event.now }
         requires next { ComesNext self.old (take position events.now) event.now }
+        requires room { HasRoomForNext self.old (take position events.now) event.now }
         ensures heap { self.new.heap ≡ self.old.heap }
         ensures nodes { limit_of self.new.monitor.nodes.slots ≡ limit_of self.old.monitor.nodes.slots }
         ensures watched { IsWatched self.new (bounds_of self.old.heap) (take position events.now ++ event.now ∷ []) }
@@ -138,13 +186,68 @@ impl Run {
         }
     }
 
+    /// Lets the monitor see the event of a recorded log, unless an alarm is kept already, and raises the alarm if it closes a
+    /// cycle.
+    #[inline]
+    fn watch_recorded(
+        &mut self,
+        events: &[Event],
+        position: usize,
+        event: &Event,
+    ) -> Result<(), Memory>
+        requires here { slice_get events.now position ≡ Some event.now }
+        requires next { ComesNext self.old (take position events.now) event.now }
+        requires room { HasRoomToWatch self.old (take position events.now) event.now }
+        ensures heap { self.new.heap ≡ self.old.heap }
+        ensures nodes { limit_of self.new.monitor.nodes.slots ≡ limit_of self.old.monitor.nodes.slots }
+        ensures watched { OnOk result (IsWatched self.new (bounds_of self.old.heap) (take position events.now ++ event.now ∷ [])) }
+        ensures memory { OnErr result GrowthRefused }
+    {
+        if self.alarm.is_some() {
+            return Ok(());
+        }
+        match self.monitor.observe(position, event) {
+            Seen::Quiet => Ok(()),
+            Seen::Closes { transaction } => self.raise_late(events, position, event, transaction),
+        }
+    }
+
+    /// Raises the alarm of the event at the position, which closes the first cycle, once the clocks noted all before it. It
+    /// stands out of line: an event that raises none does not pay for it.
+    #[inline(never)]
+    fn raise_late(
+        &mut self,
+        events: &[Event],
+        position: usize,
+        event: &Event,
+        transaction: usize,
+    ) -> Result<(), Memory>
+        requires here { slice_get events.now position ≡ Some event.now }
+        requires clocks { AreLateClocksOf self.old.clocks (take position events.now) }
+        requires well_formed { IsWellFormed self.old.clocks.clocks.bounds (take position events.now ++ event.now ∷ []) }
+        requires short { position < MOST_EVENTS }
+        requires acyclic { ¬ HasCycle (take position events.now) }
+        requires closes { HasCycle (take position events.now ++ event.now ∷ []) }
+        requires transaction { transaction ≡ owner (take position events.now ++ event.now ∷ []) position }
+        ensures heap { self.new.heap ≡ self.old.heap }
+        ensures monitor { self.new.monitor ≡ self.old.monitor }
+        ensures bounds { self.new.clocks.clocks.bounds ≡ self.old.clocks.clocks.bounds }
+        ensures clocks { OnOk result (AreLateClocksOf self.new.clocks (take position events.now)) }
+        ensures alarm { OnOk result (KeepsAlarm (take position events.now ++ event.now ∷ []) position self.new.alarm) }
+        ensures memory { OnErr result GrowthRefused }
+    {
+        self.clocks.catch_up(&events[..position])?;
+        self.raise(events, position, event, transaction);
+        Ok(())
+    }
+
     /// Raises the alarm of the event at the position, which closes the first cycle. It stands out of line: an event that
     /// raises none does not pay for the list of blocks.
     #[inline(never)]
     fn raise(&mut self, events: &[Event], position: usize, event: &Event, transaction: usize)
         requires here { slice_get events.now position ≡ Some event.now }
-        requires clocks { AreClocksOf self.old.clocks.state (take position events.now) }
-        requires well_formed { IsWellFormed self.old.clocks.bounds (take position events.now ++ event.now ∷ []) }
+        requires clocks { AreClocksOf self.old.clocks.clocks.state (take position events.now) }
+        requires well_formed { IsWellFormed self.old.clocks.clocks.bounds (take position events.now ++ event.now ∷ []) }
         requires acyclic { ¬ HasCycle (take position events.now) }
         requires closes { HasCycle (take position events.now ++ event.now ∷ []) }
         requires transaction { transaction ≡ owner (take position events.now ++ event.now ∷ []) position }
@@ -162,8 +265,8 @@ impl Run {
         transaction: usize,
     ) -> Alarm
         requires here { slice_get events.now position ≡ Some event.now }
-        requires clocks { AreClocksOf self.now.clocks.state (take position events.now) }
-        requires well_formed { IsWellFormed self.now.clocks.bounds (take position events.now ++ event.now ∷ []) }
+        requires clocks { AreClocksOf self.now.clocks.clocks.state (take position events.now) }
+        requires well_formed { IsWellFormed self.now.clocks.clocks.bounds (take position events.now ++ event.now ∷ []) }
         requires acyclic { ¬ HasCycle (take position events.now) }
         requires closes { HasCycle (take position events.now ++ event.now ∷ []) }
         requires transaction { transaction ≡ owner (take position events.now ++ event.now ∷ []) position }
@@ -171,7 +274,7 @@ impl Run {
         ensures position { result.position ≡ position }
     {
         let blocks = open_blocks_in(&events[..position + 1], event.thread, self.alloc);
-        let blamed = self.clocks.blamed(&blocks, position, event);
+        let blamed = self.clocks.clocks.blamed(&blocks, position, event);
         Alarm {
             position,
             transaction,

@@ -1,4 +1,4 @@
-ghost use Rattle.std.specs.Prelude.{◌≡◌, None, Some, replicate, slice_set};
+ghost use Rattle.std.specs.Prelude.{◌≡◌, false, None, Some, replicate, slice_set};
 ghost use Rattle.velo_world.specs.World.{FitsLog, HoldsLiveShares};
 
 use crate::{Alarm, ReliveFault, Reply, World};
@@ -234,6 +234,18 @@ fn has_it_all(world: &World) -> bool {
     is_the_alarm(world.alarm()) && world.log().len() == RECORDED.len()
 }
 
+/// A run of two threads, one variable and one lock that goes on after an alarm.
+fn two_threads(rt: &impl Abort, events: u32, nodes: u16) -> Config
+    ensures { result.stop ≡ false }
+{
+    let bounds = Bounds {
+        threads: 2,
+        variables: 1,
+        locks: 1,
+    };
+    Config::new(1, bounds, events, nodes, false).expect(rt, "a configuration")
+}
+
 /// Relives the recorded events, the one at the place changed, and answers whether the world has the alarm and the whole log.
 fn relived(
     rt: &impl Abort,
@@ -243,12 +255,7 @@ fn relived(
     place: usize,
     kind: Kind,
 ) -> Result<bool, ReliveFault> {
-    let bounds = Bounds {
-        threads: 2,
-        variables: 1,
-        locks: 1,
-    };
-    let config = Config::new(1, bounds, events, nodes, false).expect(rt, "a configuration");
+    let config = two_threads(rt, events, nodes);
     match World::relive(alloc, config, recorded(rt, alloc, place, kind)) {
         Ok(relived) => {
             let has_it_all = has_it_all(&relived.0);
@@ -317,6 +324,31 @@ fn a_recorded_log_is_relived(rt: HostRuntime) {
             relived(&rt, rt.alloc(), events, nodes, place, kind),
             wanted
         );
+    }
+}
+
+/// Relives the recorded events, lets the threads go on by the steps, and answers whether the alarm of the lost update comes.
+fn goes_on(rt: &impl Abort, alloc: Global, recorded: &[(ThreadId, Kind)], steps: &[Step]) -> bool {
+    let mut log = Trace::new(alloc);
+    for (thread, kind) in recorded {
+        log.push(Event {
+            thread: *thread,
+            kind: *kind,
+        })
+        .expect(rt, "memory");
+    }
+    let relived = World::relive(alloc, two_threads(rt, 100, 2), log);
+    let (mut world, mut shares) = relived.expect(rt, "a world");
+    let outcomes = world.run(&mut shares, steps);
+    let alarmed = is_the_alarm(world.alarm());
+    drop((world, shares, outcomes));
+    alarmed
+}
+
+#[test]
+fn threads_go_on_after_a_recorded_log(rt: HostRuntime) {
+    for count in 0..6 {
+        assert!(rt; goes_on(&rt, rt.alloc(), &RECORDED[..count], &LOST_UPDATE[count..]));
     }
 }
 

@@ -78,12 +78,12 @@ impl World {
         ensures share { IfOk result (λ opened. opened.1 ≡ opening_share config.run 0) }
         ensures memory { OnErr result GrowthRefused }
     {
-        let log = Trace::new(alloc);
-        let run = Run::new(alloc, &config)?;
         let (book, mut kept) = Book::open(alloc, config.run, config.bounds.threads)?;
         let Some(share) = kept.take(ThreadId(0)) else {
             unreachable!()
         };
+        let run = Run::new(alloc, &config)?;
+        let log = Trace::new(alloc);
         let world = World {
             course: Course {
                 config,

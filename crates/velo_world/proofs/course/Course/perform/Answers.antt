@@ -1,12 +1,18 @@
 use Rattle.std.proofs.Common.{subst, sym, ◌∙◌}
 use Rattle.velo_events.specs.WellFormed.{MayFollow}
 use Rattle.velo_world.specs.World.{WorldState}
+use Rattle.velo_world.specs.Course.{course_of}
+use Rattle.velo_world.proofs.OnAnswers.{meaning-room}
 use Rattle.velo_world.proofs.OnCourses.{follows-course, Refuses-no_room}
 use Rattle.velo_world.proofs.course.Course.perform.Goals as goal
 
 pub make_room-requires-clause-follows : goal.make_room-requires-clause-follows
 make_room-requires-clause-follows c =
     follows-course c.args.self.now c.args.thread c.args.action c.in_ok-event.event c.requires (sym c.decide.ensures ∙ c.in_ok-event.was)
+
+pub make_room-requires-clause-short : goal.make_room-requires-clause-short
+make_room-requires-clause-short c =
+    meaning-room (course_of c.args.self.now) c.args.thread c.args.action c.in_ok-event.event (sym c.decide.ensures ∙ c.in_ok-event.was)
 
 pub commit-requires-clause-follows : goal.commit-requires-clause-follows
 commit-requires-clause-follows c =

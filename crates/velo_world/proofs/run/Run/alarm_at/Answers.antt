@@ -18,11 +18,11 @@ few_open : (bounds : Bounds) (events : List Event) (p : ℕ) (e : Event) → sli
 few_open bounds events p e here well = subst (λ xs. length (open_blocks xs e.thread.0) ≤ MOST_OPEN_BLOCKS) (sym (take-next events p e here)) (length-open_blocks-le bounds (take p events ++ e ∷ []) e.thread.0 well)
 
 pub open_blocks_in-blocks-requires : goal.open_blocks_in-blocks-requires
-open_blocks_in-blocks-requires c = few_open c.args.self.now.clocks.bounds c.args.events.now c.args.position c.args.event.now c.requires.here c.requires.well_formed
+open_blocks_in-blocks-requires c = few_open c.args.self.now.clocks.clocks.bounds c.args.events.now c.args.position c.args.event.now c.requires.here c.requires.well_formed
 
 pub blamed-blamed-requires : goal.blamed-blamed-requires
 blamed-blamed-requires c = record {
-  few = (let few = few_open c.args.self.now.clocks.bounds c.args.events.now c.args.position c.args.event.now c.requires.here c.requires.well_formed in let count = ap length (c.deref.ensures ∙ c.open_blocks_in-blocks.ensures) ∙ length-map _ _ in omega (arith, few, count));
+  few = (let few = few_open c.args.self.now.clocks.clocks.bounds c.args.events.now c.args.position c.args.event.now c.requires.here c.requires.well_formed in let count = ap length (c.deref.ensures ∙ c.open_blocks_in-blocks.ensures) ∙ length-map _ _ in omega (arith, few, count));
 }
 
 pub returns-clause-alarm : goal.returns-clause-alarm

@@ -1,18 +1,10 @@
-use Rattle.std.proofs.Common.{List, [], ◌∷◌, ◌++◌, take, sym, ap, ◌∙◌, subst, refl, arith}
+use Rattle.std.proofs.Common.{[], ◌∷◌, ◌++◌, length-append, take, sym, ap, ◌∙◌, refl, arith}
 use Rattle.velo_events.specs.Block.{owner}
-use Rattle.velo_events.specs.WellFormed.{IsWellFormed}
-use Rattle.velo_events.proofs.OnWellFormed.{IsWellFormed-push}
-use Rattle.velo_events.specs.declared.event.Event.{Event}
-use Rattle.velo_world.specs.declared.run.Run.{Run}
-use Rattle.velo_world.specs.Run.{ComesNext}
 use Rattle.velo_heap.specs.Contents.{bounds_of}
 use Rattle.velo_world.proofs.OnAlarms.{length-before}
-use Rattle.velo_world.proofs.OnRuns.{alarm-none, IsWatched-stays, IsWatched-quiet, IsWatched-raised, monitor-quiet, clocks-quiet}
+use Rattle.velo_world.proofs.OnLate.{AreClocksOf-all, AreLateClocksOf-all}
+use Rattle.velo_world.proofs.OnRuns.{alarm-none, IsWatched-stays, IsWatched-quiet, IsWatched-raised, monitor-quiet, clocks-quiet, well-next}
 use Rattle.velo_world.proofs.run.Run.watch.Goals as goal
-
-well_after : (run : Run) (trace : List Event) (e : Event) → ComesNext run trace e → IsWellFormed run.clocks.bounds (trace ++ e ∷ [])
-well_after run trace e next =
-    subst (λ b. IsWellFormed b (trace ++ e ∷ [])) (sym next.stands.watched.bounds_are) (IsWellFormed-push (bounds_of run.heap) trace e next.stands.heap.well_formed next.follows)
 
 pub returns-then-is_some-clause-watched : goal.returns-then-is_some-clause-watched
 returns-then-is_some-clause-watched c =
@@ -30,8 +22,8 @@ observe-requires c =
       at_end = sym here;
       within = (let short = c.requires.next.short in omega (arith, here, short));
       follows = c.requires.next.follows;
-      room = c.requires.next.room.monitor none;
-      slot = c.requires.next.room.slot.slot none;
+      room = c.requires.room.watch.monitor none;
+      slot = c.requires.room.watch.slot.slot none;
     }
 
 pub returns-in-Quiet-clause-watched : goal.returns-in-Quiet-clause-watched
@@ -40,10 +32,20 @@ returns-in-Quiet-clause-watched c =
     let watched = c.requires.next.stands.watched in
     let here = length-before c.args.events.now c.args.position c.args.event.now c.requires.here in
     let seen = c.in-Quiet.ensures.seen _ _ (monitor-quiet c.args.self.now _ _ quiet watched) (sym here) c.requires.next.follows in
-    IsWatched-quiet _ _ _ quiet seen.0 seen.1 (c.note.ensures.next _ (clocks-quiet c.args.self.now _ _ quiet watched) here (well_after c.args.self.now _ c.args.event.now c.requires.next)) (c.note.ensures.bounds ∙ watched.bounds_are)
+    let none = alarm-none c.args.self.now.alarm quiet in
+    let past = take c.args.position c.args.events.now in
+    let clocks = AreClocksOf-all c.args.self.now.clocks past (clocks-quiet c.args.self.now _ _ quiet watched) (c.requires.room.up_to_date none) in
+    let noted = c.note.ensures.noted in
+    let all = AreLateClocksOf-all c.note.new.self (past ++ c.args.event.now ∷ []) (c.note.ensures.next past clocks here (well-next c.args.self.now _ c.args.event.now c.requires.next)) (omega (arith, noted, here, length-append past (c.args.event.now ∷ []))) in
+    IsWatched-quiet _ _ _ quiet seen.0 seen.1 all (c.note.ensures.bounds ∙ watched.bounds_are)
+
+pub raise-requires-clause-clocks : goal.raise-requires-clause-clocks
+raise-requires-clause-clocks c =
+    let quiet = sym c.is_some.ensures ∙ c.if-is_some.false in
+    AreClocksOf-all c.args.self.now.clocks _ (clocks-quiet c.args.self.now _ _ quiet c.requires.next.stands.watched) (c.requires.room.up_to_date (alarm-none c.args.self.now.alarm quiet))
 
 pub raise-requires-clause-well_formed : goal.raise-requires-clause-well_formed
-raise-requires-clause-well_formed c = well_after c.args.self.now _ c.args.event.now c.requires.next
+raise-requires-clause-well_formed c = well-next c.args.self.now _ c.args.event.now c.requires.next
 
 pub raise-requires-clause-closes : goal.raise-requires-clause-closes
 raise-requires-clause-closes c =

@@ -1,0 +1,28 @@
+use Rattle.std.proofs.Common.{take, length-take-le, sym, ◌∙◌, arith}
+use Rattle.std.proofs.lemmas.Option.{slice_get-get_or}
+use Rattle.velo_world.proofs.OnLate.{clocks-before, AreLateClocksOf-next, well_formed-by, well_formed-to, threads-at}
+use Rattle.velo_world.proofs.late.LateClocks.catch_up.Goals as goal
+
+pub note-requires-clause-room : goal.note-requires-clause-room
+note-requires-clause-room c =
+    let events = c.args.events.now in
+    let here = slice_get-get_or events c.loop-position.position _ c.loop-position-test.true in
+    let well = well_formed-by _ _ events (sym c.loop-position.invariant.bounds) c.requires.well_formed in
+    c.in_ok-reserve_for.ensures.ok (threads-at _ events c.loop-position.position _ here well)
+
+pub loop-position-preserved : goal.loop-position-preserved
+loop-position-preserved c =
+    let events = c.args.events.now in
+    let position = c.loop-position.position in
+    let invariant = c.loop-position.invariant in
+    let here = slice_get-get_or events position _ c.loop-position-test.true in
+    let bounds = c.reserve_for.ensures.bounds ∙ invariant.bounds in
+    let well = well_formed-by _ _ _ (sym bounds) (well_formed-to _ events position _ here c.requires.well_formed) in
+    let before = c.reserve_for.ensures.same _ (clocks-before c.loop-position.self events position invariant.late invariant.noted) in
+    let within = c.loop-position-test.true in
+    let next = c.note.ensures.next (take position events) before (length-take-le position events (omega (arith, within))) well in
+    record {
+      noted = c.note.ensures.noted;
+      late = AreLateClocksOf-next c.note.new.self events position _ here c.note.ensures.noted next;
+      bounds = c.note.ensures.bounds ∙ bounds;
+    }

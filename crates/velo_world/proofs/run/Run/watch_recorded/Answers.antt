@@ -1,0 +1,70 @@
+use Rattle.std.proofs.Common.{[], ◌∷◌, ◌++◌, take, sym, ap, ◌∙◌, subst, arith}
+use Rattle.velo_events.specs.Block.{owner}
+use Rattle.velo_heap.specs.Contents.{bounds_of}
+use Rattle.velo_monitor.specs.Watched.{IsMonitorOf}
+use Rattle.velo_world.proofs.OnAlarms.{length-before}
+use Rattle.velo_world.proofs.OnLate.{AreLateClocksOf-push}
+use Rattle.velo_world.proofs.OnRuns.{OnOk-both, alarm-none, IsWatched-stays, IsWatched-quiet, IsWatched-raised, monitor-quiet, clocks-quiet, well-next}
+use Rattle.velo_world.proofs.run.Run.watch_recorded.Goals as goal
+
+pub returns-then-is_some-clause-watched : goal.returns-then-is_some-clause-watched
+returns-then-is_some-clause-watched c =
+    IsWatched-stays c.args.self.now _ _ c.args.event.now (sym c.is_some.ensures ∙ c.if-is_some.true) c.requires.next.stands.watched
+
+pub observe-requires : goal.observe-requires
+observe-requires c =
+    let quiet = sym c.is_some.ensures ∙ c.if-is_some.false in
+    let none = alarm-none c.args.self.now.alarm quiet in
+    let here = length-before c.args.events.now c.args.position c.args.event.now c.requires.here in
+    record {
+      bounds = bounds_of c.args.self.now.heap;
+      trace = _;
+      stands = monitor-quiet c.args.self.now _ _ quiet c.requires.next.stands.watched;
+      at_end = sym here;
+      within = (let short = c.requires.next.short in omega (arith, here, short));
+      follows = c.requires.next.follows;
+      room = c.requires.room.monitor none;
+      slot = c.requires.room.slot.slot none;
+    }
+
+pub returns-in-Quiet-clause-watched : goal.returns-in-Quiet-clause-watched
+returns-in-Quiet-clause-watched c =
+    let quiet = sym c.is_some.ensures ∙ c.if-is_some.false in
+    let watched = c.requires.next.stands.watched in
+    let here = length-before c.args.events.now c.args.position c.args.event.now c.requires.here in
+    let seen = c.in-Quiet.ensures.seen _ _ (monitor-quiet c.args.self.now _ _ quiet watched) (sym here) c.requires.next.follows in
+    IsWatched-quiet _ _ _ quiet seen.0 seen.1 (AreLateClocksOf-push c.args.self.now.clocks _ c.args.event.now (clocks-quiet c.args.self.now _ _ quiet watched)) watched.bounds_are
+
+pub raise_late-requires-clause-well_formed : goal.raise_late-requires-clause-well_formed
+raise_late-requires-clause-well_formed c = well-next c.args.self.now _ c.args.event.now c.requires.next
+
+pub raise_late-requires-clause-closes : goal.raise_late-requires-clause-closes
+raise_late-requires-clause-closes c =
+    let quiet = sym c.is_some.ensures ∙ c.if-is_some.false in
+    let here = length-before c.args.events.now c.args.position c.args.event.now c.requires.here in
+    (c.in-Closes.ensures.seen _ _ (monitor-quiet c.args.self.now _ _ quiet c.requires.next.stands.watched) (sym here) c.requires.next.follows).0
+
+pub raise_late-requires-clause-transaction : goal.raise_late-requires-clause-transaction
+raise_late-requires-clause-transaction c =
+    let quiet = sym c.is_some.ensures ∙ c.if-is_some.false in
+    let here = length-before c.args.events.now c.args.position c.args.event.now c.requires.here in
+    let seen = c.in-Closes.ensures.seen _ _ (monitor-quiet c.args.self.now _ _ quiet c.requires.next.stands.watched) (sym here) c.requires.next.follows in
+    seen.1 ∙ ap (owner (take c.args.position c.args.events.now ++ c.args.event.now ∷ [])) here
+
+pub raise_late-requires-clause-clocks : goal.raise_late-requires-clause-clocks
+raise_late-requires-clause-clocks c = clocks-quiet c.args.self.now _ _ (sym c.is_some.ensures ∙ c.if-is_some.false) c.requires.next.stands.watched
+
+pub raise_late-requires-clause-short : goal.raise_late-requires-clause-short
+raise_late-requires-clause-short c =
+    let here = length-before c.args.events.now c.args.position c.args.event.now c.requires.here in
+    let short = c.requires.next.short in
+    omega (arith, here, short)
+
+pub returns-in-Closes-clause-watched : goal.returns-in-Closes-clause-watched
+returns-in-Closes-clause-watched c =
+    let quiet = sym c.is_some.ensures ∙ c.if-is_some.false in
+    let watched = c.requires.next.stands.watched in
+    let here = length-before c.args.events.now c.args.position c.args.event.now c.requires.here in
+    let seen = c.in-Closes.ensures.seen _ _ (monitor-quiet c.args.self.now _ _ quiet watched) (sym here) c.requires.next.follows in
+    OnOk-both c.raise_late.result _ _ _ c.raise_late.ensures.clocks c.raise_late.ensures.alarm (λ clocks raised.
+    IsWatched-raised c.raise_late.new.self (bounds_of c.args.self.now.heap) _ c.args.event.now raised.alarm raised.same (raised.here ∙ sym here) raised.is (subst (λ m. IsMonitorOf (bounds_of c.args.self.now.heap) m (take c.args.position c.args.events.now)) (sym c.raise_late.ensures.monitor) seen.2) clocks (c.raise_late.ensures.bounds ∙ watched.bounds_are))
