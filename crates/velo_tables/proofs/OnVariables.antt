@@ -199,7 +199,7 @@ module _ (entries : Entries) (variables : List Variable) (lists : List Accesses)
   count-is i = ap (λ (a : Accesses). length a.reads) (accesses-are i) ∙ length-reads_in entries (place_of variables i) (laid.within i)
 
   module _ (x : ℕ) (inside : x < length lists) where
-    there : x < length variables
+    pub there : x < length variables
     there = omega (arith, inside, same_count)
 
     pub found-is : (v : Variable) → v ≡ get_or variables x v → v ≡ get_or variables x blank_variable
@@ -224,33 +224,36 @@ module _ (entries : Entries) (variables : List Variable) (lists : List Accesses)
           ∙ accesses-set _ entries _ (Replaces-write entries variables laid x there step) (ap (λ (a : Accesses). with_write a step) (sym (accesses-are x)))
 
     -- a read
-    module _ (v w : Variable) (at : v ≡ get_or variables x v) (at_too : w ≡ get_or variables x w) (t readers : ℕ) (step : Option Step) (within : t < length (get_or lists x no_accesses).reads)
-        (are : (reads : Entries) → t < length reads → AreReaders v.readers reads → AreReaders readers (set reads t step)) where
+    module _ (v w : Variable) (at : v ≡ get_or variables x v) (at_too : w ≡ get_or variables x w) (t readers : ℕ) (step new : Option Step) (is_new : new ≡ step) (within : t < length (get_or lists x no_accesses).reads)
+        (are : AreReaders readers (set (get_or lists x no_accesses).reads t step)) where
       abbrev place : Reads
       place = place_of variables x
 
       counted : t < place.count
       counted = omega (arith, within, count-is x)
 
-      read_replaces : Replaces entries variables x (with_readers (get_or variables x blank_variable) readers) (set entries (place.start + t) step)
-      read_replaces = Replaces-read entries variables laid x there t readers step counted
-          (are (reads_in entries place) (omega (arith, counted, length-reads_in entries place (laid.within x))) (subst (λ (u : Variable). AreReaders u.readers (reads_in entries place)) (sym (found-is v at)) (laid.readers x)))
+      are_here : AreReaders readers (set (reads_in entries place) t new)
+      are_here = subst (λ s. AreReaders readers (set (reads_in entries place) t s)) (sym is_new) (subst (λ (a : Accesses). AreReaders readers (set a.reads t step)) (accesses-are x) are)
+
+      read_replaces : Replaces entries variables x (with_readers (get_or variables x blank_variable) readers) (set entries (place.start + t) new)
+      read_replaces = Replaces-read entries variables laid x there t readers new counted are_here
 
       pub place-inside : v.reads.start + t < length entries
       place-inside = subst (λ (u : Variable). u.reads.start + t < length entries) (sym (found-is v at)) (omega (arith, counted, laid.within x))
 
-      pub laid-read : AreReadsLaidOut (set entries (v.reads.start + t) step) (set variables x (with_readers w readers))
+      pub laid-read : AreReadsLaidOut (set entries (v.reads.start + t) new) (set variables x (with_readers w readers))
       laid-read =
-          subst (λ (u : Variable). AreReadsLaidOut (set entries (u.reads.start + t) step) (set variables x (with_readers w readers))) (sym (found-is v at))
-          (subst (λ u. AreReadsLaidOut (set entries (place.start + t) step) (set variables x (with_readers u readers))) (sym (found-is w at_too))
-          (laid-replaced entries variables x _ (set entries (place.start + t) step) read_replaces laid))
+          subst (λ (u : Variable). AreReadsLaidOut (set entries (u.reads.start + t) new) (set variables x (with_readers w readers))) (sym (found-is v at))
+          (subst (λ u. AreReadsLaidOut (set entries (place.start + t) new) (set variables x (with_readers u readers))) (sym (found-is w at_too))
+          (laid-replaced entries variables x _ (set entries (place.start + t) new) read_replaces laid))
 
-      pub accesses-read : map (accesses_in (set entries (v.reads.start + t) step)) (set variables x (with_readers w readers)) ≡ set lists x (with_read (get_or lists x no_accesses) t step)
+      pub accesses-read : map (accesses_in (set entries (v.reads.start + t) new)) (set variables x (with_readers w readers)) ≡ set lists x (with_read (get_or lists x no_accesses) t step)
       accesses-read =
-          ap (λ (u : Variable). map (accesses_in (set entries (u.reads.start + t) step)) (set variables x (with_readers w readers))) (found-is v at)
-          ∙ (ap (λ u. map (accesses_in (set entries (place.start + t) step)) (set variables x (with_readers u readers))) (found-is w at_too)
-          ∙ accesses-set _ (set entries (place.start + t) step) _ read_replaces
-          (ap (with_reads_in (get_or variables x blank_variable).write) (reads_in-set entries place t step counted) ∙ ap (λ (a : Accesses). with_read a t step) (sym (accesses-are x))))
+          ap (λ (u : Variable). map (accesses_in (set entries (u.reads.start + t) new)) (set variables x (with_readers w readers))) (found-is v at)
+          ∙ (ap (λ u. map (accesses_in (set entries (place.start + t) new)) (set variables x (with_readers u readers))) (found-is w at_too)
+          ∙ (accesses-set _ (set entries (place.start + t) new) _ read_replaces
+          (ap (with_reads_in (get_or variables x blank_variable).write) (reads_in-set entries place t new counted) ∙ ap (λ (a : Accesses). with_read a t new) (sym (accesses-are x)))
+          ∙ ap (λ s. set lists x (with_read (get_or lists x no_accesses) t s)) is_new))
 
     -- room for reads
     module _ (v w : Variable) (at : v ≡ get_or variables x v) (at_too : w ≡ get_or variables x w) (count : ℕ) (longer : v.reads.count < count) (few : count ≤ 64)
@@ -285,14 +288,14 @@ module _ (entries : Entries) (variables : List Variable) (lists : List Accesses)
       sym (ap (set lists x) (ap (with_reads_in (get_or lists x no_accesses).write) (filled_up-long None count (get_or lists x no_accesses).reads
       (omega (arith, h, count-is x, ap (λ (u : Variable). u.reads.count) (found-is x inside v at))))) ∙ set-get_or lists x no_accesses)
 
-  -- where there is no room nothing is forgotten
-  pub none-forgotten : (x t : ℕ) → ¬ ((x < length lists) × (t < length (get_or lists x no_accesses).reads)) → lists ≡ set lists x (with_read (get_or lists x no_accesses) t None)
-  none-forgotten x t refused =
-      ⊎_elim
-      (λ within. sym (ap (set lists x) (ap (with_reads_in (get_or lists x no_accesses).write) (set_past (get_or lists x no_accesses).reads t None
-      (⊎_elim (λ h. absurd (refused (within, h))) (λ h. h) (cases_lt t (length (get_or lists x no_accesses).reads))))) ∙ set-get_or lists x no_accesses))
-      (λ past. sym (set_past lists x _ past))
-      (cases_lt x (length lists))
+-- where there is no room nothing is forgotten
+pub none-forgotten : (lists : List Accesses) (x t : ℕ) → ¬ ((x < length lists) × (t < length (get_or lists x no_accesses).reads)) → lists ≡ set lists x (with_read (get_or lists x no_accesses) t None)
+none-forgotten lists x t refused =
+    ⊎_elim
+    (λ within. sym (ap (set lists x) (ap (with_reads_in (get_or lists x no_accesses).write) (set_past (get_or lists x no_accesses).reads t None
+    (⊎_elim (λ h. absurd (refused (within, h))) (λ h. h) (cases_lt t (length (get_or lists x no_accesses).reads))))) ∙ set-get_or lists x no_accesses))
+    (λ past. sym (set_past lists x _ past))
+    (cases_lt x (length lists))
 
 -- blank variables are added
 map-replicate : {X Y : Type 0} (f : X → Y) (n : ℕ) (x : X) → map f (replicate n x) ≡ replicate n (f x)
