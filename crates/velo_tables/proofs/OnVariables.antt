@@ -208,6 +208,18 @@ module _ (entries : Entries) (variables : List Variable) (lists : List Accesses)
     pub found-fits : (v : Variable) → v ≡ get_or variables x v → Fits entries v.reads
     found-fits v at = subst (λ (u : Variable). Fits entries u.reads) (sym (found-is v at)) (laid.within x)
 
+    -- the part that a call gives of them
+    pub part-is : (v : Variable) (now : Entries) → v ≡ get_or variables x v → now ≡ entries → take (v.reads.start + v.reads.count - v.reads.start) (drop v.reads.start now) ≡ (get_or lists x no_accesses).reads
+    part-is v now at same =
+        ap (λ k. take k (drop v.reads.start now)) (counted v)
+        ∙ (ap (λ es. reads_in es v.reads) same ∙ (ap (λ (u : Variable). reads_in entries u.reads) (found-is v at) ∙ sym (ap (λ (a : Accesses). a.reads) (accesses-are x))))
+      where
+        counted : (u : Variable) → u.reads.start + u.reads.count - u.reads.start ≡ u.reads.count
+        counted u = omega arith
+
+    pub part-fits : (v : Variable) (now : Entries) → v ≡ get_or variables x v → now ≡ entries → v.reads.start + v.reads.count ≤ length now
+    part-fits v now at same = omega (arith, found-fits v at, ap length same)
+
     accesses-set : (new : Variable) (after : Entries) (accesses : Accesses) → Replaces entries variables x new after → accesses_in after new ≡ accesses → map (accesses_in after) (set variables x new) ≡ set lists x accesses
     accesses-set new after accesses replaces same = accesses-replaced entries variables x new after replaces ∙ (ap (set (map (accesses_in entries) variables) x) same ∙ ap (λ ls. set ls x accesses) view)
 
