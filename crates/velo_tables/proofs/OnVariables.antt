@@ -1,9 +1,9 @@
 -- The last accesses of each variable, where the last reads of all stand in one list: what becomes of them where one changes.
-use Rattle.std.proofs.Common.{◌≡◌, ℕ, zero, suc, ◌+◌, ◌-◌, ◌<◌, ◌≤◌, List, ◌∷◌, ◌++◌, Option, None, length, take, drop, get_or, map, refl, sym, ap, ◌∙◌, subst, arith, length-append, length-drop, ⊎_elim, inl, inr}
-use Rattle.std.specs.Prelude.{replicate}
+use Rattle.std.proofs.Common.{◌≡◌, ltb, ℕ, zero, suc, ◌+◌, ◌-◌, ◌<◌, ◌≤◌, List, ◌∷◌, ◌++◌, Option, None, length, take, drop, get_or, map, refl, sym, ap, ◌∙◌, subst, arith, length-append, length-drop, ⊎_elim, inl, inr}
+use Rattle.std.specs.Prelude.{replicate, IsTrue, ◌↔◌}
 use Rattle.std.proofs.Math.ListN.{set, get_or-map}
 use Rattle.std.proofs.Math.Seq.{take-set-lt}
-use Rattle.std.proofs.lemmas.Bool.{cases_eq, cases_lt}
+use Rattle.std.proofs.lemmas.Bool.{cases_eq, cases_lt, ltb-true, lt-ltb}
 use Rattle.std.proofs.lemmas.List.{ext_get_or, get_or-set_same, get_or-set_other, get_or_default, length-map, length-set, length-take-le, take-append-le, drop-append-le, drop_at, take_all, take-set-le, drop-set-lt, drop-set-add, set_past, set-get_or, map-append}
 use Rattle.velo_arena.specs.declared.step.Step.{Step}
 use Rattle.velo_tables.specs.declared.variables.Reads.{Reads}
@@ -192,6 +192,10 @@ module _ (entries : Entries) (variables : List Variable) (lists : List Accesses)
   pub same_count : length variables ≡ length lists
   same_count = sym (length-map variables (accesses_in entries)) ∙ ap length view
 
+  -- what a test of a number against their count tells
+  pub there-tells : (n count : ℕ) → count ≡ length variables → IsTrue (ltb n count) ↔ (n < length lists)
+  there-tells n count is = (λ said. omega (arith, ltb-true n count said, is, same_count), λ h. lt-ltb n count (omega (arith, h, is, same_count)))
+
   pub accesses-are : (i : ℕ) → get_or lists i no_accesses ≡ accesses_in entries (get_or variables i blank_variable)
   accesses-are i = ap (λ ls. get_or ls i no_accesses) (sym view) ∙ get_or-accesses entries variables i
 
@@ -219,6 +223,12 @@ module _ (entries : Entries) (variables : List Variable) (lists : List Accesses)
 
     pub part-fits : (v : Variable) (now : Entries) → v ≡ get_or variables x v → now ≡ entries → v.reads.start + v.reads.count ≤ length now
     part-fits v now at same = omega (arith, found-fits v at, ap length same)
+
+    -- what a test of a thread against their count tells
+    pub room-tells : (v : Variable) → v ≡ get_or variables x v → (t : ℕ) → IsTrue (ltb t v.reads.count) ↔ ((x < length lists) × (t < length (get_or lists x no_accesses).reads))
+    room-tells v at t =
+        let same : v.reads.count ≡ length (get_or lists x no_accesses).reads = omega (arith, count-is x, ap (λ (u : Variable). u.reads.count) (found-is v at)) in
+        (λ said. (inside, omega (arith, ltb-true t v.reads.count said, same)), λ h. lt-ltb t v.reads.count (omega (arith, h.1, same)))
 
     accesses-set : (new : Variable) (after : Entries) (accesses : Accesses) → Replaces entries variables x new after → accesses_in after new ≡ accesses → map (accesses_in after) (set variables x new) ≡ set lists x accesses
     accesses-set new after accesses replaces same = accesses-replaced entries variables x new after replaces ∙ (ap (set (map (accesses_in entries) variables) x) same ∙ ap (λ ls. set ls x accesses) view)
