@@ -110,6 +110,9 @@ module _ (numbers : List ℕ) (spans : List Span) (lists : List (List ℕ)) (lai
   pub same_count : length spans ≡ length lists
   same_count = sym (length-map spans (list_in numbers)) ∙ ap length view
 
+  pub span-there : (i : ℕ) → i < length lists → i < length spans
+  span-there i there = omega (arith, there, same_count)
+
   pub list-is : (i : ℕ) → get_or lists i [] ≡ list_in numbers (get_or spans i blank_span)
   list-is i = ap (λ ls. get_or ls i []) (sym view) ∙ get_or-lists numbers spans i
 
@@ -119,6 +122,9 @@ module _ (numbers : List ℕ) (spans : List Span) (lists : List (List ℕ)) (lai
   module _ (i : ℕ) (span : Span) (now : List ℕ) (there : i < length lists) (at : span ≡ get_or spans i span) (same : now ≡ numbers) where
     at_blank : span ≡ get_or spans i blank_span
     at_blank = at ∙ get_or_default spans i span blank_span (omega (arith, there, same_count))
+
+    pub span-fits : span.start + span.count ≤ length now
+    span-fits = subst (λ (s : Span). s.start + s.count ≤ length now) (sym at_blank) (omega (arith, laid.within i, ap length same))
 
     -- the part that the call is given
     pub part-is : take (span.start + span.count - span.start) (drop span.start now) ≡ get_or lists i []

@@ -1,9 +1,9 @@
 -- The last accesses of each variable, where the last reads of all stand in one list: what becomes of them where one changes.
-use Rattle.std.proofs.Common.{◌≡◌, ℕ, zero, suc, ◌+◌, ◌-◌, ◌<◌, ◌≤◌, List, ◌∷◌, ◌++◌, Option, None, length, take, drop, get_or, map, refl, sym, ap, ◌∙◌, subst, arith, length-append, length-drop, ⊎_elim, inl, inr}
-use Rattle.std.specs.Prelude.{replicate}
+use Rattle.std.proofs.Common.{◌≡◌, ltb, ℕ, zero, suc, ◌+◌, ◌-◌, ◌<◌, ◌≤◌, List, ◌∷◌, ◌++◌, Option, None, length, take, drop, get_or, map, refl, sym, ap, ◌∙◌, subst, arith, length-append, length-drop, ⊎_elim, inl, inr}
+use Rattle.std.specs.Prelude.{replicate, IsTrue, ◌↔◌}
 use Rattle.std.proofs.Math.ListN.{set, get_or-map}
 use Rattle.std.proofs.Math.Seq.{take-set-lt}
-use Rattle.std.proofs.lemmas.Bool.{cases_eq, cases_lt}
+use Rattle.std.proofs.lemmas.Bool.{cases_eq, cases_lt, ltb-true, lt-ltb}
 use Rattle.std.proofs.lemmas.List.{ext_get_or, get_or-set_same, get_or-set_other, get_or_default, length-map, length-set, length-take-le, take-append-le, drop-append-le, drop_at, take_all, take-set-le, drop-set-lt, drop-set-add, set_past, set-get_or, map-append}
 use Rattle.velo_arena.specs.declared.step.Step.{Step}
 use Rattle.velo_tables.specs.declared.variables.Reads.{Reads}
@@ -192,6 +192,10 @@ module _ (entries : Entries) (variables : List Variable) (lists : List Accesses)
   pub same_count : length variables ≡ length lists
   same_count = sym (length-map variables (accesses_in entries)) ∙ ap length view
 
+  -- what a test of a number against their count tells
+  pub there-tells : (n count : ℕ) → count ≡ length variables → IsTrue (ltb n count) ↔ (n < length lists)
+  there-tells n count is = (λ said. omega (arith, ltb-true n count said, is, same_count), λ h. lt-ltb n count (omega (arith, h, is, same_count)))
+
   pub accesses-are : (i : ℕ) → get_or lists i no_accesses ≡ accesses_in entries (get_or variables i blank_variable)
   accesses-are i = ap (λ ls. get_or ls i no_accesses) (sym view) ∙ get_or-accesses entries variables i
 
@@ -199,7 +203,7 @@ module _ (entries : Entries) (variables : List Variable) (lists : List Accesses)
   count-is i = ap (λ (a : Accesses). length a.reads) (accesses-are i) ∙ length-reads_in entries (place_of variables i) (laid.within i)
 
   module _ (x : ℕ) (inside : x < length lists) where
-    there : x < length variables
+    pub there : x < length variables
     there = omega (arith, inside, same_count)
 
     pub found-is : (v : Variable) → v ≡ get_or variables x v → v ≡ get_or variables x blank_variable
@@ -207,6 +211,24 @@ module _ (entries : Entries) (variables : List Variable) (lists : List Accesses)
 
     pub found-fits : (v : Variable) → v ≡ get_or variables x v → Fits entries v.reads
     found-fits v at = subst (λ (u : Variable). Fits entries u.reads) (sym (found-is v at)) (laid.within x)
+
+    -- the part that a call gives of them
+    pub part-is : (v : Variable) (now : Entries) → v ≡ get_or variables x v → now ≡ entries → take (v.reads.start + v.reads.count - v.reads.start) (drop v.reads.start now) ≡ (get_or lists x no_accesses).reads
+    part-is v now at same =
+        ap (λ k. take k (drop v.reads.start now)) (counted v)
+        ∙ (ap (λ es. reads_in es v.reads) same ∙ (ap (λ (u : Variable). reads_in entries u.reads) (found-is v at) ∙ sym (ap (λ (a : Accesses). a.reads) (accesses-are x))))
+      where
+        counted : (u : Variable) → u.reads.start + u.reads.count - u.reads.start ≡ u.reads.count
+        counted u = omega arith
+
+    pub part-fits : (v : Variable) (now : Entries) → v ≡ get_or variables x v → now ≡ entries → v.reads.start + v.reads.count ≤ length now
+    part-fits v now at same = omega (arith, found-fits v at, ap length same)
+
+    -- what a test of a thread against their count tells
+    pub room-tells : (v : Variable) → v ≡ get_or variables x v → (t : ℕ) → IsTrue (ltb t v.reads.count) ↔ ((x < length lists) × (t < length (get_or lists x no_accesses).reads))
+    room-tells v at t =
+        let same : v.reads.count ≡ length (get_or lists x no_accesses).reads = omega (arith, count-is x, ap (λ (u : Variable). u.reads.count) (found-is v at)) in
+        (λ said. (inside, omega (arith, ltb-true t v.reads.count said, same)), λ h. lt-ltb t v.reads.count (omega (arith, h.1, same)))
 
     accesses-set : (new : Variable) (after : Entries) (accesses : Accesses) → Replaces entries variables x new after → accesses_in after new ≡ accesses → map (accesses_in after) (set variables x new) ≡ set lists x accesses
     accesses-set new after accesses replaces same = accesses-replaced entries variables x new after replaces ∙ (ap (set (map (accesses_in entries) variables) x) same ∙ ap (λ ls. set ls x accesses) view)
@@ -224,33 +246,36 @@ module _ (entries : Entries) (variables : List Variable) (lists : List Accesses)
           ∙ accesses-set _ entries _ (Replaces-write entries variables laid x there step) (ap (λ (a : Accesses). with_write a step) (sym (accesses-are x)))
 
     -- a read
-    module _ (v w : Variable) (at : v ≡ get_or variables x v) (at_too : w ≡ get_or variables x w) (t readers : ℕ) (step : Option Step) (within : t < length (get_or lists x no_accesses).reads)
-        (are : (reads : Entries) → t < length reads → AreReaders v.readers reads → AreReaders readers (set reads t step)) where
+    module _ (v w : Variable) (at : v ≡ get_or variables x v) (at_too : w ≡ get_or variables x w) (t readers : ℕ) (step new : Option Step) (is_new : new ≡ step) (within : t < length (get_or lists x no_accesses).reads)
+        (are : AreReaders readers (set (get_or lists x no_accesses).reads t step)) where
       abbrev place : Reads
       place = place_of variables x
 
       counted : t < place.count
       counted = omega (arith, within, count-is x)
 
-      read_replaces : Replaces entries variables x (with_readers (get_or variables x blank_variable) readers) (set entries (place.start + t) step)
-      read_replaces = Replaces-read entries variables laid x there t readers step counted
-          (are (reads_in entries place) (omega (arith, counted, length-reads_in entries place (laid.within x))) (subst (λ (u : Variable). AreReaders u.readers (reads_in entries place)) (sym (found-is v at)) (laid.readers x)))
+      are_here : AreReaders readers (set (reads_in entries place) t new)
+      are_here = subst (λ s. AreReaders readers (set (reads_in entries place) t s)) (sym is_new) (subst (λ (a : Accesses). AreReaders readers (set a.reads t step)) (accesses-are x) are)
+
+      read_replaces : Replaces entries variables x (with_readers (get_or variables x blank_variable) readers) (set entries (place.start + t) new)
+      read_replaces = Replaces-read entries variables laid x there t readers new counted are_here
 
       pub place-inside : v.reads.start + t < length entries
       place-inside = subst (λ (u : Variable). u.reads.start + t < length entries) (sym (found-is v at)) (omega (arith, counted, laid.within x))
 
-      pub laid-read : AreReadsLaidOut (set entries (v.reads.start + t) step) (set variables x (with_readers w readers))
+      pub laid-read : AreReadsLaidOut (set entries (v.reads.start + t) new) (set variables x (with_readers w readers))
       laid-read =
-          subst (λ (u : Variable). AreReadsLaidOut (set entries (u.reads.start + t) step) (set variables x (with_readers w readers))) (sym (found-is v at))
-          (subst (λ u. AreReadsLaidOut (set entries (place.start + t) step) (set variables x (with_readers u readers))) (sym (found-is w at_too))
-          (laid-replaced entries variables x _ (set entries (place.start + t) step) read_replaces laid))
+          subst (λ (u : Variable). AreReadsLaidOut (set entries (u.reads.start + t) new) (set variables x (with_readers w readers))) (sym (found-is v at))
+          (subst (λ u. AreReadsLaidOut (set entries (place.start + t) new) (set variables x (with_readers u readers))) (sym (found-is w at_too))
+          (laid-replaced entries variables x _ (set entries (place.start + t) new) read_replaces laid))
 
-      pub accesses-read : map (accesses_in (set entries (v.reads.start + t) step)) (set variables x (with_readers w readers)) ≡ set lists x (with_read (get_or lists x no_accesses) t step)
+      pub accesses-read : map (accesses_in (set entries (v.reads.start + t) new)) (set variables x (with_readers w readers)) ≡ set lists x (with_read (get_or lists x no_accesses) t step)
       accesses-read =
-          ap (λ (u : Variable). map (accesses_in (set entries (u.reads.start + t) step)) (set variables x (with_readers w readers))) (found-is v at)
-          ∙ (ap (λ u. map (accesses_in (set entries (place.start + t) step)) (set variables x (with_readers u readers))) (found-is w at_too)
-          ∙ accesses-set _ (set entries (place.start + t) step) _ read_replaces
-          (ap (with_reads_in (get_or variables x blank_variable).write) (reads_in-set entries place t step counted) ∙ ap (λ (a : Accesses). with_read a t step) (sym (accesses-are x))))
+          ap (λ (u : Variable). map (accesses_in (set entries (u.reads.start + t) new)) (set variables x (with_readers w readers))) (found-is v at)
+          ∙ (ap (λ u. map (accesses_in (set entries (place.start + t) new)) (set variables x (with_readers u readers))) (found-is w at_too)
+          ∙ (accesses-set _ (set entries (place.start + t) new) _ read_replaces
+          (ap (with_reads_in (get_or variables x blank_variable).write) (reads_in-set entries place t new counted) ∙ ap (λ (a : Accesses). with_read a t new) (sym (accesses-are x)))
+          ∙ ap (λ s. set lists x (with_read (get_or lists x no_accesses) t s)) is_new))
 
     -- room for reads
     module _ (v w : Variable) (at : v ≡ get_or variables x v) (at_too : w ≡ get_or variables x w) (count : ℕ) (longer : v.reads.count < count) (few : count ≤ 64)
@@ -285,14 +310,14 @@ module _ (entries : Entries) (variables : List Variable) (lists : List Accesses)
       sym (ap (set lists x) (ap (with_reads_in (get_or lists x no_accesses).write) (filled_up-long None count (get_or lists x no_accesses).reads
       (omega (arith, h, count-is x, ap (λ (u : Variable). u.reads.count) (found-is x inside v at))))) ∙ set-get_or lists x no_accesses)
 
-  -- where there is no room nothing is forgotten
-  pub none-forgotten : (x t : ℕ) → ¬ ((x < length lists) × (t < length (get_or lists x no_accesses).reads)) → lists ≡ set lists x (with_read (get_or lists x no_accesses) t None)
-  none-forgotten x t refused =
-      ⊎_elim
-      (λ within. sym (ap (set lists x) (ap (with_reads_in (get_or lists x no_accesses).write) (set_past (get_or lists x no_accesses).reads t None
-      (⊎_elim (λ h. absurd (refused (within, h))) (λ h. h) (cases_lt t (length (get_or lists x no_accesses).reads))))) ∙ set-get_or lists x no_accesses))
-      (λ past. sym (set_past lists x _ past))
-      (cases_lt x (length lists))
+-- where there is no room nothing is forgotten
+pub none-forgotten : (lists : List Accesses) (x t : ℕ) → ¬ ((x < length lists) × (t < length (get_or lists x no_accesses).reads)) → lists ≡ set lists x (with_read (get_or lists x no_accesses) t None)
+none-forgotten lists x t refused =
+    ⊎_elim
+    (λ within. sym (ap (set lists x) (ap (with_reads_in (get_or lists x no_accesses).write) (set_past (get_or lists x no_accesses).reads t None
+    (⊎_elim (λ h. absurd (refused (within, h))) (λ h. h) (cases_lt t (length (get_or lists x no_accesses).reads))))) ∙ set-get_or lists x no_accesses))
+    (λ past. sym (set_past lists x _ past))
+    (cases_lt x (length lists))
 
 -- blank variables are added
 map-replicate : {X Y : Type 0} (f : X → Y) (n : ℕ) (x : X) → map f (replicate n x) ≡ replicate n (f x)

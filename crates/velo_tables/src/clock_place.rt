@@ -1,13 +1,12 @@
 ghost use Rattle.velo_events.specs.Refusals.{GrowthRefused};
-ghost use Rattle.std.specs.Prelude.{◌≡◌, ◌<◌, ◌≤◌, ◌+◌, ◌^◌, length, slice_index_or, slice_set, vec_capacity, OnOk, OnErr};
-ghost use Rattle.velo_tables.specs.Readers.{filled_up};
+ghost use Rattle.std.specs.Prelude.{◌≡◌, ◌<◌, ◌≤◌, length, slice_index_or, slice_set, IfOk, OnErr};
 ghost use Rattle.velo_tables.specs.Clocks.{blank_clock};
 ghost use Rattle.velo_tables.specs.Noted.{maxima, alone_at, with_room};
 
 use crate::numbers::{number_of, raise};
 use std::alloc::Global;
 use std::marker::Model;
-use velo_events::growth::reserve;
+use velo_events::growth::resize;
 use velo_events::{Memory, ThreadId};
 
 /// What the last event of a thread knows of each thread. The list is empty until there is room for it.
@@ -27,54 +26,18 @@ impl Model for PlaceClock {
     ghost view = { λ p. alone_at p.known.items p.by.0 };
 }
 
-/// Fills the list up with zeros.
-fn fill_up(numbers: &mut Vec<u32>, count: usize)
-    requires { count ≤ vec_capacity numbers.old }
-    ensures { numbers.new.items ≡ filled_up 0 count numbers.old.items }
-{
-    if count <= numbers.len() {
-        return;
-    }
-    let missing = count - numbers.len();
-    for _ in 0..missing {
-        numbers.push_reserved(0);
-    }
-}
-
-/// Makes room for so many numbers.
-fn reserve_up(numbers: &mut Vec<u32>, count: usize) -> Result<(), Memory>
-    ensures items { numbers.new.items ≡ numbers.old.items }
-    ensures ok { OnOk result (count ≤ vec_capacity numbers.new) }
-    ensures refused { OnErr result (length numbers.old.items < count) }
-    ensures memory { OnErr result GrowthRefused }
-{
-    if numbers.len() < count {
-        let missing = count - numbers.len();
-        reserve(numbers, missing)?;
-    }
-    Ok(())
-}
-
 impl PlaceClock {
-    pub fn new(alloc: Global) -> PlaceClock
-        ensures { result ≡ blank_clock }
-    {
-        PlaceClock {
-            known: Vec::new(alloc),
-            by: ThreadId(0),
-        }
-    }
-
-    /// Makes room for the numbers of that many threads.
-    pub fn reserve(&mut self, threads: usize) -> Result<(), Memory>
-        ensures ok { OnOk result (self.new ≡ with_room threads self.old) }
-        ensures err { OnErr result (self.new ≡ self.old) }
-        ensures refused { OnErr result (length self.old.known < threads) }
+    /// A place with room for the numbers of that many threads, at which nothing is known.
+    pub fn blank(alloc: Global, threads: usize) -> Result<PlaceClock, Memory>
+        ensures blank { IfOk result (λ place. place ≡ with_room threads blank_clock) }
         ensures memory { OnErr result GrowthRefused }
     {
-        reserve_up(&mut self.known, threads)?;
-        fill_up(&mut self.known, threads);
-        Ok(())
+        let mut known = Vec::new(alloc);
+        resize(&mut known, threads, 0u32)?;
+        Ok(PlaceClock {
+            known,
+            by: ThreadId(0),
+        })
     }
 
     /// What the events of other threads know of this one.

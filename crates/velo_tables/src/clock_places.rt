@@ -39,8 +39,7 @@ fn blank_threads(alloc: Global, threads: usize) -> Result<Vec<PlaceClock>, Memor
 {
     let mut places = with_capacity(alloc, threads)?;
     for _ in 0..threads {
-        let mut place = PlaceClock::new(alloc);
-        place.reserve(threads)?;
+        let place = PlaceClock::blank(alloc, threads)?;
         places.push_reserved(place);
     }
     Ok(places)
@@ -271,26 +270,26 @@ impl PlaceClocks {
         ensures { self.new ≡ with_thread self.old (thread_of event.now) (alone_at (clock_beside self.old event.now.kind (clock_at self.old (OfLast (thread_of event.now))).known) (thread_of event.now)) }
     {
         let t = event.thread;
+        let threads = self.threads.as_mut_slice();
         match event.kind {
-            Kind::Read(x, _) => {
-                learn_last(&mut self.threads, t, &self.writes, x.0 as usize, is_closed)
-            }
-            Kind::Write(x, _) => {
-                let number = x.0 as usize;
-                learn_both(
-                    &mut self.threads,
-                    t,
-                    &self.writes,
-                    &self.reads,
-                    number,
-                    is_closed,
-                )
-            }
-            Kind::Acquire(m) | Kind::Release(m) => {
-                learn_last(&mut self.threads, t, &self.locks, m.0 as usize, is_closed)
-            }
-            Kind::Join(u) => join_threads(&mut self.threads, t, u, list),
-            _ => self.threads[t.0 as usize].stand_alone(t),
+            Kind::Read(x, _) => learn_last(threads, t, &self.writes, x.0 as usize, is_closed),
+            Kind::Write(x, _) => learn_both(
+                threads,
+                t,
+                &self.writes,
+                &self.reads,
+                x.0 as usize,
+                is_closed,
+            ),
+            Kind::Acquire(m) | Kind::Release(m) => learn_last(
+                threads,
+                t,
+                &self.locks,
+                m.0 as usize,
+                is_closed,
+            ),
+            Kind::Join(u) => join_threads(threads, t, u, list),
+            _ => threads[t.0 as usize].stand_alone(t),
         }
     }
 

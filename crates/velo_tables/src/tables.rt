@@ -13,12 +13,13 @@ ghost use Rattle.velo_events.specs.Event.{thread_of, is_write};
 ghost use Rattle.velo_tables.specs.Recorded.{kept_after, kept_after_beside, with_variable, with_read, with_reads_of};
 
 use crate::entry::{Entry, entry_at};
+use crate::filling::fill_up_to;
 use crate::variables::{Variables, push_step};
 use smallvec::SmallVec;
 use std::alloc::Global;
 use std::marker::Model;
 use velo_arena::Step;
-use velo_events::growth::{reserve, resize};
+use velo_events::growth::resize;
 use velo_events::{Config, Event, Kind, LockId, MOST_THREADS, Memory, ThreadId, VarId};
 
 /// The most steps that an event looks up: of its thread, of the last write, and of a read by each thread.
@@ -53,10 +54,15 @@ fn grow_entries(entries: &mut Vec<Entry>, number: usize) -> Result<(), Memory>
     ensures refused { OnErr result (length entries.old.items ≤ number) }
     ensures memory { OnErr result GrowthRefused }
 {
-    if entries.len() <= number {
-        resize(entries, number + 1, Entry::new(None))?;
-    }
-    Ok(())
+    fill_up_to(entries, number, Entry::new(None))
+}
+
+/// Puts the step, or none, in the place of the entry with this number.
+fn put_entry(entries: &mut Vec<Entry>, number: usize, step: Option<Step>)
+    requires { number < length entries.old.items }
+    ensures { entries.new.items ≡ slice_set entries.old.items number step }
+{
+    entries[number] = Entry::new(step);
 }
 
 impl Tables {
@@ -211,7 +217,7 @@ impl Tables {
         requires { HasRoomFor self.old event.now }
         ensures { self.new ≡ kept_after self.old event.now step }
     {
-        self.threads[event.thread.0 as usize] = Entry::new(step);
+        put_entry(&mut self.threads, event.thread.0 as usize, step);
         self.record_beside(event, step);
     }
 
@@ -235,8 +241,8 @@ impl Tables {
         match event.kind {
             Kind::Read(x, _) => self.variables.record_read(x, event.thread, step),
             Kind::Write(x, _) => self.variables.record_write(x, step),
-            Kind::Acquire(m) | Kind::Release(m) => self.locks[m.0 as usize] = Entry::new(step),
-            Kind::Fork(u) => self.threads[u.0 as usize] = Entry::new(step),
+            Kind::Acquire(m) | Kind::Release(m) => put_entry(&mut self.locks, m.0 as usize, step),
+            Kind::Fork(u) => put_entry(&mut self.threads, u.0 as usize, step),
             _ => {}
         }
     }
@@ -266,11 +272,8 @@ impl Tables {
         list.clear();
         push_step(list, self.last_of(event.thread));
         match event.kind {
-            Kind::Read(x, _) => push_step(list, self.last_write(x)),
             Kind::Write(x, _) => self.push_accesses(x, None, list),
-            Kind::Acquire(m) | Kind::Release(m) => push_step(list, self.last_on(m)),
-            Kind::Join(u) => push_step(list, self.last_of(u)),
-            _ => {}
+            _ => push_step(list, self.step_beside(event)),
         }
     }
 

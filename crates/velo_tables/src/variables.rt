@@ -293,9 +293,8 @@ impl Variables {
         requires room { t.0 < length (slice_index_or self.old x.0 no_accesses).reads }
         ensures { self.new ≡ slice_set self.old x.0 (with_read (slice_index_or self.old x.0 no_accesses) t.0 step) }
     {
-        let variable = self.variables[x.0 as usize];
-        self.variables[x.0 as usize].readers = with_reader(variable.readers, t, step);
-        self.reads[variable.reads.start + t.0 as usize] = Entry::new(step);
+        let readers = with_reader(self.readers(x), t, step);
+        self.put_read(x, t, readers, step);
     }
 
     /// Forgets the step of the thread's last read of the variable.
@@ -303,9 +302,21 @@ impl Variables {
         ensures { self.new ≡ slice_set self.old x.0 (with_read (slice_index_or self.old x.0 no_accesses) t.0 None) }
     {
         if self.has_room_to_read(x, t) {
-            let variable = self.variables[x.0 as usize];
-            self.variables[x.0 as usize].readers = without_reader(variable.readers, t);
-            self.reads[variable.reads.start + t.0 as usize] = Entry::new(None);
+            let readers = without_reader(self.readers(x), t);
+            self.put_read(x, t, readers, None);
         }
+    }
+
+    /// Puts the step, or none, in the place of the thread's last read, and these bits in that of the variable's readers.
+    #[inline(always)]
+    fn put_read(&mut self, x: VarId, t: ThreadId, readers: u64, step: Option<Step>)
+        requires there { x.0 < length self.old }
+        requires room { t.0 < length (slice_index_or self.old x.0 no_accesses).reads }
+        requires covered { AreReaders readers (slice_set (slice_index_or self.old x.0 no_accesses).reads t.0 step) }
+        ensures { self.new ≡ slice_set self.old x.0 (with_read (slice_index_or self.old x.0 no_accesses) t.0 step) }
+    {
+        let start = self.variables[x.0 as usize].reads.start;
+        self.variables[x.0 as usize].readers = readers;
+        self.reads[start + t.0 as usize] = Entry::new(step);
     }
 }

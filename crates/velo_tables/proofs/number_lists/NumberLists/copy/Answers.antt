@@ -1,7 +1,7 @@
-use Rattle.std.proofs.Common.{length, sym, ap, ◌∙◌}
+use Rattle.std.proofs.Common.{length, sym, ap, ◌∙◌, arith}
 use Rattle.std.proofs.Math.ListN.{set}
 use Rattle.std.proofs.lemmas.List.{with_items_is}
-use Rattle.velo_tables.proofs.OnNumberLists.{length-put, lists-put}
+use Rattle.velo_tables.proofs.OnNumberLists.{span-there, span-fits, length-put, lists-put}
 use Rattle.velo_tables.proofs.number_lists.NumberLists.copy.Goals as goal
 
 pub returns : goal.returns
@@ -15,3 +15,29 @@ returns c =
     lists-put inside.numbers.items inside.spans.items c.args.self.now c.self.invariant c.self.view_is c.args.number span now c.requires.there c.index-span.ensures c.deref_mut.ensures.value ys long _
     (with_items_is inside.numbers _ (whole ∙ c.deref_mut.ensures.len))
     ∙ ap (set c.args.self.now c.args.number) c.copy_from_slice.ensures.after
+
+pub index-span-requires : goal.index-span-requires
+index-span-requires c =
+    let inside = c.self.inside in
+    omega (arith, span-there inside.numbers.items inside.spans.items c.args.self.now c.self.invariant c.self.view_is c.args.number c.requires.there, inside.spans.ok.0)
+
+pub overflow_add-span : goal.overflow_add-span
+overflow_add-span c =
+    let inside = c.self.inside in
+    omega (arith, span-fits inside.numbers.items inside.spans.items c.args.self.now c.self.invariant c.self.view_is c.args.number c.index-span.result.now c.deref_mut.result.now c.requires.there c.index-span.ensures c.deref_mut.ensures.value)
+
+pub offset_bounds-deref_mut-span : goal.offset_bounds-deref_mut-span
+offset_bounds-deref_mut-span c =
+    let inside = c.self.inside in
+    omega (arith, span-fits inside.numbers.items inside.spans.items c.args.self.now c.self.invariant c.self.view_is c.args.number c.index-span.result.now c.deref_mut.result.now c.requires.there c.index-span.ensures c.deref_mut.ensures.value)
+
+pub slice_bounds-copy_from_slice-count : goal.slice_bounds-copy_from_slice-count
+slice_bounds-copy_from_slice-count c = omega arith
+
+pub slice_bounds-copy_from_slice-start : goal.slice_bounds-copy_from_slice-start
+slice_bounds-copy_from_slice-start c = omega arith
+
+pub slice_bounds-copy_from_slice-end : goal.slice_bounds-copy_from_slice-end
+slice_bounds-copy_from_slice-end c =
+    let inside = c.self.inside in
+    span-fits inside.numbers.items inside.spans.items c.args.self.now c.self.invariant c.self.view_is c.args.number c.index-span.result.now c.deref_mut.result.now c.requires.there c.index-span.ensures c.deref_mut.ensures.value

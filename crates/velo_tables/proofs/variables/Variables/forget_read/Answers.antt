@@ -1,25 +1,15 @@
-use Rattle.std.proofs.Common.{◌<◌, List, Option, length, get_or, sym, subst, ◌∙◌, ap}
-use Rattle.std.proofs.Math.ListN.{set}
-use Rattle.velo_arena.specs.declared.step.Step.{Step}
-use Rattle.velo_tables.specs.Readers.{AreReaders}
-use Rattle.velo_tables.specs.Kept.{no_accesses}
-use Rattle.velo_tables.specs.Recorded.{with_read}
-use Rattle.velo_tables.proofs.OnVariables.{laid-read, accesses-read}
+use Rattle.velo_tables.proofs.OnNumberLists.{refuted}
+use Rattle.velo_tables.proofs.OnVariables.{none-forgotten}
 use Rattle.velo_tables.proofs.variables.Variables.forget_read.Goals as goal
 
-pub invariant_of-self : goal.invariant_of-self
-invariant_of-self c =
-    let room = c.has_room_to_read.ensures.0 c.if-has_room_to_read.true in
-    let inside = c.self.inside in
-    let are : (reads : List (Option Step)) → c.args.t.0 < length reads → AreReaders c.index-variable.result.now.readers reads → AreReaders c.without_reader.result (set reads c.args.t.0 c.new.result) =
-    λ reads t_inside before. subst (λ s. AreReaders c.without_reader.result (set reads c.args.t.0 s)) (sym c.new.ensures) (c.without_reader.ensures reads t_inside before) in
-    laid-read inside.reads.items inside.variables.items c.args.self.now c.self.invariant c.self.view_is c.args.x.0 room.0 c.index-variable.result.now c.index_mut.result.now c.index-variable.ensures c.index_mut.ensures.value c.args.t.0 c.without_reader.result c.new.result room.1 are
+pub put_read-requires-clause-there : goal.put_read-requires-clause-there
+put_read-requires-clause-there c = (c.has_room_to_read.ensures.0 c.if-has_room_to_read.true).0
 
-pub returns-then-has_room_to_read : goal.returns-then-has_room_to_read
-returns-then-has_room_to_read c =
-    let room = c.has_room_to_read.ensures.0 c.if-has_room_to_read.true in
-    let inside = c.self.inside in
-    let are : (reads : List (Option Step)) → c.args.t.0 < length reads → AreReaders c.index-variable.result.now.readers reads → AreReaders c.without_reader.result (set reads c.args.t.0 c.new.result) =
-    λ reads t_inside before. subst (λ s. AreReaders c.without_reader.result (set reads c.args.t.0 s)) (sym c.new.ensures) (c.without_reader.ensures reads t_inside before) in
-    accesses-read inside.reads.items inside.variables.items c.args.self.now c.self.invariant c.self.view_is c.args.x.0 room.0 c.index-variable.result.now c.index_mut.result.now c.index-variable.ensures c.index_mut.ensures.value c.args.t.0 c.without_reader.result c.new.result room.1 are
-    ∙ ap (λ step. set c.args.self.now c.args.x.0 (with_read (get_or c.args.self.now c.args.x.0 no_accesses) c.args.t.0 step)) c.new.ensures
+pub put_read-requires-clause-room : goal.put_read-requires-clause-room
+put_read-requires-clause-room c = (c.has_room_to_read.ensures.0 c.if-has_room_to_read.true).1
+
+pub put_read-requires-clause-covered : goal.put_read-requires-clause-covered
+put_read-requires-clause-covered c = c.without_reader-readers.ensures _ (c.has_room_to_read.ensures.0 c.if-has_room_to_read.true).1 c.readers.ensures
+
+pub returns-else-has_room_to_read : goal.returns-else-has_room_to_read
+returns-else-has_room_to_read c = none-forgotten c.args.self.now c.args.x.0 c.args.t.0 (refuted _ _ c.if-has_room_to_read.false c.has_room_to_read.ensures)
