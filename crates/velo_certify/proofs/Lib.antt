@@ -5,6 +5,8 @@ pub mod OnSettling
 pub mod OnConflicts
 pub mod OnGreatest
 pub mod OnRows
+pub mod OnChanges
+pub mod OnCovering
 pub mod OnOwners
 pub mod OnOrders
 pub mod OnReached

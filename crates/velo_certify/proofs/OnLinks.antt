@@ -1,7 +1,7 @@
 -- Links between the transactions of positions, noted position by position.
 use Rattle.std.proofs.Common.{◌≡◌, ◌≢◌, ℕ, zero, suc, ◌+◌, ◌-◌, ◌<◌, ◌≤◌, Bool, cond, List, [], length, Some, refl, sym, ap, ◌∙◌, subst, arith, ⊎_elim, inl, inr}
-use Rattle.std.specs.Prelude.{◌⊎◌, slice_get, IsTrue, IsFalse}
-use Rattle.std.proofs.lemmas.Bool.{cases_lt, lt-ltb, le-ltb, le-leb, lt-leb, or_left, or_right, both_ways, false≢true}
+use Rattle.std.specs.Prelude.{slice_get, IsTrue, IsFalse}
+use Rattle.std.proofs.lemmas.Bool.{cases_lt, lt-ltb, le-ltb, le-leb, lt-leb, or_left, or_right, both_ways, eqb-true, false≢true}
 use Rattle.std.proofs.lemmas.Option.{slice_get-get_or}
 use Rattle.velo_events.specs.declared.event.Event.{Event}
 use Rattle.velo_events.specs.declared.event.Kind.{Kind}
@@ -10,14 +10,14 @@ use Rattle.velo_events.specs.Event.{thread_of}
 use Rattle.velo_events.specs.Block.{owner, passes_at}
 use Rattle.velo_events.specs.Conflict.{conflict}
 use Rattle.velo_events.specs.Graph.{conflict_at, Edge}
-use Rattle.velo_events.proofs.OnScans.{passes_at-event}
+use Rattle.velo_events.proofs.OnScans.{passes_at-is, passes_at-event}
 use Rattle.velo_events.proofs.OnOwners.{passes_at-within}
 use Rattle.velo_traces.proofs.Past.{past}
 use Rattle.velo_certify.specs.declared.chains.Links.{Links}
-use Rattle.velo_certify.specs.Chains.{IsIn}
-use Rattle.velo_certify.specs.Links.{is_weak, IsLast, IsFirst, LinksBack, LinksOn, list_of, IsJoinedLast, IsJoinedFirst, counted, counted_back, HasRow, HasLinks}
+use Rattle.velo_certify.specs.Links.{is_weak, IsLast, IsFirst, LinksBack, LinksOn, IsInList, IsGrown, IsCovered, IsKept, counted, counted_back, HasRows, HasLinks}
 use Rattle.velo_certify.specs.Owners.{event_at}
-use Rattle.velo_certify.specs.Table.{IsGreatest, IsBlank, numbers_before, numbers_from, is_about, thread_in, strong_for, AreStrongest}
+use Rattle.velo_certify.specs.Table.{IsGreatest, IsBlank, numbers_before, numbers_from, is_about, thread_in, strong_for}
+use Rattle.velo_certify.specs.Threads.{thread_at}
 use Rattle.velo_certify.proofs.OnConflicts.{conflict-read, conflict-write, conflict-acquire, conflict-release, conflict-fork, conflict-join}
 use Rattle.velo_certify.proofs.OnGreatest.{conflict-comm}
 
@@ -135,194 +135,105 @@ module _ (trace : List Event) (n : ℕ) (within : n < length trace) where
   pub edge-out : (j : ℕ) → n < j → IsTrue (conflict_at trace n j) → j < length trace → (a b : ℕ) → b ≡ owner trace n → a ≡ owner trace j → owner trace n ≢ owner trace j → Edge trace b a
   edge-out j after clash there a b from to differ = record { from = n; to = j; in_order = after; in_trace = there; in_conflict = clash; of_from = sym from; of_to = sym to; differ = λ same. differ (sym from ∙ (same ∙ to)) }
 
--- ---- one list
+-- ---- lists that grow
 
--- what a list has got by the number of an earlier position
-pub record GrowsLast (trace : List Event) (new : Links) (number n a : ℕ) (xs : List ℕ) : Type 0 where
-  pub ys : List ℕ
-  pub list : list_of new a ys
-  pub keeps : (b : ℕ) → IsIn b xs → IsIn b ys
-  pub only : (b : ℕ) → IsIn b ys → IsIn b xs ⊎ ((i : ℕ) × (number ≡ i + 1) × (b ≡ owner trace i) × (a ≡ owner trace n) × (owner trace i ≢ owner trace n))
-  pub has : (i : ℕ) → number ≡ i + 1 → a ≡ owner trace n → owner trace i ≢ owner trace n → IsIn (owner trace i) ys
+pub IsGrown-same : (trace : List Event) (l : Links) → IsGrown trace l l
+IsGrown-same trace l = record { count = refl; each = λ a xs chain. (xs, chain, (λ b h. h), (λ b h. inl h)) }
 
-pub grows-last : (trace : List Event) (old new : Links) (number n : ℕ) → IsJoinedLast trace old new number n → (a : ℕ) (xs : List ℕ) → list_of old a xs → GrowsLast trace new number n a xs
-grows-last trace old new zero n w a xs chain = record {
-  ys = xs;
-  list = subst (λ (l : Links). list_of l a xs) (sym (w.nothing refl)) chain;
-  keeps = λ b h. h;
-  only = λ b h. inl h;
-  has = λ i is. absurd (omega (arith, is));
-}
-grows-last trace old new (suc k) n w a xs chain =
-    let one = w.some k (omega arith) in
-    let g = one.grown a xs chain in
-    record {
-      ys = g.0;
-      list = g.1;
-      keeps = g.2;
-      only = λ b h. ⊎_elim (λ l. inl l) (λ r. inr (k, omega arith, r.0, r.1, r.2)) (g.3 b h);
-      has = λ i is at differ. let same : k ≡ i = omega (arith, is) in subst (λ j. IsIn (owner trace j) g.0) same (g.4 at (subst (λ j. owner trace j ≢ owner trace n) (sym same) differ));
-    }
+module _ (trace : List Event) (old new : Links) (grown : IsGrown trace old new) where
+  HasRows-grown : HasRows trace old → HasRows trace new
+  HasRows-grown w = record {
+    count = grown.count ∙ w.count;
+    each = λ a within.
+        let r = w.each a within in
+        let g = grown.each a r.xs r.list in
+        record { xs = g.0; list = g.1; sound = λ b h. ⊎_elim (λ was. r.sound b was) (λ edge. edge) (g.3 b h) };
+  }
 
-pub count-last : (trace : List Event) (old new : Links) (number n : ℕ) → IsJoinedLast trace old new number n → length new.heads.items ≡ length old.heads.items
-count-last trace old new zero n w = ap (λ (l : Links). length l.heads.items) (w.nothing refl)
-count-last trace old new (suc k) n w = (w.some k (omega arith)).count
+  pub IsInList-grown : (a b : ℕ) → IsInList old a b → IsInList new a b
+  IsInList-grown a b h = let g = grown.each a h.0 h.1 in (g.0, g.1, g.2 b h.2)
 
--- by the number of a later one
-pub record GrowsFirst (trace : List Event) (new : Links) (number n a : ℕ) (xs : List ℕ) : Type 0 where
-  pub ys : List ℕ
-  pub list : list_of new a ys
-  pub keeps : (b : ℕ) → IsIn b xs → IsIn b ys
-  pub only : (b : ℕ) → IsIn b ys → IsIn b xs ⊎ ((j : ℕ) × (j < length trace) × (number ≡ length trace - j) × (b ≡ owner trace n) × (a ≡ owner trace j) × (owner trace n ≢ owner trace j))
-  pub has : (j : ℕ) → j < length trace → number ≡ length trace - j → a ≡ owner trace j → owner trace n ≢ owner trace j → IsIn (owner trace n) ys
+  IsCovered-grown : (i j : ℕ) → IsCovered trace old i j → IsCovered trace new i j
+  IsCovered-grown i j h = record {
+    from = h.from;
+    to = h.to;
+    from_there = h.from_there;
+    to_there = h.to_there;
+    later = h.later;
+    of_from = h.of_from;
+    earlier = h.earlier;
+    of_to = h.of_to;
+    edge = h.edge;
+    listed = IsInList-grown (owner trace h.to) (owner trace h.from) h.listed;
+  }
 
-pub grows-first : (trace : List Event) (old new : Links) (number n : ℕ) → number ≤ length trace → IsJoinedFirst trace old new number n → (a : ℕ) (xs : List ℕ) → list_of old a xs → GrowsFirst trace new number n a xs
-grows-first trace old new zero n small w a xs chain = record {
-  ys = xs;
-  list = subst (λ (l : Links). list_of l a xs) (sym (w.nothing refl)) chain;
-  keeps = λ b h. h;
-  only = λ b h. inl h;
-  has = λ j within is. absurd (omega (arith, is, within));
-}
-grows-first trace old new (suc k) n small w a xs chain =
-    let j : ℕ = length trace - suc k in
-    let within : j < length trace = omega (arith, small) in
-    let is : suc k ≡ length trace - j = omega (arith, small) in
-    let one = w.some j within is in
-    let g = one.grown a xs chain in
-    record {
-      ys = g.0;
-      list = g.1;
-      keeps = g.2;
-      only = λ b h. ⊎_elim (λ l. inl l) (λ r. inr (j, within, is, r.0, r.1, r.2)) (g.3 b h);
-      has = λ i there number at differ.
-          let same : i ≡ j = omega (arith, number, there, small) in
-          g.4 (at ∙ ap (owner trace) same) (λ e. differ (e ∙ ap (owner trace) (sym same)));
-    }
+  IsKept-grown : (i j : ℕ) → IsKept trace old i j → IsKept trace new i j
+  IsKept-grown i j h = ⊎_elim (λ same. inl same) (λ covered. inr (IsCovered-grown i j covered)) h
 
-pub count-first : (trace : List Event) (old new : Links) (number n : ℕ) → number ≤ length trace → IsJoinedFirst trace old new number n → length new.heads.items ≡ length old.heads.items
-count-first trace old new zero n small w = ap (λ (l : Links). length l.heads.items) (w.nothing refl)
-count-first trace old new (suc k) n small w = (w.some (length trace - suc k) (omega (arith, small)) (omega (arith, small))).count
-
--- ---- all lists
+-- ---- all links
 
 pub HasLinks-start : (trace : List Event) (l : Links) → length l.heads.items ≡ length trace → IsBlank l.heads.items → HasLinks trace 0 (length trace) l
 HasLinks-start trace l count blank = record {
-  count = count;
-  each = λ a within. record {
-    xs = [];
-    list = blank.each a (omega (arith, within, count));
-    sound = λ b h. absurd h;
-    linked = λ i j there link. ⊎_elim (λ w. absurd (omega (arith, w.0))) (λ w. absurd (let up = w.1.1.after in omega (arith, w.0, up, there))) link;
+  rows = record {
+    count = count;
+    each = λ a within. record { xs = []; list = blank.each a (omega (arith, within, count)); sound = λ b h. absurd h };
   };
+  linked = λ i j there link. ⊎_elim (λ w. absurd (omega (arith, w.0))) (λ w. absurd (let up = w.1.1.after in omega (arith, w.0, up, there))) link;
 }
 
-pub HasLinks-back : (trace : List Event) (n m : ℕ) (old mid new : Links) (own other : ℕ) → n < length trace → AreStrongest trace (numbers_before counted n) n own other → IsJoinedLast trace old mid own n → IsJoinedLast trace mid new other n → HasLinks trace n m old → HasLinks trace (n + 1) m new
-HasLinks-back trace n m old mid new own other within strong first second w = record {
-  count = count-last trace mid new other n second ∙ (count-last trace old mid own n first ∙ w.count);
-  each = λ a l. row a (w.each a l);
+own_thread : (trace : List Event) (t i : ℕ) → i < length trace → IsTrue (passes_at trace (is_about thread_in t) i) → thread_at trace i ≡ t
+own_thread trace t i within h = eqb-true (thread_at trace i) t (sym (passes_at-is trace (is_about thread_in t) i (event_at trace i) (slice_get-get_or trace i past within)) ∙ h)
+
+pub HasLinks-back : (trace : List Event) (n m : ℕ) (old new : Links) (other : ℕ) → n < length trace → IsGreatest trace (numbers_before counted n) (strong_for (event_at trace n).kind) other
+    → IsGrown trace old new → ((i : ℕ) → other ≡ i + 1 → IsKept trace new i n) → HasLinks trace n m old → HasLinks trace (n + 1) m new
+HasLinks-back trace n m old new other within strong grown kept w = record {
+  rows = HasRows-grown trace old new grown w.rows;
+  linked = λ i j there link. ⊎_elim
+      (λ back. ⊎_elim
+      (λ before. IsKept-grown trace old new grown i j (w.linked i j there (inl (before, back.1))))
+      (λ h.
+      let same : j ≡ n = omega (arith, h, back.0) in
+      subst (IsKept trace new i) (sym same)
+      (⊎_elim
+      (λ last. inl (own_thread trace (thread_at trace n) i (let b = last.before in omega (arith, b, within)) last.passes))
+      (λ last. kept i (last-is trace n _ other strong i last))
+      (subst (LinksBack trace i) same back.1)))
+      (cases_lt j n))
+      (λ on. IsKept-grown trace old new grown i j (w.linked i j there (inr on)))
+      link;
 }
-  where
-    e_here : slice_get trace n ≡ Some (event_at trace n)
-    e_here = here trace n within
 
-    g_own : IsGreatest trace (numbers_before counted n) (is_about thread_in (thread_of (event_at trace n))) own
-    g_own = strong.own (event_at trace n) e_here
-
-    g_other : IsGreatest trace (numbers_before counted n) (strong_for (event_at trace n).kind) other
-    g_other = strong.other (event_at trace n) e_here
-
-    row : (a : ℕ) → HasRow trace n m old a → HasRow trace (n + 1) m new a
-    row a r =
-        let y = grows-last trace old mid own n first a r.xs r.list in
-        let z = grows-last trace mid new other n second a y.ys y.list in
-        record {
-          xs = z.ys;
-          list = z.list;
-          sound = λ b h. ⊎_elim
-              (λ in_y. ⊎_elim (λ in_x. r.sound b in_x)
-              (λ k. let f = last-found trace n _ own g_own k.0 k.1 in edge-into trace n within k.0 f.0 (conflicts-own trace n within k.0 f.1) a b k.2 k.3 k.4) (y.only b in_y))
-              (λ k. let f = last-found trace n _ other g_other k.0 k.1 in edge-into trace n within k.0 f.0 (conflicts-strong trace n within k.0 f.1).0 a b k.2 k.3 k.4)
-              (z.only b h);
-          linked = λ i j there link at differ. ⊎_elim
-              (λ back. ⊎_elim
-              (λ before. z.keeps _ (y.keeps _ (r.linked i j there (inl (before, back.1)) at differ)))
-              (λ h.
-              let same : j ≡ n = omega (arith, h, back.0) in
-              let to : a ≡ owner trace n = sym at ∙ ap (owner trace) same in
-              let other_one : owner trace i ≢ owner trace n = λ x. differ (x ∙ sym to) in
-              ⊎_elim
-              (λ last. z.keeps _ (y.has i (last-is trace n _ own g_own i last) to other_one))
-              (λ last. z.has i (last-is trace n _ other g_other i last) to other_one)
-              (subst (LinksBack trace i) same back.1))
-              (cases_lt j n))
-              (λ on. z.keeps _ (y.keeps _ (r.linked i j there (inr on) at differ)))
-              link;
-        }
-
-pub HasLinks-on : (trace : List Event) (n m : ℕ) (old new : Links) (own other : ℕ) → n < length trace → AreStrongest trace (numbers_from (counted_back trace) (n + 1)) n own other → IsJoinedFirst trace old new other n → HasLinks trace m (n + 1) old → HasLinks trace m n new
-HasLinks-on trace n m old new own other within strong joined w = record {
-  count = count-first trace old new other n small joined ∙ w.count;
-  each = λ a l. row a (w.each a l);
+pub HasLinks-on : (trace : List Event) (n m : ℕ) (old new : Links) (other : ℕ) → n < length trace → IsGreatest trace (numbers_from (counted_back trace) (n + 1)) (strong_for (event_at trace n).kind) other
+    → IsGrown trace old new → ((j : ℕ) → j < length trace → other ≡ length trace - j → IsKept trace new n j) → HasLinks trace m (n + 1) old → HasLinks trace m n new
+HasLinks-on trace n m old new other within strong grown kept w = record {
+  rows = HasRows-grown trace old new grown w.rows;
+  linked = λ i j there link. ⊎_elim
+      (λ back. IsKept-grown trace old new grown i j (w.linked i j there (inl back)))
+      (λ on. ⊎_elim
+      (λ later. IsKept-grown trace old new grown i j (w.linked i j there (inr (omega (arith, later), on.1))))
+      (λ h.
+      let same : i ≡ n = omega (arith, h, on.0) in
+      let first = subst (λ k. LinksOn trace k j) same on.1 in
+      subst (λ k. IsKept trace new k j) (sym same) (kept j there (first-is trace n _ other strong j first.1)))
+      (cases_lt n i))
+      link;
 }
-  where
-    g_other : IsGreatest trace (numbers_from (counted_back trace) (n + 1)) (strong_for (event_at trace n).kind) other
-    g_other = strong.other (event_at trace n) (here trace n within)
-
-    small : other ≤ length trace
-    small = first-small trace n _ other g_other
-
-    row : (a : ℕ) → HasRow trace m (n + 1) old a → HasRow trace m n new a
-    row a r =
-        let y = grows-first trace old new other n small joined a r.xs r.list in
-        record {
-          xs = y.ys;
-          list = y.list;
-          sound = λ b h. ⊎_elim (λ in_x. r.sound b in_x)
-              (λ k. let f = first-found trace n _ other g_other k.0 k.1 k.2 in edge-out trace n within k.0 f.0 (conflicts-strong trace n within k.0 f.1).1 k.1 a b k.3 k.4 k.5)
-              (y.only b h);
-          linked = λ i j there link at differ. ⊎_elim
-              (λ back. y.keeps _ (r.linked i j there (inl back) at differ))
-              (λ on. ⊎_elim
-              (λ later. y.keeps _ (r.linked i j there (inr (omega (arith, later), on.1)) at differ))
-              (λ h.
-              let same : i ≡ n = omega (arith, h, on.0) in
-              let first = subst (λ k. LinksOn trace k j) same on.1 in
-              subst (λ k. IsIn (owner trace k) y.ys) (sym same)
-              (y.has j there (first-is trace n _ other g_other j first.1) (sym at) (λ x. differ (ap (owner trace) same ∙ (x ∙ at)))))
-              (cases_lt n i))
-              link;
-        }
 
 pub HasLinks-not_weak : (trace : List Event) (n m : ℕ) (l : Links) → IsFalse (is_weak (event_at trace n).kind) → HasLinks trace m (n + 1) l → HasLinks trace m n l
 HasLinks-not_weak trace n m l strong w = record {
-  count = w.count;
-  each = λ a within.
-      let r = w.each a within in
-      record {
-        xs = r.xs;
-        list = r.list;
-        sound = r.sound;
-        linked = λ i j there link at differ. ⊎_elim
-            (λ back. r.linked i j there (inl back) at differ)
-            (λ on. ⊎_elim
-            (λ later. r.linked i j there (inr (omega (arith, later), on.1)) at differ)
-            (λ h. absurd (let same : i ≡ n = omega (arith, h, on.0) in both_ways _ strong (subst (λ k. IsTrue (is_weak (event_at trace k).kind)) same on.1.0)))
-            (cases_lt n i))
-            link;
-      };
+  rows = w.rows;
+  linked = λ i j there link. ⊎_elim
+      (λ back. w.linked i j there (inl back))
+      (λ on. ⊎_elim
+      (λ later. w.linked i j there (inr (omega (arith, later), on.1)))
+      (λ h. absurd (let same : i ≡ n = omega (arith, h, on.0) in both_ways _ strong (subst (λ k. IsTrue (is_weak (event_at trace k).kind)) same on.1.0)))
+      (cases_lt n i))
+      link;
 }
 
 -- all positions are linked to those before them
 pub HasLinks-turn : (trace : List Event) (n : ℕ) (l : Links) → length trace ≤ n → HasLinks trace n (length trace) l → HasLinks trace (length trace) (length trace) l
 HasLinks-turn trace n l all w = record {
-  count = w.count;
-  each = λ a within.
-      let r = w.each a within in
-      record {
-        xs = r.xs;
-        list = r.list;
-        sound = r.sound;
-        linked = λ i j there link at differ. r.linked i j there (⊎_elim (λ back. inl (omega (arith, there, all), back.1)) (λ on. inr on) link) at differ;
-      };
+  rows = w.rows;
+  linked = λ i j there link. w.linked i j there (⊎_elim (λ back. inl (omega (arith, there, all), back.1)) (λ on. inr on) link);
 }

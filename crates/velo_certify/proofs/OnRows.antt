@@ -1,9 +1,7 @@
 -- The rows of a table: what is looked up in them, and what they have with one more number.
-use Rattle.std.proofs.Common.{◌≡◌, ℕ, ◌+◌, ◌<◌, max, Bool, false, List, length, get_or, set, Option, Some, None, refl, sym, ap, ◌∙◌, subst, arith, ⊎_elim}
+use Rattle.std.proofs.Common.{◌≡◌, ℕ, ◌+◌, ◌<◌, max, Bool, List, length, get_or, set, Option, Some, None, refl, sym, ap, ◌∙◌, subst, ⊎_elim}
 use Rattle.std.specs.Prelude.{⊤, ◌⊎◌, ◌||◌, slice_get}
-use Rattle.std.proofs.lemmas.Bool.{false≢true}
 use Rattle.std.proofs.lemmas.List.{get_or_default}
-use Rattle.std.proofs.lemmas.Option.{same_Some}
 use Rattle.velo_events.specs.declared.event.Event.{Event}
 use Rattle.velo_events.specs.declared.event.VarId.{VarId}
 use Rattle.velo_events.specs.declared.event.LockId.{LockId}
@@ -11,10 +9,10 @@ use Rattle.velo_events.specs.declared.event.ThreadId.{ThreadId}
 use Rattle.velo_events.specs.declared.event.Kind.{Kind}
 use Rattle.velo_events.specs.declared.event.Kind.TheVariants.{Read, Write, Acquire, Release, Begin, End, Fork, Join, Exit}
 use Rattle.velo_events.specs.Event.{thread_of, handled_by, lock_of}
-use Rattle.velo_events.proofs.OnScans.{passes_at-event}
 use Rattle.velo_events.specs.Conflict.{conflict}
 use Rattle.velo_certify.specs.declared.table.Table.{Table}
-use Rattle.velo_certify.specs.Table.{IsGreatest, IsNumbered, numbers_before, numbers_from, written_by, read_by, thread_in, handled_in, written_in, read_in, lock_in, is_about, IsRow, AreBlank, HasNumbers, sizes, HasPlaces, NamesRows, IsLookedUp, IsNoted, TakesIn, strong_for, IsStrongest, IsLatestOfThread, AreStrongest, TakesStrong}
+use Rattle.velo_certify.specs.Changes.{row_after}
+use Rattle.velo_certify.specs.Table.{IsGreatest, IsNumbered, numbers_before, numbers_from, written_by, read_by, thread_in, handled_in, written_in, read_in, lock_in, is_about, IsRow, AreBlank, HasNumbers, sizes, HasPlaces, NamesRows, IsLookedUp, IsNoted, TakesIn}
 use Rattle.velo_certify.proofs.OnGreatest.{IsGreatest-or, IsGreatest-same, IsRow-noted, IsRow-passed, IsRow-none, IsNumbered-before, IsNumbered-from, IsGreatestBefore-by, IsGreatestAfter-by}
 use Rattle.velo_certify.proofs.OnConflicts.{is_near, IsPlain, conflict-read, conflict-write, conflict-acquire, conflict-release, conflict-fork, conflict-join, conflict-plain}
 
@@ -31,7 +29,7 @@ HasNumbers-none trace numbers table none blank = record {
 -- ---- what is looked up
 
 -- the number that was read in a row
-IsRow-at : (trace : List Event) (numbers : ℕ → ℕ) (named : Event → Option ℕ) (row : List ℕ) (x a : ℕ) → x < length row → a ≡ get_or row x a → IsRow trace numbers named row → IsGreatest trace numbers (is_about named x) a
+pub IsRow-at : (trace : List Event) (numbers : ℕ → ℕ) (named : Event → Option ℕ) (row : List ℕ) (x a : ℕ) → x < length row → a ≡ get_or row x a → IsRow trace numbers named row → IsGreatest trace numbers (is_about named x) a
 IsRow-at trace numbers named row x a within is w = subst (IsGreatest trace numbers (is_about named x)) (sym (is ∙ get_or_default row x a 0 within)) (w.each x within)
 
 -- the kinds that name nothing to look up
@@ -100,71 +98,14 @@ module _ (table : Table) (e : Event) (names : NamesRows (sizes table) e) (a b ne
       looked_up-with (is_about thread_in u.0) c result (λ f. conflict-join f e u.0 k) is (λ trace numbers has. IsRow-at trace numbers thread_in table.threads.items u.0 c places.0 there has.threads))
       kind
 
--- ---- what changes a thing
-
-pub strongest-written : (table : Table) (e : Event) (x c : ℕ) → x < length table.writes.items → ((f : Event) → is_about written_in x f ≡ strong_for e.kind f) → c ≡ get_or table.writes.items x c → IsStrongest table e c
-strongest-written table e x c within same is = record {
-  each = λ trace numbers has. IsGreatest-same trace numbers (is_about written_in x) (strong_for e.kind) c same (IsRow-at trace numbers written_in table.writes.items x c within is has.writes);
-}
-
-pub strongest-locked : (table : Table) (e : Event) (x c : ℕ) → x < length table.locks.items → ((f : Event) → is_about lock_in x f ≡ strong_for e.kind f) → c ≡ get_or table.locks.items x c → IsStrongest table e c
-strongest-locked table e x c within same is = record {
-  each = λ trace numbers has. IsGreatest-same trace numbers (is_about lock_in x) (strong_for e.kind) c same (IsRow-at trace numbers lock_in table.locks.items x c within is has.locks);
-}
-
-pub strongest-handled : (table : Table) (e : Event) (x c : ℕ) → x < length table.threads.items → ((f : Event) → is_about thread_in x f ≡ strong_for e.kind f) → c ≡ get_or table.threads.items x c → IsStrongest table e c
-strongest-handled table e x c within same is = record {
-  each = λ trace numbers has. IsGreatest-same trace numbers (is_about thread_in x) (strong_for e.kind) c same (IsRow-at trace numbers thread_in table.threads.items x c within is has.threads);
-}
-
-strong-plain : (k : Kind) → IsPlain k → (f : Event) → strong_for k f ≡ false
-strong-plain (Begin l) h f = refl
-strong-plain End h f = refl
-strong-plain Exit h f = refl
-strong-plain _ h f = absurd h
-
-pub strongest-plain : (table : Table) (e : Event) → IsPlain e.kind → IsStrongest table e 0
-strongest-plain table e plain = record {
-  each = λ trace numbers has. record {
-    covers = λ i h. absurd (let p = passes_at-event trace (strong_for e.kind) i h in false≢true (sym (strong-plain e.kind plain p.0) ∙ p.2));
-    reached = λ some. absurd (omega (arith, some));
-  };
-}
-
-pub latest-of_thread : (table : Table) (e : Event) (c : ℕ) → NamesRows (sizes table) e → c ≡ get_or table.threads.items (thread_of e) c → IsLatestOfThread table e c
-latest-of_thread table e c names is = record { each = λ trace numbers has. IsRow-at trace numbers thread_in table.threads.items (thread_of e) c names.thread is has.threads }
-
-pub TakesStrong-by : (trace : List Event) (n : ℕ) (e : Event) (number : ℕ) (old new : Table) (m k : ℕ) → slice_get trace n ≡ Some e → IsLatestOfThread old e m → IsStrongest old e k → IsNoted old e number new → TakesStrong trace n number old new m k
-TakesStrong-by trace n e number old new m k here latest strongest noted = record {
-  forward = λ numbers is has. (
-    noted.each trace n (numbers_before numbers n) (numbers_before numbers (n + 1)) here (IsNumbered-before numbers n number is) has,
-    known (numbers_before numbers n) has,
-  );
-  backward = λ numbers is has. (
-    noted.each trace n (numbers_from numbers (n + 1)) (numbers_from numbers n) here (IsNumbered-from numbers n number is) has,
-    known (numbers_from numbers (n + 1)) has,
-  );
-}
-  where
-    known : (numbers : ℕ → ℕ) → HasNumbers trace numbers old → AreStrongest trace numbers n m k
-    known numbers has = record {
-      own = λ f there. subst (λ g. IsGreatest trace numbers (is_about thread_in (thread_of g)) m) (same_Some e f (sym here ∙ there)) (latest.each trace numbers has);
-      other = λ f there. subst (λ g. IsGreatest trace numbers (strong_for g.kind) k) (same_Some e f (sym here ∙ there)) (strongest.each trace numbers has);
-    }
-
 -- ---- one more number
 
--- the row after an event with this number: it is taken at the thing that the event is about, if there is one
-abbrev pub row_after : List ℕ → Option ℕ → ℕ → List ℕ
-row_after row (Some x) number = set row x (max (get_or row x 0) number)
-row_after row None number = row
-
 -- the thing is in the row
-abbrev IsPlaced : List ℕ → Option ℕ → Type 0
+abbrev pub IsPlaced : List ℕ → Option ℕ → Type 0
 IsPlaced row (Some x) = x < length row
 IsPlaced row None = ⊤
 
-IsRow-after : (trace : List Event) (n : ℕ) (e : Event) → slice_get trace n ≡ Some e → (before after : ℕ → ℕ) (number : ℕ) → IsNumbered before after n number → (named : Event → Option ℕ) (o : Option ℕ) → named e ≡ o → (row new : List ℕ) → IsPlaced row o → new ≡ row_after row o number → IsRow trace before named row → IsRow trace after named new
+pub IsRow-after : (trace : List Event) (n : ℕ) (e : Event) → slice_get trace n ≡ Some e → (before after : ℕ → ℕ) (number : ℕ) → IsNumbered before after n number → (named : Event → Option ℕ) (o : Option ℕ) → named e ≡ o → (row new : List ℕ) → IsPlaced row o → new ≡ row_after row o number → IsRow trace before named row → IsRow trace after named new
 IsRow-after trace n e here before after number step named (Some x) about row new within is w = subst (IsRow trace after named) (sym is) (IsRow-noted trace n e here before after number step named row x about within w)
 IsRow-after trace n e here before after number step named None about row new within is w = subst (IsRow trace after named) (sym is) (IsRow-passed trace n e here before after number step named row about w)
 

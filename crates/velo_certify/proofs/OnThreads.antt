@@ -32,7 +32,7 @@ one-thread trace i within =
     owner-thread trace i (event_at trace i) (event_at trace (owner trace i)) (slice_get-get_or trace i past within)
     (slice_get-get_or trace (owner trace i) past (let most = owner-le trace i in omega (arith, most, within)))
 
-own-conflict : (trace : List Event) (i j : ℕ) → i < j → j < length trace → thread_at trace i ≡ thread_at trace j → IsTrue (conflict_at trace i j)
+pub own-conflict : (trace : List Event) (i j : ℕ) → i < j → j < length trace → thread_at trace i ≡ thread_at trace j → IsTrue (conflict_at trace i j)
 own-conflict trace i j before within same =
     (ConflictsInOrder-same_thread trace (thread_at trace j) i j before (own-thread trace (thread_at trace j) i (omega (arith, before, within)) same) (own-thread trace (thread_at trace j) j within refl)).1
 

@@ -1,4 +1,5 @@
 pub mod Table
+pub mod Changes
 pub mod Counts
 pub mod Owners
 pub mod Order

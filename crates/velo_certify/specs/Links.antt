@@ -1,6 +1,6 @@
 -- For each transaction, lists of those from which an edge leads to it: enough of them that chains of links stand for all edges.
 -- Private contracts cite these words.
-use Rattle.std.specs.Prelude.{◌≡◌, ◌≢◌, ℕ, ◌+◌, ◌-◌, ◌<◌, ◌≤◌, ◌⊎◌, Bool, true, false, List, [], length, slice_index, IsTrue, IsFalse}
+use Rattle.std.specs.Prelude.{◌≡◌, ◌≢◌, ℕ, ◌+◌, ◌*◌, ◌-◌, ◌<◌, ◌≤◌, ◌⊎◌, Bool, true, false, List, [], length, slice_index, IsTrue, IsFalse}
 use Rattle.velo_events.specs.declared.event.Event.{Event}
 use Rattle.velo_events.specs.declared.event.Kind.{Kind}
 use Rattle.velo_events.specs.declared.event.Kind.TheVariants.{Read, Fork, Join}
@@ -12,6 +12,7 @@ use Rattle.velo_certify.specs.declared.chains.Links.{Links}
 use Rattle.velo_certify.specs.Owners.{event_at}
 use Rattle.velo_certify.specs.Serial.{has}
 use Rattle.velo_certify.specs.Table.{is_about, thread_in, strong_for}
+use Rattle.velo_certify.specs.Threads.{thread_at}
 
 -- ---- which positions are linked
 
@@ -51,20 +52,68 @@ LinksSoFar trace n m i j = ((j < n) × LinksBack trace i j) ⊎ ((m ≤ i) × Li
 abbrev pub list_of : Links → ℕ → List ℕ → Type 0
 list_of l a xs = IsChain l.links.items (slice_index l.heads.items a) xs
 
--- each list has grown, by `from` in the list of `to` if they differ
-pub record IsJoined (old new : Links) (from to : ℕ) : Type 0 where
+-- the list of a has b
+abbrev pub IsInList : Links → ℕ → ℕ → Type 0
+IsInList l a b = (xs : List ℕ) × list_of l a xs × IsIn b xs
+
+-- each list has what it had, and besides that edges alone
+pub record IsGrown (trace : List Event) (old new : Links) : Type 0 where
   pub count : length new.heads.items ≡ length old.heads.items
-  pub grown : (a : ℕ) (xs : List ℕ) → list_of old a xs → (ys : List ℕ) × list_of new a ys × ((b : ℕ) → IsIn b xs → IsIn b ys) × ((b : ℕ) → IsIn b ys → IsIn b xs ⊎ ((b ≡ from) × (a ≡ to) × (from ≢ to))) × (a ≡ to → from ≢ to → IsIn from ys)
+  pub each : (a : ℕ) (xs : List ℕ) → list_of old a xs → (ys : List ℕ) × list_of new a ys × ((b : ℕ) → IsIn b xs → IsIn b ys) × ((b : ℕ) → IsIn b ys → IsIn b xs ⊎ Edge trace b a)
 
--- a number that counts a position before the one at hand, or 0
-pub record IsJoinedLast (trace : List Event) (old new : Links) (number at_hand : ℕ) : Type 0 where
-  pub nothing : number ≡ 0 → new ≡ old
-  pub some : (i : ℕ) → number ≡ i + 1 → IsJoined old new (owner trace i) (owner trace at_hand)
+-- ---- what stands for a link
 
--- a number that counts a position behind it, from the end
-pub record IsJoinedFirst (trace : List Event) (old new : Links) (number at_hand : ℕ) : Type 0 where
-  pub nothing : number ≡ 0 → new ≡ old
-  pub some : (j : ℕ) → j < length trace → number ≡ length trace - j → IsJoined old new (owner trace at_hand) (owner trace j)
+-- the list of some position at or before j, of j's thread, has some position at or behind i, of i's thread
+pub record IsCovered (trace : List Event) (l : Links) (i j : ℕ) : Type 0 where
+  pub from : ℕ
+  pub to : ℕ
+  pub from_there : from < length trace
+  pub to_there : to < length trace
+  pub later : i ≤ from
+  pub of_from : thread_at trace from ≡ thread_at trace i
+  pub earlier : to ≤ j
+  pub of_to : thread_at trace to ≡ thread_at trace j
+  pub edge : Edge trace (owner trace from) (owner trace to)
+  pub listed : IsInList l (owner trace to) (owner trace from)
+
+-- inside a thread no list is needed
+abbrev pub IsKept : List Event → Links → ℕ → ℕ → Type 0
+IsKept trace l i j = (thread_at trace i ≡ thread_at trace j) ⊎ IsCovered trace l i j
+
+-- the place of the threads of two positions
+abbrev pub pair_at : List Event → ℕ → ℕ → ℕ
+pair_at trace i j = thread_at trace j * 256 + thread_at trace i
+
+-- k counts i from 1, and j is before n
+abbrev pub IsBefore : ℕ → ℕ → ℕ → ℕ → Type 0
+IsBefore n k i j = (k ≡ i + 1) × (j < n)
+
+-- k counts j from the end, and i is n or behind it
+abbrev pub IsBehind : List Event → ℕ → ℕ → ℕ → ℕ → Type 0
+IsBehind trace n k i j = (k ≡ length trace - j) × (n ≤ i)
+
+-- the lists have a link between two threads, with its number
+pub record IsShown (trace : List Event) (bound : ℕ → ℕ → ℕ → Type 0) (l : Links) (p k : ℕ) : Type 0 where
+  pub from : ℕ
+  pub to : ℕ
+  pub from_there : from < length trace
+  pub to_there : to < length trace
+  pub pair : pair_at trace from to ≡ p
+  pub small : thread_at trace from < 256
+  pub number : bound k from to
+  pub edge : Edge trace (owner trace from) (owner trace to)
+  pub listed : IsInList l (owner trace to) (owner trace from)
+
+-- the lists have all links whose numbers are known
+pub record AreShown (trace : List Event) (bound : ℕ → ℕ → ℕ → Type 0) (l : Links) (known : List ℕ) : Type 0 where
+  pub count : length known ≡ 65536
+  pub each : (p : ℕ) → 0 < slice_index known p → IsShown trace bound l p (slice_index known p)
+
+-- a link is kept, or was
+pub record IsLinked (trace : List Event) (from to number : ℕ) (known_before known_after : List ℕ) (old new : Links) : Type 0 where
+  pub grown : IsGrown trace old new
+  pub forward : number ≡ from + 1 → AreShown trace (IsBefore to) old known_before → AreShown trace (IsBefore (to + 1)) new known_after × IsKept trace new from to
+  pub backward : number ≡ length trace - to → AreShown trace (IsBehind trace (from + 1)) old known_before → AreShown trace (IsBehind trace from) new known_after × IsKept trace new from to
 
 -- positions counted from 1, and from the end
 unfoldable pub counted : ℕ → ℕ
@@ -73,27 +122,26 @@ counted i = i + 1
 unfoldable pub counted_back : List Event → ℕ → ℕ
 counted_back trace i = length trace - i
 
--- each transaction's list has edges alone, and all that are linked to it so far
-pub record HasRow (trace : List Event) (n m : ℕ) (l : Links) (a : ℕ) : Type 0 where
+-- a transaction has a list, of edges alone
+pub record HasRow (trace : List Event) (l : Links) (a : ℕ) : Type 0 where
   pub xs : List ℕ
   pub list : list_of l a xs
   pub sound : (b : ℕ) → IsIn b xs → Edge trace b a
-  pub linked : (i j : ℕ) → j < length trace → LinksSoFar trace n m i j → owner trace j ≡ a → owner trace i ≢ a → IsIn (owner trace i) xs
 
+-- and so does each
+pub record HasRows (trace : List Event) (l : Links) : Type 0 where
+  pub count : length l.heads.items ≡ length trace
+  pub each : (a : ℕ) → a < length trace → HasRow trace l a
+
+-- all links so far are kept
 pub record HasLinks (trace : List Event) (n m : ℕ) (l : Links) : Type 0 where
-  pub count : length l.heads.items ≡ length trace
-  pub each : (a : ℕ) → a < length trace → HasRow trace n m l a
+  pub rows : HasRows trace l
+  pub linked : (i j : ℕ) → j < length trace → LinksSoFar trace n m i j → IsKept trace l i j
 
--- the same, without those that are listed
-pub record HasRowLeft (trace : List Event) (listed : List Bool) (l : Links) (a : ℕ) : Type 0 where
-  pub xs : List ℕ
-  pub list : list_of l a xs
-  pub sound : (b : ℕ) → IsIn b xs → Edge trace b a
-  pub linked : (i j : ℕ) → j < length trace → LinksSoFar trace (length trace) 0 i j → owner trace j ≡ a → owner trace i ≢ a → IsTrue (has listed (owner trace i)) ⊎ IsIn (owner trace i) xs
-
+-- the same, but for those from listed transactions
 pub record HasLinksLeft (trace : List Event) (listed : List Bool) (l : Links) : Type 0 where
-  pub count : length l.heads.items ≡ length trace
-  pub each : (a : ℕ) → a < length trace → HasRowLeft trace listed l a
+  pub rows : HasRows trace l
+  pub linked : (i j : ℕ) → j < length trace → LinksSoFar trace (length trace) 0 i j → IsTrue (has listed (owner trace i)) ⊎ IsKept trace l i j
 
 -- what is left of a list behind listed transactions
 pub record IsLeft (listed : List Bool) (l : Links) (k : ℕ) (xs : List ℕ) : Type 0 where

@@ -159,20 +159,3 @@ strong_for (Release m) f = is_about lock_in m.0 f
 strong_for (Fork u) f = is_about thread_in u.0 f
 strong_for (Join u) f = is_about thread_in u.0 f
 strong_for _ f = false
-
--- the table has the greatest number of the thread's events, and of what changes the other thing that the event is about
-pub record IsStrongest (table : Table) (e : Event) (m : ℕ) : Type 0 where
-  pub each : (trace : List Event) (numbers : ℕ → ℕ) → HasNumbers trace numbers table → IsGreatest trace numbers (strong_for e.kind) m
-
-pub record IsLatestOfThread (table : Table) (e : Event) (m : ℕ) : Type 0 where
-  pub each : (trace : List Event) (numbers : ℕ → ℕ) → HasNumbers trace numbers table → IsGreatest trace numbers (is_about thread_in (thread_of e)) m
-
--- what is known of both is told of the event at a position
-pub record AreStrongest (trace : List Event) (numbers : ℕ → ℕ) (at_hand m k : ℕ) : Type 0 where
-  pub own : (e : Event) → slice_get trace at_hand ≡ Some e → IsGreatest trace numbers (is_about thread_in (thread_of e)) m
-  pub other : (e : Event) → slice_get trace at_hand ≡ Some e → IsGreatest trace numbers (strong_for e.kind) k
-
--- the position at hand is taken in after those before it, or after those behind it
-pub record TakesStrong (trace : List Event) (at_hand number : ℕ) (old new : Table) (own other : ℕ) : Type 0 where
-  pub forward : (numbers : ℕ → ℕ) → numbers at_hand ≡ number → HasNumbers trace (numbers_before numbers at_hand) old → HasNumbers trace (numbers_before numbers (at_hand + 1)) new × AreStrongest trace (numbers_before numbers at_hand) at_hand own other
-  pub backward : (numbers : ℕ → ℕ) → numbers at_hand ≡ number → HasNumbers trace (numbers_from numbers (at_hand + 1)) old → HasNumbers trace (numbers_from numbers at_hand) new × AreStrongest trace (numbers_from numbers (at_hand + 1)) at_hand own other

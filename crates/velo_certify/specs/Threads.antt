@@ -39,6 +39,10 @@ pub record AreFronts (trace : List Event) (listed : List Bool) (fronts : List �
   pub own : (t : ℕ) → t < length fronts → slice_index fronts t < length trace → thread_at trace (slice_index fronts t) ≡ t
   pub left : (t : ℕ) → t < length fronts → slice_index fronts t < length trace → IsFalse (has listed (owner trace (slice_index fronts t)))
 
+-- of a transaction's thread all before it is listed
+pub record IsFront (trace : List Event) (listed : List Bool) (a : ℕ) : Type 0 where
+  pub passed : (i : ℕ) → i < a → thread_at trace i ≡ thread_at trace a → IsTrue (has listed (owner trace i))
+
 -- k is the first position of the thread behind its transaction a
 pub record IsBehind (trace : List Event) (a k : ℕ) : Type 0 where
   pub after : a < k

@@ -3,6 +3,7 @@
 #![tactic(auto)]
 
 mod chains;
+mod changes;
 mod counts;
 mod cycle;
 mod distances;

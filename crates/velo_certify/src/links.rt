@@ -1,18 +1,24 @@
 //! For each transaction some of those from which an edge leads to it: enough of them that chains of these stand for all edges.
-ghost use Rattle.std.specs.Prelude.{◌≡◌, ◌≤◌, ◌<◌, ◌+◌, ◌-◌, ◌++◌, ◌∷◌, ◌↔◌, [], ℕ, List, length, slice_index, slice_set, IfOk, OnOk, OnErr, IsTrue};
-ghost use Rattle.velo_events.specs.Block.{owner};
-ghost use Rattle.velo_events.specs.Graph.{Edge};
+ghost use Rattle.std.specs.Prelude.{◌≡◌, ◌<◌, ◌+◌, length, IfOk, OnOk, OnErr, IsTrue};
+ghost use Rattle.velo_events.specs.Graph.{conflict_at};
 ghost use Rattle.velo_events.specs.Refusals.{GrowthRefused};
-ghost use Rattle.velo_certify.specs.Links.{is_weak, counted, counted_back, IsJoined, IsJoinedLast, IsJoinedFirst, IsSettled, HasLinks};
+ghost use Rattle.velo_certify.specs.Changes.{change_sizes, HasChanges};
+ghost use Rattle.velo_certify.specs.Links.{is_weak, counted, counted_back, pair_at, AreShown, IsBefore, IsBehind, IsLinked, IsSettled, HasRows, HasLinks};
 ghost use Rattle.velo_certify.specs.Serial.{has};
 ghost use Rattle.velo_certify.specs.Owners.{AreOwners};
-ghost use Rattle.velo_certify.specs.Table.{IsBlank, HasNumbers, AllNameRows, numbers_before, numbers_from, sizes};
+ghost use Rattle.velo_certify.specs.Table.{AllNameRows, numbers_before, numbers_from, sizes_of};
+ghost use Rattle.velo_certify.specs.Threads.{thread_at};
 
 use crate::chains::Links;
+use crate::changes::Changes;
+use crate::counts::Counts;
 use crate::owners::owner_of;
-use crate::table::Table;
+use crate::table::blank_row;
 use std::alloc::Global;
 use velo_events::{Event, Kind, Memory};
+
+/// How many pairs of thread numbers there are.
+const PAIRS: usize = 65_536;
 
 /// Whether the operation is about something that it does not change itself: a read, a fork or a join.
 fn is_weak(kind: Kind) -> bool
@@ -24,127 +30,179 @@ fn is_weak(kind: Kind) -> bool
     }
 }
 
-/// Puts a transaction into the list of another one.
-fn join(links: &mut Links, before: usize, to: usize) -> Result<(), Memory>
-    requires { to < length links.old.heads.items }
-    ensures joined { OnOk result (IsJoined links.old links.new before to) }
-    ensures memory { OnErr result GrowthRefused }
+/// The place of the threads of two positions among all pairs.
+fn pair_of(events: &[Event], from: usize, to: usize) -> usize
+    requires from { from < length events.now }
+    requires to { to < length events.now }
+    ensures pair { result ≡ pair_at events.now from to }
+    ensures thread { thread_at events.now from < 256 }
+    ensures small { result < 65536 }
 {
-    if before == to {
-        return Ok(());
-    }
-    links.add(before, to)
+    events[to].thread.0 as usize * 256 + events[from].thread.0 as usize
 }
 
-/// Puts the transaction of a position, whose number counts it from 1, into the list of that at hand.
-fn join_last(
+/// Links two positions of two threads, unless a known link stands for it: one from the same position or a later one of its
+/// thread, to the same one or an earlier one of its. What is known are the numbers of such links, for each two threads the
+/// greatest; they rise as the passes go on.
+fn link(
     events: &[Event],
     owners: &[usize],
+    known: &mut [usize],
     links: &mut Links,
+    from: usize,
+    to: usize,
     number: usize,
-    at: usize,
 ) -> Result<(), Memory>
-    requires within { at < length events.now }
-    requires number { number ≤ length events.now }
+    requires before { from < to }
+    requires within { to < length events.now }
+    requires positive { 0 < number }
+    requires clash { IsTrue (conflict_at events.now from to) }
     requires owners { AreOwners owners.now events.now }
-    requires count { length links.old.heads.items ≡ length events.now }
-    ensures joined { OnOk result (IsJoinedLast events.now links.old links.new number at) }
+    requires known { length known.old ≡ 65536 }
+    requires rows { HasRows events.now links.old }
+    ensures known { length known.new ≡ 65536 }
+    ensures linked { OnOk result (IsLinked events.now from to number known.old known.new links.old links.new) }
     ensures memory { OnErr result GrowthRefused }
 {
-    if number == 0 {
+    if events[from].thread.0 == events[to].thread.0 {
         return Ok(());
     }
-    let before = owner_of(events, owners, number - 1);
-    join(links, before, owner_of(events, owners, at))
-}
-
-/// Puts the transaction at hand into the list of that of a position, whose number counts it from the end.
-fn join_first(
-    events: &[Event],
-    owners: &[usize],
-    links: &mut Links,
-    number: usize,
-    at: usize,
-) -> Result<(), Memory>
-    requires within { at < length events.now }
-    requires number { number ≤ length events.now }
-    requires owners { AreOwners owners.now events.now }
-    requires count { length links.old.heads.items ≡ length events.now }
-    ensures joined { OnOk result (IsJoinedFirst events.now links.old links.new number at) }
-    ensures memory { OnErr result GrowthRefused }
-{
-    if number == 0 {
+    let pair = pair_of(events, from, to);
+    if known[pair] >= number {
         return Ok(());
     }
-    let after = owner_of(events, owners, events.len() - number);
-    join(links, owner_of(events, owners, at), after)
+    known[pair] = number;
+    links.add(owner_of(events, owners, from), owner_of(events, owners, to))
 }
 
-/// Links the position at hand to those before it.
+/// Links the position at hand to one before it.
 fn link_back(
     events: &[Event],
     owners: &[usize],
-    table: &mut Table,
+    changes: &mut Changes,
+    known: &mut [usize],
     links: &mut Links,
     at: usize,
 ) -> Result<(), Memory>
     requires within { at < length events.now }
     requires owners { AreOwners owners.now events.now }
-    requires names { AllNameRows (sizes table.old) events.now (length events.now) }
-    requires numbers { HasNumbers events.now (numbers_before counted at) table.old }
+    requires names { AllNameRows (change_sizes changes.old) events.now (length events.now) }
+    requires numbers { HasChanges events.now (numbers_before counted at) changes.old }
+    requires known { AreShown events.now (IsBefore at) links.old known.old }
     requires links { HasLinks events.now at (length events.now) links.old }
-    ensures names { sizes table.new ≡ sizes table.old }
-    ensures numbers { HasNumbers events.now (numbers_before counted (at + 1)) table.new }
+    ensures names { change_sizes changes.new ≡ change_sizes changes.old }
+    ensures numbers { HasChanges events.now (numbers_before counted (at + 1)) changes.new }
+    ensures known { OnOk result (AreShown events.now (IsBefore (at + 1)) links.new known.new) }
     ensures links { OnOk result (HasLinks events.now (at + 1) (length events.now) links.new) }
     ensures memory { OnErr result GrowthRefused }
 {
-    let (own, other) = table.take_strong(events, at, at + 1);
-    join_last(events, owners, links, own, at)?;
-    join_last(events, owners, links, other, at)
+    let other = changes.take(events, at, at + 1);
+    if other == 0 {
+        return Ok(());
+    }
+    link(events, owners, known, links, other - 1, at, other)
 }
 
 /// Links the position at hand to one behind it.
 fn link_on(
     events: &[Event],
     owners: &[usize],
-    table: &mut Table,
+    changes: &mut Changes,
+    known: &mut [usize],
     links: &mut Links,
     at: usize,
 ) -> Result<(), Memory>
     requires within { at < length events.now }
     requires owners { AreOwners owners.now events.now }
-    requires names { AllNameRows (sizes table.old) events.now (length events.now) }
-    requires numbers { HasNumbers events.now (numbers_from (counted_back events.now) (at + 1)) table.old }
+    requires names { AllNameRows (change_sizes changes.old) events.now (length events.now) }
+    requires numbers { HasChanges events.now (numbers_from (counted_back events.now) (at + 1)) changes.old }
+    requires known { AreShown events.now (IsBehind events.now (at + 1)) links.old known.old }
     requires links { HasLinks events.now (length events.now) (at + 1) links.old }
-    ensures names { sizes table.new ≡ sizes table.old }
-    ensures numbers { HasNumbers events.now (numbers_from (counted_back events.now) at) table.new }
+    ensures names { change_sizes changes.new ≡ change_sizes changes.old }
+    ensures numbers { HasChanges events.now (numbers_from (counted_back events.now) at) changes.new }
+    ensures known { OnOk result (AreShown events.now (IsBehind events.now at) links.new known.new) }
     ensures links { OnOk result (HasLinks events.now (length events.now) at links.new) }
     ensures memory { OnErr result GrowthRefused }
 {
-    let (_, other) = table.take_strong(events, at, events.len() - at);
+    let other = changes.take(events, at, events.len() - at);
+    if other == 0 {
+        return Ok(());
+    }
     if !is_weak(events[at].kind) {
         return Ok(());
     }
-    join_first(events, owners, links, other, at)
+    link(
+        events,
+        owners,
+        known,
+        links,
+        at,
+        events.len() - other,
+        other,
+    )
+}
+
+/// Links all positions to those before them.
+fn link_all_back(
+    alloc: Global,
+    events: &[Event],
+    owners: &[usize],
+    counts: Counts,
+    links: &mut Links,
+) -> Result<(), Memory>
+    requires owners { AreOwners owners.now events.now }
+    requires names { AllNameRows (sizes_of counts.threads counts.variables counts.locks) events.now (length events.now) }
+    requires links { HasLinks events.now 0 (length events.now) links.old }
+    ensures links { OnOk result (HasLinks events.now (length events.now) (length events.now) links.new) }
+    ensures memory { OnErr result GrowthRefused }
+{
+    let mut changes = Changes::new(alloc, counts)?;
+    let mut known = blank_row(alloc, PAIRS)?;
+    for at in 0..events.len() {
+        link_back(events, owners, &mut changes, &mut known, links, at)?;
+    }
+    Ok(())
+}
+
+/// Links all positions to those behind them.
+fn link_all_on(
+    alloc: Global,
+    events: &[Event],
+    owners: &[usize],
+    counts: Counts,
+    links: &mut Links,
+) -> Result<(), Memory>
+    requires owners { AreOwners owners.now events.now }
+    requires names { AllNameRows (sizes_of counts.threads counts.variables counts.locks) events.now (length events.now) }
+    requires links { HasLinks events.now (length events.now) (length events.now) links.old }
+    ensures links { OnOk result (HasLinks events.now (length events.now) 0 links.new) }
+    ensures memory { OnErr result GrowthRefused }
+{
+    let mut changes = Changes::new(alloc, counts)?;
+    let mut known = blank_row(alloc, PAIRS)?;
+    let mut at = events.len();
+    while at > 0 {
+        at -= 1;
+        link_on(events, owners, &mut changes, &mut known, links, at)?;
+    }
+    Ok(())
 }
 
 /// The lists of all transactions of the events, made in one pass forwards and one backwards.
-pub(crate) fn links_of(alloc: Global, events: &[Event], owners: &[usize]) -> Result<Links, Memory>
+pub(crate) fn links_of(
+    alloc: Global,
+    events: &[Event],
+    owners: &[usize],
+    counts: Counts,
+) -> Result<Links, Memory>
     requires owners { AreOwners owners.now events.now }
+    requires names { AllNameRows (sizes_of counts.threads counts.variables counts.locks) events.now (length events.now) }
     ensures links { IfOk result (HasLinks events.now (length events.now) 0) }
     ensures memory { OnErr result GrowthRefused }
 {
     let mut links = Links::new(alloc, events.len())?;
-    let mut table = Table::new(alloc, events)?;
-    for at in 0..events.len() {
-        link_back(events, owners, &mut table, &mut links, at)?;
-    }
-    table.clear();
-    let mut at = events.len();
-    while at > 0 {
-        at -= 1;
-        link_on(events, owners, &mut table, &mut links, at)?;
-    }
+    link_all_back(alloc, events, owners, counts, &mut links)?;
+    link_all_on(alloc, events, owners, counts, &mut links)?;
     Ok(links)
 }
 

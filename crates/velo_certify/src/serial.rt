@@ -11,10 +11,11 @@ ghost use Rattle.velo_certify.specs.Reordered.{LeavesSameHeap};
 ghost use Rattle.velo_certify.specs.Owners.{AreOwners};
 ghost use Rattle.velo_certify.specs.Links.{HasLinksLeft};
 ghost use Rattle.velo_certify.specs.Serial.{is_before, AreClosed, IsCandidate, IsNext, IsOrderFault};
-ghost use Rattle.velo_certify.specs.Threads.{AreFollowing, AreFronts, IsBehind, IsWithFront};
+ghost use Rattle.velo_certify.specs.Threads.{AreFollowing, AreFronts, IsBehind, IsFront, IsWithFront};
 
 use crate::CertFault;
 use crate::chains::Links;
+use crate::counts::counts_of;
 use crate::links::{is_settled, links_of};
 use crate::owners::{owner_of, owners_of};
 use crate::threads::Threads;
@@ -47,6 +48,7 @@ fn is_before(next: Next, a: usize) -> bool
 /// What is listed next, with one more transaction that is the first of its thread.
 fn with_front(events: &[Event], listed: &[bool], links: &mut Links, next: Next, a: usize) -> Next
     requires candidate { IsCandidate events.now listed.now a }
+    requires front { IsFront events.now listed.now a }
     requires closed { AreClosed events.now listed.now }
     requires links { HasLinksLeft events.now listed.now links.old }
     ensures links { HasLinksLeft events.now listed.now links.new }
@@ -113,8 +115,9 @@ fn list_all(alloc: Global, events: &[Event]) -> Result<Vec<usize>, CertFault>
     ensures fault { IfErr result (IsOrderFault events.now) }
 {
     let owners = owners_of(alloc, events)?;
-    let mut threads = Threads::new(alloc, events)?;
-    let mut links = links_of(alloc, events, &owners)?;
+    let counts = counts_of(events);
+    let mut threads = Threads::new(alloc, events, counts)?;
+    let mut links = links_of(alloc, events, &owners, counts)?;
     let mut listed = filled(alloc, false, events.len())?;
     let mut order = with_capacity(alloc, events.len())?;
     'rounds: loop {

@@ -2,7 +2,7 @@
 //! given one is found without a look at each.
 ghost use Rattle.std.specs.Prelude.{◌≡◌, ◌≤◌, ◌<◌, length, max, slice_index, slice_set, IfOk, OnErr, ℕ};
 ghost use Rattle.velo_events.specs.Refusals.{GrowthRefused};
-ghost use Rattle.velo_certify.specs.Table.{IsStrongest, IsLatestOfThread, TakesStrong, IsBlank, AreBlank, sizes, NamesRows, AllNameRows, IsLookedUp, IsNoted, TakesIn};
+ghost use Rattle.velo_certify.specs.Table.{IsBlank, AreBlank, sizes, NamesRows, AllNameRows, IsLookedUp, IsNoted, TakesIn};
 
 use crate::counts::counts_of;
 use std::alloc::Global;
@@ -25,7 +25,7 @@ pub(crate) struct Table {
 }
 
 /// A row without numbers.
-fn blank_row(alloc: Global, count: usize) -> Result<Vec<usize>, Memory>
+pub(crate) fn blank_row(alloc: Global, count: usize) -> Result<Vec<usize>, Memory>
     ensures blank { IfOk result (λ row. IsBlank row.items) }
     ensures count { IfOk result (λ row. length row.items ≡ count) }
     ensures memory { OnErr result GrowthRefused }
@@ -127,45 +127,5 @@ impl Table {
         let greatest = self.looked_up(event);
         self.note(event, number);
         greatest
-    }
-
-    /// The greatest number of what changes the thing that an event is about besides its thread: a variable, a lock or another
-    /// thread.
-    fn strongest(&self, event: Event) -> usize
-        requires { NamesRows (sizes self.now) event }
-        ensures { IsStrongest self.now event result }
-    {
-        match event.kind {
-            Kind::Read(x, _) => self.writes[x.0 as usize],
-            Kind::Write(x, _) => self.writes[x.0 as usize],
-            Kind::Acquire(m) => self.locks[m.0 as usize],
-            Kind::Release(m) => self.locks[m.0 as usize],
-            Kind::Fork(u) => self.threads[u.0 as usize],
-            Kind::Join(u) => self.threads[u.0 as usize],
-            _ => 0,
-        }
-    }
-
-    /// The greatest number of an event of the thread.
-    fn latest_of_thread(&self, event: Event) -> usize
-        requires { NamesRows (sizes self.now) event }
-        ensures { IsLatestOfThread self.now event result }
-    {
-        self.threads[event.thread.0 as usize]
-    }
-
-    /// Gives the event at a position its number. The answers are the greatest numbers that were taken in before of its thread,
-    /// and of what changes the other thing that it is about.
-    pub fn take_strong(&mut self, events: &[Event], at: usize, number: usize) -> (usize, usize)
-        requires within { at < length events.now }
-        requires names { AllNameRows (sizes self.old) events.now (length events.now) }
-        ensures taken { TakesStrong events.now at number self.old self.new result.0 result.1 }
-        ensures sizes { sizes self.new ≡ sizes self.old }
-    {
-        let event = events[at];
-        let own = self.latest_of_thread(event);
-        let other = self.strongest(event);
-        self.note(event, number);
-        (own, other)
     }
 }

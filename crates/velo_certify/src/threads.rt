@@ -1,9 +1,10 @@
 //! The events of each thread in their order, and how far each thread's are listed.
 ghost use Rattle.std.specs.Prelude.{◌≡◌, ◌<◌, ◌+◌, length, IfOk, OnErr};
 ghost use Rattle.velo_events.specs.Refusals.{GrowthRefused};
+ghost use Rattle.velo_certify.specs.Table.{AllNameRows, sizes_of};
 ghost use Rattle.velo_certify.specs.Threads.{AreFirstFrom, AreFollowing, NamesFronts};
 
-use crate::counts::counts_of;
+use crate::counts::Counts;
 use std::alloc::Global;
 use velo_events::growth::filled;
 use velo_events::{Event, Memory};
@@ -19,14 +20,14 @@ pub(crate) struct Threads {
 
 impl Threads {
     /// The threads of the events, where none is listed.
-    pub fn new(alloc: Global, events: &[Event]) -> Result<Threads, Memory>
+    pub fn new(alloc: Global, events: &[Event], counts: Counts) -> Result<Threads, Memory>
+        requires { AllNameRows (sizes_of counts.threads counts.variables counts.locks) events.now (length events.now) }
         ensures names { IfOk result (λ threads. NamesFronts events.now threads.fronts.items) }
         ensures fronts { IfOk result (λ threads. AreFirstFrom events.now 0 threads.fronts.items) }
         ensures following { IfOk result (λ threads. AreFollowing events.now 0 threads.following.items) }
         ensures memory { OnErr result GrowthRefused }
     {
-        let count = counts_of(events).threads;
-        let mut fronts = filled(alloc, events.len(), count)?;
+        let mut fronts = filled(alloc, events.len(), counts.threads)?;
         let mut following = filled(alloc, events.len(), events.len())?;
         let mut at = events.len();
         while at > 0 {
