@@ -1,4 +1,4 @@
--- What an arena keeps about its list of free slots.
+-- What an arena keeps about its list of free slots. Private contracts cite these words.
 use Rattle.std.specs.Prelude.{◌≡◌, ◌≢◌, ℕ, ◌+◌, ◌<◌, ◌≤◌, List, length, slice_index, slice_index_or, count_by, Option, None, is_some}
 use Rattle.velo_arena.specs.Slots.{HasOwnStamps}
 use Rattle.velo_arena.specs.declared.step.Node.{Node}

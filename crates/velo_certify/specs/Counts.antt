@@ -1,4 +1,4 @@
--- Counts that grow.
+-- Counts that grow. Private contracts cite these words.
 use Rattle.std.specs.Prelude.{◌≤◌}
 use Rattle.velo_certify.specs.declared.counts.Counts.{Counts}
 

@@ -1,4 +1,4 @@
--- Distances to a transaction, backwards along the edges of the graph.
+-- Distances to a transaction, backwards along the edges of the graph. Private contracts cite these words.
 use Rattle.std.specs.Prelude.{◌≡◌, ◌≢◌, ℕ, suc, ◌+◌, ◌<◌, ◌≤◌, List, length, slice_index}
 use Rattle.velo_events.specs.declared.event.Event.{Event}
 use Rattle.velo_events.specs.Graph.{Edge}

@@ -1,4 +1,4 @@
--- The edges out of one transaction, and the nearest one that they lead to.
+-- The edges out of one transaction, and the nearest one that they lead to. Private contracts cite these words.
 use Rattle.std.specs.Prelude.{◌≡◌, ◌≢◌, ℕ, ◌<◌, ◌≤◌, ◌==◌, ◌⊎◌, cond, List, slice_index, Option, Some, MatchOption, IfSome, IsTrue}
 use Rattle.velo_events.specs.declared.event.Event.{Event}
 use Rattle.velo_events.specs.Block.{owner}

@@ -1,4 +1,4 @@
--- Numbers of positions, and the greatest of those whose events pass a test.
+-- Numbers of positions, and the greatest of those whose events pass a test. Private contracts cite these words.
 use Rattle.std.specs.Prelude.{◌≡◌, ◌≢◌, ℕ, ◌+◌, ◌<◌, ◌≤◌, Bool, false, cond, nat_lt, nat_le, List, length, Option, Some, None, ⊤, slice_get, slice_index, IsTrue}
 use Rattle.velo_events.specs.declared.event.Event.{Event}
 use Rattle.velo_events.specs.declared.event.Kind.{Kind}

@@ -1,4 +1,4 @@
--- What the readers of numbers, words and lines take from the front of bytes.
+-- What the readers of numbers, words and lines take from the front of bytes. Private contracts cite these words.
 use Rattle.std.specs.Prelude.{ℕ, ◌+◌, ◌-◌, ◌*◌, ◌^◌, ◌==◌, nat_le, List, [], ◌∷◌, codes, Option, Some, None, option_and_then, if◌then◌else◌}
 use Rattle.std.specs.Char.{is_ascii_digit}
 use Rattle.velo_events.specs.declared.config.Bounds.{Bounds}

@@ -1,4 +1,4 @@
--- How far the reader has come in the bytes that it holds.
+-- How far the reader has come in the bytes that it holds. Private contracts cite these words.
 use Rattle.std.specs.Prelude.{◌≡◌, ℕ, ◌+◌, ◌<◌, ◌≤◌, Bool, ◌||◌, ◌==◌, nat_lt, if◌then◌else◌, List, ◌++◌, length, None, Result, Ok, Err}
 use Rattle.std.specs.List.{list_any}
 use Rattle.velo_events.specs.Refusals.{GrowthRefused}

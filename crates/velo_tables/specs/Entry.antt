@@ -1,4 +1,4 @@
--- A step, or none, as one entry keeps it.
+-- A step, or none, as one entry keeps it. Private contracts cite these words.
 use Rattle.std.specs.Prelude.{◌≡◌, ℕ, Bool, true, false, Option, Some, None, if◌then◌else◌, refl}
 use Rattle.std.proofs.Common.{sym, ◌∙◌, ap}
 use Rattle.velo_arena.specs.declared.step.Step.{Step}

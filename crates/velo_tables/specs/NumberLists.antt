@@ -1,4 +1,4 @@
--- Lists of numbers that stand one after another in one list.
+-- Lists of numbers that stand one after another in one list. Private contracts cite these words.
 use Rattle.std.specs.Prelude.{◌≡◌, ℕ, ◌+◌, ◌≤◌, ◌⊎◌, List, [], length, take, drop, slice_index_or, slice_set}
 use Rattle.velo_tables.specs.declared.number_lists.Span.{Span}
 use Rattle.velo_tables.specs.Readers.{filled_up}

@@ -1,4 +1,5 @@
 -- Events that are noted in the order of a run: who knows an event knows all that it knows. So where the events of a place are known, there is nothing to join.
+-- Private contracts cite these words.
 use Rattle.std.specs.Prelude.{◌≡◌, ℕ, Bool, ◌<◌, ◌≤◌, List, slice_index_or, IsTrue, ⊤}
 use Rattle.velo_events.specs.declared.event.Event.{Event}
 use Rattle.velo_events.specs.declared.event.Kind.{Kind}

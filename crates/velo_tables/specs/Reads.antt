@@ -1,4 +1,4 @@
--- Places at which reads stand: of nobody, of one thread or of several.
+-- Places at which reads stand: of nobody, of one thread or of several. Private contracts cite these words.
 use Rattle.std.specs.Prelude.{◌≡◌, ℕ, ◌≤◌, List, [], ◌∷◌, length, slice_index_or}
 use Rattle.velo_tables.specs.declared.read_clocks.ReadBy.{ReadBy}
 use Rattle.velo_tables.specs.declared.read_clocks.ReadBy.TheVariants.{Nobody, One, Several}

@@ -1,4 +1,4 @@
--- The last accesses of each variable, where the last reads of all stand in one list.
+-- The last accesses of each variable, where the last reads of all stand in one list. Private contracts cite these words.
 use Rattle.std.specs.Prelude.{◌≡◌, ℕ, ◌+◌, ◌≤◌, ◌⊎◌, List, Option, None, length, take, drop, slice_index_or}
 use Rattle.velo_arena.specs.declared.step.Step.{Step}
 use Rattle.velo_tables.specs.declared.variables.Reads.{Reads}

@@ -1,4 +1,4 @@
--- What the fields of a run keep.
+-- What the fields of a run keep. Words of what the type keeps.
 use Rattle.std.specs.Prelude.{◌≡◌, length}
 use Rattle.velo_world.specs.World.{HoldsLiveShares, CompletesShares}
 use Rattle.velo_worker.specs.Schedule.{Course}

@@ -1,4 +1,4 @@
--- What the fields of a walk keep.
+-- What the fields of a walk keep. Words of what the type keeps.
 use Rattle.std.specs.Prelude.{List}
 use Rattle.velo_workload.specs.declared.statement.Statement.{Statement}
 use Rattle.velo_worker.specs.Place.{IsWalk, left_at}

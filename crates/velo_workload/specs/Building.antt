@@ -1,4 +1,4 @@
--- How far the two passes have come with the bodies.
+-- How far the two passes have come with the bodies. Private contracts cite these words.
 use Rattle.std.specs.Prelude.{ℕ, ◌≡◌, ◌<◌, List, [], ◌∷◌, ◌++◌, length, map, drop, None, ⊤}
 use Rattle.std.specs.Option.{option_to_list}
 use Rattle.velo_workload.specs.declared.statement.Statement.{Statement}

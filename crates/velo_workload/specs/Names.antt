@@ -1,4 +1,4 @@
--- Names in the order in which they came.
+-- Names in the order in which they came. Private contracts cite these words.
 use Rattle.std.specs.Prelude.{ℕ, List, map}
 use denote.Ref.{Bor}
 use Rattle.indexmap.specs.IndexSet.{IndexSet}

@@ -1,4 +1,5 @@
 -- The bodies as the first pass puts them down: the statements that are known where their lines are read, and the others.
+-- Private contracts cite these words.
 use Rattle.std.specs.Prelude.{ℕ, ◌≡◌, List, [], ◌∷◌, ◌++◌, length, map, slice_set, Option, Some, None}
 use Rattle.velo_workload.specs.declared.fault.WorkFault.{WorkFault}
 use Rattle.velo_workload.specs.declared.statement.Statement.{Statement}

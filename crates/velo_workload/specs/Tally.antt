@@ -1,4 +1,4 @@
--- What the first pass keeps of the body that it reads.
+-- What the first pass keeps of the body that it reads. Private contracts cite these words.
 use Rattle.std.specs.Prelude.{ℕ, ◌+◌, ◌-◌, ◌*◌, nat_lt, min, List, [], ◌∷◌, ◌++◌, length, take, map, slice_get, Option, Some, None, if◌then◌else◌}
 use Rattle.std.specs.Option.{option_map_or}
 use Rattle.velo_workload.specs.declared.limits.TheConstants.{MOST_COST}

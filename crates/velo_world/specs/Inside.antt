@@ -1,4 +1,4 @@
--- What the fields of a world keep.
+-- What the fields of a world keep. Words of what the type keeps.
 use Rattle.velo_world.specs.World.{WorldState, IsBookOf}
 use Rattle.velo_world.specs.Course.{course_of, IsCourseOfItsLog}
 use Rattle.velo_world.specs.Kept.{KeepsUnborn}
