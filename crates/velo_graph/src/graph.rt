@@ -64,11 +64,21 @@ impl<A: Ancestors> Graph<A> {
         ensures sound { IfOk result IsSound }
         ensures memory { OnErr result GrowthRefused }
     {
-        let arena = Arena::new(alloc, limit)?;
-        let rows = empty_rows(alloc, limit)?;
-        let carried = A::empty(alloc, limit)?;
-        let unfinished = A::empty(alloc, limit)?;
-        let leads = filled(alloc, false, limit as usize)?;
+        let Ok(leads) = filled(alloc, false, limit as usize) else {
+            return Err(Memory);
+        };
+        let Ok(carried) = A::empty(alloc, limit) else {
+            return Err(Memory);
+        };
+        let Ok(unfinished) = A::empty(alloc, limit) else {
+            return Err(Memory);
+        };
+        let Ok(rows) = empty_rows(alloc, limit) else {
+            return Err(Memory);
+        };
+        let Ok(arena) = Arena::new(alloc, limit) else {
+            return Err(Memory);
+        };
         Ok(Graph {
             arena,
             rows,

@@ -5,7 +5,7 @@ ghost use Rattle.velo_events.specs.Heap.{value_in, holder_in, status_in, depth_i
 ghost use Rattle.velo_heap.specs.Contents.{bounds_of, IsHeapOf, admission, IsAdmitted};
 ghost use Rattle.velo_events.specs.Meaning.{refusal_of, action_of, has_its_value};
 ghost use Rattle.velo_events.specs.WellFormed.{NamesKnown};
-ghost use Rattle.velo_heap.specs.Steps.{refusal_in, read_at, write_at, acquire_at, release_at, fork_at, join_at, kind_in, contents_after, CanChange};
+ghost use Rattle.velo_heap.specs.Steps.{refusal_in, read_at, write_at, acquire_at, release_at, fork_at, join_at, kind_in, live_kind, contents_after, CanChange};
 
 use crate::standing::Standing;
 use std::alloc::Global;
@@ -147,9 +147,18 @@ impl Heap {
         let Some(own) = self.threads.get(usize::from(thread.0)).copied() else {
             return Err(Refusal::NotLive);
         };
-        if !own.is_live() {
-            return Err(Refusal::NotLive);
+        if own.is_live() {
+            self.live_kind(own, thread, action)
+        } else {
+            Err(Refusal::NotLive)
         }
+    }
+
+    /// The operation that the action of a live thread becomes.
+    #[inline]
+    fn live_kind(&self, own: Standing, thread: ThreadId, action: Action) -> Result<Kind, Refusal>
+        ensures { result ≡ live_kind self.now thread own action }
+    {
         match action {
             Action::Read(x) => self.admit_read(x),
             Action::Write(x, value) => self.admit_write(x, value),
@@ -171,9 +180,18 @@ impl Heap {
         let Some(own) = self.threads.get(usize::from(event.thread.0)).copied() else {
             return Some(Refusal::NotLive);
         };
-        if !own.is_live() {
-            return Some(Refusal::NotLive);
+        if own.is_live() {
+            self.live_reason(own, event)
+        } else {
+            Some(Refusal::NotLive)
         }
+    }
+
+    /// Why the operation of a live thread is refused.
+    #[inline]
+    fn live_reason(&self, own: Standing, event: &Event) -> Option<Refusal>
+        ensures { result ≡ refusal_in (live_kind self.now event.now.thread own (action_of event.now.kind)) }
+    {
         match event.kind {
             Kind::Read(x, _) => self.admit_read(x).err(),
             Kind::Write(x, value) => self.admit_write(x, value).err(),

@@ -11,7 +11,7 @@ use crate::shares::Shares;
 use crate::tally::Tally;
 use std::alloc::Global;
 use std::marker::Model;
-use velo_events::growth::reserve;
+use velo_events::growth::with_capacity;
 use velo_events::{Event, Memory, ThreadId};
 
 /// A row for each thread of a run.
@@ -44,10 +44,12 @@ impl Book {
         ensures fit { IfOk result (λ opened. HasAllShares opened.0 opened.1) }
         ensures memory { OnErr result GrowthRefused }
     {
-        let mut rows: Vec<Tally> = Vec::new(alloc);
-        reserve(&mut rows, usize::from(threads))?;
-        let mut places: Vec<Option<Share>> = Vec::new(alloc);
-        reserve(&mut places, usize::from(threads))?;
+        let Ok(mut rows) = with_capacity(alloc, usize::from(threads)) else {
+            return Err(Memory);
+        };
+        let Ok(mut places) = with_capacity(alloc, usize::from(threads)) else {
+            return Err(Memory);
+        };
         for thread in 0..threads {
             rows.push_reserved(Tally::blank());
             places.push_reserved(Some(Share {

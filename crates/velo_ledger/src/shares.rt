@@ -6,7 +6,7 @@ ghost use Rattle.velo_ledger.specs.Shares.{AreInPlace, share_at};
 use crate::share::Share;
 use std::alloc::Global;
 use std::marker::Model;
-use velo_events::growth::reserve;
+use velo_events::growth::with_capacity;
 use velo_events::{Memory, ThreadId};
 
 /// A place for each thread's share.
@@ -33,8 +33,9 @@ impl Shares {
         ensures empty { IfOk result (λ shares. shares ≡ replicate threads None) }
         ensures memory { OnErr result GrowthRefused }
     {
-        let mut places: Vec<Option<Share>> = Vec::new(alloc);
-        reserve(&mut places, usize::from(threads))?;
+        let Ok(mut places) = with_capacity(alloc, usize::from(threads)) else {
+            return Err(Memory);
+        };
         for _ in 0..threads {
             places.push_reserved(None);
         }

@@ -13,32 +13,28 @@ const fn by(thread: u8, kind: Kind) -> Event {
 }
 
 /// Enters the event by the share of its thread.
-fn enter(
-    rt: &impl Abort,
-    book: &mut Book,
-    shares: &mut Shares,
-    position: usize,
-    event: &Event,
-) -> Result<(), Fail> {
-    let mut share = shares.take(event.thread).ok_or("no share")?;
+fn enter(rt: &impl Abort, book: &mut Book, shares: &mut Shares, position: usize, event: &Event) {
+    let mut share = shares.take(event.thread).expect(rt, "a share");
     assert!(rt; book.fits(&share));
     assert!(rt; share.next() <= position as u64 && position < MOST_EVENTS as usize);
     book.enter(&mut share, position, event);
     assert!(rt; shares.put(share).is_ok());
-    Ok(())
 }
 
 /// The row of a thread, which is also what its share says.
-fn row(rt: &impl Abort, book: &Book, shares: &Shares, thread: u8) -> Result<Tally, Fail> {
-    let share = shares.get(ThreadId(thread)).ok_or("no share")?;
+fn row(rt: &impl Abort, book: &Book, shares: &Shares, thread: u8) -> Tally {
+    let share = shares.get(ThreadId(thread)).expect(rt, "a share");
     assert!(rt; book.fits(share));
     let row = book.tally(share.thread());
-    assert_eq!(rt; share.events(), row.events);
-    assert_eq!(rt; share.next(), row.next);
-    assert_eq!(rt; share.last(), row.last);
-    assert_eq!(rt; share.read_total(), row.read_total);
-    assert_eq!(rt; share.written_total(), row.written_total);
-    Ok(row)
+    let said = Tally {
+        events: share.events(),
+        next: share.next(),
+        last: share.last(),
+        read_total: share.read_total(),
+        written_total: share.written_total(),
+    };
+    assert_eq!(rt; said, row);
+    row
 }
 
 fn tally(events: u64, next: u64, last: Event, read_total: u128, written_total: u128) -> Tally {
@@ -64,30 +60,30 @@ fn counts_the_events_of_two_threads(rt: HostRuntime) -> Result<(), Fail> {
         by(0, Kind::Join(ThreadId(1))),
         by(0, Kind::Exit),
     ];
-    let (mut book, mut shares) = Book::open(rt.alloc(), 7, 2)?;
+    let (mut book, mut shares) = Book::open(rt.alloc(), 7, 2).expect(&rt, "memory");
     for (position, event) in events.iter().enumerate() {
-        enter(&rt, &mut book, &mut shares, position, event)?;
+        enter(&rt, &mut book, &mut shares, position, event);
         if position == 4 {
             let fifth = tally(4, 5, by(0, Kind::Write(X, 1)), 0, 1);
-            assert_eq!(rt; row(&rt, &book, &shares, 0)?, fifth);
+            assert_eq!(rt; row(&rt, &book, &shares, 0), fifth);
             let fourth = tally(1, 4, by(1, Kind::Write(X, 5)), 0, 5);
-            assert_eq!(rt; row(&rt, &book, &shares, 1)?, fourth);
+            assert_eq!(rt; row(&rt, &book, &shares, 1), fourth);
         }
     }
     let first = tally(7, 9, by(0, Kind::Exit), 0, 1);
-    assert_eq!(rt; row(&rt, &book, &shares, 0)?, first);
+    assert_eq!(rt; row(&rt, &book, &shares, 0), first);
     let second = tally(2, 7, by(1, Kind::Exit), 0, 5);
-    assert_eq!(rt; row(&rt, &book, &shares, 1)?, second);
+    assert_eq!(rt; row(&rt, &book, &shares, 1), second);
     assert_eq!(rt; gather(&book, &shares), Some(9));
     Ok(())
 }
 
 #[test]
 fn foreign_shares_do_not_fit(rt: HostRuntime) -> Result<(), Fail> {
-    let (mut book, mut shares) = Book::open(rt.alloc(), 7, 2)?;
-    let (_, of_another_run) = Book::open(rt.alloc(), 8, 2)?;
-    let (_, of_another_book) = Book::open(rt.alloc(), 7, 3)?;
-    enter(&rt, &mut book, &mut shares, 0, &by(0, Kind::Read(X, 0)))?;
+    let (mut book, mut shares) = Book::open(rt.alloc(), 7, 2).expect(&rt, "memory");
+    let (_, of_another_run) = Book::open(rt.alloc(), 8, 2).expect(&rt, "memory");
+    let (_, of_another_book) = Book::open(rt.alloc(), 7, 3).expect(&rt, "memory");
+    enter(&rt, &mut book, &mut shares, 0, &by(0, Kind::Read(X, 0)));
     for (foreign, thread, fits) in [
         (&shares, 0, true),
         (&of_another_run, 0, false),
@@ -96,7 +92,7 @@ fn foreign_shares_do_not_fit(rt: HostRuntime) -> Result<(), Fail> {
         (&of_another_book, 1, true),
         (&of_another_book, 2, false),
     ] {
-        let share = foreign.get(ThreadId(thread)).ok_or("no share")?;
+        let share = foreign.get(ThreadId(thread)).expect(&rt, "a share");
         assert_eq!(rt; book.fits(share), fits, "of thread {thread}");
     }
     assert_eq!(rt; gather(&book, &of_another_run), None);
@@ -107,20 +103,20 @@ fn foreign_shares_do_not_fit(rt: HostRuntime) -> Result<(), Fail> {
 
 #[test]
 fn a_place_takes_one_share(rt: HostRuntime) -> Result<(), Fail> {
-    let (book, mut shares) = Book::open(rt.alloc(), 7, 2)?;
-    let (_, mut others) = Book::open(rt.alloc(), 8, 2)?;
-    let mut empty = Shares::none(rt.alloc(), 1)?;
+    let (book, mut shares) = Book::open(rt.alloc(), 7, 2).expect(&rt, "memory");
+    let (_, mut others) = Book::open(rt.alloc(), 8, 2).expect(&rt, "memory");
+    let mut empty = Shares::none(rt.alloc(), 1).expect(&rt, "memory");
 
-    let first = shares.take(ThreadId(0)).ok_or("no share")?;
+    let first = shares.take(ThreadId(0)).expect(&rt, "a share");
     assert!(rt; shares.take(ThreadId(0)).is_none());
     assert!(rt; shares.take(ThreadId(2)).is_none());
     assert_eq!(rt; gather(&book, &shares), None);
-    let back = others.put(first).err().ok_or("two shares at one place")?;
+    let back = others.put(first).err().expect(&rt, "one share at a place");
     assert_eq!(rt; (back.run(), back.thread()), (7, ThreadId(0)));
     assert!(rt; shares.put(back).is_ok());
     assert_eq!(rt; gather(&book, &shares), Some(0));
 
-    let second = shares.take(ThreadId(1)).ok_or("no share")?;
+    let second = shares.take(ThreadId(1)).expect(&rt, "a share");
     assert!(rt; empty.put(second).is_err());
     assert!(rt; empty.get(ThreadId(0)).is_none());
     Ok(())

@@ -33,7 +33,9 @@ pub fn number(bytes: &[u8], most: u64) -> Option<(u64, &[u8])>
     ensures value { option_map (λ r. (r.0, r.1.now)) result ≡ number_at most bytes.now }
     ensures bound { IfSome result (λ r. r.0 ≤ most) }
 {
-    let (first, rest) = bytes.split_first()?;
+    let Some((first, rest)) = bytes.split_first() else {
+        return None;
+    };
     if *first == b'0' {
         return Some((0, rest));
     }
@@ -49,7 +51,11 @@ pub fn spaced_number(bytes: &[u8], most: u64) -> Option<(u64, &[u8])>
     ensures value { option_map (λ r. (r.0, r.1.now)) result ≡ spaced_number_at most bytes.now }
     ensures bound { IfSome result (λ r. r.0 ≤ most) }
 {
-    let (value, rest) = number(bytes, most)?;
-    let rest = after(rest, b" ")?;
+    let Some((value, rest)) = number(bytes, most) else {
+        return None;
+    };
+    let Some(rest) = after(rest, b" ") else {
+        return None;
+    };
     Some((value, rest))
 }
