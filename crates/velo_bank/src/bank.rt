@@ -4,7 +4,7 @@ use std::alloc::Global;
 use std::sync::Wait;
 use std::thread;
 use std::thread::Threads;
-use velo_events::{Bounds, Config, Label, LockId, ThreadId, VarId};
+use velo_events::{Bounds, Config, Label, LockId, Refusal, ThreadId, VarId};
 use velo_runtime::{RunError, Seat, Shared, close};
 use velo_world::Closed;
 
@@ -42,20 +42,22 @@ impl Bank {
             locks: 1,
         };
         let (accounts, mut main) = Shared::open(alloc, Config::new(1, bounds, 1_000, 64, false)?)?;
-        main.write(rt, &accounts, SAVINGS, 1_000)?;
-        main.write(rt, &accounts, CURRENT, 1_000)?;
-        let alice = main.fork(rt, &accounts, ALICE)?;
-        let bob = main.fork(rt, &accounts, BOB)?;
-        Ok(Bank {
-            accounts,
-            main,
-            alice,
-            bob,
-        })
+        match fill_and_fork(rt, &accounts, &mut main) {
+            Ok((alice, bob)) => Ok(Bank {
+                accounts,
+                main,
+                alice,
+                bob,
+            }),
+            Err(refusal) => {
+                drop((accounts, main));
+                Err(RunError::from(refusal))
+            }
+        }
     }
 
     /// Alice and Bob move money at once, in whatever order their threads come.
-    pub fn transfer_at_once<R: Threads + Wait + Sync>(&mut self, rt: &R) -> Result<(), RunError> {
+    pub fn transfer_at_once<R: Threads + Wait + Sync>(&mut self, rt: &R) -> Result<(), Refusal> {
         let Bank {
             accounts,
             alice,
@@ -73,7 +75,7 @@ impl Bank {
     }
 
     /// Bob's thread deposits between Alice's read and her write, and nothing but luck would tell.
-    pub fn lose_a_deposit<R: Threads + Wait + Sync>(&mut self, rt: &R) -> Result<(), RunError> {
+    pub fn lose_a_deposit<R: Threads + Wait + Sync>(&mut self, rt: &R) -> Result<(), Refusal> {
         let Bank {
             accounts,
             alice,
@@ -91,7 +93,7 @@ impl Bank {
     }
 
     /// Waits for Alice and Bob to go home, and reads both accounts.
-    pub fn balances<R: Wait>(&mut self, rt: &R) -> Result<(u64, u64), RunError> {
+    pub fn balances<R: Wait>(&mut self, rt: &R) -> Result<(u64, u64), Refusal> {
         let Bank {
             accounts,
             main,
@@ -116,12 +118,25 @@ impl Bank {
     }
 }
 
+/// Puts 1,000 into each account, and makes the seats of Alice and Bob.
+fn fill_and_fork<R: Wait>(
+    rt: &R,
+    accounts: &Shared,
+    main: &mut Seat,
+) -> Result<(Seat, Seat), Refusal> {
+    main.write(rt, accounts, SAVINGS, 1_000)?;
+    main.write(rt, accounts, CURRENT, 1_000)?;
+    let alice = main.fork(rt, accounts, ALICE)?;
+    let bob = main.fork(rt, accounts, BOB)?;
+    Ok((alice, bob))
+}
+
 /// Waits for Alice and Bob, and reads both accounts.
 fn wait_and_read<R: Wait>(
     rt: &R,
     accounts: &Shared,
     main: &mut Seat,
-) -> Result<(u64, u64), RunError> {
+) -> Result<(u64, u64), Refusal> {
     main.join(rt, accounts, ALICE)?;
     main.join(rt, accounts, BOB)?;
     let savings = main.read(rt, accounts, SAVINGS)?;
@@ -136,7 +151,7 @@ fn transfer<R: Wait>(
     from: VarId,
     to: VarId,
     amount: u64,
-) -> Result<(), RunError> {
+) -> Result<(), Refusal> {
     teller.begin(rt, accounts, TRANSFER)?;
     teller.acquire(rt, accounts, VAULT)?;
     let giver = teller.read(rt, accounts, from)?;
@@ -157,7 +172,7 @@ fn transfer_ten_times<R: Wait>(
     from: VarId,
     to: VarId,
     amount: u64,
-) -> Result<(), RunError> {
+) -> Result<(), Refusal> {
     for _ in 0..10 {
         transfer(rt, accounts, teller, from, to, amount)?;
     }
@@ -170,7 +185,7 @@ fn deposit<R: Wait>(
     accounts: &Shared,
     teller: &mut Seat,
     amount: u64,
-) -> Result<(), RunError> {
+) -> Result<(), Refusal> {
     teller.begin(rt, accounts, DEPOSIT)?;
     let savings = teller.read(rt, accounts, SAVINGS)?;
     teller.write(rt, accounts, SAVINGS, savings.saturating_add(amount))?;

@@ -7,6 +7,7 @@ use crate::bank::Bank;
 use std::alloc::{AllocError, Global};
 use std::sync::Wait;
 use std::thread::Threads;
+use velo_events::Refusal;
 use velo_logtext::WriterSink;
 use velo_report::{Names, report};
 use velo_runtime::RunError;
@@ -28,13 +29,27 @@ fn day<R: Threads + Wait + Sync>(
     is_locked: bool,
 ) -> Result<(u64, u64, Closed), RunError> {
     let mut bank = Bank::open(rt, alloc)?;
+    match work(rt, &mut bank, is_locked) {
+        Ok((savings, current)) => Ok((savings, current, bank.close(alloc)?)),
+        Err(refusal) => {
+            drop(bank);
+            Err(RunError::from(refusal))
+        }
+    }
+}
+
+/// The work of a day, and the balances at its end.
+fn work<R: Threads + Wait + Sync>(
+    rt: &R,
+    bank: &mut Bank,
+    is_locked: bool,
+) -> Result<(u64, u64), Refusal> {
     if is_locked {
         bank.transfer_at_once(rt)?;
     } else {
         bank.lose_a_deposit(rt)?;
     }
-    let (savings, current) = bank.balances(rt)?;
-    Ok((savings, current, bank.close(alloc)?))
+    bank.balances(rt)
 }
 
 /// Prints the balances, and the report of the run.

@@ -84,10 +84,27 @@ pub fn command<'a>(alloc: Global) -> Result<Command<'a>, Memory>
         .version(help::VERSION)
         .after_help(help::OF_PROGRAM)
         .subcommand_required(true);
-    let program = with_subcommand(program, check_command(alloc)?)?;
-    let program = with_subcommand(program, replay_command(alloc)?)?;
-    let program = with_subcommand(program, run_command(alloc)?)?;
-    with_subcommand(program, explain_command(alloc)?)
+    let program = with_made(program, check_command(alloc))?;
+    let program = with_made(program, replay_command(alloc))?;
+    let program = with_made(program, run_command(alloc))?;
+    with_made(program, explain_command(alloc))
+}
+
+/// The program with one more subcommand, if that could be made.
+fn with_made<'a>(
+    program: Command<'a>,
+    made: Result<Command<'a>, Memory>,
+) -> Result<Command<'a>, Memory>
+    requires { OnErr made GrowthRefused }
+    ensures memory { OnErr result GrowthRefused }
+{
+    match made {
+        Ok(subcommand) => with_subcommand(program, subcommand),
+        Err(Memory) => {
+            drop(program);
+            Err(Memory)
+        }
+    }
 }
 
 fn check_command<'a>(alloc: Global) -> Result<Command<'a>, Memory>

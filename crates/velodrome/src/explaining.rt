@@ -53,7 +53,26 @@ fn draw<F: Files>(
     }
 }
 
-/// Explains what a closed world shows. The picture is written first.
+/// Explains an alarm by its evidence. The picture is written first.
+fn explain_by<F: Files, O: Sink>(
+    alloc: Global,
+    log: &Trace,
+    position: usize,
+    evidence: &Evidence,
+    path: Option<&str>,
+    files: &mut F,
+    out: &mut O,
+) -> Fate
+    requires few { length log.now.events ≤ MOST_EVENTS }
+    requires evidence { IsEvidenceAt log.now.events position evidence.now }
+{
+    match draw(alloc, log, position, evidence, path, files) {
+        Ok(()) => fate_of(explain(alloc, log, position, evidence, out), true),
+        Err(fate) => fate,
+    }
+}
+
+/// Explains what a closed world shows.
 fn explain_closed<F: Files, O: Sink>(
     alloc: Global,
     closed: &Closed,
@@ -68,15 +87,15 @@ fn explain_closed<F: Files, O: Sink>(
         return fate_of(explain_clean(alloc, log, out), false);
     };
     let position = alarm.position;
-    let evidence = match evidence_of(alloc, log, position, alarm.blamed.as_slice()) {
-        Ok(evidence) => evidence,
-        Err(CertFault::Memory) => return Fate::Memory,
+    match evidence_of(alloc, log, position, alarm.blamed.as_slice()) {
+        Ok(evidence) => {
+            let fate = explain_by(alloc, log, position, &evidence, path, files, out);
+            drop(evidence);
+            fate
+        }
+        Err(CertFault::Memory) => Fate::Memory,
         Err(CertFault::NoCycle) => unreachable!(),
         Err(CertFault::HasCycle | CertFault::NotThere) => unreachable!(),
-    };
-    match draw(alloc, log, position, &evidence, path, files) {
-        Ok(()) => fate_of(explain(alloc, log, position, &evidence, out), true),
-        Err(fate) => fate,
     }
 }
 

@@ -18,6 +18,7 @@ use std::fmt::Write;
 use std::sync::Wait;
 use std::thread::Threads;
 use std::{fmt, io};
+use velo_events::Memory;
 use velo_logtext::{Sink, write_all};
 
 /// The status of a fault of usage.
@@ -96,15 +97,24 @@ pub fn run<R: Threads + Wait + Sync, F: Files, W: AsStr, O: Sink, E: Sink>(
     out: &mut O,
     err: &mut E,
 ) -> u8 {
-    let Ok(command) = command(alloc) else {
-        return end_with(&Fate::Memory, err);
+    let found = match command(alloc) {
+        Ok(command) => command.try_get_matches_from(words),
+        Err(Memory) => return end_with(&Fate::Memory, err),
     };
-    match command.try_get_matches_from(words) {
-        Ok(matches) => match request_of(&matches) {
-            Some(request) => end_with(&do_request(rt, alloc, &request, files, out), err),
-            None => BAD_USAGE,
-        },
-        Err(error) => show(&error, out, err),
+    match found {
+        Ok(matches) => {
+            let status = match request_of(&matches) {
+                Some(request) => end_with(&do_request(rt, alloc, &request, files, out), err),
+                None => BAD_USAGE,
+            };
+            drop(matches);
+            status
+        }
+        Err(error) => {
+            let status = show(&error, out, err);
+            drop(error);
+            status
+        }
     }
 }
 

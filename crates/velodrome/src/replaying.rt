@@ -28,6 +28,24 @@ fn replay_workload<F: Files, O: Sink>(
     }
 }
 
+/// Replays the workload that was asked for by a schedule, and writes what it shows.
+fn replay_by<F: Files, O: Sink>(
+    alloc: Global,
+    schedule: &[ThreadId],
+    options: &RunOptions,
+    files: &mut F,
+    out: &mut O,
+) -> Fate {
+    match open_workload(alloc, options.file, files) {
+        Ok(workload) => {
+            let fate = replay_workload(alloc, &workload, schedule, options, files, out);
+            drop(workload);
+            fate
+        }
+        Err(fate) => fate,
+    }
+}
+
 /// Replays the workload that was asked for, and writes what it shows. A schedule that is none is told before any file is
 /// opened.
 pub fn replay_file<F: Files, O: Sink>(
@@ -36,12 +54,12 @@ pub fn replay_file<F: Files, O: Sink>(
     files: &mut F,
     out: &mut O,
 ) -> Fate {
-    let schedule = match schedule_of(alloc, options.schedule) {
-        Ok(schedule) => schedule,
-        Err(fault) => return Fate::Schedule(fault),
-    };
-    match open_workload(alloc, options.run.file, files) {
-        Ok(workload) => { replay_workload(alloc, &workload, &schedule, &options.run, files, out) }
-        Err(fate) => fate,
+    match schedule_of(alloc, options.schedule) {
+        Ok(schedule) => {
+            let fate = replay_by(alloc, &schedule, &options.run, files, out);
+            drop(schedule);
+            fate
+        }
+        Err(fault) => Fate::Schedule(fault),
     }
 }

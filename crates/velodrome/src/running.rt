@@ -38,7 +38,11 @@ pub fn run_file<R: Threads + Wait + Sync, F: Files, O: Sink>(
     out: &mut O,
 ) -> Fate {
     match open_workload(alloc, options.file, files) {
-        Ok(workload) => run_workload(rt, alloc, &workload, options, files, out),
+        Ok(workload) => {
+            let fate = run_workload(rt, alloc, &workload, options, files, out);
+            drop(workload);
+            fate
+        }
         Err(fate) => fate,
     }
 }

@@ -11,27 +11,31 @@ use velo_events::{Config, Memory, Refusal};
 use velo_logtext::{Sink, Source, WriteFault, write_log};
 use velo_report::Names;
 use velo_worker::Ending;
-use velo_workload::{MOST_WORKLOAD_BYTES, WorkFault, Workload, parse, text_of};
+use velo_workload::{MOST_WORKLOAD_BYTES, Workload, parse, text_of};
 use velo_world::Closed;
 
 /// Reads a workload from a source.
 fn read_workload<I: Source>(alloc: Global, source: &mut I) -> Result<Workload, Fate> {
-    let bytes = match read_whole(alloc, source, MOST_WORKLOAD_BYTES) {
-        Ok(bytes) => bytes,
-        Err(ReadFault::Failed) => return Err(Fate::ReadFailed),
-        Err(ReadFault::Memory) => return Err(Fate::Memory),
-    };
-    match workload_of(alloc, &bytes) {
-        Ok(workload) => Ok(workload),
-        Err(fault) => Err(Fate::Work(fault)),
+    match read_whole(alloc, source, MOST_WORKLOAD_BYTES) {
+        Ok(bytes) => {
+            let workload = workload_of(alloc, &bytes);
+            drop(bytes);
+            workload
+        }
+        Err(ReadFault::Failed) => Err(Fate::ReadFailed),
+        Err(ReadFault::Memory) => Err(Fate::Memory),
     }
 }
 
 /// The workload of a file's bytes.
-fn workload_of(alloc: Global, bytes: &[u8]) -> Result<Workload, WorkFault> {
-    match text_of(bytes) {
-        Ok(text) => parse(alloc, text),
-        Err(fault) => Err(fault),
+fn workload_of(alloc: Global, bytes: &[u8]) -> Result<Workload, Fate> {
+    let text = match text_of(bytes) {
+        Ok(text) => text,
+        Err(fault) => return Err(Fate::Work(fault)),
+    };
+    match parse(alloc, text) {
+        Ok(workload) => Ok(workload),
+        Err(fault) => Err(Fate::Work(fault)),
     }
 }
 
@@ -117,13 +121,16 @@ fn tell<F: Files, O: Sink>(
             Err(fate) => fate,
         };
     }
-    let list = match evidence_of(alloc, closed) {
-        Ok(list) => list,
-        Err(Memory) => return Fate::Memory,
-    };
-    match write_out(closed, options.log, files) {
-        Ok(()) => fate_of(write_certified(closed, names, &list, out), ending),
-        Err(fate) => fate,
+    match evidence_of(alloc, closed) {
+        Ok(list) => {
+            let fate = match write_out(closed, options.log, files) {
+                Ok(()) => fate_of(write_certified(closed, names, &list, out), ending),
+                Err(fate) => fate,
+            };
+            drop(list);
+            fate
+        }
+        Err(Memory) => Fate::Memory,
     }
 }
 
