@@ -10,16 +10,16 @@ use velo_events::{BadConfig, Memory, Refusal};
 #[derive(Debug, Drop, Error)]
 pub enum RunError {
     /// A value of the configuration is out of its range.
-    #[error("{0}")]
+    #[error(transparent)]
     BadConfig(BadConfig),
     /// An action was refused.
-    #[error("{0}")]
+    #[error(transparent)]
     Refused(Refusal),
     /// The run could not be closed. All is given back.
-    #[error("{0}")]
+    #[error(transparent)]
     Missing(Missing),
     /// A growth of the program's own was refused.
-    #[error("{0}")]
+    #[error(transparent)]
     Memory(Memory),
 }
 

@@ -127,9 +127,10 @@ impl Room {
         }
         let Room {
             world,
-            waits: _,
+            waits,
             mut places,
         } = self;
+        drop(waits);
         while let Some(seat) = seats.pop() {
             if places.put(seat.share).is_err() {
                 unreachable!()

@@ -362,8 +362,13 @@ fn played<R: Wait + Clock + Threads + Sync>(
 
 /// Ends a run of two threads.
 fn closed(alloc: Global, shared: Shared, first: Seat, second: Seat) -> Result<Closed, RunError> {
-    let seats = vec![in alloc; first, second]?;
-    Ok(close(shared, seats)?)
+    match vec![in alloc; first, second] {
+        Ok(seats) => Ok(close(shared, seats)?),
+        Err(error) => {
+            drop(shared);
+            Err(error.into())
+        }
+    }
 }
 
 #[test]
@@ -391,8 +396,13 @@ fn all_write<R: Wait + Abort + Threads + Sync>(
     alloc: Global,
 ) -> Result<(Shared, Vec<Seat>), RunError> {
     let (shared, seats) = opened(rt, alloc, config(1, 4, 100, false)?, 3)?;
-    let seats = thread::map_vec(rt, seats, &|seat| write_numbers(rt, &shared, seat))?;
-    Ok((shared, seats))
+    match thread::map_vec(rt, seats, &|seat| write_numbers(rt, &shared, seat)) {
+        Ok(seats) => Ok((shared, seats)),
+        Err(error) => {
+            drop(shared);
+            Err(error.into())
+        }
+    }
 }
 
 /// Keeps the last seat back, so that the run is not closed.

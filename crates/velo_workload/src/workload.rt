@@ -173,7 +173,9 @@ pub fn parse(alloc: Global, text: &str) -> Result<Workload, WorkFault>
     ensures { Answers (meaning_of text.now) result }
 {
     let mut outline = Outline::new(alloc);
-    parse_into(alloc, &mut outline, text.as_bytes())
+    let parsed = parse_into(alloc, &mut outline, text.as_bytes());
+    drop(outline);
+    parsed
 }
 
 /// The text that a file's bytes are, for [`parse`].
