@@ -1,9 +1,9 @@
 -- A line, word by word.
-use Rattle.std.proofs.Common.{◌≡◌, ℕ, ◌+◌, List, [], ◌∷◌, ◌++◌, take, drop, sym, ap, ◌∙◌, append_assoc}
-use Rattle.std.specs.Prelude.{codes, map}
+use Rattle.std.proofs.Common.{◌≡◌, ℕ, ◌+◌, ◌-◌, ◌<◌, List, [], ◌∷◌, ◌++◌, length, set, take, drop, sym, ap, ◌∙◌, append_assoc, arith}
+use Rattle.std.specs.Prelude.{codes, decimal, map}
 use Rattle.std.specs.List.{flat_map}
 use Rattle.std.proofs.lemmas.Grind.{flat_map-append}
-use Rattle.std.proofs.lemmas.List.{append-nil, take-append-drop, map-append}
+use Rattle.std.proofs.lemmas.List.{append-nil, take-append-drop, map-append, drop-set, drop_all, take_all}
 use Rattle.velo_report.specs.declared.lines.Word.{Word}
 use Rattle.velo_report.specs.declared.lines.Word.TheVariants.{Text}
 use Rattle.velo_report.specs.Lines.{spaced, line_of}
@@ -76,3 +76,18 @@ module _ {X : Type 0} (line : X → List ℕ) (xs : List X) (i : ℕ) (x : X) (i
       ∙ flat_map-append line (take (i + 1) xs) (drop (i + 1) xs)
       ∙ ap (λ (t : List ℕ). t ++ flat_map line (drop (i + 1) xs)) (sym lines-more)
       ∙ append_assoc (flat_map line (take i xs)) (line x) (flat_map line (drop (i + 1) xs))
+
+-- ---- a number behind a space
+
+-- the space stands before digits that end the bytes
+pub spaced-written : (number r : ℕ) (old new : List ℕ) → length old ≡ 24 → length new ≡ 24 → 0 < r → r + length (decimal number) ≡ 24 → drop r new ≡ decimal number ++ drop 24 old → drop (r - 1) (set new (r - 1) 32) ≡ spaced (decimal number)
+spaced-written number r old new count_old count_new some all written =
+    drop-set new (r - 1) 32 (omega (arith, all, count_new, some))
+    ∙ ap (λ (t : List ℕ). 32 ∷ t)
+    (ap (λ k. drop k new) (let same : r - 1 + 1 ≡ r = omega (arith, some) in same)
+    ∙ (written ∙ (ap (λ (t : List ℕ). decimal number ++ t) (drop_all 24 old (omega (arith, count_old))) ∙ append-nil (decimal number))))
+
+-- and all of them are taken
+pub spaced-taken : (number s : ℕ) (text : List ℕ) → s + 1 + length (decimal number) ≡ 24 → drop s text ≡ spaced (decimal number) → take (24 - s) (drop s text) ≡ spaced (decimal number)
+spaced-taken number s text all written =
+    ap (take (24 - s)) written ∙ take_all (24 - s) (32 ∷ decimal number) (let more : length (32 ∷ decimal number) ≡ length (decimal number) + 1 = omega arith in omega (arith, all, more))

@@ -1,15 +1,29 @@
 //! Lines on their way to a sink, which sees few writes.
-ghost use Rattle.std.specs.Prelude.{◌≡◌, ◌≤◌, ◌+◌, ◌++◌, [], ◌∷◌, codes, length, take, OnOk, OnErr};
+ghost use Rattle.std.specs.Prelude.{◌≡◌, ◌≤◌, ◌+◌, ◌++◌, [], ◌∷◌, codes, decimal, drop, length, take, OnOk, OnErr};
 ghost use Rattle.std.specs.Io.KnownBytes.{Appends};
 ghost use Rattle.velo_logtext.specs.Device.{one_more, AppendsBeginning};
 ghost use Rattle.velo_report.specs.Lines.{word_text, spaced, words_text, line_of, numbers_line, Passes};
 
-use itoa::Buffer;
+use itoa::{Buffer, write_digits};
 use std::marker::Model;
 use velo_logtext::{Sink, WriteFault, write_all};
 
 /// How many bytes are gathered before they are written.
 const ROOM: usize = 1_024;
+
+/// How many bytes a space and a number take at most.
+const LONGEST: usize = 24;
+
+/// Writes a space and a number at the end of the bytes, all at once rather than in two pieces. The answer is where the space
+/// is.
+fn write_spaced(number: u64, text: &mut [u8; LONGEST]) -> usize
+    ensures written { drop result text.new ≡ spaced (decimal number) }
+    ensures all { result + 1 + length (decimal number) ≡ 24 }
+{
+    let start = write_digits(number, text, LONGEST) - 1;
+    text[start] = b' ';
+    start
+}
 
 /// A word of a line.
 #[derive(Clone, Copy)]
@@ -116,6 +130,18 @@ impl Lines {
         self.add_word(sink, word)
     }
 
+    /// Adds a space and a number.
+    fn add_number<S: Sink>(&mut self, sink: &mut S, number: u64) -> Result<(), WriteFault>
+        ensures ok { OnOk result (Passes (S.contents sink.old) (S.contents sink.new) self.old self.new (spaced (decimal number))) }
+        ensures err { OnErr result (AppendsBeginning (S.contents sink.old) (S.contents sink.new) (self.old ++ spaced (decimal number))) }
+        ensures no_failure { OnOk result (S.failures sink.new ≡ S.failures sink.old) }
+        ensures failure { OnErr result (S.failures sink.new ≡ one_more (S.failures sink.old)) }
+    {
+        let mut text = [0; LONGEST];
+        let start = write_spaced(number, &mut text);
+        self.add(sink, &text[start..])
+    }
+
     /// Adds a line: its first word, the others, each behind a space, and a newline.
     pub fn add_line<S: Sink>(
         &mut self,
@@ -149,7 +175,7 @@ impl Lines {
     {
         self.add_word(sink, Word::Text(first))?;
         for number in numbers {
-            self.add_spaced(sink, Word::Number(*number as u64))?;
+            self.add_number(sink, *number as u64)?;
         }
         self.add(sink, b"\n")
     }

@@ -21,18 +21,18 @@ loop-number-preserved g c =
     let word = get_or words i 0 in
     let more : take (i + 1) words ≡ take i words ++ word ∷ [] = take_more words i 0 c.loop-number-test.true in
     record {
-      passes = subst (Passes (contents c.args.sink.now) (contents c.add_spaced.new.sink) c.args.self.now c.add_spaced.new.self) (begun-next decimal first words i word more)
-          (passes-then _ _ _ _ _ _ (begun decimal first words i) (spaced (decimal word)) c.loop-number.invariant.passes c.in_ok-add_spaced.ensures.ok);
-      failures = c.in_ok-add_spaced.ensures.no_failure ∙ c.loop-number.invariant.failures;
+      passes = subst (Passes (contents c.args.sink.now) (contents c.add_number.new.sink) c.args.self.now c.add_number.new.self) (begun-next decimal first words i word more)
+          (passes-then _ _ _ _ _ _ (begun decimal first words i) (spaced (decimal word)) c.loop-number.invariant.passes c.in_ok-add_number.ensures.ok);
+      failures = c.in_ok-add_number.ensures.no_failure ∙ c.loop-number.invariant.failures;
     }
 
-pub returns-in_err-add_spaced-clause-err : goal.returns-in_err-add_spaced-clause-err
-returns-in_err-add_spaced-clause-err g c =
+pub returns-in_err-add_number-clause-err : goal.returns-in_err-add_number-clause-err
+returns-in_err-add_number-clause-err g c =
     let first = c.args.first.now in let words = c.args.numbers.now in let i = c.loop-number.number-index in
     let word = get_or words i 0 in
     let more : take (i + 1) words ≡ take i words ++ word ∷ [] = take_more words i 0 c.loop-number-test.true in
-    let p = err_from_is_err_and c.from_residual-in_err-add_spaced.result c.from_residual-in_err-add_spaced.ensures.1 in
-    rw p.1 (passes-failed _ _ _ _ _ (begun decimal first words i) (spaced (decimal word)) (rest_of decimal words (i + 1)) _ c.loop-number.invariant.passes c.in_err-add_spaced.ensures.err (line-split-next decimal first words i word more))
+    let p = err_from_is_err_and c.from_residual-in_err-add_number.result c.from_residual-in_err-add_number.ensures.1 in
+    rw p.1 (passes-failed _ _ _ _ _ (begun decimal first words i) (spaced (decimal word)) (rest_of decimal words (i + 1)) _ c.loop-number.invariant.passes c.in_err-add_number.ensures.err (line-split-next decimal first words i word more))
 
 pub returns-clause-ok : goal.returns-clause-ok
 returns-clause-ok g c =
