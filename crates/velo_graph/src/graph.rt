@@ -64,21 +64,11 @@ impl<A: Ancestors> Graph<A> {
         ensures sound { IfOk result IsSound }
         ensures memory { OnErr result GrowthRefused }
     {
-        let Ok(leads) = filled(alloc, false, limit as usize) else {
-            return Err(Memory);
-        };
-        let Ok(carried) = A::empty(alloc, limit) else {
-            return Err(Memory);
-        };
-        let Ok(unfinished) = A::empty(alloc, limit) else {
-            return Err(Memory);
-        };
-        let Ok(rows) = empty_rows(alloc, limit) else {
-            return Err(Memory);
-        };
-        let Ok(arena) = Arena::new(alloc, limit) else {
-            return Err(Memory);
-        };
+        let leads = filled(alloc, false, limit as usize)?;
+        let carried = A::empty(alloc, limit)?;
+        let unfinished = A::empty(alloc, limit)?;
+        let rows = empty_rows(alloc, limit)?;
+        let arena = Arena::new(alloc, limit)?;
         Ok(Graph {
             arena,
             rows,

@@ -16,13 +16,9 @@ pub fn empty_rows<A: Ancestors>(alloc: Global, limit: u16) -> Result<Vec<A>, Mem
     ensures capacities { IfOk result (λ rows. map A.capacity rows.items ≡ replicate limit limit) }
     ensures memory { OnErr result GrowthRefused }
 {
-    let Ok(mut rows) = with_capacity(alloc, limit as usize) else {
-        return Err(Memory);
-    };
+    let mut rows = with_capacity(alloc, limit as usize)?;
     for _slot in 0..limit {
-        let Ok(row) = A::empty(alloc, limit) else {
-            return Err(Memory);
-        };
+        let row = A::empty(alloc, limit)?;
         rows.push_reserved(row);
     }
     Ok(rows)

@@ -44,12 +44,8 @@ impl Book {
         ensures fit { IfOk result (λ opened. HasAllShares opened.0 opened.1) }
         ensures memory { OnErr result GrowthRefused }
     {
-        let Ok(mut rows) = with_capacity(alloc, usize::from(threads)) else {
-            return Err(Memory);
-        };
-        let Ok(mut places) = with_capacity(alloc, usize::from(threads)) else {
-            return Err(Memory);
-        };
+        let mut rows = with_capacity(alloc, usize::from(threads))?;
+        let mut places = with_capacity(alloc, usize::from(threads))?;
         for thread in 0..threads {
             rows.push_reserved(Tally::blank());
             places.push_reserved(Some(Share {

@@ -33,9 +33,7 @@ impl Shares {
         ensures empty { IfOk result (λ shares. shares ≡ replicate threads None) }
         ensures memory { OnErr result GrowthRefused }
     {
-        let Ok(mut places) = with_capacity(alloc, usize::from(threads)) else {
-            return Err(Memory);
-        };
+        let mut places = with_capacity(alloc, usize::from(threads))?;
         for _ in 0..threads {
             places.push_reserved(None);
         }

@@ -146,13 +146,8 @@ enough_for_line : (last : Bool) (rest more : List ℕ) → HasEnough last rest m
 enough_for_line true rest more h = inr (h.0 refl)
 enough_for_line false rest more h = inl h.1
 
--- the answer where this is wrong, if anything is
-abbrev answer_of : Option LogFault → Result (Unit {0}) LogFault
-answer_of None = Ok tt
-answer_of (Some f) = Err f
-
 line_fault : (last : Bool) (limit : ℕ) (events : List Event) (rest more bytes : List ℕ) (b : Bool) (f : LogFault) → is_bad rest ≡ b → event_at rest ≡ None → length events < limit → HasEnough last rest more → bytes ≡ event_lines events ++ (rest ++ more)
-    → ◌≡◌ {A = Option LogFault} (cond b (Some (BadLine (length events + 2))) (Some (Truncated (length events + 2)))) (Some f) → LinesGive limit bytes events (Err f)
+    → ◌≡◌ {A = Result (Unit {0}) LogFault} (cond b (Err (BadLine (length events + 2))) (Err (Truncated (length events + 2)))) (Err f) → LinesGive limit bytes events (Err f)
 line_fault last limit events rest more bytes true f test none room enough text is =
     let wrong : LinesGive limit bytes events (Err (BadLine (length events + 2))) = (
       room,
@@ -166,13 +161,13 @@ line_fault last limit events rest more bytes true f test none room enough text i
         };
       },
     ) in
-    subst (λ (o : Option LogFault). LinesGive limit bytes events (answer_of o)) is wrong
+    subst (λ (r : Result (Unit {0}) LogFault). LinesGive limit bytes events r) is wrong
 line_fault true limit events rest more bytes false f test none room enough text is =
     let fine = not_bad rest test in
     let whole : rest ++ more ≡ rest = ap (λ (t : List ℕ). rest ++ t) (enough.0 refl) ∙ append-nil rest in
     let wrong : LinesGive limit bytes events (Err (Truncated (length events + 2))) =
     (room, refl, record { rest = rest; text = text ∙ ap (λ (t : List ℕ). event_lines events ++ t) whole; left = record { some = enough.1; few = fine.0; no_newline = fine.1 } }) in
-    subst (λ (o : Option LogFault). LinesGive limit bytes events (answer_of o)) is wrong
+    subst (λ (r : Result (Unit {0}) LogFault). LinesGive limit bytes events r) is wrong
 line_fault false limit events rest more bytes false f test none room enough text is = absurd (let few = (not_bad rest test).0 in let many : 64 < length rest = enough.1 in omega arith)
 
 -- what is left, where the lines that were taken end before it
@@ -182,65 +177,65 @@ left_over lines rest more bytes e = e ∙ append_assoc lines rest more
 some_more : (last : Bool) (rest more : List ℕ) → margin last < length rest → 0 < length (rest ++ more)
 some_more last rest more h = omega (arith, h, length-append rest more)
 
-fault_given : (limit : ℕ) (last : Bool) (events : List Event) (rest more bytes : List ℕ) (stop : Stop) (f : LogFault) → IsReason limit last (length events) rest stop → judged stop rest (length events + 2) ≡ Some f → bytes ≡ event_lines events ++ (rest ++ more) → (IsTrue last → more ≡ []) → LinesGive limit bytes events (Err f)
+fault_given : (limit : ℕ) (last : Bool) (events : List Event) (rest more bytes : List ℕ) (stop : Stop) (f : LogFault) → IsReason limit last (length events) rest stop → judged stop rest (length events + 2) ≡ Err f → bytes ≡ event_lines events ++ (rest ++ more) → (IsTrue last → more ≡ []) → LinesGive limit bytes events (Err f)
 fault_given limit last events rest more bytes Short f stops is text at_end = absurd cc
 fault_given limit last events rest more bytes NoEvent f stops is text at_end =
     line_fault last limit events rest more bytes (is_bad rest) f refl stops.2 stops.1 (at_end, stops.0) text is
 fault_given limit last events rest more bytes Full f stops is text at_end =
     let wrong : LinesGive limit bytes events (Err TooLong) = (stops.1, record { rest = rest ++ more; text = text; left = some_more last rest more stops.0 }) in
-    subst (λ (o : Option LogFault). LinesGive limit bytes events (answer_of o)) is wrong
+    subst (λ (r : Result (Unit {0}) LogFault). LinesGive limit bytes events r) is wrong
 fault_given limit last events rest more bytes NoRoom f stops is text at_end =
     let wrong : LinesGive limit bytes events (Err Memory) = stops in
-    subst (λ (o : Option LogFault). LinesGive limit bytes events (answer_of o)) is wrong
+    subst (λ (r : Result (Unit {0}) LogFault). LinesGive limit bytes events r) is wrong
 
-pub judged_fault : (limit : ℕ) (last : Bool) (events : List Event) (rest : List ℕ) (stop : Stop) (f : LogFault) (total remaining : Option (List ℕ)) → IsReason limit last (length events) rest stop → judged stop rest (length events + 2) ≡ Some f
+pub judged_fault : (limit : ℕ) (last : Bool) (events : List Event) (rest : List ℕ) (stop : Stop) (f : LogFault) (total remaining : Option (List ℕ)) → IsReason limit last (length events) rest stop → judged stop rest (length events + 2) ≡ Err f
     → Keeps total (prepend_known (event_lines events ++ rest) remaining) → (IsTrue last → IsAtEnd remaining) → IfSome total (λ bytes. LinesGive limit bytes events (Err f))
 judged_fault limit last events rest stop f None remaining stops is kept at_end = tt
 judged_fault limit last events rest stop f (Some bytes) None stops is kept at_end = absurd kept
 judged_fault limit last events rest stop f (Some bytes) (Some more) stops is kept at_end =
     fault_given limit last events rest more bytes stop f stops is (left_over (event_lines events) rest more bytes (sym kept)) at_end
 
-abbrev failures_of : (X : Type 0) → Option LogFault → ℕ → ℕ
-failures_of X None count = count
-failures_of X (Some f) count = failures_after {X = X} (Err f) count
+abbrev failures_of : (X : Type 0) → Result (Unit {0}) LogFault → ℕ → ℕ
+failures_of X (Ok x) count = count
+failures_of X (Err f) count = failures_after {X = X} (Err f) count
 
-line_no_read : (X : Type 0) (b : Bool) (line count : ℕ) (f : LogFault) → ◌≡◌ {A = Option LogFault} (cond b (Some (BadLine line)) (Some (Truncated line))) (Some f) → failures_after {X = X} (Err f) count ≡ count
-line_no_read X true line count f is = subst (λ (o : Option LogFault). failures_of X o count ≡ count) is refl
-line_no_read X false line count f is = subst (λ (o : Option LogFault). failures_of X o count ≡ count) is refl
+line_no_read : (X : Type 0) (b : Bool) (line count : ℕ) (f : LogFault) → ◌≡◌ {A = Result (Unit {0}) LogFault} (cond b (Err (BadLine line)) (Err (Truncated line))) (Err f) → failures_after {X = X} (Err f) count ≡ count
+line_no_read X true line count f is = subst (λ (r : Result (Unit {0}) LogFault). failures_of X r count ≡ count) is refl
+line_no_read X false line count f is = subst (λ (r : Result (Unit {0}) LogFault). failures_of X r count ≡ count) is refl
 
 -- no line that is wrong is a failure of the device
-pub judged_no_read : (X : Type 0) (stop : Stop) (rest : List ℕ) (line count : ℕ) (f : LogFault) → judged stop rest line ≡ Some f → failures_after {X = X} (Err f) count ≡ count
+pub judged_no_read : (X : Type 0) (stop : Stop) (rest : List ℕ) (line count : ℕ) (f : LogFault) → judged stop rest line ≡ Err f → failures_after {X = X} (Err f) count ≡ count
 judged_no_read X Short rest line count f is = absurd cc
 judged_no_read X NoEvent rest line count f is = line_no_read X (is_bad rest) line count f is
-judged_no_read X Full rest line count f is = subst (λ (o : Option LogFault). failures_of X o count ≡ count) is refl
-judged_no_read X NoRoom rest line count f is = subst (λ (o : Option LogFault). failures_of X o count ≡ count) is refl
+judged_no_read X Full rest line count f is = subst (λ (r : Result (Unit {0}) LogFault). failures_of X r count ≡ count) is refl
+judged_no_read X NoRoom rest line count f is = subst (λ (r : Result (Unit {0}) LogFault). failures_of X r count ≡ count) is refl
 
-line_not_ok : (b : Bool) (line : ℕ) → ◌≡◌ {A = Option LogFault} (cond b (Some (BadLine line)) (Some (Truncated line))) None → ⊥
-line_not_ok true line is = cc
-line_not_ok false line is = cc
+line_not_ok : (b : Bool) (line : ℕ) (x : Unit {0}) → ◌≡◌ {A = Result (Unit {0}) LogFault} (cond b (Err (BadLine line)) (Err (Truncated line))) (Ok x) → ⊥
+line_not_ok true line x is = cc
+line_not_ok false line x is = cc
 
-line_no_memory : (b : Bool) (line : ℕ) → ◌≡◌ {A = Option LogFault} (cond b (Some (BadLine line)) (Some (Truncated line))) (Some Memory) → ⊥
+line_no_memory : (b : Bool) (line : ℕ) → ◌≡◌ {A = Result (Unit {0}) LogFault} (cond b (Err (BadLine line)) (Err (Truncated line))) (Err Memory) → ⊥
 line_no_memory true line is = cc
 line_no_memory false line is = cc
 
 -- memory is wanted only where a growth was refused
-pub judged_memory : (limit : ℕ) (last : Bool) (count : ℕ) (rest : List ℕ) (stop : Stop) (line : ℕ) → IsReason limit last count rest stop → judged stop rest line ≡ Some Memory → GrowthRefused
+pub judged_memory : (limit : ℕ) (last : Bool) (count : ℕ) (rest : List ℕ) (stop : Stop) (line : ℕ) → IsReason limit last count rest stop → judged stop rest line ≡ Err Memory → GrowthRefused
 judged_memory limit last count rest Short line stops is = absurd cc
 judged_memory limit last count rest NoEvent line stops is = absurd (line_no_memory (is_bad rest) line is)
 judged_memory limit last count rest Full line stops is = absurd cc
 judged_memory limit last count rest NoRoom line stops is = stops
 
 -- all lines were taken
-pub judged_all : (limit : ℕ) (events : List Event) (rest : List ℕ) (stop : Stop) (line : ℕ) (total remaining : Option (List ℕ)) → IsReason limit true (length events) rest stop → judged stop rest line ≡ None
+pub judged_all : (limit : ℕ) (events : List Event) (rest : List ℕ) (stop : Stop) (line : ℕ) (x : Unit {0}) (total remaining : Option (List ℕ)) → IsReason limit true (length events) rest stop → judged stop rest line ≡ Ok x
     → Keeps total (prepend_known (event_lines events ++ rest) remaining) → IsAtEnd remaining → IfSome total (λ bytes. bytes ≡ event_lines events)
-judged_all limit events rest Short line None remaining stops is kept at_end = tt
-judged_all limit events rest Short line (Some bytes) None stops is kept at_end = absurd kept
-judged_all limit events rest Short line (Some bytes) (Some more) stops is kept at_end =
+judged_all limit events rest Short line x None remaining stops is kept at_end = tt
+judged_all limit events rest Short line x (Some bytes) None stops is kept at_end = absurd kept
+judged_all limit events rest Short line x (Some bytes) (Some more) stops is kept at_end =
     let none : rest ≡ [] = nil_from_length rest (omega (arith, stops)) in
     sym kept ∙ ap (λ (t : List ℕ). (event_lines events ++ rest) ++ t) at_end ∙ append-nil (event_lines events ++ rest) ∙ ap (λ (t : List ℕ). event_lines events ++ t) none ∙ append-nil (event_lines events)
-judged_all limit events rest NoEvent line total remaining stops is kept at_end = absurd (line_not_ok (is_bad rest) line is)
-judged_all limit events rest Full line total remaining stops is kept at_end = absurd cc
-judged_all limit events rest NoRoom line total remaining stops is kept at_end = absurd cc
+judged_all limit events rest NoEvent line x total remaining stops is kept at_end = absurd (line_not_ok (is_bad rest) line x is)
+judged_all limit events rest Full line x total remaining stops is kept at_end = absurd cc
+judged_all limit events rest NoRoom line x total remaining stops is kept at_end = absurd cc
 
 -- ---- from the lines to the whole log
 

@@ -1,5 +1,5 @@
 -- How far the reader has come in the bytes that it holds. Private contracts cite these words.
-use Rattle.std.specs.Prelude.{◌≡◌, ℕ, ◌+◌, ◌<◌, ◌≤◌, Bool, ◌||◌, ◌==◌, nat_lt, if◌then◌else◌, List, ◌++◌, length, Option, Some, None, Result, Ok, Err}
+use Rattle.std.specs.Prelude.{◌≡◌, ℕ, ◌+◌, ◌<◌, ◌≤◌, Bool, ◌||◌, ◌==◌, nat_lt, if◌then◌else◌, List, ◌++◌, length, None, Result, Ok, Err}
 use Rattle.std.specs.List.{list_any}
 use Rattle.velo_events.specs.Refusals.{GrowthRefused}
 use Rattle.velo_events.specs.declared.event.Event.{Event}
@@ -22,12 +22,12 @@ IsReason limit last count rest NoEvent = (margin last < length rest) × (count <
 IsReason limit last count rest Full = (margin last < length rest) × (count ≡ limit)
 IsReason limit last count rest NoRoom = GrowthRefused
 
--- what is wrong with the line at the front of the bytes that are left, if anything is
-abbrev pub judged : Stop → List ℕ → ℕ → Option LogFault
-judged Short rest line = None
-judged NoEvent rest line = if nat_lt 64 (length rest) || list_any (λ b. b == 10) rest then Some (BadLine line) else Some (Truncated line)
-judged Full rest line = Some TooLong
-judged NoRoom rest line = Some Memory
+-- what is said of the line at the front of the bytes that are left
+abbrev pub judged : Stop → List ℕ → ℕ → Result (Unit {0}) LogFault
+judged Short rest line = Ok tt
+judged NoEvent rest line = if nat_lt 64 (length rest) || list_any (λ b. b == 10) rest then Err (BadLine line) else Err (Truncated line)
+judged Full rest line = Err TooLong
+judged NoRoom rest line = Err Memory
 
 -- what is left of known bytes behind the lines of these events
 pub record Leaves (bytes : List ℕ) (events : List Event) (IsLeft : List ℕ → Type 0) : Type 0 where

@@ -12,15 +12,9 @@ use velo_events::{Bounds, Event, Kind, Label, LockId, MOST_LOCKS, MOST_THREADS, 
 fn access(bytes: &[u8]) -> Option<(VarId, u64, &[u8])>
     ensures { option_map (λ r. ((r.0.0, r.1), r.2.now)) result ≡ access_at bytes.now }
 {
-    let Some((x, rest)) = number(bytes, 65_535) else {
-        return None;
-    };
-    let Some(rest) = after(rest, b" ") else {
-        return None;
-    };
-    let Some((value, rest)) = number(rest, u64::MAX) else {
-        return None;
-    };
+    let (x, rest) = number(bytes, 65_535)?;
+    let rest = after(rest, b" ")?;
+    let (value, rest) = number(rest, u64::MAX)?;
     Some((VarId(x as u16), value, rest))
 }
 
@@ -31,20 +25,14 @@ fn thread_kind(bytes: &[u8]) -> Option<(Kind, &[u8])>
     ensures { option_map (λ r. (r.0, r.1.now)) result ≡ thread_kind_at bytes.now }
 {
     if let Some(rest) = after(bytes, b"fork ") {
-        let Some((u, rest)) = number(rest, 255) else {
-            return None;
-        };
+        let (u, rest) = number(rest, 255)?;
         return Some((Kind::Fork(ThreadId(u as u8)), rest));
     }
     if let Some(rest) = after(bytes, b"join ") {
-        let Some((u, rest)) = number(rest, 255) else {
-            return None;
-        };
+        let (u, rest) = number(rest, 255)?;
         return Some((Kind::Join(ThreadId(u as u8)), rest));
     }
-    let Some(rest) = after(bytes, b"exit") else {
-        return None;
-    };
+    let rest = after(bytes, b"exit")?;
     Some((Kind::Exit, rest))
 }
 
@@ -55,9 +43,7 @@ fn block_kind(bytes: &[u8]) -> Option<(Kind, &[u8])>
     ensures { option_map (λ r. (r.0, r.1.now)) result ≡ block_kind_at bytes.now }
 {
     if let Some(rest) = after(bytes, b"begin ") {
-        let Some((label, rest)) = number(rest, 4_294_967_295) else {
-            return None;
-        };
+        let (label, rest) = number(rest, 4_294_967_295)?;
         return Some((Kind::Begin(Label(label as u32)), rest));
     }
     if let Some(rest) = after(bytes, b"end") {
@@ -73,15 +59,11 @@ fn lock_kind(bytes: &[u8]) -> Option<(Kind, &[u8])>
     ensures { option_map (λ r. (r.0, r.1.now)) result ≡ lock_kind_at bytes.now }
 {
     if let Some(rest) = after(bytes, b"acq ") {
-        let Some((m, rest)) = number(rest, 65_535) else {
-            return None;
-        };
+        let (m, rest) = number(rest, 65_535)?;
         return Some((Kind::Acquire(LockId(m as u16)), rest));
     }
     if let Some(rest) = after(bytes, b"rel ") {
-        let Some((m, rest)) = number(rest, 65_535) else {
-            return None;
-        };
+        let (m, rest) = number(rest, 65_535)?;
         return Some((Kind::Release(LockId(m as u16)), rest));
     }
     block_kind(bytes)
@@ -94,15 +76,11 @@ fn kind(bytes: &[u8]) -> Option<(Kind, &[u8])>
     ensures { option_map (λ r. (r.0, r.1.now)) result ≡ kind_at bytes.now }
 {
     if let Some(rest) = after(bytes, b"rd ") {
-        let Some((x, value, rest)) = access(rest) else {
-            return None;
-        };
+        let (x, value, rest) = access(rest)?;
         return Some((Kind::Read(x, value), rest));
     }
     if let Some(rest) = after(bytes, b"wr ") {
-        let Some((x, value, rest)) = access(rest) else {
-            return None;
-        };
+        let (x, value, rest) = access(rest)?;
         return Some((Kind::Write(x, value), rest));
     }
     lock_kind(bytes)
@@ -114,18 +92,10 @@ fn kind(bytes: &[u8]) -> Option<(Kind, &[u8])>
 pub fn event(bytes: &[u8]) -> Option<(Event, &[u8])>
     ensures { option_map (λ r. (r.0, r.1.now)) result ≡ event_at bytes.now }
 {
-    let Some((t, rest)) = number(bytes, 255) else {
-        return None;
-    };
-    let Some(rest) = after(rest, b" ") else {
-        return None;
-    };
-    let Some((kind, rest)) = kind(rest) else {
-        return None;
-    };
-    let Some(next) = after(rest, b"\n") else {
-        return None;
-    };
+    let (t, rest) = number(bytes, 255)?;
+    let rest = after(rest, b" ")?;
+    let (kind, rest) = kind(rest)?;
+    let next = after(rest, b"\n")?;
     let thread = ThreadId(t as u8);
     Some((Event { thread, kind }, next))
 }
@@ -135,21 +105,11 @@ pub fn event(bytes: &[u8]) -> Option<(Event, &[u8])>
 pub fn header(bytes: &[u8]) -> Option<(Bounds, &[u8])>
     ensures { option_map (λ r. (r.0, r.1.now)) result ≡ header_at bytes.now }
 {
-    let Some(rest) = after(bytes, b"vlog 1 ") else {
-        return None;
-    };
-    let Some((threads, rest)) = spaced_number(rest, u64::from(MOST_THREADS)) else {
-        return None;
-    };
-    let Some((variables, rest)) = spaced_number(rest, 65_535) else {
-        return None;
-    };
-    let Some((locks, rest)) = number(rest, u64::from(MOST_LOCKS)) else {
-        return None;
-    };
-    let Some(rest) = after(rest, b"\n") else {
-        return None;
-    };
+    let rest = after(bytes, b"vlog 1 ")?;
+    let (threads, rest) = spaced_number(rest, u64::from(MOST_THREADS))?;
+    let (variables, rest) = spaced_number(rest, 65_535)?;
+    let (locks, rest) = number(rest, u64::from(MOST_LOCKS))?;
+    let rest = after(rest, b"\n")?;
     if threads == 0 {
         return None;
     }

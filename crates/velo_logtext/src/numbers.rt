@@ -33,9 +33,7 @@ pub fn number(bytes: &[u8], most: u64) -> Option<(u64, &[u8])>
     ensures value { option_map (λ r. (r.0, r.1.now)) result ≡ number_at most bytes.now }
     ensures bound { IfSome result (λ r. r.0 ≤ most) }
 {
-    let Some((first, rest)) = bytes.split_first() else {
-        return None;
-    };
+    let (first, rest) = bytes.split_first()?;
     if *first == b'0' {
         return Some((0, rest));
     }
@@ -51,11 +49,7 @@ pub fn spaced_number(bytes: &[u8], most: u64) -> Option<(u64, &[u8])>
     ensures value { option_map (λ r. (r.0, r.1.now)) result ≡ spaced_number_at most bytes.now }
     ensures bound { IfSome result (λ r. r.0 ≤ most) }
 {
-    let Some((value, rest)) = number(bytes, most) else {
-        return None;
-    };
-    let Some(rest) = after(rest, b" ") else {
-        return None;
-    };
+    let (value, rest) = number(bytes, most)?;
+    let rest = after(rest, b" ")?;
     Some((value, rest))
 }

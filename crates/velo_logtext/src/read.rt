@@ -65,20 +65,20 @@ fn take_events<'a>(bytes: &'a [u8], last: bool, limit: usize, trace: &mut Trace)
 }
 
 /// What is wrong with the line at the front of the bytes that are left, if anything is.
-fn judge(stop: Stop, rest: &[u8], line: usize) -> Option<LogFault>
+fn judge(stop: Stop, rest: &[u8], line: usize) -> Result<(), LogFault>
     ensures { result ≡ judged stop rest.now line }
 {
     match stop {
-        Stop::Short => None,
+        Stop::Short => Ok(()),
         Stop::NoEvent => {
             if rest.len() > LONGEST_LINE || rest.contains(&b'\n') {
-                Some(LogFault::BadLine(line))
+                Err(LogFault::BadLine(line))
             } else {
-                Some(LogFault::Truncated(line))
+                Err(LogFault::Truncated(line))
             }
         }
-        Stop::Full => Some(LogFault::TooLong),
-        Stop::NoRoom => Some(LogFault::Memory),
+        Stop::Full => Err(LogFault::TooLong),
+        Stop::NoRoom => Err(LogFault::Memory),
     }
 }
 
@@ -143,15 +143,10 @@ fn read_events<S: Source>(
 {
     let mut filled = filled;
     loop {
-        let Ok(more) = fill(source, buffer, filled) else {
-            return Err(LogFault::Read);
-        };
-        filled = more;
+        filled = fill(source, buffer, filled)?;
         let (rest, stop) = take_events(&buffer[..filled.end], filled.last, limit, trace);
         let left = rest.len();
-        if let Some(fault) = judge(stop, rest, trace.len() + 2) {
-            return Err(fault);
-        }
+        judge(stop, rest, trace.len() + 2)?;
         if filled.last {
             return Ok(());
         }
@@ -176,17 +171,13 @@ pub fn read_up_to<S: Source>(
     ensures failures { S.failures source.new ≡ failures_after result (S.failures source.old) }
     ensures memory { result ≡ Err log_fault.Memory → GrowthRefused }
 {
-    let Ok(mut buffer) = growth::filled(alloc, 0u8, ROOM) else {
-        return Err(LogFault::Memory);
-    };
+    let mut buffer = growth::filled(alloc, 0u8, ROOM)?;
     let buffer = buffer.as_mut_slice();
     let nothing = Filled {
         end: 0,
         last: false,
     };
-    let Ok(filled) = fill(source, buffer, nothing) else {
-        return Err(LogFault::Read);
-    };
+    let filled = fill(source, buffer, nothing)?;
     let Some((bounds, rest)) = header(&buffer[..filled.end]) else {
         return Err(LogFault::BadHeader);
     };

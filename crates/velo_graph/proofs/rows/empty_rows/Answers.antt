@@ -11,9 +11,9 @@ pub loop-slot-preserved : goal.loop-slot-preserved
 loop-slot-preserved g c =
     let so_far = c.loop-slot.invariant in
     let more = c.push_reserved.ensures.items in
-    let row = c.in-Ok-empty.row in (
-      mapped-more g.A.Ancestors.members c.loop-slot.rows.items c.push_reserved.new.self.items row c.loop-slot._slot _ more so_far.0 c.in-Ok-empty.ensures.none,
-      mapped-more g.A.Ancestors.capacity c.loop-slot.rows.items c.push_reserved.new.self.items row c.loop-slot._slot _ more so_far.1 c.in-Ok-empty.ensures.capacity,
+    let row = c.in_ok-row.row in (
+      mapped-more g.A.Ancestors.members c.loop-slot.rows.items c.push_reserved.new.self.items row c.loop-slot._slot _ more so_far.0 c.in_ok-row.ensures.none,
+      mapped-more g.A.Ancestors.capacity c.loop-slot.rows.items c.push_reserved.new.self.items row c.loop-slot._slot _ more so_far.1 c.in_ok-row.ensures.capacity,
       omega (arith, c.push_reserved.ensures.capacity, so_far.2),
     )
 

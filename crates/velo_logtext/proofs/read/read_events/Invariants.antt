@@ -4,8 +4,8 @@ use Rattle.std.specs.Io.KnownBytes.{Keeps, prepend_known, IsAtEnd}
 use Rattle.velo_logtext.specs.Text.{AreEvents, event_lines}
 use Rattle.velo_logtext.proofs.read.read_events.Given as goal
 
-abbrev pub invariant-loop-more : goal.invariant-loop-more
-invariant-loop-more g l =
+abbrev pub invariant-loop-filled : goal.invariant-loop-filled
+invariant-loop-filled g l =
     let remaining = g.S.Source.remaining in
     record {
       within : l.filled.end ≤ length l.buffer;
@@ -16,5 +16,5 @@ invariant-loop-more g l =
       failures : g.S.Source.failures l.source ≡ g.S.Source.failures l.fn.source;
     }
 
-abbrev pub decreases-loop-more : goal.decreases-loop-more
-decreases-loop-more g l = l.limit - length l.trace.events
+abbrev pub decreases-loop-filled : goal.decreases-loop-filled
+decreases-loop-filled g l = l.limit - length l.trace.events
