@@ -1,7 +1,7 @@
-//! The open blocks of a thread, found in one pass from the end of a trace to its start.
-ghost use Rattle.std.specs.Prelude.{◌≡◌, ◌≤◌, ◌<◌, ◌+◌, [], ◌∷◌, length, map};
+//! The open blocks of a thread, found in one pass from the end of a trace towards its start.
+ghost use Rattle.std.specs.Prelude.{◌≡◌, ◌≤◌, ◌<◌, ◌+◌, [], ◌∷◌, ℕ, IsFalse, length, map};
 ghost use Rattle.velo_events.specs.declared.limits.TheConstants.{MOST_OPEN_BLOCKS};
-ghost use Rattle.velo_events.specs.Block.{open_blocks};
+ghost use Rattle.velo_events.specs.Block.{is_open_at, open_blocks};
 ghost use Rattle.velo_events.specs.Scan.{LeavesEnds, open_from};
 ghost use Rattle.velo_traces.specs.Blocks.{block_at};
 
@@ -69,10 +69,25 @@ pub fn open_blocks_in(
     requires { length (open_blocks events.now thread.0) ≤ MOST_OPEN_BLOCKS }
     ensures { result.items ≡ map (block_at events.now) (open_blocks events.now thread.0) }
 {
+    open_blocks_since(events, thread, 0, alloc)
+}
+
+/// The blocks of a thread that are open at the end of the events, outermost first, where none of them begins before the
+/// position `first`. It looks at no event before that position.
+pub fn open_blocks_since(
+    events: &[Event],
+    thread: ThreadId,
+    first: usize,
+    alloc: Global,
+) -> SmallVec<Block, MOST_OPEN_BLOCKS>
+    requires few { length (open_blocks events.now thread.0) ≤ MOST_OPEN_BLOCKS }
+    requires none_before { (b : ℕ) → b < first → IsFalse (is_open_at events.now thread.0 b (length events.now)) }
+    ensures { result.items ≡ map (block_at events.now) (open_blocks events.now thread.0) }
+{
     let mut blocks = SmallVec::new(alloc);
     let mut ends: usize = 0;
     let mut at = events.len();
-    while at > 0 {
+    while at > first {
         at -= 1;
         ends = take_in(events, thread, at, ends, &mut blocks);
     }

@@ -19,7 +19,7 @@ use std::alloc::Global;
 use velo_events::{Config, Event, MOST_OPEN_BLOCKS, Memory};
 use velo_heap::Heap;
 use velo_monitor::{Monitor, Seen};
-use velo_traces::{Block, open_blocks_in};
+use velo_traces::{Block, open_blocks_since};
 
 /// The first event that closed a cycle.
 #[derive(Drop, Debug, PartialEq, Eq)]
@@ -273,7 +273,9 @@ impl Run {
         ensures alarm { IsAlarm (take position events.now ++ event.now ∷ []) result }
         ensures position { result.position ≡ position }
     {
-        let blocks = open_blocks_in(&events[..position + 1], event.thread, self.alloc);
+        let so_far = &events[..position + 1];
+        // the transaction begins with the outermost of its open blocks
+        let blocks = open_blocks_since(so_far, event.thread, transaction, self.alloc);
         let blamed = self.clocks.clocks.blamed(&blocks, position, event);
         Alarm {
             position,

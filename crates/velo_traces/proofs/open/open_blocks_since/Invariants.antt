@@ -3,7 +3,7 @@ use Rattle.std.specs.Prelude.{map}
 use Rattle.velo_events.specs.declared.limits.TheConstants.{MOST_OPEN_BLOCKS}
 use Rattle.velo_events.specs.Scan.{LeavesEnds, open_from}
 use Rattle.velo_traces.specs.Blocks.{block_at}
-use Rattle.velo_traces.proofs.open.open_blocks_in.Given as goal
+use Rattle.velo_traces.proofs.open.open_blocks_since.Given as goal
 
 abbrev pub invariant-loop-at : goal.invariant-loop-at
 invariant-loop-at l = record {
