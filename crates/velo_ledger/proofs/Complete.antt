@@ -1,7 +1,8 @@
 -- Shares that are there and fit.
-use Rattle.std.proofs.Common.{◌≡◌, ◌≢◌, ◌<◌, ◌≤◌, ℕ, ◌+◌, List, [], ◌∷◌, ◌++◌, length, Option, Some, None, refl, sym, ap, ◌∙◌, arith, sum_by, take, below_more}
-use Rattle.std.specs.Prelude.{slice_get, IsSomeAnd}
-use Rattle.std.proofs.lemmas.Option.{slice_get_within, slice_get_past, same_Some, get_or_from_slice_get}
+use Rattle.std.proofs.Common.{◌≡◌, ◌≢◌, ◌<◌, ◌≤◌, ◌⊎◌, inl, inr, ⊎_elim, ℕ, ◌+◌, List, [], ◌∷◌, ◌++◌, length, Option, Some, None, option_and_then, refl, sym, ap, subst, ◌∙◌, arith, add-zero, get_or, sum_by, take, take_all, below_more}
+use Rattle.std.specs.Prelude.{slice_get}
+use Rattle.std.specs.Option.{option_map_or, SomeIff}
+use Rattle.std.proofs.lemmas.Option.{slice_get_within, slice_get_past, slice_get_cases, same_Some, none-some}
 use Rattle.std.proofs.lemmas.List.{length_push, length-replicate}
 use Rattle.std.proofs.lemmas.List.Sums.{sum_by_more}
 use Rattle.velo_events.proofs.OnTraces.{slice_get-append, slice_get-push}
@@ -9,53 +10,121 @@ use Rattle.velo_events.specs.declared.event.ThreadId.{ThreadId}
 use Rattle.velo_ledger.specs.declared.tally.Tally.{Tally}
 use Rattle.velo_ledger.specs.Tally.{blank}
 use Rattle.velo_ledger.specs.Views.{Accounts, Holding}
-use Rattle.velo_ledger.specs.Shares.{AreInPlace, AreOpening, opening_share, events_in, events_in_all}
-use Rattle.velo_ledger.specs.Book.{FitsBook, PlaceFits, IsFilled, HasAllShares, opening_accounts, with_row}
-use Rattle.velo_ledger.proofs.Places.{slice_get-replicate, slice_get-set_other, sum_by-matching, some_below, not_both}
+use Rattle.velo_ledger.specs.Shares.{AreInPlace, AreOpening, opening_share, events_in, events_in_all, share_in}
+use Rattle.velo_ledger.specs.Book.{FitsBook, PlacesFit, IsFilled, HasAllShares, HaveAllShares, opening_accounts, with_row}
+use Rattle.velo_ledger.proofs.Places.{slice_get-replicate, slice_get-set_other, some_below, not_both, not_in_nil}
+
+-- ---- the share in a place
+
+in_place : (place : Option (Option Holding)) (share : Holding) → option_and_then (λ p. p) place ≡ Some share → place ≡ Some (Some share)
+in_place None share is = absurd (none-some share is)
+in_place (Some None) share is = absurd (none-some share is)
+in_place (Some (Some other)) share is = ap Some is
+
+is_there : (places : List (Option Holding)) (t : ℕ) (share : Holding) → share_in places t ≡ Some share → slice_get places t ≡ Some (Some share)
+is_there places t share is = in_place (slice_get places t) share is
+
+not_filled : (places : List (Option Holding)) (t : ℕ) → share_in places t ≡ None → ¬ IsFilled places t
+not_filled places t none has = not_both (share_in places t) has.0 none (ap (option_and_then (λ p. p)) has.1)
 
 -- ---- place by place
 
-filled_at : (book : Accounts) (places : List (Option Holding)) (t : ℕ) (o : Option (Option Holding)) → slice_get places t ≡ o → IsSomeAnd o (PlaceFits book t) → t < length book.rows → IsFilled places t
-filled_at book places t None is fit lt = absurd fit
-filled_at book places t (Some None) is fit lt = absurd (omega arith)
-filled_at book places t (Some (Some share)) is fit lt = (share, is)
+fits_beside : (book : Accounts) (t : ℕ) (share : Holding) (other : Option Holding) → PlacesFit book t (Some share) other → FitsBook book share
+fits_beside book t share None fit = fit
+fits_beside book t share (Some other) fit = absurd fit
 
-share_fits_at : (book : Accounts) (places : List (Option Holding)) (t : ℕ) (share : Holding) → slice_get places t ≡ Some (Some share) → IsSomeAnd (slice_get places t) (PlaceFits book t) → FitsBook book share
-share_fits_at book places t share is fit = rw is at fit
+fits_after : (book : Accounts) (t : ℕ) (other : Option Holding) (share : Holding) → PlacesFit book t other (Some share) → FitsBook book share
+fits_after book t None share fit = fit
+fits_after book t (Some other) share fit = absurd fit
 
--- enough places, and each as it should be
-pub complete_by_places : (book : Accounts) (places : List (Option Holding)) → length book.rows ≤ length places → ((t : ℕ) → t < length places → IsSomeAnd (slice_get places t) (PlaceFits book t)) → HasAllShares book places
-complete_by_places book places long fit = record {
-  there = λ t lt. filled_at book places t (slice_get places t) refl (fit t (omega arith)) lt;
-  fit = λ t share is. share_fits_at book places t share is (fit t (slice_get_within places t (Some share) is));
+module _ (book : Accounts) (kept given : List (Option Holding)) where
+  there_at : (t : ℕ) (k g : Option Holding) → share_in kept t ≡ k → share_in given t ≡ g → PlacesFit book t k g → t < length book.rows → IsFilled kept t ⊎ IsFilled given t
+  there_at t None None k_is g_is fit lt = absurd (omega arith)
+  there_at t (Some share) None k_is g_is fit lt = inl (share, is_there kept t share k_is)
+  there_at t None (Some share) k_is g_is fit lt = inr (share, is_there given t share g_is)
+  there_at t (Some share) (Some other) k_is g_is fit lt = absurd fit
+
+  -- where each place of both is as it should be, and none is further on
+  pub complete_by_places : (n : ℕ) → length book.rows ≤ n → length kept ≤ n → length given ≤ n → ((t : ℕ) → t < n → PlacesFit book t (share_in kept t) (share_in given t)) → HaveAllShares book kept given
+  complete_by_places n rows kepts givens fit = record {
+    there = λ t lt. there_at t (share_in kept t) (share_in given t) refl refl (fit t (omega arith)) lt;
+    once = λ t k g. (let inside = slice_get_within kept t (Some k.0) k.1 in rw (k.1, g.1) at (fit t (omega arith)));
+    kept_fit = λ t share is. (let inside = slice_get_within kept t (Some share) is in fits_beside book t share (share_in given t) (rw is at (fit t (omega arith))));
+    given_fit = λ t share is. (let inside = slice_get_within given t (Some share) is in fits_after book t (share_in kept t) share (rw is at (fit t (omega arith))));
+  }
+
+  fit_at : (t : ℕ) (k g : Option Holding) → share_in kept t ≡ k → share_in given t ≡ g → HaveAllShares book kept given → PlacesFit book t k g
+  fit_at t None None k_is g_is complete = some_below t (length book.rows) (λ lt. ⊎_elim (not_filled kept t k_is) (not_filled given t g_is) (complete.there t lt))
+  fit_at t (Some share) None k_is g_is complete = complete.kept_fit t share (is_there kept t share k_is)
+  fit_at t None (Some share) k_is g_is complete = complete.given_fit t share (is_there given t share g_is)
+  fit_at t (Some share) (Some other) k_is g_is complete = complete.once t (share, is_there kept t share k_is) (other, is_there given t other g_is)
+
+  pub places_fit : (t : ℕ) → HaveAllShares book kept given → PlacesFit book t (share_in kept t) (share_in given t)
+  places_fit t complete = fit_at t (share_in kept t) (share_in given t) refl refl complete
+
+-- one list of places is two, of which the first has no place
+pub all-alone : (book : Accounts) (places : List (Option Holding)) → HasAllShares book places → HaveAllShares book [] places
+all-alone book places all = record {
+  there = λ t lt. inr (all.there t lt);
+  once = λ t none. absurd (not_in_nil t (Some none.0) none.1);
+  kept_fit = λ t share is. absurd (not_in_nil t (Some share) is);
+  given_fit = all.fit;
 }
 
-pub place_fits : (book : Accounts) (places : List (Option Holding)) (t : ℕ) (place : Option Holding) → HasAllShares book places → slice_get places t ≡ Some place → PlaceFits book t place
-place_fits book places t (Some share) complete is = complete.fit t share is
-place_fits book places t None complete is =
-    some_below t (length book.rows) (λ lt. let there = complete.there t lt in not_both None there.0 refl (same_Some _ _ (sym is ∙ there.1)))
+pub alone-all : (book : Accounts) (places : List (Option Holding)) → HaveAllShares book [] places → HasAllShares book places
+alone-all book places all = record {
+  there = λ t lt. ⊎_elim (λ none. absurd (not_in_nil t (Some none.0) none.1)) (λ has. has) (all.there t lt);
+  fit = all.given_fit;
+}
 
-pub complete-long : (book : Accounts) (places : List (Option Holding)) → HasAllShares book places → length book.rows ≤ length places
-complete-long book places complete =
-    some_below (length places) (length book.rows) (λ lt. let there = complete.there (length places) lt in not_both (slice_get places (length places)) (Some there.0) (slice_get_past places (length places) (omega arith)) there.1)
+-- what decides and counts for two lists decides and counts for one
+pub same_answer : {P Q : Type 0} (answer : Option ℕ) (m n : ℕ) → (P → Q) → (Q → P) → m ≡ n → SomeIff answer P m → SomeIff answer Q n
+same_answer None m n to from is refused = λ q. refused (from q)
+same_answer (Some x) m n to from is given = (to given.0, given.1 ∙ is)
 
--- ---- the sum
+-- ---- the next place
 
-pub sum-rows : (book : Accounts) (places : List (Option Holding)) → AreInPlace places → HasAllShares book places → events_in_all places ≡ sum_by (λ row. row.events) book.rows
-sum-rows book places own complete = sum_by-matching events_in (λ row. row.events) places book.rows (complete-long book places complete) counted beyond
+-- the sum of the first elements and one more, if there is one
+sum_by_next : {X : Type 0} (f : X → ℕ) (xs : List X) (n : ℕ) → sum_by f (take (n + 1) xs) ≡ sum_by f (take n xs) + option_map_or f (slice_get xs n) 0
+sum_by_next {X = X} f xs n = at (slice_get_cases xs n).1
   where
-    counted : (t : ℕ) (place : Option Holding) (row : Tally) → slice_get places t ≡ Some place → slice_get book.rows t ≡ Some row → events_in place ≡ row.events
-    counted t (Some share) row is row_is =
-        let at : slice_get book.rows t ≡ Some share.tally = rw (own.own t share is) at (complete.fit t share is).row in
-        ap (λ tally. tally.events) (same_Some _ _ (sym at ∙ row_is))
-    counted t None row is row_is = let lt = slice_get_within book.rows t row row_is in let le : length book.rows ≤ t = place_fits book places t None complete is in absurd (omega arith)
+    at : ((x : X) × (n < length xs) × (slice_get xs n ≡ Some x) × (get_or xs n x ≡ x)) ⊎ ((length xs ≤ n) × (slice_get xs n ≡ None)) → sum_by f (take (n + 1) xs) ≡ sum_by f (take n xs) + option_map_or f (slice_get xs n) 0
+    at (inl there) = rw there.2 (sum_by_more f xs n there.0 there.1 ∙ ap (λ x. sum_by f (take n xs) + f x) there.3)
+    at (inr past) =
+        let all : take n xs ≡ xs = take_all n xs past.0 in
+        let more : take (n + 1) xs ≡ xs = take_all (n + 1) xs (let le = past.0 in omega arith) in
+        rw (past.1, all, more) (omega arith)
 
-    beyond : (t : ℕ) (place : Option Holding) → slice_get places t ≡ Some place → length book.rows ≤ t → events_in place ≡ 0
-    beyond t (Some share) is past =
-        let lt = slice_get_within book.rows share.thread.0 share.tally (complete.fit t share is).row in
-        let at = own.own t share is in
-        absurd (omega arith)
-    beyond t None is past = refl
+events_at : (place : Option (Option Holding)) → option_map_or events_in place 0 ≡ events_in (option_and_then (λ p. p) place)
+events_at None = refl
+events_at (Some place) = refl
+
+pub sum-next : (places : List (Option Holding)) (n : ℕ) → events_in_all (take (n + 1) places) ≡ events_in_all (take n places) + events_in (share_in places n)
+sum-next places n = sum_by_next events_in places n ∙ ap (λ m. events_in_all (take n places) + m) (events_at (slice_get places n))
+
+pub fits-next : (book : Accounts) (kept given : List (Option Holding)) (n : ℕ) → PlacesFit book n (share_in kept n) (share_in given n) → ((t : ℕ) → t < n → PlacesFit book t (share_in kept t) (share_in given t)) → (t : ℕ) → t < n + 1 → PlacesFit book t (share_in kept t) (share_in given t)
+fits-next book kept given n fit before = below_more (λ t. PlacesFit book t (share_in kept t) (share_in given t)) n before fit
+
+-- ---- the same by rows
+
+row_events : (book : Accounts) (t : ℕ) (share : Holding) → share.thread.0 ≡ t → FitsBook book share → share.tally.events ≡ option_map_or (λ (row : Tally). row.events) (slice_get book.rows t) 0
+row_events book t share own fits =
+    let row : slice_get book.rows t ≡ Some share.tally = subst (λ n. slice_get book.rows n ≡ Some share.tally) own fits.row in
+    rw row refl
+
+counted : (book : Accounts) (t : ℕ) (k g : Option Holding) → ((share : Holding) → k ≡ Some share → share.thread.0 ≡ t) → ((share : Holding) → g ≡ Some share → share.thread.0 ≡ t) → PlacesFit book t k g → events_in k + events_in g ≡ option_map_or (λ (row : Tally). row.events) (slice_get book.rows t) 0
+counted book t None None k_own g_own fit = rw (slice_get_past book.rows t fit) refl
+counted book t (Some share) None k_own g_own fit = add-zero share.tally.events ∙ row_events book t share (k_own share refl) fit
+counted book t None (Some share) k_own g_own fit = let alone : 0 + share.tally.events ≡ share.tally.events = omega arith in alone ∙ row_events book t share (g_own share refl) fit
+counted book t (Some share) (Some other) k_own g_own fit = absurd fit
+
+-- the place's shares count what its row does
+pub rows-next : (book : Accounts) (kept given : List (Option Holding)) (n : ℕ) → AreInPlace kept → AreInPlace given → PlacesFit book n (share_in kept n) (share_in given n)
+    → sum_by (λ (row : Tally). row.events) (take (n + 1) book.rows) ≡ sum_by (λ (row : Tally). row.events) (take n book.rows) + (events_in (share_in kept n) + events_in (share_in given n))
+rows-next book kept given n kept_own given_own fit =
+    sum_by_next (λ (row : Tally). row.events) book.rows n
+    ∙ ap (λ m. sum_by (λ (row : Tally). row.events) (take n book.rows) + m)
+    (sym (counted book n (share_in kept n) (share_in given n) (λ share is. kept_own.own n share (is_there kept n share is)) (λ share is. given_own.own n share (is_there given n share is)) fit))
 
 -- ---- shares of an opening
 
@@ -86,14 +155,6 @@ opening-complete run n places opening = record {
       let same : share ≡ opening_share run t = same_Some _ _ (same_Some _ _ (sym is ∙ opening.each t lt)) in
       rw same (record { run = refl; row = slice_get-replicate n t blank lt });
 }
-
--- ---- the next place
-
-pub sum-next : (places : List (Option Holding)) (t : ℕ) (place : Option Holding) → slice_get places t ≡ Some place → events_in_all (take (t + 1) places) ≡ events_in_all (take t places) + events_in place
-sum-next places t place is = sum_by_more events_in places t place (slice_get_within places t place is) ∙ ap (λ x. events_in_all (take t places) + events_in x) (get_or_from_slice_get places t place place is)
-
-pub fits-next : (book : Accounts) (places : List (Option Holding)) (n : ℕ) (place : Option Holding) → slice_get places n ≡ Some place → PlaceFits book n place → ((t : ℕ) → t < n → IsSomeAnd (slice_get places t) (PlaceFits book t)) → (t : ℕ) → t < n + 1 → IsSomeAnd (slice_get places t) (PlaceFits book t)
-fits-next book places n place is fit before = below_more _ n before (rw is fit)
 
 -- ---- another row
 

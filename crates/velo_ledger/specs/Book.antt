@@ -1,5 +1,5 @@
 -- What it is for shares to fit a book.
-use Rattle.std.specs.Prelude.{◌≡◌, ◌<◌, ◌≤◌, ℕ, MatchOption, List, length, Option, Some, slice_get, slice_set, replicate}
+use Rattle.std.specs.Prelude.{◌≡◌, ◌<◌, ◌≤◌, ◌⊎◌, ℕ, List, length, Option, None, Some, slice_get, slice_set, replicate}
 use Rattle.velo_events.specs.declared.event.ThreadId.{ThreadId}
 use Rattle.velo_ledger.specs.declared.tally.Tally.{Tally}
 use Rattle.velo_events.specs.declared.event.Event.{Event}
@@ -34,9 +34,12 @@ pub record EntersAt (book : Accounts) (places : List (Option Holding)) (position
   pub row : (share : Holding) → slice_get places e.thread.0 ≡ Some (Some share) → book' ≡ with_row book e.thread (with_event share.tally position e)
   pub share : (share : Holding) → slice_get places e.thread.0 ≡ Some (Some share) → places' ≡ slice_set places e.thread.0 (Some (with_tally share (with_event share.tally position e)))
 
--- no share is missing at the place, and the share fits
-abbrev pub PlaceFits : Accounts → ℕ → Option Holding → Type 0
-PlaceFits book t place = MatchOption place (length book.rows ≤ t) (FitsBook book)
+-- of the same place of two lists: one share is there and fits, or none, and no thread has this place
+abbrev pub PlacesFit : Accounts → ℕ → Option Holding → Option Holding → Type 0
+PlacesFit book t None None = length book.rows ≤ t
+PlacesFit book t (Some share) None = FitsBook book share
+PlacesFit book t None (Some share) = FitsBook book share
+PlacesFit book t (Some share) (Some other) = ⊥
 
 -- the place has a share
 abbrev pub IsFilled : List (Option Holding) → ℕ → Type 0
@@ -46,3 +49,10 @@ IsFilled places t = (share : Holding) × (slice_get places t ≡ Some (Some shar
 pub record HasAllShares (book : Accounts) (places : List (Option Holding)) : Type 0 where
   pub there : (t : ℕ) → t < length book.rows → IsFilled places t
   pub fit : (t : ℕ) (share : Holding) → slice_get places t ≡ Some (Some share) → FitsBook book share
+
+-- the share of each thread is in one of two lists of places, no place has a share in both, and all shares fit
+pub record HaveAllShares (book : Accounts) (kept given : List (Option Holding)) : Type 0 where
+  pub there : (t : ℕ) → t < length book.rows → IsFilled kept t ⊎ IsFilled given t
+  pub once : (t : ℕ) → IsFilled kept t → ¬ IsFilled given t
+  pub kept_fit : (t : ℕ) (share : Holding) → slice_get kept t ≡ Some (Some share) → FitsBook book share
+  pub given_fit : (t : ℕ) (share : Holding) → slice_get given t ≡ Some (Some share) → FitsBook book share

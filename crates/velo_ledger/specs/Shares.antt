@@ -5,9 +5,13 @@ use Rattle.velo_events.specs.declared.event.ThreadId.{ThreadId}
 use Rattle.velo_ledger.specs.Tally.{blank}
 use Rattle.velo_ledger.specs.Views.{Holding}
 
--- the share at the thread's place, if the place is there and filled
+-- the share at the place, if the place is there and filled
+abbrev pub share_in : List (Option Holding) → ℕ → Option Holding
+share_in places t = option_and_then (λ place. place) (slice_get places t)
+
+-- that at the thread's place
 abbrev pub share_at : List (Option Holding) → ThreadId → Option Holding
-share_at places t = option_and_then (λ place. place) (slice_get places t.0)
+share_at places t = share_in places t.0
 
 -- each share stands at the place of its thread
 pub record AreInPlace (places : List (Option Holding)) : Type 0 where

@@ -1,10 +1,10 @@
 ghost use Rattle.velo_events.specs.Refusals.{GrowthRefused};
 ghost use Rattle.velo_events.specs.declared.limits.TheConstants.{MOST_EVENTS};
-ghost use Rattle.std.specs.Prelude.{◌≡◌, ◌<◌, ◌≤◌, ◌↔◌, Some, IfOk, IfSome, IsTrue, length, slice_get, sum_by, OnErr};
+ghost use Rattle.std.specs.Prelude.{◌≡◌, ◌<◌, ◌≤◌, ◌+◌, ◌↔◌, Some, IfOk, IfSome, IsTrue, length, slice_get, sum_by, option_copied, OnErr};
 ghost use Rattle.std.specs.Option.{SomeIff};
 ghost use Rattle.velo_ledger.specs.Tally.{with_event};
-ghost use Rattle.velo_ledger.specs.Shares.{AreOpening, events_in, events_in_all};
-ghost use Rattle.velo_ledger.specs.Book.{FitsBook, PlaceFits, HasAllShares, with_row, with_tally, opening_accounts, CanEnterAt, EntersAt};
+ghost use Rattle.velo_ledger.specs.Shares.{AreInPlace, AreOpening, events_in, events_in_all};
+ghost use Rattle.velo_ledger.specs.Book.{FitsBook, PlacesFit, HasAllShares, HaveAllShares, with_row, with_tally, opening_accounts, CanEnterAt, EntersAt};
 
 use crate::share::Share;
 use crate::shares::Shares;
@@ -107,14 +107,17 @@ impl Book {
         }
     }
 
-    /// The events that the place counts, where no share is missing there and the share fits.
-    fn events_at(&self, place: usize, share: &Option<Share>) -> Option<u64>
-        ensures sum { SomeIff result (PlaceFits self.now place share.now) (events_in share.now) }
+    /// The events of the one share at a place of two lists, where it fits, or none where no thread has this place.
+    fn events_at(&self, place: usize, kept: Option<&Share>, given: Option<&Share>) -> Option<u64>
+        ensures sum { SomeIff result (PlacesFit self.now place (option_copied kept.entry) (option_copied given.entry))
+            (events_in (option_copied kept.entry) + events_in (option_copied given.entry)) }
         ensures few { IfSome result (λ events. events ≤ MOST_EVENTS) }
     {
-        match share {
-            Some(share) if self.fits(share) => Some(share.tally.events),
-            None if place >= self.rows.len() => Some(0),
+        match (kept, given) {
+            (Some(share), None) | (None, Some(share)) if self.fits(share) => Some(
+                share.tally.events,
+            ),
+            (None, None) if place >= self.rows.len() => Some(0),
             _ => None,
         }
     }
@@ -125,12 +128,23 @@ pub fn gather(book: &Book, shares: &Shares) -> Option<u64>
     ensures sum { SomeIff result (HasAllShares book.now shares.now) (events_in_all shares.now) }
     ensures rows { IfSome result (λ events. events ≡ sum_by (λ row. row.events) book.now.rows) }
 {
-    if shares.places.len() < book.rows.len() {
-        return None;
-    }
+    gather_both(book, &Shares::nowhere(*shares.places.allocator()), shares)
+}
+
+/// The sum of the shares' events, where the share of each thread is there once, in one of the two lists of places, and all fit.
+pub fn gather_both(book: &Book, kept: &Shares, given: &Shares) -> Option<u64>
+    ensures sum { SomeIff result (HaveAllShares book.now kept.now given.now) (events_in_all kept.now + events_in_all given.now) }
+    ensures rows { IfSome result (λ events. events ≡ sum_by (λ row. row.events) book.now.rows) }
+    ensures in_place { AreInPlace kept.now × AreInPlace given.now }
+{
+    let places = book
+        .rows
+        .len()
+        .max(kept.places.len())
+        .max(given.places.len());
     let mut sum = 0;
-    for place in 0..shares.places.len() {
-        sum += book.events_at(place, &shares.places[place])?;
+    for place in 0..places {
+        sum += book.events_at(place, kept.at(place), given.at(place))?;
     }
     Some(sum)
 }

@@ -8,7 +8,7 @@ mod tally;
 #[cfg(test)]
 mod tests;
 
-pub use book::{Book, gather};
+pub use book::{Book, gather, gather_both};
 pub use share::Share;
 pub use shares::Shares;
 pub use tally::Tally;

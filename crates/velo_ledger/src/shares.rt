@@ -1,7 +1,7 @@
 ghost use Rattle.velo_events.specs.Refusals.{GrowthRefused};
-ghost use Rattle.std.specs.Prelude.{◌≡◌, ◌↔◌, None, Some, IsOk, IfOk, OnOk, IfErr, OnErr, IfSome, replicate, slice_get, slice_set};
+ghost use Rattle.std.specs.Prelude.{◌≡◌, ◌↔◌, [], None, Some, IsOk, IfOk, OnOk, IfErr, OnErr, IfSome, replicate, slice_get, slice_set};
 ghost use Rattle.std.specs.Option.{option_copied};
-ghost use Rattle.velo_ledger.specs.Shares.{AreInPlace, share_at};
+ghost use Rattle.velo_ledger.specs.Shares.{AreInPlace, share_at, share_in};
 
 use crate::share::Share;
 use std::alloc::Global;
@@ -28,6 +28,15 @@ impl Model for Shares {
 }
 
 impl Shares {
+    /// No place at all. It takes no memory.
+    pub(crate) fn nowhere(alloc: Global) -> Shares
+        ensures { result ≡ [] }
+    {
+        Shares {
+            places: Vec::new(alloc),
+        }
+    }
+
     /// A place for each of so many threads, and every place empty.
     pub fn none(alloc: Global, threads: u8) -> Result<Shares, Memory>
         ensures empty { IfOk result (λ shares. shares ≡ replicate threads None) }
@@ -46,7 +55,15 @@ impl Shares {
         ensures own { IfSome result (λ share. share.now.thread ≡ thread) }
         ensures in_place { AreInPlace self.now }
     {
-        let place = usize::from(thread.0);
+        self.at(usize::from(thread.0))
+    }
+
+    /// A look at the share at the place, where one is there.
+    pub(crate) fn at(&self, place: usize) -> Option<&Share>
+        ensures share { option_copied result ≡ share_in self.now place }
+        ensures own { IfSome result (λ share. share.now.thread.0 ≡ place) }
+        ensures in_place { AreInPlace self.now }
+    {
         if place < self.places.len() {
             self.places[place].as_ref()
         } else {

@@ -1,87 +1,85 @@
 -- When the given shares, with those that the world keeps, are one fitting share of each thread.
-use Rattle.std.proofs.Common.{◌≡◌, ℕ, ◌<◌, ◌≤◌, Bool, true, false, List, length, Option, Some, None, refl, sym, ap, ◌∙◌, subst, arith, ⊎_elim}
-use Rattle.std.specs.Prelude.{slice_get}
-use Rattle.std.proofs.lemmas.Bool.{cases_lt, false≢true}
+use Rattle.std.proofs.Common.{◌≡◌, ◌≢◌, ◌⊎◌, inl, inr, ⊎_elim, ℕ, suc, ◌+◌, ◌<◌, Bool, true, false, List, [], ◌∷◌, length, Option, Some, None, refl, sym, ap, ◌∙◌, subst, arith}
+use Rattle.std.specs.Prelude.{slice_get, IsTrue, IsFalse}
+use Rattle.std.proofs.lemmas.Bool.{cases_Bool, false≢true}
+use Rattle.std.proofs.lemmas.List.Sums.{sum_by-cons}
 use Rattle.std.proofs.lemmas.Option.{slice_get_within, same_Some}
 use Rattle.velo_events.specs.Heap.{status_in}
 use Rattle.velo_events.specs.Meaning.{is_unborn}
-use Rattle.velo_ledger.specs.declared.tally.Tally.{Tally}
+use Rattle.velo_events.proofs.OnStatuses.{is_Unborn}
 use Rattle.velo_ledger.specs.Views.{Accounts, Holding}
-use Rattle.velo_ledger.specs.Shares.{AreInPlace, events_in, events_in_all, share_at}
-use Rattle.velo_ledger.specs.Logs.{tally_of}
-use Rattle.velo_ledger.proofs.Places.{sum_by-matching}
-use Rattle.velo_world.specs.World.{WorldState, FitsLog, IsBookOf, IsBorn, HasShare, CompletesShares}
-use Rattle.velo_world.specs.Kept.{KeepsUnborn, PlaceIsRight}
-
-no_share : (place : Option (Option Holding)) (share : Holding) → place ≡ None → place ≡ Some (Some share) → ⊥
-no_share place share none some = let same : ◌≡◌ {A = Option (Option Holding)} None (Some (Some share)) = sym none ∙ some in cc
+use Rattle.velo_ledger.specs.Shares.{AreInPlace, events_in, events_in_all, opening_share}
+use Rattle.velo_ledger.specs.Book.{FitsBook, HaveAllShares, IsFilled}
+use Rattle.velo_world.specs.World.{WorldState, IsBookOf, IsBorn, HasShare, CompletesShares}
+use Rattle.velo_world.specs.Kept.{KeepsUnborn}
+use Rattle.velo_world.proofs.OnHoldings.{FitsBook-from, FitsLog-from}
 
 empty : (place : Option (Option Holding)) (share : Holding) → place ≡ Some None → place ≡ Some (Some share) → ⊥
 empty place share none some = let same : ◌≡◌ {A = Option (Option Holding)} (Some None) (Some (Some share)) = sym none ∙ some in cc
 
-module _ (w : WorldState) (given : List (Option Holding)) where
-  right_at : (t : ℕ) (place : Option (Option Holding)) → slice_get given t ≡ place → CompletesShares w given → PlaceIsRight w t (share_at given (record { 0 = t }))
-  right_at t None is complete = rw is (λ born. let has = complete.born t born in no_share (slice_get given t) has.share is has.there)
-  right_at t (Some None) is complete = rw is (λ born. let has = complete.born t born in empty (slice_get given t) has.share is has.there)
-  right_at t (Some (Some share)) is complete =
-      let born = complete.no_other t share is in
-      let has = complete.born t born in
-      let same : has.share ≡ share = same_Some has.share share (same_Some (Some has.share) (Some share) (sym has.there ∙ is)) in
-      rw is (born, subst (FitsLog w) same has.fits)
+-- shares without events count none
+none_counted : (places : List (Option Holding)) → ((t : ℕ) (share : Holding) → slice_get places t ≡ Some (Some share) → share.tally.events ≡ 0) → events_in_all places ≡ 0
+none_counted [] each = refl
+none_counted (None ∷ places) each =
+    let rest = none_counted places (λ t. each (suc t)) in
+    omega (arith, sum_by-cons events_in None places, rest)
+none_counted (Some share ∷ places) each =
+    let rest = none_counted places (λ t. each (suc t)) in
+    omega (arith, sum_by-cons events_in (Some share) places, each 0 share refl, rest)
 
-  -- where all is complete, each place is right
-  pub PlaceIsRight-complete : (t : ℕ) → CompletesShares w given → PlaceIsRight w t (share_at given (record { 0 = t }))
-  PlaceIsRight-complete t complete = right_at t (slice_get given t) refl complete
+module _ (w : WorldState) (kept : List (Option Holding)) (keeps : KeepsUnborn w kept) where
+  unborn_kept : (t : ℕ) → t < w.config.bounds.threads → IsTrue (is_unborn (status_in w.log t)) → slice_get kept t ≡ Some (Some (opening_share w.config.run t))
+  unborn_kept t lt unborn = rw unborn at (keeps.each t lt)
 
-  has_at : (t : ℕ) (place : Option (Option Holding)) → slice_get given t ≡ place → AreInPlace given → PlaceIsRight w t (share_at given (record { 0 = t })) → IsBorn w t → HasShare w given t
-  has_at t None is own right born = absurd ((rw is at right) born)
-  has_at t (Some None) is own right born = absurd ((rw is at right) born)
-  has_at t (Some (Some share)) is own right born = record { share = share; there = is; own = own.own t share is; fits = (rw is at right).1 }
+  kept_below : (t : ℕ) (share : Holding) → slice_get kept t ≡ Some (Some share) → t < w.config.bounds.threads
+  kept_below t share is = let inside = slice_get_within kept t (Some share) is in let count = keeps.count in omega arith
 
-  -- and where each place is right, all is complete
-  pub CompletesShares-from_places : AreInPlace given → ((t : ℕ) → t < 255 → PlaceIsRight w t (share_at given (record { 0 = t }))) → CompletesShares w given
-  CompletesShares-from_places own right = record {
-    born = λ t born. let lt = born.0 in let few = w.config.few_threads in has_at t (slice_get given t) refl own (right t (omega arith)) born;
-    no_other = λ t share is. let lt = slice_get_within given t (Some share) is in let few = own.few in (rw is at (right t (omega arith))).0;
-  }
+  kept_unborn : (t : ℕ) (share : Holding) → slice_get kept t ≡ Some (Some share) → IsTrue (is_unborn (status_in w.log t))
+  kept_unborn t share is = ⊎_elim (λ unborn. unborn) (λ born. absurd (empty (slice_get kept t) share (rw born at (keeps.each t (kept_below t share is))) is)) (cases_Bool (is_unborn (status_in w.log t)))
 
--- ---- the sum
+  kept_is : (t : ℕ) (share : Holding) → slice_get kept t ≡ Some (Some share) → opening_share w.config.run t ≡ share
+  kept_is t share is =
+      let there = unborn_kept t (kept_below t share is) (kept_unborn t share is) in
+      same_Some (opening_share w.config.run t) share (same_Some (Some (opening_share w.config.run t)) (Some share) (sym there ∙ is))
 
-module _ (w : WorldState) (book : Accounts) (kept given : List (Option Holding)) (are : IsBookOf w book) (keeps : KeepsUnborn w kept) (own : AreInPlace given) (complete : CompletesShares w given) where
-  row_is : (t : ℕ) (row : Tally) → slice_get book.rows t ≡ Some row → row ≡ tally_of w.log t
-  row_is t row is = sym (same_Some (tally_of w.log t) row (sym (are.rows.each t (slice_get_within book.rows t row is)) ∙ is))
+  -- the kept shares count no event
+  pub kept-counts_none : events_in_all kept ≡ 0
+  kept-counts_none = none_counted kept (λ t share is. ap (λ (s : Holding). s.tally.events) (sym (kept_is t share is)))
 
-  row_there : (t : ℕ) (row : Tally) → slice_get book.rows t ≡ Some row → t < w.config.bounds.threads
-  row_there t row is = let lt = slice_get_within book.rows t row is in let count = are.count in omega arith
+  module _ (book : Accounts) (given : List (Option Holding)) (are : IsBookOf w book) where
+    below : (t : ℕ) → t < length book.rows → t < w.config.bounds.threads
+    below t lt = let count = are.count in omega arith
 
-  -- a thread without a given share has no events
-  none_of : (t : ℕ) → t < w.config.bounds.threads → ¬ IsBorn w t → (tally_of w.log t).events ≡ 0
-  none_of t lt not_born = at (is_unborn (status_in w.log t)) refl
-    where
-      at : (b : Bool) → is_unborn (status_in w.log t) ≡ b → (tally_of w.log t).events ≡ 0
-      at true is = ap (λ (tally : Tally). tally.events) (sym (keeps.fit t lt is).tally)
-      at false is = absurd (not_born (lt, λ unborn. false≢true (sym is ∙ ap is_unborn unborn)))
+    -- a place with a given share is that of a thread whose share is not kept
+    not_kept : (t : ℕ) → IsBorn w t → ¬ IsFilled kept t
+    not_kept t born has = born.1 (is_Unborn (status_in w.log t) (kept_unborn t has.0 has.1))
 
-  counted : (t : ℕ) (place : Option Holding) (row : Tally) → slice_get given t ≡ Some place → slice_get book.rows t ≡ Some row → events_in place ≡ row.events
-  counted t None row is at = sym (ap (λ (tally : Tally). tally.events) (row_is t row at) ∙ none_of t (row_there t row at) (λ born. let has = complete.born t born in empty (slice_get given t) has.share is has.there))
-  counted t (Some share) row is at =
-      let has = complete.born t (complete.no_other t share is) in
-      let same : has.share ≡ share = same_Some has.share share (same_Some (Some has.share) (Some share) (sym has.there ∙ is)) in
-      let fits : FitsLog w share = subst (FitsLog w) same has.fits in
-      ap (λ (tally : Tally). tally.events) (fits.tally ∙ (ap (tally_of w.log) (own.own t share is) ∙ sym (row_is t row at)))
+    given_is : (t : ℕ) (share : Holding) → slice_get given t ≡ Some (Some share) → (has : HasShare w given t) → has.share ≡ share
+    given_is t share is has = same_Some has.share share (same_Some (Some has.share) (Some share) (sym has.there ∙ is))
 
-  beyond_rows : (t : ℕ) (place : Option Holding) → slice_get given t ≡ Some place → length book.rows ≤ t → events_in place ≡ 0
-  beyond_rows t None is past = refl
-  beyond_rows t (Some share) is past = let lt = (complete.no_other t share is).0 in let count = are.count in absurd (omega arith)
+    pub HaveAllShares-complete : CompletesShares w given → HaveAllShares book kept given
+    HaveAllShares-complete complete = record {
+      there = λ t lt. ⊎_elim
+          (λ unborn. inl (opening_share w.config.run t, unborn_kept t (below t lt) unborn))
+          (λ born. (let has = complete.born t (below t lt, λ unborn. false≢true (sym born ∙ ap is_unborn unborn)) in inr (has.share, has.there)))
+          (cases_Bool (is_unborn (status_in w.log t)));
+      once = λ t k g. not_kept t (complete.no_other t g.0 g.1) k;
+      kept_fit = λ t share is. subst (FitsBook book) (kept_is t share is) (FitsBook-from w book (opening_share w.config.run t) are (keeps.fit t (kept_below t share is) (kept_unborn t share is)));
+      given_fit = λ t share is. (let has = complete.born t (complete.no_other t share is) in subst (FitsBook book) (given_is t share is has) (FitsBook-from w book has.share are has.fits));
+    }
 
-  beyond_given : (t : ℕ) (row : Tally) → slice_get book.rows t ≡ Some row → length given ≤ t → row.events ≡ 0
-  beyond_given t row at past =
-      ap (λ (tally : Tally). tally.events) (row_is t row at)
-      ∙ none_of t (row_there t row at) (λ born. let has = complete.born t born in let lt = slice_get_within given t (Some has.share) has.there in omega arith)
+    pub CompletesShares-have : AreInPlace given → HaveAllShares book kept given → CompletesShares w given
+    CompletesShares-have own all = record {
+      born = λ t born. ⊎_elim (λ k. absurd (not_kept t born k)) (λ g. given_at t g) (all.there t (let lt = born.0 in let count = are.count in omega arith));
+      no_other = λ t share is. (let lt = given_below t share is in (lt, λ unborn. all.once t (opening_share w.config.run t, unborn_kept t lt (ap is_unborn unborn)) (share, is)));
+    }
+      where
+        given_at : (t : ℕ) → IsFilled given t → HasShare w given t
+        given_at t g = record { share = g.0; there = g.1; own = own.own t g.0 g.1; fits = FitsLog-from w book g.0 are (all.given_fit t g.0 g.1) }
 
-  -- the given shares count the whole log
-  pub sum-given : events_in_all given ≡ length w.log
-  sum-given = ⊎_elim
-      (λ short. sym (sum_by-matching (λ (row : Tally). row.events) events_in book.rows given (omega (arith, short)) (λ k row place at is. sym (counted k place row is at)) beyond_given) ∙ are.total)
-      (λ long. sum_by-matching events_in (λ (row : Tally). row.events) given book.rows long counted beyond_rows ∙ are.total)
-      (cases_lt (length given) (length book.rows))
+        given_below : (t : ℕ) (share : Holding) → slice_get given t ≡ Some (Some share) → t < w.config.bounds.threads
+        given_below t share is =
+            let fits = FitsLog-from w book share are (all.given_fit t share is) in
+            let lt = fits.thread in
+            let at = own.own t share is in
+            omega arith

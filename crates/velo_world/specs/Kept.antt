@@ -6,7 +6,7 @@ use Rattle.velo_events.specs.Heap.{status_in}
 use Rattle.velo_events.specs.Meaning.{is_unborn}
 use Rattle.velo_ledger.specs.Shares.{opening_share, share_at}
 use Rattle.velo_ledger.specs.Views.{Holding}
-use Rattle.velo_world.specs.World.{WorldState, FitsLog, IsBorn}
+use Rattle.velo_world.specs.World.{WorldState, FitsLog}
 
 -- what the world keeps at the place of a thread: the share that an unborn thread begins with, and no other
 abbrev pub KeptAt : WorldState → ℕ → Option (Option Holding) → Type 0
@@ -17,11 +17,6 @@ pub record KeepsUnborn (w : WorldState) (kept : List (Option Holding)) : Type 0 
   pub count : length kept ≡ w.config.bounds.threads
   pub each : (t : ℕ) → t < w.config.bounds.threads → KeptAt w t (slice_get kept t)
   pub fit : (t : ℕ) → t < w.config.bounds.threads → IsTrue (is_unborn (status_in w.log t)) → FitsLog w (opening_share w.config.run t)
-
--- what is right at a place of the given shares, whether or not such a thread is there
-abbrev pub PlaceIsRight : WorldState → ℕ → Option Holding → Type 0
-PlaceIsRight w t None = ¬ IsBorn w t
-PlaceIsRight w t (Some share) = IsBorn w t × FitsLog w share
 
 -- the share that an action takes out of the places: that of the thread that it forks
 abbrev pub taken_by : List (Option Holding) → Action → Option Holding

@@ -16,8 +16,8 @@ ghost use Rattle.velo_ledger.specs.Shares.{AreInPlace, events_in_all, opening_sh
 ghost use Rattle.velo_arena.specs.Slots.{limit_of};
 ghost use Rattle.velo_arena.specs.Stamps.{stamps_in};
 ghost use Rattle.velo_monitor.specs.Watched.{IsMonitorOf};
-ghost use Rattle.velo_world.specs.World.{IsAlarm, IsWatchedPart, opening, halted_world, meaning, FitsLog, OthersStillFit, IsBookOf, IsBorn, IsLiveThread, HoldsLiveShares, CompletesShares, IsNoFork, Replies, Acts, Forks, Closes, StepsTo, RunsTo};
-ghost use Rattle.velo_world.specs.Kept.{PlaceIsRight, left_by, taken_by, with_share};
+ghost use Rattle.velo_world.specs.World.{IsAlarm, IsWatchedPart, opening, halted_world, meaning, FitsLog, OthersStillFit, IsBookOf, IsLiveThread, HoldsLiveShares, CompletesShares, IsNoFork, Replies, Acts, Forks, Closes, StepsTo, RunsTo};
+ghost use Rattle.velo_world.specs.Kept.{left_by, taken_by, with_share};
 
 use crate::closed::Closed;
 use crate::course::Course;
@@ -26,9 +26,9 @@ use std::alloc::Global;
 use std::fmt;
 use std::marker::Model;
 use velo_events::growth::reserve;
-use velo_events::{Action, Bounds, Config, Event, Kind, Memory, Refusal, Status, ThreadId};
+use velo_events::{Action, Bounds, Config, Event, Kind, Memory, Refusal, ThreadId};
 use velo_heap::Heap;
-use velo_ledger::{Book, Share, Shares};
+use velo_ledger::{Book, Share, Shares, gather_both};
 use velo_monitor::Monitor;
 use velo_traces::Trace;
 
@@ -285,37 +285,10 @@ impl World {
         ensures closes { Closes self given result }
         ensures sum { IfOk result (λ closed. events_in_all given ≡ length closed.log) }
     {
-        if self.is_complete(&given) {
-            Ok(Closed { world: self })
-        } else {
-            Err((self, given))
+        match gather_both(&self.book, &self.kept, &given) {
+            Some(_) => Ok(Closed { world: self }),
+            None => Err((self, given)),
         }
-    }
-
-    /// Whether the thread is there and not unborn.
-    fn is_born(&self, thread: ThreadId) -> bool
-        ensures { IsTrue result ↔ IsBorn self.now thread.0 }
-    {
-        thread.0 < self.threads() && !matches!(self.course.run.heap.status(thread), Status::Unborn)
-    }
-
-    /// Whether the shares that the world keeps and those given are one fitting share of each thread: at the place of each
-    /// thread that was born is its fitting share, and at no other place is any.
-    fn is_complete(&self, given: &Shares) -> bool
-        ensures complete { IsTrue result ↔ CompletesShares self.now given.now }
-        ensures sum { IsTrue result → events_in_all given.now ≡ length self.now.log }
-    {
-        let book = &self.book;
-        for thread in 0..u8::MAX {
-            let is_right = match given.get(ThreadId(thread)) {
-                None => !self.is_born(ThreadId(thread)),
-                Some(share) => self.is_born(ThreadId(thread)) && book.fits(share),
-            };
-            if !is_right {
-                return false;
-            }
-        }
-        true
     }
 }
 
