@@ -1,5 +1,5 @@
 ghost use Rattle.velo_events.specs.Refusals.{GrowthRefused};
-ghost use Rattle.std.specs.Prelude.{◌≡◌, ◌<◌, ◌↔◌, None, Err, IfOk, IfErr, IfSome, IfNone, IsTrue, option_map, All, count_by, sum_by, length, if◌then◌else◌, replicate, OnErr};
+ghost use Rattle.std.specs.Prelude.{◌≡◌, ◌≢◌, ◌<◌, ◌↔◌, None, Err, IfOk, IfErr, IfSome, IfNone, IsTrue, option_map, All, count_by, sum_by, length, if◌then◌else◌, replicate, OnErr};
 ghost use Rattle.velo_events.specs.declared.refusal.Refusal.TheVariants as refusal;
 ghost use Rattle.velo_events.specs.Graph.{HasCycle};
 ghost use Rattle.velo_events.specs.Heap.{status_in};
@@ -294,6 +294,7 @@ pub fn step_in(room: &mut Room, seat: &mut Seat, action: Action) -> Result<Reply
     ensures step { StepsIn room.old seat.old action result room.new seat.new }
     ensures foreign { (result ≡ Err refusal.Foreign) ↔ ¬ FitsLog room.old.world seat.old }
     ensures memory { result ≡ Err refusal.Memory → GrowthRefused }
+    ensures runtime { result ≢ Err refusal.RuntimeMemory }
 {
     if !room.fits(seat) {
         return Err(Refusal::Foreign);
@@ -309,6 +310,7 @@ pub fn fork_in(room: &mut Room, seat: &mut Seat, child: ThreadId) -> Result<(Rep
     ensures step { StepsForking room.old seat.old child result room.new seat.new }
     ensures foreign { (result ≡ Err refusal.Foreign) ↔ ¬ FitsLog room.old.world seat.old }
     ensures memory { result ≡ Err refusal.Memory → GrowthRefused }
+    ensures runtime { result ≢ Err refusal.RuntimeMemory }
 {
     if !room.fits(seat) {
         return Err(Refusal::Foreign);
@@ -326,6 +328,7 @@ pub fn turn_in(room: &mut Room, seat: &mut Seat, action: Action) -> Turn
     ensures turn { TurnsIn room.old seat.old action result room.new seat.new }
     ensures foreign { (result ≡ turn.Refused refusal.Foreign) ↔ ¬ FitsLog room.old.world seat.old }
     ensures memory { result ≡ turn.Refused refusal.Memory → GrowthRefused }
+    ensures runtime { result ≢ turn.Refused refusal.RuntimeMemory }
 {
     if !room.fits(seat) {
         return Turn::Refused(Refusal::Foreign);

@@ -54,6 +54,7 @@ impl Seat {
         ensures read { IfOk result (λ value. GainsEvent self.old self.new (kind.Read x value)) }
         ensures unchanged { OnErr result (self.new ≡ self.old) }
         ensures memory { result ≡ Err refusal.Memory → GrowthRefused }
+        ensures runtime { result ≢ Err refusal.RuntimeMemory }
     {
         let reply = self.turn(rt, shared, Action::Read(x))?;
         let Some(value) = reply.value else {
@@ -73,6 +74,7 @@ impl Seat {
         ensures written { IfOk result (λ reply. GainsEventOf self.old self.new reply (kind.Write x value)) }
         ensures unchanged { OnErr result (self.new ≡ self.old) }
         ensures memory { result ≡ Err refusal.Memory → GrowthRefused }
+        ensures runtime { result ≢ Err refusal.RuntimeMemory }
     {
         self.turn(rt, shared, Action::Write(x, value))
     }
@@ -88,6 +90,7 @@ impl Seat {
         ensures waits { result ≢ Err refusal.Busy }
         ensures unchanged { OnErr result (self.new ≡ self.old) }
         ensures memory { result ≡ Err refusal.Memory → GrowthRefused }
+        ensures runtime { result ≢ Err refusal.RuntimeMemory }
     {
         self.turn(rt, shared, Action::Acquire(lock))
     }
@@ -102,6 +105,7 @@ impl Seat {
         ensures released { IfOk result (λ reply. GainsEventOf self.old self.new reply (kind.Release lock)) }
         ensures unchanged { OnErr result (self.new ≡ self.old) }
         ensures memory { result ≡ Err refusal.Memory → GrowthRefused }
+        ensures runtime { result ≢ Err refusal.RuntimeMemory }
     {
         self.turn(rt, shared, Action::Release(lock))
     }
@@ -116,6 +120,7 @@ impl Seat {
         ensures begun { IfOk result (λ reply. GainsEventOf self.old self.new reply (kind.Begin label)) }
         ensures unchanged { OnErr result (self.new ≡ self.old) }
         ensures memory { result ≡ Err refusal.Memory → GrowthRefused }
+        ensures runtime { result ≢ Err refusal.RuntimeMemory }
     {
         self.turn(rt, shared, Action::Begin(label))
     }
@@ -125,6 +130,7 @@ impl Seat {
         ensures ended { IfOk result (λ reply. GainsEventOf self.old self.new reply kind.End) }
         ensures unchanged { OnErr result (self.new ≡ self.old) }
         ensures memory { result ≡ Err refusal.Memory → GrowthRefused }
+        ensures runtime { result ≢ Err refusal.RuntimeMemory }
     {
         self.turn(rt, shared, Action::End)
     }
@@ -140,6 +146,7 @@ impl Seat {
         ensures child { IfOk result (λ seat. seat ≡ opening_share self.old.run child.0) }
         ensures unchanged { OnErr result (self.new ≡ self.old) }
         ensures memory { result ≡ Err refusal.Memory → GrowthRefused }
+        ensures runtime { result ≢ Err refusal.RuntimeMemory }
     {
         let mut room = shared.room.lock(rt);
         let (_, seat) = fork_in(&mut room, self, child)?;
@@ -157,6 +164,7 @@ impl Seat {
         ensures waits { result ≢ Err refusal.NotExited }
         ensures unchanged { OnErr result (self.new ≡ self.old) }
         ensures memory { result ≡ Err refusal.Memory → GrowthRefused }
+        ensures runtime { result ≢ Err refusal.RuntimeMemory }
     {
         self.turn(rt, shared, Action::Join(thread))
     }
@@ -166,6 +174,7 @@ impl Seat {
         ensures exited { IfOk result (λ reply. GainsEventOf self.old self.new reply kind.Exit) }
         ensures unchanged { OnErr result (self.new ≡ self.old) }
         ensures memory { result ≡ Err refusal.Memory → GrowthRefused }
+        ensures runtime { result ≢ Err refusal.RuntimeMemory }
     {
         self.turn(rt, shared, Action::Exit)
     }
@@ -178,6 +187,7 @@ impl Seat {
         ensures unchanged { OnErr result (self.new ≡ self.old) }
         ensures lasting { IfErr result (λ refusal. wanted_by action refusal ≡ None) }
         ensures memory { result ≡ Err refusal.Memory → GrowthRefused }
+        ensures runtime { result ≢ Err refusal.RuntimeMemory }
     {
         let mut room = shared.room.lock(rt);
         for _ in rt.forever() {
