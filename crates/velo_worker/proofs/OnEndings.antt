@@ -1,6 +1,6 @@
 -- How the ends of workers are gone through, one after another.
-use Rattle.std.proofs.Common.{◌≡◌, ◌≢◌, ◌<◌, ◌≤◌, ℕ, zero, suc, ◌+◌, Bool, true, false, List, [], ◌∷◌, length, get_or, refl, sym, ◌∙◌, ap, subst, inl, inr, arith, Some, None, Option}
-use Rattle.std.specs.Prelude.{slice_get, ◌⊎◌, All, Any, nat_le}
+use Rattle.std.proofs.Common.{◌≡◌, ◌≢◌, ◌<◌, ◌≤◌, ℕ, ◌+◌, true, false, List, length, get_or, refl, sym, ◌∙◌, ap, subst, inl, inr, arith, Some, None, Option}
+use Rattle.std.specs.Prelude.{slice_get, ◌⊎◌, All, nat_le}
 use Rattle.std.proofs.lemmas.Bool.{cases_Bool, cases_eq, leb-true, leb-false}
 use Rattle.std.proofs.lemmas.Option.{slice_get-get_or, slice_get_within, get_or_from_slice_get}
 use Rattle.velo_events.specs.declared.event.ThreadId.{ThreadId}
@@ -8,7 +8,7 @@ use Rattle.velo_events.specs.declared.refusal.Refusal.{Refusal}
 use Rattle.velo_events.specs.declared.refusal.Refusal.TheVariants.{Halted}
 use Rattle.velo_worker.specs.declared.outcome.Outcome.{Outcome}
 use Rattle.velo_worker.specs.declared.outcome.Outcome.TheVariants.{Done, Gated, Refused}
-use Rattle.velo_worker.specs.Live.{IsAnyGated, IsAnyHalted, IsLeastMet, LeastMet, WorkerEnd, lesser, met}
+use Rattle.velo_worker.specs.Live.{IsAnyGated, IsAnyHalted, LeastMet, WorkerEnd, lesser, met}
 
 -- among the first n workers, the least thread that met a refusal
 pub record IsLeastUpTo (ended : List WorkerEnd) (n : ℕ) (t : ThreadId) (r : Refusal) : Type 0 where

@@ -1,4 +1,4 @@
-use Rattle.std.proofs.Common.{◌≡◌, subst}
+use Rattle.std.proofs.Common.{subst}
 use Rattle.velo_worker.specs.Live.{EndsAs}
 use Rattle.velo_worker.proofs.OnDone.{all_did}
 use Rattle.velo_worker.proofs.living.finish.Goals as goal
