@@ -9,7 +9,8 @@ use Rattle.velo_worker.specs.declared.outcome.Outcome.{Outcome}
 use Rattle.velo_worker.specs.declared.outcome.Outcome.TheVariants as worker
 pub use Rattle.velo_seal.specs.Start.{StartRefused}
 
--- an event was refused for want of memory only where a growth was; a body's worker only where a growth or its thread's start was
+-- of a refusal: an event is refused for want of memory only where a growth was. A thread that was born is left without its worker
+-- for want of memory only where a growth or the start of a thread was refused
 abbrev pub HasCause : Refusal → Type 0
 HasCause Memory = GrowthRefused
 HasCause RuntimeMemory = GrowthRefused ⊎ StartRefused
