@@ -20,7 +20,7 @@ loop-worker-preserved c =
     let least : c.lesser.result ≡ lesser l.least worker.seat.thread refusal = c.lesser.ensures ∙ ap (λ t. lesser l.least t refusal) thread in
     record {
       least = subst (λ found. IsLeastUpTo ended (l.worker-index + 1) found.0 found.1) (sym least)
-        (Least-take ended l.worker-index l.least worker refusal here (ap (λ (e : WorkerEnd). met e.outcome) (sym c.worker.view_is) ∙ met_it) l.invariant.least);
+          (Least-take ended l.worker-index l.least worker refusal here (ap (λ (e : WorkerEnd). met e.outcome) (sym c.worker.view_is) ∙ met_it) l.invariant.least);
       cause = subst (λ found. HasCause found.1) (sym c.lesser.ensures) (of_lesser l.least c.thread.result refusal l.invariant.cause (of_met c.worker.inside.outcome refusal c.worker.invariant met_it));
     }
 
