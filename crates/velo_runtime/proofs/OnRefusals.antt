@@ -1,5 +1,5 @@
 -- Which refusals a step answers: those that are due in the world, memory behind a refused growth, and the foreign share.
-use Rattle.std.proofs.Common.{◌≡◌, ℕ, ◌<◌, ◌⊎◌, inl, inr, ⊎_elim, refl, ap, ◌∙◌, Ok, Err}
+use Rattle.std.proofs.Common.{◌≡◌, ◌≢◌, ℕ, ◌<◌, ◌⊎◌, inl, inr, ⊎_elim, refl, ap, ◌∙◌, Ok, Err}
 use Rattle.std.specs.Prelude.{⊤, Result, Option, Some, None, Bool, true, false, List, ◌↔◌, IfErr, IfSome, if◌then◌else◌, length, nat_le}
 use Rattle.std.proofs.lemmas.Bool.{false≢true, leb-false}
 use Rattle.velo_events.specs.declared.config.Bounds.{Bounds}
@@ -93,6 +93,9 @@ forks-refuses w w' share share' child (Err refusal) r forks h = rw (← same_ref
 pub no_foreign : WorldRefuses Foreign → ⊥
 no_foreign refuses = ⊎_elim (λ of_world. false≢true of_world) (λ memory. (let is = memory.0 in cc)) refuses.cause
 
+pub no_runtime : WorldRefuses RuntimeMemory → ⊥
+no_runtime refuses = ⊎_elim (λ of_world. false≢true of_world) (λ memory. (let is = memory.0 in cc)) refuses.cause
+
 pub refused_growth : WorldRefuses Memory → GrowthRefused
 refused_growth refuses = ⊎_elim (λ of_world. absurd (false≢true of_world)) (λ memory. memory.1) refuses.cause
 
@@ -105,12 +108,18 @@ acts-foreign room room' share share' action outcome acts =
 pub acts-memory : (room room' : RoomState) (share share' : Holding) (action : Action) (outcome : Result Reply Refusal) → ActsIn room share action outcome room' share' → outcome ≡ Err Memory → GrowthRefused
 acts-memory room room' share share' action outcome acts h = refused_growth (acts-refuses room.world room'.world share share' action outcome Memory acts.acts h)
 
+pub acts-runtime : (room room' : RoomState) (share share' : Holding) (action : Action) (outcome : Result Reply Refusal) → ActsIn room share action outcome room' share' → outcome ≢ Err RuntimeMemory
+acts-runtime room room' share share' action outcome acts h = no_runtime (acts-refuses room.world room'.world share share' action outcome RuntimeMemory acts.acts h)
+
 pub forks-foreign : (room room' : RoomState) (share share' : Holding) (child : ThreadId) (outcome : Result (Reply × Holding) Refusal) → ForksIn room share child outcome room' share' → (outcome ≡ Err Foreign) ↔ ¬ FitsLog room.world share
 forks-foreign room room' share share' child outcome forks =
     (λ h. absurd (no_foreign (forks-refuses room.world room'.world share share' child outcome Foreign forks.forks h)), λ misfit. absurd (misfit forks.fits))
 
 pub forks-memory : (room room' : RoomState) (share share' : Holding) (child : ThreadId) (outcome : Result (Reply × Holding) Refusal) → ForksIn room share child outcome room' share' → outcome ≡ Err Memory → GrowthRefused
 forks-memory room room' share share' child outcome forks h = refused_growth (forks-refuses room.world room'.world share share' child outcome Memory forks.forks h)
+
+pub forks-runtime : (room room' : RoomState) (share share' : Holding) (child : ThreadId) (outcome : Result (Reply × Holding) Refusal) → ForksIn room share child outcome room' share' → outcome ≢ Err RuntimeMemory
+forks-runtime room room' share share' child outcome forks h = no_runtime (forks-refuses room.world room'.world share share' child outcome RuntimeMemory forks.forks h)
 
 -- ---- a refusal that may pass names what is there
 

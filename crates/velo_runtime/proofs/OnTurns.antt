@@ -1,5 +1,5 @@
 -- What follows from a turn: for its room, and for its seat.
-use Rattle.std.proofs.Common.{◌≡◌, ◌⊎◌, inl, inr, ⊎_elim, refl, ℕ, ap, ◌∙◌, sym, Ok, Err, List, length, set, replicate}
+use Rattle.std.proofs.Common.{◌≡◌, ◌≢◌, ◌⊎◌, inl, inr, ⊎_elim, refl, ℕ, ap, ◌∙◌, sym, Ok, Err, List, length, set, replicate}
 use Rattle.std.specs.Prelude.{Result, Option, Some, None, IfSome, ◌↔◌}
 use Rattle.std.proofs.lemmas.List.{length-set, length-replicate}
 use Rattle.std.proofs.lemmas.List.Elements.{All-same, All-set, All-replicate}
@@ -7,7 +7,7 @@ use Rattle.velo_events.specs.declared.config.Bounds.{Bounds}
 use Rattle.velo_events.specs.declared.event.Action.{Action}
 use Rattle.velo_events.specs.declared.event.ThreadId.{ThreadId}
 use Rattle.velo_events.specs.declared.refusal.Refusal.{Refusal}
-use Rattle.velo_events.specs.declared.refusal.Refusal.TheVariants.{Memory, WouldDeadlock, Foreign}
+use Rattle.velo_events.specs.declared.refusal.Refusal.TheVariants.{Memory, WouldDeadlock, RuntimeMemory, Foreign}
 use Rattle.velo_events.specs.Refusals.{GrowthRefused}
 use Rattle.velo_ledger.specs.Views.{Holding}
 use Rattle.velo_world.specs.World.{WorldState}
@@ -21,7 +21,7 @@ use Rattle.velo_runtime.specs.Rooms.{RoomState, IsThere, AreWaitsWithin}
 use Rattle.velo_runtime.specs.Steps.{ActsIn}
 use Rattle.velo_runtime.specs.Turns.{wanted_by, RefusedFor, TurnOf, TakesTurn, TurnsIn}
 use Rattle.velo_runtime.specs.Seats.{GainsEventBy}
-use Rattle.velo_runtime.proofs.OnRefusals.{acts-refuses, no_foreign, refused_growth}
+use Rattle.velo_runtime.proofs.OnRefusals.{acts-refuses, no_foreign, no_runtime, refused_growth}
 
 -- ---- the table of waits
 
@@ -91,6 +91,12 @@ turn-memory room room' share share' action turn takes h = ⊎_elim
     (λ refused. refused_growth (acts-refuses room.world room'.world share share' action takes.outcome Memory takes.acts refused.0))
     (λ other. cc)
     (turn-refused room share.thread action takes.outcome Memory takes.wait (rw h at takes.turn_is))
+
+pub turn-runtime : (room room' : RoomState) (share share' : Holding) (action : Action) (turn : Turn) → TakesTurn room share action turn room' share' → turn ≢ Refused RuntimeMemory
+turn-runtime room room' share share' action turn takes h = ⊎_elim
+    (λ refused. no_runtime (acts-refuses room.world room'.world share share' action takes.outcome RuntimeMemory takes.acts refused.0))
+    (λ other. cc)
+    (turn-refused room share.thread action takes.outcome RuntimeMemory takes.wait (rw h at takes.turn_is))
 
 acted : (w w' : WorldState) (share share' : Holding) (action : Action) (reply : Reply) → Acts w share action (Ok reply) w' share' → GainsEventBy share share' reply action
 acted w w' share share' action reply acts =

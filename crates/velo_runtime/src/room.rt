@@ -1,5 +1,5 @@
 ghost use Rattle.velo_events.specs.Refusals.{GrowthRefused};
-ghost use Rattle.std.specs.Prelude.{◌≡◌, ◌+◌, ◌↔◌, None, Err, IfOk, IfErr, IfSome, IfNone, IsTrue, option_map, sum_by, length, replicate, OnErr};
+ghost use Rattle.std.specs.Prelude.{◌≡◌, ◌≢◌, ◌+◌, ◌↔◌, None, Err, IfOk, IfErr, IfSome, IfNone, IsTrue, option_map, sum_by, length, replicate, OnErr};
 ghost use Rattle.velo_events.specs.declared.refusal.Refusal.TheVariants as refusal;
 ghost use Rattle.velo_events.specs.Graph.{HasCycle};
 ghost use Rattle.velo_events.specs.Reordering.{IsSerializable};
@@ -285,6 +285,7 @@ pub fn step_in(room: &mut Room, seat: &mut Seat, action: Action) -> Result<Reply
     ensures step { StepsIn room.old seat.old action result room.new seat.new }
     ensures foreign { (result ≡ Err refusal.Foreign) ↔ ¬ FitsLog room.old.world seat.old }
     ensures memory { result ≡ Err refusal.Memory → GrowthRefused }
+    ensures runtime { result ≢ Err refusal.RuntimeMemory }
 {
     if !room.fits(seat) {
         return Err(Refusal::Foreign);
@@ -300,6 +301,7 @@ pub fn fork_in(room: &mut Room, seat: &mut Seat, child: ThreadId) -> Result<(Rep
     ensures step { StepsForking room.old seat.old child result room.new seat.new }
     ensures foreign { (result ≡ Err refusal.Foreign) ↔ ¬ FitsLog room.old.world seat.old }
     ensures memory { result ≡ Err refusal.Memory → GrowthRefused }
+    ensures runtime { result ≢ Err refusal.RuntimeMemory }
 {
     if !room.fits(seat) {
         return Err(Refusal::Foreign);
@@ -317,6 +319,7 @@ pub fn turn_in(room: &mut Room, seat: &mut Seat, action: Action) -> Turn
     ensures turn { TurnsIn room.old seat.old action result room.new seat.new }
     ensures foreign { (result ≡ turn.Refused refusal.Foreign) ↔ ¬ FitsLog room.old.world seat.old }
     ensures memory { result ≡ turn.Refused refusal.Memory → GrowthRefused }
+    ensures runtime { result ≢ turn.Refused refusal.RuntimeMemory }
 {
     if !room.fits(seat) {
         return Turn::Refused(Refusal::Foreign);

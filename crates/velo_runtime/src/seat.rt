@@ -47,6 +47,7 @@ impl Seat {
         ensures read { IfOk result (λ value. GainsEvent self.old self.new (kind.Read x value)) }
         ensures unchanged { OnErr result (self.new ≡ self.old) }
         ensures memory { result ≡ Err refusal.Memory → GrowthRefused }
+        ensures runtime { result ≢ Err refusal.RuntimeMemory }
     {
         let reply = self.turn(rt, shared, Action::Read(x))?;
         let Some(value) = reply.value else {
@@ -66,6 +67,7 @@ impl Seat {
         ensures written { IfOk result (λ reply. GainsEventOf self.old self.new reply (kind.Write x value)) }
         ensures unchanged { OnErr result (self.new ≡ self.old) }
         ensures memory { result ≡ Err refusal.Memory → GrowthRefused }
+        ensures runtime { result ≢ Err refusal.RuntimeMemory }
     {
         self.turn(rt, shared, Action::Write(x, value))
     }
@@ -81,6 +83,7 @@ impl Seat {
         ensures waits { result ≢ Err refusal.Busy }
         ensures unchanged { OnErr result (self.new ≡ self.old) }
         ensures memory { result ≡ Err refusal.Memory → GrowthRefused }
+        ensures runtime { result ≢ Err refusal.RuntimeMemory }
     {
         self.turn(rt, shared, Action::Acquire(lock))
     }
@@ -95,6 +98,7 @@ impl Seat {
         ensures released { IfOk result (λ reply. GainsEventOf self.old self.new reply (kind.Release lock)) }
         ensures unchanged { OnErr result (self.new ≡ self.old) }
         ensures memory { result ≡ Err refusal.Memory → GrowthRefused }
+        ensures runtime { result ≢ Err refusal.RuntimeMemory }
     {
         self.turn(rt, shared, Action::Release(lock))
     }
@@ -109,6 +113,7 @@ impl Seat {
         ensures begun { IfOk result (λ reply. GainsEventOf self.old self.new reply (kind.Begin label)) }
         ensures unchanged { OnErr result (self.new ≡ self.old) }
         ensures memory { result ≡ Err refusal.Memory → GrowthRefused }
+        ensures runtime { result ≢ Err refusal.RuntimeMemory }
     {
         self.turn(rt, shared, Action::Begin(label))
     }
@@ -118,6 +123,7 @@ impl Seat {
         ensures ended { IfOk result (λ reply. GainsEventOf self.old self.new reply kind.End) }
         ensures unchanged { OnErr result (self.new ≡ self.old) }
         ensures memory { result ≡ Err refusal.Memory → GrowthRefused }
+        ensures runtime { result ≢ Err refusal.RuntimeMemory }
     {
         self.turn(rt, shared, Action::End)
     }
@@ -133,6 +139,7 @@ impl Seat {
         ensures child { IfOk result (λ seat. seat ≡ opening_share self.old.run child.0) }
         ensures unchanged { OnErr result (self.new ≡ self.old) }
         ensures memory { result ≡ Err refusal.Memory → GrowthRefused }
+        ensures runtime { result ≢ Err refusal.RuntimeMemory }
     {
         let mut room = shared.room.lock(rt);
         let (_, seat) = fork_in(&mut room, self, child)?;
@@ -150,6 +157,7 @@ impl Seat {
         ensures waits { result ≢ Err refusal.NotExited }
         ensures unchanged { OnErr result (self.new ≡ self.old) }
         ensures memory { result ≡ Err refusal.Memory → GrowthRefused }
+        ensures runtime { result ≢ Err refusal.RuntimeMemory }
     {
         self.turn(rt, shared, Action::Join(thread))
     }
@@ -159,6 +167,7 @@ impl Seat {
         ensures exited { IfOk result (λ reply. GainsEventOf self.old self.new reply kind.Exit) }
         ensures unchanged { OnErr result (self.new ≡ self.old) }
         ensures memory { result ≡ Err refusal.Memory → GrowthRefused }
+        ensures runtime { result ≢ Err refusal.RuntimeMemory }
     {
         self.turn(rt, shared, Action::Exit)
     }
@@ -171,6 +180,7 @@ impl Seat {
         ensures unchanged { OnErr result (self.new ≡ self.old) }
         ensures lasting { IfErr result (λ refusal. wanted_by action refusal ≡ None) }
         ensures memory { result ≡ Err refusal.Memory → GrowthRefused }
+        ensures runtime { result ≢ Err refusal.RuntimeMemory }
     {
         let mut room = shared.room.lock(rt);
         for _ in rt.forever() {

@@ -6,5 +6,6 @@ pub mod OnWalks
 pub mod OnProgress
 pub mod OnTurns
 pub mod OnEndings
+pub mod OnCauses
 pub mod OnDone
 pub mod OnBodies

@@ -5,4 +5,5 @@ pub mod Progress
 pub mod Schedule
 pub mod Course
 pub mod Counts
+pub mod Causes
 pub mod Live

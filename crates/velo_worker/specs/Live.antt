@@ -15,19 +15,23 @@ use Rattle.velo_workload.specs.Program.{Program}
 use Rattle.velo_world.specs.World.{WorldState}
 use Rattle.velo_worker.specs.declared.ending.Ending.{Ending}
 use Rattle.velo_worker.specs.declared.ending.Ending.TheVariants as run
-use Rattle.velo_worker.specs.declared.outcome.Ended.{Ended}
 use Rattle.velo_worker.specs.declared.outcome.Outcome.{Outcome}
 use Rattle.velo_worker.specs.declared.outcome.Outcome.TheVariants.{Done, Gated, Refused}
 use Rattle.velo_worker.specs.Counts.{body_events}
 
 -- ---- what the ends of its workers make of a run
 
+-- the seat that a worker handed back, and how it ended
+pub record WorkerEnd : Type 0 where
+  pub seat : Holding
+  pub outcome : Outcome
+
 -- some worker was kept from going on
-abbrev pub IsAnyGated : List Ended → Type 0
+abbrev pub IsAnyGated : List WorkerEnd → Type 0
 IsAnyGated ended = Any (λ worker. worker.outcome ≡ Gated) ended
 
 -- some worker found the world halted
-abbrev pub IsAnyHalted : List Ended → Type 0
+abbrev pub IsAnyHalted : List WorkerEnd → Type 0
 IsAnyHalted ended = Any (λ worker. worker.outcome ≡ Refused Halted) ended
 
 -- the refusal that a worker met in a world that was not halted
@@ -37,17 +41,17 @@ met (Refused r) = Some r
 met outcome = None
 
 -- the least thread whose worker met a refusal in a world that was not halted, and that refusal
-pub record IsLeastMet (ended : List Ended) (t : ThreadId) (r : Refusal) : Type 0 where
+pub record IsLeastMet (ended : List WorkerEnd) (t : ThreadId) (r : Refusal) : Type 0 where
   pub place : ℕ
-  pub worker : Ended
+  pub worker : WorkerEnd
   pub there : slice_get ended place ≡ Some worker
   pub own : worker.seat.thread ≡ t
   pub refused : met worker.outcome ≡ Some r
-  pub least : (i : ℕ) (other : Ended) (s : Refusal) → slice_get ended i ≡ Some other → met other.outcome ≡ Some s → t.0 ≤ other.seat.thread.0
+  pub least : (i : ℕ) (other : WorkerEnd) (s : Refusal) → slice_get ended i ≡ Some other → met other.outcome ≡ Some s → t.0 ≤ other.seat.thread.0
 
 -- or there is none
-abbrev pub LeastMet : List Ended → Option (ThreadId × Refusal) → Type 0
-LeastMet ended None = (i : ℕ) (other : Ended) → slice_get ended i ≡ Some other → met other.outcome ≡ None
+abbrev pub LeastMet : List WorkerEnd → Option (ThreadId × Refusal) → Type 0
+LeastMet ended None = (i : ℕ) (other : WorkerEnd) → slice_get ended i ≡ Some other → met other.outcome ≡ None
 LeastMet ended (Some found) = IsLeastMet ended found.0 found.1
 
 -- the one of the lesser thread
@@ -57,7 +61,7 @@ lesser (Some found) t r = if nat_le found.0.0 t.0 then found else (t, r)
 
 -- Gated goes before all others. Else the least thread that met a refusal tells, which is Stuck where the refusal is that it would
 -- wait for itself. Else a world that some worker found halted was halted by its alarm. Else all are done
-abbrev pub EndsAs : List Ended → Ending → Type 0
+abbrev pub EndsAs : List WorkerEnd → Ending → Type 0
 EndsAs ended run.Gated = IsAnyGated ended
 EndsAs ended run.Stuck = (¬ IsAnyGated ended) × ((t : ThreadId) × IsLeastMet ended t WouldDeadlock)
 EndsAs ended (run.Refused t r) = (¬ IsAnyGated ended) × IsLeastMet ended t r × (r ≢ WouldDeadlock)

@@ -1,4 +1,5 @@
-//! The making of a channel, with the fact that its refusal leaves. No other code of this crate can show this fact.
+//! The making of a channel and of a further sender, each with the fact that its refusal leaves. No other code of this crate
+//! can show this fact.
 ghost use Rattle.std.specs.Prelude.{OnErr};
 ghost use Rattle.velo_events.specs.Refusals.{GrowthRefused};
 
@@ -15,6 +16,16 @@ pub fn channel<T: Drop>(alloc: Global) -> Result<(Sender<T>, Receiver<T>), Memor
 {
     match crossbeam_channel::bounded(alloc, PLACES) {
         Ok(ends) => Ok(ends),
+        Err(_) => Err(Memory),
+    }
+}
+
+/// A further sender of a channel.
+pub fn copy<T: Drop>(sender: &Sender<T>) -> Result<Sender<T>, Memory>
+    ensures memory { OnErr result GrowthRefused }
+{
+    match sender.clone() {
+        Ok(copy) => Ok(copy),
         Err(_) => Err(Memory),
     }
 }

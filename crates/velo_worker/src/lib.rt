@@ -11,6 +11,7 @@ mod outcome;
 mod place;
 mod progress;
 mod replaying;
+mod starting;
 mod walk;
 mod worker;
 

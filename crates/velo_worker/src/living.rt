@@ -4,6 +4,7 @@ ghost use Rattle.velo_events.specs.Refusals.{GrowthRefused};
 ghost use Rattle.velo_worker.specs.declared.ending.Ending.TheVariants as ending;
 ghost use Rattle.velo_worker.specs.declared.living.LiveFault.TheVariants as live_fault;
 ghost use Rattle.velo_worker.specs.declared.outcome.Outcome.TheVariants as outcome;
+ghost use Rattle.velo_worker.specs.Causes.{EndsWithCause};
 ghost use Rattle.velo_worker.specs.Live.{AllDone, EndsAs, HasDone};
 
 use crate::counting::count_events;
@@ -11,7 +12,8 @@ use crate::ending::Ending;
 use crate::gate::Gate;
 use crate::growth::channel;
 use crate::outcome::{Ended, Outcome, ending_of};
-use crate::worker::{Birth, Message, Site, work};
+use crate::starting::{Unstarted, start_worker};
+use crate::worker::{Birth, Message, Site};
 use crossbeam_channel::Receiver;
 use std::alloc::Global;
 use std::sync::Wait;
@@ -58,6 +60,7 @@ pub fn live<G: Gate + Sync, R: Threads + Wait + Sync>(
 ) -> Result<(Closed, Ending), LiveFault>
     requires { config.bounds ≡ workload.now.bounds }
     ensures done { IfOk result (λ run. run.1 ≡ ending.Done → AllDone workload.now run.0) }
+    ensures cause { IfOk result (λ run. EndsWithCause run.1) }
     ensures memory { result ≡ Err live_fault.Memory → GrowthRefused }
 {
     let Ok((shared, seat)) = Shared::open(alloc, config) else {
@@ -122,9 +125,9 @@ fn start<'s, E, G: Gate + Sync, R: Wait + Sync>(
     site: &'s Site<'s, G>,
     ended: &mut Vec<Ended>,
 ) {
-    if scope.spawn(move || work(rt, site)).is_ok() {
+    let Err(Unstarted) = start_worker(scope, rt, site) else {
         return;
-    }
+    };
     site.shared.halt(rt);
     if let Ok(birth) = site.births.recv(rt) {
         let outcome = Outcome::Refused(Refusal::RuntimeMemory);
@@ -153,6 +156,7 @@ fn finish(
     requires { seats.items ≡ [] }
     ensures ending { IfOk result (λ run. EndsAs ended.items run.1) }
     ensures done { IfOk result (λ run. run.1 ≡ ending.Done → AllDone workload.now run.0) }
+    ensures cause { IfOk result (λ run. EndsWithCause run.1) }
     ensures lost { OnErr result (result ≡ Err live_fault.Lost) }
 {
     let ending = ending_of(ended.as_slice());

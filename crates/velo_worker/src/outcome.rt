@@ -1,8 +1,10 @@
 //! How the workers of a run ended, and what that makes of the run.
-ghost use Rattle.std.specs.Prelude.{◌≡◌, ◌↔◌, IsTrue};
+ghost use Rattle.std.specs.Prelude.{◌≡◌, ◌↔◌, IfSome, IsTrue};
+ghost use Rattle.velo_worker.specs.Causes.{EndsWithCause, HasCause};
 ghost use Rattle.velo_worker.specs.Live.{EndsAs, IsAnyGated, IsAnyHalted, LeastMet, lesser, met};
 
 use crate::ending::Ending;
+use std::marker::Model;
 use velo_events::{Refusal, ThreadId};
 use velo_runtime::Seat;
 
@@ -17,16 +19,28 @@ pub enum Outcome {
     Refused(Refusal),
 }
 
-/// What a worker hands back at its end.
+/// What a worker hands back at its end. Where it was refused for want of memory, a growth or the start of a thread was refused.
 #[derive(Debug, Drop)]
 pub struct Ended {
     pub seat: Seat,
     pub outcome: Outcome,
 }
 
+impl Model for Ended {
+    ghost use Rattle.velo_worker.specs.Causes.{EndedWithCause};
+    ghost use Rattle.velo_worker.specs.Live.{WorkerEnd};
+
+    ghost Value = { WorkerEnd };
+
+    ghost view = { λ ended. record { seat = ended.seat; outcome = ended.outcome } };
+
+    ghost invariant = { λ ended. EndedWithCause ended.outcome };
+}
+
 /// How the run of these workers ends.
 pub fn ending_of(ended: &[Ended]) -> Ending
-    ensures { EndsAs ended.now result }
+    ensures ending { EndsAs ended.now result }
+    ensures cause { EndsWithCause result }
 {
     if is_any_gated(ended) {
         return Ending::Gated;
@@ -67,7 +81,8 @@ fn met(outcome: Outcome) -> Option<Refusal>
 
 /// The least thread whose worker met a refusal in a world that was not halted, and that refusal.
 fn least_met(ended: &[Ended]) -> Option<(ThreadId, Refusal)>
-    ensures { LeastMet ended.now result }
+    ensures least { LeastMet ended.now result }
+    ensures cause { IfSome result (λ found. HasCause found.1) }
 {
     let mut least: Option<(ThreadId, Refusal)> = None;
     for worker in ended {

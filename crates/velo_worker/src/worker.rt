@@ -1,7 +1,10 @@
 //! The workers of a live run: each does the body of one thread, in a thread of its own.
+ghost use Rattle.std.specs.Prelude.{IfErr};
 ghost use Rattle.velo_workload.specs.Bodies.{IsBody};
+ghost use Rattle.velo_worker.specs.Causes.{EndedWithCause, HasCause};
 
 use crate::gate::Gate;
+use crate::growth::copy;
 use crate::outcome::{Ended, Outcome};
 use crate::progress::Progress;
 use crossbeam_channel::{Receiver, Sender};
@@ -60,7 +63,9 @@ fn work_through<G: Gate, R: Wait>(
     site: &Site<'_, G>,
     seat: &mut Seat,
     messages: &Sender<Message>,
-) -> Outcome {
+) -> Outcome
+    ensures { EndedWithCause result }
+{
     let thread = seat.share().thread();
     let Ok(mut progress) = Progress::start(site.alloc, body_of(site.workload, thread)) else {
         return Outcome::Refused(Refusal::RuntimeMemory);
@@ -100,7 +105,9 @@ fn act<G: Gate, R: Wait>(
     seat: &mut Seat,
     messages: &Sender<Message>,
     action: Action,
-) -> Result<Option<u64>, Refusal> {
+) -> Result<Option<u64>, Refusal>
+    ensures { IfErr result HasCause }
+{
     let shared = site.shared;
     match action {
         Action::Read(x) => return Ok(Some(seat.read(rt, shared, x)?)),
@@ -122,7 +129,7 @@ fn act<G: Gate, R: Wait>(
 
 /// Has the starter start a worker for a thread that was born.
 fn announce<G: Gate, R: Wait>(rt: &R, site: &Site<'_, G>, messages: &Sender<Message>, seat: Seat) {
-    let Ok(copy) = messages.clone() else {
+    let Ok(copy) = copy(messages) else {
         site.shared.halt(rt);
         let outcome = Outcome::Refused(Refusal::RuntimeMemory);
         hand_back(rt, site, messages, Ended { seat, outcome });

@@ -1,0 +1,27 @@
+-- Why a run ends for want of memory.
+use Rattle.std.specs.Prelude.{◌⊎◌, ⊤}
+use Rattle.velo_events.specs.declared.refusal.Refusal.{Refusal}
+use Rattle.velo_events.specs.declared.refusal.Refusal.TheVariants.{Memory, RuntimeMemory}
+use Rattle.velo_events.specs.Refusals.{GrowthRefused}
+use Rattle.velo_worker.specs.declared.ending.Ending.{Ending}
+use Rattle.velo_worker.specs.declared.ending.Ending.TheVariants as run
+use Rattle.velo_worker.specs.declared.outcome.Outcome.{Outcome}
+use Rattle.velo_worker.specs.declared.outcome.Outcome.TheVariants as worker
+pub use Rattle.velo_seal.specs.Start.{StartRefused}
+
+-- of a refusal: an event is refused for want of memory only where a growth was. A thread that was born is left without its worker
+-- for want of memory only where a growth or the start of a thread was refused
+abbrev pub HasCause : Refusal → Type 0
+HasCause Memory = GrowthRefused
+HasCause RuntimeMemory = GrowthRefused ⊎ StartRefused
+HasCause r = ⊤
+
+-- of what a worker ended with
+abbrev pub EndedWithCause : Outcome → Type 0
+EndedWithCause (worker.Refused r) = HasCause r
+EndedWithCause outcome = ⊤
+
+-- of how a run ends
+abbrev pub EndsWithCause : Ending → Type 0
+EndsWithCause (run.Refused t r) = HasCause r
+EndsWithCause ending = ⊤
