@@ -4,7 +4,7 @@ use Rattle.velo_tables.specs.Clocks.{Clock, ClockState, OfWrite, OfReads, OfLock
 use Rattle.velo_tables.specs.Noted.{maxima}
 use Rattle.velo_tables.specs.Order.{TopsTell}
 use Rattle.velo_tables.proofs.OnTops.{tell-own, tell-both}
-use Rattle.velo_tables.proofs.clock_places.PlaceClocks.gather.Goals as goal
+use Rattle.velo_tables.proofs.clock_places.PlaceClocks.learn_beside.Goals as goal
 
 pub learn_last-requires-clause-closed : goal.learn_last-requires-clause-closed
 learn_last-requires-clause-closed c = λ said.
