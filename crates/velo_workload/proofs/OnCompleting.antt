@@ -10,8 +10,8 @@ use Rattle.velo_workload.specs.declared.draft.Draft.{Draft}
 use Rattle.velo_workload.specs.Phrase.{Body}
 use Rattle.velo_workload.specs.Outline.{Names, Judges, first_of_two}
 use Rattle.velo_workload.specs.Program.{statement_of, unknown_in}
-use Rattle.velo_workload.specs.Sketch.{Put, Sketch, put_of, sketch_of, unknown_later, put_at, settled, unknown_in_sketches, bodies_settled}
-use Rattle.velo_workload.specs.Building.{IsSettledUpTo, AreSettledUpTo}
+use Rattle.velo_workload.specs.Sketch.{Put, Sketch, put_of, sketch_of, unknown_later, put_at, completed, unknown_in_sketches, bodies_completed}
+use Rattle.velo_workload.specs.Building.{IsCompletedUpTo, AreCompletedUpTo}
 use Rattle.velo_workload.proofs.OnReading.{wrong, judged_first, none_first}
 
 -- ---- the loop over the statements of a body
@@ -25,10 +25,10 @@ none_left : {X : Type 0} (xs : List X) (n : ℕ) → n ≡ length xs → drop n 
 none_left xs n e = grind (arith, drop_all, e)
 
 module _ (names : Names) where
-  pub settled_first : (ls : List Later) (ss : List Statement) → IsSettledUpTo names ls ss 0 ss
-  settled_first ls ss = record { fault = refl; all = refl }
+  pub completed_first : (ls : List Later) (ss : List Statement) → IsCompletedUpTo names ls ss 0 ss
+  completed_first ls ss = record { fault = refl; all = refl }
 
-  module _ (ls : List Later) (old : List Statement) (i : ℕ) (d : Later) (lt : i < length ls) (ss : List Statement) (r : IsSettledUpTo names ls old i ss) where
+  module _ (ls : List Later) (old : List Statement) (i : ℕ) (d : Later) (lt : i < length ls) (ss : List Statement) (r : IsCompletedUpTo names ls old i ss) where
     abbrev here : Put
     here = put_of (get_or ls i d)
 
@@ -38,26 +38,26 @@ module _ (names : Names) where
     abbrev fault_by : Option Statement → Option WorkFault
     fault_by o = if is_some o then None else Some (Unknown here.line)
 
-    pub settled_wrong : statement_of names here.spoken ≡ None → unknown_later names (map put_of ls) ≡ Some (Unknown here.line)
-    settled_wrong e = sym left ∙ ap (λ (o : Option Statement). first_of_two (fault_by o) (unknown_later names (drop (i + 1) (map put_of ls)))) e
+    pub completed_wrong : statement_of names here.spoken ≡ None → unknown_later names (map put_of ls) ≡ Some (Unknown here.line)
+    completed_wrong e = sym left ∙ ap (λ (o : Option Statement). first_of_two (fault_by o) (unknown_later names (drop (i + 1) (map put_of ls)))) e
 
-    pub settled_next : (x : Statement) → statement_of names here.spoken ≡ Some x → IsSettledUpTo names ls old (i + 1) (set ss here.place x)
-    settled_next x e = record {
+    pub completed_next : (x : Statement) → statement_of names here.spoken ≡ Some x → IsCompletedUpTo names ls old (i + 1) (set ss here.place x)
+    completed_next x e = record {
       fault = sym (ap (λ (o : Option Statement). first_of_two (fault_by o) (unknown_later names (drop (i + 1) (map put_of ls)))) e) ∙ left;
       all =
-          sym (ap (λ (o : Option Statement). settled names (put_at ss here.place o) (drop (i + 1) (map put_of ls))) e)
-          ∙ ap (settled names ss) (sym (put_next ls i d lt)) ∙ r.all;
+          sym (ap (λ (o : Option Statement). completed names (put_at ss here.place o) (drop (i + 1) (map put_of ls))) e)
+          ∙ ap (completed names ss) (sym (put_next ls i d lt)) ∙ r.all;
     }
 
-  module _ (ls : List Later) (old : List Statement) (n : ℕ) (ss : List Statement) (end : n ≡ length ls) (r : IsSettledUpTo names ls old n ss) where
+  module _ (ls : List Later) (old : List Statement) (n : ℕ) (ss : List Statement) (end : n ≡ length ls) (r : IsCompletedUpTo names ls old n ss) where
     over : drop n (map put_of ls) ≡ []
     over = none_left (map put_of ls) n (end ∙ sym (length-map ls put_of))
 
-    pub settled_fine : unknown_later names (map put_of ls) ≡ None
-    settled_fine = sym r.fault ∙ ap (unknown_later names) over
+    pub completed_fine : unknown_later names (map put_of ls) ≡ None
+    completed_fine = sym r.fault ∙ ap (unknown_later names) over
 
-    pub settled_all : ss ≡ settled names old (map put_of ls)
-    settled_all = sym (ap (settled names ss) over) ∙ r.all
+    pub completed_all : ss ≡ completed names old (map put_of ls)
+    completed_all = sym (ap (completed names ss) over) ∙ r.all
 
 -- ---- the loop over the bodies
 
@@ -67,10 +67,10 @@ sketch_next (x ∷ ds) zero d lt = refl
 sketch_next (x ∷ ds) (suc i) d lt = let e : suc i + 1 ≡ suc (i + 1) = omega arith in rw e (sketch_next ds i d (omega arith))
 
 module _ (names : Names) where
-  pub bodies_first : (ds : List Draft) → AreSettledUpTo names ds 0 []
+  pub bodies_first : (ds : List Draft) → AreCompletedUpTo names ds 0 []
   bodies_first ds = record { fault = refl; all = refl }
 
-  module _ (ds : List Draft) (i : ℕ) (d : Draft) (lt : i < length ds) (found : List (List Statement)) (r : AreSettledUpTo names ds i found) where
+  module _ (ds : List Draft) (i : ℕ) (d : Draft) (lt : i < length ds) (found : List (List Statement)) (r : AreCompletedUpTo names ds i found) where
     abbrev this : Sketch
     this = sketch_of (get_or ds i d)
 
@@ -80,23 +80,23 @@ module _ (names : Names) where
     pub bodies_wrong : (f : WorkFault) → Judges (unknown_later names this.later) (wrong f) → Judges (unknown_in_sketches names (map sketch_of ds)) (wrong f)
     bodies_wrong f h = subst (λ (g : Option WorkFault). Judges g (wrong f)) those (judged_first _ (unknown_in_sketches names (drop (i + 1) (map sketch_of ds))) f h)
 
-    pub bodies_next : (body : List Statement) → unknown_later names this.later ≡ None → body ≡ settled names this.statements this.later → AreSettledUpTo names ds (i + 1) (found ++ body ∷ [])
+    pub bodies_next : (body : List Statement) → unknown_later names this.later ≡ None → body ≡ completed names this.statements this.later → AreCompletedUpTo names ds (i + 1) (found ++ body ∷ [])
     bodies_next body fine is =
-        let later = bodies_settled names (drop (i + 1) (map sketch_of ds)) in
+        let later = bodies_completed names (drop (i + 1) (map sketch_of ds)) in
         record {
           fault = sym (none_first _ (unknown_in_sketches names (drop (i + 1) (map sketch_of ds))) fine) ∙ those;
-          all = append_assoc found (body ∷ []) later ∙ ap (λ (body : List Statement). found ++ body ∷ later) is ∙ ap (λ (ks : List Sketch). found ++ bodies_settled names ks) (sym (sketch_next ds i d lt)) ∙ r.all;
+          all = append_assoc found (body ∷ []) later ∙ ap (λ (body : List Statement). found ++ body ∷ later) is ∙ ap (λ (ks : List Sketch). found ++ bodies_completed names ks) (sym (sketch_next ds i d lt)) ∙ r.all;
         }
 
-  module _ (ds : List Draft) (n : ℕ) (found : List (List Statement)) (end : n ≡ length ds) (r : AreSettledUpTo names ds n found) where
+  module _ (ds : List Draft) (n : ℕ) (found : List (List Statement)) (end : n ≡ length ds) (r : AreCompletedUpTo names ds n found) where
     gone : drop n (map sketch_of ds) ≡ []
     gone = none_left (map sketch_of ds) n (end ∙ sym (length-map ds sketch_of))
 
     pub bodies_fine : unknown_in_sketches names (map sketch_of ds) ≡ None
     bodies_fine = sym r.fault ∙ ap (unknown_in_sketches names) gone
 
-    pub bodies_all : found ≡ bodies_settled names (map sketch_of ds)
-    bodies_all = sym (append-nil found) ∙ sym (ap (λ (ks : List Sketch). found ++ bodies_settled names ks) gone) ∙ r.all
+    pub bodies_all : found ≡ bodies_completed names (map sketch_of ds)
+    bodies_all = sym (append-nil found) ∙ sym (ap (λ (ks : List Sketch). found ++ bodies_completed names ks) gone) ∙ r.all
 
 -- ---- the drafts that are left, where those before them were taken
 
@@ -119,7 +119,7 @@ drop_one (x ∷ xs) (suc i) = let e : suc i + 1 ≡ suc (i + 1) = omega arith in
 pub left_next : (xs ds : List Draft) (i : ℕ) (x : Draft) → drop i xs ≡ drop i ds → drop (i + 1) (set xs i x) ≡ drop (i + 1) ds
 left_next xs ds i x e = drop-set-lt (i + 1) xs i x (omega arith) ∙ drop_one xs i ∙ ap (drop 1) e ∙ sym (drop_one ds i)
 
-module _ (names : Names) (xs ds : List Draft) (i : ℕ) (d draft : Draft) (lt : i < length xs) (left : drop i xs ≡ drop i ds) (is : draft ≡ get_or xs i d) (found : List (List Statement)) (r : AreSettledUpTo names ds i found) where
+module _ (names : Names) (xs ds : List Draft) (i : ℕ) (d draft : Draft) (lt : i < length xs) (left : drop i xs ≡ drop i ds) (is : draft ≡ get_or xs i d) (found : List (List Statement)) (r : AreCompletedUpTo names ds i found) where
   within : i < length ds
   within = omega (arith, lt, length-drop i xs, length-drop i ds, ap length left)
 
@@ -129,10 +129,10 @@ module _ (names : Names) (xs ds : List Draft) (i : ℕ) (d draft : Draft) (lt : 
   pub draft_wrong : (f : WorkFault) → Judges (unknown_later names (sketch_of draft).later) (wrong f) → Judges (unknown_in_sketches names (map sketch_of ds)) (wrong f)
   draft_wrong f h = bodies_wrong names ds i d within found r f (subst (λ (x : Draft). Judges (unknown_later names (sketch_of x).later) (wrong f)) (sym same_draft) h)
 
-  pub draft_next : (bodies : List (List Statement)) (body : List Statement) → unknown_later names (sketch_of draft).later ≡ None → body ≡ settled names (sketch_of draft).statements (sketch_of draft).later
-      → bodies ≡ found ++ body ∷ [] → AreSettledUpTo names ds (i + 1) bodies
+  pub draft_next : (bodies : List (List Statement)) (body : List Statement) → unknown_later names (sketch_of draft).later ≡ None → body ≡ completed names (sketch_of draft).statements (sketch_of draft).later
+      → bodies ≡ found ++ body ∷ [] → AreCompletedUpTo names ds (i + 1) bodies
   draft_next bodies body fine body-is bodies-is =
-      subst (λ (found : List (List Statement)). AreSettledUpTo names ds (i + 1) found) (sym bodies-is)
+      subst (λ (found : List (List Statement)). AreCompletedUpTo names ds (i + 1) found) (sym bodies-is)
       (bodies_next names ds i d within found r body
       (ap (λ (x : Draft). unknown_later names (sketch_of x).later) same_draft ∙ fine)
-      (body-is ∙ ap (λ (x : Draft). settled names (sketch_of x).statements (sketch_of x).later) (sym same_draft)))
+      (body-is ∙ ap (λ (x : Draft). completed names (sketch_of x).statements (sketch_of x).later) (sym same_draft)))

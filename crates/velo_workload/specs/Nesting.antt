@@ -10,41 +10,41 @@ use Rattle.velo_workload.specs.Phrase.{Spoken, Repeat, Done, Phrase, Thread, Bod
 
 -- Its thread's line; its open repeats, outermost first, each with its line and how often it is done itself; how often the
 -- next statement is done; and the cost so far.
-pub record Tally : Type 0 where
+pub record NestingState : Type 0 where
   pub thread_line : ℕ
   pub open_repeats : List Open
   pub rounds : ℕ
   pub cost : ℕ
 
-abbrev pub new_tally : ℕ → Tally
-new_tally n = record { thread_line = n; open_repeats = []; rounds = 1; cost = 0 }
+abbrev pub new_nesting : ℕ → NestingState
+new_nesting n = record { thread_line = n; open_repeats = []; rounds = 1; cost = 0 }
 
 abbrev pub last_open : List Open → Option Open
 last_open repeats = slice_get repeats (length repeats - 1)
 
-abbrev pub statement_tallied : Tally → ℕ → Spoken → Tally
-statement_tallied b n (Repeat times) =
+abbrev pub nesting_after : NestingState → ℕ → Spoken → NestingState
+nesting_after b n (Repeat times) =
     record b { open_repeats = b.open_repeats ++ record { line = n; outside = b.rounds } ∷ []; rounds = b.rounds * times; cost = b.cost + (b.rounds + b.rounds * times) }
-statement_tallied b n Done =
+nesting_after b n Done =
     record b { open_repeats = take (length b.open_repeats - 1) b.open_repeats; rounds = option_map_or (λ o. o.outside) (last_open b.open_repeats) 1 }
-statement_tallied b n s = record b { cost = b.cost + b.rounds }
+nesting_after b n s = record b { cost = b.cost + b.rounds }
 
-abbrev pub line_tallied : Tally → ℕ → Phrase → Tally
-line_tallied b n (Thread name) = new_tally n
-line_tallied b n (Body s) = statement_tallied b n s
-line_tallied b n p = b
+abbrev pub nesting_after_line : NestingState → ℕ → Phrase → NestingState
+nesting_after_line b n (Thread name) = new_nesting n
+nesting_after_line b n (Body s) = nesting_after b n s
+nesting_after_line b n p = b
 
 -- after so many lines and these
-abbrev pub tally_from : Tally → ℕ → List Phrase → Tally
-tally_from b n [] = b
-tally_from b n (p ∷ ps) = tally_from (line_tallied b (n + 1) p) (n + 1) ps
+abbrev pub nesting_from : NestingState → ℕ → List Phrase → NestingState
+nesting_from b n [] = b
+nesting_from b n (p ∷ ps) = nesting_from (nesting_after_line b (n + 1) p) (n + 1) ps
 
-abbrev pub tally : List Phrase → Tally
-tally ps = tally_from (new_tally 0) 0 ps
+abbrev pub nesting_of_lines : List Phrase → NestingState
+nesting_of_lines ps = nesting_from (new_nesting 0) 0 ps
 
 -- the fault of a body that ends here
-abbrev pub tally_fault : Tally → Option WorkFault
-tally_fault b = option_map_or (λ o. Some (Unmatched o.line)) (last_open b.open_repeats) (if nat_lt MOST_COST b.cost then Some (TooMany b.thread_line) else None)
+abbrev pub nesting_fault : NestingState → Option WorkFault
+nesting_fault b = option_map_or (λ o. Some (Unmatched o.line)) (last_open b.open_repeats) (if nat_lt MOST_COST b.cost then Some (TooMany b.thread_line) else None)
 
 -- ---- what a reader keeps: its rounds and costs grow no further than one above the most that a body may cost
 
@@ -54,9 +54,9 @@ most_kept = MOST_COST + 1
 abbrev pub kept_open : Open → Open
 kept_open o = record { line = o.line; outside = min o.outside most_kept }
 
-abbrev pub kept : Tally → Tally
+abbrev pub kept : NestingState → NestingState
 kept b = record { thread_line = b.thread_line; open_repeats = map kept_open b.open_repeats; rounds = min b.rounds most_kept; cost = min b.cost most_kept }
 
 -- what is seen of the body that is read
-abbrev pub tally_of : Nesting → Tally
-tally_of n = record { thread_line = n.thread_line; open_repeats = n.open.items; rounds = n.rounds; cost = n.cost }
+abbrev pub nesting_of : Nesting → NestingState
+nesting_of n = record { thread_line = n.thread_line; open_repeats = n.open.items; rounds = n.rounds; cost = n.cost }
