@@ -12,7 +12,7 @@ use Rattle.velo_world.proofs.OnAnswers.{event-meaning, action_of-kind_for}
 use Rattle.velo_world.proofs.OnCourses.{well_formed-course}
 use Rattle.velo_world.proofs.OnSequences.{CanEnterAt-added, IsBookOf-stepped, place-born, Stepped, Stepped-added}
 use Rattle.velo_world.proofs.OnSteps.{KeepsUnborn-added}
-use Rattle.velo_world.proofs.world.World.step.Goals as goal
+use Rattle.velo_world.proofs.world.World.act_as.Goals as goal
 
 action_is : (old : Inside) (t : ThreadId) (action : Action) (e : Event) → meaning (course_of old.course) t action ≡ Ok e → action_of e.kind ≡ action
 action_is old t action e due = ap (λ (f : Event). action_of f.kind) (event-meaning (course_of old.course) t action e due) ∙ action_of-kind_for old.course.log.events action
