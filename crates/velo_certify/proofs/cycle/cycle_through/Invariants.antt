@@ -4,7 +4,7 @@ use Rattle.velo_events.specs.declared.event.Event.{Event}
 use Rattle.velo_certify.specs.Cycle.{WalksBack}
 use Rattle.velo_certify.specs.Distances.{AreDistances, AreTowards}
 use Rattle.velo_certify.specs.Nearest.{IsNearest}
-use Rattle.velo_certify.proofs.cycle.walk.Given as goal
+use Rattle.velo_certify.proofs.cycle.cycle_through.Given as goal
 
 abbrev pub invariant-loop-present : goal.invariant-loop-present
 invariant-loop-present l = record {

@@ -3,7 +3,7 @@ use Rattle.velo_events.specs.Block.{owner}
 use Rattle.velo_certify.specs.Table.{HasNumbers, numbers_before, sizes}
 use Rattle.velo_certify.specs.Edges.{own_places}
 use Rattle.velo_certify.specs.Nearest.{LeadsInto}
-use Rattle.velo_certify.proofs.edges.edge_between.Given as goal
+use Rattle.velo_certify.proofs.edges.edge_events_between.Given as goal
 
 abbrev pub invariant-loop-at : goal.invariant-loop-at
 invariant-loop-at l = record {

@@ -4,7 +4,7 @@ use Rattle.std.proofs.lemmas.List.{get_or_default}
 use Rattle.velo_certify.specs.Cycle.{WalksBack}
 use Rattle.velo_certify.proofs.OnCycles.{WalksBack-next, IsShortestFrom-end}
 use Rattle.velo_certify.proofs.OnSearch.{reached-within}
-use Rattle.velo_certify.proofs.cycle.walk.Goals as goal
+use Rattle.velo_certify.proofs.cycle.cycle_through.Goals as goal
 
 pub loop-present-preserved : goal.loop-present-preserved
 loop-present-preserved c =

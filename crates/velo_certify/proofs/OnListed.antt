@@ -11,7 +11,7 @@ use Rattle.velo_events.proofs.OnOwners.{owner-between}
 use Rattle.velo_certify.specs.declared.chains.Link.{Link}
 use Rattle.velo_certify.specs.declared.chains.Links.{Links}
 use Rattle.velo_certify.specs.Chains.{IsIn, IsChain}
-use Rattle.velo_certify.specs.Links.{LinksSoFar, list_of, IsInList, IsCovered, IsKept, IsLeft, IsSettled, HasRow, HasLinks, HasLinksLeft}
+use Rattle.velo_certify.specs.Links.{LinksSoFar, list_of, IsInList, IsImplied, IsKept, IsLeft, DropsListed, HasRow, HasLinks, HasLinksLeft}
 use Rattle.velo_certify.specs.Serial.{has, IsCandidate, IsFree}
 use Rattle.velo_certify.specs.Threads.{thread_at, IsFront}
 use Rattle.velo_certify.proofs.OnLinkedPaths.{IsFree-linked, IsFree-not_linked}
@@ -48,9 +48,9 @@ first_of listed links k j e (y ∷ ys) is there new (i, at_i, (d, here, of_d, re
     let same : d ≡ e = same_Some d e (sym here ∙ (ap (slice_get links) same_place ∙ there)) in
     (y, inl refl, subst (λ n. IsFalse (has listed n)) (ap (λ (f : Link). f.before) (sym same) ∙ of_d) new)
 
-pub IsSettled-by : (listed : List Bool) (a : ℕ) (old new : Links) (answer : Bool) (k : ℕ) → a < length old.heads.items → new.links.items ≡ old.links.items → new.heads.items ≡ set old.heads.items a k
-    → ((xs : List ℕ) → list_of old a xs → IsLeft listed old k xs) → (IsTrue answer → k ≡ 0) → (IsFalse answer → (j : ℕ) × (e : Link) × (k ≡ suc j) × (slice_get old.links.items j ≡ Some e) × IsFalse (has listed e.before)) → IsSettled listed a old new answer
-IsSettled-by listed a old new answer k within links heads left when_true when_false = record {
+pub DropsListed-by : (listed : List Bool) (a : ℕ) (old new : Links) (answer : Bool) (k : ℕ) → a < length old.heads.items → new.links.items ≡ old.links.items → new.heads.items ≡ set old.heads.items a k
+    → ((xs : List ℕ) → list_of old a xs → IsLeft listed old k xs) → (IsTrue answer → k ≡ 0) → (IsFalse answer → (j : ℕ) × (e : Link) × (k ≡ suc j) × (slice_get old.links.items j ≡ Some e) × IsFalse (has listed e.before)) → DropsListed listed a old new answer
+DropsListed-by listed a old new answer k within links heads left when_true when_false = record {
   count = ap length heads ∙ length-set old.heads.items a k;
   others = λ c xs other chain. subst (λ n. IsChain new.links.items n xs) (sym (ap (λ hs. slice_index hs c) heads ∙ get_or-set_other old.heads.items a c k 0 other)) (subst (λ ls. IsChain ls (slice_index old.heads.items c) xs) (sym links) chain);
   own = λ xs chain.
@@ -92,17 +92,17 @@ module _ (trace : List Event) (listed : List Bool) (closed : (b c : ℕ) → Edg
       closed (owner trace i) (owner trace k) (record { from = i; to = k; in_order = before; in_trace = within; in_conflict = own-conflict trace i k before within (sym same); of_from = refl; of_to = refl; differ = differ }) known)
       (cases_eq (owner trace i) (owner trace k))
 
-  module _ (a : ℕ) (old new : Links) (answer : Bool) (w : HasLinksLeft trace listed old) (s : IsSettled listed a old new answer) where
-    row-settled : (c : ℕ) → HasRow trace old c → HasRow trace new c
-    row-settled c r = ⊎_elim
+  module _ (a : ℕ) (old new : Links) (answer : Bool) (w : HasLinksLeft trace listed old) (s : DropsListed listed a old new answer) where
+    row-all_listed : (c : ℕ) → HasRow trace old c → HasRow trace new c
+    row-all_listed c r = ⊎_elim
         (λ same.
         let left = (s.own r.xs (subst (λ n. list_of old n r.xs) same r.list)).0 in
         record { xs = left.ys; list = subst (λ n. list_of new n left.ys) (sym same) left.list; sound = λ b h. r.sound b (left.only b h) })
         (λ other. record { xs = r.xs; list = s.others c r.xs other r.list; sound = r.sound })
         (cases_eq c a)
 
-    covered-settled : (i j : ℕ) → IsCovered trace old i j → IsTrue (has listed (owner trace i)) ⊎ IsKept trace new i j
-    covered-settled i j h = ⊎_elim (λ known. inl (listed-earlier i h.from h.later h.from_there h.of_from known))
+    covered-all_listed : (i j : ℕ) → IsImplied trace old i j → IsTrue (has listed (owner trace i)) ⊎ IsKept trace new i j
+    covered-all_listed i j h = ⊎_elim (λ known. inl (listed-earlier i h.from h.later h.from_there h.of_from known))
         (λ there. inr (inr (record {
           from = h.from;
           to = h.to;
@@ -125,10 +125,10 @@ module _ (trace : List Event) (listed : List Bool) (closed : (b c : ℕ) → Edg
             (λ other. inr (xs, s.others c xs other chain, is))
             (cases_eq c a)
 
-    pub HasLinksLeft-settled : HasLinksLeft trace listed new
-    HasLinksLeft-settled = record {
-      rows = record { count = s.count ∙ w.rows.count; each = λ c within. row-settled c (w.rows.each c within) };
-      linked = λ i j there link. ⊎_elim (λ known. inl known) (λ kept. ⊎_elim (λ same. inr (inl same)) (λ covered. covered-settled i j covered) kept) (w.linked i j there link);
+    pub HasLinksLeft-all_listed : HasLinksLeft trace listed new
+    HasLinksLeft-all_listed = record {
+      rows = record { count = s.count ∙ w.rows.count; each = λ c within. row-all_listed c (w.rows.each c within) };
+      linked = λ i j there link. ⊎_elim (λ known. inl known) (λ kept. ⊎_elim (λ same. inr (inl same)) (λ covered. covered-all_listed i j covered) kept) (w.linked i j there link);
     }
 
     module _ (candidate : IsCandidate trace listed a) (front : IsFront trace listed a) where
@@ -145,8 +145,8 @@ module _ (trace : List Event) (listed : List Bool) (closed : (b c : ℕ) → Edg
           of_thread : thread_at trace j ≡ thread_at trace a
           of_thread = sym (one-thread trace j within) ∙ ap (thread_at trace) of_a
 
-      pub IsFree-settled : IsTrue answer → IsFree trace listed a
-      IsFree-settled all_listed = IsFree-linked trace listed closed a (λ b link.
+      pub IsFree-all_listed : IsTrue answer → IsFree trace listed a
+      IsFree-all_listed all_listed = IsFree-linked trace listed closed a (λ b link.
           let before = in-order trace link.from link.to link.link in
           subst (λ n. IsTrue (has listed n)) link.of_from
           (⊎_elim (λ known. known)
@@ -162,8 +162,8 @@ module _ (trace : List Event) (listed : List Bool) (closed : (b c : ℕ) → Edg
           kept)
           (w.linked link.from link.to link.in_trace link.link)))
 
-    pub IsFree-not_settled : a < length trace → IsFalse answer → ¬ IsFree trace listed a
-    IsFree-not_settled within some_left =
+    pub IsFree-not_all_listed : a < length trace → IsFalse answer → ¬ IsFree trace listed a
+    IsFree-not_all_listed within some_left =
         let r = w.rows.each a within in
         let o = s.own r.xs r.list in
         let b = o.2 some_left in

@@ -4,9 +4,9 @@ use Rattle.std.proofs.lemmas.Bool.{eqb-true, eqb-false}
 use Rattle.std.proofs.lemmas.Option.{slice_get-get_or, same_Some}
 use Rattle.velo_certify.specs.declared.chains.Link.{Link}
 use Rattle.velo_certify.specs.Serial.{has}
-use Rattle.velo_certify.proofs.OnSettling.{IsLeft-next, IsSettled-by}
-use Rattle.velo_certify.proofs.links.is_settled.Goals as goal
-use Rattle.velo_certify.proofs.links.is_settled.Goals.{then-loop-k-test+else-is_listed, else-loop-k-test}
+use Rattle.velo_certify.proofs.OnListed.{IsLeft-next, DropsListed-by}
+use Rattle.velo_certify.proofs.links.drop_listed.Goals as goal
+use Rattle.velo_certify.proofs.links.drop_listed.Goals.{then-loop-k-test+else-is_listed, else-loop-k-test}
 
 pub loop-k-preserved : goal.loop-k-preserved
 loop-k-preserved c =
@@ -26,7 +26,7 @@ loop-k-preserved c =
 pub returns : goal.returns
 returns c =
     let k = c.loop-k.k in
-    IsSettled-by c.args.listed.now c.args.a c.args.links.now _ _ k c.requires refl refl c.loop-k.invariant.left (λ h. eqb-true k 0 h)
+    DropsListed-by c.args.listed.now c.args.a c.args.links.now _ _ k c.requires refl refl c.loop-k.invariant.left (λ h. eqb-true k 0 h)
     (λ h. elim c.loop-k-test.branch [
       | then-loop-k-test+else-is_listed w ↦ (
         k - 1,

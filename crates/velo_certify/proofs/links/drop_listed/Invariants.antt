@@ -1,6 +1,6 @@
 use Rattle.std.proofs.Common.{◌≤◌, ℕ, List, length}
 use Rattle.velo_certify.specs.Links.{IsLeft, list_of}
-use Rattle.velo_certify.proofs.links.is_settled.Given as goal
+use Rattle.velo_certify.proofs.links.drop_listed.Given as goal
 
 abbrev pub invariant-loop-k : goal.invariant-loop-k
 invariant-loop-k l = record {
