@@ -1,7 +1,7 @@
 use Rattle.std.proofs.Common.{◌≡◌, ◌<◌, length, ap, sym, ◌∙◌, arith}
-use Rattle.velo_worker.specs.Place.{entered}
-use Rattle.velo_worker.proofs.OnPlaces.{innermost_first-length, entered-push}
-use Rattle.velo_worker.proofs.place.Place.enter.Goals as goal
+use Rattle.velo_worker.specs.Cursor.{entered}
+use Rattle.velo_worker.proofs.OnCursors.{innermost_first-length, entered-push}
+use Rattle.velo_worker.proofs.cursor.Cursor.enter_repeat.Goals as goal
 
 pub bounds-self-inside-self-inside : goal.bounds-self-inside-self-inside
 bounds-self-inside-self-inside c =

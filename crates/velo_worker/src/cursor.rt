@@ -1,6 +1,6 @@
 //! Where a walk through a body stands.
 ghost use Rattle.std.specs.Prelude.{◌≡◌, ◌<◌, ◌+◌, [], length};
-ghost use Rattle.velo_worker.specs.Place.{passed, entered, turned};
+ghost use Rattle.velo_worker.specs.Cursor.{moved_on, entered, repeated_or_left};
 
 use std::marker::Model;
 use velo_workload::MOST_OPEN_REPEATS;
@@ -16,31 +16,31 @@ pub struct OpenRepeat {
 
 /// A position in a body, and the repeats that are open there.
 #[derive(Debug, Drop)]
-pub struct Place {
+pub struct Cursor {
     position: usize,
     repeats: [OpenRepeat; MOST_OPEN_REPEATS],
     depth: usize,
 }
 
-impl Model for Place {
+impl Model for Cursor {
     ghost use Rattle.std.specs.Prelude.{◌≤◌};
     ghost use Rattle.velo_workload.specs.declared.limits.TheConstants.{MOST_OPEN_REPEATS};
-    ghost use Rattle.velo_worker.specs.Place.{Standing, innermost_first};
+    ghost use Rattle.velo_worker.specs.Cursor.{Cursor, innermost_first};
 
-    ghost Value = { Standing };
+    ghost Value = { Cursor };
 
     ghost view = { λ p. record { position = p.position; repeats = innermost_first p.repeats p.depth } };
 
     ghost invariant = { λ p. p.depth ≤ MOST_OPEN_REPEATS };
 }
 
-impl Place {
+impl Cursor {
     /// The start of a body.
-    pub fn start() -> Place
+    pub fn start() -> Cursor
         ensures { result ≡ record { position = 0; repeats = [] } }
     {
         let none = OpenRepeat { start: 0, again: 0 };
-        Place {
+        Cursor {
             position: 0,
             repeats: [none; MOST_OPEN_REPEATS],
             depth: 0,
@@ -54,15 +54,15 @@ impl Place {
     }
 
     /// Goes past a statement.
-    pub fn pass(&mut self)
+    pub fn move_on(&mut self)
         requires { self.old.position < usize.MAX }
-        ensures { self.new ≡ passed self.old }
+        ensures { self.new ≡ moved_on self.old }
     {
         self.position += 1;
     }
 
     /// Goes into a repeat, or to its end where it is to be done no time.
-    pub fn enter(&mut self, times: u64, end: usize)
+    pub fn enter_repeat(&mut self, times: u64, end: usize)
         requires within { self.old.position < usize.MAX }
         requires room { length self.old.repeats < MOST_OPEN_REPEATS }
         ensures { self.new ≡ entered self.old times end }
@@ -80,10 +80,10 @@ impl Place {
     }
 
     /// Goes from the end of the innermost open repeat back to its start, or out of it where it was done often enough.
-    pub fn turn(&mut self)
+    pub fn repeat_or_leave(&mut self)
         requires within { self.old.position < usize.MAX }
         requires inside { 0 < length self.old.repeats }
-        ensures { self.new ≡ turned self.old.position self.old.repeats }
+        ensures { self.new ≡ repeated_or_left self.old.position self.old.repeats }
     {
         let innermost = self.depth - 1;
         let OpenRepeat { start, again } = self.repeats[innermost];

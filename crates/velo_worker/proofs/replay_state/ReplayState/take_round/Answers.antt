@@ -2,7 +2,7 @@ use Rattle.std.proofs.Common.{◌≡◌, ◌<◌, ◌≤◌, ◌+◌, ◌-◌, �
 use Rattle.velo_events.specs.declared.event.ThreadId.{ThreadId}
 use Rattle.velo_worker.specs.Schedule.{TurnOf, all_threads, threads_from}
 use Rattle.velo_worker.proofs.OnTurns.{LeadsOn, LeadsOn-next, LeadsOn-ended, LeadsOn-all, threads_from-next, threads_from-none}
-use Rattle.velo_worker.proofs.course.Course.round.Goals as goal
+use Rattle.velo_worker.proofs.replay_state.ReplayState.take_round.Goals as goal
 
 pub returns-in-Some : goal.returns-in-Some
 returns-in-Some c =
@@ -12,7 +12,7 @@ returns-in-Some c =
     let count : n ≡ c.threads-thread-end.result = ap (λ s. length s.threads) (sym c.self.view_is) ∙ c.self.invariant.count ∙ sym c.threads-thread-end.ensures in
     let within : l.thread < n = omega (arith, count, c.loop-thread-test.true) in
     let thread : ThreadId = record { 0 = l.thread } in
-    LeadsOn-ended start (all_threads start) l.self thread (threads_from (l.thread + 1) (n - (l.thread + 1))) c.in-Some.ending c.turn.new.self
+    LeadsOn-ended start (all_threads start) l.self thread (threads_from (l.thread + 1) (n - (l.thread + 1))) c.in-Some.ending c.take_turn.new.self
     (subst (LeadsOn start (all_threads start) l.self) (threads_from-next n l.thread within) l.invariant) c.in-Some.ensures
 
 pub loop-thread-preserved : goal.loop-thread-preserved
@@ -23,9 +23,9 @@ loop-thread-preserved c =
     let count : n ≡ c.threads-thread-end.result = ap (λ s. length s.threads) (sym c.self.view_is) ∙ c.self.invariant.count ∙ sym c.threads-thread-end.ensures in
     let within : l.thread < n = omega (arith, count, c.loop-thread-test.true) in
     let thread : ThreadId = record { 0 = l.thread } in
-    LeadsOn-next start (all_threads start) l.self thread (threads_from (l.thread + 1) (n - (l.thread + 1))) c.turn.new.self
+    LeadsOn-next start (all_threads start) l.self thread (threads_from (l.thread + 1) (n - (l.thread + 1))) c.take_turn.new.self
     (subst (LeadsOn start (all_threads start) l.self) (threads_from-next n l.thread within) l.invariant)
-    (subst (λ stop. TurnOf l.self thread stop c.turn.new.self) c.in_default.is c.turn.ensures)
+    (subst (λ stop. TurnOf l.self thread stop c.take_turn.new.self) c.in_default.is c.take_turn.ensures)
 
 pub returns : goal.returns
 returns c =

@@ -1,4 +1,4 @@
-//! A run of a workload: its world, and how far each thread has come.
+//! Where a replay of a workload stands: its world, and how far each thread has come.
 ghost use Rattle.std.specs.Prelude.{◌≡◌, ◌≢◌, ◌≤◌, ◌↔◌, true, false, length, slice_get, IfOk, OnErr, IsTrue, ℕ};
 ghost use Rattle.velo_events.specs.Refusals.{GrowthRefused};
 ghost use Rattle.velo_events.specs.Heap.{status_in};
@@ -17,27 +17,27 @@ use velo_world::{Closed, World};
 
 /// A world in which the threads of a workload act in turn.
 #[derive(Drop)]
-pub struct Course<'a> {
+pub struct ReplayState<'a> {
     pub world: World,
     /// The share of each thread that was forked, at its place.
     pub shares: Shares,
     pub threads: Vec<Progress<'a>>,
 }
 
-impl<'a> Model for Course<'a> {
-    ghost use Rattle.velo_worker.specs.Schedule.{Course};
-    ghost use Rattle.velo_worker.specs.Course.{course_of, IsCourse};
+impl<'a> Model for ReplayState<'a> {
+    ghost use Rattle.velo_worker.specs.Schedule.{ReplayState};
+    ghost use Rattle.velo_worker.specs.ReplayState.{replay_state_of, IsReplayState};
 
-    ghost Value = { Course };
+    ghost Value = { ReplayState };
 
-    ghost view = { course_of };
+    ghost view = { replay_state_of };
 
-    ghost invariant = { IsCourse };
+    ghost invariant = { IsReplayState };
 }
 
-impl<'a> Course<'a> {
+impl<'a> ReplayState<'a> {
     /// A turn of a thread: it passes where it is idle, else it tries its next event. Some ending where that ends the run.
-    pub fn turn(&mut self, thread: ThreadId) -> Option<Ending>
+    pub fn take_turn(&mut self, thread: ThreadId) -> Option<Ending>
         ensures { TurnOf self.old thread result self.new }
     {
         if self.is_idle(thread) {
@@ -69,7 +69,7 @@ impl<'a> Course<'a> {
         ensures { TurnsOf self.old schedule.now result self.new }
     {
         for thread in schedule {
-            if let Some(ending) = self.turn(*thread) {
+            if let Some(ending) = self.take_turn(*thread) {
                 return Some(ending);
             }
         }
@@ -77,7 +77,7 @@ impl<'a> Course<'a> {
     }
 
     /// Whether every thread has nothing to try.
-    fn is_all_idle(&self) -> bool
+    fn are_all_idle(&self) -> bool
         ensures { IsTrue result ↔ AllIdle self.now }
     {
         for thread in 0..self.world.threads() {
@@ -89,11 +89,11 @@ impl<'a> Course<'a> {
     }
 
     /// A turn of each thread, in their order, up to the first that ends the run.
-    fn round(&mut self) -> Option<Ending>
+    fn take_round(&mut self) -> Option<Ending>
         ensures { TurnsOf self.old (all_threads self.old) result self.new }
     {
         for thread in 0..self.world.threads() {
-            if let Some(ending) = self.turn(ThreadId(thread)) {
+            if let Some(ending) = self.take_turn(ThreadId(thread)) {
                 return Some(ending);
             }
         }
@@ -101,15 +101,15 @@ impl<'a> Course<'a> {
     }
 
     /// Rounds up to the end of the run.
-    pub fn rounds(&mut self) -> Ending
+    pub fn take_rounds(&mut self) -> Ending
         ensures { RoundsOf self.old result self.new }
     {
         loop {
-            if self.is_all_idle() {
+            if self.are_all_idle() {
                 return Ending::Done;
             }
             let before = self.world.log().len();
-            if let Some(ending) = self.round() {
+            if let Some(ending) = self.take_round() {
                 return ending;
             }
             if self.world.log().len() == before {
@@ -122,7 +122,7 @@ impl<'a> Course<'a> {
     pub fn close(self) -> Closed
         ensures { result ≡ self.entry.world }
     {
-        let Course { world, shares, .. } = self;
+        let ReplayState { world, shares, .. } = self;
         match world.close(shares) {
             Ok(closed) => closed,
             Err(_) => unreachable!(),
@@ -145,7 +145,7 @@ fn try_event(
     ensures tries { Tries world.old thread progress.old result world.new progress.new }
 {
     progress.settle();
-    match world.step(shares, thread, progress.wanted()) {
+    match world.act_as(shares, thread, progress.wanted()) {
         Ok(reply) => {
             progress.go_on(reply.value);
             None
