@@ -2,13 +2,13 @@ use Rattle.std.proofs.Common.{List, subst, inr}
 use Rattle.velo_events.specs.declared.event.Event.{Event}
 use Rattle.velo_events.specs.Certificate.{IsShortestCycleAt}
 use Rattle.velo_certify.proofs.OnOrders.{IfOk-map}
-use Rattle.velodrome.specs.Check.{IsEvidence}
-use Rattle.velodrome.proofs.check.evidence_of.Goals as goal
+use Rattle.velodrome.specs.Check.{IsOrderOrCycle}
+use Rattle.velodrome.proofs.check.order_or_cycle_of.Goals as goal
 
-pub returns-in-Some-clause-evidence : goal.returns-in-Some-clause-evidence
-returns-in-Some-clause-evidence c =
+pub returns-in-Some-clause-list : goal.returns-in-Some-clause-list
+returns-in-Some-clause-list c =
     let position = c.in-Some.alarm.now.position in
-    IfOk-map (λ v. IsShortestCycleAt c.log.result.now.events position v.items) (λ v. IsEvidence c.args.closed.now.log v.items)
+    IfOk-map (λ v. IsShortestCycleAt c.log.result.now.events position v.items) (λ v. IsOrderOrCycle c.args.closed.now.log v.items)
     (λ v h. inr (record {
       position = position;
       closing = c.in-Some.ensures.some.closing;
