@@ -40,7 +40,7 @@ impl Model for Clocks {
 }
 
 /// The blocks that begin below the bound.
-fn blocks_below(alloc: Global, blocks: &[Block], bound: usize) -> SmallVec<Block, 32>
+fn blocks_below(alloc: Global, blocks: &[Block], bound: usize) -> SmallVec<Block, MOST_OPEN_BLOCKS>
     requires { length blocks.now ≤ MOST_OPEN_BLOCKS }
     ensures { result.items ≡ filter (λ block. nat_lt block.first bound) blocks.now }
 {
@@ -99,7 +99,12 @@ impl Clocks {
     /// Those of the open blocks of the event's thread that are to blame where the event, at this position, closes the first
     /// cycle: they are not self-serializable in the events up to it. They come outermost first, as the open blocks do. It
     /// takes no memory, and answers what `Scan::blamed` answers.
-    pub fn blamed(&self, blocks: &[Block], position: usize, event: &Event) -> SmallVec<Block, 32>
+    pub fn blamed(
+        &self,
+        blocks: &[Block],
+        position: usize,
+        event: &Event,
+    ) -> SmallVec<Block, MOST_OPEN_BLOCKS>
         requires few { length blocks.now ≤ MOST_OPEN_BLOCKS }
         ensures blamed { (trace : List Event) → AreClocksOf self.now.state trace → length trace ≡ position
             → IsWellFormed self.now.bounds (trace ++ event.now ∷ []) → ¬ HasCycle trace

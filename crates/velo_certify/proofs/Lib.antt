@@ -1,7 +1,7 @@
 pub mod OnChains
 pub mod OnLinks
 pub mod OnLinkedPaths
-pub mod OnSettling
+pub mod OnListed
 pub mod OnConflicts
 pub mod OnGreatest
 pub mod OnRows

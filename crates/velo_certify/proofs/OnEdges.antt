@@ -6,13 +6,13 @@ use Rattle.std.proofs.lemmas.List.{length_push, get_or_append_left, get_or_push}
 use Rattle.velo_events.specs.declared.event.Event.{Event}
 use Rattle.velo_events.specs.Block.{owner}
 use Rattle.velo_events.specs.Graph.{IsCycle}
-use Rattle.velo_events.specs.Graph.{Edge as GraphEdge}
+use Rattle.velo_events.specs.Graph.{Edge}
 use Rattle.velo_events.proofs.OnReorderings.{conflict_at-within}
-use Rattle.velo_certify.specs.declared.edges.Edge.{Edge}
+use Rattle.velo_certify.specs.declared.edges.EdgeEvents.{EdgeEvents}
 use Rattle.velo_certify.specs.Table.{IsGreatestBefore}
 use Rattle.velo_certify.specs.Nearest.{LeadsInto}
 use Rattle.velo_certify.specs.Cycle.{next_in, IsLinked}
-use Rattle.velo_certify.specs.Edges.{IsEdge, AreEdgesSoFar, edge_at, own_places}
+use Rattle.velo_certify.specs.Edges.{ShowsEdge, ShowEdgesSoFar, edge_at, own_places}
 use Rattle.velo_certify.proofs.OnCycles.{IsLinked-cycle, IsCycle-long}
 
 pub own_places-yes : (trace : List Event) (a i : ℕ) → owner trace i ≡ a → own_places trace a i ≡ i + 1
@@ -36,13 +36,13 @@ module _ (trace : List Event) (a n m : ℕ) (g : IsGreatestBefore trace (own_pla
       let one = own_places-yes trace a w.place w.of_place in
       omega (arith, most, one)
 
-  pub place-edge : 0 < m → owner trace n ≢ a → IsEdge trace a (owner trace n) (record { from = m - 1; to = n })
+  pub place-edge : 0 < m → owner trace n ≢ a → ShowsEdge trace a (owner trace n) (record { from = m - 1; to = n })
   place-edge some other =
       let k = g.reached some in
       let own : owner trace k.0 ≡ a = ⊎_elim (λ e. e) (λ e. absurd (let none = own_places-no trace a k.0 e in omega (arith, none, k.3, some))) (cases_eq (owner trace k.0) a) in
       let number = own_places-yes trace a k.0 own in
       let at : k.0 ≡ m - 1 = omega (arith, number, k.3) in
-      subst (λ from. IsEdge trace a (owner trace n) (record { from = from; to = n })) at (record {
+      subst (λ from. ShowsEdge trace a (owner trace n) (record { from = from; to = n })) at (record {
         in_order = k.1;
         in_trace = (conflict_at-within trace k.0 n k.2).1;
         in_conflict = k.2;
@@ -52,20 +52,20 @@ module _ (trace : List Event) (a n m : ℕ) (g : IsGreatestBefore trace (own_pla
       })
 
 -- an edge of the trace leads into one of its positions
-pub LeadsInto-of : (trace : List Event) (a b : ℕ) (e : GraphEdge trace a b) → LeadsInto trace a e.to
+pub LeadsInto-of : (trace : List Event) (a b : ℕ) (e : Edge trace a b) → LeadsInto trace a e.to
 LeadsInto-of trace a b e = record { place = e.from; before = e.in_order; in_conflict = e.in_conflict; of_place = e.of_from; differ = λ same. e.differ (same ∙ e.of_to) }
 
 -- one edge more
-pub AreEdgesSoFar-next : (trace : List Event) (cycle : List ℕ) (k : ℕ) (edges : List Edge) (edge : Edge) → AreEdgesSoFar trace cycle k edges → IsEdge trace (slice_index cycle k) (next_in cycle k) edge → AreEdgesSoFar trace cycle (k + 1) (edges ++ edge ∷ [])
-AreEdgesSoFar-next trace cycle k edges edge w e = record {
+pub ShowEdgesSoFar-next : (trace : List Event) (cycle : List ℕ) (k : ℕ) (edges : List EdgeEvents) (edge : EdgeEvents) → ShowEdgesSoFar trace cycle k edges → ShowsEdge trace (slice_index cycle k) (next_in cycle k) edge → ShowEdgesSoFar trace cycle (k + 1) (edges ++ edge ∷ [])
+ShowEdgesSoFar-next trace cycle k edges edge w e = record {
   count = let long = length_push edges edge in let was = w.count in omega (arith, long, was);
   each = λ i l. ⊎_elim
-      (λ inner. subst (IsEdge trace (slice_index cycle i) (next_in cycle i)) (sym (get_or_append_left edges (edge ∷ []) (record { from = 0; to = 0 }) i (let was = w.count in omega (arith, was, inner)))) (w.each i inner))
+      (λ inner. subst (ShowsEdge trace (slice_index cycle i) (next_in cycle i)) (sym (get_or_append_left edges (edge ∷ []) (record { from = 0; to = 0 }) i (let was = w.count in omega (arith, was, inner)))) (w.each i inner))
       (λ last. let same : i ≡ k = omega (arith, last, l) in
-      subst (λ j. IsEdge trace (slice_index cycle j) (next_in cycle j) (edge_at (edges ++ edge ∷ []) j)) (sym same)
-      (subst (IsEdge trace (slice_index cycle k) (next_in cycle k)) (sym (get_or_push edges edge (record { from = 0; to = 0 }) k w.count)) e))
+      subst (λ j. ShowsEdge trace (slice_index cycle j) (next_in cycle j) (edge_at (edges ++ edge ∷ []) j)) (sym same)
+      (subst (ShowsEdge trace (slice_index cycle k) (next_in cycle k)) (sym (get_or_push edges edge (record { from = 0; to = 0 }) k w.count)) e))
       (cases_lt i k);
 }
 
-pub IsLinked-of : (trace : List Event) (cycle : List ℕ) → IsCycle (GraphEdge trace) cycle → IsLinked trace cycle (length cycle)
+pub IsLinked-of : (trace : List Event) (cycle : List ℕ) → IsCycle (Edge trace) cycle → IsLinked trace cycle (length cycle)
 IsLinked-of trace cycle c = (IsLinked-cycle trace cycle (IsCycle-long trace cycle c)).1 c

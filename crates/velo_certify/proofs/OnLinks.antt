@@ -14,7 +14,7 @@ use Rattle.velo_events.proofs.OnScans.{passes_at-is, passes_at-event}
 use Rattle.velo_events.proofs.OnOwners.{passes_at-within}
 use Rattle.velo_traces.proofs.Past.{past}
 use Rattle.velo_certify.specs.declared.chains.Links.{Links}
-use Rattle.velo_certify.specs.Links.{is_weak, IsLast, IsFirst, LinksBack, LinksOn, IsInList, IsGrown, IsCovered, IsKept, counted, counted_back, HasRows, HasLinks}
+use Rattle.velo_certify.specs.Links.{is_weak, IsLast, IsFirst, LinksBack, LinksOn, IsInList, IsGrown, IsImplied, IsKept, counted, counted_back, HasRows, HasLinks}
 use Rattle.velo_certify.specs.Owners.{event_at}
 use Rattle.velo_certify.specs.Table.{IsGreatest, IsBlank, numbers_before, numbers_from, is_about, thread_in, strong_for}
 use Rattle.velo_certify.specs.Threads.{thread_at}
@@ -153,8 +153,8 @@ module _ (trace : List Event) (old new : Links) (grown : IsGrown trace old new) 
   pub IsInList-grown : (a b : ℕ) → IsInList old a b → IsInList new a b
   IsInList-grown a b h = let g = grown.each a h.0 h.1 in (g.0, g.1, g.2 b h.2)
 
-  IsCovered-grown : (i j : ℕ) → IsCovered trace old i j → IsCovered trace new i j
-  IsCovered-grown i j h = record {
+  IsImplied-grown : (i j : ℕ) → IsImplied trace old i j → IsImplied trace new i j
+  IsImplied-grown i j h = record {
     from = h.from;
     to = h.to;
     from_there = h.from_there;
@@ -168,7 +168,7 @@ module _ (trace : List Event) (old new : Links) (grown : IsGrown trace old new) 
   }
 
   IsKept-grown : (i j : ℕ) → IsKept trace old i j → IsKept trace new i j
-  IsKept-grown i j h = ⊎_elim (λ same. inl same) (λ covered. inr (IsCovered-grown i j covered)) h
+  IsKept-grown i j h = ⊎_elim (λ same. inl same) (λ covered. inr (IsImplied-grown i j covered)) h
 
 -- ---- all links
 

@@ -17,11 +17,11 @@ use Rattle.velo_certify.specs.declared.lists.Lists.{Lists}
 use Rattle.velo_certify.specs.declared.reached.Reached.{Reached}
 use Rattle.velo_certify.specs.Lists.{list_sizes}
 use Rattle.velo_certify.specs.Owners.{event_at}
-use Rattle.velo_certify.specs.Search.{Grows, Reaches, IsPassed, ArePassed, level_at, IsSearching, ReachesBelow, Passes, PassesList, PassesConflicts}
+use Rattle.velo_certify.specs.Search.{Grows, ReachesOneMore, IsPassed, ArePassed, level_at, IsSearching, ReachesBelow, Passes, PassesList, PassesConflicts}
 use Rattle.velo_certify.specs.Table.{NamesRows, AllNameRows, is_about, thread_in, handled_in, written_in, read_in, lock_in}
 use Rattle.velo_certify.proofs.OnConflicts.{is_near, IsPlain, conflict-read, conflict-write, conflict-acquire, conflict-release, conflict-fork, conflict-join, conflict-plain}
 use Rattle.velo_certify.proofs.OnLists.{here as event_here}
-use Rattle.velo_certify.proofs.OnReached.{cases_zero, Grows-twice, Leads-twice}
+use Rattle.velo_certify.proofs.OnReached.{cases_zero, Grows-twice, LeadsNewTo-twice}
 
 -- what was reached stays so
 pub Grows-reached : (level : ℕ) (old new : Reached) → Grows level old new → (a : ℕ) → 0 < slice_index old.far.items a → 0 < slice_index new.far.items a
@@ -44,7 +44,7 @@ module _ (trace : List Event) (at_hand : ℕ) (level : ℕ) (named : Event → O
     };
   }
 
-  module _ (within : at_hand < length trace) (now new : Reached) (front : ℕ) (before : front < at_hand) (grown : Grows level old now) (step : Reaches level (owner trace front) (owner trace at_hand) now new) (v : PassesTo trace at_hand level named x old now front) where
+  module _ (within : at_hand < length trace) (now new : Reached) (front : ℕ) (before : front < at_hand) (grown : Grows level old now) (step : ReachesOneMore level (owner trace front) (owner trace at_hand) now new) (v : PassesTo trace at_hand level named x old now front) where
     here : IsTrue (passes_at trace (is_about named x) front)
     here = v.own (omega (arith, before, within))
 
@@ -195,7 +195,7 @@ Passes-same trace n p q old new same w = record {
 pub Passes-or : (trace : List Event) (n : ℕ) (p q : Event → Bool) (old mid new : Reached) → 0 < level_at trace old n → Passes trace n p old mid → Passes trace n q mid new → Passes trace n (λ e. p e || q e) old new
 Passes-or trace n p q old mid new positive v w = record {
   grows = Grows-twice (level_at trace old n) old mid new v.grows second;
-  leads = Leads-twice (level_at trace old n) (owner trace n) old mid new v.grows v.leads w.leads;
+  leads = LeadsNewTo-twice (level_at trace old n) (owner trace n) old mid new v.grows v.leads w.leads;
   reaches = record {
     found = λ a none has. ⊎_elim
         (λ z. let is = w.reaches.found a z has in let (i, l, h, of_a) = is.1 in (is.0 ∙ ap (λ k. k + 1) level, (i, l, passes-map trace q (λ e. p e || q e) (λ e t. or_right (p e) (q e) t) i h, of_a)))

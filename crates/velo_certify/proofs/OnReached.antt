@@ -3,7 +3,7 @@ use Rattle.std.proofs.Common.{◌≡◌, ℕ, zero, suc, ◌<◌, length, refl, 
 use Rattle.std.specs.Prelude.{◌⊎◌, slice_index}
 use Rattle.std.proofs.lemmas.Bool.{cases_lt}
 use Rattle.velo_certify.specs.declared.reached.Reached.{Reached}
-use Rattle.velo_certify.specs.Search.{Grows, Leads}
+use Rattle.velo_certify.specs.Search.{Grows, LeadsNewTo}
 
 pub cases_zero : (n : ℕ) → (n ≡ 0) ⊎ (0 < n)
 cases_zero zero = inl refl
@@ -36,11 +36,11 @@ Grows-twice level old mid new v w = record {
       (cases_zero (slice_index mid.far.items b));
 }
 
-pub Leads-same : (b : ℕ) (reached : Reached) → Leads b reached reached
-Leads-same b reached = record { kept = λ a had. refl; towards = λ a none has. absurd (omega (arith, none, has)) }
+pub LeadsNewTo-same : (b : ℕ) (reached : Reached) → LeadsNewTo b reached reached
+LeadsNewTo-same b reached = record { kept = λ a had. refl; towards = λ a none has. absurd (omega (arith, none, has)) }
 
-pub Leads-twice : (level b : ℕ) (old mid new : Reached) → Grows level old mid → Leads b old mid → Leads b mid new → Leads b old new
-Leads-twice level b old mid new grown v w = record {
+pub LeadsNewTo-twice : (level b : ℕ) (old mid new : Reached) → Grows level old mid → LeadsNewTo b old mid → LeadsNewTo b mid new → LeadsNewTo b old new
+LeadsNewTo-twice level b old mid new grown v w = record {
   kept = λ a had. w.kept a (let same = grown.kept a had in omega (arith, had, same)) ∙ v.kept a had;
   towards = λ a none has. ⊎_elim (λ z. w.towards a z has) (λ some. w.kept a some ∙ v.towards a none some) (cases_zero (slice_index mid.far.items a));
 }

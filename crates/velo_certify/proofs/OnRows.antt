@@ -54,25 +54,25 @@ module _ (table : Table) (e : Event) (names : NamesRows (sizes table) e) (a b ne
       (IsRow-at trace numbers handled_in table.handles.items (thread_of e) b names.handle second has.handles))
 
   -- and with one number more
-  looked_up-with : (test : Event → Bool) (c result : ℕ) → ((f : Event) → (is_near e f || test f) ≡ conflict f e) → result ≡ max near c → ((trace : List Event) (numbers : ℕ → ℕ) → HasNumbers trace numbers table → IsGreatest trace numbers test c) → IsLookedUp table e result
-  looked_up-with test c result same is third = record {
+  look_up-with : (test : Event → Bool) (c result : ℕ) → ((f : Event) → (is_near e f || test f) ≡ conflict f e) → result ≡ max near c → ((trace : List Event) (numbers : ℕ → ℕ) → HasNumbers trace numbers table → IsGreatest trace numbers test c) → IsLookedUp table e result
+  look_up-with test c result same is third = record {
     each = λ trace numbers has.
         IsGreatest-same trace numbers (λ f. is_near e f || test f) (λ f. conflict f e) result same
         (subst (IsGreatest trace numbers (λ f. is_near e f || test f)) (sym is) (IsGreatest-or trace numbers (is_near e) test near c (IsGreatest-near trace numbers has) (third trace numbers has)));
   }
 
-  pub looked_up-plain : IsPlain e.kind → IsLookedUp table e near
-  looked_up-plain plain = record {
+  pub look_up-plain : IsPlain e.kind → IsLookedUp table e near
+  look_up-plain plain = record {
     each = λ trace numbers has. IsGreatest-same trace numbers (is_near e) (λ f. conflict f e) near (λ f. conflict-plain f e plain) (IsGreatest-near trace numbers has);
   }
 
-  pub looked_up-read : (x : VarId) (v : ℕ) (c result : ℕ) → e.kind ≡ Read x v → c ≡ get_or table.writes.items x.0 c → result ≡ max near c → IsLookedUp table e result
-  looked_up-read x v c result kind there is =
+  pub look_up-read : (x : VarId) (v : ℕ) (c result : ℕ) → e.kind ≡ Read x v → c ≡ get_or table.writes.items x.0 c → result ≡ max near c → IsLookedUp table e result
+  look_up-read x v c result kind there is =
       let places = subst (HasPlaces (sizes table)) kind names.names in
-      looked_up-with (is_about written_in x.0) c result (λ f. conflict-read f e x.0 v kind) is (λ trace numbers has. IsRow-at trace numbers written_in table.writes.items x.0 c places.0 there has.writes)
+      look_up-with (is_about written_in x.0) c result (λ f. conflict-read f e x.0 v kind) is (λ trace numbers has. IsRow-at trace numbers written_in table.writes.items x.0 c places.0 there has.writes)
 
-  pub looked_up-write : (x : VarId) (v : ℕ) (c some d result : ℕ) → e.kind ≡ Write x v → c ≡ get_or table.writes.items x.0 c → some ≡ max near c → d ≡ get_or table.reads.items x.0 d → result ≡ max some d → IsLookedUp table e result
-  looked_up-write x v c some d result kind there is also all_is = record {
+  pub look_up-write : (x : VarId) (v : ℕ) (c some d result : ℕ) → e.kind ≡ Write x v → c ≡ get_or table.writes.items x.0 c → some ≡ max near c → d ≡ get_or table.reads.items x.0 d → result ≡ max some d → IsLookedUp table e result
+  look_up-write x v c some d result kind there is also all_is = record {
     each = λ trace numbers has.
         let places = subst (HasPlaces (sizes table)) kind names.names in
         let writes = subst (IsGreatest trace numbers (λ f. is_near e f || is_about written_in x.0 f)) (sym is)
@@ -82,20 +82,20 @@ module _ (table : Table) (e : Event) (names : NamesRows (sizes table) e) (a b ne
         (IsGreatest-or trace numbers (λ f. is_near e f || is_about written_in x.0 f) (is_about read_in x.0) some d writes (IsRow-at trace numbers read_in table.reads.items x.0 d places.1 also has.reads)));
   }
 
-  pub looked_up-lock : (m : LockId) (c result : ℕ) → (e.kind ≡ Acquire m) ⊎ (e.kind ≡ Release m) → c ≡ get_or table.locks.items m.0 c → result ≡ max near c → IsLookedUp table e result
-  looked_up-lock m c result kind there is = ⊎_elim
+  pub look_up-lock : (m : LockId) (c result : ℕ) → (e.kind ≡ Acquire m) ⊎ (e.kind ≡ Release m) → c ≡ get_or table.locks.items m.0 c → result ≡ max near c → IsLookedUp table e result
+  look_up-lock m c result kind there is = ⊎_elim
       (λ k. let place : m.0 < length table.locks.items = subst (HasPlaces (sizes table)) k names.names in
-      looked_up-with (is_about lock_in m.0) c result (λ f. conflict-acquire f e m.0 k) is (λ trace numbers has. IsRow-at trace numbers lock_in table.locks.items m.0 c place there has.locks))
+      look_up-with (is_about lock_in m.0) c result (λ f. conflict-acquire f e m.0 k) is (λ trace numbers has. IsRow-at trace numbers lock_in table.locks.items m.0 c place there has.locks))
       (λ k. let place : m.0 < length table.locks.items = subst (HasPlaces (sizes table)) k names.names in
-      looked_up-with (is_about lock_in m.0) c result (λ f. conflict-release f e m.0 k) is (λ trace numbers has. IsRow-at trace numbers lock_in table.locks.items m.0 c place there has.locks))
+      look_up-with (is_about lock_in m.0) c result (λ f. conflict-release f e m.0 k) is (λ trace numbers has. IsRow-at trace numbers lock_in table.locks.items m.0 c place there has.locks))
       kind
 
-  pub looked_up-handled : (u : ThreadId) (c result : ℕ) → (e.kind ≡ Fork u) ⊎ (e.kind ≡ Join u) → c ≡ get_or table.threads.items u.0 c → result ≡ max near c → IsLookedUp table e result
-  looked_up-handled u c result kind there is = ⊎_elim
+  pub look_up-handled : (u : ThreadId) (c result : ℕ) → (e.kind ≡ Fork u) ⊎ (e.kind ≡ Join u) → c ≡ get_or table.threads.items u.0 c → result ≡ max near c → IsLookedUp table e result
+  look_up-handled u c result kind there is = ⊎_elim
       (λ k. let places = subst (HasPlaces (sizes table)) k names.names in
-      looked_up-with (is_about thread_in u.0) c result (λ f. conflict-fork f e u.0 k) is (λ trace numbers has. IsRow-at trace numbers thread_in table.threads.items u.0 c places.0 there has.threads))
+      look_up-with (is_about thread_in u.0) c result (λ f. conflict-fork f e u.0 k) is (λ trace numbers has. IsRow-at trace numbers thread_in table.threads.items u.0 c places.0 there has.threads))
       (λ k. let places = subst (HasPlaces (sizes table)) k names.names in
-      looked_up-with (is_about thread_in u.0) c result (λ f. conflict-join f e u.0 k) is (λ trace numbers has. IsRow-at trace numbers thread_in table.threads.items u.0 c places.0 there has.threads))
+      look_up-with (is_about thread_in u.0) c result (λ f. conflict-join f e u.0 k) is (λ trace numbers has. IsRow-at trace numbers thread_in table.threads.items u.0 c places.0 there has.threads))
       kind
 
 -- ---- one more number

@@ -16,13 +16,13 @@ use Rattle.velo_certify.specs.declared.reached.Reached.{Reached}
 use Rattle.velo_certify.specs.Distances.{AreDistances, AreTowards}
 use Rattle.velo_certify.specs.Lists.{IsFirst, IsListed, AreListed, list_sizes}
 use Rattle.velo_certify.specs.Owners.{event_at}
-use Rattle.velo_certify.specs.Search.{IsStart, IsQueued, Grows, Leads, AreOnLevel, IsSortedFrom, IsPassed, ArePassed, level_at, Passes, PassesConflicts, ExpandsBelow, Expands, IsSearched}
+use Rattle.velo_certify.specs.Search.{IsStart, IsQueued, Grows, LeadsNewTo, AreOnLevel, IsSortedFrom, IsPassed, ArePassed, level_at, Passes, PassesConflicts, ExpandsBelow, Expands, IsSearched}
 use Rattle.velo_certify.specs.Table.{AllNameRows, is_about, thread_in, handled_in, written_in, read_in, lock_in}
 use Rattle.velo_certify.specs.Threads.{thread_at, IsFirstFrom}
 use Rattle.velo_certify.proofs.OnGreatest.{passes-conflict, conflict-passes}
 use Rattle.velo_certify.proofs.OnLists.{here, about-named, named-about}
 use Rattle.velo_certify.proofs.OnPasses.{Grows-reached}
-use Rattle.velo_certify.proofs.OnReached.{cases_zero, Grows-same, Grows-twice, Leads-same, Leads-twice}
+use Rattle.velo_certify.proofs.OnReached.{cases_zero, Grows-same, Grows-twice, LeadsNewTo-same, LeadsNewTo-twice}
 use Rattle.velo_certify.proofs.OnThreads.{one-thread, own-thread, Follows, Follows-next}
 
 -- ---- before anything is passed
@@ -72,7 +72,7 @@ reached-within far a has = ⊎_elim (λ l. l) (λ g. absurd (let none = get_or_p
 pub ExpandsBelow-start : (trace : List Event) (b : ℕ) (old : Reached) → ExpandsBelow trace b b old old
 ExpandsBelow-start trace b old = record {
   grows = Grows-same (slice_index old.far.items b) old;
-  leads = Leads-same b old;
+  leads = LeadsNewTo-same b old;
   found = λ a none has. absurd (omega (arith, none, has));
   all = λ i j before upto clash own. absurd (let most = owner-le trace j in omega (arith, most, own, upto));
 }
@@ -94,7 +94,7 @@ module _ (trace : List Event) (b n : ℕ) (old now : Reached) (positive : 0 < sl
     pub ExpandsBelow-next : ExpandsBelow trace b k old new
     ExpandsBelow-next = record {
       grows = Grows-twice (slice_index old.far.items b) old now new v.grows grown;
-      leads = Leads-twice (slice_index old.far.items b) b old now new v.grows v.leads (subst (λ c. Leads c now new) of_b by_event.leads);
+      leads = LeadsNewTo-twice (slice_index old.far.items b) b old now new v.grows v.leads (subst (λ c. LeadsNewTo c now new) of_b by_event.leads);
       found = λ a none has. ⊎_elim
           (λ z.
           let is = by_event.reaches.found a z has in

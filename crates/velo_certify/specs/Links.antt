@@ -64,7 +64,7 @@ pub record IsGrown (trace : List Event) (old new : Links) : Type 0 where
 -- ---- what stands for a link
 
 -- the list of some position at or before j, of j's thread, has some position at or behind i, of i's thread
-pub record IsCovered (trace : List Event) (l : Links) (i j : ℕ) : Type 0 where
+pub record IsImplied (trace : List Event) (l : Links) (i j : ℕ) : Type 0 where
   pub from : ℕ
   pub to : ℕ
   pub from_there : from < length trace
@@ -78,7 +78,7 @@ pub record IsCovered (trace : List Event) (l : Links) (i j : ℕ) : Type 0 where
 
 -- inside a thread no list is needed
 abbrev pub IsKept : List Event → Links → ℕ → ℕ → Type 0
-IsKept trace l i j = (thread_at trace i ≡ thread_at trace j) ⊎ IsCovered trace l i j
+IsKept trace l i j = (thread_at trace i ≡ thread_at trace j) ⊎ IsImplied trace l i j
 
 -- the place of the threads of two positions
 abbrev pub pair_at : List Event → ℕ → ℕ → ℕ
@@ -151,7 +151,7 @@ pub record IsLeft (listed : List Bool) (l : Links) (k : ℕ) (xs : List ℕ) : T
   pub only : (b : ℕ) → IsIn b ys → IsIn b xs
 
 -- the list of a transaction has lost listed ones at its front; it is empty, or begins with one that is not listed
-pub record IsSettled (listed : List Bool) (a : ℕ) (old new : Links) (answer : Bool) : Type 0 where
+pub record DropsListed (listed : List Bool) (a : ℕ) (old new : Links) (answer : Bool) : Type 0 where
   pub count : length new.heads.items ≡ length old.heads.items
   pub others : (c : ℕ) (xs : List ℕ) → c ≢ a → list_of old c xs → list_of new c xs
   pub own : (xs : List ℕ) → list_of old a xs → (left : IsLeft listed new (slice_index new.heads.items a) xs) × (IsTrue answer → left.ys ≡ []) × (IsFalse answer → (b : ℕ) × IsIn b left.ys × IsFalse (has listed b))

@@ -34,14 +34,14 @@ pub record Grows (level : ℕ) (old new : Reached) : Type 0 where
   pub queued : (a : ℕ) → slice_index old.far.items a ≡ 0 → 0 < slice_index new.far.items a → IsQueued new a
 
 -- what had a number leads where it led, and what is new leads to this transaction
-pub record Leads (b : ℕ) (old new : Reached) : Type 0 where
+pub record LeadsNewTo (b : ℕ) (old new : Reached) : Type 0 where
   pub kept : (a : ℕ) → 0 < slice_index old.far.items a → slice_index new.next.items a ≡ slice_index old.next.items a
   pub towards : (a : ℕ) → slice_index old.far.items a ≡ 0 → 0 < slice_index new.far.items a → slice_index new.next.items a ≡ b
 
 -- a transaction is reached now from another one, and nothing else is new
-pub record Reaches (level a b : ℕ) (old new : Reached) : Type 0 where
+pub record ReachesOneMore (level a b : ℕ) (old new : Reached) : Type 0 where
   pub grows : Grows level old new
-  pub leads : Leads b old new
+  pub leads : LeadsNewTo b old new
   pub there : 0 < slice_index new.far.items a
   pub only : (b : ℕ) → slice_index old.far.items b ≡ 0 → 0 < slice_index new.far.items b → (b ≡ a) × (slice_index new.far.items b ≡ level + 1)
 
@@ -83,14 +83,14 @@ pub record ReachesBelow (trace : List Event) (at_hand : ℕ) (test : Event → B
 -- the same of all positions before the one at hand
 pub record Passes (trace : List Event) (at_hand : ℕ) (test : Event → Bool) (old new : Reached) : Type 0 where
   pub grows : Grows (level_at trace old at_hand) old new
-  pub leads : Leads (owner trace at_hand) old new
+  pub leads : LeadsNewTo (owner trace at_hand) old new
   pub reaches : ReachesBelow trace at_hand test at_hand (level_at trace old at_hand) old new
 
 -- a list is passed up to the position at hand
 pub record PassesList (trace : List Event) (at_hand thing : ℕ) (following : List ℕ) (old_fronts new_fronts : List ℕ) (old new : Reached) : Type 0 where
   pub count : length new_fronts ≡ length old_fronts
   pub grows : Grows (level_at trace old at_hand) old new
-  pub leads : Leads (owner trace at_hand) old new
+  pub leads : LeadsNewTo (owner trace at_hand) old new
   pub passed : (named : Event → Option ℕ) → IsPassed trace named old.far.items old_fronts following → IsPassed trace named new.far.items new_fronts following
   pub passes : (named : Event → Option ℕ) → IsPassed trace named old.far.items old_fronts following → Passes trace at_hand (is_about named thing) old new
 
@@ -103,7 +103,7 @@ pub record PassesConflicts (trace : List Event) (at_hand : ℕ) (old new : Reach
 -- the transactions from which an edge leads to this one by a position below n are reached
 pub record ExpandsBelow (trace : List Event) (b n : ℕ) (old new : Reached) : Type 0 where
   pub grows : Grows (slice_index old.far.items b) old new
-  pub leads : Leads b old new
+  pub leads : LeadsNewTo b old new
   pub found : (a : ℕ) → slice_index old.far.items a ≡ 0 → 0 < slice_index new.far.items a → (slice_index new.far.items a ≡ slice_index old.far.items b + 1) × Edge trace a b
   pub all : (i j : ℕ) → i < j → j < n → IsTrue (conflict_at trace i j) → owner trace j ≡ b → 0 < slice_index new.far.items (owner trace i)
 

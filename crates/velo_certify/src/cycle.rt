@@ -23,7 +23,12 @@ use velo_events::{Event, Memory};
 use velo_traces::Trace;
 
 /// Walks from the first transaction of a cycle by way of the second back to the first.
-fn walk(alloc: Global, reached: &Reached, start: usize, second: usize) -> Result<Vec<usize>, Memory>
+fn cycle_through(
+    alloc: Global,
+    reached: &Reached,
+    start: usize,
+    second: usize,
+) -> Result<Vec<usize>, Memory>
     requires nearer { AreNearer start reached.now.far.items reached.now.next.items }
     requires second { 0 < slice_index reached.now.far.items second }
     ensures cycle { IfOk result (λ cycle. (trace : List Event) → AreDistances trace start reached.now.far.items → AreTowards trace start reached.now.far.items reached.now.next.items → IsNearest trace reached.now.far.items start second → IsShortestFrom trace start cycle.items) }
@@ -52,7 +57,7 @@ fn last_cycle(alloc: Global, events: &[Event]) -> Result<Vec<usize>, CertFault>
     let reached = reach_target(alloc, events, &owners, start)?;
     let mut table = Table::new(alloc, events)?;
     match nearest_next(events, &owners, &mut table, &reached.far, start) {
-        Some(second) => Ok(walk(alloc, &reached, start, second)?),
+        Some(second) => Ok(cycle_through(alloc, &reached, start, second)?),
         None => Err(CertFault::NoCycle),
     }
 }

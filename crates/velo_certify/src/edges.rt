@@ -2,10 +2,10 @@
 ghost use Rattle.std.specs.Prelude.{◌≡◌, ◌≢◌, ◌<◌, ◌+◌, ◌-◌, length, take, slice_index, IfOk, OnErr, MatchOption};
 ghost use Rattle.velo_events.specs.Block.{owner};
 ghost use Rattle.velo_events.specs.Certificate.{IsCycleAt};
-ghost use Rattle.velo_events.specs.Graph.{Edge as GraphEdge};
+ghost use Rattle.velo_events.specs.Graph.{Edge};
 ghost use Rattle.velo_events.specs.Refusals.{GrowthRefused};
 ghost use Rattle.velo_certify.specs.Cycle.{next_in, IsLinked};
-ghost use Rattle.velo_certify.specs.Edges.{IsEdge, AreEdges, own_places};
+ghost use Rattle.velo_certify.specs.Edges.{ShowsEdge, ShowEdges, own_places};
 ghost use Rattle.velo_certify.specs.Owners.{AreOwners};
 ghost use Rattle.velo_certify.specs.Nearest.{LeadsInto};
 ghost use Rattle.velo_certify.specs.Table.{AllNameRows, HasNumbers, numbers_before, sizes};
@@ -20,7 +20,7 @@ use velo_traces::Trace;
 
 /// Two conflicting events of two transactions. They make an edge from the first one's transaction to the second one's.
 #[derive(Clone, Copy, Debug, PartialEq, Eq)]
-pub struct Edge {
+pub struct EdgeEvents {
     /// The position of the earlier event.
     pub from: usize,
     /// The position of the later event.
@@ -43,7 +43,7 @@ fn place_before(
     ensures names { sizes table.new ≡ sizes table.old }
     ensures numbers { HasNumbers events.now (numbers_before (own_places events.now from) (at + 1)) table.new }
     ensures some { LeadsInto events.now from at → 0 < result }
-    ensures edge { 0 < result → owner events.now at ≢ from → IsEdge events.now from (owner events.now at) (record { from = result - 1; to = at }) }
+    ensures edge { 0 < result → owner events.now at ≢ from → ShowsEdge events.now from (owner events.now at) (record { from = result - 1; to = at }) }
 {
     let transaction = owner_of(events, owners, at);
     let number = if transaction == from { at + 1 } else { 0 };
@@ -51,24 +51,24 @@ fn place_before(
 }
 
 /// The earliest event of the one transaction that conflicts with an earlier one of the other, with the latest of these.
-fn edge_between(
+fn edge_events_between(
     events: &[Event],
     owners: &[usize],
     table: &mut Table,
     from: usize,
     to: usize,
-) -> Option<Edge>
+) -> Option<EdgeEvents>
     requires owners { AreOwners owners.now events.now }
     requires names { AllNameRows (sizes table.old) events.now (length events.now) }
     requires differ { from ≢ to }
     ensures names { sizes table.new ≡ sizes table.old }
-    ensures edge { MatchOption result (¬ GraphEdge events.now from to) (IsEdge events.now from to) }
+    ensures edge { MatchOption result (¬ Edge events.now from to) (ShowsEdge events.now from to) }
 {
     table.clear();
     for at in 0..events.len() {
         let place = place_before(events, owners, table, from, at);
         if place > 0 && owner_of(events, owners, at) == to {
-            return Some(Edge {
+            return Some(EdgeEvents {
                 from: place - 1,
                 to: at,
             });
@@ -78,37 +78,41 @@ fn edge_between(
 }
 
 /// The edge from a transaction of the cycle to what comes next.
-fn next_edge(
+fn next_edge_events(
     events: &[Event],
     owners: &[usize],
     table: &mut Table,
     cycle: &[usize],
     k: usize,
-) -> Edge
+) -> EdgeEvents
     requires owners { AreOwners owners.now events.now }
     requires names { AllNameRows (sizes table.old) events.now (length events.now) }
     requires within { k < length cycle.now }
     requires linked { IsLinked events.now cycle.now (length cycle.now) }
     ensures names { sizes table.new ≡ sizes table.old }
-    ensures edge { IsEdge events.now (slice_index cycle.now k) (next_in cycle.now k) result }
+    ensures edge { ShowsEdge events.now (slice_index cycle.now k) (next_in cycle.now k) result }
 {
-    match edge_between(events, owners, table, cycle[k], next_in(cycle, k)) {
+    match edge_events_between(events, owners, table, cycle[k], next_in(cycle, k)) {
         Some(edge) => edge,
         None => unreachable!(),
     }
 }
 
 /// The edges of a cycle of the events, in its order.
-fn all_edges(alloc: Global, events: &[Event], cycle: &[usize]) -> Result<Vec<Edge>, Memory>
+fn all_edge_events(
+    alloc: Global,
+    events: &[Event],
+    cycle: &[usize],
+) -> Result<Vec<EdgeEvents>, Memory>
     requires linked { IsLinked events.now cycle.now (length cycle.now) }
-    ensures edges { IfOk result (λ edges. AreEdges events.now cycle.now edges.items) }
+    ensures edges { IfOk result (λ edges. ShowEdges events.now cycle.now edges.items) }
     ensures memory { OnErr result GrowthRefused }
 {
     let owners = owners_of(alloc, events)?;
     let mut table = Table::new(alloc, events)?;
     let mut edges = with_capacity(alloc, cycle.len())?;
     for k in 0..cycle.len() {
-        edges.push_reserved(next_edge(events, &owners, &mut table, cycle, k));
+        edges.push_reserved(next_edge_events(events, &owners, &mut table, cycle, k));
     }
     Ok(edges)
 }
@@ -117,16 +121,16 @@ fn all_edges(alloc: Global, events: &[Event], cycle: &[usize]) -> Result<Vec<Edg
 /// conflicting events, the earlier one of it and the later one of the next transaction.
 ///
 /// It takes one pass over the events up to the position for each transaction of the cycle, and one to make the table.
-pub fn edges_of(
+pub fn edge_events_of(
     alloc: Global,
     trace: &Trace,
     position: usize,
     cycle: &[usize],
-) -> Result<Vec<Edge>, Memory>
+) -> Result<Vec<EdgeEvents>, Memory>
     requires { IsCycleAt trace.now.events position cycle.now }
-    ensures edges { IfOk result (λ edges. AreEdges (take (position + 1) trace.now.events) cycle.now edges.items) }
+    ensures edges { IfOk result (λ edges. ShowEdges (take (position + 1) trace.now.events) cycle.now edges.items) }
     ensures memory { OnErr result GrowthRefused }
 {
     let events = trace.as_slice();
-    all_edges(alloc, &events[..position + 1], cycle)
+    all_edge_events(alloc, &events[..position + 1], cycle)
 }

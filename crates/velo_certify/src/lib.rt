@@ -21,7 +21,7 @@ mod threads;
 mod witness;
 
 pub use cycle::{check_cycle, cycle_of};
-pub use edges::{Edge, edges_of};
+pub use edges::{EdgeEvents, edge_events_of};
 pub use fault::CertFault;
 pub use order::check_order;
 pub use owners::owners_of;

@@ -3,7 +3,7 @@ ghost use Rattle.std.specs.Prelude.{◌≡◌, ◌<◌, ◌+◌, length, IfOk, O
 ghost use Rattle.velo_events.specs.Graph.{conflict_at};
 ghost use Rattle.velo_events.specs.Refusals.{GrowthRefused};
 ghost use Rattle.velo_certify.specs.Changes.{change_sizes, HasChanges};
-ghost use Rattle.velo_certify.specs.Links.{is_weak, counted, counted_back, pair_at, AreShown, IsBefore, IsBehind, IsLinked, IsSettled, HasRows, HasLinks};
+ghost use Rattle.velo_certify.specs.Links.{is_weak, counted, counted_back, pair_at, AreShown, IsBefore, IsBehind, IsLinked, DropsListed, HasRows, HasLinks};
 ghost use Rattle.velo_certify.specs.Serial.{has};
 ghost use Rattle.velo_certify.specs.Owners.{AreOwners};
 ghost use Rattle.velo_certify.specs.Table.{AllNameRows, numbers_before, numbers_from, sizes_of};
@@ -216,10 +216,10 @@ fn is_listed(listed: &[bool], b: usize) -> bool
     }
 }
 
-/// Whether all that the list of a transaction has is listed. What is listed is taken from its front.
-pub(crate) fn is_settled(links: &mut Links, listed: &[bool], a: usize) -> bool
+/// Takes what is listed from the front of the list of a transaction. Whether nothing is left of it.
+pub(crate) fn drop_listed(links: &mut Links, listed: &[bool], a: usize) -> bool
     requires { a < length links.old.heads.items }
-    ensures { IsSettled listed.now a links.old links.new result }
+    ensures { DropsListed listed.now a links.old links.new result }
 {
     let mut k = links.heads[a];
     while k > 0 && is_listed(listed, links.links[k - 1].before) {

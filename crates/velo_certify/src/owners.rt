@@ -14,7 +14,7 @@ const THREAD_NUMBERS: usize = 256;
 
 /// What is known of a thread's open blocks before some position of a trace.
 #[derive(Clone, Copy)]
-pub(crate) struct Scan {
+pub(crate) struct ThreadBlocks {
     /// How many are open.
     depth: usize,
     /// Where the outermost begins, if one is open.
@@ -22,46 +22,46 @@ pub(crate) struct Scan {
 }
 
 /// Takes the event at a position in, which is of the scanned thread.
-fn advance(events: &[Event], at: usize, scan: Scan) -> Scan
+fn blocks_after(events: &[Event], at: usize, blocks: ThreadBlocks) -> ThreadBlocks
     requires within { at < length events.now }
-    requires small { scan.depth ≤ at }
-    requires scanned { IsScanned events.now (event_at events.now at).thread.0 at scan.depth scan.first }
+    requires small { blocks.depth ≤ at }
+    requires scanned { IsScanned events.now (event_at events.now at).thread.0 at blocks.depth blocks.first }
     ensures small { result.depth ≤ at + 1 }
     ensures scanned { IsScanned events.now (event_at events.now at).thread.0 (at + 1) result.depth result.first }
 {
     match events[at].kind {
         Kind::Begin(_) => {
-            if scan.depth == 0 {
-                Scan {
+            if blocks.depth == 0 {
+                ThreadBlocks {
                     depth: 1,
                     first: at,
                 }
             } else {
-                Scan {
-                    depth: scan.depth + 1,
-                    ..scan
+                ThreadBlocks {
+                    depth: blocks.depth + 1,
+                    ..blocks
                 }
             }
         }
-        Kind::End => Scan {
-            depth: scan.depth.saturating_sub(1),
-            ..scan
+        Kind::End => ThreadBlocks {
+            depth: blocks.depth.saturating_sub(1),
+            ..blocks
         },
-        _ => scan,
+        _ => blocks,
     }
 }
 
 /// The transaction of a position, after which its thread is scanned one event further.
-fn next_owner(events: &[Event], at: usize, scans: &mut [Scan]) -> usize
+fn next_owner(events: &[Event], at: usize, threads: &mut [ThreadBlocks]) -> usize
     requires within { at < length events.now }
-    requires scanned { AreScanned events.now at scans.old }
+    requires scanned { AreScanned events.now at threads.old }
     ensures owner { result ≡ owner events.now at }
-    ensures scanned { AreScanned events.now (at + 1) scans.new }
+    ensures scanned { AreScanned events.now (at + 1) threads.new }
 {
     let thread = events[at].thread.0 as usize;
-    let scan = scans[thread];
-    scans[thread] = advance(events, at, scan);
-    if scan.depth > 0 { scan.first } else { at }
+    let blocks = threads[thread];
+    threads[thread] = blocks_after(events, at, blocks);
+    if blocks.depth > 0 { blocks.first } else { at }
 }
 
 /// The transaction of each position, named by its first position.
@@ -70,10 +70,10 @@ pub fn owners_of(alloc: Global, events: &[Event]) -> Result<Vec<usize>, Memory>
     ensures memory { OnErr result GrowthRefused }
 {
     let mut owners = with_capacity(alloc, events.len())?;
-    let blank = Scan { depth: 0, first: 0 };
-    let mut scans = filled(alloc, blank, THREAD_NUMBERS)?;
+    let blank = ThreadBlocks { depth: 0, first: 0 };
+    let mut threads = filled(alloc, blank, THREAD_NUMBERS)?;
     for at in 0..events.len() {
-        owners.push_reserved(next_owner(events, at, &mut scans));
+        owners.push_reserved(next_owner(events, at, &mut threads));
     }
     Ok(owners)
 }

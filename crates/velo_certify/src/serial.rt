@@ -16,7 +16,7 @@ ghost use Rattle.velo_certify.specs.Threads.{AreFollowing, AreFronts, IsBehind, 
 use crate::CertFault;
 use crate::chains::Links;
 use crate::counts::counts_of;
-use crate::links::{is_settled, links_of};
+use crate::links::{drop_listed, links_of};
 use crate::owners::{owner_of, owners_of};
 use crate::threads::Threads;
 use std::alloc::Global;
@@ -57,7 +57,7 @@ fn with_front(events: &[Event], listed: &[bool], links: &mut Links, next: Next, 
     if is_before(next, a) {
         return next;
     }
-    if is_settled(links, listed, a) {
+    if drop_listed(links, listed, a) {
         return Next::Ready(a);
     }
     match next {

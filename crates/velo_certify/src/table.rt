@@ -82,7 +82,7 @@ impl Table {
     }
 
     /// The greatest number of an event that conflicts with the given one.
-    pub fn looked_up(&self, event: Event) -> usize
+    pub fn look_up(&self, event: Event) -> usize
         requires { NamesRows (sizes self.now) event }
         ensures { IsLookedUp self.now event result }
     {
@@ -124,7 +124,7 @@ impl Table {
         ensures sizes { sizes self.new ≡ sizes self.old }
     {
         let event = events[at];
-        let greatest = self.looked_up(event);
+        let greatest = self.look_up(event);
         self.note(event, number);
         greatest
     }

@@ -25,7 +25,7 @@ fn mark_next(events: &[Event], table: &mut Table, begin: usize, marks: &mut Vec<
     ensures room { vec_capacity marks.new ≡ vec_capacity marks.old }
 {
     let event = events[at];
-    let greatest = table.looked_up(event);
+    let greatest = table.look_up(event);
     let number = if at == begin { 1 } else { greatest };
     table.note(event, number);
     marks.push_reserved(number);

@@ -5,8 +5,8 @@ use Rattle.velo_events.specs.Block.{open_blocks}
 use Rattle.velo_events.specs.Certificate.{IsShortestCycleAt}
 use Rattle.velo_events.specs.Reordering.{IsSelfSerializable}
 use Rattle.velo_traces.specs.declared.block.Block.{Block}
-use Rattle.velo_certify.specs.declared.edges.Edge.{Edge}
-use Rattle.velo_certify.specs.Edges.{AreEdges, edge_at}
+use Rattle.velo_certify.specs.declared.edges.EdgeEvents.{EdgeEvents}
+use Rattle.velo_certify.specs.Edges.{ShowEdges, edge_at}
 use Rattle.velo_certify.specs.Witness.{thread_at, IsWitness}
 use Rattle.velo_explain.specs.declared.spans.Span.{Span}
 use Rattle.velo_explain.specs.declared.evidence.Blame.{Blame}
@@ -49,7 +49,7 @@ pub record IsEvidence (trace : List Event) (p : ℕ) (blamed : List Block) (evid
   pub cycle : List ℕ
   pub shortest : IsShortestCycleAt trace p cycle
   pub spans : AreSpans (take (p + 1) trace) cycle evidence.spans.items
-  pub edges : AreEdges (take (p + 1) trace) cycle evidence.edges.items
+  pub edges : ShowEdges (take (p + 1) trace) cycle evidence.edges.items
   pub blames : AreBlames trace p blamed evidence.blames.items
 
 -- the same, whichever blocks are to blame
@@ -68,7 +68,7 @@ pub record AreSpansWithin (n : ℕ) (spans : List Span) : Type 0 where
   pub first : (i : ℕ) → i < length spans → (span_at spans i).first < n
   pub last : (i : ℕ) → i < length spans → (span_at spans i).last < n
 
-pub record AreEdgesWithin (n : ℕ) (edges : List Edge) : Type 0 where
+pub record AreEdgesWithin (n : ℕ) (edges : List EdgeEvents) : Type 0 where
   pub from : (i : ℕ) → i < length edges → (edge_at edges i).from < n
   pub to : (i : ℕ) → i < length edges → (edge_at edges i).to < n
 

@@ -1,7 +1,7 @@
 -- A cycle as a Graphviz picture: a column for each thread, a box for each transaction, an arrow for each edge.
 use Rattle.std.specs.Prelude.{ℕ, ◌+◌, List, [], ◌∷◌, ◌++◌, length, codes, decimal}
 use Rattle.velo_events.specs.declared.event.Event.{Event}
-use Rattle.velo_certify.specs.declared.edges.Edge.{Edge}
+use Rattle.velo_certify.specs.declared.edges.EdgeEvents.{EdgeEvents}
 use Rattle.velo_certify.specs.Owners.{event_at}
 use Rattle.velo_explain.specs.declared.spans.Span.{Span}
 use Rattle.velo_explain.specs.declared.evidence.Evidence.{Evidence}
@@ -22,7 +22,7 @@ box_text trace k span = joined (
     ∷ codes "\\n" ∷ lines_text (line_of span.first) (line_of span.last) ∷ codes "\"]; }\n" ∷ [])
 
 -- "  T1 -> T2 [label="line 4: 0 rd 0 0\nline 5: 1 wr 0 5"];"
-unfoldable pub arrow_text : List Event → ℕ → ℕ → Edge → List ℕ
+unfoldable pub arrow_text : List Event → ℕ → ℕ → EdgeEvents → List ℕ
 arrow_text trace count k edge = joined (
     codes "  T" ∷ decimal (k + 1) ∷ codes " -> T" ∷ decimal (next_number count k)
     ∷ codes " [label=\"line " ∷ decimal (line_of edge.from) ∷ codes ": " ∷ event_text (event_at trace edge.from)

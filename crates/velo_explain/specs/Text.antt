@@ -2,7 +2,7 @@
 use Rattle.std.specs.Prelude.{ℕ, ◌+◌, nat_lt, if◌then◌else◌, List, [], ◌∷◌, ◌++◌, length, codes, decimal}
 use Rattle.std.specs.List.{flat_map}
 use Rattle.velo_events.specs.declared.event.Event.{Event}
-use Rattle.velo_certify.specs.declared.edges.Edge.{Edge}
+use Rattle.velo_certify.specs.declared.edges.EdgeEvents.{EdgeEvents}
 use Rattle.velo_certify.specs.Owners.{event_at}
 use Rattle.velo_explain.specs.declared.spans.Span.{Span}
 use Rattle.velo_explain.specs.declared.evidence.Blame.{Blame}
@@ -43,7 +43,7 @@ abbrev pub next_number : ℕ → ℕ → ℕ
 next_number count k = if nat_lt (k + 1) count then k + 2 else 1
 
 -- "  T1 before T2: line 4 `0 rd 0 0`, then line 5 `1 wr 0 5`"
-unfoldable pub edge_text : List Event → ℕ → ℕ → Edge → List ℕ
+unfoldable pub edge_text : List Event → ℕ → ℕ → EdgeEvents → List ℕ
 edge_text trace count k edge = joined (
     codes "  T" ∷ decimal (k + 1) ∷ codes " before T" ∷ decimal (next_number count k)
     ∷ codes ": line " ∷ decimal (line_of edge.from) ∷ codes " `" ∷ event_text (event_at trace edge.from)

@@ -11,7 +11,7 @@ use crate::pieces::{Page, Piece};
 use crate::spans::Span;
 use crate::words::{line_of, next_number};
 use std::alloc::Global;
-use velo_certify::Edge;
+use velo_certify::EdgeEvents;
 use velo_events::{Event, Memory};
 
 /// Adds the start of a picture.
@@ -85,7 +85,7 @@ fn add_arrow(
     events: &[Event],
     count: usize,
     k: usize,
-    edge: Edge,
+    edge: EdgeEvents,
 ) -> Result<(), Memory>
     requires from { edge.from < length events.now }
     requires to { edge.to < length events.now }
@@ -113,7 +113,7 @@ fn add_arrow(
 }
 
 /// Adds the arrows of the edges.
-fn add_arrows(page: &mut Page, events: &[Event], edges: &[Edge]) -> Result<(), Memory>
+fn add_arrows(page: &mut Page, events: &[Event], edges: &[EdgeEvents]) -> Result<(), Memory>
     requires within { AreEdgesWithin (length events.now) edges.now }
     requires few { length events.now ≤ MOST_EVENTS }
     ensures ok { OnOk result (page.new ≡ page.old ++ numbered (arrow_text events.now (length edges.now)) 0 edges.now) }

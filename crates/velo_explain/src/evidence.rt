@@ -7,7 +7,7 @@ ghost use Rattle.velo_explain.specs.Evidence.{AreBlames, IsEvidence, IsEvidenceA
 
 use crate::spans::{Span, spans_of};
 use std::alloc::Global;
-use velo_certify::{CertFault, Edge, cycle_of, edges_of, witness_of};
+use velo_certify::{CertFault, EdgeEvents, cycle_of, edge_events_of, witness_of};
 use velo_events::Memory;
 use velo_events::growth::with_capacity;
 use velo_traces::{Block, Trace};
@@ -26,7 +26,7 @@ pub struct Evidence {
     /// The transactions of a cycle in its order, that of the closing event first.
     pub spans: Vec<Span>,
     /// For each of them the two events behind its edge to the next one; the last one's leads to the first.
-    pub edges: Vec<Edge>,
+    pub edges: Vec<EdgeEvents>,
     /// The blocks to blame.
     pub blames: Vec<Blame>,
 }
@@ -72,7 +72,7 @@ pub fn evidence_of(
 {
     let cycle = cycle_of(alloc, trace, position)?;
     let spans = spans_of(alloc, trace, position, &cycle)?;
-    let edges = edges_of(alloc, trace, position, &cycle)?;
+    let edges = edge_events_of(alloc, trace, position, &cycle)?;
     let blames = blames_of(alloc, trace, position, blamed)?;
     Ok(Evidence {
         spans,

@@ -9,7 +9,7 @@ use crate::evidence::{Blame, Evidence};
 use crate::pieces::{Page, Piece};
 use crate::spans::Span;
 use std::alloc::Global;
-use velo_certify::Edge;
+use velo_certify::EdgeEvents;
 use velo_events::{Event, MOST_EVENTS, Memory};
 
 /// The number of the line on which a position stands, behind the header on line 1.
@@ -96,7 +96,7 @@ fn add_edge(
     events: &[Event],
     count: usize,
     k: usize,
-    edge: Edge,
+    edge: EdgeEvents,
 ) -> Result<(), Memory>
     requires from { edge.from < length events.now }
     requires to { edge.to < length events.now }
@@ -123,7 +123,7 @@ fn add_edge(
 }
 
 /// Adds the events behind the edges of the cycle.
-fn add_edges(page: &mut Page, events: &[Event], edges: &[Edge]) -> Result<(), Memory>
+fn add_edges(page: &mut Page, events: &[Event], edges: &[EdgeEvents]) -> Result<(), Memory>
     requires within { AreEdgesWithin (length events.now) edges.now }
     requires few { length events.now ≤ MOST_EVENTS }
     ensures ok { OnOk result (page.new ≡ page.old ++ numbered (edge_text events.now (length edges.now)) 0 edges.now) }
@@ -244,7 +244,11 @@ pub(crate) fn explanation(
 
 /// The explanation of a clean log.
 #[tactic(auto, unfolding(crate::specs::Text::clean_text))]
-pub(crate) fn clean(alloc: Global, events: usize, transactions: usize) -> Result<Page, Memory>
+pub(crate) fn clean_explanation(
+    alloc: Global,
+    events: usize,
+    transactions: usize,
+) -> Result<Page, Memory>
     ensures ok { IfOk result (λ page. page ≡ clean_text events transactions) }
     ensures memory { OnErr result GrowthRefused }
 {

@@ -16,7 +16,7 @@ use crate::count::transactions_of;
 use crate::drawing::picture_of;
 use crate::evidence::Evidence;
 use crate::pieces::Page;
-use crate::words::{clean, explanation};
+use crate::words::{clean_explanation, explanation};
 use std::alloc::Global;
 use velo_logtext::{Sink, WriteFault, write_all};
 use velo_traces::Trace;
@@ -90,6 +90,6 @@ pub fn explain_clean<S: Sink>(
 {
     let events = trace.as_slice();
     let count = transactions_of(alloc, events)?;
-    let page = clean(alloc, events.len(), count)?;
+    let page = clean_explanation(alloc, events.len(), count)?;
     write_page(&page, sink)
 }

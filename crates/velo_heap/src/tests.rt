@@ -13,7 +13,7 @@ const BOUNDS: Bounds = Bounds {
     locks: 1,
 };
 
-fn opened(alloc: Global) -> Result<Heap, Fail>
+fn heap_of_three_threads(alloc: Global) -> Result<Heap, Fail>
     ensures stands { IfOk result (λ h. (trace : List Event) × IsHeapOf h trace) }
     ensures threads { IfOk result (λ h. (bounds_of h).threads ≡ 3) }
     ensures variables { IfOk result (λ h. (bounds_of h).variables ≡ 1) }
@@ -55,7 +55,7 @@ fn first_surprise(heap: &mut Heap, steps: &[(u8, Action, Option<Refusal>)]) -> O
 
 #[test]
 fn refusals_in_their_order(rt: HostRuntime) -> Result<(), Fail> {
-    let mut heap = opened(rt.alloc())?;
+    let mut heap = heap_of_three_threads(rt.alloc())?;
     let steps = [
         // an unborn thread, a thread that is not there, and what else would be refused
         (1, Action::Write(VarId(0), 1), Some(Refusal::NotLive)),
@@ -106,7 +106,7 @@ fn refusals_in_their_order(rt: HostRuntime) -> Result<(), Fail> {
 
 #[test]
 fn values_and_holders(rt: HostRuntime) -> Result<(), Fail> {
-    let mut heap = opened(rt.alloc())?;
+    let mut heap = heap_of_three_threads(rt.alloc())?;
     let read = Event {
         thread: ThreadId(0),
         kind: Kind::Read(VarId(0), 0),
@@ -125,7 +125,7 @@ fn values_and_holders(rt: HostRuntime) -> Result<(), Fail> {
 
 #[test]
 fn blocks_nest_32_deep(rt: HostRuntime) -> Result<(), Fail> {
-    let mut heap = opened(rt.alloc())?;
+    let mut heap = heap_of_three_threads(rt.alloc())?;
     let begins = [(0, Action::Begin(Label(1)), None); 32];
     assert_eq!(rt; first_surprise(&mut heap, &begins), None);
     assert_eq!(rt;

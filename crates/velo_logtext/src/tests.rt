@@ -356,7 +356,7 @@ fn ten_thousand_lines(rt: HostRuntime) -> Result<(), Fail> {
 
 /// Reads by a reader, and writes by a writer with room and by one without: what the first was given, whether the second
 /// failed, and how often.
-fn adapted(alloc: Global, log: &[u8]) -> Result<(Vec<u8>, bool, u64), Fail> {
+fn read_and_write(alloc: Global, log: &[u8]) -> Result<(Vec<u8>, bool, u64), Fail> {
     let (bounds, trace) = read_log(alloc, &mut ReaderSource::new(Cursor::new(log)))?;
     let mut space = [0u8; 4];
     let mut full = WriterSink::new(space.as_mut_slice());
@@ -370,7 +370,7 @@ fn adapted(alloc: Global, log: &[u8]) -> Result<(Vec<u8>, bool, u64), Fail> {
 #[test]
 fn readers_and_writers(rt: HostRuntime) -> Result<(), Fail> {
     let log = "vlog 1 1 0 0\n0 exit\n".as_bytes();
-    let (written, has_failed, failures) = adapted(rt.alloc(), log)?;
+    let (written, has_failed, failures) = read_and_write(rt.alloc(), log)?;
     assert_eq!(rt; written.as_slice(), "vlog 1 1 0 0\n0 exit\n!".as_bytes());
     assert_eq!(rt; (has_failed, failures), (true, 1));
     Ok(())

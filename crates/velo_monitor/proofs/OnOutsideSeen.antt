@@ -24,7 +24,7 @@ use Rattle.velo_merge.proofs.OnStamps.{step_of_stamp, stamp_of_step}
 use Rattle.velo_tables.specs.Kept.{steps_looked_up, IsRecorded}
 use Rattle.velo_monitor.specs.Watched.{Watched, IsEntryFor, AreDepths, IsMonitorOf}
 use Rattle.velo_monitor.specs.Steps.{live_slots}
-use Rattle.velo_monitor.specs.Changed.{BeginsBlock, GetsNoNode, GoesIntoNode, GetsOwnNode, Operates}
+use Rattle.velo_monitor.specs.Changed.{BeginsBlock, GetsNoNode, GoesIntoNode, GetsOwnNode, AfterOutside}
 use Rattle.velo_monitor.proofs.OnNodes.{one_slot}
 use Rattle.velo_monitor.proofs.OnLooks.{Names}
 use Rattle.velo_monitor.proofs.OnCurrent.{outside-depth, fresh-opens}
@@ -169,9 +169,9 @@ module _ (bounds : Bounds) (w : Watched) (trace : List Event) (e : Event) (stand
             (flags-opens w.nodes mid own_slot (length trace) gets.placed.opens.opens) gets.placed.opens.adds done gets.placed.marks.sound refl gets.placed.opens.stamped
             (subst (λ o. IsRecorded w.kept e o new.kept) gets.is recorded) threads depths-new
 
-    pub stands-operates : (new : Watched) (position : ℕ) → position ≡ length trace → Operates w position e new → IsMonitorOf bounds new (trace ++ e ∷ [])
-    stands-operates new position at operates =
-        let by = subst (λ p. Operates w p e new) at operates in
+    pub stands-after_outside : (new : Watched) (position : ℕ) → position ≡ length trace → AfterOutside w position e new → IsMonitorOf bounds new (trace ++ e ∷ [])
+    stands-after_outside new position at after =
+        let by = subst (λ p. AfterOutside w p e new) at after in
         ⊎_elim
         (λ (none : GetsNoNode w.nodes steps by.step new.nodes). nowhere new by.step by.recorded by.threads by.depths none.0 none.1 none.2)
         (λ (others : GoesIntoNode w.nodes steps by.step new.nodes ⊎ GetsOwnNode w.nodes steps (length trace) by.step new.nodes).

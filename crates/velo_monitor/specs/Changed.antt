@@ -120,7 +120,7 @@ abbrev pub IsPlaced : Nodes → List Step → ℕ → Option Step → Nodes → 
 IsPlaced old steps position step new = GetsNoNode old steps step new ⊎ (GoesIntoNode old steps step new ⊎ GetsOwnNode old steps position step new)
 
 -- an event outside blocks
-pub record Operates (old : Watched) (position : ℕ) (e : Event) (new : Watched) : Type 0 where
+pub record AfterOutside (old : Watched) (position : ℕ) (e : Event) (new : Watched) : Type 0 where
   pub step : Option Step
   pub placed : IsPlaced old.nodes (steps_looked_up old.kept e) position step new.nodes
   pub recorded : IsRecorded old.kept e step new.kept

@@ -21,7 +21,7 @@ ghost use Rattle.velo_tables.specs.Others.{accesses_but_for};
 ghost use Rattle.velo_monitor.specs.Watched.{IsMonitorOf};
 ghost use Rattle.velo_monitor.specs.Answers.{NeedsNode, GetsNewNode, IsNext, IsSeen};
 ghost use Rattle.velo_monitor.specs.Steps.{live_slots, ReachesSome};
-ghost use Rattle.velo_monitor.specs.Changed.{depth_of, CanCount, AfterInside, EndsBlock, CountsBlocks, BeginsBlock, IsPlaced, Operates, ForgetsDead};
+ghost use Rattle.velo_monitor.specs.Changed.{depth_of, CanCount, AfterInside, EndsBlock, CountsBlocks, BeginsBlock, IsPlaced, AfterOutside, ForgetsDead};
 
 use crate::edges::{add_edges, closes_or_adds, open_after, reaches_some};
 use smallvec::SmallVec;
@@ -251,7 +251,7 @@ impl Monitor {
         }
         match event.kind {
             Kind::Begin(_) => self.begin_block(position as u32, event),
-            _ => self.operate(position as u32, event),
+            _ => self.observe_outside(position as u32, event),
         }
         Seen::Quiet
     }
@@ -381,11 +381,11 @@ impl Monitor {
     }
 
     /// Takes in an event outside blocks.
-    fn operate(&mut self, position: u32, event: &Event)
+    fn observe_outside(&mut self, position: u32, event: &Event)
         requires room { HasRoomFor self.old.kept event.now }
         requires stamp { ForSome self.old.nodes.slots.newest (λ newest. newest < position) }
         requires slot { GetsNewNode self.old event.now → used_in self.old.nodes.slots < limit_of self.old.nodes.slots }
-        ensures operates { Operates self.old position event.now self.new }
+        ensures outside { AfterOutside self.old position event.now self.new }
         ensures limit { limit_of self.new.nodes.slots ≡ limit_of self.old.nodes.slots }
     {
         let step = if let Kind::Write(..) = event.kind {

@@ -61,8 +61,8 @@ impl Lines {
         }
     }
 
-    /// Gathers bytes for which there is room.
-    fn gather(&mut self, piece: &[u8])
+    /// Appends bytes for which there is room to those gathered.
+    fn append(&mut self, piece: &[u8])
         requires { length self.old + length piece.now ≤ ROOM }
         ensures { self.new ≡ self.old ++ piece.now }
     {
@@ -92,12 +92,12 @@ impl Lines {
         ensures failure { OnErr result (S.failures sink.new ≡ one_more (S.failures sink.old)) }
     {
         if piece.len() <= ROOM - self.used {
-            self.gather(piece);
+            self.append(piece);
             return Ok(());
         }
         self.flush(sink)?;
         if piece.len() <= ROOM {
-            self.gather(piece);
+            self.append(piece);
             return Ok(());
         }
         write_all(sink, piece)

@@ -19,7 +19,7 @@ use Rattle.velo_runtime.specs.declared.wait.Turn.{Turn}
 use Rattle.velo_runtime.specs.declared.wait.Turn.TheVariants.{Done, Refused, Wait}
 use Rattle.velo_runtime.specs.Rooms.{RoomState, IsThere, AreWaitsWithin}
 use Rattle.velo_runtime.specs.Steps.{ActsIn}
-use Rattle.velo_runtime.specs.Turns.{wanted_by, RefusedFor, TurnOf, TakesTurn, TurnsIn}
+use Rattle.velo_runtime.specs.Turns.{wanted_by, RefusedFor, IsTurnAfter, TakesTurn, TurnsIn}
 use Rattle.velo_runtime.specs.Seats.{GainsEventBy}
 use Rattle.velo_runtime.proofs.OnRefusals.{acts-refuses, no_foreign, no_runtime, refused_growth}
 
@@ -44,12 +44,12 @@ same_room room room' world waits =
     let made : WorldState → List (Option Wanted) → RoomState = λ w v. record { world = w; waits = v } in
     ap (λ w. made w room'.waits) world ∙ ap (made room.world) waits
 
-pub turn-before : (room room' : RoomState) (share share' : Holding) (action : Action) (outcome : Result Reply Refusal) (turn : Turn) (wait : Option Wanted) → ActsIn room share action outcome room' share' → TurnOf room' share.thread action outcome turn wait → TurnOf room share.thread action outcome turn wait
+pub turn-before : (room room' : RoomState) (share share' : Holding) (action : Action) (outcome : Result Reply Refusal) (turn : Turn) (wait : Option Wanted) → ActsIn room share action outcome room' share' → IsTurnAfter room' share.thread action outcome turn wait → IsTurnAfter room share.thread action outcome turn wait
 turn-before room room' share share' action (Ok reply) turn wait acts is = is
 turn-before room room' share share' action (Err r) turn wait acts is = rw (same_room room room' acts.acts.world acts.waits) at is
 
 -- the step, the turn that follows from it, and the wait that is entered
-pub takes-turn : (room mid room' : RoomState) (share share' : Holding) (action : Action) (outcome : Result Reply Refusal) (turn : Turn) (wait : Option Wanted) (t : ThreadId) (place : ℕ) → ActsIn room share action outcome mid share' → t ≡ share.thread → place ≡ t.0 → TurnOf mid t action outcome turn wait → room'.world ≡ mid.world → room'.waits ≡ set mid.waits place wait → TakesTurn room share action turn room' share'
+pub takes-turn : (room mid room' : RoomState) (share share' : Holding) (action : Action) (outcome : Result Reply Refusal) (turn : Turn) (wait : Option Wanted) (t : ThreadId) (place : ℕ) → ActsIn room share action outcome mid share' → t ≡ share.thread → place ≡ t.0 → IsTurnAfter mid t action outcome turn wait → room'.world ≡ mid.world → room'.waits ≡ set mid.waits place wait → TakesTurn room share action turn room' share'
 takes-turn room mid room' share share' action outcome turn wait t place acts own at_own is world waits = record {
   fits = acts.fits;
   outcome = outcome;
@@ -61,7 +61,7 @@ takes-turn room mid room' share share' action outcome turn wait t place acts own
 
 -- ---- what a turn tells its seat
 
-turn-refused : (room : RoomState) (t : ThreadId) (action : Action) (outcome : Result Reply Refusal) (r : Refusal) (wait : Option Wanted) → TurnOf room t action outcome (Refused r) wait → ((outcome ≡ Err r) × (wanted_by action r ≡ None)) ⊎ (r ≡ WouldDeadlock)
+turn-refused : (room : RoomState) (t : ThreadId) (action : Action) (outcome : Result Reply Refusal) (r : Refusal) (wait : Option Wanted) → IsTurnAfter room t action outcome (Refused r) wait → ((outcome ≡ Err r) × (wanted_by action r ≡ None)) ⊎ (r ≡ WouldDeadlock)
 turn-refused room t action (Ok reply) r wait is = let done = is.0 in cc
 turn-refused room t action (Err f) r wait is = at (wanted_by action f) refl is
   where
@@ -69,7 +69,7 @@ turn-refused room t action (Err f) r wait is = at (wanted_by action f) refl is
     at None none refused = let told = refused.0 in let same : r ≡ f = cc in inl (ap Err (sym same), ap (wanted_by action) same ∙ none)
     at (Some wanted) some refused = ⊎_elim (λ back. let told = back.1 in inr cc) (λ waits. let told = waits.1 in cc) refused
 
-turn-done : (room : RoomState) (t : ThreadId) (action : Action) (outcome : Result Reply Refusal) (reply : Reply) (wait : Option Wanted) → TurnOf room t action outcome (Done reply) wait → outcome ≡ Ok reply
+turn-done : (room : RoomState) (t : ThreadId) (action : Action) (outcome : Result Reply Refusal) (reply : Reply) (wait : Option Wanted) → IsTurnAfter room t action outcome (Done reply) wait → outcome ≡ Ok reply
 turn-done room t action (Ok out) reply wait is = let done = is.0 in cc
 turn-done room t action (Err f) reply wait is = at (wanted_by action f) is
   where
@@ -80,7 +80,7 @@ turn-done room t action (Err f) reply wait is = at (wanted_by action f) is
 pub turn-foreign : (room room' : RoomState) (share share' : Holding) (action : Action) (turn : Turn) → TakesTurn room share action turn room' share' → (turn ≡ Refused Foreign) ↔ ¬ FitsLog room.world share
 turn-foreign room room' share share' action turn takes = (λ h. absurd (never (rw h at takes.turn_is)), λ misfit. absurd (misfit takes.fits))
   where
-    never : TurnOf room share.thread action takes.outcome (Refused Foreign) takes.wait → ⊥
+    never : IsTurnAfter room share.thread action takes.outcome (Refused Foreign) takes.wait → ⊥
     never is = ⊎_elim
         (λ refused. no_foreign (acts-refuses room.world room'.world share share' action takes.outcome Foreign takes.acts refused.0))
         (λ other. cc)
@@ -112,7 +112,7 @@ did room room' share share' action reply (inl takes) =
     acted room.world room'.world share share' action reply (rw (turn-done room share.thread action takes.outcome reply takes.wait takes.turn_is) at takes.acts)
 did room room' share share' action reply (inr foreign) = let told = foreign.1 in cc
 
-kept_by : (room room' : RoomState) (share share' : Holding) (action : Action) (turn : Turn) (wait : Option Wanted) (outcome : Result Reply Refusal) → ((reply : Reply) → turn ≡ Done reply → ⊥) → Acts room.world share action outcome room'.world share' → TurnOf room share.thread action outcome turn wait → share' ≡ share
+kept_by : (room room' : RoomState) (share share' : Holding) (action : Action) (turn : Turn) (wait : Option Wanted) (outcome : Result Reply Refusal) → ((reply : Reply) → turn ≡ Done reply → ⊥) → Acts room.world share action outcome room'.world share' → IsTurnAfter room share.thread action outcome turn wait → share' ≡ share
 kept_by room room' share share' action turn wait (Ok reply) other acts is = absurd (other reply is.0)
 kept_by room room' share share' action turn wait (Err r) other acts is = acts.holding
 

@@ -42,9 +42,9 @@ RefusedFor room t refusal None turn wait = (turn ≡ Refused refusal) × (wait �
 RefusedFor room t refusal (Some wanted) turn wait = WaitsFor room t wanted turn wait
 
 -- what the turn answers after the step's outcome, and what the thread waits for then
-abbrev pub TurnOf : RoomState → ThreadId → Action → Result Reply Refusal → Turn → Option Wanted → Type 0
-TurnOf room t action (Ok reply) turn wait = (turn ≡ Done reply) × (wait ≡ None)
-TurnOf room t action (Err refusal) turn wait = RefusedFor room t refusal (wanted_by action refusal) turn wait
+abbrev pub IsTurnAfter : RoomState → ThreadId → Action → Result Reply Refusal → Turn → Option Wanted → Type 0
+IsTurnAfter room t action (Ok reply) turn wait = (turn ≡ Done reply) × (wait ≡ None)
+IsTurnAfter room t action (Err refusal) turn wait = RefusedFor room t refusal (wanted_by action refusal) turn wait
 
 -- the share fits, the step is the world's, and the wait of no other thread changes
 pub record TakesTurn (room : RoomState) (share : Holding) (action : Action) (turn : Turn) (room' : RoomState) (share' : Holding) : Type 0 where
@@ -52,7 +52,7 @@ pub record TakesTurn (room : RoomState) (share : Holding) (action : Action) (tur
   pub outcome : Result Reply Refusal
   pub acts : Acts room.world share action outcome room'.world share'
   pub wait : Option Wanted
-  pub turn_is : TurnOf room share.thread action outcome turn wait
+  pub turn_is : IsTurnAfter room share.thread action outcome turn wait
   pub waits : room'.waits ≡ slice_set room.waits share.thread.0 wait
 
 -- a turn, or the refusal of a foreign share

@@ -11,7 +11,7 @@ ghost use Rattle.velo_world.specs.World.{IsNoFork};
 ghost use Rattle.velo_runtime.specs.declared.wait.Turn.TheVariants as turn;
 ghost use Rattle.velo_runtime.specs.Rooms.{IsThere, opening_room};
 ghost use Rattle.velo_runtime.specs.Steps.{ActsIn, ForksIn, StepsIn, StepsForking};
-ghost use Rattle.velo_runtime.specs.Turns.{TakesTurn, TurnOf, TurnsIn, wanted_by};
+ghost use Rattle.velo_runtime.specs.Turns.{TakesTurn, IsTurnAfter, TurnsIn, wanted_by};
 ghost use Rattle.velo_runtime.specs.Waits.{ComesBackIn, leads_to, wait_of};
 ghost use Rattle.velo_runtime.specs.Seats.{AreSeatsOf};
 ghost use Rattle.velo_runtime.specs.Places.{AreTogether, events_of_all};
@@ -172,20 +172,20 @@ impl Room {
     {
         let thread = seat.share.thread();
         let outcome = self.act(seat, action);
-        let (turn, wait) = self.settle(thread, action, outcome);
+        let (turn, wait) = self.turn_after(thread, action, outcome);
         self.waits[usize::from(thread.0)] = wait;
         turn
     }
 
     /// What a turn answers after the outcome of its step, and what its thread waits for then.
-    fn settle(
+    fn turn_after(
         &self,
         thread: ThreadId,
         action: Action,
         outcome: Result<Reply, Refusal>,
     ) -> (Turn, Option<Wanted>)
         requires { IfErr outcome (λ refusal. IfSome (wanted_by action refusal) (IsThere self.now.world.config.bounds)) }
-        ensures turn { TurnOf self.now thread action outcome result.0 result.1 }
+        ensures turn { IsTurnAfter self.now thread action outcome result.0 result.1 }
         ensures there { IfSome result.1 (IsThere self.now.world.config.bounds) }
     {
         let refusal = match outcome {

@@ -36,7 +36,7 @@ fn config(run: u64, threads: u8, events: u32, stop: bool) -> Result<Config, BadC
 }
 
 /// Opens a run, and forks so many threads by the first one.
-fn opened<R: Wait>(
+fn open_with_forks<R: Wait>(
     rt: &R,
     alloc: Global,
     config: Config,
@@ -84,7 +84,7 @@ fn add_thread<R: Wait>(
 
 #[test]
 fn errors_are_told_by_their_texts(rt: HostRuntime) -> Result<(), Fail> {
-    let refused = opened(&rt, rt.alloc(), config(1, 1, 100, false)?, 1);
+    let refused = open_with_forks(&rt, rt.alloc(), config(1, 1, 100, false)?, 1);
     let error = refused.err().ok_or("not refused")?;
     assert_eq!(rt; error.to_string(rt.alloc())?.as_str(), "no such thread");
     Ok(())
@@ -349,21 +349,26 @@ fn pair<R: Wait>(rt: &R, alloc: Global, stop: bool) -> Result<(Shared, Seat, Sea
 }
 
 /// Plays a case. The first step of each thread that goes wrong, and whether the run ends as it should.
-fn played<R: Wait + Clock + Threads + Sync>(
+fn play<R: Wait + Clock + Threads + Sync>(
     rt: &R,
     alloc: Global,
     case: &Case,
 ) -> Result<((Option<usize>, Option<usize>), bool), RunError> {
     let (shared, mut first, mut second) = pair(rt, alloc, case.stop)?;
     let wrong = follow(rt, &shared, &mut first, &mut second, case);
-    let closed = closed(alloc, shared, first, second)?;
+    let closed = close_both(alloc, shared, first, second)?;
     let is_right = ends_as(&closed, case);
     drop(closed);
     Ok((wrong, is_right))
 }
 
 /// Ends a run of two threads.
-fn closed(alloc: Global, shared: Shared, first: Seat, second: Seat) -> Result<Closed, RunError> {
+fn close_both(
+    alloc: Global,
+    shared: Shared,
+    first: Seat,
+    second: Seat,
+) -> Result<Closed, RunError> {
     match vec![in alloc; first, second] {
         Ok(seats) => Ok(close(shared, seats)?),
         Err(error) => {
@@ -376,7 +381,7 @@ fn closed(alloc: Global, shared: Shared, first: Seat, second: Seat) -> Result<Cl
 #[test]
 fn two_threads(rt: HostRuntime) {
     for case in [LOST_UPDATE, RELEASE_AND_EXIT, HALT, HALT_AT_ALARM] {
-        let outcome = played(&rt, rt.alloc(), &case).ok();
+        let outcome = play(&rt, rt.alloc(), &case).ok();
         assert_eq!(rt; outcome, Some(((None, None), true)));
     }
 }
@@ -397,7 +402,7 @@ fn all_write<R: Wait + Abort + Threads + Sync>(
     rt: &R,
     alloc: Global,
 ) -> Result<(Shared, Vec<Seat>), RunError> {
-    let (shared, seats) = opened(rt, alloc, config(1, 4, 100, false)?, 3)?;
+    let (shared, seats) = open_with_forks(rt, alloc, config(1, 4, 100, false)?, 3)?;
     match thread::map_vec(rt, seats, &|seat| write_numbers(rt, &shared, seat)) {
         Ok(seats) => Ok((shared, seats)),
         Err(error) => {
@@ -589,7 +594,7 @@ fn first_other_answer(
 }
 
 /// Does the actions of a hold. The first step that is answered otherwise, and what the room tells at the end.
-fn answered(
+fn act_in_hold(
     rt: &impl Wait,
     shared: &Shared,
     seats: &mut Vec<Seat>,
@@ -617,7 +622,7 @@ fn held(
     drop(foreign_shared);
     let (shared, first) = open(rt, alloc, 1, hold.events, hold.stop);
     let mut seats = vec![in alloc; first, foreign].expect(rt, "memory");
-    let answered = answered(rt, &shared, &mut seats, hold);
+    let answered = act_in_hold(rt, &shared, &mut seats, hold);
     drop((shared, seats));
     answered
 }

@@ -5,31 +5,31 @@ use Rattle.std.proofs.Math.ListN.{set, get_or-map}
 use Rattle.std.proofs.lemmas.Bool.{cases_eq, cases_lt, both_ways}
 use Rattle.std.proofs.lemmas.List.{ext_get_or, get_or-set_same, get_or-set_other, get_or-take, get_or-drop, get_or_past, length-map, length-set, length-take, length-take-le, take-take, take_at, drop_at, drop-drop, drop-take, take-append-le, drop-append-le, append_assoc, get_or_default, take_all, set-get_or}
 use borrow.Rule.Slice.PartMut.{post_of}
-use Rattle.velo_tables.specs.declared.number_lists.Span.{Span}
+use Rattle.velo_tables.specs.declared.number_lists.Stretch.{Stretch}
 use Rattle.velo_tables.specs.Readers.{filled_up}
 use Rattle.velo_tables.proofs.OnReaders.{get_or-filled_up, length-filled_up, filled_up-long}
-use Rattle.velo_tables.specs.NumberLists.{list_in, AreLaidOut, with_list, blank_span}
+use Rattle.velo_tables.specs.NumberLists.{list_in, AreLaidOut, with_list, blank_stretch}
 
--- ---- the list of a span
+-- ---- the list of a stretch
 
-length-list_in : (numbers : List ℕ) (span : Span) → span.start + span.count ≤ length numbers → length (list_in numbers span) ≡ span.count
-length-list_in numbers span fits = length-take-le span.count (drop span.start numbers) (omega (arith, fits, length-drop span.start numbers))
+length-list_in : (numbers : List ℕ) (stretch : Stretch) → stretch.start + stretch.count ≤ length numbers → length (list_in numbers stretch) ≡ stretch.count
+length-list_in numbers stretch fits = length-take-le stretch.count (drop stretch.start numbers) (omega (arith, fits, length-drop stretch.start numbers))
 
-pub list_in-inside : (numbers : List ℕ) (span : Span) (place : ℕ) → place < span.count → get_or (list_in numbers span) place 0 ≡ get_or numbers (span.start + place) 0
-list_in-inside numbers span place inside = get_or-take span.count (drop span.start numbers) place 0 inside ∙ get_or-drop span.start numbers place 0
+pub list_in-inside : (numbers : List ℕ) (stretch : Stretch) (place : ℕ) → place < stretch.count → get_or (list_in numbers stretch) place 0 ≡ get_or numbers (stretch.start + place) 0
+list_in-inside numbers stretch place inside = get_or-take stretch.count (drop stretch.start numbers) place 0 inside ∙ get_or-drop stretch.start numbers place 0
 
-pub list_in-past : (numbers : List ℕ) (span : Span) (place : ℕ) → span.count ≤ place → get_or (list_in numbers span) place 0 ≡ 0
-list_in-past numbers span place past = get_or_past (list_in numbers span) place 0 (omega (arith, past, length-take span.count (drop span.start numbers)))
+pub list_in-past : (numbers : List ℕ) (stretch : Stretch) (place : ℕ) → stretch.count ≤ place → get_or (list_in numbers stretch) place 0 ≡ 0
+list_in-past numbers stretch place past = get_or_past (list_in numbers stretch) place 0 (omega (arith, past, length-take stretch.count (drop stretch.start numbers)))
 
 -- more numbers behind change nothing
-pub list_in-append : (numbers more : List ℕ) (span : Span) → span.start + span.count ≤ length numbers → list_in (numbers ++ more) span ≡ list_in numbers span
-list_in-append numbers more span fits =
-    ap (take span.count) (drop-append-le span.start numbers more (omega (arith, fits)))
-    ∙ take-append-le span.count (drop span.start numbers) more (omega (arith, fits, length-drop span.start numbers))
+pub list_in-append : (numbers more : List ℕ) (stretch : Stretch) → stretch.start + stretch.count ≤ length numbers → list_in (numbers ++ more) stretch ≡ list_in numbers stretch
+list_in-append numbers more stretch fits =
+    ap (take stretch.count) (drop-append-le stretch.start numbers more (omega (arith, fits)))
+    ∙ take-append-le stretch.count (drop stretch.start numbers) more (omega (arith, fits, length-drop stretch.start numbers))
 
 -- and with zeros behind
-pub length-longer : (numbers : List ℕ) (span : Span) (count : ℕ) → span.start + span.count ≤ length numbers → span.count ≤ count → length (filled_up 0 count (list_in numbers span)) ≡ count
-length-longer numbers span count fits longer = omega (arith, length-filled_up 0 count (list_in numbers span), length-list_in numbers span fits, longer)
+pub length-longer : (numbers : List ℕ) (stretch : Stretch) (count : ℕ) → stretch.start + stretch.count ≤ length numbers → stretch.count ≤ count → length (filled_up 0 count (list_in numbers stretch)) ≡ count
+length-longer numbers stretch count fits longer = omega (arith, length-filled_up 0 count (list_in numbers stretch), length-list_in numbers stretch fits, longer)
 
 -- ---- one list is written
 
@@ -67,135 +67,135 @@ module _ (numbers ys : List ℕ) (a n : ℕ) (fits : a + n ≤ length numbers) (
       ∙ (ap (take m) (drop-drop (b - (a + n)) (a + n) numbers)
       ∙ ap (λ k. take m (drop k numbers)) beyond)))
 
-module _ (numbers : List ℕ) (spans : List Span) where
-  pub get_or-lists : (i : ℕ) → get_or (map (list_in numbers) spans) i [] ≡ list_in numbers (get_or spans i blank_span)
-  get_or-lists i = get_or-map (list_in numbers) spans i blank_span
+module _ (numbers : List ℕ) (stretches : List Stretch) where
+  pub get_or-lists : (i : ℕ) → get_or (map (list_in numbers) stretches) i [] ≡ list_in numbers (get_or stretches i blank_stretch)
+  get_or-lists i = get_or-map (list_in numbers) stretches i blank_stretch
 
-module _ (numbers : List ℕ) (spans : List Span) (laid : AreLaidOut numbers spans) (i : ℕ) (ys : List ℕ) (there : i < length spans) (same : length ys ≡ (get_or spans i blank_span).count) where
-  abbrev here : Span
-  here = get_or spans i blank_span
+module _ (numbers : List ℕ) (stretches : List Stretch) (laid : AreLaidOut numbers stretches) (i : ℕ) (ys : List ℕ) (there : i < length stretches) (same : length ys ≡ (get_or stretches i blank_stretch).count) where
+  abbrev here : Stretch
+  here = get_or stretches i blank_stretch
 
   abbrev after : List ℕ
   after = written numbers ys here.start here.count (laid.within i) same
 
-  other-list : (j : ℕ) → ¬ (i ≡ j) → list_in after (get_or spans j blank_span) ≡ list_in numbers (get_or spans j blank_span)
+  other-list : (j : ℕ) → ¬ (i ≡ j) → list_in after (get_or stretches j blank_stretch) ≡ list_in numbers (get_or stretches j blank_stretch)
   other-list j off = ⊎_elim
-      (λ before. list-after numbers ys here.start here.count (laid.within i) same (get_or spans j blank_span).start (get_or spans j blank_span).count before)
-      (λ behind. list-before numbers ys here.start here.count (laid.within i) same (get_or spans j blank_span).start (get_or spans j blank_span).count behind)
+      (λ before. list-after numbers ys here.start here.count (laid.within i) same (get_or stretches j blank_stretch).start (get_or stretches j blank_stretch).count before)
+      (λ behind. list-before numbers ys here.start here.count (laid.within i) same (get_or stretches j blank_stretch).start (get_or stretches j blank_stretch).count behind)
       (laid.apart i j off)
 
-  each-list : (j : ℕ) → get_or (map (list_in after) spans) j [] ≡ get_or (set (map (list_in numbers) spans) i ys) j []
-  each-list j = get_or-lists after spans j ∙ ⊎_elim
-      (λ at. subst (λ k. list_in after (get_or spans k blank_span) ≡ get_or (set (map (list_in numbers) spans) i ys) k []) at
-      (list-here numbers ys here.start here.count (laid.within i) same ∙ sym (get_or-set_same (map (list_in numbers) spans) i ys [] (omega (arith, there, length-map spans (list_in numbers))))))
-      (λ off. other-list j off ∙ (sym (get_or-lists numbers spans j) ∙ sym (get_or-set_other (map (list_in numbers) spans) i j ys [] (λ e. off (sym e)))))
+  each-list : (j : ℕ) → get_or (map (list_in after) stretches) j [] ≡ get_or (set (map (list_in numbers) stretches) i ys) j []
+  each-list j = get_or-lists after stretches j ∙ ⊎_elim
+      (λ at. subst (λ k. list_in after (get_or stretches k blank_stretch) ≡ get_or (set (map (list_in numbers) stretches) i ys) k []) at
+      (list-here numbers ys here.start here.count (laid.within i) same ∙ sym (get_or-set_same (map (list_in numbers) stretches) i ys [] (omega (arith, there, length-map stretches (list_in numbers))))))
+      (λ off. other-list j off ∙ (sym (get_or-lists numbers stretches j) ∙ sym (get_or-set_other (map (list_in numbers) stretches) i j ys [] (λ e. off (sym e)))))
       (cases_eq i j)
 
   -- it is the place's list, and no other is changed
-  pub lists-written : map (list_in after) spans ≡ set (map (list_in numbers) spans) i ys
-  lists-written = ext_get_or [] (map (list_in after) spans) (set (map (list_in numbers) spans) i ys)
-      (omega (arith, length-map spans (list_in after), length-map spans (list_in numbers), length-set (map (list_in numbers) spans) i ys)) (λ j l. each-list j)
+  pub lists-written : map (list_in after) stretches ≡ set (map (list_in numbers) stretches) i ys
+  lists-written = ext_get_or [] (map (list_in after) stretches) (set (map (list_in numbers) stretches) i ys)
+      (omega (arith, length-map stretches (list_in after), length-map stretches (list_in numbers), length-set (map (list_in numbers) stretches) i ys)) (λ j l. each-list j)
 
-  pub laid-written : AreLaidOut after spans
+  pub laid-written : AreLaidOut after stretches
   laid-written = record { within = λ j. omega (arith, laid.within j, length-written numbers ys here.start here.count (laid.within i) same); apart = laid.apart }
 
--- what a call that writes the list of a span leaves
-abbrev put : List ℕ → Span → List ℕ → List ℕ
-put numbers span ys = take span.start numbers ++ (ys ++ post_of span.start (span.start + span.count - span.start) numbers)
+-- what a call that writes the list of a stretch leaves
+abbrev put : List ℕ → Stretch → List ℕ → List ℕ
+put numbers stretch ys = take stretch.start numbers ++ (ys ++ post_of stretch.start (stretch.start + stretch.count - stretch.start) numbers)
 
-counted : (span : Span) → span.start + span.count - span.start ≡ span.count
-counted span = omega arith
+counted : (stretch : Stretch) → stretch.start + stretch.count - stretch.start ≡ stretch.count
+counted stretch = omega arith
 
-module _ (numbers : List ℕ) (spans : List Span) (lists : List (List ℕ)) (laid : AreLaidOut numbers spans) (view : map (list_in numbers) spans ≡ lists) where
-  pub same_count : length spans ≡ length lists
-  same_count = sym (length-map spans (list_in numbers)) ∙ ap length view
+module _ (numbers : List ℕ) (stretches : List Stretch) (lists : List (List ℕ)) (laid : AreLaidOut numbers stretches) (view : map (list_in numbers) stretches ≡ lists) where
+  pub same_count : length stretches ≡ length lists
+  same_count = sym (length-map stretches (list_in numbers)) ∙ ap length view
 
-  pub span-there : (i : ℕ) → i < length lists → i < length spans
-  span-there i there = omega (arith, there, same_count)
+  pub stretch-there : (i : ℕ) → i < length lists → i < length stretches
+  stretch-there i there = omega (arith, there, same_count)
 
-  pub list-is : (i : ℕ) → get_or lists i [] ≡ list_in numbers (get_or spans i blank_span)
-  list-is i = ap (λ ls. get_or ls i []) (sym view) ∙ get_or-lists numbers spans i
+  pub list-is : (i : ℕ) → get_or lists i [] ≡ list_in numbers (get_or stretches i blank_stretch)
+  list-is i = ap (λ ls. get_or ls i []) (sym view) ∙ get_or-lists numbers stretches i
 
-  pub count-is : (i : ℕ) → length (get_or lists i []) ≡ (get_or spans i blank_span).count
-  count-is i = ap length (list-is i) ∙ length-list_in numbers (get_or spans i blank_span) (laid.within i)
+  pub count-is : (i : ℕ) → length (get_or lists i []) ≡ (get_or stretches i blank_stretch).count
+  count-is i = ap length (list-is i) ∙ length-list_in numbers (get_or stretches i blank_stretch) (laid.within i)
 
-  module _ (i : ℕ) (span : Span) (now : List ℕ) (there : i < length lists) (at : span ≡ get_or spans i span) (same : now ≡ numbers) where
-    at_blank : span ≡ get_or spans i blank_span
-    at_blank = at ∙ get_or_default spans i span blank_span (omega (arith, there, same_count))
+  module _ (i : ℕ) (stretch : Stretch) (now : List ℕ) (there : i < length lists) (at : stretch ≡ get_or stretches i stretch) (same : now ≡ numbers) where
+    at_blank : stretch ≡ get_or stretches i blank_stretch
+    at_blank = at ∙ get_or_default stretches i stretch blank_stretch (omega (arith, there, same_count))
 
-    pub span-fits : span.start + span.count ≤ length now
-    span-fits = subst (λ (s : Span). s.start + s.count ≤ length now) (sym at_blank) (omega (arith, laid.within i, ap length same))
+    pub stretch-fits : stretch.start + stretch.count ≤ length now
+    stretch-fits = subst (λ (s : Stretch). s.start + s.count ≤ length now) (sym at_blank) (omega (arith, laid.within i, ap length same))
 
     -- the part that the call is given
-    pub part-is : take (span.start + span.count - span.start) (drop span.start now) ≡ get_or lists i []
+    pub part-is : take (stretch.start + stretch.count - stretch.start) (drop stretch.start now) ≡ get_or lists i []
     part-is =
-        ap (λ k. take k (drop span.start now)) (counted span)
-        ∙ (ap (λ ns. list_in ns span) same ∙ (ap (list_in numbers) at_blank ∙ sym (list-is i)))
+        ap (λ k. take k (drop stretch.start now)) (counted stretch)
+        ∙ (ap (λ ns. list_in ns stretch) same ∙ (ap (list_in numbers) at_blank ∙ sym (list-is i)))
 
     module _ (ys : List ℕ) (long : length ys ≡ length (get_or lists i [])) where
-      long_here : length ys ≡ (get_or spans i blank_span).count
+      long_here : length ys ≡ (get_or stretches i blank_stretch).count
       long_here = long ∙ count-is i
 
-      put-is : put now span ys ≡ written numbers ys (get_or spans i blank_span).start (get_or spans i blank_span).count (laid.within i) long_here
-      put-is = ap (λ ns. put ns span ys) same
-          ∙ (ap (λ k. take span.start numbers ++ (ys ++ post_of span.start k numbers)) (counted span)
-          ∙ ap (λ (s : Span). take s.start numbers ++ (ys ++ drop s.count (drop s.start numbers))) at_blank)
+      put-is : put now stretch ys ≡ written numbers ys (get_or stretches i blank_stretch).start (get_or stretches i blank_stretch).count (laid.within i) long_here
+      put-is = ap (λ ns. put ns stretch ys) same
+          ∙ (ap (λ k. take stretch.start numbers ++ (ys ++ post_of stretch.start k numbers)) (counted stretch)
+          ∙ ap (λ (s : Stretch). take s.start numbers ++ (ys ++ drop s.count (drop s.start numbers))) at_blank)
 
-      pub length-put : length (put now span ys) ≡ length now
-      length-put = ap length put-is ∙ (length-written numbers ys (get_or spans i blank_span).start (get_or spans i blank_span).count (laid.within i) long_here ∙ ap length (sym same))
+      pub length-put : length (put now stretch ys) ≡ length now
+      length-put = ap length put-is ∙ (length-written numbers ys (get_or stretches i blank_stretch).start (get_or stretches i blank_stretch).count (laid.within i) long_here ∙ ap length (sym same))
 
-      pub lists-put : (after : List ℕ) → after ≡ put now span ys → map (list_in after) spans ≡ set lists i ys
+      pub lists-put : (after : List ℕ) → after ≡ put now stretch ys → map (list_in after) stretches ≡ set lists i ys
       lists-put after is =
-          ap (λ ns. map (list_in ns) spans) (is ∙ put-is)
-          ∙ (lists-written numbers spans laid i ys (omega (arith, there, same_count)) long_here ∙ ap (λ ls. set ls i ys) view)
+          ap (λ ns. map (list_in ns) stretches) (is ∙ put-is)
+          ∙ (lists-written numbers stretches laid i ys (omega (arith, there, same_count)) long_here ∙ ap (λ ls. set ls i ys) view)
 
 -- ---- a place is given more numbers
 
-module _ (numbers : List ℕ) (spans : List Span) (laid : AreLaidOut numbers spans) (i count : ℕ) (longer : (get_or spans i blank_span).count ≤ count) where
+module _ (numbers : List ℕ) (stretches : List Stretch) (laid : AreLaidOut numbers stretches) (i count : ℕ) (longer : (get_or stretches i blank_stretch).count ≤ count) where
   abbrev old_list : List ℕ
-  old_list = list_in numbers (get_or spans i blank_span)
+  old_list = list_in numbers (get_or stretches i blank_stretch)
 
   abbrev more : List ℕ
   more = numbers ++ filled_up 0 count old_list
 
-  abbrev new_span : Span
-  new_span = record { start = length numbers; count = count }
+  abbrev new_stretch : Stretch
+  new_stretch = record { start = length numbers; count = count }
 
-  abbrev grown : List Span
-  grown = set (filled_up blank_span (i + 1) spans) i new_span
+  abbrev grown : List Stretch
+  grown = set (filled_up blank_stretch (i + 1) stretches) i new_stretch
 
   long_list : length (filled_up 0 count old_list) ≡ count
-  long_list = length-longer numbers (get_or spans i blank_span) count (laid.within i) longer
+  long_list = length-longer numbers (get_or stretches i blank_stretch) count (laid.within i) longer
 
   long_more : length more ≡ length numbers + count
   long_more = omega (arith, length-append numbers (filled_up 0 count old_list), long_list)
 
-  there : i < length (filled_up blank_span (i + 1) spans)
-  there = omega (arith, length-filled_up blank_span (i + 1) spans)
+  there : i < length (filled_up blank_stretch (i + 1) stretches)
+  there = omega (arith, length-filled_up blank_stretch (i + 1) stretches)
 
-  span-here : get_or grown i blank_span ≡ new_span
-  span-here = get_or-set_same (filled_up blank_span (i + 1) spans) i new_span blank_span there
+  stretch-here : get_or grown i blank_stretch ≡ new_stretch
+  stretch-here = get_or-set_same (filled_up blank_stretch (i + 1) stretches) i new_stretch blank_stretch there
 
-  span-other : (j : ℕ) → ¬ (i ≡ j) → get_or grown j blank_span ≡ get_or spans j blank_span
-  span-other j off = get_or-set_other (filled_up blank_span (i + 1) spans) i j new_span blank_span (λ e. off (sym e)) ∙ get_or-filled_up blank_span (i + 1) spans j
+  stretch-other : (j : ℕ) → ¬ (i ≡ j) → get_or grown j blank_stretch ≡ get_or stretches j blank_stretch
+  stretch-other j off = get_or-set_other (filled_up blank_stretch (i + 1) stretches) i j new_stretch blank_stretch (λ e. off (sym e)) ∙ get_or-filled_up blank_stretch (i + 1) stretches j
 
-  within-grown : (j : ℕ) → (get_or grown j blank_span).start + (get_or grown j blank_span).count ≤ length more
+  within-grown : (j : ℕ) → (get_or grown j blank_stretch).start + (get_or grown j blank_stretch).count ≤ length more
   within-grown j = ⊎_elim
-      (λ at. subst (λ k. (get_or grown k blank_span).start + (get_or grown k blank_span).count ≤ length more) at (subst (λ (s : Span). s.start + s.count ≤ length more) (sym span-here) (omega (arith, long_more))))
-      (λ off. subst (λ (s : Span). s.start + s.count ≤ length more) (sym (span-other j off)) (omega (arith, laid.within j, long_more)))
+      (λ at. subst (λ k. (get_or grown k blank_stretch).start + (get_or grown k blank_stretch).count ≤ length more) at (subst (λ (s : Stretch). s.start + s.count ≤ length more) (sym stretch-here) (omega (arith, long_more))))
+      (λ off. subst (λ (s : Stretch). s.start + s.count ≤ length more) (sym (stretch-other j off)) (omega (arith, laid.within j, long_more)))
       (cases_eq i j)
 
-  abbrev Apart : Span → Span → Type 0
+  abbrev Apart : Stretch → Stretch → Type 0
   Apart s t = (s.start + s.count ≤ t.start) ⊎ (t.start + t.count ≤ s.start)
 
-  apart-grown : (j k : ℕ) → ¬ (j ≡ k) → Apart (get_or grown j blank_span) (get_or grown k blank_span)
+  apart-grown : (j k : ℕ) → ¬ (j ≡ k) → Apart (get_or grown j blank_stretch) (get_or grown k blank_stretch)
   apart-grown j k off = ⊎_elim
-      (λ at. subst (λ m. Apart (get_or grown m blank_span) (get_or grown k blank_span)) at
-      (subst (λ s. Apart s (get_or grown k blank_span)) (sym span-here) (subst (λ s. Apart new_span s) (sym (span-other k (λ e. off (sym at ∙ e)))) (inr (laid.within k)))))
-      (λ j_off. subst (λ s. Apart s (get_or grown k blank_span)) (sym (span-other j j_off))
+      (λ at. subst (λ m. Apart (get_or grown m blank_stretch) (get_or grown k blank_stretch)) at
+      (subst (λ s. Apart s (get_or grown k blank_stretch)) (sym stretch-here) (subst (λ s. Apart new_stretch s) (sym (stretch-other k (λ e. off (sym at ∙ e)))) (inr (laid.within k)))))
+      (λ j_off. subst (λ s. Apart s (get_or grown k blank_stretch)) (sym (stretch-other j j_off))
       (⊎_elim
-      (λ at. subst (λ m. Apart (get_or spans j blank_span) (get_or grown m blank_span)) at (subst (λ s. Apart (get_or spans j blank_span) s) (sym span-here) (inl (laid.within j))))
-      (λ k_off. subst (λ s. Apart (get_or spans j blank_span) s) (sym (span-other k k_off)) (laid.apart j k off))
+      (λ at. subst (λ m. Apart (get_or stretches j blank_stretch) (get_or grown m blank_stretch)) at (subst (λ s. Apart (get_or stretches j blank_stretch) s) (sym stretch-here) (inl (laid.within j))))
+      (λ k_off. subst (λ s. Apart (get_or stretches j blank_stretch) s) (sym (stretch-other k k_off)) (laid.apart j k off))
       (cases_eq i k)))
       (cases_eq i j)
 
@@ -203,27 +203,27 @@ module _ (numbers : List ℕ) (spans : List Span) (laid : AreLaidOut numbers spa
   laid-grown = record { within = within-grown; apart = apart-grown }
 
   abbrev lists : List (List ℕ)
-  lists = map (list_in numbers) spans
+  lists = map (list_in numbers) stretches
 
   there_too : i < length (filled_up [] (i + 1) lists)
   there_too = omega (arith, length-filled_up [] (i + 1) lists)
 
-  list-grown : list_in more (get_or grown i blank_span) ≡ filled_up 0 count (get_or lists i [])
+  list-grown : list_in more (get_or grown i blank_stretch) ≡ filled_up 0 count (get_or lists i [])
   list-grown =
-      ap (list_in more) span-here
+      ap (list_in more) stretch-here
       ∙ (ap (take count) (drop_at numbers (filled_up 0 count old_list) (length numbers) refl_length)
-      ∙ (take_all count (filled_up 0 count old_list) (omega (arith, long_list)) ∙ ap (filled_up 0 count) (sym (get_or-lists numbers spans i))))
+      ∙ (take_all count (filled_up 0 count old_list) (omega (arith, long_list)) ∙ ap (filled_up 0 count) (sym (get_or-lists numbers stretches i))))
     where
       refl_length : length numbers ≡ length numbers
       refl_length = omega arith
 
   each-grown : (j : ℕ) → get_or (map (list_in more) grown) j [] ≡ get_or (set (filled_up [] (i + 1) lists) i (filled_up 0 count (get_or lists i []))) j []
   each-grown j = get_or-lists more grown j ∙ ⊎_elim
-      (λ at. subst (λ k. list_in more (get_or grown k blank_span) ≡ get_or (set (filled_up [] (i + 1) lists) i (filled_up 0 count (get_or lists i []))) k []) at
+      (λ at. subst (λ k. list_in more (get_or grown k blank_stretch) ≡ get_or (set (filled_up [] (i + 1) lists) i (filled_up 0 count (get_or lists i []))) k []) at
       (list-grown ∙ sym (get_or-set_same (filled_up [] (i + 1) lists) i (filled_up 0 count (get_or lists i [])) [] there_too)))
-      (λ off. ap (list_in more) (span-other j off)
-      ∙ (list_in-append numbers (filled_up 0 count old_list) (get_or spans j blank_span) (laid.within j)
-      ∙ (sym (get_or-lists numbers spans j)
+      (λ off. ap (list_in more) (stretch-other j off)
+      ∙ (list_in-append numbers (filled_up 0 count old_list) (get_or stretches j blank_stretch) (laid.within j)
+      ∙ (sym (get_or-lists numbers stretches j)
       ∙ (sym (get_or-filled_up [] (i + 1) lists j) ∙ sym (get_or-set_other (filled_up [] (i + 1) lists) i j (filled_up 0 count (get_or lists i [])) [] (λ e. off (sym e)))))))
       (cases_eq i j)
 
@@ -233,11 +233,11 @@ module _ (numbers : List ℕ) (spans : List Span) (laid : AreLaidOut numbers spa
       (omega (
         arith,
         length-map grown (list_in more),
-        length-set (filled_up blank_span (i + 1) spans) i new_span,
-        length-filled_up blank_span (i + 1) spans,
+        length-set (filled_up blank_stretch (i + 1) stretches) i new_stretch,
+        length-filled_up blank_stretch (i + 1) stretches,
         length-set (filled_up [] (i + 1) lists) i (filled_up 0 count (get_or lists i [])),
         length-filled_up [] (i + 1) lists,
-        length-map spans (list_in numbers),
+        length-map stretches (list_in numbers),
       ))
       (λ j l. each-grown j)
 
@@ -262,42 +262,42 @@ shorter-than lists i count none there = ⊎_elim (λ less. less) (λ has. absurd
 pub refuted : (b : Bool) (P : Type 0) → b ≡ false → IsTrue b ↔ P → ¬ P
 refuted b P off same = λ p. both_ways b off (same.1 p)
 
-pub there-longer : (spans longer : List Span) (i : ℕ) → longer ≡ filled_up blank_span (i + 1) spans → i < length longer
-there-longer spans longer i is_longer = omega (arith, ap length is_longer, length-filled_up blank_span (i + 1) spans)
+pub there-longer : (stretches longer : List Stretch) (i : ℕ) → longer ≡ filled_up blank_stretch (i + 1) stretches → i < length longer
+there-longer stretches longer i is_longer = omega (arith, ap length is_longer, length-filled_up blank_stretch (i + 1) stretches)
 
-module _ (numbers : List ℕ) (spans : List Span) (lists : List (List ℕ)) (laid : AreLaidOut numbers spans) (view : map (list_in numbers) spans ≡ lists) (i count : ℕ) (none : ¬ ((i < length lists) × (count ≤ length (get_or lists i []))))
-    (room : List ℕ) (longer : List Span) (span : Span) (is_room : room ≡ numbers) (is_longer : longer ≡ filled_up blank_span (i + 1) spans) (at : span ≡ get_or longer i span) where
-  pub span-longer : span ≡ get_or spans i blank_span
-  span-longer = at ∙ (get_or_default longer i span blank_span (there-longer spans longer i is_longer) ∙ (ap (λ ss. get_or ss i blank_span) is_longer ∙ get_or-filled_up blank_span (i + 1) spans i))
+module _ (numbers : List ℕ) (stretches : List Stretch) (lists : List (List ℕ)) (laid : AreLaidOut numbers stretches) (view : map (list_in numbers) stretches ≡ lists) (i count : ℕ) (none : ¬ ((i < length lists) × (count ≤ length (get_or lists i []))))
+    (room : List ℕ) (longer : List Stretch) (stretch : Stretch) (is_room : room ≡ numbers) (is_longer : longer ≡ filled_up blank_stretch (i + 1) stretches) (at : stretch ≡ get_or longer i stretch) where
+  pub stretch-longer : stretch ≡ get_or stretches i blank_stretch
+  stretch-longer = at ∙ (get_or_default longer i stretch blank_stretch (there-longer stretches longer i is_longer) ∙ (ap (λ ss. get_or ss i blank_stretch) is_longer ∙ get_or-filled_up blank_stretch (i + 1) stretches i))
 
-  pub span-inside : span.start + span.count ≤ length room
-  span-inside = subst (λ (s : Span). s.start + s.count ≤ length room) (sym span-longer) (omega (arith, laid.within i, ap length is_room))
+  pub stretch-inside : stretch.start + stretch.count ≤ length room
+  stretch-inside = subst (λ (s : Stretch). s.start + s.count ≤ length room) (sym stretch-longer) (omega (arith, laid.within i, ap length is_room))
 
-  short_enough : (get_or spans i blank_span).count ≤ count
-  short_enough = omega (arith, count-is numbers spans lists laid view i, longer-than lists i count none)
+  short_enough : (get_or stretches i blank_stretch).count ≤ count
+  short_enough = omega (arith, count-is numbers stretches lists laid view i, longer-than lists i count none)
 
-  pub span-shorter : span.count ≤ count
-  span-shorter = subst (λ (s : Span). s.count ≤ count) (sym span-longer) short_enough
+  pub stretch-shorter : stretch.count ≤ count
+  stretch-shorter = subst (λ (s : Stretch). s.count ≤ count) (sym stretch-longer) short_enough
 
-  module _ (filled : List ℕ) (start : ℕ) (is_start : start ≡ length room) (is_filled : filled ≡ room ++ filled_up 0 count (list_in room span)) where
-    abbrev with_more : List Span
+  module _ (filled : List ℕ) (start : ℕ) (is_start : start ≡ length room) (is_filled : filled ≡ room ++ filled_up 0 count (list_in room stretch)) where
+    abbrev with_more : List Stretch
     with_more = set longer i (record { start = start; count = count })
 
-    numbers-are : filled ≡ more numbers spans laid i count short_enough
-    numbers-are = is_filled ∙ (ap (λ ns. ns ++ filled_up 0 count (list_in ns span)) is_room ∙ ap (λ s. numbers ++ filled_up 0 count (list_in numbers s)) span-longer)
+    numbers-are : filled ≡ more numbers stretches laid i count short_enough
+    numbers-are = is_filled ∙ (ap (λ ns. ns ++ filled_up 0 count (list_in ns stretch)) is_room ∙ ap (λ s. numbers ++ filled_up 0 count (list_in numbers s)) stretch-longer)
 
-    spans-are : with_more ≡ grown numbers spans laid i count short_enough
-    spans-are = ap (λ ss. set ss i (record { start = start; count = count })) is_longer
-        ∙ ap (λ n. set (filled_up blank_span (i + 1) spans) i (record { start = n; count = count })) (is_start ∙ ap length is_room)
+    stretches-are : with_more ≡ grown numbers stretches laid i count short_enough
+    stretches-are = ap (λ ss. set ss i (record { start = start; count = count })) is_longer
+        ∙ ap (λ n. set (filled_up blank_stretch (i + 1) stretches) i (record { start = n; count = count })) (is_start ∙ ap length is_room)
 
     pub laid-reserved : AreLaidOut filled with_more
-    laid-reserved = subst (λ ns. AreLaidOut ns with_more) (sym numbers-are) (subst (AreLaidOut (more numbers spans laid i count short_enough)) (sym spans-are) (laid-grown numbers spans laid i count short_enough))
+    laid-reserved = subst (λ ns. AreLaidOut ns with_more) (sym numbers-are) (subst (AreLaidOut (more numbers stretches laid i count short_enough)) (sym stretches-are) (laid-grown numbers stretches laid i count short_enough))
 
     pub lists-reserved : map (list_in filled) with_more ≡ with_list count i lists
     lists-reserved =
         ap (λ ns. map (list_in ns) with_more) numbers-are
-        ∙ (ap (map (list_in (more numbers spans laid i count short_enough))) spans-are
-        ∙ (lists-grown numbers spans laid i count short_enough ∙ ap (with_list count i) view))
+        ∙ (ap (map (list_in (more numbers stretches laid i count short_enough))) stretches-are
+        ∙ (lists-grown numbers stretches laid i count short_enough ∙ ap (with_list count i) view))
 
 -- ---- the lists where a place was given more numbers
 
@@ -343,52 +343,52 @@ module _ (lists : List (List ℕ)) (i n : ℕ) where
 
 -- ---- a list is cut
 
-module _ (numbers : List ℕ) (spans : List Span) (lists : List (List ℕ)) (laid : AreLaidOut numbers spans) (view : map (list_in numbers) spans ≡ lists) (i count : ℕ) (span : Span) (there : i < length lists) (at : span ≡ get_or spans i span)
+module _ (numbers : List ℕ) (stretches : List Stretch) (lists : List (List ℕ)) (laid : AreLaidOut numbers stretches) (view : map (list_in numbers) stretches ≡ lists) (i count : ℕ) (stretch : Stretch) (there : i < length lists) (at : stretch ≡ get_or stretches i stretch)
     (within : count ≤ length (get_or lists i [])) where
-  abbrev short_span : Span
-  short_span = record { start = span.start; count = count }
+  abbrev short_stretch : Stretch
+  short_stretch = record { start = stretch.start; count = count }
 
-  there_span : i < length spans
-  there_span = omega (arith, there, same_count numbers spans lists laid view)
+  there_stretch : i < length stretches
+  there_stretch = omega (arith, there, same_count numbers stretches lists laid view)
 
-  span_is : span ≡ get_or spans i blank_span
-  span_is = at ∙ get_or_default spans i span blank_span there_span
+  stretch_is : stretch ≡ get_or stretches i blank_stretch
+  stretch_is = at ∙ get_or_default stretches i stretch blank_stretch there_stretch
 
-  fewer : count ≤ span.count
-  fewer = omega (arith, within, count-is numbers spans lists laid view i, ap (λ (s : Span). s.count) span_is)
+  fewer : count ≤ stretch.count
+  fewer = omega (arith, within, count-is numbers stretches lists laid view i, ap (λ (s : Stretch). s.count) stretch_is)
 
-  cut-here : get_or (set spans i short_span) i blank_span ≡ short_span
-  cut-here = get_or-set_same spans i short_span blank_span there_span
+  cut-here : get_or (set stretches i short_stretch) i blank_stretch ≡ short_stretch
+  cut-here = get_or-set_same stretches i short_stretch blank_stretch there_stretch
 
-  cut-other : (j : ℕ) → ¬ (i ≡ j) → get_or (set spans i short_span) j blank_span ≡ get_or spans j blank_span
-  cut-other j off = get_or-set_other spans i j short_span blank_span (λ e. off (sym e))
+  cut-other : (j : ℕ) → ¬ (i ≡ j) → get_or (set stretches i short_stretch) j blank_stretch ≡ get_or stretches j blank_stretch
+  cut-other j off = get_or-set_other stretches i j short_stretch blank_stretch (λ e. off (sym e))
 
-  cut-start : (j : ℕ) → (get_or (set spans i short_span) j blank_span).start ≡ (get_or spans j blank_span).start
+  cut-start : (j : ℕ) → (get_or (set stretches i short_stretch) j blank_stretch).start ≡ (get_or stretches j blank_stretch).start
   cut-start j = ⊎_elim
-      (λ same. subst (λ k. (get_or (set spans i short_span) k blank_span).start ≡ (get_or spans k blank_span).start) same (ap (λ (s : Span). s.start) (cut-here) ∙ ap (λ (s : Span). s.start) span_is))
-      (λ off. ap (λ (s : Span). s.start) (cut-other j off)) (cases_eq i j)
+      (λ same. subst (λ k. (get_or (set stretches i short_stretch) k blank_stretch).start ≡ (get_or stretches k blank_stretch).start) same (ap (λ (s : Stretch). s.start) (cut-here) ∙ ap (λ (s : Stretch). s.start) stretch_is))
+      (λ off. ap (λ (s : Stretch). s.start) (cut-other j off)) (cases_eq i j)
 
-  cut-count : (j : ℕ) → (get_or (set spans i short_span) j blank_span).count ≤ (get_or spans j blank_span).count
+  cut-count : (j : ℕ) → (get_or (set stretches i short_stretch) j blank_stretch).count ≤ (get_or stretches j blank_stretch).count
   cut-count j = ⊎_elim
-      (λ same. subst (λ k. (get_or (set spans i short_span) k blank_span).count ≤ (get_or spans k blank_span).count) same (omega (arith, ap (λ (s : Span). s.count) cut-here, ap (λ (s : Span). s.count) span_is, fewer)))
-      (λ off. omega (arith, ap (λ (s : Span). s.count) (cut-other j off))) (cases_eq i j)
+      (λ same. subst (λ k. (get_or (set stretches i short_stretch) k blank_stretch).count ≤ (get_or stretches k blank_stretch).count) same (omega (arith, ap (λ (s : Stretch). s.count) cut-here, ap (λ (s : Stretch). s.count) stretch_is, fewer)))
+      (λ off. omega (arith, ap (λ (s : Stretch). s.count) (cut-other j off))) (cases_eq i j)
 
-  pub laid-cut : AreLaidOut numbers (set spans i short_span)
+  pub laid-cut : AreLaidOut numbers (set stretches i short_stretch)
   laid-cut = record {
     within = λ j. omega (arith, laid.within j, cut-start j, cut-count j);
     apart = λ j k off. ⊎_elim (λ before. inl (omega (arith, before, cut-start j, cut-start k, cut-count j))) (λ behind. inr (omega (arith, behind, cut-start j, cut-start k, cut-count k))) (laid.apart j k off);
   }
 
-  cut-list : list_in numbers short_span ≡ take count (get_or lists i [])
-  cut-list = sym (ap (take count) (list-is numbers spans lists laid view i ∙ ap (list_in numbers) (sym span_is)) ∙ take-take count span.count (drop span.start numbers) fewer)
+  cut-list : list_in numbers short_stretch ≡ take count (get_or lists i [])
+  cut-list = sym (ap (take count) (list-is numbers stretches lists laid view i ∙ ap (list_in numbers) (sym stretch_is)) ∙ take-take count stretch.count (drop stretch.start numbers) fewer)
 
-  pub lists-cut : map (list_in numbers) (set spans i short_span) ≡ set lists i (take count (get_or lists i []))
-  lists-cut = ext_get_or [] (map (list_in numbers) (set spans i short_span)) (set lists i (take count (get_or lists i [])))
-      (omega (arith, length-map (set spans i short_span) (list_in numbers), length-set spans i short_span, length-set lists i (take count (get_or lists i [])), same_count numbers spans lists laid view))
-      (λ j l. get_or-lists numbers (set spans i short_span) j ∙ ⊎_elim
-      (λ same. subst (λ k. list_in numbers (get_or (set spans i short_span) k blank_span) ≡ get_or (set lists i (take count (get_or lists i []))) k []) same
+  pub lists-cut : map (list_in numbers) (set stretches i short_stretch) ≡ set lists i (take count (get_or lists i []))
+  lists-cut = ext_get_or [] (map (list_in numbers) (set stretches i short_stretch)) (set lists i (take count (get_or lists i [])))
+      (omega (arith, length-map (set stretches i short_stretch) (list_in numbers), length-set stretches i short_stretch, length-set lists i (take count (get_or lists i [])), same_count numbers stretches lists laid view))
+      (λ j l. get_or-lists numbers (set stretches i short_stretch) j ∙ ⊎_elim
+      (λ same. subst (λ k. list_in numbers (get_or (set stretches i short_stretch) k blank_stretch) ≡ get_or (set lists i (take count (get_or lists i []))) k []) same
       (ap (list_in numbers) cut-here ∙ (cut-list ∙ sym (get_or-set_same lists i (take count (get_or lists i [])) [] there))))
-      (λ off. ap (list_in numbers) (cut-other j off) ∙ (sym (list-is numbers spans lists laid view j) ∙ sym (get_or-set_other lists i j (take count (get_or lists i [])) [] (λ e. off (sym e)))))
+      (λ off. ap (list_in numbers) (cut-other j off) ∙ (sym (list-is numbers stretches lists laid view j) ∙ sym (get_or-set_other lists i j (take count (get_or lists i [])) [] (λ e. off (sym e)))))
       (cases_eq i j))
 
 -- of lists that are no longer than others, neither are the new ones

@@ -258,12 +258,12 @@ impl PlaceClocks {
         requires closed { IsTrue is_closed → IsClosed self.old }
         ensures { self.new ≡ with_thread self.old (thread_of event.now) (alone_at (joined_clock self.old position event.now) (thread_of event.now)) }
     {
-        self.gather(list, event, is_closed);
+        self.learn_beside(list, event, is_closed);
         tick_thread(&mut self.threads, event.thread, position + 1);
     }
 
     /// The thread of the event knows what the events at the places beside know.
-    fn gather(&mut self, list: &mut [u32], event: &Event, is_closed: bool)
+    fn learn_beside(&mut self, list: &mut [u32], event: &Event, is_closed: bool)
         requires sized { IsSized (length list.old) self.old }
         requires own { thread_of event.now < length list.old }
         requires closed { IsTrue is_closed → IsClosed self.old }

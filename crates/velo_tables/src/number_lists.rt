@@ -1,7 +1,7 @@
 ghost use Rattle.velo_events.specs.Refusals.{GrowthRefused};
 ghost use Rattle.std.specs.Prelude.{◌≡◌, ◌<◌, ◌≤◌, ◌+◌, ◌^◌, ◌++◌, [], length, take, slice_index_or, slice_set, vec_len, vec_capacity, IsTrue, ◌↔◌, OnOk, OnErr};
 ghost use Rattle.velo_tables.specs.Readers.{filled_up};
-ghost use Rattle.velo_tables.specs.NumberLists.{list_in, with_list, blank_span};
+ghost use Rattle.velo_tables.specs.NumberLists.{list_in, with_list, blank_stretch};
 ghost use Rattle.velo_tables.specs.Noted.{maxima};
 
 use crate::filling::fill_up_to;
@@ -13,7 +13,7 @@ use velo_events::{Memory, ThreadId};
 
 /// Where a list stands among the numbers of all.
 #[derive(Clone, Copy, Debug)]
-pub(crate) struct Span {
+pub(crate) struct Stretch {
     start: usize,
     count: usize,
 }
@@ -22,7 +22,7 @@ pub(crate) struct Span {
 /// place that was given none takes no number.
 #[derive(Debug, Drop)]
 pub(crate) struct NumberLists {
-    spans: Vec<Span>,
+    stretches: Vec<Stretch>,
     numbers: Vec<u32>,
 }
 
@@ -34,32 +34,32 @@ impl Model for NumberLists {
     ghost use Rattle.std.specs.Prelude.{map};
     ghost use Rattle.velo_tables.specs.NumberLists.{list_in, AreLaidOut};
 
-    ghost view = { λ l. map (list_in l.numbers.items) l.spans.items };
+    ghost view = { λ l. map (list_in l.numbers.items) l.stretches.items };
 
-    ghost invariant = { λ l. AreLaidOut l.numbers.items l.spans.items };
+    ghost invariant = { λ l. AreLaidOut l.numbers.items l.stretches.items };
 }
 
 /// The number at a place of the list, or 0 where it is shorter.
-fn number_in(numbers: &[u32], span: Span, place: usize) -> u32
-    requires { span.start + span.count ≤ length numbers.now }
-    ensures { result ≡ slice_index_or (list_in numbers.now span) place 0 }
+fn number_in(numbers: &[u32], stretch: Stretch, place: usize) -> u32
+    requires { stretch.start + stretch.count ≤ length numbers.now }
+    ensures { result ≡ slice_index_or (list_in numbers.now stretch) place 0 }
 {
-    if place < span.count {
-        numbers[span.start + place]
+    if place < stretch.count {
+        numbers[stretch.start + place]
     } else {
         0
     }
 }
 
-/// Appends the list of this span once more, with zeros up to so many numbers.
-fn append_longer(numbers: &mut Vec<u32>, span: Span, count: usize)
-    requires inside { span.start + span.count ≤ length numbers.old.items }
-    requires longer { span.count ≤ count }
+/// Appends the list of this stretch once more, with zeros up to so many numbers.
+fn append_longer(numbers: &mut Vec<u32>, stretch: Stretch, count: usize)
+    requires inside { stretch.start + stretch.count ≤ length numbers.old.items }
+    requires longer { stretch.count ≤ count }
     requires room { length numbers.old.items + count ≤ vec_capacity numbers.old }
-    ensures { numbers.new.items ≡ numbers.old.items ++ filled_up 0 count (list_in numbers.old.items span) }
+    ensures { numbers.new.items ≡ numbers.old.items ++ filled_up 0 count (list_in numbers.old.items stretch) }
 {
     for place in 0..count {
-        let number = number_in(numbers, span, place);
+        let number = number_in(numbers, stretch, place);
         numbers.push_reserved(number);
     }
 }
@@ -70,7 +70,7 @@ impl NumberLists {
         ensures { result ≡ [] }
     {
         NumberLists {
-            spans: Vec::new(alloc),
+            stretches: Vec::new(alloc),
             numbers: Vec::new(alloc),
         }
     }
@@ -79,9 +79,9 @@ impl NumberLists {
     pub fn list(&self, number: usize) -> &[u32]
         ensures { result.now ≡ slice_index_or self.now number [] }
     {
-        if number < self.spans.len() {
-            let span = self.spans[number];
-            &self.numbers[span.start..span.start + span.count]
+        if number < self.stretches.len() {
+            let stretch = self.stretches[number];
+            &self.numbers[stretch.start..stretch.start + stretch.count]
         } else {
             &[]
         }
@@ -92,7 +92,7 @@ impl NumberLists {
     pub fn has(&self, number: usize, count: usize) -> bool
         ensures { IsTrue result ↔ ((number < length self.now) × (count ≤ length (slice_index_or self.now number []))) }
     {
-        number < self.spans.len() && count <= self.spans[number].count
+        number < self.stretches.len() && count <= self.stretches[number].count
     }
 
     /// Gives the place so many numbers, zeros behind those that it has.
@@ -107,10 +107,10 @@ impl NumberLists {
             return Ok(());
         }
         reserve(&mut self.numbers, count)?;
-        fill_up_to(&mut self.spans, number, Span { start: 0, count: 0 })?;
+        fill_up_to(&mut self.stretches, number, Stretch { start: 0, count: 0 })?;
         let start = self.numbers.len();
-        append_longer(&mut self.numbers, self.spans[number], count);
-        self.spans[number] = Span { start, count };
+        append_longer(&mut self.numbers, self.stretches[number], count);
+        self.stretches[number] = Stretch { start, count };
         Ok(())
     }
 
@@ -120,8 +120,8 @@ impl NumberLists {
         requires same { length (slice_index_or self.old number []) ≡ length list.now }
         ensures { self.new ≡ slice_set self.old number list.now }
     {
-        let span = self.spans[number];
-        self.numbers[span.start..span.start + span.count].copy_from_slice(list);
+        let stretch = self.stretches[number];
+        self.numbers[stretch.start..stretch.start + stretch.count].copy_from_slice(list);
     }
 
     /// Raises each number of the place to that of the other list.
@@ -130,8 +130,11 @@ impl NumberLists {
         requires within { length list.now ≤ length (slice_index_or self.old number []) }
         ensures { self.new ≡ slice_set self.old number (maxima (slice_index_or self.old number []) list.now) }
     {
-        let span = self.spans[number];
-        raise(&mut self.numbers[span.start..span.start + span.count], list);
+        let stretch = self.stretches[number];
+        raise(
+            &mut self.numbers[stretch.start..stretch.start + stretch.count],
+            list,
+        );
     }
 
     /// Writes another list over that of the place, but nothing for one thread.
@@ -140,9 +143,9 @@ impl NumberLists {
         requires same { length (slice_index_or self.old number []) ≡ length list.now }
         ensures { self.new ≡ slice_set self.old number (slice_set list.now by.0 0) }
     {
-        let span = self.spans[number];
+        let stretch = self.stretches[number];
         copy_but(
-            &mut self.numbers[span.start..span.start + span.count],
+            &mut self.numbers[stretch.start..stretch.start + stretch.count],
             list,
             by,
         );
@@ -155,9 +158,9 @@ impl NumberLists {
         requires by { by.0 < length (slice_index_or self.old number []) }
         ensures { self.new ≡ slice_set self.old number (slice_set (maxima (slice_index_or self.old number []) list.now) by.0 (slice_index_or (slice_index_or self.old number []) by.0 0)) }
     {
-        let span = self.spans[number];
+        let stretch = self.stretches[number];
         raise_but(
-            &mut self.numbers[span.start..span.start + span.count],
+            &mut self.numbers[stretch.start..stretch.start + stretch.count],
             list,
             by,
         );
@@ -169,6 +172,6 @@ impl NumberLists {
         requires within { count ≤ length (slice_index_or self.old number []) }
         ensures { self.new ≡ slice_set self.old number (take count (slice_index_or self.old number [])) }
     {
-        self.spans[number].count = count;
+        self.stretches[number].count = count;
     }
 }

@@ -1,4 +1,4 @@
-pub mod OnPlaces
+pub mod OnCursors
 pub mod OnLevels
 pub mod OnCounts
 pub mod OnEnds

@@ -14,7 +14,7 @@ use Rattle.velo_worker.specs.declared.outcome.Outcome.TheVariants.{Done, Gated, 
 use Rattle.velo_worker.specs.declared.progress.Progress.{Progress}
 use Rattle.velo_worker.specs.Causes.{HasCause, EndedWithCause, EndsWithCause}
 use Rattle.velo_worker.specs.Live.{lesser, met}
-use Rattle.velo_worker.specs.Schedule.{Course, RunsTo, Tries, TurnOf, TurnsOf, RoundsOf}
+use Rattle.velo_worker.specs.Schedule.{ReplayState, ReplaysTo, Tries, TurnOf, TurnsOf, RoundsOf}
 
 -- ---- of one refusal
 
@@ -55,22 +55,22 @@ of_tries w t p run.Done w' p' tries = tt
 of_tries w t p run.Stuck w' p' tries = tt
 of_tries w t p run.Gated w' p' tries = tt
 
-of_turn : (c : Course) (t : ThreadId) (ending : Ending) (c' : Course) → TurnOf c t (Some ending) c' → EndsWithCause ending
+of_turn : (c : ReplayState) (t : ThreadId) (ending : Ending) (c' : ReplayState) → TurnOf c t (Some ending) c' → EndsWithCause ending
 of_turn c t ending c' (inl (idle, none, same)) = cc
 of_turn c t ending c' (inr turn) = of_tries c.world t turn.before ending c'.world turn.after turn.tries
 
-of_turns : (ts : List ThreadId) (c : Course) (ending : Ending) (c' : Course) → TurnsOf c ts (Some ending) c' → EndsWithCause ending
+of_turns : (ts : List ThreadId) (c : ReplayState) (ending : Ending) (c' : ReplayState) → TurnsOf c ts (Some ending) c' → EndsWithCause ending
 unfolding TurnsOf
 of_turns [] c ending c' (none, same) = cc
 of_turns (t ∷ ts) c ending c' (inl (told, is, turn)) = of_turn c t ending c' turn
 of_turns (t ∷ ts) c ending c' (inr (mid, turn, rest)) = of_turns ts mid ending c' rest
 
-of_rounds : (c : Course) (ending : Ending) (c' : Course) → RoundsOf c ending c' → EndsWithCause ending
+of_rounds : (c : ReplayState) (ending : Ending) (c' : ReplayState) → RoundsOf c ending c' → EndsWithCause ending
 of_rounds _ _ _ (RoundsOf.all_idle c idle) = tt
 of_rounds _ _ _ (RoundsOf.no_event c c' round same) = tt
 of_rounds _ _ _ (RoundsOf.ended c c' ending round) = of_turns _ c ending c' round.turns
 of_rounds _ _ _ (RoundsOf.goes_on c mid c' ending round more rest) = of_rounds mid ending c' rest
 
-pub of_run : (c : Course) (schedule : List ThreadId) (ending : Ending) (c' : Course) → RunsTo c schedule ending c' → EndsWithCause ending
+pub of_run : (c : ReplayState) (schedule : List ThreadId) (ending : Ending) (c' : ReplayState) → ReplaysTo c schedule ending c' → EndsWithCause ending
 of_run c schedule ending c' (inl turns) = of_turns schedule c ending c' turns
 of_run c schedule ending c' (inr (mid, turns, rounds)) = of_rounds mid ending c' rounds

@@ -8,7 +8,7 @@ use Rattle.std.proofs.lemmas.List.Sums.{sum_by-append, sum_by-cons}
 use Rattle.velo_workload.specs.declared.statement.Statement.{Statement}
 use Rattle.velo_workload.specs.declared.statement.Statement.TheVariants.{Repeat, Done}
 use Rattle.velo_worker.specs.Counts.{body_events, has_event}
-use Rattle.velo_worker.specs.Walk.{first, others, with_statement, with_repeat, levels, times, walk_of}
+use Rattle.velo_worker.specs.Walk.{first, others, with_statement, with_repeat, levels, repeated, walk_of}
 use Rattle.velo_worker.proofs.OnLevels.{IsPlain, levels-plain, levels-repeat, levels-done}
 
 -- ---- numbers that stop at a limit
@@ -41,10 +41,10 @@ capped-repeat m c n a b p e = let same = capped-mul m n a in rw (same, ← e) (o
 count : List Statement → ℕ
 count statements = count_by has_event statements
 
-count_times : (n : ℕ) (xs : List Statement) → count (times n xs) ≡ n * count xs
-unfolding count times
+count_times : (n : ℕ) (xs : List Statement) → count (repeated n xs) ≡ n * count xs
+unfolding count repeated
 count_times zero xs = omega arith
-count_times (suc n) xs = let rest = count_times n xs in sum_by-append (λ s. cond (has_event s) 1 0) xs (times n xs) ∙ omega (arith, rest)
+count_times (suc n) xs = let rest = count_times n xs in sum_by-append (λ s. cond (has_event s) 1 0) xs (repeated n xs) ∙ omega (arith, rest)
 
 -- of the first level from a position on
 abbrev pub level_events : List Statement → ℕ
@@ -65,7 +65,7 @@ unfolding count
 level-repeat n rest =
     let body = first (levels rest) ++ Done ∷ [] in
     let one : count body ≡ count (first (levels rest)) = sum_by-append (λ s. cond (has_event s) 1 0) (first (levels rest)) (Done ∷ []) ∙ omega arith in
-    let all = sum_by-append (λ s. cond (has_event s) 1 0) (times n body) (first (others (levels rest))) in
+    let all = sum_by-append (λ s. cond (has_event s) 1 0) (repeated n body) (first (others (levels rest))) in
     rw (levels-repeat n rest) (all ∙ rw (count_times n body, one) refl)
 
 -- ---- the level behind

@@ -6,54 +6,54 @@ use Rattle.std.proofs.lemmas.Bool.{cases_lt}
 use Rattle.std.proofs.lemmas.Option.{slice_get_within}
 use Rattle.velo_workload.specs.declared.statement.Statement.{Statement}
 use Rattle.velo_workload.specs.declared.statement.Statement.TheVariants.{Repeat, Done}
-use Rattle.velo_worker.specs.Place.{IsEnd, AreEnds, behind, end_before}
+use Rattle.velo_worker.specs.Cursor.{IsRepeatEnd, AreRepeatEnds, behind, end_before}
 use Rattle.velo_worker.proofs.OnLevels.{drop-at, behind-twice}
 
 -- the ends are those of the statements from position i on
-pub record AreEndsFrom (body : List Statement) (ends : List ℕ) (i : ℕ) : Type 0 where
-  pub each : (j : ℕ) → i ≤ j → j < length body → IsEnd body (j + 1) (get_or ends j 0)
+pub record AreRepeatEndsFrom (body : List Statement) (ends : List ℕ) (i : ℕ) : Type 0 where
+  pub each : (j : ℕ) → i ≤ j → j < length body → IsRepeatEnd body (j + 1) (get_or ends j 0)
 
-pub IsEnd-start : (body : List Statement) → IsEnd body (length body) (length body)
+pub IsRepeatEnd-start : (body : List Statement) → IsRepeatEnd body (length body) (length body)
 unfolding behind
-IsEnd-start body = record {
+IsRepeatEnd-start body = record {
   within = omega arith;
   later = omega arith;
   behind = drop-length body ∙ ap (behind 0) (sym (drop-length body));
 }
 
-pub AreEndsFrom-start : (body : List Statement) (ends : List ℕ) → AreEndsFrom body ends (length body)
-AreEndsFrom-start body ends = record { each = λ j a b. absurd (omega (arith, a, b)) }
+pub AreRepeatEndsFrom-start : (body : List Statement) (ends : List ℕ) → AreRepeatEndsFrom body ends (length body)
+AreRepeatEndsFrom-start body ends = record { each = λ j a b. absurd (omega (arith, a, b)) }
 
-pub AreEnds-from : (body : List Statement) (ends : List ℕ) → length ends ≡ length body → AreEndsFrom body ends 0 → AreEnds body ends
-AreEnds-from body ends count from = record { count = count; each = λ i h. from.each i (omega arith) h }
+pub AreRepeatEnds-from : (body : List Statement) (ends : List ℕ) → length ends ≡ length body → AreRepeatEndsFrom body ends 0 → AreRepeatEnds body ends
+AreRepeatEnds-from body ends count from = record { count = count; each = λ i h. from.each i (omega arith) h }
 
-pub AreEndsFrom-next : (body : List Statement) (ends : List ℕ) (i end : ℕ) → length ends ≡ length body → i < length body → IsEnd body (i + 1) end → AreEndsFrom body ends (i + 1)
-    → AreEndsFrom body (set ends i end) i
-AreEndsFrom-next body ends i end count within is from = record {
+pub AreRepeatEndsFrom-next : (body : List Statement) (ends : List ℕ) (i end : ℕ) → length ends ≡ length body → i < length body → IsRepeatEnd body (i + 1) end → AreRepeatEndsFrom body ends (i + 1)
+    → AreRepeatEndsFrom body (set ends i end) i
+AreRepeatEndsFrom-next body ends i end count within is from = record {
   each = λ j after inside. at j after inside (cases_le i j after);
 }
   where
     cases_le : (i j : ℕ) → i ≤ j → (j ≡ i) ⊎ (i + 1 ≤ j)
     cases_le i j h = ⊎_elim (λ l. inr (omega (arith, l))) (λ l. inl (omega (arith, l, h))) (cases_lt i j)
 
-    at : (j : ℕ) → i ≤ j → j < length body → (j ≡ i) ⊎ (i + 1 ≤ j) → IsEnd body (j + 1) (get_or (set ends i end) j 0)
+    at : (j : ℕ) → i ≤ j → j < length body → (j ≡ i) ⊎ (i + 1 ≤ j) → IsRepeatEnd body (j + 1) (get_or (set ends i end) j 0)
     at j after inside (inl same) =
         let room : i < length ends = omega (arith, count, within) in
-        subst (λ k. IsEnd body (k + 1) (get_or (set ends i end) k 0)) (sym same) (rw (get_or-set_same ends i end 0 room) is)
+        subst (λ k. IsRepeatEnd body (k + 1) (get_or (set ends i end) k 0)) (sym same) (rw (get_or-set_same ends i end 0 room) is)
     at j after inside (inr later) =
         let other : j ≢ i = omega (arith, later) in
         rw (get_or-set_other ends i j end 0 other) (from.each j later inside)
 
-pub IsEnd-before : (body : List Statement) (ends : List ℕ) (i end : ℕ) (s : Statement) → slice_get body i ≡ Some s → IsEnd body (i + 1) end → AreEndsFrom body ends i
-    → IsEnd body i (end_before s i ends end)
+pub IsRepeatEnd-before : (body : List Statement) (ends : List ℕ) (i end : ℕ) (s : Statement) → slice_get body i ≡ Some s → IsRepeatEnd body (i + 1) end → AreRepeatEndsFrom body ends i
+    → IsRepeatEnd body i (end_before s i ends end)
 unfolding behind
-IsEnd-before body ends i end Done here is from =
+IsRepeatEnd-before body ends i end Done here is from =
     let within : i < length body = slice_get_within body i Done here in record {
       within = omega (arith, within);
       later = omega arith;
       behind = sym (ap (behind 0) (drop-at body i Done here));
     }
-IsEnd-before body ends i end (Repeat n) here is from =
+IsRepeatEnd-before body ends i end (Repeat n) here is from =
     let a : i ≤ end - 1 = omega (arith, is.later) in
     let b : end - 1 < length body = omega (arith, is.later, is.within) in
     let outer = from.each (end - 1) a b in
@@ -62,7 +62,7 @@ IsEnd-before body ends i end (Repeat n) here is from =
       later = omega (arith, outer.later, a);
       behind = outer.behind ∙ ap (λ k. behind 0 (drop k body)) e ∙ ap (behind 0) is.behind ∙ sym (behind-twice 0 (drop (i + 1) body)) ∙ sym (ap (behind 0) (drop-at body i (Repeat n) here));
     }
-IsEnd-before body ends i end s here is from = record {
+IsRepeatEnd-before body ends i end s here is from = record {
   within = is.within;
   later = omega (arith, is.later);
   behind = is.behind ∙ sym (ap (behind 0) (drop-at body i s here));

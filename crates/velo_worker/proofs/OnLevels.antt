@@ -7,9 +7,9 @@ use Rattle.std.proofs.lemmas.Bool.{and_parts, ltb-true, eqb-true, false≢true}
 use Rattle.velo_workload.specs.declared.statement.Statement.{Statement}
 use Rattle.velo_workload.specs.declared.statement.Statement.TheVariants.{Repeat, Done}
 use Rattle.velo_workload.specs.Bodies.{is_nested}
-use Rattle.velo_worker.specs.declared.place.OpenRepeat.{OpenRepeat}
+use Rattle.velo_worker.specs.declared.cursor.OpenRepeat.{OpenRepeat}
 use Rattle.velo_worker.specs.Walk.{first, others, with_statement, with_repeat, levels}
-use Rattle.velo_worker.specs.Place.{left_by, AreOpen, behind}
+use Rattle.velo_worker.specs.Cursor.{left_in_levels, AreOpen, behind}
 
 -- a statement that neither begins nor ends what is repeated
 abbrev pub IsPlain : Statement → Type 0
@@ -115,11 +115,11 @@ nested-behind k xs h = nested-skip 0 k (suc k) xs (omega arith) h
 
 -- ---- what is left, and the open repeats, by the levels alone
 
-pub left_by-front : (body : List Statement) (repeats : List OpenRepeat) (xs : List Statement) (ls : List (List Statement))
-    → left_by body repeats ((xs ++ first ls) ∷ others ls) ≡ xs ++ left_by body repeats ls
-unfolding left_by
-left_by-front body [] xs ls = refl
-left_by-front body (r ∷ repeats) xs ls = simp append_assoc
+pub left_in_levels-front : (body : List Statement) (repeats : List OpenRepeat) (xs : List Statement) (ls : List (List Statement))
+    → left_in_levels body repeats ((xs ++ first ls) ∷ others ls) ≡ xs ++ left_in_levels body repeats ls
+unfolding left_in_levels
+left_in_levels-front body [] xs ls = refl
+left_in_levels-front body (r ∷ repeats) xs ls = simp append_assoc
 
 pub AreOpen-same : (body : List Statement) (repeats : List OpenRepeat) (a b : List (List Statement)) → others a ≡ others b → AreOpen body repeats a → AreOpen body repeats b
 unfolding AreOpen

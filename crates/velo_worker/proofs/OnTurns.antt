@@ -13,7 +13,7 @@ use Rattle.velo_world.specs.declared.run.Reply.{Reply}
 use Rattle.velo_worker.specs.declared.ending.Ending.{Ending}
 use Rattle.velo_worker.specs.declared.ending.Ending.TheVariants.{Done, Stuck, Halted, Refused, Gated}
 use Rattle.velo_worker.specs.declared.progress.Progress.{Progress}
-use Rattle.velo_worker.specs.Schedule.{Course, Happens, Tries, TurnOf, TurnsOf, RoundsOf, AllIdle, threads_from, all_threads}
+use Rattle.velo_worker.specs.Schedule.{ReplayState, Happens, Tries, TurnOf, TurnsOf, RoundsOf, AllIdle, threads_from, all_threads}
 
 -- ---- one event
 
@@ -45,12 +45,12 @@ Happened-step w places t action reply w' places' did =
 
 -- ---- what turns leave as it was
 
-pub record Kept (c c' : Course) : Type 0 where
+pub record Kept (c c' : ReplayState) : Type 0 where
   pub config : c'.world.config ≡ c.world.config
   pub log : length c.world.log ≤ length c'.world.log
   pub threads : length c'.threads ≡ length c.threads
 
-Kept-same : (c c' : Course) → c' ≡ c → Kept c c'
+Kept-same : (c c' : ReplayState) → c' ≡ c → Kept c c'
 Kept-same c c' e = subst (Kept c) (sym e) (record { config = refl; log = omega arith; threads = refl })
 
 world_kept : (w : WorldState) (t : ThreadId) (p : Progress) (stop : Option Ending) (w' : WorldState) (p' : Progress) → Tries w t p stop w' p' → (w'.config ≡ w.config) × (length w.log ≤ length w'.log)
@@ -62,16 +62,16 @@ world_kept w t p (Some Done) w' p' never = absurd never
 world_kept w t p (Some Stuck) w' p' never = absurd never
 world_kept w t p (Some Gated) w' p' never = absurd never
 
-pub Kept-turn : (c : Course) (t : ThreadId) (stop : Option Ending) (c' : Course) → TurnOf c t stop c' → Kept c c'
+pub Kept-turn : (c : ReplayState) (t : ThreadId) (stop : Option Ending) (c' : ReplayState) → TurnOf c t stop c' → Kept c c'
 Kept-turn c t stop c' (inl (idle, none, same)) = Kept-same c c' same
 Kept-turn c t stop c' (inr turn) =
     let kept = world_kept c.world t turn.before stop c'.world turn.after turn.tries in
     record { config = kept.0; log = kept.1; threads = ap length turn.threads ∙ length-set c.threads t.0 turn.after }
 
-Kept-trans : (a b c : Course) → Kept a b → Kept b c → Kept a c
+Kept-trans : (a b c : ReplayState) → Kept a b → Kept b c → Kept a c
 Kept-trans a b c p q = record { config = q.config ∙ p.config; log = omega (arith, p.log, q.log); threads = q.threads ∙ p.threads }
 
-pub Kept-turns : (ts : List ThreadId) (c : Course) (stop : Option Ending) (c' : Course) → TurnsOf c ts stop c' → Kept c c'
+pub Kept-turns : (ts : List ThreadId) (c : ReplayState) (stop : Option Ending) (c' : ReplayState) → TurnsOf c ts stop c' → Kept c c'
 unfolding TurnsOf
 Kept-turns [] c stop c' (none, same) = Kept-same c c' same
 Kept-turns (t ∷ ts) c stop c' (inl (ending, is, turn)) = Kept-turn c t stop c' turn
@@ -80,26 +80,26 @@ Kept-turns (t ∷ ts) c stop c' (inr (mid, turn, rest)) = Kept-trans c mid c' (K
 -- ---- turns one after another
 
 -- what the turns from here on lead to, all turns lead to from the start
-pub record LeadsOn (c0 : Course) (ts0 : List ThreadId) (c : Course) (ts : List ThreadId) : Type 0 where
-  pub lead : (stop : Option Ending) (c' : Course) → TurnsOf c ts stop c' → TurnsOf c0 ts0 stop c'
+pub record LeadsOn (c0 : ReplayState) (ts0 : List ThreadId) (c : ReplayState) (ts : List ThreadId) : Type 0 where
+  pub lead : (stop : Option Ending) (c' : ReplayState) → TurnsOf c ts stop c' → TurnsOf c0 ts0 stop c'
   pub kept : Kept c0 c
 
-pub LeadsOn-start : (c : Course) (ts : List ThreadId) → LeadsOn c ts c ts
+pub LeadsOn-start : (c : ReplayState) (ts : List ThreadId) → LeadsOn c ts c ts
 LeadsOn-start c ts = record { lead = λ stop c' h. h; kept = Kept-same c c refl }
 
-pub LeadsOn-next : (c0 : Course) (ts0 : List ThreadId) (c : Course) (t : ThreadId) (ts : List ThreadId) (mid : Course) → LeadsOn c0 ts0 c (t ∷ ts) → TurnOf c t None mid → LeadsOn c0 ts0 mid ts
+pub LeadsOn-next : (c0 : ReplayState) (ts0 : List ThreadId) (c : ReplayState) (t : ThreadId) (ts : List ThreadId) (mid : ReplayState) → LeadsOn c0 ts0 c (t ∷ ts) → TurnOf c t None mid → LeadsOn c0 ts0 mid ts
 unfolding TurnsOf
 LeadsOn-next c0 ts0 c t ts mid leads turn = record {
   lead = λ stop c' h. leads.lead stop c' (inr (mid, turn, h));
   kept = Kept-trans c0 c mid leads.kept (Kept-turn c t None mid turn);
 }
 
-pub LeadsOn-ended : (c0 : Course) (ts0 : List ThreadId) (c : Course) (t : ThreadId) (ts : List ThreadId) (ending : Ending) (c' : Course) → LeadsOn c0 ts0 c (t ∷ ts) → TurnOf c t (Some ending) c'
+pub LeadsOn-ended : (c0 : ReplayState) (ts0 : List ThreadId) (c : ReplayState) (t : ThreadId) (ts : List ThreadId) (ending : Ending) (c' : ReplayState) → LeadsOn c0 ts0 c (t ∷ ts) → TurnOf c t (Some ending) c'
     → TurnsOf c0 ts0 (Some ending) c'
 unfolding TurnsOf
 LeadsOn-ended c0 ts0 c t ts ending c' leads turn = leads.lead (Some ending) c' (inl (ending, refl, turn))
 
-pub LeadsOn-all : (c0 : Course) (ts0 : List ThreadId) (c : Course) → LeadsOn c0 ts0 c [] → TurnsOf c0 ts0 None c
+pub LeadsOn-all : (c0 : ReplayState) (ts0 : List ThreadId) (c : ReplayState) → LeadsOn c0 ts0 c [] → TurnsOf c0 ts0 None c
 unfolding TurnsOf
 LeadsOn-all c0 ts0 c leads = leads.lead None c (refl, refl)
 
@@ -113,22 +113,22 @@ threads_from-none n t h = let e : n - t ≡ 0 = omega arith in rw e refl
 
 -- ---- rounds one after another
 
-pub record LeadsRounds (c0 c : Course) : Type 0 where
-  pub lead : (ending : Ending) (c' : Course) → RoundsOf c ending c' → RoundsOf c0 ending c'
+pub record LeadsRounds (c0 c : ReplayState) : Type 0 where
+  pub lead : (ending : Ending) (c' : ReplayState) → RoundsOf c ending c' → RoundsOf c0 ending c'
 
-pub LeadsRounds-start : (c : Course) → LeadsRounds c c
+pub LeadsRounds-start : (c : ReplayState) → LeadsRounds c c
 LeadsRounds-start c = record { lead = λ ending c' h. h }
 
-pub LeadsRounds-next : (c0 c mid : Course) → LeadsRounds c0 c → ¬ AllIdle c → TurnsOf c (all_threads c) None mid → length c.world.log < length mid.world.log → LeadsRounds c0 mid
+pub LeadsRounds-next : (c0 c mid : ReplayState) → LeadsRounds c0 c → ¬ AllIdle c → TurnsOf c (all_threads c) None mid → length c.world.log < length mid.world.log → LeadsRounds c0 mid
 LeadsRounds-next c0 c mid leads some turns more = record {
   lead = λ ending c' h. leads.lead ending c' (RoundsOf.goes_on c mid c' ending (record { some = some; turns = turns }) more h);
 }
 
-pub rounds-idle : (c0 c : Course) → LeadsRounds c0 c → AllIdle c → RoundsOf c0 Done c
+pub rounds-idle : (c0 c : ReplayState) → LeadsRounds c0 c → AllIdle c → RoundsOf c0 Done c
 rounds-idle c0 c leads idle = leads.lead Done c (RoundsOf.all_idle c idle)
 
-pub rounds-ended : (c0 c c' : Course) (ending : Ending) → LeadsRounds c0 c → ¬ AllIdle c → TurnsOf c (all_threads c) (Some ending) c' → RoundsOf c0 ending c'
+pub rounds-ended : (c0 c c' : ReplayState) (ending : Ending) → LeadsRounds c0 c → ¬ AllIdle c → TurnsOf c (all_threads c) (Some ending) c' → RoundsOf c0 ending c'
 rounds-ended c0 c c' ending leads some turns = leads.lead ending c' (RoundsOf.ended c c' ending (record { some = some; turns = turns }))
 
-pub rounds-stuck : (c0 c c' : Course) → LeadsRounds c0 c → ¬ AllIdle c → TurnsOf c (all_threads c) None c' → length c'.world.log ≡ length c.world.log → RoundsOf c0 Stuck c'
+pub rounds-stuck : (c0 c c' : ReplayState) → LeadsRounds c0 c → ¬ AllIdle c → TurnsOf c (all_threads c) None c' → length c'.world.log ≡ length c.world.log → RoundsOf c0 Stuck c'
 rounds-stuck c0 c c' leads some turns same = leads.lead Stuck c' (RoundsOf.no_event c c' (record { some = some; turns = turns }) same)

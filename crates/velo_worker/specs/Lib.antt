@@ -1,9 +1,9 @@
 pub mod Walk
-pub mod Place
+pub mod Cursor
 pub mod Inside
 pub mod Progress
 pub mod Schedule
-pub mod Course
+pub mod ReplayState
 pub mod Counts
 pub mod Causes
 pub mod Live

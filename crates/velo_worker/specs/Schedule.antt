@@ -18,8 +18,8 @@ use Rattle.velo_worker.specs.declared.ending.Ending.TheVariants.{Done, Stuck, Ha
 use Rattle.velo_worker.specs.declared.progress.Progress.{Progress}
 use Rattle.velo_worker.specs.Progress.{start_of, settled, wanted, after_event}
 
--- a world, and how far each of its threads has come
-pub record Course : Type 0 where
+-- where a replay stands: a world, and how far each of its threads has come
+pub record ReplayState : Type 0 where
   pub world : WorldState
   pub threads : List Progress
 
@@ -60,7 +60,7 @@ Tries w t p (Some (Refused u r)) w' p' =
 Tries w t p (Some ending) w' p' = ⊥
 
 -- the thread that has the turn tries its next event, and no other thread changes
-pub record TriesAt (c : Course) (t : ThreadId) (stop : Option Ending) (c' : Course) : Type 0 where
+pub record TriesAt (c : ReplayState) (t : ThreadId) (stop : Option Ending) (c' : ReplayState) : Type 0 where
   pub before : Progress
   pub after : Progress
   pub there : slice_get c.threads t.0 ≡ Some before
@@ -69,54 +69,54 @@ pub record TriesAt (c : Course) (t : ThreadId) (stop : Option Ending) (c' : Cour
   pub threads : c'.threads ≡ slice_set c.threads t.0 after
 
 -- an idle thread passes, any other tries its next event. The turn may end the run
-abbrev pub TurnOf : Course → ThreadId → Option Ending → Course → Type 0
+abbrev pub TurnOf : ReplayState → ThreadId → Option Ending → ReplayState → Type 0
 TurnOf c t stop c' = (IsIdle c.world.log t.0 (slice_get c.threads t.0) × (stop ≡ None) × (c' ≡ c)) ⊎ TriesAt c t stop c'
 
 -- ---- turns one after another, up to the first that ends the run
 
-unfoldable pub TurnsOf : Course → List ThreadId → Option Ending → Course → Type 0
+unfoldable pub TurnsOf : ReplayState → List ThreadId → Option Ending → ReplayState → Type 0
 TurnsOf c [] stop c' = (stop ≡ None) × (c' ≡ c)
 TurnsOf c (t ∷ ts) stop c' =
     ((ending : Ending) × (stop ≡ Some ending) × TurnOf c t stop c')
-    ⊎ ((mid : Course) × TurnOf c t None mid × TurnsOf mid ts stop c')
+    ⊎ ((mid : ReplayState) × TurnOf c t None mid × TurnsOf mid ts stop c')
 
 -- the n threads from thread t on, in their order
 unfoldable pub threads_from : ℕ → ℕ → List ThreadId
 threads_from t zero = []
 threads_from t (suc n) = record { 0 = t } ∷ threads_from (t + 1) n
 
-abbrev pub all_threads : Course → List ThreadId
+abbrev pub all_threads : ReplayState → List ThreadId
 all_threads c = threads_from 0 (length c.threads)
 
 -- ---- rounds of all threads, one after another
 
-pub record AllIdle (c : Course) : Type 0 where
+pub record AllIdle (c : ReplayState) : Type 0 where
   pub each : (t : ℕ) → t < length c.threads → IsIdle c.world.log t (slice_get c.threads t)
 
 -- a round of turns of all threads, where not all are idle
-pub record RoundOf (c : Course) (stop : Option Ending) (c' : Course) : Type 0 where
+pub record RoundOf (c : ReplayState) (stop : Option Ending) (c' : ReplayState) : Type 0 where
   pub some : ¬ AllIdle c
   pub turns : TurnsOf c (all_threads c) stop c'
 
 -- rounds up to the end: all threads are idle; or a round added no event; or a turn ends the run
-pub data RoundsOf : Course → Ending → Course → Type 0 where
-  all_idle : (c : Course) → AllIdle c → RoundsOf c Done c
-  no_event : (c c' : Course) → RoundOf c None c' → length c'.world.log ≡ length c.world.log → RoundsOf c Stuck c'
-  ended : (c c' : Course) (ending : Ending) → RoundOf c (Some ending) c' → RoundsOf c ending c'
-  goes_on : (c mid c' : Course) (ending : Ending) → RoundOf c None mid → length c.world.log < length mid.world.log → RoundsOf mid ending c' → RoundsOf c ending c'
+pub data RoundsOf : ReplayState → Ending → ReplayState → Type 0 where
+  all_idle : (c : ReplayState) → AllIdle c → RoundsOf c Done c
+  no_event : (c c' : ReplayState) → RoundOf c None c' → length c'.world.log ≡ length c.world.log → RoundsOf c Stuck c'
+  ended : (c c' : ReplayState) (ending : Ending) → RoundOf c (Some ending) c' → RoundsOf c ending c'
+  goes_on : (c mid c' : ReplayState) (ending : Ending) → RoundOf c None mid → length c.world.log < length mid.world.log → RoundsOf mid ending c' → RoundsOf c ending c'
 
 -- ---- the whole run
 
-abbrev pub start : Program → Config → Course
+abbrev pub start : Program → Config → ReplayState
 start program config = record { world = opening config; threads = map start_of program.bodies }
 
 -- first the turns of the schedule; then rounds, unless one of those turns ended the run
-abbrev pub RunsTo : Course → List ThreadId → Ending → Course → Type 0
-RunsTo c schedule ending c' =
-    TurnsOf c schedule (Some ending) c' ⊎ ((mid : Course) × TurnsOf c schedule None mid × RoundsOf mid ending c')
+abbrev pub ReplaysTo : ReplayState → List ThreadId → Ending → ReplayState → Type 0
+ReplaysTo c schedule ending c' =
+    TurnsOf c schedule (Some ending) c' ⊎ ((mid : ReplayState) × TurnsOf c schedule None mid × RoundsOf mid ending c')
 
 -- log and ending of the run are those of the program by the schedule
 pub record Replays (program : Program) (schedule : List ThreadId) (config : Config) (ending : Ending) (closed : WorldState) : Type 0 where
-  pub last : Course
-  pub runs : RunsTo (start program config) schedule ending last
+  pub last : ReplayState
+  pub runs : ReplaysTo (start program config) schedule ending last
   pub world : closed ≡ last.world

@@ -3,10 +3,10 @@ use Rattle.std.specs.Prelude.{ℕ, zero, suc, List, [], ◌∷◌, ◌++◌}
 use Rattle.velo_workload.specs.declared.statement.Statement.{Statement}
 use Rattle.velo_workload.specs.declared.statement.Statement.TheVariants.{Repeat, Done}
 
--- the statements so many times
-unfoldable pub times : ℕ → List Statement → List Statement
-times zero statements = []
-times (suc n) statements = statements ++ times n statements
+-- the statements, so many times
+unfoldable pub repeated : ℕ → List Statement → List Statement
+repeated zero statements = []
+repeated (suc n) statements = statements ++ repeated n statements
 
 -- of some lists, the first and the others
 abbrev pub first : List (List Statement) → List Statement
@@ -23,7 +23,7 @@ with_statement statement levels = (statement ∷ first levels) ∷ others levels
 
 -- a repeat of the first before the second
 abbrev pub with_repeat : ℕ → List (List Statement) → List (List Statement)
-with_repeat n levels = (Repeat n ∷ times n (first levels ++ Done ∷ []) ++ first (others levels)) ∷ others (others levels)
+with_repeat n levels = (Repeat n ∷ repeated n (first levels ++ Done ∷ []) ++ first (others levels)) ∷ others (others levels)
 
 -- What is to be done up to the end of the repeat that is open before the statements; then, behind that end, up to the end of the
 -- repeat around it; and so on. Each repeat stands there as its own statement and then, so many times, what is repeated and its `Done`

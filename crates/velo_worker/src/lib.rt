@@ -2,14 +2,14 @@
 #![tactic(auto)]
 
 mod counting;
-mod course;
+mod cursor;
 mod ending;
 mod gate;
 mod growth;
 mod living;
 mod outcome;
-mod place;
 mod progress;
+mod replay_state;
 mod replaying;
 mod starting;
 mod walk;

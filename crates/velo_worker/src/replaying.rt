@@ -4,11 +4,11 @@ ghost use Rattle.velo_events.specs.Refusals.{GrowthRefused};
 ghost use Rattle.velo_world.specs.World.{HoldsLiveShares, CompletesShares, opening};
 ghost use Rattle.velo_worker.specs.Causes.{EndsWithCause};
 ghost use Rattle.velo_worker.specs.Progress.{start_of};
-ghost use Rattle.velo_worker.specs.Schedule.{Replays, RunsTo, start};
+ghost use Rattle.velo_worker.specs.Schedule.{Replays, ReplaysTo, start};
 
-use crate::course::Course;
 use crate::ending::Ending;
 use crate::progress::Progress;
+use crate::replay_state::ReplayState;
 use std::alloc::Global;
 use velo_events::growth::reserve;
 use velo_events::{Config, Memory, ThreadId};
@@ -37,30 +37,34 @@ pub fn replay(
     ensures cause { IfOk result (λ run. EndsWithCause run.1) }
     ensures memory { OnErr result GrowthRefused }
 {
-    let mut course = open(alloc, workload, config)?;
-    let ending = run(&mut course, schedule);
-    Ok((course.close(), ending))
+    let mut state = open(alloc, workload, config)?;
+    let ending = take_all_turns(&mut state, schedule);
+    Ok((state.close(), ending))
 }
 
 /// The turns of the schedule, and then rounds up to the end.
-fn run(course: &mut Course<'_>, schedule: &[ThreadId]) -> Ending
-    ensures { RunsTo course.old schedule.now result course.new }
+fn take_all_turns(state: &mut ReplayState<'_>, schedule: &[ThreadId]) -> Ending
+    ensures { ReplaysTo state.old schedule.now result state.new }
 {
-    match course.follow(schedule) {
+    match state.follow(schedule) {
         Some(ending) => ending,
-        None => course.rounds(),
+        None => state.take_rounds(),
     }
 }
 
 /// A run of which nothing is done.
-fn open<'a>(alloc: Global, workload: &'a Workload, config: Config) -> Result<Course<'a>, Memory>
+fn open<'a>(
+    alloc: Global,
+    workload: &'a Workload,
+    config: Config,
+) -> Result<ReplayState<'a>, Memory>
     requires { config.bounds ≡ workload.now.bounds }
-    ensures start { IfOk result (λ course. course ≡ start workload.now config) }
+    ensures start { IfOk result (λ state. state ≡ start workload.now config) }
     ensures memory { OnErr result GrowthRefused }
 {
     let threads = threads_of(alloc, workload)?;
     let (world, shares) = open_world(alloc, config)?;
-    Ok(Course {
+    Ok(ReplayState {
         world,
         shares,
         threads,

@@ -3,9 +3,9 @@ ghost use Rattle.std.specs.Prelude.{◌≡◌, ◌<◌, ◌≤◌, drop, length,
 ghost use Rattle.velo_events.specs.Refusals.{GrowthRefused};
 ghost use Rattle.velo_workload.specs.Bodies.{IsBody};
 ghost use Rattle.velo_worker.specs.Walk.{walk_of};
-ghost use Rattle.velo_worker.specs.Place.{AreEnds, MayPass, end_before, past};
+ghost use Rattle.velo_worker.specs.Cursor.{AreRepeatEnds, MayPass, end_before, past};
 
-use crate::place::Place;
+use crate::cursor::Cursor;
 use std::alloc::Global;
 use std::marker::Model;
 use velo_events::Memory;
@@ -18,7 +18,7 @@ pub struct Walk<'a> {
     body: &'a [Statement],
     /// For each statement the position behind the end of the repeat that is open behind it.
     ends: Vec<usize>,
-    place: Place,
+    cursor: Cursor,
 }
 
 impl<'a> Model for Walk<'a> {
@@ -47,7 +47,7 @@ impl<'a> Walk<'a> {
         Ok(Walk {
             body,
             ends,
-            place: Place::start(),
+            cursor: Cursor::start(),
         })
     }
 
@@ -55,15 +55,15 @@ impl<'a> Walk<'a> {
     pub fn next(&self) -> Option<Statement>
         ensures { result ≡ slice_get self.now 0 }
     {
-        statement_at(self.body, self.place.position())
+        statement_at(self.body, self.cursor.position())
     }
 
     /// Goes past the statement that comes next.
     pub fn advance(&mut self)
         ensures { self.new ≡ drop 1 self.old }
     {
-        if let Some(statement) = statement_at(self.body, self.place.position()) {
-            go_past(statement, &mut self.place, &self.ends);
+        if let Some(statement) = statement_at(self.body, self.cursor.position()) {
+            go_past(statement, &mut self.cursor, &self.ends);
         }
     }
 }
@@ -76,15 +76,15 @@ fn statement_at(body: &[Statement], position: usize) -> Option<Statement>
 }
 
 /// Goes past a statement, where the ends of the repeats are these.
-fn go_past(statement: Statement, place: &mut Place, ends: &[usize])
-    requires within { place.old.position < length ends.now }
-    requires fits { MayPass statement place.old }
-    ensures { place.new ≡ past statement place.old ends.now }
+fn go_past(statement: Statement, cursor: &mut Cursor, ends: &[usize])
+    requires within { cursor.old.position < length ends.now }
+    requires fits { MayPass statement cursor.old }
+    ensures { cursor.new ≡ past statement cursor.old ends.now }
 {
     match statement {
-        Statement::Repeat(times) => place.enter(times, ends[place.position()]),
-        Statement::Done => place.turn(),
-        _ => place.pass(),
+        Statement::Repeat(times) => cursor.enter_repeat(times, ends[cursor.position()]),
+        Statement::Done => cursor.repeat_or_leave(),
+        _ => cursor.move_on(),
     }
 }
 
@@ -104,7 +104,7 @@ fn end_before(statement: Statement, position: usize, ends: &[usize], end: usize)
 
 /// For each statement the position behind the end of the repeat that is open behind it, found from the last to the first.
 fn ends_of(alloc: Global, body: &[Statement]) -> Result<Vec<usize>, Memory>
-    ensures ends { IfOk result (λ ends. AreEnds body.now ends.items) }
+    ensures ends { IfOk result (λ ends. AreRepeatEnds body.now ends.items) }
     ensures memory { OnErr result GrowthRefused }
 {
     let mut ends = filled(alloc, 0, body.len())?;

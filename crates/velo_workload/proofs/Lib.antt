@@ -6,6 +6,6 @@ pub mod OnParsing
 pub mod OnPhrases
 pub mod OnReading
 pub mod OnSketches
-pub mod OnSettling
+pub mod OnCompleting
 pub mod OnLonger
 pub mod OnWords

@@ -10,12 +10,12 @@ use Rattle.velo_workload.specs.declared.fault.WorkFault.TheVariants.{Unmatched, 
 use Rattle.velo_workload.specs.declared.nesting.Open.{Open}
 use Rattle.velo_workload.specs.Phrase.{Spoken, Repeat, Done, Phrase, Blank, Bad, BadThread, Variable, Lock, Thread, Body}
 use Rattle.velo_workload.specs.Outline.{costs, total, cost_of, repeated, one_statement, Reading, new_body, opened, line_read, read_from, reading, end_fault}
-use Rattle.velo_workload.specs.Tally.{Tally, new_tally, last_open, statement_tallied, line_tallied, tally_from, tally, tally_fault}
+use Rattle.velo_workload.specs.Nesting.{NestingState, new_nesting, last_open, nesting_after, nesting_after_line, nesting_from, nesting_of_lines, nesting_fault}
 
 -- ---- costs at each open level
 
 -- how often the next statement is done, and so on outwards
-abbrev rounds_of : Tally → List ℕ
+abbrev rounds_of : NestingState → List ℕ
 rounds_of t = t.rounds ∷ reverse (map (λ o. o.outside) t.open_repeats)
 
 -- the costs at the levels, each as often as it is done
@@ -69,13 +69,13 @@ outside_last front o = ap reverse (map-append (λ o. o.outside) front (o ∷ [])
 
 -- ---- one more statement
 
-abbrev left : Tally → List ℕ → ℕ
+abbrev left : NestingState → List ℕ → ℕ
 left t ls = t.cost + weigh (rounds_of t) ls
 
-simple_step : (t : Tally) (ls : List ℕ) → left t (one_statement ls) ≡ left (record t { cost = t.cost + t.rounds }) ls
+simple_step : (t : NestingState) (ls : List ℕ) → left t (one_statement ls) ≡ left (record t { cost = t.cost + t.rounds }) ls
 simple_step t ls = let e = weigh_one t.rounds (reverse (map (λ o. o.outside) t.open_repeats)) ls in omega (arith, e)
 
-repeat_step : (t : Tally) (n k : ℕ) (ls : List ℕ) → left t (repeated k ls) ≡ left (statement_tallied t n (Repeat k)) ls
+repeat_step : (t : NestingState) (n k : ℕ) (ls : List ℕ) → left t (repeated k ls) ≡ left (nesting_after t n (Repeat k)) ls
 repeat_step t n k ls =
     let rs = reverse (map (λ o. o.outside) t.open_repeats) in
     let e = weigh_repeat t.rounds k rs ls in
@@ -105,39 +105,39 @@ done_at c r os ls = ⊎_elim
     (λ some. subst (DoneFits c r ls) (sym some.2) (done_last c r ls some.0 some.1))
     (last_or_none os)
 
-cost_step : (t : Tally) (n : ℕ) (s : Spoken) (ss : List Spoken) → left t (costs (s ∷ ss)) ≡ left (statement_tallied t n s) (costs ss)
+cost_step : (t : NestingState) (n : ℕ) (s : Spoken) (ss : List Spoken) → left t (costs (s ∷ ss)) ≡ left (nesting_after t n s) (costs ss)
 cost_step t n (Repeat k) ss = repeat_step t n k (costs ss)
 cost_step t n Done ss = done_at t.cost t.rounds t.open_repeats (costs ss)
 cost_step t n s ss = simple_step t (costs ss)
 
 -- ---- the count agrees with the body
 
-pub record Agrees (t : Tally) (b : Reading) : Type 0 where
+pub record Agrees (t : NestingState) (b : Reading) : Type 0 where
   pub thread_line : t.thread_line ≡ b.thread_line
   pub lines : map (λ o. o.line) t.open_repeats ≡ b.open_repeats
   pub cost : (ss : List Spoken) → cost_of (b.said ++ ss) ≡ left t (costs ss)
 
-agrees_new : (n : ℕ) → Agrees (new_tally n) (new_body n)
+agrees_new : (n : ℕ) → Agrees (new_nesting n) (new_body n)
 agrees_new n = record { thread_line = refl; lines = refl; cost = λ ss. let e = weigh_once (costs ss) in omega (arith, e) }
 
-lines_step : (t : Tally) (n : ℕ) (s : Spoken) → map (λ o. o.line) (statement_tallied t n s).open_repeats ≡ opened (map (λ o. o.line) t.open_repeats) n s
+lines_step : (t : NestingState) (n : ℕ) (s : Spoken) → map (λ o. o.line) (nesting_after t n s).open_repeats ≡ opened (map (λ o. o.line) t.open_repeats) n s
 lines_step t n (Repeat k) = map-append (λ o. o.line) t.open_repeats (record { line = n; outside = t.rounds } ∷ [])
 lines_step t n Done = sym (take-map (λ o. o.line) (length t.open_repeats - 1) t.open_repeats) ∙ ap (λ (m : ℕ). take (m - 1) (map (λ o. o.line) t.open_repeats)) (sym (length-map t.open_repeats (λ o. o.line)))
 lines_step t n s = refl
 
-line_step : (t : Tally) (n : ℕ) (s : Spoken) → (statement_tallied t n s).thread_line ≡ t.thread_line
+line_step : (t : NestingState) (n : ℕ) (s : Spoken) → (nesting_after t n s).thread_line ≡ t.thread_line
 line_step t n (Repeat k) = refl
 line_step t n Done = refl
 line_step t n s = refl
 
-agrees_said : (t : Tally) (b : Reading) (n : ℕ) (s : Spoken) → Agrees t b → Agrees (statement_tallied t n s) (line_read b n (Body s))
+agrees_said : (t : NestingState) (b : Reading) (n : ℕ) (s : Spoken) → Agrees t b → Agrees (nesting_after t n s) (line_read b n (Body s))
 agrees_said t b n s h = record {
   thread_line = line_step t n s ∙ h.thread_line;
   lines = lines_step t n s ∙ ap (λ (ls : List ℕ). opened ls n s) h.lines;
   cost = λ ss. ap cost_of (append_assoc b.said (s ∷ []) ss) ∙ h.cost (s ∷ ss) ∙ cost_step t n s ss;
 }
 
-agrees_more : (t : Tally) (b : Reading) (n : ℕ) (p : Phrase) → Agrees t b → Agrees (line_tallied t n p) (line_read b n p)
+agrees_more : (t : NestingState) (b : Reading) (n : ℕ) (p : Phrase) → Agrees t b → Agrees (nesting_after_line t n p) (line_read b n p)
 agrees_more t b n Blank h = h
 agrees_more t b n Bad h = h
 agrees_more t b n BadThread h = h
@@ -146,23 +146,23 @@ agrees_more t b n (Lock name) h = h
 agrees_more t b n (Thread name) h = agrees_new n
 agrees_more t b n (Body s) h = agrees_said t b n s h
 
-agrees_from : (t : Tally) (b : Reading) (n : ℕ) (ps : List Phrase) → Agrees t b → Agrees (tally_from t n ps) (read_from b n ps)
+agrees_from : (t : NestingState) (b : Reading) (n : ℕ) (ps : List Phrase) → Agrees t b → Agrees (nesting_from t n ps) (read_from b n ps)
 agrees_from t b n [] h = h
-agrees_from t b n (p ∷ ps) h = agrees_from (line_tallied t (n + 1) p) (line_read b (n + 1) p) (n + 1) ps (agrees_more t b (n + 1) p h)
+agrees_from t b n (p ∷ ps) h = agrees_from (nesting_after_line t (n + 1) p) (line_read b (n + 1) p) (n + 1) ps (agrees_more t b (n + 1) p h)
 
-pub agrees : (ps : List Phrase) → Agrees (tally ps) (reading ps)
-agrees ps = agrees_from (new_tally 0) (new_body 0) 0 ps (agrees_new 0)
+pub agrees : (ps : List Phrase) → Agrees (nesting_of_lines ps) (reading ps)
+agrees ps = agrees_from (new_nesting 0) (new_body 0) 0 ps (agrees_new 0)
 
 -- ---- so do the faults
 
-pub same_depth : (t : Tally) (b : Reading) → Agrees t b → length t.open_repeats ≡ length b.open_repeats
+pub same_depth : (t : NestingState) (b : Reading) → Agrees t b → length t.open_repeats ≡ length b.open_repeats
 same_depth t b h = sym (length-map t.open_repeats (λ o. o.line)) ∙ ap length h.lines
 
 unmatched_line : (o : Option Open) (other : Option WorkFault) → option_map_or (λ o. Some (Unmatched o.line)) o other ≡ option_map_or (λ n. Some (Unmatched n)) (option_map (λ o. o.line) o) other
 unmatched_line None other = refl
 unmatched_line (Some o) other = refl
 
-pub same_end : (t : Tally) (b : Reading) → Agrees t b → tally_fault t ≡ end_fault b
+pub same_end : (t : NestingState) (b : Reading) → Agrees t b → nesting_fault t ≡ end_fault b
 same_end t b h =
     let so_far : cost_of b.said ≡ t.cost = ap cost_of (sym (append-nil b.said)) ∙ h.cost [] ∙ omega arith in
     let costly : ℕ → ℕ → Option WorkFault = λ c n. cond (ltb MOST_COST c) (Some (TooMany n)) None in

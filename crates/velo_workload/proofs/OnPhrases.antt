@@ -6,7 +6,7 @@ use Rattle.std.proofs.lemmas.Str.{IsUtf8-from_ascii}
 use Rattle.std.proofs.lemmas.Str.Ascii.{IsAscii-nil, IsAscii-cons}
 use Rattle.std.proofs.lemmas.Bool.Decides.{nat_tests}
 use Rattle.velo_workload.specs.Words.{Word, AreWords, is_name, is_name_byte}
-use Rattle.velo_workload.specs.Phrase.{verb_of, argument_of, bad, alone, argued, phrase_by, phrase_of_words}
+use Rattle.velo_workload.specs.Phrase.{verb_of, argument_of, bad_phrase, phrase_of_one_word, phrase_with_argument, phrase_by, phrase_of_words}
 
 small : (b : ℕ) → is_name_byte b ≡ true → b < 128
 small b e = grind (arith, nat_tests)
@@ -32,13 +32,13 @@ name_text (c ∷ cs) e =
 some_bytes : (w : Word) → 0 < length w → eqb (length w) 0 ≡ false
 some_bytes w some = grind (arith, nat_tests)
 
-by_one : (w : Word) → 0 < length w → phrase_by w [] false ≡ alone (verb_of w)
+by_one : (w : Word) → 0 < length w → phrase_by w [] false ≡ phrase_of_one_word (verb_of w)
 by_one w some = rw (some_bytes w some) refl
 
-by_two : (w x : Word) → 0 < length w → 0 < length x → phrase_by w x false ≡ argued (verb_of w) (argument_of (verb_of w)) x
+by_two : (w x : Word) → 0 < length w → 0 < length x → phrase_by w x false ≡ phrase_with_argument (verb_of w) (argument_of (verb_of w)) x
 by_two w x some more = rw (some_bytes w some, some_bytes x more) refl
 
-by_more : (w x : Word) → 0 < length w → phrase_by w x true ≡ bad (verb_of w)
+by_more : (w x : Word) → 0 < length w → phrase_by w x true ≡ bad_phrase (verb_of w)
 by_more w x some = rw (some_bytes w some) refl
 
 pub phrase_by_words : (f s : Word) (m : Bool) (ws : List Word) → AreWords f s m ws → phrase_by f s m ≡ phrase_of_words ws

@@ -20,7 +20,7 @@ use Rattle.velo_workload.specs.declared.nesting.Open.{Open}
 use Rattle.velo_workload.specs.Words.{Word, lines}
 use Rattle.velo_workload.specs.Phrase.{phrase_of, phrases, Spoken, Begin, Repeat, Done, Phrase, Blank, Bad, BadThread, Variable, Lock, Thread, Body}
 use Rattle.velo_workload.specs.Outline.{AreFew, is_among, Judges, fault_from, first_fault, variable_in, lock_in, thread_in, label_in, label_of, statement_in, variables, locks, threads, labels, statements, reading, Known, known, Names, names_in, first_of_two, fault_of_line, fault_at_end, declared_fault, statement_fault, full_fault}
-use Rattle.velo_workload.specs.Tally.{Tally, new_tally, last_open, statement_tallied, line_tallied, tally_from, tally, tally_fault, most_kept, kept_open, kept}
+use Rattle.velo_workload.specs.Nesting.{NestingState, new_nesting, last_open, nesting_after, nesting_after_line, nesting_from, nesting_of_lines, nesting_fault, most_kept, kept_open, kept}
 use Rattle.velo_workload.specs.Known.{IsReadUpTo, lines_left, phrases_left, Kept, kept_of, known_by, known_of, statement_kept, labelled, with_line, whole, up_to_most}
 use Rattle.velo_workload.proofs.OnCosts.{agrees, same_depth, same_end}
 use Rattle.velo_workload.proofs.OnLonger.{IsLonger, names_longer}
@@ -60,7 +60,7 @@ outside_kept : (o : Option Open) → option_map_or (λ o. o.outside) (option_map
 outside_kept None = refl
 outside_kept (Some o) = refl
 
-pub statement_step : (b : Tally) (n : ℕ) (s : Spoken) → statement_kept (kept b) n s ≡ kept (statement_tallied b n s)
+pub statement_step : (b : NestingState) (n : ℕ) (s : Spoken) → statement_kept (kept b) n s ≡ kept (nesting_after b n s)
 statement_step b n (Repeat times) = λ i. record {
   thread_line = b.thread_line;
   open_repeats = (sym (map-append kept_open b.open_repeats (record { line = n; outside = b.rounds } ∷ []))) i;
@@ -88,7 +88,7 @@ labels_step ls s = refl
 
 -- what would be kept with one more line
 abbrev pub one_more : Kept → Phrase → ℕ → Kept
-one_more k p n = record { variables = k.variables ++ variable_in p; locks = k.locks ++ lock_in p; threads = k.threads ++ thread_in p; labels = insert_all bytes_eq k.labels (label_in p); statements = k.statements + length (statement_in p); body = line_tallied k.body n p }
+one_more k p n = record { variables = k.variables ++ variable_in p; locks = k.locks ++ lock_in p; threads = k.threads ++ thread_in p; labels = insert_all bytes_eq k.labels (label_in p); statements = k.statements + length (statement_in p); body = nesting_after_line k.body n p }
 
 kept_is : (k j : Kept) → k.variables ≡ j.variables → k.locks ≡ j.locks → k.threads ≡ j.threads → k.labels ≡ j.labels → k.statements ≡ j.statements → k.body ≡ j.body → k ≡ j
 kept_is k j a b c d e f = λ i. record { variables = a i; locks = b i; threads = c i; labels = d i; statements = e i; body = f i }
@@ -105,11 +105,11 @@ kept_step k (Lock name) n = kept_is _ _ (none k.variables) refl (none k.threads)
 kept_step k (Thread name) n = kept_is _ _ (none k.variables) (none k.locks) refl refl (sym (add-zero k.statements)) refl
 kept_step k (Body s) n = kept_is _ _ (none k.variables) (none k.locks) (none k.threads) (labels_step k.labels s) refl (statement_step k.body n s)
 
-read_more : (b : Tally) (n : ℕ) (ps : List Phrase) (p : Phrase) → tally_from b n (ps ++ p ∷ []) ≡ line_tallied (tally_from b n ps) (n + length ps + 1) p
-read_more b n [] p = ap (λ (m : ℕ). line_tallied b (m + 1) p) (sym (add-zero n))
+read_more : (b : NestingState) (n : ℕ) (ps : List Phrase) (p : Phrase) → nesting_from b n (ps ++ p ∷ []) ≡ nesting_after_line (nesting_from b n ps) (n + length ps + 1) p
+read_more b n [] p = ap (λ (m : ℕ). nesting_after_line b (m + 1) p) (sym (add-zero n))
 read_more b n (q ∷ ps) p =
     let count : n + 1 + length ps + 1 ≡ n + length (q ∷ ps) + 1 = omega arith in
-    read_more (line_tallied b (n + 1) q) (n + 1) ps p ∙ ap (λ (m : ℕ). line_tallied (tally_from (line_tallied b (n + 1) q) (n + 1) ps) m p) count
+    read_more (nesting_after_line b (n + 1) q) (n + 1) ps p ∙ ap (λ (m : ℕ). nesting_after_line (nesting_from (nesting_after_line b (n + 1) q) (n + 1) ps) m p) count
 
 pub whole_more : (ps : List Phrase) (p : Phrase) → whole (ps ++ p ∷ []) ≡ one_more (whole ps) p (length ps + 1)
 whole_more ps p =
@@ -119,7 +119,7 @@ whole_more ps p =
     kept_is _ _ (one variable_in) (one lock_in) (one thread_in)
     (ap (insert_all bytes_eq []) (one label_in) ∙ fold-append (insert_key bytes_eq) [] (flat_map label_in ps) (label_in p))
     (ap length said ∙ length-append (statements ps) (statement_in p))
-    (read_more (new_tally 0) 0 ps p ∙ ap (λ (m : ℕ). line_tallied (tally ps) m p) zero_first)
+    (read_more (new_nesting 0) 0 ps p ∙ ap (λ (m : ℕ). nesting_after_line (nesting_of_lines ps) m p) zero_first)
 
 -- ---- the faults are the same
 
@@ -133,7 +133,7 @@ unmatched_kept : (o : Option Open) (other : Option WorkFault) → unmatched_or (
 unmatched_kept None other = refl
 unmatched_kept (Some o) other = refl
 
-pub end_kept : (b : Tally) → tally_fault (kept b) ≡ tally_fault b
+pub end_kept : (b : NestingState) → nesting_fault (kept b) ≡ nesting_fault b
 end_kept b =
     let costly : (t : Bool) → Option WorkFault = λ t. cond t (Some (TooMany b.thread_line)) None in
     ap (λ (o : Option Open). unmatched_or o (costly (ltb MOST_COST (min b.cost most_kept)))) (last_kept b.open_repeats)
@@ -147,7 +147,7 @@ known_kept k = λ i. record { variables = k.variables; locks = k.locks; threads 
 pub known_whole : (ps : List Phrase) → known_by (whole ps) ≡ known ps
 known_whole ps =
     let h = agrees ps in
-    λ i. record { variables = variables ps; locks = locks ps; threads = threads ps; labels = labels ps; statements = length (statements ps); depth = same_depth (tally ps) (reading ps) h i; body_end = same_end (tally ps) (reading ps) h i }
+    λ i. record { variables = variables ps; locks = locks ps; threads = threads ps; labels = labels ps; statements = length (statements ps); depth = same_depth (nesting_of_lines ps) (reading ps) h i; body_end = same_end (nesting_of_lines ps) (reading ps) h i }
 
 -- ---- where no line has a fault there are few of each kind
 
@@ -210,14 +210,14 @@ few_more k (Lock name) n few e =
     let fine = before_test (eqb (length k.threads) 0) (BadLine n) _ e in
     record { variables = same k.variables _ few.variables; locks = declared_few k.locks _ name n fine; threads = same k.threads _ few.threads; labels = omega (arith, few.labels); statements = omega (arith, few.statements) }
 few_more k (Thread name) n few e =
-    let fine = second (tally_fault k.body) _ e in
+    let fine = second (nesting_fault k.body) _ e in
     record { variables = same k.variables _ few.variables; locks = same k.locks _ few.locks; threads = declared_few k.threads _ name n fine; labels = omega (arith, few.labels); statements = omega (arith, few.statements) }
 few_more k (Body s) n few e =
     let fine = (behind (eqb (length k.threads) 0) (BadLine n) (statement_fault (known_by k) s n) e).1 in
     record { variables = same k.variables _ few.variables; locks = same k.locks _ few.locks; threads = same k.threads _ few.threads; labels = omega (arith, few.labels, labels_few k.labels s); statements = statement_few (known_by k) s n fine }
-few_more k Blank n few e = few_same k (length k.body.open_repeats) (tally_fault k.body) few
-few_more k Bad n few e = few_same k (length k.body.open_repeats) (tally_fault k.body) few
-few_more k BadThread n few e = few_same k (length k.body.open_repeats) (tally_fault k.body) few
+few_more k Blank n few e = few_same k (length k.body.open_repeats) (nesting_fault k.body) few
+few_more k Bad n few e = few_same k (length k.body.open_repeats) (nesting_fault k.body) few
+few_more k BadThread n few e = few_same k (length k.body.open_repeats) (nesting_fault k.body) few
 
 some_length : (n : ℕ) → eqb n 0 ≡ false → 1 ≤ n
 some_length n e = grind (arith, nat_tests)

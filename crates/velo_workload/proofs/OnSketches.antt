@@ -10,7 +10,7 @@ use Rattle.velo_workload.specs.declared.statement.Statement.TheVariants as of_st
 use Rattle.velo_workload.specs.Phrase.{Spoken, Phrase, Blank, Bad, BadThread, Variable, Lock, Thread, Body}
 use Rattle.velo_workload.specs.Outline.{Names, first_of_two}
 use Rattle.velo_workload.specs.Program.{statement_of, unknown_in, first_unknown, body_from, bodies}
-use Rattle.velo_workload.specs.Sketch.{Put, Sketch, Sketches, no_sketch, with_known, with_statement, drafted, with_phrase, unknown_later, put_at, settled, unknown_in_sketches, bodies_settled, AreSketches}
+use Rattle.velo_workload.specs.Sketch.{Put, Sketch, Sketches, no_sketch, with_known, with_statement, drafted, with_phrase, unknown_later, put_at, completed, unknown_in_sketches, bodies_completed, AreSketches}
 use Rattle.velo_workload.specs.Building.{Built, built_by, with_line_built, bodies_with, AreBelow, IsSketchedUpTo}
 use Rattle.velo_workload.proofs.OnLonger.{IsLonger, statement_longer}
 
@@ -50,20 +50,20 @@ below_one m [] l h lt = (lt, tt)
 below_one m (k ∷ ls) l h lt = (h.0, below_one m ls l h.1 lt)
 
 module _ (names : Names) where
-  length_settled : (ss : List Statement) (ls : List Put) → length (settled names ss ls) ≡ length ss
-  length_settled ss [] = refl
-  length_settled ss (l ∷ ls) = length_settled (put_at ss l.place (statement_of names l.spoken)) ls ∙ length_put ss l.place (statement_of names l.spoken)
+  length_completed : (ss : List Statement) (ls : List Put) → length (completed names ss ls) ≡ length ss
+  length_completed ss [] = refl
+  length_completed ss (l ∷ ls) = length_completed (put_at ss l.place (statement_of names l.spoken)) ls ∙ length_put ss l.place (statement_of names l.spoken)
 
-  settled_more : (ss more : List Statement) (ls : List Put) → AreBelow (length ss) ls → settled names (ss ++ more) ls ≡ settled names ss ls ++ more
-  settled_more ss more [] h = refl
-  settled_more ss more (l ∷ ls) h =
+  completed_more : (ss more : List Statement) (ls : List Put) → AreBelow (length ss) ls → completed names (ss ++ more) ls ≡ completed names ss ls ++ more
+  completed_more ss more [] h = refl
+  completed_more ss more (l ∷ ls) h =
       let o = statement_of names l.spoken in
-      ap (λ (ss : List Statement). settled names ss ls) (put_more ss more l.place o h.0)
-      ∙ settled_more (put_at ss l.place o) more ls (subst (λ (n : ℕ). AreBelow n ls) (sym (length_put ss l.place o)) h.1)
+      ap (λ (ss : List Statement). completed names ss ls) (put_more ss more l.place o h.0)
+      ∙ completed_more (put_at ss l.place o) more ls (subst (λ (n : ℕ). AreBelow n ls) (sym (length_put ss l.place o)) h.1)
 
-  settled_one : (ss : List Statement) (ls : List Put) (l : Put) → settled names ss (ls ++ l ∷ []) ≡ put_at (settled names ss ls) l.place (statement_of names l.spoken)
-  settled_one ss [] l = refl
-  settled_one ss (k ∷ ls) l = settled_one (put_at ss k.place (statement_of names k.spoken)) ls l
+  completed_one : (ss : List Statement) (ls : List Put) (l : Put) → completed names ss (ls ++ l ∷ []) ≡ put_at (completed names ss ls) l.place (statement_of names l.spoken)
+  completed_one ss [] l = refl
+  completed_one ss (k ∷ ls) l = completed_one (put_at ss k.place (statement_of names k.spoken)) ls l
 
   unknown_one : (ls : List Put) (l : Put) → unknown_later names (ls ++ l ∷ []) ≡ first_of_two (unknown_later names ls) (unknown_in names (Body l.spoken) l.line)
   unknown_one [] l = first_or_none (unknown_in names (Body l.spoken) l.line)
@@ -91,13 +91,13 @@ module _ (names : Names) where
   pub record IsOneMore (d new : Sketch) (s : Spoken) (n : ℕ) : Type 0 where
     pub within : AreBelow (length new.statements) new.later
     pub unknown : unknown_later names new.later ≡ first_of_two (unknown_later names d.later) (unknown_in names (Body s) n)
-    pub body : unknown_in names (Body s) n ≡ None → settled names new.statements new.later ≡ settled names d.statements d.later ++ option_to_list (statement_of names s)
+    pub body : unknown_in names (Body s) n ≡ None → completed names new.statements new.later ≡ completed names d.statements d.later ++ option_to_list (statement_of names s)
 
   more_known : (d : Sketch) (s : Spoken) (n : ℕ) (x : Statement) → AreBelow (length d.statements) d.later → statement_of names s ≡ Some x → IsOneMore d (with_known d s n (Some x)) s n
   more_known d s n x h e = record {
     within = below_more (length d.statements) (length (d.statements ++ x ∷ [])) d.later (omega (arith, length-append d.statements (x ∷ []))) h;
     unknown = sym (ap (λ (f : Option WorkFault). first_of_two (unknown_later names d.later) f) (none_unknown s n x e) ∙ first_or_none (unknown_later names d.later));
-    body = λ fine. settled_more d.statements (x ∷ []) d.later h ∙ ap (λ (o : Option Statement). settled names d.statements d.later ++ option_to_list o) (sym e);
+    body = λ fine. completed_more d.statements (x ∷ []) d.later h ∙ ap (λ (o : Option Statement). completed names d.statements d.later ++ option_to_list o) (sym e);
   }
 
   more_later : (d : Sketch) (s : Spoken) (n : ℕ) → AreBelow (length d.statements) d.later → IsOneMore d (with_known d s n None) s n
@@ -110,11 +110,11 @@ module _ (names : Names) where
         unknown = unknown_one d.later put;
         body = λ fine.
             let known = known_then s n fine in
-            settled_one (d.statements ++ of_statement.Done ∷ []) d.later put
-            ∙ ap (λ (ss : List Statement). put_at ss place (statement_of names s)) (settled_more d.statements (of_statement.Done ∷ []) d.later h)
-            ∙ ap (λ (o : Option Statement). put_at (settled names d.statements d.later ++ of_statement.Done ∷ []) place o) known.1
-            ∙ put_last (settled names d.statements d.later) place of_statement.Done known.0 (sym (length_settled d.statements d.later))
-            ∙ ap (λ (o : Option Statement). settled names d.statements d.later ++ option_to_list o) (sym known.1);
+            completed_one (d.statements ++ of_statement.Done ∷ []) d.later put
+            ∙ ap (λ (ss : List Statement). put_at ss place (statement_of names s)) (completed_more d.statements (of_statement.Done ∷ []) d.later h)
+            ∙ ap (λ (o : Option Statement). put_at (completed names d.statements d.later ++ of_statement.Done ∷ []) place o) known.1
+            ∙ put_last (completed names d.statements d.later) place of_statement.Done known.0 (sym (length_completed d.statements d.later))
+            ∙ ap (λ (o : Option Statement). completed names d.statements d.later ++ option_to_list o) (sym known.1);
       }
 
   one_more : (some : Names) (d : Sketch) (s : Spoken) (n : ℕ) → IsLonger some names → AreBelow (length d.statements) d.later → IsOneMore d (with_statement some d s n) s n
@@ -153,7 +153,7 @@ module _ (names : Names) where
   next_line some b (Thread name) n longer h = record {
     within = tt;
     unknown = unknown_more (drafted b) no_sketch;
-    built = λ fine. ap (λ (whole : List (List Statement)). record { whole = whole; current = [] }) (map-append (λ (d : Sketch). settled names d.statements d.later) b.whole (b.current ∷ []));
+    built = λ fine. ap (λ (whole : List (List Statement)). record { whole = whole; current = [] }) (map-append (λ (d : Sketch). completed names d.statements d.later) b.whole (b.current ∷ []));
   }
   next_line some b (Body s) n longer h =
       let more = one_more some b.current s n longer h in
@@ -164,7 +164,7 @@ module _ (names : Names) where
             unknown_more b.whole new ∙ ap (λ (f : Option WorkFault). first_of_two (unknown_in_sketches names b.whole) f) more.unknown
             ∙ sym (first_of_three (unknown_in_sketches names b.whole) (unknown_later names b.current.later) (unknown_in names (Body s) n))
             ∙ ap (λ (f : Option WorkFault). first_of_two f (unknown_in names (Body s) n)) (sym (unknown_more b.whole b.current));
-        built = λ fine. ap (λ (body : List Statement). record { whole = bodies_settled names b.whole; current = body }) (more.body fine);
+        built = λ fine. ap (λ (body : List Statement). record { whole = bodies_completed names b.whole; current = body }) (more.body fine);
       }
   next_line some b Blank n longer h = same_line b Blank n h refl refl
   next_line some b Bad n longer h = same_line b Bad n h refl refl
@@ -195,6 +195,6 @@ module _ (names : Names) where
   sketched_all ps n b r = record {
     fault = sym (first_or_none (unknown_in_sketches names (drafted b))) ∙ r.fault;
     bodies = λ fine.
-        map-append (λ (d : Sketch). settled names d.statements d.later) b.whole (b.current ∷ [])
-        ∙ ap (λ (body : List Statement). bodies_settled names b.whole ++ body ∷ []) (sym (append-nil (settled names b.current.statements b.current.later))) ∙ r.all fine;
+        map-append (λ (d : Sketch). completed names d.statements d.later) b.whole (b.current ∷ [])
+        ∙ ap (λ (body : List Statement). bodies_completed names b.whole ++ body ∷ []) (sym (append-nil (completed names b.current.statements b.current.later))) ∙ r.all fine;
   }

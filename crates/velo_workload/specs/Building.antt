@@ -7,7 +7,7 @@ use Rattle.velo_workload.specs.Outline.{Names, first_of_two}
 use Rattle.velo_workload.specs.Program.{statement_of, first_unknown, body_from, bodies}
 use Rattle.velo_workload.specs.declared.draft.Later.{Later}
 use Rattle.velo_workload.specs.declared.draft.Draft.{Draft}
-use Rattle.velo_workload.specs.Sketch.{Put, Sketches, put_of, sketch_of, drafted, unknown_later, settled, unknown_in_sketches, bodies_settled}
+use Rattle.velo_workload.specs.Sketch.{Put, Sketches, put_of, sketch_of, drafted, unknown_later, completed, unknown_in_sketches, bodies_completed}
 
 -- The bodies that are whole, and the one that is read, by all names.
 pub record Built : Type 0 where
@@ -15,7 +15,7 @@ pub record Built : Type 0 where
   pub current : List Statement
 
 abbrev pub built_by : Names → Sketches → Built
-built_by names b = record { whole = bodies_settled names b.whole; current = settled names b.current.statements b.current.later }
+built_by names b = record { whole = bodies_completed names b.whole; current = completed names b.current.statements b.current.later }
 
 -- with one more line
 abbrev pub with_line_built : Names → Built → Phrase → Built
@@ -41,11 +41,11 @@ pub record IsSketchedUpTo (names : Names) (ps rest : List Phrase) (n : ℕ) (b :
 -- ---- how far the second pass has come
 
 -- the first i of these statements are known and in their places
-pub record IsSettledUpTo (names : Names) (ls : List Later) (old : List Statement) (i : ℕ) (ss : List Statement) : Type 0 where
+pub record IsCompletedUpTo (names : Names) (ls : List Later) (old : List Statement) (i : ℕ) (ss : List Statement) : Type 0 where
   pub fault : unknown_later names (drop i (map put_of ls)) ≡ unknown_later names (map put_of ls)
-  pub all : settled names ss (drop i (map put_of ls)) ≡ settled names old (map put_of ls)
+  pub all : completed names ss (drop i (map put_of ls)) ≡ completed names old (map put_of ls)
 
 -- the first i of these drafts are bodies now
-pub record AreSettledUpTo (names : Names) (ds : List Draft) (i : ℕ) (found : List (List Statement)) : Type 0 where
+pub record AreCompletedUpTo (names : Names) (ds : List Draft) (i : ℕ) (found : List (List Statement)) : Type 0 where
   pub fault : unknown_in_sketches names (drop i (map sketch_of ds)) ≡ unknown_in_sketches names (map sketch_of ds)
-  pub all : found ++ bodies_settled names (drop i (map sketch_of ds)) ≡ bodies_settled names (map sketch_of ds)
+  pub all : found ++ bodies_completed names (drop i (map sketch_of ds)) ≡ bodies_completed names (map sketch_of ds)

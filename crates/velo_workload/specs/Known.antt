@@ -6,7 +6,7 @@ use Rattle.velo_workload.specs.declared.outline.Outline.{Outline}
 use Rattle.velo_workload.specs.Words.{Word, lines}
 use Rattle.velo_workload.specs.Phrase.{phrase_of, phrases, Spoken, Repeat, Done, Begin, Phrase, Variable, Lock, Thread, Body}
 use Rattle.velo_workload.specs.Names.{names_of}
-use Rattle.velo_workload.specs.Tally.{Tally, new_tally, statement_tallied, tally, tally_fault, most_kept, kept, tally_of}
+use Rattle.velo_workload.specs.Nesting.{NestingState, new_nesting, nesting_after, nesting_of_lines, nesting_fault, most_kept, kept, nesting_of}
 use Rattle.velo_workload.specs.Outline.{AreFew, Known, variables, locks, threads, labels, statements, fault_from, first_fault}
 
 -- the names and labels so far, how many statements there were, and the body that is read
@@ -16,22 +16,22 @@ pub record Kept : Type 0 where
   pub threads : List Word
   pub labels : List Word
   pub statements : ℕ
-  pub body : Tally
+  pub body : NestingState
 
 abbrev pub kept_of : Outline → Kept
-kept_of o = record { variables = names_of o.variables; locks = names_of o.locks; threads = names_of o.threads; labels = names_of o.labels; statements = o.statements; body = tally_of o.body }
+kept_of o = record { variables = names_of o.variables; locks = names_of o.locks; threads = names_of o.threads; labels = names_of o.labels; statements = o.statements; body = nesting_of o.body }
 
 -- what is known by it
 abbrev pub known_by : Kept → Known
-known_by k = record { variables = k.variables; locks = k.locks; threads = k.threads; labels = k.labels; statements = k.statements; depth = length k.body.open_repeats; body_end = tally_fault k.body }
+known_by k = record { variables = k.variables; locks = k.locks; threads = k.threads; labels = k.labels; statements = k.statements; depth = length k.body.open_repeats; body_end = nesting_fault k.body }
 
 abbrev pub known_of : Outline → Known
 known_of o = known_by (kept_of o)
 
-abbrev pub statement_kept : Tally → ℕ → Spoken → Tally
+abbrev pub statement_kept : NestingState → ℕ → Spoken → NestingState
 statement_kept b n (Repeat times) =
     record b { open_repeats = b.open_repeats ++ record { line = n; outside = b.rounds } ∷ []; rounds = min (b.rounds * times) most_kept; cost = min (b.cost + (b.rounds + min (b.rounds * times) most_kept)) most_kept }
-statement_kept b n Done = statement_tallied b n Done
+statement_kept b n Done = nesting_after b n Done
 statement_kept b n s = record b { cost = min (b.cost + b.rounds) most_kept }
 
 abbrev pub labelled : List Word → Spoken → List Word
@@ -42,13 +42,13 @@ labelled ls s = ls
 abbrev pub with_line : Kept → Phrase → ℕ → Kept
 with_line k (Variable name) n = record k { variables = k.variables ++ name ∷ [] }
 with_line k (Lock name) n = record k { locks = k.locks ++ name ∷ [] }
-with_line k (Thread name) n = record k { threads = k.threads ++ name ∷ []; body = new_tally n }
+with_line k (Thread name) n = record k { threads = k.threads ++ name ∷ []; body = new_nesting n }
 with_line k (Body s) n = record k { labels = labelled k.labels s; statements = k.statements + 1; body = statement_kept k.body n s }
 with_line k p n = k
 
 -- what would be kept of these lines without a most
 abbrev pub whole : List Phrase → Kept
-whole ps = record { variables = variables ps; locks = locks ps; threads = threads ps; labels = labels ps; statements = length (statements ps); body = tally ps }
+whole ps = record { variables = variables ps; locks = locks ps; threads = threads ps; labels = labels ps; statements = length (statements ps); body = nesting_of_lines ps }
 
 abbrev pub up_to_most : Kept → Kept
 up_to_most k = record k { body = kept k.body }

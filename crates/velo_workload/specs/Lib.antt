@@ -2,7 +2,7 @@ pub mod Words
 pub mod Phrase
 pub mod Names
 pub mod Outline
-pub mod Tally
+pub mod Nesting
 pub mod Known
 pub mod Program
 pub mod Sketch

@@ -85,56 +85,56 @@ argument_of v = Name
 -- ---- what the words of a line say
 
 -- a line that is no statement
-abbrev pub bad : Verb → Phrase
-bad verb.Thread = BadThread
-bad v = Bad
+abbrev pub bad_phrase : Verb → Phrase
+bad_phrase verb.Thread = BadThread
+bad_phrase v = Bad
 
-abbrev pub alone : Verb → Phrase
-alone verb.End = Body End
-alone verb.Done = Body Done
-alone v = bad v
+abbrev pub phrase_of_one_word : Verb → Phrase
+phrase_of_one_word verb.End = Body End
+phrase_of_one_word verb.Done = Body Done
+phrase_of_one_word v = bad_phrase v
 
-abbrev pub named : Verb → Word → Phrase
-named verb.Variable name = Variable name
-named verb.Lock name = Lock name
-named verb.Thread name = Thread name
-named verb.Read name = Body (Read name)
-named verb.Write name = Body (Write name)
-named verb.Acquire name = Body (Acquire name)
-named verb.Release name = Body (Release name)
-named verb.Begin name = Body (Begin name)
-named verb.Fork name = Body (Fork name)
-named verb.Join name = Body (Join name)
-named v name = Bad
+abbrev pub phrase_with_name : Verb → Word → Phrase
+phrase_with_name verb.Variable name = Variable name
+phrase_with_name verb.Lock name = Lock name
+phrase_with_name verb.Thread name = Thread name
+phrase_with_name verb.Read name = Body (Read name)
+phrase_with_name verb.Write name = Body (Write name)
+phrase_with_name verb.Acquire name = Body (Acquire name)
+phrase_with_name verb.Release name = Body (Release name)
+phrase_with_name verb.Begin name = Body (Begin name)
+phrase_with_name verb.Fork name = Body (Fork name)
+phrase_with_name verb.Join name = Body (Join name)
+phrase_with_name v name = Bad
 
-abbrev pub counted : Verb → ℕ → Phrase
-counted verb.Set n = Body (Set n)
-counted verb.Add n = Body (Add n)
-counted verb.Repeat n = Body (Repeat n)
-counted v n = Bad
+abbrev pub phrase_with_number : Verb → ℕ → Phrase
+phrase_with_number verb.Set n = Body (Set n)
+phrase_with_number verb.Add n = Body (Add n)
+phrase_with_number verb.Repeat n = Body (Repeat n)
+phrase_with_number v n = Bad
 
-abbrev pub counted_or_bad : Verb → Option ℕ → Phrase
-counted_or_bad v (Some n) = counted v n
-counted_or_bad v None = bad v
+abbrev pub phrase_with_number_or_bad : Verb → Option ℕ → Phrase
+phrase_with_number_or_bad v (Some n) = phrase_with_number v n
+phrase_with_number_or_bad v None = bad_phrase v
 
-abbrev pub argued : Verb → Argument → Word → Phrase
-argued v Nothing w = bad v
-argued v Name w = if is_name w then named v w else bad v
-argued v Number w = counted_or_bad v (number_of (2 ^ 64 - 1) w)
+abbrev pub phrase_with_argument : Verb → Argument → Word → Phrase
+phrase_with_argument v Nothing w = bad_phrase v
+phrase_with_argument v Name w = if is_name w then phrase_with_name v w else bad_phrase v
+phrase_with_argument v Number w = phrase_with_number_or_bad v (number_of (2 ^ 64 - 1) w)
 
 abbrev pub phrase_of_words : List Word → Phrase
 phrase_of_words [] = Blank
-phrase_of_words (w ∷ []) = alone (verb_of w)
-phrase_of_words (w ∷ x ∷ []) = argued (verb_of w) (argument_of (verb_of w)) x
-phrase_of_words (w ∷ x ∷ y ∷ zs) = bad (verb_of w)
+phrase_of_words (w ∷ []) = phrase_of_one_word (verb_of w)
+phrase_of_words (w ∷ x ∷ []) = phrase_with_argument (verb_of w) (argument_of (verb_of w)) x
+phrase_of_words (w ∷ x ∷ y ∷ zs) = bad_phrase (verb_of w)
 
 -- the same by the first two words, each empty where it is not there, and whether there are more
 abbrev pub phrase_by : Word → Word → Bool → Phrase
 phrase_by first second more =
     if length first == 0 then Blank
-    else (if more then bad (verb_of first)
-    else (if length second == 0 then alone (verb_of first)
-    else argued (verb_of first) (argument_of (verb_of first)) second))
+    else (if more then bad_phrase (verb_of first)
+    else (if length second == 0 then phrase_of_one_word (verb_of first)
+    else phrase_with_argument (verb_of first) (argument_of (verb_of first)) second))
 
 abbrev pub phrase_of : List ℕ → Phrase
 phrase_of line = phrase_of_words (words line)

@@ -69,18 +69,18 @@ put_at ss i (Some s) = slice_set ss i s
 put_at ss i None = ss
 
 -- each in its place
-abbrev pub settled : Names → List Statement → List Put → List Statement
-settled names ss [] = ss
-settled names ss (l ∷ ls) = settled names (put_at ss l.place (statement_of names l.spoken)) ls
+abbrev pub completed : Names → List Statement → List Put → List Statement
+completed names ss [] = ss
+completed names ss (l ∷ ls) = completed names (put_at ss l.place (statement_of names l.spoken)) ls
 
 abbrev pub unknown_in_sketches : Names → List Sketch → Option WorkFault
 unknown_in_sketches names [] = None
 unknown_in_sketches names (d ∷ ds) = first_of_two (unknown_later names d.later) (unknown_in_sketches names ds)
 
-abbrev pub bodies_settled : Names → List Sketch → List (List Statement)
-bodies_settled names ds = map (λ d. settled names d.statements d.later) ds
+abbrev pub bodies_completed : Names → List Sketch → List (List Statement)
+bodies_completed names ds = map (λ d. completed names d.statements d.later) ds
 
 -- they have what the second pass needs of these lines
 pub record AreSketches (names : Names) (ps : List Phrase) (b : Sketches) : Type 0 where
   pub fault : unknown_in_sketches names (drafted b) ≡ first_unknown names 0 ps
-  pub bodies : unknown_in_sketches names (drafted b) ≡ None → bodies_settled names (drafted b) ≡ body_from names ps ∷ bodies names ps
+  pub bodies : unknown_in_sketches names (drafted b) ≡ None → bodies_completed names (drafted b) ≡ body_from names ps ∷ bodies names ps

@@ -4,9 +4,9 @@ ghost use Rattle.velo_events.specs.Refusals.{GrowthRefused};
 ghost use Rattle.velo_workload.specs.Phrase.{said};
 ghost use Rattle.velo_workload.specs.Outline.{AreFew, names_in, Judges};
 ghost use Rattle.velo_workload.specs.Known.{known_of};
-ghost use Rattle.velo_workload.specs.Sketch.{sketch_of, sketches_of, with_phrase, unknown_in_sketches, bodies_settled};
+ghost use Rattle.velo_workload.specs.Sketch.{sketch_of, sketches_of, with_phrase, unknown_in_sketches, bodies_completed};
 
-use crate::draft::{Draft, settle};
+use crate::draft::{Draft, complete_body};
 use crate::fault::WorkFault;
 use crate::outline::Outline;
 use crate::phrase::Phrase;
@@ -62,19 +62,19 @@ impl<'a> Bodies<'a> {
 }
 
 /// The bodies of drafts, by all names of the text.
-pub fn settle_all(
+pub fn complete_bodies(
     alloc: Global,
     outline: &Outline,
     mut drafts: Vec<Draft>,
 ) -> Result<Vec<Vec<Statement>>, WorkFault>
     requires { AreFew (known_of outline.now) }
     ensures judged { Judges (unknown_in_sketches (names_in (known_of outline.now)) (map sketch_of drafts.entry.items)) result }
-    ensures bodies { IfOk result (λ found. map (λ body. body.items) found.items ≡ bodies_settled (names_in (known_of outline.now)) (map sketch_of drafts.entry.items)) }
+    ensures bodies { IfOk result (λ found. map (λ body. body.items) found.items ≡ bodies_completed (names_in (known_of outline.now)) (map sketch_of drafts.entry.items)) }
 {
     let mut bodies = Vec::new(alloc);
     for place in drafts.iter_mut() {
         let draft = replace(place, Draft::new(alloc));
-        let body = match settle(outline, draft) {
+        let body = match complete_body(outline, draft) {
             Ok(body) => body,
             Err(fault) => return Err(fault),
         };

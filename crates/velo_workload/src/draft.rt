@@ -5,7 +5,7 @@ ghost use Rattle.velo_workload.specs.declared.statement.Statement.TheVariants as
 ghost use Rattle.velo_workload.specs.Phrase.{spoken};
 ghost use Rattle.velo_workload.specs.Outline.{AreFew, names_in, Judges};
 ghost use Rattle.velo_workload.specs.Known.{known_of};
-ghost use Rattle.velo_workload.specs.Sketch.{sketch_of, put_of, with_statement, unknown_later, settled};
+ghost use Rattle.velo_workload.specs.Sketch.{sketch_of, put_of, with_statement, unknown_later, completed};
 
 use crate::fault::WorkFault;
 use crate::outline::Outline;
@@ -92,10 +92,10 @@ fn set(statements: &mut Vec<Statement>, place: usize, statement: Statement)
 }
 
 /// The body of a draft, by all names of the text.
-pub fn settle(outline: &Outline, draft: Draft) -> Result<Vec<Statement>, WorkFault>
+pub fn complete_body(outline: &Outline, draft: Draft) -> Result<Vec<Statement>, WorkFault>
     requires { AreFew (known_of outline.now) }
     ensures judged { Judges (unknown_later (names_in (known_of outline.now)) (sketch_of draft.entry).later) result }
-    ensures body { IfOk result (λ body. body.items ≡ settled (names_in (known_of outline.now)) (sketch_of draft.entry).statements (sketch_of draft.entry).later) }
+    ensures body { IfOk result (λ body. body.items ≡ completed (names_in (known_of outline.now)) (sketch_of draft.entry).statements (sketch_of draft.entry).later) }
 {
     let Draft {
         mut statements,

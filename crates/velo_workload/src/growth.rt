@@ -25,7 +25,7 @@ pub fn insert<'a>(names: &mut IndexSet<&'a str>, name: &'a str) -> Result<bool, 
 }
 
 /// A copy of a text.
-pub fn copied(alloc: Global, text: &str) -> Result<String, Memory>
+pub fn copy_of(alloc: Global, text: &str) -> Result<String, Memory>
     ensures text { IfOk result (λ copy. string_bytes copy ≡ text.now) }
     ensures memory { OnErr result GrowthRefused }
 {

@@ -3,7 +3,7 @@ ghost use Rattle.std.specs.Prelude.{◌≡◌, ◌+◌, ◌-◌, ◌*◌, ◌<�
 ghost use Rattle.std.specs.Option.{option_map_or};
 ghost use Rattle.velo_events.specs.Refusals.{GrowthRefused};
 ghost use Rattle.velo_workload.specs.Outline.{Judges};
-ghost use Rattle.velo_workload.specs.Tally.{last_open, most_kept, tally_fault, tally_of};
+ghost use Rattle.velo_workload.specs.Nesting.{last_open, most_kept, nesting_fault, nesting_of};
 
 use crate::fault::WorkFault;
 use crate::limits::MOST_COST;
@@ -56,7 +56,7 @@ fn kept_product(a: u64, b: u64) -> u64
 impl Nesting {
     /// Before the first body.
     pub fn new(alloc: Global) -> Nesting
-        ensures { tally_of result ≡ record { thread_line = 0; open_repeats = []; rounds = 1; cost = 0 } }
+        ensures { nesting_of result ≡ record { thread_line = 0; open_repeats = []; rounds = 1; cost = 0 } }
     {
         Nesting {
             thread_line: 0,
@@ -68,14 +68,14 @@ impl Nesting {
 
     /// How many repeats are open.
     pub fn depth(&self) -> usize
-        ensures { result ≡ length (tally_of self.now).open_repeats }
+        ensures { result ≡ length (nesting_of self.now).open_repeats }
     {
         self.open.len()
     }
 
     /// Begins the body of the thread of this line.
     pub fn begin(&mut self, line: usize)
-        ensures { tally_of self.new ≡ record { thread_line = line; open_repeats = []; rounds = 1; cost = 0 } }
+        ensures { nesting_of self.new ≡ record { thread_line = line; open_repeats = []; rounds = 1; cost = 0 } }
     {
         self.thread_line = line;
         self.open.clear();
@@ -84,11 +84,11 @@ impl Nesting {
     }
 
     /// Opens a repeat of this line.
-    pub fn repeat(&mut self, times: u64, line: usize) -> Result<(), Memory>
-        ensures thread_line { OnOk result ((tally_of self.new).thread_line ≡ (tally_of self.old).thread_line) }
-        ensures open { OnOk result ((tally_of self.new).open_repeats ≡ (tally_of self.old).open_repeats ++ record { line = line; outside = (tally_of self.old).rounds } ∷ []) }
-        ensures rounds { OnOk result ((tally_of self.new).rounds ≡ min ((tally_of self.old).rounds * times) most_kept) }
-        ensures cost { OnOk result ((tally_of self.new).cost ≡ min ((tally_of self.old).cost + ((tally_of self.old).rounds + min ((tally_of self.old).rounds * times) most_kept)) most_kept) }
+    pub fn open_repeat(&mut self, times: u64, line: usize) -> Result<(), Memory>
+        ensures thread_line { OnOk result ((nesting_of self.new).thread_line ≡ (nesting_of self.old).thread_line) }
+        ensures open { OnOk result ((nesting_of self.new).open_repeats ≡ (nesting_of self.old).open_repeats ++ record { line = line; outside = (nesting_of self.old).rounds } ∷ []) }
+        ensures rounds { OnOk result ((nesting_of self.new).rounds ≡ min ((nesting_of self.old).rounds * times) most_kept) }
+        ensures cost { OnOk result ((nesting_of self.new).cost ≡ min ((nesting_of self.old).cost + ((nesting_of self.old).rounds + min ((nesting_of self.old).rounds * times) most_kept)) most_kept) }
         ensures memory { OnErr result GrowthRefused }
     {
         reserve(&mut self.open, 1)?;
@@ -104,11 +104,11 @@ impl Nesting {
     }
 
     /// Closes the last open repeat.
-    pub fn done(&mut self)
-        ensures thread_line { (tally_of self.new).thread_line ≡ (tally_of self.old).thread_line }
-        ensures open { (tally_of self.new).open_repeats ≡ take (length (tally_of self.old).open_repeats - 1) (tally_of self.old).open_repeats }
-        ensures rounds { (tally_of self.new).rounds ≡ option_map_or (λ o. o.outside) (last_open (tally_of self.old).open_repeats) 1 }
-        ensures cost { (tally_of self.new).cost ≡ (tally_of self.old).cost }
+    pub fn close_repeat(&mut self)
+        ensures thread_line { (nesting_of self.new).thread_line ≡ (nesting_of self.old).thread_line }
+        ensures open { (nesting_of self.new).open_repeats ≡ take (length (nesting_of self.old).open_repeats - 1) (nesting_of self.old).open_repeats }
+        ensures rounds { (nesting_of self.new).rounds ≡ option_map_or (λ o. o.outside) (last_open (nesting_of self.old).open_repeats) 1 }
+        ensures cost { (nesting_of self.new).cost ≡ (nesting_of self.old).cost }
     {
         self.rounds = match self.open.last() {
             Some(open) => open.outside,
@@ -118,18 +118,18 @@ impl Nesting {
     }
 
     /// Takes in a statement of cost 1.
-    pub fn count(&mut self)
-        ensures thread_line { (tally_of self.new).thread_line ≡ (tally_of self.old).thread_line }
-        ensures open { (tally_of self.new).open_repeats ≡ (tally_of self.old).open_repeats }
-        ensures rounds { (tally_of self.new).rounds ≡ (tally_of self.old).rounds }
-        ensures cost { (tally_of self.new).cost ≡ min ((tally_of self.old).cost + (tally_of self.old).rounds) most_kept }
+    pub fn count_statement(&mut self)
+        ensures thread_line { (nesting_of self.new).thread_line ≡ (nesting_of self.old).thread_line }
+        ensures open { (nesting_of self.new).open_repeats ≡ (nesting_of self.old).open_repeats }
+        ensures rounds { (nesting_of self.new).rounds ≡ (nesting_of self.old).rounds }
+        ensures cost { (nesting_of self.new).cost ≡ min ((nesting_of self.old).cost + (nesting_of self.old).rounds) most_kept }
     {
         self.cost = kept_sum(self.cost, self.rounds);
     }
 
     /// The fault of a body that ends here.
     pub fn end(&self) -> Result<(), WorkFault>
-        ensures { Judges (tally_fault (tally_of self.now)) result }
+        ensures { Judges (nesting_fault (nesting_of self.now)) result }
     {
         if let Some(open) = self.open.last() {
             return Err(WorkFault::Unmatched(open.line));

@@ -64,13 +64,13 @@ impl<'a> Outline<'a> {
         ensures memory { OnErr result GrowthRefused }
     {
         match statement {
-            Spoken::Repeat(times) => self.body.repeat(times, line)?,
-            Spoken::Done => self.body.done(),
+            Spoken::Repeat(times) => self.body.open_repeat(times, line)?,
+            Spoken::Done => self.body.close_repeat(),
             Spoken::Begin(label) => {
                 let _ = insert(&mut self.labels, label)?;
-                self.body.count();
+                self.body.count_statement();
             }
-            _ => self.body.count(),
+            _ => self.body.count_statement(),
         }
         self.statements += 1;
         Ok(())

@@ -2,7 +2,7 @@
 ghost use Rattle.std.specs.Prelude.{◌≡◌, ◌<◌, ◌∷◌, length, IfSome, option_copied};
 ghost use Rattle.std.specs.List.{before_first};
 ghost use Rattle.std.specs.Str.{bytes_eq};
-ghost use Rattle.velo_workload.specs.Phrase.{said, verb_of, block_verb, order_verb, declaring_verb, argument_of, bad, alone, named, counted, argued, phrase_by, phrase_of};
+ghost use Rattle.velo_workload.specs.Phrase.{said, verb_of, block_verb, order_verb, declaring_verb, argument_of, bad_phrase, phrase_of_one_word, phrase_with_name, phrase_with_number, phrase_with_argument, phrase_by, phrase_of};
 ghost use Rattle.velo_workload.specs.Known.{lines_left};
 ghost use Rattle.velo_workload.specs.Words.{lines, is_newline};
 
@@ -74,7 +74,7 @@ pub enum Phrase<'a> {
 
 /// Whether two words are the same.
 #[inline(always)]
-fn is(word: &[u8], other: &[u8]) -> bool
+fn is_same_word(word: &[u8], other: &[u8]) -> bool
     ensures { result ≡ bytes_eq word.now other.now }
 {
     word == other
@@ -83,16 +83,16 @@ fn is(word: &[u8], other: &[u8]) -> bool
 /// A declaration.
 #[inline(always)]
 #[tactic(auto, unfolding(crate::specs::Phrase::declaring_verb))]
-fn declaration(word: &[u8]) -> Verb
+fn declaring_verb(word: &[u8]) -> Verb
     ensures { result ≡ declaring_verb word.now }
 {
-    if is(word, b"var") {
+    if is_same_word(word, b"var") {
         return Verb::Variable;
     }
-    if is(word, b"lock") {
+    if is_same_word(word, b"lock") {
         return Verb::Lock;
     }
-    if is(word, b"thread") {
+    if is_same_word(word, b"thread") {
         return Verb::Thread;
     }
     Verb::Unknown
@@ -101,43 +101,43 @@ fn declaration(word: &[u8]) -> Verb
 /// A fork, a join or a repeat's end, or one of the above.
 #[inline(always)]
 #[tactic(auto, unfolding(crate::specs::Phrase::order_verb))]
-fn order(word: &[u8]) -> Verb
+fn order_verb(word: &[u8]) -> Verb
     ensures { result ≡ order_verb word.now }
 {
-    if is(word, b"fork") {
+    if is_same_word(word, b"fork") {
         return Verb::Fork;
     }
-    if is(word, b"join") {
+    if is_same_word(word, b"join") {
         return Verb::Join;
     }
-    if is(word, b"repeat") {
+    if is_same_word(word, b"repeat") {
         return Verb::Repeat;
     }
-    if is(word, b"done") {
+    if is_same_word(word, b"done") {
         return Verb::Done;
     }
-    declaration(word)
+    declaring_verb(word)
 }
 
 /// A change of the register or a block's end, or one of the above.
 #[inline(always)]
 #[tactic(auto, unfolding(crate::specs::Phrase::block_verb))]
-fn block(word: &[u8]) -> Verb
+fn block_verb(word: &[u8]) -> Verb
     ensures { result ≡ block_verb word.now }
 {
-    if is(word, b"set") {
+    if is_same_word(word, b"set") {
         return Verb::Set;
     }
-    if is(word, b"add") {
+    if is_same_word(word, b"add") {
         return Verb::Add;
     }
-    if is(word, b"begin") {
+    if is_same_word(word, b"begin") {
         return Verb::Begin;
     }
-    if is(word, b"end") {
+    if is_same_word(word, b"end") {
         return Verb::End;
     }
-    order(word)
+    order_verb(word)
 }
 
 /// What the first word of a line says. What most lines say is looked for first.
@@ -145,19 +145,19 @@ fn block(word: &[u8]) -> Verb
 fn read_verb(word: &[u8]) -> Verb
     ensures { result ≡ verb_of word.now }
 {
-    if is(word, b"read") {
+    if is_same_word(word, b"read") {
         return Verb::Read;
     }
-    if is(word, b"write") {
+    if is_same_word(word, b"write") {
         return Verb::Write;
     }
-    if is(word, b"acquire") {
+    if is_same_word(word, b"acquire") {
         return Verb::Acquire;
     }
-    if is(word, b"release") {
+    if is_same_word(word, b"release") {
         return Verb::Release;
     }
-    block(word)
+    block_verb(word)
 }
 
 /// What has to follow.
@@ -172,8 +172,8 @@ fn argument_after(verb: Verb) -> Argument
 }
 
 /// A line that is no statement.
-fn bad(verb: Verb) -> Phrase<'static>
-    ensures { said result ≡ bad verb }
+fn bad_phrase(verb: Verb) -> Phrase<'static>
+    ensures { said result ≡ bad_phrase verb }
 {
     match verb {
         Verb::Thread => Phrase::BadThread,
@@ -182,19 +182,19 @@ fn bad(verb: Verb) -> Phrase<'static>
 }
 
 /// A line of one word.
-fn alone(verb: Verb) -> Phrase<'static>
-    ensures { said result ≡ alone verb }
+fn phrase_of_one_word(verb: Verb) -> Phrase<'static>
+    ensures { said result ≡ phrase_of_one_word verb }
 {
     match verb {
         Verb::End => Phrase::Body(Spoken::End),
         Verb::Done => Phrase::Body(Spoken::Done),
-        _ => bad(verb),
+        _ => bad_phrase(verb),
     }
 }
 
 /// A word with a name behind it.
-fn named<'a>(verb: Verb, name: &'a str) -> Phrase<'a>
-    ensures { said result ≡ named verb name.now }
+fn phrase_with_name<'a>(verb: Verb, name: &'a str) -> Phrase<'a>
+    ensures { said result ≡ phrase_with_name verb name.now }
 {
     match verb {
         Verb::Variable => Phrase::Variable(name),
@@ -212,8 +212,8 @@ fn named<'a>(verb: Verb, name: &'a str) -> Phrase<'a>
 }
 
 /// A word with a number behind it.
-fn counted(verb: Verb, n: u64) -> Phrase<'static>
-    ensures { said result ≡ counted verb n }
+fn phrase_with_number(verb: Verb, n: u64) -> Phrase<'static>
+    ensures { said result ≡ phrase_with_number verb n }
 {
     match verb {
         Verb::Set => Phrase::Body(Spoken::Set(n)),
@@ -224,18 +224,18 @@ fn counted(verb: Verb, n: u64) -> Phrase<'static>
 }
 
 /// A line of two words.
-fn argued<'a>(verb: Verb, word: &'a [u8]) -> Phrase<'a>
-    ensures { said result ≡ argued verb (argument_of verb) word.now }
+fn phrase_with_argument<'a>(verb: Verb, word: &'a [u8]) -> Phrase<'a>
+    ensures { said result ≡ phrase_with_argument verb (argument_of verb) word.now }
 {
     match argument_after(verb) {
-        Argument::Nothing => bad(verb),
+        Argument::Nothing => bad_phrase(verb),
         Argument::Name => match name(word) {
-            Some(name) => named(verb, name),
-            None => bad(verb),
+            Some(name) => phrase_with_name(verb, name),
+            None => bad_phrase(verb),
         },
         Argument::Number => match number(word, u64::MAX) {
-            Some(n) => counted(verb, n),
-            None => bad(verb),
+            Some(n) => phrase_with_number(verb, n),
+            None => bad_phrase(verb),
         },
     }
 }
@@ -250,12 +250,12 @@ fn read_phrase(words: Words<'_>) -> Phrase<'_>
     }
     let verb = read_verb(words.first);
     if words.more {
-        return bad(verb);
+        return bad_phrase(verb);
     }
     if words.second.is_empty() {
-        return alone(verb);
+        return phrase_of_one_word(verb);
     }
-    argued(verb, words.second)
+    phrase_with_argument(verb, words.second)
 }
 
 /// What the first line says, and what follows its newline, if it has one.

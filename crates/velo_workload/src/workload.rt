@@ -8,13 +8,13 @@ ghost use Rattle.velo_workload.specs.Bodies.{AreBodies};
 ghost use Rattle.velo_workload.specs.Outline.{AreFew, Judges, names_in};
 ghost use Rattle.velo_workload.specs.Known.{known_of, kept_of, whole};
 ghost use Rattle.velo_workload.specs.Program.{Program, meaning_of, Answers};
-ghost use Rattle.velo_workload.specs.Sketch.{sketches_of, drafted, unknown_in_sketches, bodies_settled};
+ghost use Rattle.velo_workload.specs.Sketch.{sketches_of, drafted, unknown_in_sketches, bodies_completed};
 ghost use Rattle.velo_events.specs.declared.limits.TheConstants.{MOST_THREADS, MOST_LOCKS};
 ghost use Rattle.velo_workload.specs.declared.limits.TheConstants.{MOST_WORKLOAD_BYTES};
 
-use crate::bodies::{Bodies, settle_all};
+use crate::bodies::{Bodies, complete_bodies};
 use crate::fault::WorkFault;
-use crate::growth::copied;
+use crate::growth::copy_of;
 use crate::limits::MOST_WORKLOAD_BYTES;
 use crate::names::count;
 use crate::outline::Outline;
@@ -90,7 +90,7 @@ fn copies(alloc: Global, names: &[&str]) -> Result<Vec<String>, Memory>
 {
     let mut copies = Vec::new(alloc);
     for name in names {
-        let copy = copied(alloc, *name)?;
+        let copy = copy_of(alloc, *name)?;
         reserve(&mut copies, 1)?;
         copies.push_reserved(copy);
     }
@@ -133,11 +133,11 @@ fn bodies_of(
 ) -> Result<Vec<Vec<Statement>>, WorkFault>
     requires { AreFew (known_of outline.now) }
     ensures judged { Judges (unknown_in_sketches (names_in (known_of outline.now)) (drafted (sketches_of bodies.old))) result }
-    ensures bodies { IfOk result (λ found. map (λ body. body.items) found.items ≡ drop 1 (bodies_settled (names_in (known_of outline.now)) (drafted (sketches_of bodies.old)))) }
+    ensures bodies { IfOk result (λ found. map (λ body. body.items) found.items ≡ drop 1 (bodies_completed (names_in (known_of outline.now)) (drafted (sketches_of bodies.old)))) }
 {
     bodies.finish()?;
     let drafts = replace(&mut bodies.whole, Vec::new(alloc));
-    let mut found = settle_all(alloc, outline, drafts)?;
+    let mut found = complete_bodies(alloc, outline, drafts)?;
     let _before_threads = found.remove(0);
     Ok(found)
 }

@@ -55,7 +55,7 @@ impl World {
         let Ok(mut relived) = Relived::new(alloc, &config) else {
             return Err(ReliveFault::Memory);
         };
-        match relived.follow(&config, log.as_slice()) {
+        match relived.relive_events(&config, log.as_slice()) {
             Ok(()) => Ok(relived.into_world(alloc, config, log)),
             Err(fault) => {
                 drop((relived, log));
@@ -89,21 +89,21 @@ impl Relived {
     }
 
     /// Lets all events of a log come about.
-    fn follow(&mut self, config: &Config, events: &[Event]) -> Result<(), ReliveFault>
+    fn relive_events(&mut self, config: &Config, events: &[Event]) -> Result<(), ReliveFault>
         requires goes_on { config.now.stop ≡ false }
         requires start { IsReliveOf config.now self.old [] }
         ensures ok { OnOk result (IsReliveOf config.now self.new events.now) }
         ensures fault { IfErr result (λ fault. IsFaultOfLog config.now events.now fault) }
     {
         for position in 0..events.len() {
-            self.follow_next(config, events, position)?;
+            self.relive_next(config, events, position)?;
         }
         Ok(())
     }
 
     /// Lets the event at the position come about, where those before it did.
     #[inline(always)]
-    fn follow_next(
+    fn relive_next(
         &mut self,
         config: &Config,
         events: &[Event],

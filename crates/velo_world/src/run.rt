@@ -182,7 +182,7 @@ impl Run {
         }
         match self.monitor.observe(position, event) {
             Seen::Quiet => self.clocks.note(position, event),
-            Seen::Closes { transaction } => self.raise(events, position, event, transaction),
+            Seen::Closes { transaction } => self.raise_alarm(events, position, event, transaction),
         }
     }
 
@@ -208,14 +208,19 @@ impl Run {
         }
         match self.monitor.observe(position, event) {
             Seen::Quiet => Ok(()),
-            Seen::Closes { transaction } => self.raise_late(events, position, event, transaction),
+            Seen::Closes { transaction } => self.raise_alarm_late(
+                events,
+                position,
+                event,
+                transaction,
+            ),
         }
     }
 
     /// Raises the alarm of the event at the position, which closes the first cycle, once the clocks noted all before it. It
     /// stands out of line: an event that raises none does not pay for it.
     #[inline(never)]
-    fn raise_late(
+    fn raise_alarm_late(
         &mut self,
         events: &[Event],
         position: usize,
@@ -237,14 +242,14 @@ impl Run {
         ensures memory { OnErr result GrowthRefused }
     {
         self.clocks.catch_up(&events[..position])?;
-        self.raise(events, position, event, transaction);
+        self.raise_alarm(events, position, event, transaction);
         Ok(())
     }
 
     /// Raises the alarm of the event at the position, which closes the first cycle. It stands out of line: an event that
     /// raises none does not pay for the list of blocks.
     #[inline(never)]
-    fn raise(&mut self, events: &[Event], position: usize, event: &Event, transaction: usize)
+    fn raise_alarm(&mut self, events: &[Event], position: usize, event: &Event, transaction: usize)
         requires here { slice_get events.now position ≡ Some event.now }
         requires clocks { AreClocksOf self.old.clocks.clocks.state (take position events.now) }
         requires well_formed { IsWellFormed self.old.clocks.clocks.bounds (take position events.now ++ event.now ∷ []) }

@@ -82,7 +82,13 @@ fn new_world(rt: &impl Abort, alloc: Global, config: Config) -> (World, Share)
 }
 
 /// A world of so many threads, one variable and one lock, with thread 0's share at its place.
-fn opened(rt: &impl Abort, alloc: Global, threads: u8, nodes: u16, stop: bool) -> (World, Shares)
+fn open_world(
+    rt: &impl Abort,
+    alloc: Global,
+    threads: u8,
+    nodes: u16,
+    stop: bool,
+) -> (World, Shares)
     ensures { HoldsLiveShares result.0 result.1 }
 {
     let bounds = Bounds {
@@ -105,7 +111,7 @@ struct Played {
 }
 
 /// What a world shows in which steps came to these outcomes.
-fn shown(world: &World, outcomes: Vec<Outcome>) -> Played {
+fn played_in(world: &World, outcomes: Vec<Outcome>) -> Played {
     Played {
         outcomes,
         is_the_alarm: is_the_alarm(world.alarm()),
@@ -116,9 +122,9 @@ fn shown(world: &World, outcomes: Vec<Outcome>) -> Played {
 
 /// Does the steps in a world of two threads.
 fn play(rt: &impl Abort, alloc: Global, nodes: u16, stop: bool, steps: &[Step]) -> Played {
-    let (mut world, mut shares) = opened(rt, alloc, 2, nodes, stop);
+    let (mut world, mut shares) = open_world(rt, alloc, 2, nodes, stop);
     let outcomes = world.run(&mut shares, steps).expect(rt, "memory");
-    let played = shown(&world, outcomes);
+    let played = played_in(&world, outcomes);
     drop((world, shares));
     played
 }
@@ -132,16 +138,16 @@ fn replied(position: usize, value: Option<u64>, alarmed: bool) -> Outcome {
 }
 
 /// The outcome of an action that reads nothing, before an alarm.
-fn done(position: usize) -> Outcome {
+fn reply_without_value(position: usize) -> Outcome {
     replied(position, None, false)
 }
 
 /// The 33rd begin is one too deep.
 fn nested_outcome(place: usize) -> Outcome {
     match place {
-        0..32 => done(place),
+        0..32 => reply_without_value(place),
         32 => Err(Refusal::TooDeep),
-        _ => done(place - 1),
+        _ => reply_without_value(place - 1),
     }
 }
 
@@ -172,7 +178,7 @@ fn refused_at_the_third_step(rt: HostRuntime) {
             (thread, action),
         ];
         let played = play(&rt, rt.alloc(), 1, false, &steps);
-        let wanted = [done(0), done(1), Err(refusal)];
+        let wanted = [reply_without_value(0), reply_without_value(1), Err(refusal)];
         assert_eq!(rt; played.outcomes.as_slice(), wanted.as_slice());
     }
 }
@@ -181,7 +187,7 @@ fn refused_at_the_third_step(rt: HostRuntime) {
 fn lost_update_outcome(place: usize, rest: Outcome) -> Outcome {
     match place {
         2 => replied(2, Some(0), false),
-        0..4 => done(place),
+        0..4 => reply_without_value(place),
         4 => replied(4, None, true),
         _ => rest,
     }
@@ -223,12 +229,12 @@ fn a_full_graph_refuses_a_block(rt: HostRuntime) {
     ];
     let played = play(&rt, rt.alloc(), 1, false, &steps);
     let wanted = [
-        done(0),
-        done(1),
+        reply_without_value(0),
+        reply_without_value(1),
         Err(Refusal::GraphFull),
-        done(2),
-        done(3),
-        done(4),
+        reply_without_value(2),
+        reply_without_value(3),
+        reply_without_value(4),
     ];
     assert_eq!(rt; played.outcomes.as_slice(), wanted.as_slice());
     assert_eq!(rt; played.used, 1);
@@ -247,7 +253,7 @@ const RECORDED: [(ThreadId, Kind); 8] = [
 ];
 
 /// The recorded events, the one at the place changed.
-fn recorded(rt: &impl Abort, alloc: Global, place: usize, kind: Kind) -> Trace {
+fn log_changed_at(rt: &impl Abort, alloc: Global, place: usize, kind: Kind) -> Trace {
     let mut log = Trace::new(alloc);
     for (i, (thread, recorded)) in RECORDED.into_iter().enumerate() {
         let kind = if i == place { kind } else { recorded };
@@ -274,7 +280,7 @@ fn two_threads(rt: &impl Abort, events: u32, nodes: u16) -> Config
 }
 
 /// Relives the recorded events, the one at the place changed, and answers whether the world has the alarm and the whole log.
-fn relived(
+fn relive_changed_at(
     rt: &impl Abort,
     alloc: Global,
     events: u32,
@@ -283,7 +289,7 @@ fn relived(
     kind: Kind,
 ) -> Result<bool, ReliveFault> {
     let config = two_threads(rt, events, nodes);
-    match World::relive(alloc, config, recorded(rt, alloc, place, kind)) {
+    match World::relive(alloc, config, log_changed_at(rt, alloc, place, kind)) {
         Ok(relived) => {
             let has_it_all = has_it_all(&relived.0);
             drop(relived);
@@ -348,7 +354,7 @@ const RELIVED: [(u32, u16, usize, Kind, Result<bool, ReliveFault>); 8] = [
 fn a_recorded_log_is_relived(rt: HostRuntime) {
     for (events, nodes, place, kind, wanted) in RELIVED {
         assert_eq!(rt;
-            relived(&rt, rt.alloc(), events, nodes, place, kind),
+            relive_changed_at(&rt, rt.alloc(), events, nodes, place, kind),
             wanted
         );
     }
@@ -381,7 +387,7 @@ fn threads_go_on_after_a_recorded_log(rt: HostRuntime) {
 
 #[test]
 fn a_share_is_missing(rt: HostRuntime) {
-    let (world, shares) = opened(&rt, rt.alloc(), 2, 1, false);
+    let (world, shares) = open_world(&rt, rt.alloc(), 2, 1, false);
     let none = Shares::none(rt.alloc(), 2).expect(&rt, "memory");
     match world.close(none) {
         Ok(_) => panic!(rt; "closed without a share"),
@@ -414,7 +420,7 @@ fn forks_and_reads(world: &mut World, main: &mut Share) -> Outcome
 
 #[test]
 fn a_share_acts_again(rt: HostRuntime) {
-    let (mut world, mut shares) = opened(&rt, rt.alloc(), 2, 1, false);
+    let (mut world, mut shares) = open_world(&rt, rt.alloc(), 2, 1, false);
     let mut main = shares.take(MAIN).expect(&rt, "no share");
     assert!(rt; world.fits(&main));
     assert_eq!(rt;

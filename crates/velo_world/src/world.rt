@@ -167,7 +167,7 @@ impl World {
         let mut outcomes: Vec<Result<Reply, Refusal>> = Vec::new(self.alloc);
         reserve(&mut outcomes, steps.len())?;
         for (thread, action) in steps {
-            outcomes.push_reserved(self.step(shares, *thread, *action));
+            outcomes.push_reserved(self.act_as(shares, *thread, *action));
         }
         Ok(outcomes)
     }
@@ -176,7 +176,7 @@ impl World {
     ///
     /// # Errors
     /// The first refusal that applies, as for `act`. Nothing changes then, the shares neither.
-    pub fn step(
+    pub fn act_as(
         &mut self,
         shares: &mut Shares,
         thread: ThreadId,

@@ -21,7 +21,7 @@ use Rattle.velodrome.specs.declared.check.Verdict.{Verdict}
 use Rattle.velodrome.specs.declared.check.Verdict.TheVariants as verdict
 use Rattle.velodrome.specs.declared.check.CheckFault.{CheckFault}
 use Rattle.velodrome.specs.declared.check.CheckFault.TheVariants.{Log, Refused, WrongValue, Write, Memory}
-use Rattle.velodrome.specs.Check.{IsInput, IsReported, IsVerdict, IsEvidence, IsOutput, AppendsOutput, AppendsPartOfOutput, Checks, Reports, Shows, read_failures}
+use Rattle.velodrome.specs.Check.{IsInput, IsReported, IsVerdict, IsOrderOrCycle, IsOutput, AppendsOutput, AppendsPartOfOutput, Checks, Reports, Shows, read_failures}
 use Rattle.velo_report.specs.declared.names.Names.{Names}
 use Rattle.velo_report.specs.declared.names.Names.TheVariants.{Numbers}
 use Rattle.velo_report.specs.Lines.{numbers_line}
@@ -109,22 +109,22 @@ Shows-report names w old new (Err (Log fault)) reports = absurd reports
 Shows-report names w old new (Err (Refused p refusal)) reports = absurd reports
 Shows-report names w old new (Err (WrongValue p)) reports = absurd reports
 
--- evidence has lines
-lines_exist : (log : List Event) (list : List ℕ) → IsEvidence log list → (lines : List ℕ) × IsCertificate log list lines
+-- an order or a cycle has lines
+lines_exist : (log : List Event) (list : List ℕ) → IsOrderOrCycle log list → (lines : List ℕ) × IsCertificate log list lines
 lines_exist log list (inl w) = (serial_lines log list, IsCertificate-order log list w.no_cycle)
 lines_exist log list (inr w) = (numbers_line (codes "cycle") list, IsCertificate-cycle log list (HasCycle-from_closing log w.position w.closing))
 
--- evidence certifies
-pub Certifies-evidence : (log : List Event) (list : List ℕ) → IsEvidence log list → Certifies log list
-Certifies-evidence log list (inl w) = inl (record { no_cycle = w.no_cycle; reorders = w.serial.reorders; serial = w.serial.serial })
-Certifies-evidence log list (inr w) = inr (record { position = w.position; closing = w.closing; is_cycle = w.shortest.is_cycle })
+-- it certifies
+pub Certifies-order_or_cycle : (log : List Event) (list : List ℕ) → IsOrderOrCycle log list → Certifies log list
+Certifies-order_or_cycle log list (inl w) = inl (record { no_cycle = w.no_cycle; reorders = w.serial.reorders; serial = w.serial.serial })
+Certifies-order_or_cycle log list (inr w) = inr (record { position = w.position; closing = w.closing; is_cycle = w.shortest.is_cycle })
 
-module _ (names : Names) (w : WorldState) (list : List ℕ) (evidence : IsEvidence w.log list) where
+module _ (names : Names) (w : WorldState) (list : List ℕ) (certifies : IsOrderOrCycle w.log list) where
   abbrev threads : ℕ
   threads = w.config.bounds.threads
 
   output : (report lines : List ℕ) → IsReport names threads w.log report → IsCertificate w.log list lines → IsOutput names true threads w.log (report ++ lines)
-  output report lines is certified = record { report = report; is_report = is; lines = lines; certified = (list, evidence, certified); whole = refl }
+  output report lines is certified = record { report = report; is_report = is; lines = lines; certified = (list, certifies, certified); whole = refl }
 
   -- both went out
   pub certified_whole : (a b c : Option (List ℕ)) → AppendsReport a b names threads w.log → AppendsCertificate b c w.log list → AppendsOutput a c names true threads w.log
@@ -141,7 +141,7 @@ module _ (names : Names) (w : WorldState) (list : List ℕ) (evidence : IsEviden
   -- a beginning of the report did
   report_part : (a b : Option (List ℕ)) → AppendsPartOfReport a b names threads w.log → AppendsPartOfOutput a b names true threads w.log
   report_part a b r =
-      let l = lines_exist w.log list evidence in
+      let l = lines_exist w.log list certifies in
       record {
         text = r.text ++ l.0;
         is_output = output r.text l.0 r.is_report l.1;
@@ -155,7 +155,7 @@ module _ (names : Names) (w : WorldState) (list : List ℕ) (evidence : IsEviden
   Shows-failed a b (Refused p refusal) reports = reports
   Shows-failed a b (WrongValue p) reports = reports
 
--- ---- the evidence
+-- ---- the order or the cycle
 
 -- at the first closing event a cycle passes the transaction
 pub closing_cycle : (log : List Event) (p : ℕ) → IsClosing log p → HasNoCycleAt log p → ⊥

@@ -30,7 +30,7 @@ use Rattle.velo_report.specs.Report.{IsReport, AppendsReport, AppendsPartOfRepor
 abbrev pub IsInput : Option (List ℕ) → Bounds → List Event → Type 0
 IsInput read bounds trace = IfSome read (λ bytes. IsLogText bytes bounds trace)
 
--- ---- the evidence for a verdict
+-- ---- the order or the cycle that certifies a verdict
 
 -- a log without a cycle, and its serial order
 pub record HasOrder (log : List Event) (order : List ℕ) : Type 0 where
@@ -43,12 +43,12 @@ pub record HasShortestCycle (log : List Event) (cycle : List ℕ) : Type 0 where
   pub closing : IsClosing log position
   pub shortest : IsShortestCycleAt log position cycle
 
-abbrev pub IsEvidence : List Event → List ℕ → Type 0
-IsEvidence log list = HasOrder log list ⊎ HasShortestCycle log list
+abbrev pub IsOrderOrCycle : List Event → List ℕ → Type 0
+IsOrderOrCycle log list = HasOrder log list ⊎ HasShortestCycle log list
 
 -- where a certificate is asked for, its lines; else nothing
 abbrev pub IsCertified : Bool → List Event → List ℕ → Type 0
-IsCertified true log text = (list : List ℕ) × IsEvidence log list × IsCertificate log list text
+IsCertified true log text = (list : List ℕ) × IsOrderOrCycle log list × IsCertificate log list text
 IsCertified false log text = text ≡ []
 
 -- ---- what is written

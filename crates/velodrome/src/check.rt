@@ -8,7 +8,7 @@ ghost use Rattle.velo_events.specs.declared.limits.TheConstants.{MOST_EVENTS, MO
 ghost use Rattle.velo_logtext.specs.Text.{AreBounds};
 ghost use Rattle.velo_report.specs.declared.names.Names.TheVariants.{Numbers};
 ghost use Rattle.velo_world.specs.Faults.{world_of};
-ghost use Rattle.velodrome.specs.Check.{Checks, IsEvidence, IsVerdict, Reports, Shows, read_failures, write_failures};
+ghost use Rattle.velodrome.specs.Check.{Checks, IsOrderOrCycle, IsVerdict, Reports, Shows, read_failures, write_failures};
 ghost use Rattle.velodrome.specs.Faults.{check_fault_of, IsFaultOfLog};
 
 use std::alloc::Global;
@@ -145,8 +145,8 @@ fn cycle_at(alloc: Global, log: &Trace, position: usize) -> Result<Vec<usize>, M
 }
 
 /// What certifies the verdict of a closed world.
-pub fn evidence_of(alloc: Global, closed: &Closed) -> Result<Vec<usize>, Memory>
-    ensures evidence { IfOk result (λ list. IsEvidence closed.now.log list.items) }
+pub fn order_or_cycle_of(alloc: Global, closed: &Closed) -> Result<Vec<usize>, Memory>
+    ensures list { IfOk result (λ list. IsOrderOrCycle closed.now.log list.items) }
     ensures memory { OnErr result GrowthRefused }
 {
     match closed.alarm() {
@@ -162,7 +162,7 @@ pub fn write_certified<O: Sink>(
     list: &[usize],
     sink: &mut O,
 ) -> Result<Verdict, CheckFault>
-    requires { IsEvidence closed.now.log list.now }
+    requires { IsOrderOrCycle closed.now.log list.now }
     ensures answer { Shows names.now true closed.now (O.contents sink.old) (O.contents sink.new) result }
     ensures written { O.failures sink.new ≡ write_failures result (O.failures sink.old) }
 {
@@ -188,7 +188,7 @@ fn write_answer<O: Sink>(
     if !certificate {
         return write_report(closed, &Names::Numbers, sink);
     }
-    match evidence_of(alloc, closed) {
+    match order_or_cycle_of(alloc, closed) {
         Ok(list) => write_certified(closed, &Names::Numbers, &list, sink),
         Err(Memory) => Err(CheckFault::Memory),
     }

@@ -2,7 +2,7 @@
 ghost use Rattle.std.specs.Prelude.{◌≡◌};
 
 use crate::arguments::RunOptions;
-use crate::check::{CheckFault, Verdict, evidence_of, write_certified, write_report};
+use crate::check::{CheckFault, Verdict, order_or_cycle_of, write_certified, write_report};
 use crate::fate::Fate;
 use crate::files::{Files, is_standard_input};
 use crate::reading::{ReadFault, read_whole};
@@ -121,7 +121,7 @@ fn tell<F: Files, O: Sink>(
             Err(fate) => fate,
         };
     }
-    match evidence_of(alloc, closed) {
+    match order_or_cycle_of(alloc, closed) {
         Ok(list) => {
             let fate = match write_out(closed, options.log, files) {
                 Ok(()) => fate_of(write_certified(closed, names, &list, out), ending),

@@ -1,5 +1,5 @@
 //! Live runs whose threads are held up by chance.
-use crate::check::{check_run, evidence_of, write_certified};
+use crate::check::{check_run, order_or_cycle_of, write_certified};
 use std::alloc::Global;
 use std::process::Abort;
 use std::sync::Wait;
@@ -44,7 +44,7 @@ impl<R: Clock> Gate for Sleepy<'_, R> {
 fn compare(rt: &impl Abort, alloc: Global, closed: &Closed) {
     let mut log = Text::new(alloc);
     write_log(closed.bounds(), closed.log(), &mut log).expect(rt, "memory");
-    let list = evidence_of(alloc, closed).expect(rt, "memory");
+    let list = order_or_cycle_of(alloc, closed).expect(rt, "memory");
     let mut shown = Text::new(alloc);
     let verdict = write_certified(closed, &Names::Numbers, &list, &mut shown);
     let mut checked = Text::new(alloc);

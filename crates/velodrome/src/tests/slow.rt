@@ -108,7 +108,7 @@ pub fn world_by_chance(rt: &impl Abort, alloc: Global, seed: u64) -> World {
             1 => Action::Fork(ThreadId(2)),
             _ => action_by(throw >> 2),
         };
-        let _outcome = world.step(&mut shares, ThreadId(thread as u8), action);
+        let _outcome = world.act_as(&mut shares, ThreadId(thread as u8), action);
     }
     world
 }

@@ -1,8 +1,8 @@
 use Rattle.std.proofs.Common.{subst}
 use Rattle.std.proofs.lemmas.List.{length-set}
 use Rattle.velo_events.specs.Block.{owner}
-use Rattle.velo_certify.specs.Search.{Reaches, level_at}
-use Rattle.velo_certify.proofs.OnReached.{Grows-twice, Leads-twice}
+use Rattle.velo_certify.specs.Search.{ReachesOneMore, level_at}
+use Rattle.velo_certify.proofs.OnReached.{Grows-twice, LeadsNewTo-twice}
 use Rattle.velo_certify.proofs.OnPasses.{PassesTo-next, IsPassed-end, ReachesBelow-end}
 use Rattle.velo_certify.proofs.lists.pass_list.Goals as goal
 
@@ -11,10 +11,10 @@ loop-front-preserved c =
     let trace = c.args.events.now in let n = c.args.at in let old = c.args.reached.now in let now = c.loop-front.reached in let new = c.reach.new.self in let front = c.loop-front.front in
     let grown = c.loop-front.invariant.grows in
     let same = grown.kept (owner trace n) c.requires.positive in
-    let step = subst (λ level. Reaches level (owner trace front) (owner trace n) now new) same c.reach.ensures in
+    let step = subst (λ level. ReachesOneMore level (owner trace front) (owner trace n) now new) same c.reach.ensures in
     record {
       grows = Grows-twice (level_at trace old n) old now new grown step.grows;
-      leads = Leads-twice (level_at trace old n) (owner trace n) old now new grown c.loop-front.invariant.leads step.leads;
+      leads = LeadsNewTo-twice (level_at trace old n) (owner trace n) old now new grown c.loop-front.invariant.leads step.leads;
       passes = λ named w. PassesTo-next trace n (level_at trace old n) named c.args.thing c.args.fronts.now.items c.args.following.now old c.requires.thing w c.requires.within now new front
           c.loop-front-test.true grown step (c.loop-front.invariant.passes named w);
     }

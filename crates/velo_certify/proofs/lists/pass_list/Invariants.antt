@@ -1,14 +1,14 @@
 use Rattle.std.proofs.Common.{◌-◌, ℕ, Option}
 use Rattle.velo_events.specs.declared.event.Event.{Event}
 use Rattle.velo_events.specs.Block.{owner}
-use Rattle.velo_certify.specs.Search.{Grows, Leads, IsPassed, level_at}
+use Rattle.velo_certify.specs.Search.{Grows, LeadsNewTo, IsPassed, level_at}
 use Rattle.velo_certify.proofs.OnPasses.{PassesTo}
 use Rattle.velo_certify.proofs.lists.pass_list.Given as goal
 
 abbrev pub invariant-loop-front : goal.invariant-loop-front
 invariant-loop-front l = record {
   grows : Grows (level_at l.events l.fn.reached l.at) l.fn.reached l.reached;
-  leads : Leads (owner l.events l.at) l.fn.reached l.reached;
+  leads : LeadsNewTo (owner l.events l.at) l.fn.reached l.reached;
   passes : (named : Event → Option ℕ) → IsPassed l.events named l.fn.reached.far.items l.fronts.items l.following → PassesTo l.events l.at (level_at l.events l.fn.reached l.at) named l.thing l.fn.reached l.reached l.front;
 }
 

@@ -7,5 +7,5 @@ loop-at-init c = record {
   room = c.in_ok-owners.ensures.capacity;
   count = ap length c.in_ok-owners.ensures.items;
   owners = λ i l. absurd (omega (arith, l));
-  scanned = AreScanned-start c.args.events.now c.in_ok-scans.scans.items (c.in_ok-scans.ensures.items_if_clones_equal (λ y e. e));
+  scanned = AreScanned-start c.args.events.now c.in_ok-threads.threads.items (c.in_ok-threads.ensures.items_if_clones_equal (λ y e. e));
 }

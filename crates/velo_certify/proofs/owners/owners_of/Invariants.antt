@@ -9,5 +9,5 @@ invariant-loop-at l = record {
   room : length l.events ≤ vec_capacity l.owners;
   count : length l.owners.items ≡ l.at;
   owners : (i : ℕ) → i < l.at → slice_index l.owners.items i ≡ owner l.events i;
-  scanned : AreScanned l.events l.at l.scans.items;
+  scanned : AreScanned l.events l.at l.threads.items;
 }

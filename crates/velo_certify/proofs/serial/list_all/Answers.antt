@@ -3,7 +3,7 @@ use Rattle.velo_certify.specs.declared.serial.Next.TheVariants.{Ready, Stuck, Do
 use Rattle.velo_certify.specs.Serial.{AreClosed, IsNext}
 use Rattle.velo_certify.specs.Links.{HasLinksLeft}
 use Rattle.velo_certify.proofs.OnSerial.{AreClosed-lists, ListsSoFar-start, ListsSoFar-next, HasCycle-stuck, IsSerialOrder-done}
-use Rattle.velo_certify.proofs.OnSettling.{HasLinksLeft-start, HasLinksLeft-more}
+use Rattle.velo_certify.proofs.OnListed.{HasLinksLeft-start, HasLinksLeft-more}
 use Rattle.velo_certify.proofs.OnThreads.{AreFronts-start, AreFronts-listed}
 use Rattle.velo_certify.proofs.serial.list_all.Goals as goal
 

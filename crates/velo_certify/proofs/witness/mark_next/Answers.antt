@@ -20,8 +20,8 @@ returns-clause-marks c =
     let trace = c.args.events.now in let marks = c.args.marks.now.items in let number = c.if-at-begin.number in
     let here = ap (slice_get trace) c.requires.at ∙ slice_get-get_or trace c.args.at past c.requires.within in
     subst (AreMarks trace c.args.begin) (sym c.push_reserved.ensures.items)
-    (AreMarks-next trace c.args.begin marks c.looked_up-greatest.result number
-    (marks-greatest trace (get_or trace c.args.at past) marks c.looked_up-greatest.result here (c.looked_up-greatest.ensures.each trace (slice_index marks) c.requires.numbers))
+    (AreMarks-next trace c.args.begin marks c.look_up-greatest.result number
+    (marks-greatest trace (get_or trace c.args.at past) marks c.look_up-greatest.result here (c.look_up-greatest.ensures.each trace (slice_index marks) c.requires.numbers))
     (λ same. elim c.if-at-begin.branch [ then-at-begin w ↦ w.number-is | else-at-begin w ↦ absurd (w.if-at-begin.false (sym c.requires.at ∙ same)) ])
     (λ other. elim c.if-at-begin.branch [ then-at-begin w ↦ absurd (other (c.requires.at ∙ w.if-at-begin.true)) | else-at-begin w ↦ w.number-is ])
     c.requires.marks)

@@ -1,6 +1,6 @@
 use Rattle.std.proofs.Common.{◌≡◌, ◌+◌, ◌++◌, ◌∷◌, [], ℕ, List, length, take, get_or, ap, ◌∙◌, append_assoc, arith}
 use Rattle.std.proofs.lemmas.List.{take_more, length-take-le}
-use Rattle.velo_certify.specs.declared.edges.Edge.{Edge}
+use Rattle.velo_certify.specs.declared.edges.EdgeEvents.{EdgeEvents}
 use Rattle.velo_explain.specs.Text.{numbered}
 use Rattle.velo_explain.specs.Picture.{arrow_text}
 use Rattle.velo_explain.proofs.OnPieces.{numbered-more}
@@ -8,7 +8,7 @@ use Rattle.velo_explain.proofs.drawing.add_arrows.Goals as goal
 
 pub loop-k-preserved : goal.loop-k-preserved
 loop-k-preserved c =
-    let edges = c.args.edges.now in let k = c.loop-k.k in let nothing : Edge = record { from = 0; to = 0 } in let item = get_or edges k nothing in
+    let edges = c.args.edges.now in let k = c.loop-k.k in let nothing : EdgeEvents = record { from = 0; to = 0 } in let item = get_or edges k nothing in
     let text = arrow_text c.args.events.now (length c.args.edges.now) in
     let more : take (k + 1) edges ≡ take k edges ++ item ∷ [] = take_more edges k nothing c.loop-k-test.true in
     c.in_ok-add_arrow.ensures.ok

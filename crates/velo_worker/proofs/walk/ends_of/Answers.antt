@@ -1,7 +1,7 @@
 use Rattle.std.proofs.Common.{◌≡◌, ◌<◌, ◌-◌, ◌+◌, subst, arith, length, set, rules}
 use Rattle.std.proofs.lemmas.Option.{slice_get-get_or}
-use Rattle.velo_worker.specs.Place.{IsEnd}
-use Rattle.velo_worker.proofs.OnEnds.{IsEnd-start, IsEnd-before, AreEndsFrom, AreEndsFrom-start, AreEndsFrom-next}
+use Rattle.velo_worker.specs.Cursor.{IsRepeatEnd}
+use Rattle.velo_worker.proofs.OnEnds.{IsRepeatEnd-start, IsRepeatEnd-before, AreRepeatEndsFrom, AreRepeatEndsFrom-start, AreRepeatEndsFrom-next}
 use Rattle.velo_worker.proofs.walk.ends_of.Goals as goal
 
 pub loop-position-init : goal.loop-position-init
@@ -9,8 +9,8 @@ loop-position-init c = record {
   within = omega arith;
   count = search rules;
   len = c.in_ok-ends.ensures.len;
-  end = IsEnd-start c.args.body.now;
-  found = AreEndsFrom-start c.args.body.now c.in_ok-ends.ends.items;
+  end = IsRepeatEnd-start c.args.body.now;
+  found = AreRepeatEndsFrom-start c.args.body.now c.in_ok-ends.ends.items;
 }
 
 pub loop-position-preserved : goal.loop-position-preserved
@@ -20,12 +20,12 @@ loop-position-preserved c =
     let i = l.position - 1 in
     let e : l.position ≡ i + 1 = omega arith in
     let within : i < length body = omega (arith, l.invariant.within) in
-    let is : IsEnd body (i + 1) l.end = subst (λ n. IsEnd body n l.end) e l.invariant.end in
-    let from : AreEndsFrom body (set l.ends.items i l.end) i =
-    AreEndsFrom-next body l.ends.items i l.end l.invariant.count within is (subst (AreEndsFrom body l.ends.items) e l.invariant.found) in record {
+    let is : IsRepeatEnd body (i + 1) l.end = subst (λ n. IsRepeatEnd body n l.end) e l.invariant.end in
+    let from : AreRepeatEndsFrom body (set l.ends.items i l.end) i =
+    AreRepeatEndsFrom-next body l.ends.items i l.end l.invariant.count within is (subst (AreRepeatEndsFrom body l.ends.items) e l.invariant.found) in record {
       within = omega (arith, within);
       count = search rules;
       len = l.invariant.len;
-      end = rw (c.end_before-end.ensures, c.deref.ensures.value) (IsEnd-before body (set l.ends.items i l.end) i l.end _ (slice_get-get_or body i _ within) is from);
+      end = rw (c.end_before-end.ensures, c.deref.ensures.value) (IsRepeatEnd-before body (set l.ends.items i l.end) i l.end _ (slice_get-get_or body i _ within) is from);
       found = from;
     }

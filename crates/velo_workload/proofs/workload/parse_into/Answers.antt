@@ -5,16 +5,16 @@ use Rattle.velo_workload.specs.Phrase.{Phrase, phrases}
 use Rattle.velo_workload.specs.Outline.{Names, Judges, names_in}
 use Rattle.velo_workload.specs.Known.{known_of}
 use Rattle.velo_workload.specs.Bodies.{AreBodies}
-use Rattle.velo_workload.specs.Sketch.{Sketches, sketches_of, drafted, unknown_in_sketches, bodies_settled, AreSketches}
+use Rattle.velo_workload.specs.Sketch.{Sketches, sketches_of, drafted, unknown_in_sketches, bodies_completed, AreSketches}
 use Rattle.velo_workload.specs.Program.{bodies}
 use Rattle.velo_workload.proofs.OnNested.{AreBodies-parsed}
 use Rattle.velo_workload.proofs.OnParsing.{count_bodies, first_wrong, second_wrong, all_right}
 use Rattle.velo_workload.proofs.OnReading.{wrong, some_thread}
 use Rattle.velo_workload.proofs.workload.parse_into.Goals as goal
 
--- what the drafts settle to are the bodies of all lines
+-- what the drafts come to are the bodies of all lines
 bodies_found : (names : Names) (ps : List Phrase) (b : Sketches) (found : List (List Statement)) → AreSketches names ps b → unknown_in_sketches names (drafted b) ≡ None
-    → found ≡ drop 1 (bodies_settled names (drafted b)) → found ≡ bodies names ps
+    → found ≡ drop 1 (bodies_completed names (drafted b)) → found ≡ bodies names ps
 bodies_found names ps b found are fine e = e ∙ ap (drop 1) (are.bodies fine)
 
 pub assemble-requires-clause-each : goal.assemble-requires-clause-each

@@ -1,8 +1,8 @@
-use Rattle.velodrome.proofs.OnVerdicts.{Certifies-evidence, certified_whole, certified_part, Shows-failed}
+use Rattle.velodrome.proofs.OnVerdicts.{Certifies-order_or_cycle, certified_whole, certified_part, Shows-failed}
 use Rattle.velodrome.proofs.check.write_certified.Goals as goal
 
 pub certificate_lines-requires : goal.certificate_lines-requires
-certificate_lines-requires g c = Certifies-evidence c.args.closed.now.log c.args.list.now c.requires
+certificate_lines-requires g c = Certifies-order_or_cycle c.args.closed.now.log c.args.list.now c.requires
 
 pub returns-in-Ok-certificate_lines-clause-answer : goal.returns-in-Ok-certificate_lines-clause-answer
 returns-in-Ok-certificate_lines-clause-answer g c = (

@@ -5,5 +5,5 @@ use Rattle.velo_certify.proofs.table.Table.take_in.Goals as goal
 
 pub returns-clause-taken : goal.returns-clause-taken
 returns-clause-taken c =
-    TakesIn-by c.args.events.now c.args.at _ c.args.number c.args.self.now c.note.new.self c.looked_up-greatest.result
-    (slice_get-get_or c.args.events.now c.args.at past c.requires.within) c.looked_up-greatest.ensures c.note.ensures.noted
+    TakesIn-by c.args.events.now c.args.at _ c.args.number c.args.self.now c.note.new.self c.look_up-greatest.result
+    (slice_get-get_or c.args.events.now c.args.at past c.requires.within) c.look_up-greatest.ensures c.note.ensures.noted

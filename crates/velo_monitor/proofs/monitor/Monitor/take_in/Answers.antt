@@ -4,7 +4,7 @@ use Rattle.velo_events.specs.Heap.{depth_in}
 use Rattle.velo_monitor.proofs.OnCounts.{depth-now}
 use Rattle.velo_monitor.proofs.OnCurrent.{current-node, inside-depth}
 use Rattle.velo_monitor.proofs.OnInsideSeen.{seen-inside, seen-quiet}
-use Rattle.velo_monitor.proofs.OnOutsideSeen.{not-begin, no-cycle, stands-begins, stands-operates}
+use Rattle.velo_monitor.proofs.OnOutsideSeen.{not-begin, no-cycle, stands-begins, stands-after_outside}
 use Rattle.velo_monitor.proofs.monitor.Monitor.take_in.Goals as goal
 
 pub observe_inside-requires-clause-current : goal.observe_inside-requires-clause-current
@@ -39,7 +39,7 @@ pub returns-in_default-clause-seen : goal.returns-in_default-clause-seen
 returns-in_default-clause-seen c bounds trace stands at follows =
     let now = depth-now bounds trace c.args.event.now stands.well_formed follows c.args.self.now.depths stands.depths in
     let shallow : depth_in trace (thread_of c.args.event.now) ≡ 0 = omega (arith, now, c.depth.ensures, c.if-depth-gt0.false) in
-    (no-cycle bounds c.args.self.now trace c.args.event.now stands follows shallow, stands-operates bounds c.args.self.now trace c.args.event.now stands follows shallow (not-begin c.args.event.now.kind c.in_default.not-Begin) c.operate.new.self c.args.position at c.operate.ensures.operates)
+    (no-cycle bounds c.args.self.now trace c.args.event.now stands follows shallow, stands-after_outside bounds c.args.self.now trace c.args.event.now stands follows shallow (not-begin c.args.event.now.kind c.in_default.not-Begin) c.observe_outside.new.self c.args.position at c.observe_outside.ensures.outside)
 
 pub returns-in_default-clause-nothing_left : goal.returns-in_default-clause-nothing_left
 returns-in_default-clause-nothing_left c = let next = c.requires in (returns-in_default-clause-seen c next.bounds next.trace next.stands next.at_end next.follows).1.collected

@@ -3,36 +3,36 @@ use Rattle.std.proofs.Math.ListN.{set}
 use Rattle.std.proofs.lemmas.List.{with_items_is, length-set}
 use Rattle.velo_tables.specs.Noted.{maxima}
 use Rattle.velo_tables.proofs.OnRaised.{length-raised}
-use Rattle.velo_tables.proofs.OnNumberLists.{span-there, span-fits, part-is, length-put, lists-put}
+use Rattle.velo_tables.proofs.OnNumberLists.{stretch-there, stretch-fits, part-is, length-put, lists-put}
 use Rattle.velo_tables.proofs.number_lists.NumberLists.raise_but.Goals as goal
 
 pub returns : goal.returns
 returns c =
     let inside = c.self.inside in
-    let span = c.index-span.result.now in
+    let stretch = c.index-stretch.result.now in
     let now = c.deref_mut.result.now in
-    let part = part-is inside.numbers.items inside.spans.items c.args.self.now c.self.invariant c.self.view_is c.args.number span now c.requires.there c.index-span.ensures c.deref_mut.ensures.value in
+    let part = part-is inside.numbers.items inside.stretches.items c.args.self.now c.self.invariant c.self.view_is c.args.number stretch now c.requires.there c.index-stretch.ensures c.deref_mut.ensures.value in
     let raised = c.raise_but.ensures ∙ ap (λ xs. set (maxima xs c.args.list.now) c.args.by.0 (get_or xs c.args.by.0 0)) part in
     let long = ap length raised ∙ (length-set (maxima (get_or c.args.self.now c.args.number []) c.args.list.now) c.args.by.0 _ ∙ length-raised (get_or c.args.self.now c.args.number []) c.args.list.now) in
-    let whole = length-put inside.numbers.items inside.spans.items c.args.self.now c.self.invariant c.self.view_is c.args.number span now c.requires.there c.index-span.ensures c.deref_mut.ensures.value c.raise_but.new.numbers long in
-    lists-put inside.numbers.items inside.spans.items c.args.self.now c.self.invariant c.self.view_is c.args.number span now c.requires.there c.index-span.ensures c.deref_mut.ensures.value c.raise_but.new.numbers long _
+    let whole = length-put inside.numbers.items inside.stretches.items c.args.self.now c.self.invariant c.self.view_is c.args.number stretch now c.requires.there c.index-stretch.ensures c.deref_mut.ensures.value c.raise_but.new.numbers long in
+    lists-put inside.numbers.items inside.stretches.items c.args.self.now c.self.invariant c.self.view_is c.args.number stretch now c.requires.there c.index-stretch.ensures c.deref_mut.ensures.value c.raise_but.new.numbers long _
     (with_items_is inside.numbers _ (whole ∙ c.deref_mut.ensures.len))
     ∙ ap (set c.args.self.now c.args.number) raised
 
-pub index-span-requires : goal.index-span-requires
-index-span-requires c =
+pub index-stretch-requires : goal.index-stretch-requires
+index-stretch-requires c =
     let inside = c.self.inside in
-    omega (arith, span-there inside.numbers.items inside.spans.items c.args.self.now c.self.invariant c.self.view_is c.args.number c.requires.there, inside.spans.ok.0)
+    omega (arith, stretch-there inside.numbers.items inside.stretches.items c.args.self.now c.self.invariant c.self.view_is c.args.number c.requires.there, inside.stretches.ok.0)
 
-pub overflow_add-span : goal.overflow_add-span
-overflow_add-span c =
+pub overflow_add-stretch : goal.overflow_add-stretch
+overflow_add-stretch c =
     let inside = c.self.inside in
-    omega (arith, span-fits inside.numbers.items inside.spans.items c.args.self.now c.self.invariant c.self.view_is c.args.number c.index-span.result.now c.deref_mut.result.now c.requires.there c.index-span.ensures c.deref_mut.ensures.value)
+    omega (arith, stretch-fits inside.numbers.items inside.stretches.items c.args.self.now c.self.invariant c.self.view_is c.args.number c.index-stretch.result.now c.deref_mut.result.now c.requires.there c.index-stretch.ensures c.deref_mut.ensures.value)
 
-pub offset_bounds-deref_mut-span : goal.offset_bounds-deref_mut-span
-offset_bounds-deref_mut-span c =
+pub offset_bounds-deref_mut-stretch : goal.offset_bounds-deref_mut-stretch
+offset_bounds-deref_mut-stretch c =
     let inside = c.self.inside in
-    omega (arith, span-fits inside.numbers.items inside.spans.items c.args.self.now c.self.invariant c.self.view_is c.args.number c.index-span.result.now c.deref_mut.result.now c.requires.there c.index-span.ensures c.deref_mut.ensures.value)
+    omega (arith, stretch-fits inside.numbers.items inside.stretches.items c.args.self.now c.self.invariant c.self.view_is c.args.number c.index-stretch.result.now c.deref_mut.result.now c.requires.there c.index-stretch.ensures c.deref_mut.ensures.value)
 
 pub slice_bounds-raise_but-count : goal.slice_bounds-raise_but-count
 slice_bounds-raise_but-count c = omega arith
@@ -43,4 +43,4 @@ slice_bounds-raise_but-start c = omega arith
 pub slice_bounds-raise_but-end : goal.slice_bounds-raise_but-end
 slice_bounds-raise_but-end c =
     let inside = c.self.inside in
-    span-fits inside.numbers.items inside.spans.items c.args.self.now c.self.invariant c.self.view_is c.args.number c.index-span.result.now c.deref_mut.result.now c.requires.there c.index-span.ensures c.deref_mut.ensures.value
+    stretch-fits inside.numbers.items inside.stretches.items c.args.self.now c.self.invariant c.self.view_is c.args.number c.index-stretch.result.now c.deref_mut.result.now c.requires.there c.index-stretch.ensures c.deref_mut.ensures.value

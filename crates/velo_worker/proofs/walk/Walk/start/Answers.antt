@@ -1,5 +1,5 @@
 use Rattle.std.proofs.Common.{◌∙◌, ap}
-use Rattle.velo_worker.specs.Place.{left_at}
+use Rattle.velo_worker.specs.Cursor.{left_at}
 use Rattle.velo_worker.proofs.OnWalks.{StandsIn-start, left_at-start}
 use Rattle.velo_worker.proofs.walk.Walk.start.Goals as goal
 

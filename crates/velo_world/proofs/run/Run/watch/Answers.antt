@@ -39,22 +39,22 @@ returns-in-Quiet-clause-watched c =
     let all = AreLateClocksOf-all c.note.new.self (past ++ c.args.event.now ∷ []) (c.note.ensures.next past clocks here (well-next c.args.self.now _ c.args.event.now c.requires.next)) (omega (arith, noted, here, length-append past (c.args.event.now ∷ []))) in
     IsWatched-quiet _ _ _ quiet seen.0 seen.1 all (c.note.ensures.bounds ∙ watched.bounds_are)
 
-pub raise-requires-clause-clocks : goal.raise-requires-clause-clocks
-raise-requires-clause-clocks c =
+pub raise_alarm-requires-clause-clocks : goal.raise_alarm-requires-clause-clocks
+raise_alarm-requires-clause-clocks c =
     let quiet = sym c.is_some.ensures ∙ c.if-is_some.false in
     AreClocksOf-all c.args.self.now.clocks _ (clocks-quiet c.args.self.now _ _ quiet c.requires.next.stands.watched) (c.requires.room.up_to_date (alarm-none c.args.self.now.alarm quiet))
 
-pub raise-requires-clause-well_formed : goal.raise-requires-clause-well_formed
-raise-requires-clause-well_formed c = well-next c.args.self.now _ c.args.event.now c.requires.next
+pub raise_alarm-requires-clause-well_formed : goal.raise_alarm-requires-clause-well_formed
+raise_alarm-requires-clause-well_formed c = well-next c.args.self.now _ c.args.event.now c.requires.next
 
-pub raise-requires-clause-closes : goal.raise-requires-clause-closes
-raise-requires-clause-closes c =
+pub raise_alarm-requires-clause-closes : goal.raise_alarm-requires-clause-closes
+raise_alarm-requires-clause-closes c =
     let quiet = sym c.is_some.ensures ∙ c.if-is_some.false in
     let here = length-before c.args.events.now c.args.position c.args.event.now c.requires.here in
     (c.in-Closes.ensures.seen _ _ (monitor-quiet c.args.self.now _ _ quiet c.requires.next.stands.watched) (sym here) c.requires.next.follows).0
 
-pub raise-requires-clause-transaction : goal.raise-requires-clause-transaction
-raise-requires-clause-transaction c =
+pub raise_alarm-requires-clause-transaction : goal.raise_alarm-requires-clause-transaction
+raise_alarm-requires-clause-transaction c =
     let quiet = sym c.is_some.ensures ∙ c.if-is_some.false in
     let here = length-before c.args.events.now c.args.position c.args.event.now c.requires.here in
     let seen = c.in-Closes.ensures.seen _ _ (monitor-quiet c.args.self.now _ _ quiet c.requires.next.stands.watched) (sym here) c.requires.next.follows in
@@ -66,5 +66,5 @@ returns-in-Closes-clause-watched c =
     let watched = c.requires.next.stands.watched in
     let here = length-before c.args.events.now c.args.position c.args.event.now c.requires.here in
     let seen = c.in-Closes.ensures.seen _ _ (monitor-quiet c.args.self.now _ _ quiet watched) (sym here) c.requires.next.follows in
-    let raised = c.raise.ensures in
+    let raised = c.raise_alarm.ensures in
     rw raised.same (IsWatched-raised _ _ _ c.args.event.now raised.alarm refl (raised.here ∙ sym here) raised.is seen.2 (clocks-quiet c.args.self.now _ _ quiet watched) watched.bounds_are)

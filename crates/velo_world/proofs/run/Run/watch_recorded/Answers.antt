@@ -35,27 +35,27 @@ returns-in-Quiet-clause-watched c =
     let seen = c.in-Quiet.ensures.seen _ _ (monitor-quiet c.args.self.now _ _ quiet watched) (sym here) c.requires.next.follows in
     IsWatched-quiet _ _ _ quiet seen.0 seen.1 (AreLateClocksOf-push c.args.self.now.clocks _ c.args.event.now (clocks-quiet c.args.self.now _ _ quiet watched)) watched.bounds_are
 
-pub raise_late-requires-clause-well_formed : goal.raise_late-requires-clause-well_formed
-raise_late-requires-clause-well_formed c = well-next c.args.self.now _ c.args.event.now c.requires.next
+pub raise_alarm_late-requires-clause-well_formed : goal.raise_alarm_late-requires-clause-well_formed
+raise_alarm_late-requires-clause-well_formed c = well-next c.args.self.now _ c.args.event.now c.requires.next
 
-pub raise_late-requires-clause-closes : goal.raise_late-requires-clause-closes
-raise_late-requires-clause-closes c =
+pub raise_alarm_late-requires-clause-closes : goal.raise_alarm_late-requires-clause-closes
+raise_alarm_late-requires-clause-closes c =
     let quiet = sym c.is_some.ensures ∙ c.if-is_some.false in
     let here = length-before c.args.events.now c.args.position c.args.event.now c.requires.here in
     (c.in-Closes.ensures.seen _ _ (monitor-quiet c.args.self.now _ _ quiet c.requires.next.stands.watched) (sym here) c.requires.next.follows).0
 
-pub raise_late-requires-clause-transaction : goal.raise_late-requires-clause-transaction
-raise_late-requires-clause-transaction c =
+pub raise_alarm_late-requires-clause-transaction : goal.raise_alarm_late-requires-clause-transaction
+raise_alarm_late-requires-clause-transaction c =
     let quiet = sym c.is_some.ensures ∙ c.if-is_some.false in
     let here = length-before c.args.events.now c.args.position c.args.event.now c.requires.here in
     let seen = c.in-Closes.ensures.seen _ _ (monitor-quiet c.args.self.now _ _ quiet c.requires.next.stands.watched) (sym here) c.requires.next.follows in
     seen.1 ∙ ap (owner (take c.args.position c.args.events.now ++ c.args.event.now ∷ [])) here
 
-pub raise_late-requires-clause-clocks : goal.raise_late-requires-clause-clocks
-raise_late-requires-clause-clocks c = clocks-quiet c.args.self.now _ _ (sym c.is_some.ensures ∙ c.if-is_some.false) c.requires.next.stands.watched
+pub raise_alarm_late-requires-clause-clocks : goal.raise_alarm_late-requires-clause-clocks
+raise_alarm_late-requires-clause-clocks c = clocks-quiet c.args.self.now _ _ (sym c.is_some.ensures ∙ c.if-is_some.false) c.requires.next.stands.watched
 
-pub raise_late-requires-clause-short : goal.raise_late-requires-clause-short
-raise_late-requires-clause-short c =
+pub raise_alarm_late-requires-clause-short : goal.raise_alarm_late-requires-clause-short
+raise_alarm_late-requires-clause-short c =
     let here = length-before c.args.events.now c.args.position c.args.event.now c.requires.here in
     let short = c.requires.next.short in
     omega (arith, here, short)
@@ -66,5 +66,5 @@ returns-in-Closes-clause-watched c =
     let watched = c.requires.next.stands.watched in
     let here = length-before c.args.events.now c.args.position c.args.event.now c.requires.here in
     let seen = c.in-Closes.ensures.seen _ _ (monitor-quiet c.args.self.now _ _ quiet watched) (sym here) c.requires.next.follows in
-    OnOk-both c.raise_late.result _ _ _ c.raise_late.ensures.clocks c.raise_late.ensures.alarm (λ clocks raised.
-    IsWatched-raised c.raise_late.new.self (bounds_of c.args.self.now.heap) _ c.args.event.now raised.alarm raised.same (raised.here ∙ sym here) raised.is (subst (λ m. IsMonitorOf (bounds_of c.args.self.now.heap) m (take c.args.position c.args.events.now)) (sym c.raise_late.ensures.monitor) seen.2) clocks (c.raise_late.ensures.bounds ∙ watched.bounds_are))
+    OnOk-both c.raise_alarm_late.result _ _ _ c.raise_alarm_late.ensures.clocks c.raise_alarm_late.ensures.alarm (λ clocks raised.
+    IsWatched-raised c.raise_alarm_late.new.self (bounds_of c.args.self.now.heap) _ c.args.event.now raised.alarm raised.same (raised.here ∙ sym here) raised.is (subst (λ m. IsMonitorOf (bounds_of c.args.self.now.heap) m (take c.args.position c.args.events.now)) (sym c.raise_alarm_late.ensures.monitor) seen.2) clocks (c.raise_alarm_late.ensures.bounds ∙ watched.bounds_are))

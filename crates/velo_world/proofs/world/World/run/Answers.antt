@@ -23,10 +23,10 @@ loop-thread-preserved c =
     record {
       room = grind (arith, common_steps);
       count = grind (arith, common_steps);
-      runs = RunsTo-more _ _ c.args.steps.now c.loop-thread.thread-index d _ _ _ _ _ _ _ c.loop-thread-test.true c.push_reserved.ensures.items c.loop-thread.invariant.runs c.step.ensures.outcome;
-      ready = c.step.ensures.ready;
-      filled = λ t filled. c.step.ensures.filled t (c.loop-thread.invariant.filled t filled);
-      complete = λ complete. c.step.ensures.complete (c.loop-thread.invariant.complete complete);
+      runs = RunsTo-more _ _ c.args.steps.now c.loop-thread.thread-index d _ _ _ _ _ _ _ c.loop-thread-test.true c.push_reserved.ensures.items c.loop-thread.invariant.runs c.act_as.ensures.outcome;
+      ready = c.act_as.ensures.ready;
+      filled = λ t filled. c.act_as.ensures.filled t (c.loop-thread.invariant.filled t filled);
+      complete = λ complete. c.act_as.ensures.complete (c.loop-thread.invariant.complete complete);
     }
 
 pub returns-clause-outcomes : goal.returns-clause-outcomes

@@ -1,7 +1,0 @@
-use Rattle.std.proofs.Common.{refl}
-use Rattle.velo_worker.specs.Place.{innermost_first}
-use Rattle.velo_worker.proofs.place.Place.start.Goals as goal
-
-pub returns : goal.returns
-unfolding innermost_first
-returns c = refl

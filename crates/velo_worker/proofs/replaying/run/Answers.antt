@@ -1,5 +1,0 @@
-use Rattle.std.proofs.Common.{inr}
-use Rattle.velo_worker.proofs.replaying.run.Goals as goal
-
-pub returns-in-None : goal.returns-in-None
-returns-in-None c = inr (c.follow.new.self, c.in-None.ensures, c.rounds.ensures)

@@ -1,5 +1,0 @@
-use Rattle.velo_seal.specs.Seal.{refused}
-use Rattle.velo_workload.proofs.growth.copied.Goals as goal
-
-pub returns-in-Err-clause-memory : goal.returns-in-Err-clause-memory
-returns-in-Err-clause-memory c = refused
