@@ -1,16 +1,14 @@
 -- The lines of a certificate, one after another.
-use Rattle.std.proofs.Common.{◌≡◌, ℕ, ◌+◌, ◌-◌, ◌<◌, List, [], ◌∷◌, ◌++◌, length, take, drop, refl, sym, ap, ◌∙◌, subst, arith, append_assoc, length-take, inl, inr}
+use Rattle.std.proofs.Common.{◌≡◌, ℕ, ◌+◌, ◌-◌, List, [], ◌∷◌, ◌++◌, take, drop, refl, sym, ap, ◌∙◌, subst, arith, append_assoc, length-take, inl, inr}
 use Rattle.std.proofs.lemmas.Grind.{flat_map-append}
 use Rattle.std.proofs.lemmas.List.{append-nil, take-append-drop, drop-take, drop_at}
 use Rattle.std.proofs.lemmas.List.Elements.{filter-append}
-use Rattle.std.specs.Prelude.{Option, codes, filter, slice_index, IfNone, IfSome}
+use Rattle.std.specs.Prelude.{Option, codes, filter, slice_index}
 use Rattle.std.specs.List.{flat_map}
-use Rattle.std.specs.Borrow.{Bor}
 use Rattle.std.specs.Io.KnownBytes.{Appends}
 use Rattle.velo_events.specs.declared.event.Event.{Event}
 use Rattle.velo_events.specs.Certificate.{positions_of}
 use Rattle.velo_events.specs.Graph.{HasCycle}
-use Rattle.velo_events.specs.Reordering.{IsReordering, IsSerial}
 use Rattle.velo_events.proofs.OnGraphs.{HasCycle-from_closing}
 use Rattle.velo_logtext.specs.Device.{AppendsBeginning}
 use Rattle.velo_report.specs.Certificate.{Certifies, CertifiesOrder, is_first, serial_line, serial_lines, IsCertificate, FailsInCertificate, AppendsCertificate, AppendsPartOfCertificate}

@@ -1,5 +1,5 @@
 -- Counting the events of a body by its levels.
-use Rattle.std.proofs.Common.{◌≡◌, ◌<◌, ◌≤◌, ℕ, zero, suc, ◌+◌, ◌*◌, ◌-◌, ◌^◌, get_or, Bool, true, false, List, [], ◌∷◌, ◌++◌, drop, length, refl, sym, ◌∙◌, ap, inl, inr, arith, cond}
+use Rattle.std.proofs.Common.{◌≡◌, ◌<◌, ◌≤◌, ℕ, zero, suc, ◌+◌, ◌*◌, ◌-◌, ◌^◌, get_or, true, false, List, [], ◌∷◌, ◌++◌, drop, length, refl, sym, ◌∙◌, ap, inl, inr, arith, cond}
 use Rattle.std.specs.Prelude.{count_by, min, ◌⊎◌}
 use Rattle.std.proofs.Math.ListN.{drop_of_length-le}
 use Rattle.std.proofs.lemmas.Bool.{cases_lt}
@@ -8,7 +8,7 @@ use Rattle.std.proofs.lemmas.List.Sums.{sum_by-append, sum_by-cons}
 use Rattle.velo_workload.specs.declared.statement.Statement.{Statement}
 use Rattle.velo_workload.specs.declared.statement.Statement.TheVariants.{Repeat, Done}
 use Rattle.velo_worker.specs.Counts.{body_events, has_event}
-use Rattle.velo_worker.specs.Walk.{first, others, with_statement, with_repeat, levels, repeated, walk_of}
+use Rattle.velo_worker.specs.Walk.{first, others, levels, repeated, walk_of}
 use Rattle.velo_worker.proofs.OnLevels.{IsPlain, levels-plain, levels-repeat, levels-done}
 
 -- ---- numbers that stop at a limit

@@ -1,5 +1,5 @@
 -- The verdict of a log that was done to its end.
-use Rattle.std.proofs.Common.{◌≡◌, ℕ, zero, suc, ◌+◌, ◌<◌, ◌≤◌, Bool, true, false, List, [], ◌∷◌, ◌++◌, length, take, drop, Option, Some, None, Ok, Err, refl, sym, ap, ◌∙◌, subst, arith, inl, inr, ⊎_elim, length-take}
+use Rattle.std.proofs.Common.{◌≡◌, ℕ, zero, suc, ◌+◌, ◌≤◌, Bool, true, false, List, [], ◌∷◌, ◌++◌, length, take, drop, Option, Some, None, Ok, Err, refl, sym, ap, ◌∙◌, subst, arith, inl, inr, ⊎_elim, length-take}
 use Rattle.std.proofs.lemmas.List.{append-nil, take-append-drop}
 use Rattle.std.specs.Prelude.{IfSome, Result, ◌⊎◌, codes, slice_get, Contains}
 use Rattle.velo_events.specs.declared.config.Bounds.{Bounds}
@@ -12,7 +12,6 @@ use Rattle.velo_events.proofs.OnBlocks.{owner-append}
 use Rattle.velo_events.proofs.OnGraphs.{HasCycle-from_closing, HasCycle-push, Edge-append, Path-map, newest}
 use Rattle.velo_events.proofs.OnReaching.{IsCycle-by}
 use Rattle.velo_events.proofs.OnScans.{event_at, take-next}
-use Rattle.velo_logtext.specs.Device.{AppendsBeginning}
 use Rattle.velo_logtext.proofs.OnDevices.{appends_then, appends_nothing, beginning_then}
 use Rattle.velo_certify.specs.Cycle.{HasNoCycleAt}
 use Rattle.velo_logtext.specs.Finding.{Answers}

@@ -1,11 +1,10 @@
-use Rattle.std.proofs.Common.{◌≡◌, List, ◌++◌, sym, ◌∙◌, subst}
+use Rattle.std.proofs.Common.{List, sym, ◌∙◌, subst}
 use Rattle.std.proofs.lemmas.Result.{on_ok_weaker, on_err_weaker}
 use Rattle.velo_events.specs.declared.event.Event.{Event}
 use Rattle.velo_events.specs.Reordering.{IsReordering, IsSerial}
 use Rattle.velo_events.proofs.OnGraphs.{HasCycle-from_closing}
-use Rattle.velo_report.specs.Certificate.{serial_lines}
 use Rattle.velo_report.specs.Runs.{AreInside}
-use Rattle.velo_report.proofs.OnCertificates.{certifies_order, IsCertificate-order, IsCertificate-cycle}
+use Rattle.velo_report.proofs.OnCertificates.{certifies_order, IsCertificate-cycle}
 use Rattle.velo_report.proofs.OnRuns.{AreInside-reordering}
 use Rattle.velo_report.proofs.certificate.add_certificate.Goals as goal
 

@@ -1,4 +1,4 @@
-use Rattle.std.proofs.Common.{◌≡◌, ◌-◌, ◌<◌, ◌≤◌, length, take}
+use Rattle.std.proofs.Common.{◌≡◌, ◌-◌, ◌<◌, length, take}
 use Rattle.std.specs.List.{flat_map}
 use Rattle.std.specs.Prelude.{filter}
 use Rattle.velo_report.specs.Certificate.{is_first, serial_line}

@@ -1,4 +1,3 @@
-use Rattle.std.proofs.Common.{◌≡◌, List, ℕ, ◌++◌, subst}
 use Rattle.std.proofs.lemmas.Result.{on_ok_weaker, on_err_weaker, err_from_is_err_and}
 use Rattle.velo_report.proofs.OnCertificates.{whole_certificate, part_of_certificate}
 use Rattle.velo_report.proofs.OnPassing.{passes-flushed, flush-failed}

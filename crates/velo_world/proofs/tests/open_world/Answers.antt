@@ -1,4 +1,4 @@
-use Rattle.std.proofs.Common.{◌≡◌, ap}
+use Rattle.std.proofs.Common.{ap}
 use Rattle.velo_events.specs.declared.config.Bounds.{Bounds}
 use Rattle.velo_world.proofs.OnReadiness.{HoldsLiveShares-opened}
 use Rattle.velo_world.proofs.tests.open_world.Goals as goal
