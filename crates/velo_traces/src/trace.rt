@@ -119,7 +119,7 @@ impl Trace {
 
 /// What is known of a thread's open blocks before some position of a trace.
 #[derive(Clone, Copy)]
-struct Scan {
+struct ThreadBlocks {
     /// How many are open.
     depth: usize,
     /// Where the outermost begins, if one is open.
@@ -127,36 +127,36 @@ struct Scan {
 }
 
 /// Takes the event at a position in, where those before it were taken in before.
-fn advance(events: &[Event], thread: ThreadId, at: usize, scan: Scan) -> Scan
+fn blocks_after(events: &[Event], thread: ThreadId, at: usize, blocks: ThreadBlocks) -> ThreadBlocks
     requires within { at < length events.now }
-    requires small { scan.depth ≤ at }
-    requires scanned { IsScanned events.now thread.0 at scan.depth scan.first }
+    requires small { blocks.depth ≤ at }
+    requires scanned { IsScanned events.now thread.0 at blocks.depth blocks.first }
     ensures small { result.depth ≤ at + 1 }
     ensures scanned { IsScanned events.now thread.0 (at + 1) result.depth result.first }
 {
     let event = events[at];
     if event.thread != thread {
-        return scan;
+        return blocks;
     }
     match event.kind {
         Kind::Begin(_) => {
-            if scan.depth == 0 {
-                Scan {
+            if blocks.depth == 0 {
+                ThreadBlocks {
                     depth: 1,
                     first: at,
                 }
             } else {
-                Scan {
-                    depth: scan.depth + 1,
-                    ..scan
+                ThreadBlocks {
+                    depth: blocks.depth + 1,
+                    ..blocks
                 }
             }
         }
-        Kind::End => Scan {
-            depth: scan.depth.saturating_sub(1),
-            ..scan
+        Kind::End => ThreadBlocks {
+            depth: blocks.depth.saturating_sub(1),
+            ..blocks
         },
-        _ => scan,
+        _ => blocks,
     }
 }
 
@@ -166,9 +166,9 @@ fn owner_in(events: &[Event], i: usize) -> usize
     ensures { result ≡ owner events.now i }
 {
     let thread = events[i].thread;
-    let mut scan = Scan { depth: 0, first: i };
+    let mut blocks = ThreadBlocks { depth: 0, first: i };
     for j in 0..i {
-        scan = advance(events, thread, j, scan);
+        blocks = blocks_after(events, thread, j, blocks);
     }
-    if scan.depth > 0 { scan.first } else { i }
+    if blocks.depth > 0 { blocks.first } else { i }
 }

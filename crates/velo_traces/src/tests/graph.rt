@@ -48,7 +48,12 @@ pub fn pairs_of(alloc: Global, edges: &[Edge]) -> Result<Vec<(usize, usize)>, Me
 }
 
 /// The transactions that `from` reaches by edges of the events up to a position.
-fn reached(alloc: Global, edges: &[Edge], last: usize, from: usize) -> Result<Vec<usize>, Memory> {
+fn reachable_from(
+    alloc: Global,
+    edges: &[Edge],
+    last: usize,
+    from: usize,
+) -> Result<Vec<usize>, Memory> {
     let mut reached = Vec::new(alloc);
     reached.push(from)?;
     for _ in edges {
@@ -64,7 +69,7 @@ fn reached(alloc: Global, edges: &[Edge], last: usize, from: usize) -> Result<Ve
 /// Whether some edge of the events up to a position leads back to where it comes from.
 fn has_cycle(alloc: Global, edges: &[Edge], last: usize) -> Result<bool, Memory> {
     for edge in edges {
-        if edge.at <= last && reached(alloc, edges, last, edge.to)?.contains(&edge.from) {
+        if edge.at <= last && reachable_from(alloc, edges, last, edge.to)?.contains(&edge.from) {
             return Ok(true);
         }
     }
