@@ -6,24 +6,27 @@ ghost use Rattle.velo_events.specs.Refusals.{GrowthRefused};
 use clap::{Arg, Command};
 use velo_events::Memory;
 
-/// The command with one more argument.
-pub fn with_argument<'a>(command: Command<'a>, argument: Arg<'a>) -> Result<Command<'a>, Memory>
+/// The command with more arguments.
+pub fn with_arguments<'a>(
+    command: Command<'a>,
+    arguments: Vec<Arg<'a>>,
+) -> Result<Command<'a>, Memory>
     ensures memory { OnErr result GrowthRefused }
 {
-    match command.arg(argument) {
+    match command.args(arguments) {
         Ok(command) => Ok(command),
         Err(_) => Err(Memory),
     }
 }
 
-/// The command with one more subcommand.
-pub fn with_subcommand<'a>(
+/// The command with more subcommands.
+pub fn with_subcommands<'a>(
     command: Command<'a>,
-    subcommand: Command<'a>,
+    subcommands: Vec<Command<'a>>,
 ) -> Result<Command<'a>, Memory>
     ensures memory { OnErr result GrowthRefused }
 {
-    match command.subcommand(subcommand) {
+    match command.subcommands(subcommands) {
         Ok(command) => Ok(command),
         Err(_) => Err(Memory),
     }

@@ -12,7 +12,7 @@ Statuses:
   0  no alarm, or help
   2  usage, or the input is at fault
   3  an alarm: no serial reordering of the run exists
-  4  the run met a limit
+  4  a limit was met, or the run could not go on
   5  memory or a device failed
 
 The help of each command has an example, its statuses with the lines on standard error, and what their numbers mean.

@@ -11,7 +11,7 @@ use crate::files::Files;
 use crate::help;
 use crate::program::{end_without_words, run};
 use crate::tests::slow::{BOUNDS, first_lines, world_by_chance};
-use std::alloc::Global;
+use std::alloc::{AllocError, Global};
 use std::io::{ErrorKind, Write};
 use std::process::Abort;
 use std::sync::Wait;
@@ -100,13 +100,31 @@ struct Shown {
     status: u8,
 }
 
+/// Runs the program on these words with these outputs.
+fn show_on<R: Threads + Wait + Sync, F: Files>(
+    rt: &R,
+    alloc: Global,
+    words: &[&str],
+    files: &mut F,
+    mut out: Text,
+    mut err: Text,
+) -> Shown {
+    let status = run(rt, alloc, words, files, &mut out, &mut err);
+    Shown { out, err, status }
+}
+
 /// Runs the program on these words. Both outputs take so many bytes at a time as the logs give.
 fn show<R: Threads + Wait + Sync>(rt: &R, words: &[&str], folder: &mut Folder) -> Shown {
     let alloc = folder.alloc;
-    let mut out = Text::new(alloc).in_steps(folder.step);
-    let mut err = Text::new(alloc).in_steps(folder.step);
-    let status = run(rt, alloc, words, folder, &mut out, &mut err);
-    Shown { out, err, status }
+    let out = Text::new(alloc).in_steps(folder.step);
+    let err = Text::new(alloc).in_steps(folder.step);
+    show_on(rt, alloc, words, folder, out, err)
+}
+
+/// Compares what a run showed of a text with what it is to show.
+fn compare(rt: &impl Abort, shown: &Shown, out: &str, err: &str, status: u8, text: &str) {
+    let told = (shown.out.as_slice(), shown.err.as_slice(), shown.status);
+    assert_eq!(rt; told, (out.as_bytes(), err.as_bytes(), status), "{text}");
 }
 
 /// Words that check a log.
@@ -338,17 +356,20 @@ static RUNS: [Run; 30] = [
     },
 ];
 
+/// Does a run by a log that comes so many bytes at a time.
+fn do_run<R: Threads + Wait + Abort + Sync>(rt: &R, alloc: Global, run: &Run, step: usize) {
+    let files = [("a.log", run.log)];
+    let mut folder = Folder::new(alloc, &files, step);
+    let shown = show(rt, run.words, &mut folder);
+    compare(rt, &shown, run.out, run.err, run.status, run.log);
+    drop((shown, folder));
+}
+
 #[test]
 fn logs_are_checked(rt: HostRuntime) {
     for run in &RUNS {
-        for step in [1, usize::MAX] {
-            let files = [("a.log", run.log)];
-            let mut folder = Folder::new(rt.alloc(), &files, step);
-            let shown = show(&rt, run.words, &mut folder);
-            assert_eq!(rt; shown.out.as_slice(), run.out.as_bytes(), "{}", run.log);
-            assert_eq!(rt; shown.err.as_slice(), run.err.as_bytes(), "{}", run.log);
-            assert_eq!(rt; shown.status, run.status);
-        }
+        do_run(&rt, rt.alloc(), run, 1);
+        do_run(&rt, rt.alloc(), run, usize::MAX);
     }
 }
 
@@ -393,9 +414,9 @@ fn verdicts_are_explained(rt: HostRuntime) {
         let mut folder = Folder::new(rt.alloc(), &files, usize::MAX);
         let asked = ["velodrome", "explain", "a.log", "--dot", "o.dot"];
         let shown = show(&rt, &asked, &mut folder);
-        assert_eq!(rt; shown.out.as_slice(), words.as_bytes());
+        compare(&rt, &shown, words, "", status, log);
         assert_eq!(rt; folder.output.as_slice(), picture.as_bytes());
-        assert_eq!(rt; shown.status, status);
+        drop((shown, folder));
     }
 }
 
@@ -422,19 +443,22 @@ fn certificates_are_written(rt: HostRuntime) {
     for (log, written) in CERTIFIED {
         let mut sink = Text::new(rt.alloc()).in_steps(1);
         let mut source = Bytes::new(log.as_bytes());
-        let answer = check_run(rt.alloc(), &mut source, &mut sink, MOST_EVENTS, 1024, true);
-        assert!(rt; answer.is_ok(), "{log}");
-        assert_eq!(rt; sink.as_slice(), written.as_bytes(), "{log}");
+        check_run(rt.alloc(), &mut source, &mut sink, MOST_EVENTS, 1024, true).expect(
+            &rt,
+            "a verdict",
+        );
+        assert_eq!(rt; sink.as_slice(), written.as_bytes());
+        drop(sink);
     }
 }
 
-/// Right words, with the status: of the two logs one raises an alarm at its last event.
-const RIGHT_WORDS: [(&[&str], u8); 9] = [
-    (&["velodrome", "check", "-"], 3),
-    (&["velodrome", "check", "--certificate", "a.log"], 3),
-    (&["velodrome", "check", "a.log"], 3),
-    (&["velodrome", "check", "b.log"], 0),
-    (&["velodrome", "check", "c.log"], 5),
+/// Right words, with the status and standard error: of the two logs one raises an alarm at its last event.
+const RIGHT_WORDS: [(&[&str], u8, &str); 9] = [
+    (&["velodrome", "check", "-"], 3, ""),
+    (&["velodrome", "check", "--certificate", "a.log"], 3, ""),
+    (&["velodrome", "check", "a.log"], 3, ""),
+    (&["velodrome", "check", "b.log"], 0, ""),
+    (&["velodrome", "check", "c.log"], 5, "cannot open\n"),
     (
         &[
             "velodrome",
@@ -446,10 +470,12 @@ const RIGHT_WORDS: [(&[&str], u8); 9] = [
             "2",
         ],
         3,
+        "",
     ),
     (
         &["velodrome", "check", "a.log", "--nodes=4096", "--events=4"],
         4,
+        "refused 17 at 4\n",
     ),
     (
         &[
@@ -460,8 +486,9 @@ const RIGHT_WORDS: [(&[&str], u8); 9] = [
             "b.log",
         ],
         0,
+        "",
     ),
-    (&["velodrome", "--help"], 0),
+    (&["velodrome", "--help"], 0, ""),
 ];
 
 const WRONG_WORDS: [&[&str]; 10] = [
@@ -479,24 +506,43 @@ const WRONG_WORDS: [&[&str]; 10] = [
 
 const FILES: [(&str, &str); 2] = [("a.log", LOST_UPDATE), ("b.log", "vlog 1 1 0 0\n")];
 
+/// Compares the status of a run and its standard error. It wrote to standard output with a status up to 3 alone.
+fn compare_right(rt: &impl Abort, shown: &Shown, status: u8, err: &str) {
+    let told = (
+        shown.status,
+        shown.out.as_slice().is_empty(),
+        shown.err.as_slice(),
+    );
+    assert_eq!(rt; told, (status, status > 3, err.as_bytes()));
+}
+
 #[test]
-fn command_lines(rt: HostRuntime) {
+fn right_command_lines(rt: HostRuntime) {
     let mut folder = Folder::new(rt.alloc(), &FILES, usize::MAX);
-    for (words, status) in RIGHT_WORDS {
+    for (words, status, err) in RIGHT_WORDS {
         let shown = show(&rt, words, &mut folder);
-        assert_eq!(rt; shown.status, status);
-        assert_eq!(rt; shown.out.as_slice().is_empty(), status > 3);
-        assert_eq!(rt; shown.err.as_slice().is_empty(), status <= 3);
-        if status == 5 {
-            assert_eq!(rt; shown.err.as_slice(), b"cannot open\n".as_slice());
-        }
+        compare_right(&rt, &shown, status, err);
+        drop(shown);
     }
+    drop(folder);
+}
+
+/// A fault of usage goes to standard error.
+fn compare_wrong(rt: &impl Abort, shown: &Shown) {
+    let told = (shown.status, shown.out.as_slice().is_empty());
+    assert_eq!(rt; told, (2, true));
+    assert!(rt; shown.err.as_slice().starts_with(b"error: "));
+}
+
+#[test]
+fn wrong_command_lines(rt: HostRuntime) {
+    let mut folder = Folder::new(rt.alloc(), &FILES, usize::MAX);
     for words in WRONG_WORDS {
         let shown = show(&rt, words, &mut folder);
-        assert_eq!(rt; shown.status, 2);
-        assert!(rt; shown.out.as_slice().is_empty());
-        assert!(rt; shown.err.as_slice().starts_with(b"error: "));
+        compare_wrong(&rt, &shown);
+        drop(shown);
     }
+    drop(folder);
 }
 
 /// Words that ask for help, and what stands at its end.
@@ -512,29 +558,47 @@ const HELP: [(&[&str], &str); 9] = [
     (&["velodrome", "--version"], help::VERSION),
 ];
 
+/// Help goes to standard output, and has this end.
+fn compare_help(rt: &impl Abort, shown: &Shown, end: &str) {
+    let told = (shown.status, shown.err.as_slice().is_empty());
+    assert_eq!(rt; told, (0, true));
+    let help = shown.out.as_slice().trim_ascii_end();
+    assert!(rt; help.ends_with(end.as_bytes()), "{end}");
+}
+
 #[test]
 fn help_goes_to_standard_output(rt: HostRuntime) {
     let mut folder = Folder::new(rt.alloc(), &FILES, usize::MAX);
     for (words, end) in HELP {
         let shown = show(&rt, words, &mut folder);
-        assert_eq!(rt; shown.status, 0);
-        assert!(rt; shown.err.as_slice().is_empty());
-        assert!(rt;
-            shown
-                .out
-                .as_slice()
-                .trim_ascii_end()
-                .ends_with(end.as_bytes()),
-            "{end}"
-        );
-        let mut full = Text::new(rt.alloc()).failing_after(9);
-        let mut err = Text::new(rt.alloc());
-        assert_eq!(rt;
-            run(&rt, rt.alloc(), words, &mut folder, &mut full, &mut err),
-            5
-        );
-        assert_eq!(rt; err.as_slice(), b"write failed\n".as_slice());
+        compare_help(&rt, &shown, end);
+        drop(shown);
     }
+    drop(folder);
+}
+
+/// Runs the program on these words with a standard output that fails after so many bytes.
+fn show_short<R: Threads + Wait + Sync, F: Files>(
+    rt: &R,
+    alloc: Global,
+    words: &[&str],
+    files: &mut F,
+    room: usize,
+) -> Shown {
+    let out = Text::new(alloc).failing_after(room);
+    show_on(rt, alloc, words, files, out, Text::new(alloc))
+}
+
+#[test]
+fn help_without_standard_output(rt: HostRuntime) {
+    let mut folder = Folder::new(rt.alloc(), &FILES, usize::MAX);
+    for (words, end) in HELP {
+        let shown = show_short(&rt, rt.alloc(), words, &mut folder, 9);
+        assert_eq!(rt; shown.status, 5, "{end}");
+        assert_eq!(rt; shown.err.as_slice(), b"write failed\n".as_slice());
+        drop(shown);
+    }
+    drop(folder);
 }
 
 /// The refusals that a check can answer.
@@ -570,41 +634,39 @@ fn help_has_the_texts_of_refusals(rt: HostRuntime) -> Result<(), Fail> {
 }
 
 #[test]
-fn devices_fail(rt: HostRuntime) {
+fn reads_fail(rt: HostRuntime) {
     let log = LOST_UPDATE.as_bytes();
     for count in 0..=log.len() {
         let mut source = Bytes::new(log).in_steps(1).failing_after(count);
         let mut sink = Text::new(rt.alloc());
         let answer = check_run(rt.alloc(), &mut source, &mut sink, MOST_EVENTS, 1024, false);
         assert_eq!(rt; answer, Err(CheckFault::Log(LogFault::Read)));
-        assert_eq!(rt; sink.as_slice(), b"".as_slice());
+        assert!(rt; sink.as_slice().is_empty());
+        drop(sink);
     }
+}
+
+#[test]
+fn writes_fail(rt: HostRuntime) {
     let written = LOST_UPDATE_CERTIFIED.as_bytes();
     for count in 0..written.len() {
+        let mut source = Bytes::new(LOST_UPDATE.as_bytes());
         let mut sink = Text::new(rt.alloc()).failing_after(count);
-        let answer = check_run(
-            rt.alloc(),
-            &mut Bytes::new(log),
-            &mut sink,
-            MOST_EVENTS,
-            1024,
-            true,
-        );
+        let answer = check_run(rt.alloc(), &mut source, &mut sink, MOST_EVENTS, 1024, true);
         assert_eq!(rt; answer, Err(CheckFault::Write));
         assert_eq!(rt; sink.as_slice(), &written[..count]);
+        drop(sink);
     }
+}
+
+#[test]
+fn standard_error_fails(rt: HostRuntime) {
     let mut folder = Folder::new(rt.alloc(), &FILES, usize::MAX);
-    let mut out = Text::new(rt.alloc());
-    let mut closed = Text::new(rt.alloc()).failing_after(0);
-    let status = run(
-        &rt,
-        rt.alloc(),
-        &["velodrome"],
-        &mut folder,
-        &mut out,
-        &mut closed,
-    );
-    assert_eq!(rt; status, 5);
+    let out = Text::new(rt.alloc());
+    let closed = Text::new(rt.alloc()).failing_after(0);
+    let shown = show_on(&rt, rt.alloc(), &["velodrome"], &mut folder, out, closed);
+    assert_eq!(rt; shown.status, 5);
+    drop((shown, folder));
 }
 
 /// Reports by names: as far as there are any, they stand for the numbers.
@@ -617,36 +679,44 @@ const NAMED: [(usize, usize, &str); 2] = [
     (0, 1, LOST_UPDATE_REPORT),
 ];
 
+/// Compares the report by these names.
+fn compare_report(rt: &impl Abort, alloc: Global, closed: &Closed, names: &Names, wanted: &str) {
+    let mut sink = Text::new(alloc);
+    assert!(rt; report(closed, names, &mut sink).is_ok());
+    assert_eq!(rt; sink.as_slice(), wanted.as_bytes());
+    drop(sink);
+}
+
+/// So many names that are the same word.
+fn copies(alloc: Global, word: &str, count: usize) -> Result<Vec<String>, AllocError> {
+    let mut names = Vec::new(alloc);
+    for _ in 0..count {
+        names.push(String::from_str(alloc, word)?)?;
+    }
+    Ok(names)
+}
+
 /// Compares the reports by names.
-fn compare_named(rt: &impl Abort, alloc: Global, closed: &Closed) -> Result<(), Fail> {
-    let threads = vec![in alloc; String::from_str(alloc, "main")?]?;
-    let mut labels = Vec::new(alloc);
-    for _ in 0..8 {
-        labels.push(String::from_str(alloc, "inc")?)?;
-    }
+fn compare_named(rt: &impl Abort, alloc: Global, closed: &Closed) {
     for (threads_named, labels_named, wanted) in NAMED {
+        let threads = copies(alloc, "main", threads_named).expect(rt, "memory");
+        let labels = copies(alloc, "inc", labels_named).expect(rt, "memory");
         let names = Names::Words {
-            threads: &threads[..threads_named.min(threads.len())],
-            labels: &labels[..labels_named.min(labels.len())],
+            threads: threads.as_slice(),
+            labels: labels.as_slice(),
         };
-        let mut sink = Text::new(alloc);
-        assert!(rt; report(closed, &names, &mut sink).is_ok());
-        assert_eq!(rt; sink.as_slice(), wanted.as_bytes());
+        compare_report(rt, alloc, closed, &names, wanted);
+        drop((threads, labels));
     }
-    Ok(())
 }
 
 #[test]
-fn names_stand_for_numbers(rt: HostRuntime) -> Result<(), Fail> {
-    let (bounds, log) = read_log(rt.alloc(), &mut Bytes::new(LOST_UPDATE.as_bytes()))?;
-    match do_log(rt.alloc(), config_of(bounds, 5, 2), log) {
-        Ok(closed) => {
-            let compared = compare_named(&rt, rt.alloc(), &closed);
-            drop(closed);
-            compared
-        }
-        Err(_) => Err("the log was not done".into()),
-    }
+fn names_stand_for_numbers(rt: HostRuntime) {
+    let mut source = Bytes::new(LOST_UPDATE.as_bytes());
+    let (bounds, log) = read_log(rt.alloc(), &mut source).expect(&rt, "a log");
+    let closed = do_log(rt.alloc(), config_of(bounds, 5, 2), log).expect(&rt, "a world");
+    compare_named(&rt, rt.alloc(), &closed);
+    drop(closed);
 }
 
 /// A writer that counts its calls.
@@ -681,52 +751,60 @@ fn one_write_for_a_line(rt: HostRuntime) {
         let _status = end_with(&fate, &mut err);
         assert_eq!(rt; err.writer.0, 1);
     }
-    let mut folder = Folder::new(rt.alloc(), &FILES, usize::MAX);
+}
+
+/// How many writes go to standard output, and to standard error.
+fn writes_of<R: Threads + Wait + Sync>(rt: &R, alloc: Global, words: &[&str]) -> (u64, u64) {
+    let mut folder = Folder::new(alloc, &FILES, usize::MAX);
     let mut out = WriterSink::new(Calls(0));
     let mut err = WriterSink::new(Calls(0));
-    let _status = run(
-        &rt,
-        rt.alloc(),
-        &["velodrome", "race"],
-        &mut folder,
-        &mut out,
-        &mut err,
+    let _status = run(rt, alloc, words, &mut folder, &mut out, &mut err);
+    drop(folder);
+    (out.writer.0, err.writer.0)
+}
+
+/// Help goes out in one write, and so does a fault of usage.
+#[test]
+fn one_write_of_clap(rt: HostRuntime) {
+    assert_eq!(rt; writes_of(&rt, rt.alloc(), &["velodrome", "race"]), (0, 1));
+    assert_eq!(rt;
+        writes_of(&rt, rt.alloc(), &["velodrome", "--help"]),
+        (1, 0)
     );
-    assert_eq!(rt; (out.writer.0, err.writer.0), (0, 1));
-    let _status = run(
-        &rt,
-        rt.alloc(),
-        &["velodrome", "--help"],
-        &mut folder,
-        &mut out,
-        &mut err,
-    );
-    assert_eq!(rt; (out.writer.0, err.writer.0), (1, 1));
+}
+
+/// What a program without words tells of a fault, with its status.
+const WORDLESS: [(ErrorKind, &str, u8); 2] = [
+    (ErrorKind::OutOfMemory, "out of memory\n", 5),
+    (
+        ErrorKind::InvalidData,
+        "error: a word of the command line is not UTF-8\n",
+        2,
+    ),
+];
+
+/// Ends without words, with a standard error that fails after so many bytes.
+fn show_wordless(alloc: Global, kind: ErrorKind, room: usize) -> Shown {
+    let mut err = Text::new(alloc).failing_after(room);
+    let status = end_without_words(kind, &mut err);
+    let out = Text::new(alloc);
+    Shown { out, err, status }
 }
 
 #[test]
 fn words_that_are_missing(rt: HostRuntime) {
-    let cases = [
-        (ErrorKind::OutOfMemory, "out of memory\n", 5),
-        (
-            ErrorKind::InvalidData,
-            "error: a word of the command line is not UTF-8\n",
-            2,
-        ),
-    ];
-    for (kind, line, status) in cases {
-        let mut err = Text::new(rt.alloc());
-        assert_eq!(rt; end_without_words(kind, &mut err), status);
-        assert_eq!(rt; err.as_slice(), line.as_bytes());
-        let mut closed = Text::new(rt.alloc()).failing_after(0);
-        assert_eq!(rt; end_without_words(kind, &mut closed), 5);
+    for (kind, line, status) in WORDLESS {
+        let shown = show_wordless(rt.alloc(), kind, usize::MAX);
+        compare(&rt, &shown, "", line, status, line);
+        drop(shown);
+        let closed = show_wordless(rt.alloc(), kind, 0);
+        compare(&rt, &closed, "", "", 5, line);
+        drop(closed);
     }
 }
 
-/// The log comes in four pieces, and its last event closes the first cycle.
-#[test]
-fn ten_thousand_lines(rt: HostRuntime) -> Result<(), Fail> {
-    let mut trace = Trace::new(rt.alloc());
+/// Adds 10,000 events, of which the last closes the first cycle.
+fn push_events(trace: &mut Trace) -> Result<(), Fail> {
     let first = ThreadId(0);
     let second = ThreadId(1);
     let x = VarId(0);
@@ -738,6 +816,14 @@ fn ten_thousand_lines(rt: HostRuntime) -> Result<(), Fail> {
     trace.push(event(first, Kind::Read(x, u64::MAX - 9_994)))?;
     trace.push(event(second, Kind::Write(x, 5)))?;
     trace.push(event(first, Kind::Write(x, 1)))?;
+    Ok(())
+}
+
+/// The log comes in four pieces.
+#[test]
+fn ten_thousand_lines(rt: HostRuntime) -> Result<(), Fail> {
+    let mut trace = Trace::new(rt.alloc());
+    push_events(&mut trace)?;
     assert_eq!(rt; trace.len(), 10_000);
     let bounds = Bounds {
         threads: 2,
@@ -745,7 +831,8 @@ fn ten_thousand_lines(rt: HostRuntime) -> Result<(), Fail> {
         locks: 0,
     };
     let mut log = Text::new(rt.alloc());
-    write_log(bounds, &trace, &mut log)?;
+    write_log(bounds, &trace, &mut log).expect(&rt, "memory");
+    drop(trace);
     let mut source = Bytes::new(log.as_slice());
     let mut sink = Text::new(rt.alloc());
     let answer = check_run(rt.alloc(), &mut source, &mut sink, 10_000, 1024, true);
@@ -753,6 +840,7 @@ fn ten_thousand_lines(rt: HostRuntime) -> Result<(), Fail> {
     let lines =
         "events 10000\nthread 0 4\nthread 1 9996\nverdict alarm 9999\ntransaction 9996\nblame 9996 7\ncycle 9996 9998\n";
     assert_eq!(rt; sink.as_slice(), lines.as_bytes());
+    drop((log, sink));
     Ok(())
 }
 
@@ -763,14 +851,14 @@ fn event(thread: ThreadId, kind: Kind) -> Event {
 /// Compares the report of a log with what the definitions say.
 fn compare_with_definitions(rt: &impl Abort, alloc: Global, trace: &Trace) -> Result<(), Fail> {
     assert!(rt; trace.len() <= 48);
+    let lines = first_lines(alloc, trace, BOUNDS.threads)?;
     let mut log = Text::new(alloc);
-    write_log(BOUNDS, trace, &mut log)?;
+    write_log(BOUNDS, trace, &mut log).expect(rt, "memory");
     let mut source = Bytes::new(log.as_slice());
     let mut sink = Text::new(alloc);
-    let answer = check_run(alloc, &mut source, &mut sink, 48, 1024, false);
-    assert!(rt; answer.is_ok());
-    let lines = first_lines(alloc, trace, BOUNDS.threads)?;
+    check_run(alloc, &mut source, &mut sink, 48, 1024, false).expect(rt, "a verdict");
     assert!(rt; sink.as_slice().starts_with(lines.as_bytes()), "{lines}");
+    drop((log, sink, lines));
     Ok(())
 }
 

@@ -53,6 +53,7 @@ fn compare(rt: &impl Abort, alloc: Global, closed: &Closed) {
     assert!(rt; again.is_ok());
     assert_eq!(rt; again, verdict);
     assert_eq!(rt; checked.as_slice(), shown.as_slice());
+    drop((log, list, shown, checked));
 }
 
 /// Runs a workload by threads that are held up by chance, and compares what it shows.
@@ -60,14 +61,10 @@ fn run_by_chance<R: Threads + Wait + Clock + Abort + Sync>(rt: &R, alloc: Global
     let workload = parse(alloc, WORKLOADS[(seed % 4) as usize]).expect(rt, "a workload");
     let config = Config::new(seed, workload.bounds(), 64, 64, false).expect(rt, "a configuration");
     let gate = Sleepy { rt, seed };
-    match live(rt, alloc, &workload, config, &gate) {
-        Ok((closed, ending)) => {
-            assert!(rt; matches!(ending, Ending::Done | Ending::Stuck));
-            compare(rt, alloc, &closed);
-            drop(closed);
-        }
-        Err(_) => panic!(rt; "a run was lost"),
-    }
+    let (closed, ending) = live(rt, alloc, &workload, config, &gate).expect(rt, "a run");
+    assert!(rt; matches!(ending, Ending::Done | Ending::Stuck));
+    compare(rt, alloc, &closed);
+    drop((closed, workload, gate));
 }
 
 /// The log of each run is checked again, to the same report and the same certificate.

@@ -2,10 +2,9 @@
 ghost use Rattle.std.specs.Prelude.{◌≤◌};
 
 use crate::files::Files;
-use crate::program::run;
 use crate::tests::slow::{Dice, first_lines};
 use crate::tests::workloads::COLLIDING;
-use crate::tests::{LOST_UPDATE, Shown};
+use crate::tests::{LOST_UPDATE, Shown, compare, show_short};
 use std::alloc::Global;
 use std::process::Abort;
 use std::sync::Wait;
@@ -66,11 +65,7 @@ fn show<R: Threads + Wait + Sync>(
     devices: &mut Devices,
     room: usize,
 ) -> Shown {
-    let alloc = devices.alloc;
-    let mut out = Text::new(alloc).failing_after(room);
-    let mut err = Text::new(alloc);
-    let status = run(rt, alloc, words, devices, &mut out, &mut err);
-    Shown { out, err, status }
+    show_short(rt, devices.alloc, words, devices, room)
 }
 
 /// Command lines with the text that they read, and their status.
@@ -102,46 +97,96 @@ const COMMANDS: [(&[&str], &str, u8); 4] = [
     ),
 ];
 
+/// Lets the read after so many bytes fail.
+fn fail_read<R: Threads + Wait + Abort + Sync>(
+    rt: &R,
+    alloc: Global,
+    words: &[&str],
+    text: &str,
+    count: usize,
+) {
+    let mut devices = Devices::new(alloc, text.as_bytes());
+    devices.readable = count;
+    let shown = show(rt, words, &mut devices, usize::MAX);
+    compare(rt, &shown, "", "read failed\n", 5, text);
+    assert!(rt; devices.output.as_slice().is_empty());
+    drop((shown, devices));
+}
+
 #[test]
 fn reads_fail_at_each_byte(rt: HostRuntime) {
     for (words, text, _) in COMMANDS {
         for count in 0..=text.len() {
-            let mut devices = Devices::new(rt.alloc(), text.as_bytes());
-            devices.readable = count;
-            let shown = show(&rt, words, &mut devices, usize::MAX);
-            assert_eq!(rt; shown.out.as_slice(), b"".as_slice());
-            assert_eq!(rt; devices.output.as_slice(), b"".as_slice());
-            assert_eq!(rt; shown.err.as_slice(), b"read failed\n".as_slice());
-            assert_eq!(rt; shown.status, 5);
+            fail_read(&rt, rt.alloc(), words, text, count);
         }
     }
 }
 
 /// Compares what went out before a write failed with the beginning of what was to go out.
 fn compare_failed(rt: &impl Abort, written: &Text, whole: &Text, count: usize, shown: &Shown) {
-    assert_eq!(rt; Some(written.as_slice()), whole.as_slice().get(..count));
-    assert_eq!(rt; shown.err.as_slice(), b"write failed\n".as_slice());
-    assert_eq!(rt; shown.status, 5);
+    let told = (Some(written.as_slice()), shown.err.as_slice(), shown.status);
+    let wanted = (
+        whole.as_slice().get(..count),
+        b"write failed\n".as_slice(),
+        5u8,
+    );
+    assert_eq!(rt; told, wanted);
+}
+
+/// Lets the write to standard output after so many bytes fail.
+fn fail_output<R: Threads + Wait + Abort + Sync>(
+    rt: &R,
+    alloc: Global,
+    words: &[&str],
+    text: &str,
+    whole: &Shown,
+    count: usize,
+) {
+    let mut devices = Devices::new(alloc, text.as_bytes());
+    let shown = show(rt, words, &mut devices, count);
+    compare_failed(rt, &shown.out, &whole.out, count, &shown);
+    drop((shown, devices));
+}
+
+/// Lets the write to a file after so many bytes fail.
+fn fail_file<R: Threads + Wait + Abort + Sync>(
+    rt: &R,
+    words: &[&str],
+    text: &str,
+    whole: &Devices,
+    count: usize,
+) {
+    let mut devices = Devices::new(whole.alloc, text.as_bytes());
+    devices.writable = count;
+    let shown = show(rt, words, &mut devices, usize::MAX);
+    compare_failed(rt, &devices.output, &whole.output, count, &shown);
+    assert!(rt; shown.out.as_slice().is_empty());
+    drop((shown, devices));
 }
 
 #[test]
-fn writes_fail_at_each_byte(rt: HostRuntime) {
+fn writes_to_standard_output_fail(rt: HostRuntime) {
     for (words, text, status) in COMMANDS {
         let mut devices = Devices::new(rt.alloc(), text.as_bytes());
         let whole = show(&rt, words, &mut devices, usize::MAX);
         assert_eq!(rt; whole.status, status);
         for count in 0..whole.out.as_slice().len() {
-            let mut devices = Devices::new(rt.alloc(), text.as_bytes());
-            let shown = show(&rt, words, &mut devices, count);
-            compare_failed(&rt, &shown.out, &whole.out, count, &shown);
+            fail_output(&rt, rt.alloc(), words, text, &whole, count);
         }
+        drop((whole, devices));
+    }
+}
+
+#[test]
+fn writes_to_files_fail(rt: HostRuntime) {
+    for (words, text, status) in COMMANDS {
+        let mut devices = Devices::new(rt.alloc(), text.as_bytes());
+        let whole = show(&rt, words, &mut devices, usize::MAX);
+        assert_eq!(rt; whole.status, status);
         for count in 0..devices.output.as_slice().len() {
-            let mut failing = Devices::new(rt.alloc(), text.as_bytes());
-            failing.writable = count;
-            let shown = show(&rt, words, &mut failing, usize::MAX);
-            compare_failed(&rt, &failing.output, &devices.output, count, &shown);
-            assert_eq!(rt; shown.out.as_slice(), b"".as_slice());
+            fail_file(&rt, words, text, &devices, count);
         }
+        drop((whole, devices));
     }
 }
 
@@ -227,6 +272,14 @@ fn told(shown: &Shown) -> &[u8] {
     }
 }
 
+/// Compares what a run told of a log with what the definitions say.
+fn compare_slow(rt: &impl Abort, alloc: Global, log: &[u8], shown: &Shown) -> Result<(), Fail> {
+    let answer = slow_answer(alloc, log)?;
+    assert!(rt; told(shown).starts_with(answer.as_bytes()), "{answer}");
+    drop(answer);
+    Ok(())
+}
+
 #[test]
 fn spoiled_logs(rt: HostRuntime) -> Result<(), Fail> {
     let mut dice = Dice::new(20);
@@ -235,29 +288,44 @@ fn spoiled_logs(rt: HostRuntime) -> Result<(), Fail> {
         let mut devices = Devices::new(rt.alloc(), &log);
         let words = ["velodrome", "check", "a.log"];
         let shown = show(&rt, &words, &mut devices, usize::MAX);
-        let answer = slow_answer(rt.alloc(), &log)?;
-        assert!(rt; told(&shown).starts_with(answer.as_bytes()), "{answer}");
+        let compared = compare_slow(&rt, rt.alloc(), &log, &shown);
+        drop((shown, devices));
+        drop(log);
+        compared?;
     }
     Ok(())
+}
+
+/// Checks the log that a run wrote: it has the verdict of the run, or the run could not go on.
+fn check_again<R: Threads + Wait + Abort + Sync>(rt: &R, alloc: Global, log: &[u8], status: u8) {
+    let words = ["velodrome", "check", "o.log"];
+    let mut devices = Devices::new(alloc, log);
+    let checked = show(rt, &words, &mut devices, usize::MAX);
+    assert!(rt; checked.status == 0 || checked.status == 3);
+    assert!(rt; status == checked.status || status == 4);
+    drop((checked, devices));
+}
+
+/// Replays a workload that was spoiled. It is none, or the log of its run can be checked.
+fn replay_spoiled<R: Threads + Wait + Abort + Sync>(rt: &R, alloc: Global, workload: &[u8]) {
+    let words = ["velodrome", "replay", "w", "--log", "o.log"];
+    let mut devices = Devices::new(alloc, workload);
+    let shown = show(rt, &words, &mut devices, usize::MAX);
+    if shown.status == 2 {
+        assert!(rt; shown.err.as_slice().starts_with(b"workload fault "));
+    } else {
+        check_again(rt, alloc, devices.output.as_slice(), shown.status);
+    }
+    drop((shown, devices));
 }
 
 #[test]
 fn spoiled_workloads(rt: HostRuntime) -> Result<(), Fail> {
     let mut dice = Dice::new(21);
-    let replay = ["velodrome", "replay", "w", "--log", "o.log"];
-    let check = ["velodrome", "check", "o.log"];
     for _ in 0..1000 {
         let workload = spoiled(rt.alloc(), COLLIDING, &mut dice)?;
-        let mut devices = Devices::new(rt.alloc(), &workload);
-        let shown = show(&rt, &replay, &mut devices, usize::MAX);
-        if shown.status == 2 {
-            assert!(rt; shown.err.as_slice().starts_with(b"workload fault "));
-            continue;
-        }
-        let mut again = Devices::new(rt.alloc(), devices.output.as_slice());
-        let checked = show(&rt, &check, &mut again, usize::MAX);
-        assert!(rt; shown.status == checked.status || shown.status == 4);
-        assert!(rt; checked.status == 0 || checked.status == 3);
+        replay_spoiled(&rt, rt.alloc(), &workload);
+        drop(workload);
     }
     Ok(())
 }

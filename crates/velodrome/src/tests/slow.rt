@@ -1,8 +1,8 @@
 //! Logs by chance, and their reports by the definitions in the slowest way.
-ghost use Rattle.std.specs.Prelude.{◌≤◌};
+ghost use Rattle.std.specs.Prelude.{◌≤◌, ◌<◌, length};
 
 use crate::check::config_of;
-use std::alloc::{AllocError, Global};
+use std::alloc::Global;
 use std::process::Abort;
 use std::test::Fail;
 use velo_events::{
@@ -65,6 +65,15 @@ fn action_by(dice: u64) -> Action {
     ACTIONS[(dice % 32) as usize]
 }
 
+/// What a turn does by a throw of the dice. The first two fork.
+fn turn_by(turn: u8, throw: u64) -> (ThreadId, Action) {
+    match turn {
+        0 => (ThreadId(0), Action::Fork(ThreadId(1))),
+        1 => (ThreadId(0), Action::Fork(ThreadId(2))),
+        _ => (ThreadId((throw % 4) as u8), action_by(throw >> 2)),
+    }
+}
+
 /// Throws by chance, each sequence by its seed: a linear congruential generator of D. E. Knuth's (MMIX).
 #[derive(Drop)]
 pub struct Dice {
@@ -101,16 +110,46 @@ pub fn world_by_chance(rt: &impl Abort, alloc: Global, seed: u64) -> World {
     let (mut world, mut shares) = relived.expect(rt, "a world");
     let mut dice = Dice::new(seed);
     for i in 0..48u8 {
-        let throw = dice.throw();
-        let thread = if i < 2 { 0 } else { throw % 4 };
-        let action = match i {
-            0 => Action::Fork(ThreadId(1)),
-            1 => Action::Fork(ThreadId(2)),
-            _ => action_by(throw >> 2),
-        };
-        let _outcome = world.act_as(&mut shares, ThreadId(thread as u8), action);
+        let (thread, action) = turn_by(i, dice.throw());
+        let _outcome = world.act_as(&mut shares, thread, action);
     }
+    drop(shares);
     world
+}
+
+/// Adds what reaches the start of an edge to the sources, and what its end reaches to the targets.
+fn list_ends(
+    reaches: &[(usize, usize)],
+    from: usize,
+    to: usize,
+    sources: &mut Vec<usize>,
+    targets: &mut Vec<usize>,
+) -> Result<(), Memory> {
+    sources.push(from)?;
+    targets.push(to)?;
+    for (a, b) in reaches {
+        if *b == from {
+            sources.push(*a)?;
+        }
+        if *a == to {
+            targets.push(*b)?;
+        }
+    }
+    Ok(())
+}
+
+/// Adds the pairs of a source with each target that are not there.
+fn add_pairs(
+    reaches: &mut Vec<(usize, usize)>,
+    source: usize,
+    targets: &[usize],
+) -> Result<(), Memory> {
+    for target in targets {
+        if !reaches.contains(&(source, *target)) {
+            reaches.push((source, *target))?;
+        }
+    }
+    Ok(())
 }
 
 /// Joins to the pairs, where the first reaches the second, all that one more edge makes reachable.
@@ -120,60 +159,72 @@ fn add_edge(
     from: usize,
     to: usize,
 ) -> Result<(), Memory> {
-    let mut sources: Vec<usize> = Vec::new(alloc);
-    let mut targets: Vec<usize> = Vec::new(alloc);
-    sources.push(from)?;
-    targets.push(to)?;
-    for (a, b) in reaches.iter() {
-        if *b == from {
-            sources.push(*a)?;
-        }
-        if *a == to {
-            targets.push(*b)?;
-        }
-    }
-    for a in sources.iter() {
-        for b in targets.iter() {
-            if !reaches.contains(&(*a, *b)) {
-                reaches.push((*a, *b))?;
-            }
-        }
+    let mut sources = Vec::new(alloc);
+    let mut targets = Vec::new(alloc);
+    list_ends(reaches.as_slice(), from, to, &mut sources, &mut targets)?;
+    for source in &sources {
+        add_pairs(reaches, *source, &targets)?;
     }
     Ok(())
 }
 
+/// Joins to the pairs what the edges to an event make reachable. It answers whether one of them closes a cycle.
+fn closes(
+    alloc: Global,
+    reaches: &mut Vec<(usize, usize)>,
+    trace: &Trace,
+    at: usize,
+) -> Result<bool, Memory>
+    requires { at < length trace.now.events }
+{
+    let events = trace.as_slice();
+    let to = trace.owner_of(at);
+    for before in 0..at {
+        let from = trace.owner_of(before);
+        if from != to && conflicts(&events[before], &events[at]) {
+            if reaches.contains(&(to, from)) {
+                return Ok(true);
+            }
+            add_edge(alloc, reaches, from, to)?;
+        }
+    }
+    Ok(false)
+}
+
 /// The first position up to which the events have a cycle, by all pairs of events.
 fn first_closing(alloc: Global, trace: &Trace) -> Result<Option<usize>, Memory> {
-    let mut reaches: Vec<(usize, usize)> = Vec::new(alloc);
-    let events = trace.as_slice();
-    for at in 0..events.len() {
-        for before in 0..at {
-            let from = trace.owner_of(before);
-            let to = trace.owner_of(at);
-            if from != to && conflicts(&events[before], &events[at]) {
-                if reaches.contains(&(to, from)) {
-                    return Ok(Some(at));
-                }
-                add_edge(alloc, &mut reaches, from, to)?;
-            }
+    let mut reaches = Vec::new(alloc);
+    for at in 0..trace.len() {
+        if closes(alloc, &mut reaches, trace, at)? {
+            return Ok(Some(at));
         }
     }
     Ok(None)
 }
 
-/// The first lines of the report of a trace, up to the transaction of an alarm.
-pub fn first_lines(alloc: Global, trace: &Trace, threads: u8) -> Result<String, Fail> {
-    let mut text = format!(in alloc; "events {}\n", trace.len())?;
-    for t in 0..threads {
-        let mut count = 0usize;
-        for event in trace.as_slice() {
-            if event.thread == ThreadId(t) {
-                count = count.wrapping_add(1);
-            }
+/// How many events of a trace a thread has.
+fn count_of(trace: &Trace, thread: ThreadId) -> usize {
+    let mut count = 0usize;
+    for event in trace.as_slice() {
+        if event.thread == thread {
+            count = count.wrapping_add(1);
         }
+    }
+    count
+}
+
+/// Writes how many events each thread has.
+fn write_counts(text: &mut String, trace: &Trace, threads: u8) -> Result<(), Fail> {
+    for t in 0..threads {
+        let count = count_of(trace, ThreadId(t));
         writeln!(text, "thread {t} {count}")?;
     }
-    match first_closing(alloc, trace)? {
+    Ok(())
+}
+
+/// Writes the verdict, with an alarm's transaction.
+fn write_verdict(text: &mut String, trace: &Trace, closing: Option<usize>) -> Result<(), Fail> {
+    match closing {
         Some(at) => {
             let transaction = if at < trace.len() {
                 trace.owner_of(at)
@@ -184,5 +235,14 @@ pub fn first_lines(alloc: Global, trace: &Trace, threads: u8) -> Result<String, 
         }
         None => writeln!(text, "verdict clean")?,
     }
+    Ok(())
+}
+
+/// The first lines of the report of a trace, up to the transaction of an alarm.
+pub fn first_lines(alloc: Global, trace: &Trace, threads: u8) -> Result<String, Fail> {
+    let closing = first_closing(alloc, trace)?;
+    let mut text = format!(in alloc; "events {}\n", trace.len())?;
+    write_counts(&mut text, trace, threads)?;
+    write_verdict(&mut text, trace, closing)?;
     Ok(text)
 }

@@ -1,7 +1,11 @@
 //! Workloads, replayed by schedules and run by threads.
 use crate::schedule::{MOST_TURNS, ScheduleFault, schedule_of};
-use crate::tests::{Folder, show};
+use crate::tests::{Folder, compare, show};
+use std::alloc::Global;
+use std::process::Abort;
+use std::sync::Wait;
 use std::test::Fail;
+use std::thread::Threads;
 
 /// The lost update as a workload.
 pub const COLLIDING: &str =
@@ -289,33 +293,22 @@ static WORKS: [Work; 26] = [
     },
 ];
 
+/// Does a run by a workload that comes so many bytes at a time.
+fn do_work<R: Threads + Wait + Abort + Sync>(rt: &R, alloc: Global, run: &Work, step: usize) {
+    let files = [("w", run.workload)];
+    let mut folder = Folder::new(alloc, &files, step);
+    let shown = show(rt, run.words, &mut folder);
+    compare(rt, &shown, run.out, run.err, run.status, run.workload);
+    let log = folder.output.as_slice();
+    assert_eq!(rt; log, run.log.as_bytes(), "{}", run.workload);
+    drop((shown, folder));
+}
+
 #[test]
 fn workloads_run(rt: HostRuntime) {
     for run in &WORKS {
-        for step in [1, usize::MAX] {
-            let files = [("w", run.workload)];
-            let mut folder = Folder::new(rt.alloc(), &files, step);
-            let shown = show(&rt, run.words, &mut folder);
-            assert_eq!(rt;
-                shown.out.as_slice(),
-                run.out.as_bytes(),
-                "{}",
-                run.workload
-            );
-            assert_eq!(rt;
-                shown.err.as_slice(),
-                run.err.as_bytes(),
-                "{}",
-                run.workload
-            );
-            assert_eq!(rt;
-                folder.output.as_slice(),
-                run.log.as_bytes(),
-                "{}",
-                run.workload
-            );
-            assert_eq!(rt; shown.status, run.status);
-        }
+        do_work(&rt, rt.alloc(), run, 1);
+        do_work(&rt, rt.alloc(), run, usize::MAX);
     }
 }
 
@@ -334,27 +327,32 @@ const BAD_SCHEDULES: [&str; 16] = [
     "00", "x",
 ];
 
+/// Compares a schedule with the numbers that its text means.
+fn compare_schedule(rt: &impl Abort, alloc: Global, text: &str, numbers: &[u8]) {
+    let schedule = schedule_of(alloc, text).expect(rt, "a schedule");
+    assert_eq!(rt; schedule.len(), numbers.len(), "{text}");
+    assert!(rt;
+        schedule.iter().zip(numbers).all(|(t, n)| t.0 == *n),
+        "{text}"
+    );
+    drop(schedule);
+}
+
 #[test]
-fn schedules_are_read(rt: HostRuntime) -> Result<(), Fail> {
+fn schedules_are_read(rt: HostRuntime) {
     for (text, numbers) in SCHEDULES {
-        match schedule_of(rt.alloc(), text) {
-            Ok(schedule) => {
-                assert_eq!(rt; schedule.len(), numbers.len());
-                assert!(rt;
-                    schedule.iter().zip(numbers).all(|(t, n)| t.0 == *n),
-                    "{text}"
-                );
-            }
-            Err(_) => return Err("a schedule was not read".into()),
-        }
+        compare_schedule(&rt, rt.alloc(), text, numbers);
     }
+}
+
+#[test]
+fn bad_schedules(rt: HostRuntime) {
     for text in BAD_SCHEDULES {
         assert!(rt;
             schedule_of(rt.alloc(), text) == Err(ScheduleFault::Bad),
             "{text}"
         );
     }
-    Ok(())
 }
 
 /// A schedule of the most numbers, and one of one more.
