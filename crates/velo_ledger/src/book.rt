@@ -131,7 +131,8 @@ pub fn gather(book: &Book, shares: &Shares) -> Option<u64>
     gather_both(book, &Shares::nowhere(*shares.places.allocator()), shares)
 }
 
-/// The sum of the shares' events, where the share of each thread is there once, in one of the two lists of places, and all fit.
+/// The sum of the shares' events, where the share of each thread is in one of the two lists, no place has a share in both,
+/// and all fit.
 pub fn gather_both(book: &Book, kept: &Shares, given: &Shares) -> Option<u64>
     ensures sum { SomeIff result (HaveAllShares book.now kept.now given.now) (events_in_all kept.now + events_in_all given.now) }
     ensures rows { IfSome result (λ events. events ≡ sum_by (λ row. row.events) book.now.rows) }

@@ -1,4 +1,4 @@
-use crate::{Book, Shares, Tally, gather};
+use crate::{Book, Shares, Tally, gather, gather_both};
 use std::process::Abort;
 use std::test::Fail;
 use velo_events::{Event, Kind, Label, MOST_EVENTS, ThreadId, VarId};
@@ -119,5 +119,33 @@ fn a_place_takes_one_share(rt: HostRuntime) -> Result<(), Fail> {
     let second = shares.take(ThreadId(1)).expect(&rt, "a share");
     assert!(rt; empty.put(second).is_err());
     assert!(rt; empty.get(ThreadId(0)).is_none());
+    Ok(())
+}
+
+#[test]
+fn one_share_of_each_thread_in_two_lists(rt: HostRuntime) -> Result<(), Fail> {
+    let (mut book, mut given) = Book::open(rt.alloc(), 7, 3).expect(&rt, "memory");
+    let (_, mut others) = Book::open(rt.alloc(), 7, 3).expect(&rt, "memory");
+    let mut kept = Shares::none(rt.alloc(), 2).expect(&rt, "memory");
+    enter(&rt, &mut book, &mut given, 0, &by(0, Kind::Read(X, 0)));
+    enter(&rt, &mut book, &mut given, 1, &by(2, Kind::Read(X, 0)));
+    assert_eq!(rt; gather_both(&book, &kept, &given), Some(2));
+
+    let first = given.take(ThreadId(0)).expect(&rt, "a share");
+    assert_eq!(rt; gather_both(&book, &kept, &given), None, "thread 0 has none");
+    assert!(rt; kept.put(first).is_ok());
+    assert_eq!(rt; gather_both(&book, &kept, &given), Some(2));
+    assert_eq!(rt; gather_both(&book, &given, &kept), Some(2));
+
+    let another = others.take(ThreadId(1)).expect(&rt, "a share");
+    assert!(rt; book.fits(&another) && kept.put(another).is_ok());
+    assert_eq!(rt; gather_both(&book, &kept, &given), None, "thread 1 has two");
+    assert!(rt; given.take(ThreadId(1)).is_some());
+    assert_eq!(rt; gather_both(&book, &kept, &given), Some(2));
+
+    assert!(rt; given.take(ThreadId(2)).is_some());
+    let old = others.take(ThreadId(2)).expect(&rt, "a share");
+    assert!(rt; given.put(old).is_ok());
+    assert_eq!(rt; gather_both(&book, &kept, &given), None, "that of thread 2 does not fit");
     Ok(())
 }
