@@ -1,9 +1,13 @@
 """Runs a program again and again and refuses it one growth each time: the first, the second, and so on until it meets none.
 
     python3 tools/sweep.py crates/velodrome/out/velodrome check LOG
+    python3 tools/sweep.py --tests refused_growth crates/velo_world/out/velo_world_tests
 
 A run of the program has to end as the one without a refusal, or with status 5 and `out of memory` (for `run` also `seat lost`)
 on standard error and nothing on standard output.
+
+With `--tests WORD` the program is the tests of a crate, as `rt test` leaves it. Each test whose name has the word is run by
+itself, and each run of it has to succeed.
 """
 import os
 import subprocess
@@ -27,7 +31,11 @@ def run(shim, command, number):
     with subprocess.Popen(command, env=environment, stdin=subprocess.DEVNULL, stdout=subprocess.PIPE,
                           stderr=subprocess.PIPE, pass_fds=(writer,)) as child:
         os.close(writer)
-        out, err = child.communicate(timeout=120)
+        try:
+            out, err = child.communicate(timeout=120)
+        except subprocess.TimeoutExpired:
+            child.kill()
+            out, err = child.communicate()
     told = os.read(reader, 1)
     os.close(reader)
     return child.returncode, out, err, told != b""
@@ -58,12 +66,31 @@ def sweep(shim, command):
     return "OTHER" not in kinds and kind_of(got, plain) != "OTHER"
 
 
+def tests_of(program, word):
+    listed = subprocess.run([program, "--list"], check=True, capture_output=True, text=True).stdout
+    names = [line.removesuffix(": test") for line in listed.splitlines() if line.endswith(": test")]
+    return [name for name in names if word in name]
+
+
+def sweep_tests(shim, program, word):
+    tests = tests_of(program, word)
+    succeed = bool(tests)
+    for test in tests:
+        print(test, end=": ", flush=True)
+        succeed = sweep(shim, [program, test]) and run(shim, [program, test], 0)[0] == 0 and succeed
+    return succeed
+
+
 def main():
     command = sys.argv[1:]
-    if not command:
+    are_tests = command[:1] == ["--tests"]
+    if not command or are_tests and len(command) != 3:
         sys.exit(__doc__)
     with tempfile.TemporaryDirectory() as folder:
-        sys.exit(0 if sweep(build_shim(folder), command) else 1)
+        shim = build_shim(folder)
+        if are_tests:
+            sys.exit(0 if sweep_tests(shim, command[2], command[1]) else 1)
+        sys.exit(0 if sweep(shim, command) else 1)
 
 
 main()

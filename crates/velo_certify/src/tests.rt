@@ -1,3 +1,4 @@
+mod growths;
 mod logs;
 mod slow;
 

@@ -2,6 +2,8 @@ ghost use Rattle.std.specs.Prelude.{◌≤◌, length};
 ghost use Rattle.velo_events.specs.declared.limits.TheConstants.{MOST_EVENTS};
 ghost use Rattle.velo_logtext.specs.Text.{AreBounds};
 
+mod growths;
+
 use crate::read::read_up_to;
 use crate::{
     Bytes, Failed, LogFault, ReaderSource, Source, Text, WriteFault, WriterSink, read_log,

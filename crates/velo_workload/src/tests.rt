@@ -1,3 +1,5 @@
+mod growths;
+
 use crate::{Statement, WorkFault, Workload, parse, text_of};
 use std::alloc::Global;
 use std::fmt::Write;

@@ -1,10 +1,25 @@
 ghost use Rattle.std.specs.Prelude.{◌≡◌, false, None, Some, replicate, slice_set};
-ghost use Rattle.velo_world.specs.World.{FitsLog, HoldsLiveShares};
+ghost use Rattle.velo_ledger.specs.Shares.{opening_share};
+ghost use Rattle.velo_world.specs.World.{FitsLog, HoldsLiveShares, opening};
+
+/// What the call answers, or where a growth is refused what the same call answers then.
+macro_rules! again {
+    ($refused:pat, $call:expr) => {
+        match $call {
+            Err($refused) => $call,
+            answer => answer,
+        }
+    };
+}
+
+mod growths;
 
 use crate::{Alarm, ReliveFault, Reply, World};
 use std::alloc::Global;
 use std::process::Abort;
-use velo_events::{Action, Bounds, Config, Event, Kind, Label, LockId, Refusal, ThreadId, VarId};
+use velo_events::{
+    Action, Bounds, Config, Event, Kind, Label, LockId, Memory, Refusal, ThreadId, VarId,
+};
 use velo_ledger::{Share, Shares};
 use velo_traces::{Block, Trace};
 
@@ -32,26 +47,38 @@ const LOST_UPDATE: [Step; 8] = [
     (MAIN, Action::Begin(Label(2))),
 ];
 
-/// Whether the alarm is that of the lost update, for which the block of the reader is to blame.
-fn is_the_alarm(alarm: Option<&Alarm>) -> bool {
+/// Whether the alarm is at the position, for which the block that begins at 1 is to blame.
+fn is_alarm_at(alarm: Option<&Alarm>, position: usize) -> bool {
     let blamed = [Block {
         first: 1,
         label: Label(7),
     }];
     alarm.is_some_and(|alarm| {
-        alarm.position == 4
+        alarm.position == position
             && alarm.transaction == 1
             && alarm.blamed.as_slice() == blamed.as_slice()
     })
+}
+
+/// Whether the alarm is that of the lost update.
+fn is_the_alarm(alarm: Option<&Alarm>) -> bool {
+    is_alarm_at(alarm, 4)
 }
 
 /// So many places, with the share at its own.
 fn holding(rt: &impl Abort, alloc: Global, threads: u8, share: Share) -> Shares
     ensures { result ≡ slice_set (replicate threads None) share.thread.0 (Some share) }
 {
-    let mut shares = Shares::none(alloc, threads).expect(rt, "memory");
+    let mut shares = again!(Memory, Shares::none(alloc, threads)).expect(rt, "memory");
     assert!(rt; shares.put(share).is_ok());
     shares
+}
+
+fn new_world(rt: &impl Abort, alloc: Global, config: Config) -> (World, Share)
+    ensures world { result.0 ≡ opening config }
+    ensures share { result.1 ≡ opening_share config.run 0 }
+{
+    again!(Memory, World::new(alloc, config)).expect(rt, "memory")
 }
 
 /// A world of so many threads, one variable and one lock, with thread 0's share at its place.
@@ -64,7 +91,7 @@ fn opened(rt: &impl Abort, alloc: Global, threads: u8, nodes: u16, stop: bool) -
         locks: 1,
     };
     let config = Config::new(1, bounds, 100, nodes, stop).expect(rt, "a configuration");
-    let (world, share) = World::new(alloc, config).expect(rt, "memory");
+    let (world, share) = new_world(rt, alloc, config);
     (world, holding(rt, alloc, threads, share))
 }
 

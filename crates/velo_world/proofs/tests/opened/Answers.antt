@@ -8,6 +8,6 @@ returns g c =
     let config = c.expect-config.result in
     let bounds = rw c.expect-config.ensures at c.new.ensures.bounds in
     let threads = ap (λ (b : Bounds). b.threads) bounds in
-    let made = rw c.expect-world.ensures at c.new-2.ensures.world in
-    let first = rw c.expect-world.ensures at c.new-2.ensures.share in
+    let made = c.new_world-world.ensures.world in
+    let first = c.new_world-world.ensures.share in
     rw (c.holding.ensures, first, made, ← threads) (HoldsLiveShares-opened config)
