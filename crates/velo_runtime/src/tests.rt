@@ -1,3 +1,5 @@
+mod growths;
+
 use crate::{
     Missing, Room, RunError, Seat, Shared, Turn, Wanted, close, comes_back, fork_in, step_in,
     turn_in,
