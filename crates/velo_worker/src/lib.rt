@@ -20,6 +20,8 @@ pub use living::{LiveFault, live};
 pub use replaying::replay;
 
 #[cfg(test)]
+mod growth_tests;
+#[cfg(test)]
 mod live_tests;
 #[cfg(test)]
 mod tests;

@@ -1,5 +1,6 @@
 //! The program over logs and devices in memory.
 mod chance;
+mod growths;
 mod hostile;
 mod slow;
 mod workloads;
