@@ -33,6 +33,6 @@ fn a_refused_growth_of_a_check(rt: HostRuntime) {
     );
     assert_eq!(rt; checked, Ok(Verdict::Alarm));
     drop(sink);
-    assert_eq!(rt; space.get(..written.len()), Some(written));
-    assert_eq!(rt; space.get(written.len()), Some(&0));
+    assert_eq!(rt; space.as_slice().get(..written.len()), Some(written));
+    assert_eq!(rt; space.as_slice().get(written.len()), Some(&0));
 }
