@@ -132,7 +132,11 @@ fn one_share_of_each_thread_in_two_lists(rt: HostRuntime) -> Result<(), Fail> {
     assert_eq!(rt; gather_both(&book, &kept, &given), Some(2));
 
     let first = given.take(ThreadId(0)).expect(&rt, "a share");
-    assert_eq!(rt; gather_both(&book, &kept, &given), None, "thread 0 has none");
+    assert_eq!(rt;
+        gather_both(&book, &kept, &given),
+        None,
+        "thread 0 has none"
+    );
     assert!(rt; kept.put(first).is_ok());
     assert_eq!(rt; gather_both(&book, &kept, &given), Some(2));
     assert_eq!(rt; gather_both(&book, &given, &kept), Some(2));
@@ -146,6 +150,10 @@ fn one_share_of_each_thread_in_two_lists(rt: HostRuntime) -> Result<(), Fail> {
     assert!(rt; given.take(ThreadId(2)).is_some());
     let old = others.take(ThreadId(2)).expect(&rt, "a share");
     assert!(rt; given.put(old).is_ok());
-    assert_eq!(rt; gather_both(&book, &kept, &given), None, "that of thread 2 does not fit");
+    assert_eq!(rt;
+        gather_both(&book, &kept, &given),
+        None,
+        "that of thread 2 does not fit"
+    );
     Ok(())
 }
