@@ -1,30 +1,28 @@
 use Rattle.std.proofs.Common.{◌≡◌, ◌+◌, ◌∷◌, ◌++◌, [], Some, None, length, set, refl, sym, ap, ◌∙◌, subst, arith}
-use Rattle.std.specs.Prelude.{slice_get}
-use Rattle.std.proofs.lemmas.Bool.{false≢true}
-use Rattle.std.proofs.lemmas.Grind.{common_steps}
+use Rattle.std.proofs.lemmas.Bool.{eqb-true, false≢true}
 use Rattle.std.proofs.lemmas.Option.{none-some, same_Some}
 use Rattle.velo_events.specs.declared.event.ThreadId.{ThreadId}
 use Rattle.velo_ledger.specs.Shares.{events_in_all, share_at}
 use Rattle.velo_runtime.specs.Places.{AreTogether, events_of_all}
-use Rattle.velo_runtime.proofs.Places.{place_is_empty, AreTogether-next, AreTogether-before, events-next, taken_is, places-back, CompletesShares-end, AreTogether-end}
+use Rattle.velo_runtime.proofs.Places.{no_items, place_is_empty, AreTogether-next, AreTogether-before, events-next, taken_is, places-back, CompletesShares-end, AreTogether-end}
 use Rattle.velo_runtime.proofs.Vecs.{same_vec}
 use Rattle.velo_runtime.proofs.room.+close_by.Goals as goal
 
 pub returns-in-Ok-clause-all : goal.returns-in-Ok-clause-all
 returns-in-Ok-clause-all t c =
-    let none : c.args.seats.items ≡ [] = grind (arith, common_steps) in
+    let none = no_items c.args.seats.items (sym c.args.seats.ok.0 ∙ eqb-true c.args.seats.len 0 (sym c.is_empty.ensures ∙ c.if-is_empty.true)) in
     rw none (AreTogether-end c.args.world c.args.places c.requires c.in-Ok.ensures.closes.0)
 
 pub returns-in-Ok-clause-total : goal.returns-in-Ok-clause-total
 returns-in-Ok-clause-total t c =
-    let none : c.args.seats.items ≡ [] = grind (arith, common_steps) in
+    let none = no_items c.args.seats.items (sym c.args.seats.ok.0 ∙ eqb-true c.args.seats.len 0 (sym c.is_empty.ensures ∙ c.if-is_empty.true)) in
     let sum = c.in-Ok.ensures.sum in
     let all : events_in_all c.args.places + events_of_all [] ≡ events_in_all c.args.places = omega arith in
     rw none (all ∙ sum)
 
 pub returns-in-Err-clause-cause : goal.returns-in-Err-clause-cause
 returns-in-Err-clause-cause t c are =
-    let none : c.args.seats.items ≡ [] = grind (arith, common_steps) in
+    let none = no_items c.args.seats.items (sym c.args.seats.ok.0 ∙ eqb-true c.args.seats.len 0 (sym c.is_empty.ensures ∙ c.if-is_empty.true)) in
     c.in-Err.ensures.closes.0 (CompletesShares-end c.args.world c.args.places c.requires (subst (AreTogether c.args.world c.args.places) none are))
 
 pub returns-in-Err-put-clause-seats : goal.returns-in-Err-put-clause-seats
