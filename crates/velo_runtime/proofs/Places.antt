@@ -19,6 +19,10 @@ use Rattle.velo_world.specs.World.{FitsLog, HasShare, CompletesShares}
 use Rattle.velo_runtime.specs.Seats.{AreSeatsOf, is_of}
 use Rattle.velo_runtime.specs.Places.{seats_due, events_of_all, PlaceAwaits, AreTogether}
 
+pub no_items : (xs : List Holding) → length xs ≡ 0 → xs ≡ []
+no_items [] none = refl
+no_items (x ∷ xs) none = absurd (omega (arith, none))
+
 -- ---- no share is at a place yet
 
 pub AreTogether-start : (w : WorldState) (seats : List Holding) → AreSeatsOf w seats → AreTogether w (replicate w.config.bounds.threads None) seats
@@ -163,7 +167,7 @@ module _ (w : WorldState) (places : List (Option Holding)) (count : length place
       let born = complete.no_other t share is in
       let has = complete.born t born in
       let same : has.share ≡ share = same_Some has.share share (same_Some (Some has.share) (Some share) (sym has.there ∙ is)) in
-      (subst (FitsLog w) same has.fits, (ap (λ (s : Holding). s.thread.0) (sym same) ∙ has.own, (refl, due_of (status_in w.log t) born.1)))
+      (subst (FitsLog w) same has.fits, ap (λ (s : Holding). s.thread.0) (sym same) ∙ has.own, refl, due_of (status_in w.log t) born.1)
 
   pub AreTogether-end : CompletesShares w places → AreTogether w places []
   AreTogether-end complete = record {
