@@ -1,5 +1,4 @@
 use Rattle.std.proofs.Common.{arith}
-use Rattle.velo_ledger.specs.Shares.{events_in_all}
 use Rattle.velo_ledger.proofs.Complete.{all-alone, alone-all, same_answer}
 use Rattle.velo_ledger.proofs.book.gather.Goals as goal
 

@@ -1,6 +1,5 @@
-use Rattle.std.proofs.Common.{◌≡◌, ◌≤◌, arith, length, take, take_all, ap, ◌∙◌, sym}
+use Rattle.std.proofs.Common.{◌≤◌, arith, length, take_all}
 use Rattle.std.proofs.lemmas.Grind.{common_steps}
-use Rattle.velo_ledger.specs.Shares.{events_in_all}
 use Rattle.velo_ledger.proofs.Complete.{complete_by_places, places_fit, sum-next, rows-next, fits-next}
 use Rattle.velo_ledger.proofs.book.gather_both.Goals as goal
 

@@ -1,6 +1,6 @@
 use Rattle.std.proofs.Common.{◌≡◌, ◌≤◌, ◌<◌, ◌+◌, ℕ, ◌*◌, take, sum_by}
 use Rattle.velo_events.specs.declared.limits.TheConstants.{MOST_EVENTS}
-use Rattle.velo_ledger.specs.Shares.{AreInPlace, events_in_all, share_in}
+use Rattle.velo_ledger.specs.Shares.{events_in_all, share_in}
 use Rattle.velo_ledger.specs.Book.{PlacesFit}
 use Rattle.velo_ledger.proofs.book.gather_both.Given as goal
 
