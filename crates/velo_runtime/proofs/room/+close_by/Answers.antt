@@ -61,8 +61,8 @@ unreachable-requires t c =
     let s = c.share.inside.share in
     let empty = c.in_default.ensures.ok.0 refl in
     let taken = c.take.ensures.share
-        ∙ (ap (λ ps. share_at ps c.thread-thread.result) (c.in-Err-close_by.ensures.places ∙ c.in_default.ensures.placed)
-        ∙ (ap (share_at (set c.args.places s.thread.0 (Some s))) c.thread-thread.ensures ∙ taken_is c.args.world c.args.places c.take_last.new.self.items s empty)) in
+    ∙ (ap (λ ps. share_at ps c.thread-thread.result) (c.in-Err-close_by.ensures.places ∙ c.in_default.ensures.placed)
+    ∙ (ap (share_at (set c.args.places s.thread.0 (Some s))) c.thread-thread.ensures ∙ taken_is c.args.world c.args.places c.take_last.new.self.items s empty)) in
     none-some s (sym c.in_default-take.is ∙ taken)
 
 pub returns-clause-places : goal.returns-clause-places
@@ -80,8 +80,8 @@ returns-clause-seats t c =
     let empty = c.in_default.ensures.ok.0 refl in
     let back = c.in-Err-close_by.ensures.seats in
     let taken = c.take.ensures.share
-        ∙ (ap (λ ps. share_at ps c.thread-thread.result) (c.in-Err-close_by.ensures.places ∙ c.in_default.ensures.placed)
-        ∙ (ap (share_at (set c.args.places s.thread.0 (Some s))) c.thread-thread.ensures ∙ taken_is c.args.world c.args.places rest s empty)) in
+    ∙ (ap (λ ps. share_at ps c.thread-thread.result) (c.in-Err-close_by.ensures.places ∙ c.in_default.ensures.placed)
+    ∙ (ap (share_at (set c.args.places s.thread.0 (Some s))) c.thread-thread.ensures ∙ taken_is c.args.world c.args.places rest s empty)) in
     let same = same_Some c.in-Some.share s (sym c.in-Some.is ∙ taken) ∙ c.share.view_is in
     same_vec c.push_reserved-2.new.self c.args.seats
     (c.push_reserved-2.ensures.in_place ∙ (ap (λ v. v.ptr) back ∙ c.take_last.ensures.in_place))
