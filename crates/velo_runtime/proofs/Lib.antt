@@ -3,4 +3,3 @@ pub mod OnRefusals
 pub mod OnSeats
 pub mod OnTurns
 pub mod Places
-pub mod Vecs
