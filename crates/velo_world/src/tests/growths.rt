@@ -5,7 +5,7 @@ ghost use Rattle.velo_world.specs.World.{FitsLog};
 
 use super::{
     LOST_UPDATE, M, MAIN, OTHER, Outcome, RECORDED, X, events_at_its_end, is_alarm_at,
-    lost_update_outcome, new_world, opened, replied, two_threads,
+    lost_update_outcome, new_world, open_world, replied, two_threads,
 };
 use crate::{Closed, ReliveFault, World};
 use std::alloc::Global;
@@ -196,7 +196,7 @@ fn has_the_ends(closed: &Closed) -> bool {
 
 #[test]
 fn a_refused_growth_of_an_action(rt: HostRuntime) {
-    let (mut world, mut shares) = opened(&rt, rt.alloc(), 2, 2, false);
+    let (mut world, mut shares) = open_world(&rt, rt.alloc(), 2, 2, false);
     play(&rt, &mut world, &mut shares);
     assert_eq!(rt; traces_in(&world), (18, 2, true));
     match world.close(shares) {
@@ -265,7 +265,7 @@ fn refused_place(outcomes: &[Outcome]) -> Option<usize> {
 /// Compares a run of the lost update with one without the step at the place.
 fn compare(rt: &impl Abort, alloc: Global, world: &World, outcomes: &[Outcome], place: usize) {
     assert!(rt; place < 8 && outcomes.len() == 8);
-    let (mut other, mut shares) = opened(rt, alloc, 2, 2, false);
+    let (mut other, mut shares) = open_world(rt, alloc, 2, 2, false);
     let before = other.run(&mut shares, &LOST_UPDATE[..place]);
     let behind = other.run(&mut shares, &LOST_UPDATE[place + 1..]);
     let before = before.expect(rt, "memory");
@@ -291,7 +291,7 @@ fn compare_all(rt: &impl Abort, outcomes: &[Outcome]) {
 /// In a run of many steps it is the outcome of one of them.
 #[test]
 fn a_refused_growth_in_a_run(rt: HostRuntime) {
-    let (mut world, mut shares) = opened(&rt, rt.alloc(), 2, 2, false);
+    let (mut world, mut shares) = open_world(&rt, rt.alloc(), 2, 2, false);
     let outcomes = again!(Memory, world.run(&mut shares, &LOST_UPDATE)).expect(&rt, "memory");
     match refused_place(&outcomes) {
         None => compare_all(&rt, &outcomes),
