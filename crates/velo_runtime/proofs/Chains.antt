@@ -1,5 +1,5 @@
 -- Chains of waits: how they go on, and that a short one is enough.
-use Rattle.std.proofs.Common.{◌≡◌, ◌≢◌, ℕ, ◌+◌, ◌-◌, ◌<◌, ◌≤◌, ◌⊎◌, inl, inr, ⊎_elim, refl, ap, ◌∙◌, sym, subst, Bool, true, false, List, [], ◌∷◌, length, set, get_or, arith, cond}
+use Rattle.std.proofs.Common.{◌≡◌, ◌≢◌, ℕ, ◌+◌, ◌<◌, ◌≤◌, ◌⊎◌, inl, inr, ⊎_elim, refl, ap, ◌∙◌, sym, subst, Bool, true, false, List, [], ◌∷◌, length, set, get_or, arith, cond}
 use Rattle.std.specs.Prelude.{⊤, Option, Some, None, slice_get, count_by, ◌↔◌}
 use Rattle.std.proofs.lemmas.Bool.{cases_eq}
 use Rattle.std.proofs.lemmas.List.Sums.{sum_by-set, count_by-le-length}

@@ -3,3 +3,4 @@ pub mod OnRefusals
 pub mod OnSeats
 pub mod OnTurns
 pub mod Places
+pub mod Vecs

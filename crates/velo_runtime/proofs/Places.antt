@@ -1,54 +1,44 @@
 -- Seats that go to the places of their threads.
-use Rattle.std.proofs.Common.{◌≡◌, ◌≢◌, ⊎_elim, refl, ap, ◌∙◌, subst, ℕ, ◌+◌, ◌<◌, ◌≤◌, cond, List, [], ◌∷◌, ◌++◌, length, set, replicate, arith, sum_by, get_or}
-use Rattle.std.specs.Prelude.{Option, Some, None, slice_get, All, count_by, Result, Ok, Err, IsOk, OnOk, if◌then◌else◌}
+use Rattle.std.proofs.Common.{◌≡◌, ◌≢◌, ⊎_elim, refl, sym, ap, ◌∙◌, subst, ℕ, ◌+◌, ◌<◌, ◌≤◌, cond, List, [], ◌∷◌, ◌++◌, length, set, replicate, arith, get_or}
+use Rattle.std.specs.Prelude.{Option, Some, None, slice_get, All, count_by, if◌then◌else◌}
 use Rattle.std.proofs.lemmas.Bool.{cases_eq, cases_Bool, eq-eqb, ne_eqb, false≢true}
-use Rattle.std.proofs.lemmas.List.{length-set, length-replicate}
-use Rattle.std.proofs.lemmas.List.Elements.{All-pop}
+use Rattle.std.proofs.lemmas.List.{set-set, set-get_or}
+use Rattle.std.proofs.lemmas.List.Elements.{All-nil, All-pop, All-push}
 use Rattle.std.proofs.lemmas.List.Sums.{sum_by_push, sum_by-set}
 use Rattle.std.proofs.lemmas.List.Folds.{sum_by-replicate}
-use Rattle.std.proofs.lemmas.Option.{slice_get_within, get_or_from_slice_get}
+use Rattle.std.proofs.lemmas.Option.{slice_get_within, slice_get-get_or, get_or_from_slice_get, same_Some, none-some}
 use Rattle.velo_events.specs.declared.event.Status.{Status}
 use Rattle.velo_events.specs.declared.event.Status.TheVariants.{Unborn, Live, Exited, Joined}
 use Rattle.velo_events.specs.Heap.{status_in}
 use Rattle.velo_events.specs.Meaning.{is_unborn}
 use Rattle.velo_ledger.specs.Views.{Holding}
-use Rattle.velo_ledger.specs.Shares.{events_in, events_in_all}
+use Rattle.velo_ledger.specs.Shares.{events_in, events_in_all, share_at}
 use Rattle.velo_ledger.proofs.Places.{slice_get-set_same, slice_get-set_other, slice_get-replicate}
 use Rattle.velo_world.specs.World.{WorldState}
 use Rattle.velo_world.specs.World.{FitsLog, HasShare, CompletesShares}
 use Rattle.velo_runtime.specs.Seats.{AreSeatsOf, is_of}
+use Rattle.velo_runtime.specs.Places.{seats_due, events_of_all, PlaceAwaits, AreTogether}
 
--- how many seats a thread has at the end
-abbrev pub seats_due : WorldState → ℕ → ℕ
-seats_due w t = if is_unborn (status_in w.log t) then 0 else 1
+pub no_items : (xs : List Holding) → length xs ≡ 0 → xs ≡ []
+no_items [] none = refl
+no_items (x ∷ xs) none = absurd (omega (arith, none))
 
--- the events that the shares count
-abbrev pub events_of_all : List Holding → ℕ
-events_of_all shares = sum_by (λ s. s.tally.events) shares
+-- ---- no share is at a place yet
 
--- the place of a thread is there, and either it is filled with a fitting share, or the seats that are due are still to come
-abbrev pub PlaceAwaits : WorldState → ℕ → ℕ → Option (Option Holding) → Type 0
-PlaceAwaits w t left None = ⊥
-PlaceAwaits w t left (Some None) = left ≡ seats_due w t
-PlaceAwaits w t left (Some (Some share)) = FitsLog w share × (share.thread.0 ≡ t) × (left ≡ 0) × (seats_due w t ≡ 1)
-
--- some of the seats were put at their places, and the rest fit what is left
-pub record Filling (w : WorldState) (total : ℕ) (rest : List Holding) (places : List (Option Holding)) : Type 0 where
-  pub count : length places ≡ w.config.bounds.threads
-  pub fit : All (FitsLog w) rest
-  pub each : (t : ℕ) → t < w.config.bounds.threads → PlaceAwaits w t (count_by (is_of t) rest) (slice_get places t)
-  pub sum : events_in_all places + events_of_all rest ≡ total
-
-empty_place : (w : WorldState) (t left : ℕ) → t < w.config.bounds.threads → left ≡ seats_due w t → PlaceAwaits w t left (slice_get (replicate w.config.bounds.threads None) t)
-empty_place w t left lt h = rw (slice_get-replicate {X = Option Holding} w.config.bounds.threads t None lt) h
-
-pub Filling-start : (w : WorldState) (seats : List Holding) → AreSeatsOf w seats → Filling w (events_of_all seats) seats (replicate w.config.bounds.threads None)
-Filling-start w seats are = record {
-  count = length-replicate w.config.bounds.threads None;
+pub AreTogether-start : (w : WorldState) (seats : List Holding) → AreSeatsOf w seats → AreTogether w (replicate w.config.bounds.threads None) seats
+AreTogether-start w seats are = record {
   fit = are.fit;
-  each = λ t lt. empty_place w t _ lt (are.each t lt);
-  sum = (let zeros = sum_by-replicate events_in w.config.bounds.threads None in omega (arith, zeros));
+  each = λ t lt. rw (slice_get-replicate {X = Option Holding} w.config.bounds.threads t None lt) (are.each t lt);
 }
+
+pub AreSeatsOf-start : (w : WorldState) (seats : List Holding) → AreTogether w (replicate w.config.bounds.threads None) seats → AreSeatsOf w seats
+AreSeatsOf-start w seats are = record {
+  fit = are.fit;
+  each = λ t lt. rw (slice_get-replicate {X = Option Holding} w.config.bounds.threads t None lt) at (are.each t lt);
+}
+
+pub events-start : (threads : ℕ) → events_in_all (replicate threads None) ≡ 0
+events-start threads = let zeros = sum_by-replicate events_in threads None in omega (arith, zeros)
 
 -- ---- one seat more
 
@@ -71,42 +61,71 @@ empty_at w t left None some h = absurd h
 empty_at w t left (Some None) some h = refl
 empty_at w t left (Some (Some share)) some h = let none = h.2 in absurd (omega arith)
 
-module _ (w : WorldState) (total : ℕ) (rest : List Holding) (s : Holding) (places : List (Option Holding)) (filling : Filling w total (rest ++ s ∷ []) places) where
-  parts : All (FitsLog w) rest × FitsLog w s
-  parts = All-pop (FitsLog w) (rest ++ s ∷ []) rest (Some s) refl filling.fit
+module _ (w : WorldState) (places : List (Option Holding)) (rest : List Holding) (s : Holding) where
+  -- while the seat is left, its place is empty
+  pub place_is_empty : AreTogether w places (rest ++ s ∷ []) → slice_get places s.thread.0 ≡ Some None
+  place_is_empty are = empty_at w s.thread.0 (count_by (is_of s.thread.0) rest + 1) (slice_get places s.thread.0) (omega arith) own
+    where
+      own : PlaceAwaits w s.thread.0 (count_by (is_of s.thread.0) rest + 1) (slice_get places s.thread.0)
+      own = rw (count-own s.thread.0 rest s refl) at (are.each s.thread.0 (All-pop (FitsLog w) (rest ++ s ∷ []) rest (Some s) refl are.fit).1.thread)
 
-  own : PlaceAwaits w s.thread.0 (count_by (is_of s.thread.0) rest + 1) (slice_get places s.thread.0)
-  own = rw (count-own s.thread.0 rest s refl) at (filling.each s.thread.0 parts.1.thread)
+  module _ (is_empty : slice_get places s.thread.0 ≡ Some None) where
+    within : s.thread.0 < length places
+    within = slice_get_within places s.thread.0 None is_empty
 
-  pub place_is_empty : slice_get places s.thread.0 ≡ Some None
-  place_is_empty = empty_at w s.thread.0 (count_by (is_of s.thread.0) rest + 1) (slice_get places s.thread.0) (omega arith) own
+    there : slice_get (set places s.thread.0 (Some s)) s.thread.0 ≡ Some (Some s)
+    there = slice_get-set_same places s.thread.0 (Some s) within
 
-  due : count_by (is_of s.thread.0) rest + 1 ≡ seats_due w s.thread.0
-  due = rw place_is_empty at own
+    pub AreTogether-next : AreTogether w places (rest ++ s ∷ []) → AreTogether w (set places s.thread.0 (Some s)) rest
+    AreTogether-next are = record {
+      fit = parts.0;
+      each = λ t lt. ⊎_elim
+          (λ is. subst (λ k. PlaceAwaits w k (count_by (is_of k) rest) (slice_get (set places s.thread.0 (Some s)) k)) is filled)
+          (λ other. rw (slice_get-set_other places s.thread.0 t (Some s) other) (rw (count-other t rest s other) at (are.each t lt)))
+          (cases_eq s.thread.0 t);
+    }
+      where
+        parts : All (FitsLog w) rest × FitsLog w s
+        parts = All-pop (FitsLog w) (rest ++ s ∷ []) rest (Some s) refl are.fit
 
-  within : s.thread.0 < length places
-  within = slice_get_within places s.thread.0 None place_is_empty
+        due : count_by (is_of s.thread.0) rest + 1 ≡ seats_due w s.thread.0
+        due = rw (count-own s.thread.0 rest s refl, is_empty) at (are.each s.thread.0 parts.1.thread)
 
-  filled : PlaceAwaits w s.thread.0 (count_by (is_of s.thread.0) rest) (slice_get (set places s.thread.0 (Some s)) s.thread.0)
-  filled =
-      let most = seats_due-le w s.thread.0 in
-      rw (slice_get-set_same places s.thread.0 (Some s) within) (parts.1, refl, omega (arith, due, most), omega (arith, due, most))
+        filled : PlaceAwaits w s.thread.0 (count_by (is_of s.thread.0) rest) (slice_get (set places s.thread.0 (Some s)) s.thread.0)
+        filled = let most = seats_due-le w s.thread.0 in rw there (parts.1, refl, omega (arith, due, most), omega (arith, due, most))
 
-  pub Filling-next : Filling w total rest (set places s.thread.0 (Some s))
-  Filling-next = record {
-    count = length-set places s.thread.0 (Some s) ∙ filling.count;
-    fit = parts.0;
-    each = λ t lt. ⊎_elim
-        (λ is. subst (λ k. PlaceAwaits w k (count_by (is_of k) rest) (slice_get (set places s.thread.0 (Some s)) k)) is filled)
-        (λ other. rw (slice_get-set_other places s.thread.0 t (Some s) other) (rw (count-other t rest s other) at (filling.each t lt)))
-        (cases_eq s.thread.0 t);
-    sum = (
-        let was = filling.sum in
+    pub AreTogether-before : length places ≡ w.config.bounds.threads → AreTogether w (set places s.thread.0 (Some s)) rest → AreTogether w places (rest ++ s ∷ [])
+    AreTogether-before count are = record {
+      fit = All-push (FitsLog w) rest s are.fit filled.0;
+      each = λ t lt. ⊎_elim
+          (λ is. subst (λ k. PlaceAwaits w k (count_by (is_of k) (rest ++ s ∷ [])) (slice_get places k)) is due)
+          (λ other. rw (count-other t rest s other) (rw (slice_get-set_other places s.thread.0 t (Some s) other) at (are.each t lt)))
+          (cases_eq s.thread.0 t);
+    }
+      where
+        filled : FitsLog w s × (s.thread.0 ≡ s.thread.0) × (count_by (is_of s.thread.0) rest ≡ 0) × (seats_due w s.thread.0 ≡ 1)
+        filled = rw there at (are.each s.thread.0 (let lt = within in omega arith))
+
+        due : PlaceAwaits w s.thread.0 (count_by (is_of s.thread.0) (rest ++ s ∷ [])) (slice_get places s.thread.0)
+        due = let none = filled.2 in let one = filled.3 in rw (is_empty, count-own s.thread.0 rest s refl) (omega (arith, none, one))
+
+    -- the events that are counted stay
+    pub events-next : events_in_all (set places s.thread.0 (Some s)) + events_of_all rest ≡ events_in_all places + events_of_all (rest ++ s ∷ [])
+    events-next =
         let counted = sum_by_push (λ x. x.tally.events) rest s in
         let placed = sum_by-set events_in places s.thread.0 (Some s) None within in
-        let none : events_in (get_or places s.thread.0 None) ≡ 0 = ap events_in (get_or_from_slice_get places s.thread.0 None None place_is_empty) in
-        omega (arith, was, counted, placed, none));
-  }
+        let none : events_in (get_or places s.thread.0 None) ≡ 0 = ap events_in (get_or_from_slice_get places s.thread.0 None None is_empty) in
+        omega (arith, counted, placed, none)
+
+    -- the share is at its place
+    pub taken_is : share_at (set places s.thread.0 (Some s)) s.thread ≡ Some s
+    taken_is = rw there refl
+
+    -- and without it the places are as they were
+    pub places-back : set (set places s.thread.0 (Some s)) s.thread.0 None ≡ places
+    places-back =
+        set-set places s.thread.0 (Some s) None
+        ∙ (ap (set places s.thread.0) (sym (get_or_from_slice_get places s.thread.0 None None is_empty)) ∙ set-get_or places s.thread.0 None)
 
 -- ---- all seats are at their places
 
@@ -128,25 +147,30 @@ born_at_end w places t share there h unborn =
     let one = at.3 in
     omega (arith, none, one)
 
-pub Filling-end : (w : WorldState) (total : ℕ) (rest : List Holding) (places : List (Option Holding)) → rest ≡ [] → Filling w total rest places → CompletesShares w places
-Filling-end w total rest places none filling = record {
-  born = λ t born. share_at_end w places t (slice_get places t) refl (awaits t born.0) (due_of (status_in w.log t) born.1);
-  no_other = λ t share there. let lt = below t share there in (lt, born_at_end w places t share there (awaits t lt));
-}
-  where
-    below : (t : ℕ) (share : Holding) → slice_get places t ≡ Some (Some share) → t < w.config.bounds.threads
-    below t share there = let inside = slice_get_within places t (Some share) there in omega (arith, inside, filling.count)
+module _ (w : WorldState) (places : List (Option Holding)) (count : length places ≡ w.config.bounds.threads) where
+  pub CompletesShares-end : AreTogether w places [] → CompletesShares w places
+  CompletesShares-end are = record {
+    born = λ t born. share_at_end w places t (slice_get places t) refl (are.each t born.0) (due_of (status_in w.log t) born.1);
+    no_other = λ t share there. let lt = below t share there in (lt, born_at_end w places t share there (are.each t lt));
+  }
+    where
+      below : (t : ℕ) (share : Holding) → slice_get places t ≡ Some (Some share) → t < w.config.bounds.threads
+      below t share there = let inside = slice_get_within places t (Some share) there in omega (arith, inside, count)
 
-    awaits : (t : ℕ) → t < w.config.bounds.threads → PlaceAwaits w t 0 (slice_get places t)
-    awaits t lt = rw none at (filling.each t lt)
+  awaits_at : (t : ℕ) (place : Option (Option Holding)) → slice_get places t ≡ place → t < w.config.bounds.threads → CompletesShares w places → PlaceAwaits w t 0 place
+  awaits_at t None is lt complete = absurd (none-some (get_or places t None) (sym is ∙ slice_get-get_or places t None (omega (arith, lt, count))))
+  awaits_at t (Some None) is lt complete = ⊎_elim
+      (λ unborn. rw unborn refl)
+      (λ born. (let has = complete.born t (lt, λ unborn. false≢true (sym born ∙ ap is_unborn unborn)) in absurd (none-some has.share (same_Some None (Some has.share) (sym is ∙ has.there)))))
+      (cases_Bool (is_unborn (status_in w.log t)))
+  awaits_at t (Some (Some share)) is lt complete =
+      let born = complete.no_other t share is in
+      let has = complete.born t born in
+      let same : has.share ≡ share = same_Some has.share share (same_Some (Some has.share) (Some share) (sym has.there ∙ is)) in
+      (subst (FitsLog w) same has.fits, ap (λ (s : Holding). s.thread.0) (sym same) ∙ has.own, refl, due_of (status_in w.log t) born.1)
 
-pub total-end : (w : WorldState) (total : ℕ) (rest : List Holding) (places : List (Option Holding)) → rest ≡ [] → Filling w total rest places → events_in_all places ≡ total
-total-end w total rest places none filling =
-    let all : events_in_all places + events_of_all [] ≡ total = rw none at filling.sum in
-    omega (arith, all)
-
--- ---- what a put did, where it answers Ok
-
-pub placed : {A B P : Type 0} (r : Result A B) → IsOk r → OnOk r P → P
-placed (Ok x) ok h = h
-placed (Err e) ok h = absurd (false≢true ok)
+  pub AreTogether-end : CompletesShares w places → AreTogether w places []
+  AreTogether-end complete = record {
+    fit = All-nil (FitsLog w);
+    each = λ t lt. awaits_at t (slice_get places t) refl lt complete;
+  }

@@ -3,3 +3,4 @@ pub mod Steps
 pub mod Waits
 pub mod Turns
 pub mod Seats
+pub mod Places

@@ -1,11 +1,9 @@
 ghost use Rattle.velo_events.specs.Refusals.{GrowthRefused};
-ghost use Rattle.std.specs.Prelude.{◌≡◌, ◌≢◌, ◌<◌, ◌↔◌, None, Err, IfOk, IfErr, IfSome, IfNone, IsTrue, option_map, All, count_by, sum_by, length, if◌then◌else◌, replicate, OnErr};
+ghost use Rattle.std.specs.Prelude.{◌≡◌, ◌≢◌, ◌+◌, ◌↔◌, None, Err, IfOk, IfErr, IfSome, IfNone, IsTrue, option_map, sum_by, length, replicate, OnErr};
 ghost use Rattle.velo_events.specs.declared.refusal.Refusal.TheVariants as refusal;
 ghost use Rattle.velo_events.specs.Graph.{HasCycle};
-ghost use Rattle.velo_events.specs.Heap.{status_in};
-ghost use Rattle.velo_events.specs.Meaning.{is_unborn};
 ghost use Rattle.velo_events.specs.Reordering.{IsSerializable};
-ghost use Rattle.velo_ledger.specs.Shares.{opening_share};
+ghost use Rattle.velo_ledger.specs.Shares.{events_in_all, opening_share};
 ghost use Rattle.velo_world.specs.World.{IsAlarm};
 ghost use Rattle.velo_world.specs.World.{halted_world};
 ghost use Rattle.velo_world.specs.World.{FitsLog};
@@ -15,7 +13,8 @@ ghost use Rattle.velo_runtime.specs.Rooms.{IsThere, opening_room};
 ghost use Rattle.velo_runtime.specs.Steps.{ActsIn, ForksIn, StepsIn, StepsForking};
 ghost use Rattle.velo_runtime.specs.Turns.{TakesTurn, IsTurnAfter, TurnsIn, wanted_by};
 ghost use Rattle.velo_runtime.specs.Waits.{ComesBackIn, leads_to, wait_of};
-ghost use Rattle.velo_runtime.specs.Seats.{AreSeatsOf, is_of};
+ghost use Rattle.velo_runtime.specs.Seats.{AreSeatsOf};
+ghost use Rattle.velo_runtime.specs.Places.{AreTogether, events_of_all};
 
 use crate::seat::Seat;
 use crate::wait::{Turn, Wanted};
@@ -113,7 +112,7 @@ impl Room {
     }
 
     /// Ends the run, if the seats are one fitting seat of each thread that was born. It takes no memory.
-    pub(crate) fn close(self, mut seats: Vec<Seat>) -> Result<Closed, (Room, Vec<Seat>)>
+    pub(crate) fn close(self, seats: Vec<Seat>) -> Result<Closed, (Room, Vec<Seat>)>
         ensures closed { IfOk result (λ closed. closed ≡ self.world) }
         ensures all { IfOk result (λ closed. AreSeatsOf self.world seats.items) }
         ensures total { IfOk result (λ closed.
@@ -122,23 +121,21 @@ impl Room {
         ensures seats { IfErr result (λ back. back.1 ≡ seats) }
         ensures cause { IfErr result (λ back. ¬ AreSeatsOf self.world seats.items) }
     {
-        if !self.are_all(seats.as_slice()) {
-            return Err((self, seats));
-        }
         let Room {
             world,
             waits,
-            mut places,
+            places,
         } = self;
-        drop(waits);
-        while let Some(seat) = seats.pop() {
-            if places.put(seat.share).is_err() {
-                unreachable!()
-            }
-        }
-        match world.close(places) {
+        match close_by(world, places, seats) {
             Ok(closed) => Ok(closed),
-            Err(_) => unreachable!(),
+            Err((world, places, seats)) => {
+                let room = Room {
+                    world,
+                    waits,
+                    places,
+                };
+                Err((room, seats))
+            }
         }
     }
 
@@ -228,45 +225,6 @@ impl Room {
             Some(wait) => *wait,
         }
     }
-
-    /// Whether each seat fits.
-    fn all_fit(&self, seats: &[Seat]) -> bool
-        ensures { IsTrue result ↔ All (FitsLog self.now.world) seats.now }
-    {
-        for seat in seats {
-            if !self.fits(seat) {
-                return false;
-            }
-        }
-        true
-    }
-
-    /// How many seats of a thread there are at the end: none of an unborn thread, else one.
-    fn count_due(&self, thread: ThreadId) -> usize
-        requires { thread.0 < self.now.world.config.bounds.threads }
-        ensures { result ≡ (if is_unborn (status_in self.now.world.log thread.0) then 0 else 1) }
-    {
-        match self.world.heap().status(thread) {
-            Status::Unborn => 0,
-            _ => 1,
-        }
-    }
-
-    /// Whether the seats are one fitting seat of each thread that was born.
-    fn are_all(&self, seats: &[Seat]) -> bool
-        ensures { IsTrue result ↔ AreSeatsOf self.now.world seats.now }
-    {
-        if !self.all_fit(seats) {
-            return false;
-        }
-        for t in 0..self.world.bounds().threads {
-            let thread = ThreadId(t);
-            if count_of(seats, thread) != self.count_due(thread) {
-                return false;
-            }
-        }
-        true
-    }
 }
 
 /// A place for each thread, of which none waits.
@@ -277,11 +235,44 @@ fn no_waits(alloc: Global, threads: u8) -> Result<Vec<Option<Wanted>>, Memory>
     filled(alloc, None, usize::from(threads))
 }
 
-/// How many of the seats are the thread's.
-fn count_of(seats: &[Seat], thread: ThreadId) -> usize
-    ensures { result ≡ count_by (is_of thread.0) seats.now }
+/// Closes the world where the shares at the places and those of the seats are one fitting share of each thread that was
+/// born. Else all is given back as it was. A call puts the last seat's share to its place and has the rest done by one more
+/// call, so it knows without memory whose seat comes back at the end. Each fills a place, so they are few.
+fn close_by(
+    world: World,
+    mut places: Shares,
+    mut seats: Vec<Seat>,
+) -> Result<Closed, (World, Shares, Vec<Seat>)>
+    requires { length places ≡ world.config.bounds.threads }
+    ensures closed { IfOk result (λ closed. closed ≡ world) }
+    ensures all { IfOk result (λ closed. AreTogether world places seats.items) }
+    ensures total { IfOk result (λ closed. events_in_all places + events_of_all seats.items ≡ length closed.log) }
+    ensures world { IfErr result (λ back. back.0 ≡ world) }
+    ensures places { IfErr result (λ back. back.1 ≡ places) }
+    ensures seats { IfErr result (λ back. back.2 ≡ seats) }
+    ensures cause { IfErr result (λ back. ¬ AreTogether world places seats.items) }
 {
-    seats.iter().filter(|seat| seat.is_of(thread)).count()
+    if seats.is_empty() {
+        return match world.close(places) {
+            Ok(closed) => Ok(closed),
+            Err((world, places)) => Err((world, places, seats)),
+        };
+    }
+    let Seat { share } = seats.take_last();
+    let thread = share.thread();
+    if let Err(share) = places.put(share) {
+        seats.push_reserved(Seat { share });
+        return Err((world, places, seats));
+    }
+    let (world, mut places, mut seats) = match close_by(world, places, seats) {
+        Ok(closed) => return Ok(closed),
+        Err(back) => back,
+    };
+    let Some(share) = places.take(thread) else {
+        unreachable!()
+    };
+    seats.push_reserved(Seat { share });
+    Err((world, places, seats))
 }
 
 /// Does one action of the seat's thread, where it is not a fork. The caller has the room, so this waits for nobody.

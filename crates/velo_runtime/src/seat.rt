@@ -4,7 +4,7 @@ ghost use Rattle.velo_events.specs.declared.refusal.Refusal.TheVariants as refus
 ghost use Rattle.velo_events.specs.Refusals.{GrowthRefused};
 ghost use Rattle.velo_ledger.specs.Shares.{opening_share};
 ghost use Rattle.velo_world.specs.World.{IsNoFork};
-ghost use Rattle.velo_runtime.specs.Seats.{GainsEvent, GainsEventBy, GainsEventOf, is_of};
+ghost use Rattle.velo_runtime.specs.Seats.{GainsEvent, GainsEventBy, GainsEventOf};
 ghost use Rattle.velo_runtime.specs.Turns.{wanted_by};
 
 use crate::room::{fork_in, turn_in};
@@ -40,13 +40,6 @@ impl Seat {
         ensures { result.now ≡ self.now }
     {
         &self.share
-    }
-
-    /// Whether the seat is the thread's.
-    pub(crate) fn is_of(&self, thread: ThreadId) -> bool
-        ensures { result ≡ is_of thread.0 self.now }
-    {
-        self.share.thread().0 == thread.0
     }
 
     /// Reads a variable, and answers its value.

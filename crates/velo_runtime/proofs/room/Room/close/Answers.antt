@@ -1,27 +1,19 @@
-use Rattle.std.proofs.Common.{sym, ◌∙◌, arith}
-use Rattle.std.proofs.lemmas.Bool.{false≢true}
-use Rattle.std.proofs.lemmas.Grind.{common_steps}
+use Rattle.std.proofs.Common.{sym, ap, subst}
+use Rattle.velo_world.specs.World.{WorldState}
+use Rattle.velo_runtime.specs.Rooms.{RoomState}
 use Rattle.velo_runtime.specs.Seats.{AreSeatsOf}
-use Rattle.velo_runtime.proofs.Places.{Filling-start, Filling-next, Filling-end, place_is_empty, placed}
+use Rattle.velo_runtime.specs.Places.{AreTogether}
+use Rattle.velo_runtime.proofs.Places.{AreTogether-start, AreSeatsOf-start}
 use Rattle.velo_runtime.proofs.room.Room.close.Goals as goal
 
-pub loop-seat-init : goal.loop-seat-init
-loop-seat-init c =
-    let are : AreSeatsOf c.self.inside.world c.args.seats.items = grind (arith, common_steps) in
-    rw c.self.invariant.0 (Filling-start c.self.inside.world c.args.seats.items are)
+pub returns-in-Ok-clause-all : goal.returns-in-Ok-clause-all
+returns-in-Ok-clause-all c =
+    let world = ap (λ (room : RoomState). room.world) c.self.view_is in
+    let all = subst (λ ps. AreTogether c.self.inside.world ps c.args.seats.items) c.self.invariant.0 c.in-Ok.ensures.all in
+    subst (λ (w : WorldState). AreSeatsOf w c.args.seats.items) world (AreSeatsOf-start c.self.inside.world c.args.seats.items all)
 
-pub unreachable-requires : goal.unreachable-requires
-unreachable-requires c =
-    let filling = rw (c.pop.ensures.items, c.in-Some.is, ← c.seat.view_is) at c.loop-seat.invariant in
-    let empty = place_is_empty c.self.inside.world _ c.pop.new.self.items c.seat.inside.share c.loop-seat.places filling in
-    false≢true (sym c.if-is_err.ensures.negation ∙ c.put.ensures.ok.1 empty)
-
-pub loop-seat-preserved : goal.loop-seat-preserved
-loop-seat-preserved c =
-    let filling = rw (c.pop.ensures.items, c.in-Some.is, ← c.seat.view_is) at c.loop-seat.invariant in
-    let empty = place_is_empty c.self.inside.world _ c.pop.new.self.items c.seat.inside.share c.loop-seat.places filling in
-    let next = Filling-next c.self.inside.world _ c.pop.new.self.items c.seat.inside.share c.loop-seat.places filling in
-    rw (placed c.put.result (c.put.ensures.ok.1 empty) c.put.ensures.placed) next
-
-pub unreachable-requires-in-Err : goal.unreachable-requires-in-Err
-unreachable-requires-in-Err c = c.in-Err.ensures.closes.0 (Filling-end c.self.inside.world _ c.loop-seat.seats.items c.loop-seat.places (grind (arith, common_steps)) c.loop-seat.invariant)
+pub returns-in-Err-clause-cause : goal.returns-in-Err-clause-cause
+returns-in-Err-clause-cause c are =
+    let world = ap (λ (room : RoomState). room.world) c.self.view_is in
+    let all = AreTogether-start c.self.inside.world c.args.seats.items (subst (λ (w : WorldState). AreSeatsOf w c.args.seats.items) (sym world) are) in
+    c.in-Err.ensures.cause (subst (λ ps. AreTogether c.self.inside.world ps c.args.seats.items) (sym c.self.invariant.0) all)
