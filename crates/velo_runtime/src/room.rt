@@ -1,12 +1,12 @@
 ghost use Rattle.velo_events.specs.Refusals.{GrowthRefused};
-ghost use Rattle.std.specs.Prelude.{◌≡◌, ◌≢◌, ◌+◌, ◌↔◌, None, Err, IfOk, IfErr, IfSome, IfNone, IsTrue, option_map, sum_by, length, replicate, OnErr};
+ghost use Rattle.std.specs.Prelude.{◌≡◌, ◌≢◌, ◌+◌, ◌↔◌, None, Err, IfOk, IfErr, IfSome, IfNone, IsFalse, IsTrue, option_map, sum_by, length, replicate, OnErr};
 ghost use Rattle.velo_events.specs.declared.refusal.Refusal.TheVariants as refusal;
 ghost use Rattle.velo_events.specs.Graph.{HasCycle};
 ghost use Rattle.velo_events.specs.Reordering.{IsSerializable};
 ghost use Rattle.velo_ledger.specs.Shares.{events_in_all, opening_share};
 ghost use Rattle.velo_world.specs.World.{IsAlarm};
 ghost use Rattle.velo_world.specs.World.{halted_world};
-ghost use Rattle.velo_world.specs.World.{FitsLog};
+ghost use Rattle.velo_world.specs.World.{CompletesShares, FitsLog};
 ghost use Rattle.velo_world.specs.World.{IsNoFork};
 ghost use Rattle.velo_runtime.specs.declared.wait.Turn.TheVariants as turn;
 ghost use Rattle.velo_runtime.specs.Rooms.{IsThere, opening_room};
@@ -112,7 +112,7 @@ impl Room {
     }
 
     /// Ends the run, if the seats are one fitting seat of each thread that was born. It takes no memory.
-    pub(crate) fn close(self, seats: Vec<Seat>) -> Result<Closed, (Room, Vec<Seat>)>
+    pub(crate) fn close(self, mut seats: Vec<Seat>) -> Result<Closed, (Room, Vec<Seat>)>
         ensures closed { IfOk result (λ closed. closed ≡ self.world) }
         ensures all { IfOk result (λ closed. AreSeatsOf self.world seats.items) }
         ensures total { IfOk result (λ closed.
@@ -124,18 +124,19 @@ impl Room {
         let Room {
             world,
             waits,
-            places,
+            mut places,
         } = self;
-        match close_by(world, places, seats) {
+        if !put_all(&world, &mut places, &mut seats) {
+            let room = Room {
+                world,
+                waits,
+                places,
+            };
+            return Err((room, seats));
+        }
+        match world.close(places) {
             Ok(closed) => Ok(closed),
-            Err((world, places, seats)) => {
-                let room = Room {
-                    world,
-                    waits,
-                    places,
-                };
-                Err((room, seats))
-            }
+            Err(_) => unreachable!(),
         }
     }
 
@@ -235,44 +236,34 @@ fn no_waits(alloc: Global, threads: u8) -> Result<Vec<Option<Wanted>>, Memory>
     filled(alloc, None, usize::from(threads))
 }
 
-/// Closes the world where the shares at the places and those of the seats are one fitting share of each thread that was
-/// born. Else all is given back as it was. A call puts the last seat's share to its place and has the rest done by one more
-/// call, so it knows without memory whose seat comes back at the end. Each fills a place, so they are few.
-fn close_by(
-    world: World,
-    mut places: Shares,
-    mut seats: Vec<Seat>,
-) -> Result<Closed, (World, Shares, Vec<Seat>)>
-    requires { length places ≡ world.config.bounds.threads }
-    ensures closed { IfOk result (λ closed. closed ≡ world) }
-    ensures all { IfOk result (λ closed. AreTogether world places seats.items) }
-    ensures total { IfOk result (λ closed. events_in_all places + events_of_all seats.items ≡ length closed.log) }
-    ensures world { IfErr result (λ back. back.0 ≡ world) }
-    ensures places { IfErr result (λ back. back.1 ≡ places) }
-    ensures seats { IfErr result (λ back. back.2 ≡ seats) }
-    ensures cause { IfErr result (λ back. ¬ AreTogether world places seats.items) }
+/// Puts the seats' shares to their places, if they and those that are there are one fitting share of each thread that was
+/// born. Else all stays as it was. A call puts the last seat's share and has the rest done by one more call, so it knows
+/// without memory whose seat comes back at the end. Each fills a place, so they are few.
+fn put_all(world: &World, places: &mut Shares, seats: &mut Vec<Seat>) -> bool
+    requires { length places.old ≡ world.now.config.bounds.threads }
+    ensures all { IsTrue result ↔ AreTogether world.now places.old seats.old.items }
+    ensures complete { IsTrue result → CompletesShares world.now places.new }
+    ensures total { IsTrue result → events_in_all places.new ≡ events_in_all places.old + events_of_all seats.old.items }
+    ensures places { IsFalse result → places.new ≡ places.old }
+    ensures seats { IsFalse result → seats.new ≡ seats.old }
 {
     if seats.is_empty() {
-        return match world.close(places) {
-            Ok(closed) => Ok(closed),
-            Err((world, places)) => Err((world, places, seats)),
-        };
+        return world.is_complete(places);
     }
     let Seat { share } = seats.take_last();
     let thread = share.thread();
     if let Err(share) = places.put(share) {
         seats.push_reserved(Seat { share });
-        return Err((world, places, seats));
+        return false;
     }
-    let (world, mut places, mut seats) = match close_by(world, places, seats) {
-        Ok(closed) => return Ok(closed),
-        Err(back) => back,
-    };
+    if put_all(world, places, seats) {
+        return true;
+    }
     let Some(share) = places.take(thread) else {
         unreachable!()
     };
     seats.push_reserved(Seat { share });
-    Err((world, places, seats))
+    false
 }
 
 /// Does one action of the seat's thread, where it is not a fork. The caller has the room, so this waits for nobody.

@@ -285,10 +285,19 @@ impl World {
         ensures closes { Closes self given result }
         ensures sum { IfOk result (λ closed. events_in_all given ≡ length closed.log) }
     {
-        match gather_both(&self.book, &self.kept, &given) {
-            Some(_) => Ok(Closed { world: self }),
-            None => Err((self, given)),
+        if self.is_complete(&given) {
+            Ok(Closed { world: self })
+        } else {
+            Err((self, given))
         }
+    }
+
+    /// Whether the shares that the world keeps and those given are one fitting share of each thread, so that it can be closed.
+    pub fn is_complete(&self, given: &Shares) -> bool
+        ensures complete { IsTrue result ↔ CompletesShares self.now given.now }
+        ensures sum { IsTrue result → events_in_all given.now ≡ length self.now.log }
+    {
+        gather_both(&self.book, &self.kept, given).is_some()
     }
 }
 
