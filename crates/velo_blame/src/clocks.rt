@@ -1,13 +1,13 @@
 //! Blame from clocks, which note how far the events of a run know each thread as they come.
-ghost use Rattle.std.specs.Prelude.{◌≡◌, ◌+◌, ◌<◌, ◌≤◌, ◌^◌, ◌++◌, ◌∷◌, [], List, length, map, filter, nat_lt, IfOk, OnOk, OnErr};
+ghost use Rattle.std.specs.Prelude.{◌≡◌, ℕ, ◌+◌, ◌<◌, ◌≤◌, ◌^◌, ◌++◌, ◌∷◌, [], List, length, map, filter, nat_lt, IfOk, OnOk, OnErr, IsFalse};
 ghost use Rattle.velo_events.specs.declared.event.Event.{Event};
 ghost use Rattle.velo_events.specs.Event.{thread_of};
-ghost use Rattle.velo_events.specs.Block.{open_blocks};
+ghost use Rattle.velo_events.specs.Block.{is_open_at, open_blocks};
 ghost use Rattle.velo_events.specs.Graph.{HasCycle};
 ghost use Rattle.velo_events.specs.Refusals.{GrowthRefused};
 ghost use Rattle.velo_events.specs.WellFormed.{IsWellFormed};
 ghost use Rattle.velo_traces.specs.Blocks.{block_at};
-ghost use Rattle.velo_tables.specs.Clocks.{AreClocksOf};
+ghost use Rattle.velo_tables.specs.Clocks.{AreClocksSince};
 ghost use Rattle.velo_tables.specs.Noted.{HasRoomToNote, IsOfThreads};
 ghost use Rattle.velo_blame.specs.Blamed.{begins_of, AreBlamedAt};
 
@@ -54,13 +54,14 @@ fn blocks_below(alloc: Global, blocks: &[Block], bound: usize) -> SmallVec<Block
 }
 
 impl Clocks {
-    /// Clocks of a run with no event.
+    /// Clocks of a run with no event. They may stand for the events of a run from any position on, if the first that they
+    /// note is the one there.
     ///
     /// # Errors
     /// `Memory` where a growth was refused.
     pub fn new(alloc: Global, config: &Config) -> Result<Clocks, Memory>
         ensures bounds { IfOk result (λ clocks. clocks.bounds ≡ config.now.bounds) }
-        ensures start { IfOk result (λ clocks. AreClocksOf clocks.state []) }
+        ensures start { IfOk result (λ clocks. (trace : List Event) → AreClocksSince (length trace) clocks.state trace) }
         ensures memory { OnErr result GrowthRefused }
     {
         let tables = ClockTables::new(alloc, config)?;
@@ -77,7 +78,7 @@ impl Clocks {
     /// `Memory` where a growth was refused.
     pub fn reserve_for(&mut self, event: &Event) -> Result<(), Memory>
         ensures bounds { self.new.bounds ≡ self.old.bounds }
-        ensures same { (trace : List Event) → AreClocksOf self.old.state trace → AreClocksOf self.new.state trace }
+        ensures same { (first : ℕ) (trace : List Event) → AreClocksSince first self.old.state trace → AreClocksSince first self.new.state trace }
         ensures ok { OnOk result (IsOfThreads self.old.bounds.threads event.now → HasRoomToNote self.new.bounds.threads self.new.state event.now) }
         ensures err { OnErr result (¬ HasRoomToNote self.old.bounds.threads self.old.state event.now) }
         ensures memory { OnErr result GrowthRefused }
@@ -90,15 +91,16 @@ impl Clocks {
         requires room { HasRoomToNote self.old.bounds.threads self.old.state event.now }
         requires fits { position + 1 < 2 ^ 32 }
         ensures bounds { self.new.bounds ≡ self.old.bounds }
-        ensures next { (trace : List Event) → AreClocksOf self.old.state trace → length trace ≡ position
-            → IsWellFormed self.old.bounds (trace ++ event.now ∷ []) → AreClocksOf self.new.state (trace ++ event.now ∷ []) }
+        ensures next { (first : ℕ) (trace : List Event) → AreClocksSince first self.old.state trace → length trace ≡ position
+            → IsWellFormed self.old.bounds (trace ++ event.now ∷ []) → AreClocksSince first self.new.state (trace ++ event.now ∷ []) }
     {
         self.tables.note(position as u32, event);
     }
 
     /// Those of the open blocks of the event's thread that are to blame where the event, at this position, closes the first
-    /// cycle: they are not self-serializable in the events up to it. They come outermost first, as the open blocks do. It
-    /// takes no memory, and answers what `Scan::blamed` answers.
+    /// cycle: they are not self-serializable in the events up to it. They come outermost first, as the open blocks do. The
+    /// clocks need to stand for no event before the outermost of them. It takes no memory, and answers what `Scan::blamed`
+    /// answers.
     pub fn blamed(
         &self,
         blocks: &[Block],
@@ -106,8 +108,9 @@ impl Clocks {
         event: &Event,
     ) -> SmallVec<Block, MOST_OPEN_BLOCKS>
         requires few { length blocks.now ≤ MOST_OPEN_BLOCKS }
-        ensures blamed { (trace : List Event) → AreClocksOf self.now.state trace → length trace ≡ position
+        ensures blamed { (first : ℕ) (trace : List Event) → AreClocksSince first self.now.state trace → length trace ≡ position
             → IsWellFormed self.now.bounds (trace ++ event.now ∷ []) → ¬ HasCycle trace
+            → ((b : ℕ) → b < first → IsFalse (is_open_at (trace ++ event.now ∷ []) (thread_of event.now) b (length (trace ++ event.now ∷ []))))
             → blocks.now ≡ map (block_at (trace ++ event.now ∷ [])) (open_blocks (trace ++ event.now ∷ []) (thread_of event.now))
             → AreBlamedAt (trace ++ event.now ∷ []) position (begins_of result.items) }
         ensures blocks { (trace : List Event) → blocks.now ≡ map (block_at trace) (begins_of blocks.now)

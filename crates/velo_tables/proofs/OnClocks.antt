@@ -25,22 +25,23 @@ use Rattle.velo_tables.specs.Place.{Place, LastOf, LastWrite, LastOn, is_read_of
 use Rattle.velo_tables.specs.Last.{last_at}
 use Rattle.velo_tables.proofs.OnLast.{last_at-push, last_at-is, last_at-within, last_position-at}
 use Rattle.velo_tables.proofs.OnLookUps.{reached-from_conflict, looked_up-is, fork-first, no_join, no_fork, are_same-some, are_same-both, are_same-from, conflict-thread, conflict-variable, conflict-lock, conflict-handled, fork_handles, forks_or_joins, reads_or_writes, conflict_at-events}
-use Rattle.velo_tables.specs.Clocks.{ClockPlace, OfLast, OfWrite, OfReads, OfLock, ClockState, IsAt, IsForeignAt, IsLatest, AreClocksOf, IsNoted, KnowsNothing, KnowsTheSame, known_at, foreign_at, beside, greatest_of, clock_of, blame_bound, is_noted, stays}
+use Rattle.velo_tables.specs.Clocks.{ClockPlace, OfLast, OfWrite, OfReads, OfLock, ClockState, IsAt, IsForeignAt, IsLatestSince, AreClocksSince, IsNoted, KnowsNothing, KnowsTheSame, known_at, foreign_at, beside, greatest_of, clock_of, blame_bound, is_noted, stays}
 use Rattle.velo_tables.proofs.OnLatest.{most-at, most-some, latest-same, latest-none, latest-union, latest-append}
 use Rattle.velo_tables.proofs.OnBeside.{IsBeside, beside-is, beside-has, beside-conflicts, joined-conflicts, joined-at}
 
-pub opens : (s : ClockState) → KnowsNothing s → AreClocksOf s []
-opens s blank_clock =
+-- what knows nothing stands for every trace, as far as the events behind its end go
+pub opens : (s : ClockState) (trace : List Event) → KnowsNothing s → AreClocksSince (length trace) s trace
+opens s trace nothing =
     record {
-      known = λ p u. record { none_later = λ k i these own from. absurd (omega (arith, passes_at-within [] (is_by u) k own)); latest = λ some. absurd (omega (arith, blank_clock.known p u, some)) };
-      foreign = λ p u. record { none_later = λ k i these own from. absurd (omega (arith, passes_at-within [] (is_by u) k own)); latest = λ some. absurd (omega (arith, blank_clock.foreign p u, some)) };
+      known = λ p u. record { none_later = λ k i since these own from. absurd (omega (arith, since, passes_at-within trace (is_by u) k own)); latest = λ some. absurd (omega (arith, nothing.known p u, some)) };
+      foreign = λ p u. record { none_later = λ k i since these own from. absurd (omega (arith, since, passes_at-within trace (is_by u) k own)); latest = λ some. absurd (omega (arith, nothing.foreign p u, some)) };
     }
 
-pub reserves : (old new : ClockState) (trace : List Event) → KnowsTheSame old new → AreClocksOf old trace → AreClocksOf new trace
-reserves old new trace same stands =
+pub reserves : (first : ℕ) (old new : ClockState) (trace : List Event) → KnowsTheSame old new → AreClocksSince first old trace → AreClocksSince first new trace
+reserves first old new trace same stands =
     record {
-      known = λ p u. subst (IsLatest trace (IsAt trace p) u) (sym (same.known p u)) (stands.known p u);
-      foreign = λ p u. subst (IsLatest trace (IsForeignAt trace p u) u) (sym (same.foreign p u)) (stands.foreign p u);
+      known = λ p u. subst (IsLatestSince first trace (IsAt trace p) u) (sym (same.known p u)) (stands.known p u);
+      foreign = λ p u. subst (IsLatestSince first trace (IsForeignAt trace p u) u) (sym (same.foreign p u)) (stands.foreign p u);
     }
 
 -- ---- what the next event knows
@@ -58,14 +59,14 @@ unfolding conflict_at
 conflict-from trace e j f at link =
     sym (ap (λ o. both_conflict o (slice_get (trace ++ e ∷ []) (length trace))) (slice_get-append trace (e ∷ []) j (slice_get_within trace j f at) ∙ at) ∙ ap (λ o. both_conflict (Some f) o) (slice_get-push trace e)) ∙ link
 
-module _ (bounds : Bounds) (s : ClockState) (trace : List Event) (e : Event) (u : ℕ) (few : bounds.threads ≤ 64) (well : IsWellFormed bounds (trace ++ e ∷ [])) (stands : AreClocksOf s trace) where
+module _ (first : ℕ) (bounds : Bounds) (s : ClockState) (trace : List Event) (e : Event) (u : ℕ) (few : bounds.threads ≤ 64) (well : IsWellFormed bounds (trace ++ e ∷ [])) (stands : AreClocksSince first s trace) where
   abbrev joined : ℕ
   joined = greatest_of (map (λ p. known_at s p u) (OfLast (thread_of e) ∷ beside e.kind))
 
   -- of its own thread it knows itself
-  knows-own : IsTrue (u == thread_of e) → IsLatest (trace ++ e ∷ []) (λ i. i ≡ length trace) u (length trace + 1)
+  knows-own : IsTrue (u == thread_of e) → IsLatestSince first (trace ++ e ∷ []) (λ i. i ≡ length trace) u (length trace + 1)
   knows-own own = record {
-    none_later = λ k i at by_u chain. omega (arith, passes_at-within (trace ++ e ∷ []) (is_by u) k by_u, length_push trace e);
+    none_later = λ k i since at by_u chain. omega (arith, passes_at-within (trace ++ e ∷ []) (is_by u) k by_u, length_push trace e);
     latest = λ some. record {
       at = length trace;
       by = length trace;
@@ -77,30 +78,30 @@ module _ (bounds : Bounds) (s : ClockState) (trace : List Event) (e : Event) (u 
   }
 
   -- what conflicts with it is known at a place that it joins
-  knows-joined : (k j : ℕ) → j < length trace → IsTrue (passes_at trace (is_by u) k) → IsFrom trace k j → IsTrue (conflict_at (trace ++ e ∷ []) j (length trace)) → k < joined
-  knows-joined k j before own chain link =
+  knows-joined : (k j : ℕ) → first ≤ k → j < length trace → IsTrue (passes_at trace (is_by u) k) → IsFrom trace k j → IsTrue (conflict_at (trace ++ e ∷ []) j (length trace)) → k < joined
+  knows-joined k j since before own chain link =
       let f = event_at trace j before in
       let hit : IsTrue (conflict f.0 e) = conflict-from trace e j f.0 f.1 link in
       let w = reached-from_conflict bounds trace e (IsWellFormed-before bounds trace (e ∷ []) well) (IsWellFormed-last bounds trace e well) few j f.0 f.1 hit in
       let q = joined-at trace e w.place w.at (looked_up-is e w.place w.looked) w.last in
-      let below : k < known_at s q.0 u = (stands.known q.0 u).none_later k w.at q.2 own (Reaches-trans (ConflictsInOrder trace) k j w.at chain w.after) in
+      let below : k < known_at s q.0 u = (stands.known q.0 u).none_later k w.at since q.2 own (Reaches-trans (ConflictsInOrder trace) k j w.at chain w.after) in
       let upto = most-at (λ p. known_at s p u) (OfLast (thread_of e) ∷ beside e.kind) q.0 q.1 in
       omega (arith, below, upto)
 
-  knows-other : IsFalse (u == thread_of e) → IsLatest (trace ++ e ∷ []) (λ i. i ≡ length trace) u joined
+  knows-other : IsFalse (u == thread_of e) → IsLatestSince first (trace ++ e ∷ []) (λ i. i ≡ length trace) u joined
   knows-other other = record {
-    none_later = λ k i at own chain.
+    none_later = λ k i since at own chain.
         ⊎_elim
         (λ here. absurd (both_ways (u == thread_of e) other (eq-eqb u (thread_of e) (sym (eqb-true (thread_of e) u (sym (passes_at-push trace e (is_by u)) ∙ subst (λ n. IsTrue (passes_at (trace ++ e ∷ []) (is_by u) n)) (here ∙ at) own))))))
         (λ w.
         let before : w.0 < length trace = omega (arith, w.2.0, at) in
         let upto = IsFrom-le (trace ++ e ∷ []) k w.0 w.1 in
-        knows-joined k w.0 before
+        knows-joined k w.0 since before
         (sym (passes_at-append trace (e ∷ []) (is_by u) k (omega (arith, upto, before))) ∙ own) (IsFrom-before trace (e ∷ []) k w.0 before w.1)
         (subst (λ n. IsTrue (conflict_at (trace ++ e ∷ []) w.0 n)) at w.2.1))
         (IsFrom-last (trace ++ e ∷ []) k i chain);
     latest = λ some.
-        let q = most-some (λ p. known_at s p u) (OfLast (thread_of e) ∷ beside e.kind) some in
+        let q = most-some (λ p. known_at s p u) (OfLast (thread_of e) ∷ beside e.kind) (omega (arith, some)) in
         let w = (stands.known q.0 u).latest (omega (arith, some, q.2)) in
         record {
           at = w.at;
@@ -113,12 +114,12 @@ module _ (bounds : Bounds) (s : ClockState) (trace : List Event) (e : Event) (u 
         };
   }
 
-pub knows_next : (bounds : Bounds) (s : ClockState) (trace : List Event) (e : Event) (u : ℕ) → bounds.threads ≤ 64 → IsWellFormed bounds (trace ++ e ∷ []) → AreClocksOf s trace
-    → IsLatest (trace ++ e ∷ []) (λ i. i ≡ length trace) u (clock_of s (length trace) e u)
-knows_next bounds s trace e u few well stands =
+pub knows_next : (first : ℕ) (bounds : Bounds) (s : ClockState) (trace : List Event) (e : Event) (u : ℕ) → bounds.threads ≤ 64 → IsWellFormed bounds (trace ++ e ∷ []) → AreClocksSince first s trace
+    → IsLatestSince first (trace ++ e ∷ []) (λ i. i ≡ length trace) u (clock_of s (length trace) e u)
+knows_next first bounds s trace e u few well stands =
     ⊎_elim
-    (λ own. rw own (knows-own bounds s trace e u few well stands own))
-    (λ other. rw other (knows-other bounds s trace e u few well stands other))
+    (λ own. rw own (knows-own first bounds s trace e u few well stands own))
+    (λ other. rw other (knows-other first bounds s trace e u few well stands other))
     (cases_Bool (u == thread_of e))
 
 -- ---- one event more
@@ -180,47 +181,47 @@ foreign-after true true New Old Next new old same each = (
 foreign-after true false New Old Next new old same each = (λ w. (each.0 w.0, w.1), λ w. (each.1 w.0, w.1))
 
 -- and what they know
-latest-after : (trace : List Event) (e : Event) (u : ℕ) (b keeps : Bool) (old next now : ℕ → Type 0) (m n : ℕ) → ((i : ℕ) → old i → i < length trace) → ((i : ℕ) → now i ↔ After b keeps (old i) (next i)) → IsLatest trace old u m → IsLatest (trace ++ e ∷ []) next u n → IsLatest (trace ++ e ∷ []) now u (if b then max (if keeps then m else 0) n else m)
-latest-after trace e u false keeps old next now m n within each l r =
-    latest-same (trace ++ e ∷ []) u old now m (λ i. (each i).1) (λ i. (each i).0) (latest-append trace (e ∷ []) u old m within l)
-latest-after trace e u true true old next now m n within each l r =
-    latest-union (trace ++ e ∷ []) u old next now m n (λ i a. (each i).1 (inl a)) (λ i a. (each i).1 (inr a)) (λ i. (each i).0) (latest-append trace (e ∷ []) u old m within l) r
-latest-after trace e u true false old next now m n within each l r =
-    subst (IsLatest (trace ++ e ∷ []) now u) (let same : n ≡ max 0 n = omega arith in same) (latest-same (trace ++ e ∷ []) u next now n (λ i. (each i).1) (λ i. (each i).0) r)
+latest-after : (first : ℕ) (trace : List Event) (e : Event) (u : ℕ) (b keeps : Bool) (old next now : ℕ → Type 0) (m n : ℕ) → ((i : ℕ) → old i → i < length trace) → ((i : ℕ) → now i ↔ After b keeps (old i) (next i)) → IsLatestSince first trace old u m → IsLatestSince first (trace ++ e ∷ []) next u n → IsLatestSince first (trace ++ e ∷ []) now u (if b then max (if keeps then m else 0) n else m)
+latest-after first trace e u false keeps old next now m n within each l r =
+    latest-same first (trace ++ e ∷ []) u old now m (λ i. (each i).1) (λ i. (each i).0) (latest-append first trace (e ∷ []) u old m within l)
+latest-after first trace e u true true old next now m n within each l r =
+    latest-union first (trace ++ e ∷ []) u old next now m n (λ i a. (each i).1 (inl a)) (λ i a. (each i).1 (inr a)) (λ i. (each i).0) (latest-append first trace (e ∷ []) u old m within l) r
+latest-after first trace e u true false old next now m n within each l r =
+    subst (IsLatestSince first (trace ++ e ∷ []) now u) (let same : n ≡ max 0 n = omega arith in same) (latest-same first (trace ++ e ∷ []) u next now n (λ i. (each i).1) (λ i. (each i).0) r)
 
-module _ (bounds : Bounds) (old new : ClockState) (trace : List Event) (e : Event) (few : bounds.threads ≤ 64) (well : IsWellFormed bounds (trace ++ e ∷ [])) (stands : AreClocksOf old trace) (state_after : IsNoted old (length trace) e new) where
-  noted-known : (p : ClockPlace) (u : ℕ) → IsLatest (trace ++ e ∷ []) (IsAt (trace ++ e ∷ []) p) u (known_at new p u)
+module _ (first : ℕ) (bounds : Bounds) (old new : ClockState) (trace : List Event) (e : Event) (few : bounds.threads ≤ 64) (well : IsWellFormed bounds (trace ++ e ∷ [])) (stands : AreClocksSince first old trace) (state_after : IsNoted old (length trace) e new) where
+  noted-known : (p : ClockPlace) (u : ℕ) → IsLatestSince first (trace ++ e ∷ []) (IsAt (trace ++ e ∷ []) p) u (known_at new p u)
   noted-known p u =
-      subst (IsLatest (trace ++ e ∷ []) (IsAt (trace ++ e ∷ []) p) u)
+      subst (IsLatestSince first (trace ++ e ∷ []) (IsAt (trace ++ e ∷ []) p) u)
       (ap (λ d. if is_noted e p then max d (clock_of old (length trace) e u) else known_at old p u) (sym (stays-keeps p (known_at old p u))) ∙ sym (state_after.known p u))
-      (latest-after trace e u (is_noted e p) (keeps p) (IsAt trace p) (λ i. i ≡ length trace) (IsAt (trace ++ e ∷ []) p) (known_at old p u) (clock_of old (length trace) e u)
-      (at-within trace p) (at-after trace e p) (stands.known p u) (knows_next bounds old trace e u few well stands))
+      (latest-after first trace e u (is_noted e p) (keeps p) (IsAt trace p) (λ i. i ≡ length trace) (IsAt (trace ++ e ∷ []) p) (known_at old p u) (clock_of old (length trace) e u)
+      (at-within trace p) (at-after trace e p) (stands.known p u) (knows_next first bounds old trace e u few well stands))
 
   abbrev IsNew : ℕ → ℕ → Type 0
   IsNew u i = (i ≡ length trace) × IsFalse (passes_at (trace ++ e ∷ []) (is_by u) i)
 
-  next-foreign : (u : ℕ) → IsLatest (trace ++ e ∷ []) (IsNew u) u (if u == thread_of e then 0 else clock_of old (length trace) e u)
+  next-foreign : (u : ℕ) → IsLatestSince first (trace ++ e ∷ []) (IsNew u) u (if u == thread_of e then 0 else clock_of old (length trace) e u)
   next-foreign u = ⊎_elim
-      (λ own. rw own (latest-none (trace ++ e ∷ []) u (IsNew u)
+      (λ own. rw own (latest-none first (trace ++ e ∷ []) u (IsNew u)
       (λ i w. both_ways (is_by u e) (sym (passes_at-push trace e (is_by u)) ∙ subst (λ k. IsFalse (passes_at (trace ++ e ∷ []) (is_by u) k)) w.0 w.1) (eq-eqb (thread_of e) u (sym (eqb-true u (thread_of e) own))))))
-      (λ other. rw other (latest-same (trace ++ e ∷ []) u (λ i. i ≡ length trace) (IsNew u) _
+      (λ other. rw other (latest-same first (trace ++ e ∷ []) u (λ i. i ≡ length trace) (IsNew u) _
       (λ i at. (at, subst (λ k. IsFalse (passes_at (trace ++ e ∷ []) (is_by u) k)) (sym at) (passes_at-push trace e (is_by u) ∙ false_from_ne_true _ (λ by_u. both_ways (u == thread_of e) other (eq-eqb u (thread_of e) (sym (eqb-true (thread_of e) u by_u)))))))
-      (λ i w. w.0) (knows-other bounds old trace e u few well stands other)))
+      (λ i w. w.0) (knows-other first bounds old trace e u few well stands other)))
       (cases_Bool (u == thread_of e))
 
-  noted-foreign : (p : ClockPlace) (u : ℕ) → IsLatest (trace ++ e ∷ []) (IsForeignAt (trace ++ e ∷ []) p u) u (foreign_at new p u)
+  noted-foreign : (p : ClockPlace) (u : ℕ) → IsLatestSince first (trace ++ e ∷ []) (IsForeignAt (trace ++ e ∷ []) p u) u (foreign_at new p u)
   noted-foreign p u =
-      subst (IsLatest (trace ++ e ∷ []) (IsForeignAt (trace ++ e ∷ []) p u) u)
+      subst (IsLatestSince first (trace ++ e ∷ []) (IsForeignAt (trace ++ e ∷ []) p u) u)
       (ap (λ d. if is_noted e p then max d (if u == thread_of e then 0 else clock_of old (length trace) e u) else foreign_at old p u) (sym (stays-keeps p (foreign_at old p u))) ∙ sym (state_after.foreign p u))
-      (latest-after trace e u (is_noted e p) (keeps p) (IsForeignAt trace p u) (IsNew u) (IsForeignAt (trace ++ e ∷ []) p u) (foreign_at old p u) (if u == thread_of e then 0 else clock_of old (length trace) e u)
+      (latest-after first trace e u (is_noted e p) (keeps p) (IsForeignAt trace p u) (IsNew u) (IsForeignAt (trace ++ e ∷ []) p u) (foreign_at old p u) (if u == thread_of e then 0 else clock_of old (length trace) e u)
       (λ i w. at-within trace p i w.0)
       (λ i. foreign-after (is_noted e p) (keeps p) (IsAt (trace ++ e ∷ []) p i) (IsAt trace p i) (i ≡ length trace) (passes_at (trace ++ e ∷ []) (is_by u) i) (passes_at trace (is_by u) i)
       (λ at. passes_at-append trace (e ∷ []) (is_by u) i (at-within trace p i at)) (at-after trace e p i))
       (stands.foreign p u) (next-foreign u))
 
-pub notes : (bounds : Bounds) (old new : ClockState) (trace : List Event) (e : Event) → bounds.threads ≤ 64 → IsWellFormed bounds (trace ++ e ∷ [])
-    → AreClocksOf old trace → IsNoted old (length trace) e new → AreClocksOf new (trace ++ e ∷ [])
-notes bounds old new trace e few well stands state_after = record { known = noted-known bounds old new trace e few well stands state_after; foreign = noted-foreign bounds old new trace e few well stands state_after }
+pub notes : (first : ℕ) (bounds : Bounds) (old new : ClockState) (trace : List Event) (e : Event) → bounds.threads ≤ 64 → IsWellFormed bounds (trace ++ e ∷ [])
+    → AreClocksSince first old trace → IsNoted old (length trace) e new → AreClocksSince first new (trace ++ e ∷ [])
+notes first bounds old new trace e few well stands state_after = record { known = noted-known first bounds old new trace e few well stands state_after; foreign = noted-foreign first bounds old new trace e few well stands state_after }
 
 -- ---- which open blocks are interrupted
 
@@ -306,10 +307,10 @@ module _ (bounds : Bounds) (trace : List Event) (e : Event) (b : ℕ) (few : bou
         (λ handled. ⊎_elim (λ forks. absurd (no_fork bounds trace e before follows few q f here forks)) (λ joins. beside-joined joins) (forks_or_joins e.kind (thread_of f) handled))
         (or_cases _ _ h)
 
-pub bounded : (bounds : Bounds) (s : ClockState) (trace : List Event) (e : Event) (b : ℕ) → bounds.threads ≤ 64 → IsWellFormed bounds (trace ++ e ∷ []) → ¬ HasCycle trace → AreClocksOf s trace
+pub bounded : (first : ℕ) (bounds : Bounds) (s : ClockState) (trace : List Event) (e : Event) (b : ℕ) → first ≤ b → bounds.threads ≤ 64 → IsWellFormed bounds (trace ++ e ∷ []) → ¬ HasCycle trace → AreClocksSince first s trace
     → IsTrue (is_open_at (trace ++ e ∷ []) (thread_of e) b (length (trace ++ e ∷ [])))
     → (b < blame_bound s e) ↔ IsInterruptedAtLast trace e b
-bounded bounds s trace e b few well none stands opened = (below_bound, interrupted)
+bounded first bounds s trace e b since few well none stands opened = (below_bound, interrupted)
   where
     own : b < length trace → IsTrue (passes_at trace (is_by (thread_of e)) b)
     own l = sym (passes_at-append trace (e ∷ []) (is_by (thread_of e)) b l) ∙ is_open_at-thread (trace ++ e ∷ []) (thread_of e) b (length (trace ++ e ∷ [])) opened
@@ -317,7 +318,7 @@ bounded bounds s trace e b few well none stands opened = (below_bound, interrupt
     below_bound : b < blame_bound s e → IsInterruptedAtLast trace e b
     below_bound below =
         let q = most-some (λ p. foreign_at s p (thread_of e)) (beside e.kind) (omega (arith, below)) in
-        let w = (stands.foreign q.0 (thread_of e)).latest (omega (arith, below, q.2)) in
+        let w = (stands.foreign q.0 (thread_of e)).latest (omega (arith, since, below, q.2)) in
         let within = passes_at-within trace (is_by (thread_of e)) w.at w.own in
         let upto : b ≤ w.at = omega (arith, below, q.2, w.next) in
         record {
@@ -334,18 +335,20 @@ bounded bounds s trace e b few well none stands opened = (below_bound, interrupt
         let after = IsFrom-le trace b i.through i.from in
         let l : b < length trace = omega (arith, after, i.before) in
         let w = beside-conflicting bounds trace e b few well none (is_open_at-before trace e (thread_of e) b l opened) i.through f.0 f.1 i.of_another i.from (conflict-from trace e i.through f.0 f.1 i.in_conflict) in
-        let below = (stands.foreign w.place (thread_of e)).none_later b w.at w.there (own l) w.from in
+        let below = (stands.foreign w.place (thread_of e)).none_later b w.at since w.there (own l) w.from in
         let upto = most-at (λ p. foreign_at s p (thread_of e)) (beside e.kind) w.place (beside-has e.kind w.place w.aside) in
         omega (arith, below, upto)
 
--- so the open blocks below the bound are those to blame
-pub blames : (bounds : Bounds) (s : ClockState) (trace : List Event) (e : Event) → bounds.threads ≤ 64 → IsWellFormed bounds (trace ++ e ∷ []) → ¬ HasCycle trace → AreClocksOf s trace
+-- so the open blocks below the bound are those to blame, where none of them begins before `first`
+pub blames : (first : ℕ) (bounds : Bounds) (s : ClockState) (trace : List Event) (e : Event) → bounds.threads ≤ 64 → IsWellFormed bounds (trace ++ e ∷ []) → ¬ HasCycle trace → AreClocksSince first s trace
+    → ((b : ℕ) → b < first → IsFalse (is_open_at (trace ++ e ∷ []) (thread_of e) b (length (trace ++ e ∷ []))))
     → AreBlamed (trace ++ e ∷ []) (thread_of e) (filter (λ b. nat_lt b (blame_bound s e)) (open_blocks (trace ++ e ∷ []) (thread_of e)))
-blames bounds s trace e few well none stands =
+blames first bounds s trace e few well none stands none_before =
     let whole = trace ++ e ∷ [] in
     let own : IsTrue (passes_at whole (is_by (thread_of e)) (length trace)) = passes_at-push trace e (is_by (thread_of e)) ∙ eq-eqb (thread_of e) (thread_of e) refl in
     AreBlamed-filter whole (thread_of e) (length trace) (λ b. nat_lt b (blame_bound s e)) (length_push trace e) own (λ b opened.
-    let at_last = bounded bounds s trace e b few well none stands opened in
+    let since : first ≤ b = ⊎_elim (λ before. absurd (both_ways _ (none_before b before) opened)) (λ past. past) (cases_lt b first) in
+    let at_last = bounded first bounds s trace e b since few well none stands opened in
     let last = blame_law-last trace e b none opened in
     let law = blame_law whole (thread_of e) b (length trace) (length_push trace e) own opened in (
       (λ below. law.0 (last.1 (at_last.0 (ltb-true b (blame_bound s e) below)))),

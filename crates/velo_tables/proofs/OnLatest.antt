@@ -7,7 +7,7 @@ use Rattle.velo_events.specs.Event.{is_by}
 use Rattle.velo_events.proofs.OnTraces.{passes_at-append}
 use Rattle.velo_events.proofs.OnOwners.{passes_at-within}
 use Rattle.velo_events.proofs.OnHappening.{IsFrom-le, IsFrom-append, IsFrom-before}
-use Rattle.velo_tables.specs.Clocks.{ClockPlace, IsLatest, greatest_of}
+use Rattle.velo_tables.specs.Clocks.{ClockPlace, IsLatestSince, greatest_of}
 
 -- ---- the greatest of some numbers
 
@@ -33,22 +33,22 @@ most-some f (q ∷ qs) h =
 
 -- ---- of one trace
 
-module _ (trace : List Event) (u : ℕ) where
-  pub latest-same : (these those : ℕ → Type 0) (n : ℕ) → ((i : ℕ) → these i → those i) → ((i : ℕ) → those i → these i) → IsLatest trace these u n → IsLatest trace those u n
+module _ (first : ℕ) (trace : List Event) (u : ℕ) where
+  pub latest-same : (these those : ℕ → Type 0) (n : ℕ) → ((i : ℕ) → these i → those i) → ((i : ℕ) → those i → these i) → IsLatestSince first trace these u n → IsLatestSince first trace those u n
   latest-same these those n to back l = record {
-    none_later = λ k i at own chain. l.none_later k i (back i at) own chain;
+    none_later = λ k i since at own chain. l.none_later k i since (back i at) own chain;
     latest = λ some. let w = l.latest some in record { at = w.at; by = w.by; next = w.next; own = w.own; among = to w.by w.among; from = w.from };
   }
 
   -- no position knows anything
-  pub latest-none : (these : ℕ → Type 0) → ((i : ℕ) → these i → ⊥) → IsLatest trace these u 0
-  latest-none these none = record { none_later = λ k i at own chain. absurd (none i at); latest = λ some. absurd (omega (arith, some)) }
+  pub latest-none : (these : ℕ → Type 0) → ((i : ℕ) → these i → ⊥) → IsLatestSince first trace these u 0
+  latest-none these none = record { none_later = λ k i since at own chain. absurd (none i at); latest = λ some. absurd (omega (arith, some)) }
 
   -- two sets of positions
-  pub latest-union : (these those both : ℕ → Type 0) (m n : ℕ) → ((i : ℕ) → these i → both i) → ((i : ℕ) → those i → both i) → ((i : ℕ) → both i → these i ⊎ those i) → IsLatest trace these u m → IsLatest trace those u n → IsLatest trace both u (max m n)
+  pub latest-union : (these those both : ℕ → Type 0) (m n : ℕ) → ((i : ℕ) → these i → both i) → ((i : ℕ) → those i → both i) → ((i : ℕ) → both i → these i ⊎ those i) → IsLatestSince first trace these u m → IsLatestSince first trace those u n → IsLatestSince first trace both u (max m n)
   latest-union these those both m n one other either l r = record {
-    none_later = λ k i at own chain.
-        ⊎_elim (λ a. let h : k < m = l.none_later k i a own chain in omega (arith, h)) (λ b. let h : k < n = r.none_later k i b own chain in omega (arith, h)) (either i at);
+    none_later = λ k i since at own chain.
+        ⊎_elim (λ a. let h : k < m = l.none_later k i since a own chain in omega (arith, h)) (λ b. let h : k < n = r.none_later k i since b own chain in omega (arith, h)) (either i at);
     latest = λ some.
         ⊎_elim
         (λ less. let w = r.latest (omega (arith, less)) in record { at = w.at; by = w.by; next = omega (arith, w.next, less); own = w.own; among = other w.by w.among; from = w.from })
@@ -59,12 +59,12 @@ module _ (trace : List Event) (u : ℕ) where
 -- ---- of a longer trace
 
 -- what the first positions know does not change
-pub latest-append : (trace more : List Event) (u : ℕ) (these : ℕ → Type 0) (n : ℕ) → ((i : ℕ) → these i → i < length trace) → IsLatest trace these u n → IsLatest (trace ++ more) these u n
-latest-append trace more u these n within l = record {
-  none_later = λ k i at own chain.
+pub latest-append : (first : ℕ) (trace more : List Event) (u : ℕ) (these : ℕ → Type 0) (n : ℕ) → ((i : ℕ) → these i → i < length trace) → IsLatestSince first trace these u n → IsLatestSince first (trace ++ more) these u n
+latest-append first trace more u these n within l = record {
+  none_later = λ k i since at own chain.
       let below = within i at in
       let upto = IsFrom-le (trace ++ more) k i chain in
-      l.none_later k i at (sym (passes_at-append trace more (is_by u) k (omega (arith, below, upto))) ∙ own) (IsFrom-before trace more k i below chain);
+      l.none_later k i since at (sym (passes_at-append trace more (is_by u) k (omega (arith, below, upto))) ∙ own) (IsFrom-before trace more k i below chain);
   latest = λ some.
       let w = l.latest some in
       record {

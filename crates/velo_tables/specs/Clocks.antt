@@ -1,5 +1,5 @@
 -- What clocks remember of a trace: how far the events at each place know each thread.
-use Rattle.std.specs.Prelude.{◌≡◌, ℕ, ◌+◌, ◌<◌, ◌||◌, ◌==◌, max, Bool, List, [], ◌∷◌, map, Some, IsTrue, IsFalse, slice_index_or, if◌then◌else◌}
+use Rattle.std.specs.Prelude.{◌≡◌, ℕ, ◌+◌, ◌<◌, ◌≤◌, ◌||◌, ◌==◌, max, Bool, List, [], ◌∷◌, map, Some, IsTrue, IsFalse, slice_index_or, if◌then◌else◌}
 use Rattle.velo_events.specs.declared.event.Event.{Event}
 use Rattle.velo_events.specs.declared.event.Kind.{Kind}
 use Rattle.velo_events.specs.declared.event.Kind.TheVariants.{Read, Write, Acquire, Release, Join}
@@ -48,10 +48,10 @@ pub record IsKnown (trace : List Event) (these : ℕ → Type 0) (u n : ℕ) : T
   pub among : these by
   pub from : IsFrom trace at by
 
--- n is the position plus one of the latest event of thread u that is, or happens before, one of these positions; 0 for none
-pub record IsLatest (trace : List Event) (these : ℕ → Type 0) (u n : ℕ) : Type 0 where
-  pub none_later : (k i : ℕ) → these i → IsTrue (passes_at trace (is_by u) k) → IsFrom trace k i → k < n
-  pub latest : 0 < n → IsKnown trace these u n
+-- n is the position plus one of the latest event of thread u, from position `first` on, that is, or happens before, one of these positions; no more than `first` for none
+pub record IsLatestSince (first : ℕ) (trace : List Event) (these : ℕ → Type 0) (u n : ℕ) : Type 0 where
+  pub none_later : (k i : ℕ) → first ≤ k → these i → IsTrue (passes_at trace (is_by u) k) → IsFrom trace k i → k < n
+  pub latest : first < n → IsKnown trace these u n
 
 -- ---- the value of the clocks
 
@@ -82,10 +82,14 @@ known_at s p u = slice_index_or (clock_at s p).known u 0
 abbrev pub foreign_at : ClockState → ClockPlace → ℕ → ℕ
 foreign_at s p u = slice_index_or (clock_at s p).foreign u 0
 
+-- The clocks stand for the trace as far as its events from position `first` on go. What they say of those before it is no more than that they come before.
+pub record AreClocksSince (first : ℕ) (s : ClockState) (trace : List Event) : Type 0 where
+  pub known : (p : ClockPlace) (u : ℕ) → IsLatestSince first trace (IsAt trace p) u (known_at s p u)
+  pub foreign : (p : ClockPlace) (u : ℕ) → IsLatestSince first trace (IsForeignAt trace p u) u (foreign_at s p u)
+
 -- The clocks stand for the trace.
-pub record AreClocksOf (s : ClockState) (trace : List Event) : Type 0 where
-  pub known : (p : ClockPlace) (u : ℕ) → IsLatest trace (IsAt trace p) u (known_at s p u)
-  pub foreign : (p : ClockPlace) (u : ℕ) → IsLatest trace (IsForeignAt trace p u) u (foreign_at s p u)
+abbrev pub AreClocksOf : ClockState → List Event → Type 0
+AreClocksOf s trace = AreClocksSince 0 s trace
 
 -- ---- what the calls do, with no trace
 

@@ -18,7 +18,7 @@ use Rattle.velo_merge.specs.Named.{live_stamps, HasFinished, IsAncestor}
 use Rattle.velo_monitor.specs.Watched.{Watched, IsMonitorOf}
 use Rattle.velo_monitor.specs.Answers.{NeedsNode}
 use Rattle.velo_world.specs.declared.run.Alarm.{Alarm}
-use Rattle.velo_heap.specs.Contents.{bounds_of}
+use Rattle.velo_heap.specs.Contents.{Contents, bounds_of, IsHeapOf}
 use Rattle.velo_events.specs.WellFormed.{IsWellFormed}
 use Rattle.velo_events.proofs.OnWellFormed.{IsWellFormed-push}
 use Rattle.velo_world.specs.Late.{AreLateClocksOf}
@@ -84,10 +84,6 @@ pub OnOk-then : {T E : Type 0} (result : Result T E) (P Q : Type 0) → OnOk res
 OnOk-then (Ok x) P Q h f = f h
 OnOk-then (Err x) P Q h f = tt
 
-pub OnOk-both : {T E : Type 0} (result : Result T E) (P Q R : Type 0) → OnOk result P → OnOk result Q → (P → Q → R) → OnOk result R
-OnOk-both (Ok x) P Q R h g f = f h g
-OnOk-both (Err x) P Q R h g f = tt
-
 -- the event that may come next finds room at the monitor, where room was made for it
 pub room-reserved : (old new : Run) (trace : List Event) (e : Event) → new.alarm ≡ old.alarm → new.monitor.nodes ≡ old.monitor.nodes → ((p : Place) → entry new.monitor.kept p ≡ entry old.monitor.kept p) → HasSlotFor old trace e → HasRoomFor new.monitor.kept e → HasRoomToWatch new trace e
 room-reserved old new trace e alarm nodes entries slot monitor = record {
@@ -118,7 +114,7 @@ IsWatched-stays run bounds trace e some is =
     record {
       alarm = AlarmOf-stays trace e run.alarm some is.alarm;
       monitor = subst (IsMonitorOf bounds run.monitor) same is.monitor;
-      clocks = subst (AreLateClocksOf run.clocks) same is.clocks;
+      clocks = λ none. absurd (alarm-not_none run.alarm some none);
       bounds_are = is.bounds_are;
     }
 
@@ -127,7 +123,7 @@ pub monitor-quiet : (run : Run) (bounds : Bounds) (trace : List Event) → IsFal
 monitor-quiet run bounds trace quiet is = subst (IsMonitorOf bounds run.monitor) (events_watched-none trace run.alarm quiet) is.monitor
 
 pub clocks-quiet : (run : Run) (bounds : Bounds) (trace : List Event) → IsFalse (is_some run.alarm) → IsWatched run bounds trace → AreLateClocksOf run.clocks trace
-clocks-quiet run bounds trace quiet is = subst (AreLateClocksOf run.clocks) (events_watched-none trace run.alarm quiet) is.clocks
+clocks-quiet run bounds trace quiet is = is.clocks (alarm-none run.alarm quiet)
 
 pub IsWatched-quiet : (run : Run) (bounds : Bounds) (trace : List Event) → IsFalse (is_some run.alarm) → ¬ HasCycle trace → IsMonitorOf bounds run.monitor trace → AreLateClocksOf run.clocks trace → run.clocks.clocks.bounds ≡ bounds → IsWatched run bounds trace
 IsWatched-quiet run bounds trace quiet acyclic monitor clocks bounds_are =
@@ -135,7 +131,7 @@ IsWatched-quiet run bounds trace quiet acyclic monitor clocks bounds_are =
     record {
       alarm = AlarmOf-quiet trace run.alarm quiet acyclic;
       monitor = subst (IsMonitorOf bounds run.monitor) same monitor;
-      clocks = subst (AreLateClocksOf run.clocks) same clocks;
+      clocks = λ none. clocks;
       bounds_are = bounds_are;
     }
 
@@ -146,19 +142,31 @@ IsRunOf-clocks run clocks trace quiet are same is = record {
   watched = record {
     alarm = is.watched.alarm;
     monitor = is.watched.monitor;
-    clocks = subst (AreLateClocksOf clocks) (sym (events_watched-none trace run.alarm quiet)) are;
+    clocks = λ none. are;
     bounds_are = same ∙ is.watched.bounds_are;
   };
 }
 
+-- the heap goes on beside them
+pub IsRunOf-applied : (run : Run) (heap : Contents) (bounds : Bounds) (trace : List Event) → IsHeapOf heap trace → bounds_of heap ≡ bounds → IsWatched run bounds trace → IsRunOf (record run { heap = heap }) trace
+IsRunOf-applied run heap bounds trace is same watched = record {
+  heap = is;
+  watched = record {
+    alarm = watched.alarm;
+    monitor = subst (λ b. IsMonitorOf b run.monitor (events_watched trace run.alarm)) (sym same) watched.monitor;
+    clocks = watched.clocks;
+    bounds_are = watched.bounds_are ∙ sym same;
+  };
+}
+
 -- at it they stand for the events before
-pub IsWatched-raised : (run : Run) (bounds : Bounds) (trace : List Event) (e : Event) (alarm : Alarm) → run.alarm ≡ Some alarm → alarm.position ≡ length trace → IsAlarm (trace ++ e ∷ []) alarm → IsMonitorOf bounds run.monitor trace → AreLateClocksOf run.clocks trace → run.clocks.clocks.bounds ≡ bounds → IsWatched run bounds (trace ++ e ∷ [])
-IsWatched-raised run bounds trace e alarm raised here is monitor clocks bounds_are =
+pub IsWatched-raised : (run : Run) (bounds : Bounds) (trace : List Event) (e : Event) (alarm : Alarm) → run.alarm ≡ Some alarm → alarm.position ≡ length trace → IsAlarm (trace ++ e ∷ []) alarm → IsMonitorOf bounds run.monitor trace → run.clocks.clocks.bounds ≡ bounds → IsWatched run bounds (trace ++ e ∷ [])
+IsWatched-raised run bounds trace e alarm raised here is monitor bounds_are =
     let part : events_watched (trace ++ e ∷ []) run.alarm ≡ trace = rw (raised, here) (take-before trace e) in
     record {
       alarm = rw raised is;
       monitor = subst (IsMonitorOf bounds run.monitor) (sym part) monitor;
-      clocks = subst (AreLateClocksOf run.clocks) (sym part) clocks;
+      clocks = λ none. absurd (alarm-not_none run.alarm (ap is_some raised) none);
       bounds_are = bounds_are;
     }
 

@@ -20,11 +20,11 @@ abbrev pub events_watched : List Event → Option Alarm → List Event
 events_watched log None = log
 events_watched log (Some alarm) = take alarm.position log
 
--- the alarm is that of the events, the monitor is that of the events before it, and the clocks are those of the first of these
+-- the alarm is that of the events, the monitor is that of the events before it, and without an alarm the clocks are those of the first events
 pub record IsWatched (run : Run) (bounds : Bounds) (trace : List Event) : Type 0 where
   pub alarm : AlarmOf trace run.alarm
   pub monitor : IsMonitorOf bounds run.monitor (events_watched trace run.alarm)
-  pub clocks : AreLateClocksOf run.clocks (events_watched trace run.alarm)
+  pub clocks : run.alarm ≡ None → AreLateClocksOf run.clocks trace
   pub bounds_are : run.clocks.clocks.bounds ≡ bounds
 
 -- an alarm is kept, of the event at the position

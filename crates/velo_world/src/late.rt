@@ -1,12 +1,12 @@
 //! Clocks that may lie behind the events of a run, and catch up.
-ghost use Rattle.std.specs.Prelude.{◌≡◌, ◌≤◌, ◌<◌, ◌+◌, ◌++◌, ◌∷◌, [], List, length, IfOk, OnOk, OnErr};
+ghost use Rattle.std.specs.Prelude.{◌≡◌, ℕ, ◌≤◌, ◌<◌, ◌+◌, ◌++◌, ◌∷◌, [], List, length, IfOk, OnOk, OnErr};
 ghost use Rattle.velo_events.specs.declared.event.Event.{Event as EventOf};
 ghost use Rattle.velo_events.specs.declared.limits.TheConstants.{MOST_EVENTS};
 ghost use Rattle.velo_events.specs.Refusals.{GrowthRefused};
 ghost use Rattle.velo_events.specs.WellFormed.{IsWellFormed};
-ghost use Rattle.velo_tables.specs.Clocks.{AreClocksOf};
+ghost use Rattle.velo_tables.specs.Clocks.{AreClocksSince};
 ghost use Rattle.velo_tables.specs.Noted.{HasRoomToNote, IsOfThreads};
-ghost use Rattle.velo_world.specs.Late.{AreLateClocksOf};
+ghost use Rattle.velo_world.specs.Late.{AreLateClocksOf, AreLateClocksSince};
 
 use std::alloc::Global;
 use velo_blame::Clocks;
@@ -15,11 +15,12 @@ use velo_events::{Config, Event, Memory};
 /// The clocks of the first events of a run.
 ///
 /// While threads act they note each event as it comes, so that a cycle is blamed at once. A recorded log comes about without
-/// them: they note it where a cycle closes, or where a thread acts after it.
+/// them. Where a cycle closes they note what came since the transaction of its event began, since no block that is open there
+/// began before; where a thread acts after the log, they note all of it.
 #[derive(Drop)]
 pub struct LateClocks {
     pub clocks: Clocks,
-    /// How many events they noted.
+    /// How many events they noted or skipped.
     noted: usize,
 }
 
@@ -34,16 +35,19 @@ impl LateClocks {
         Ok(LateClocks { clocks, noted: 0 })
     }
 
-    /// Notes those of the events that are not noted yet. Where memory is refused, it noted some of them.
-    pub fn catch_up(&mut self, events: &[Event]) -> Result<(), Memory>
+    /// Notes those of the events from the position `first` on that are not noted yet, and skips those before it. Where memory
+    /// is refused, it noted some of them.
+    pub fn catch_up(&mut self, first: usize, events: &[Event]) -> Result<(), Memory>
         requires late { AreLateClocksOf self.old events.now }
+        requires within { first ≤ length events.now }
         requires well_formed { IsWellFormed self.old.clocks.bounds events.now }
         requires few { length events.now ≤ MOST_EVENTS }
         ensures bounds { self.new.clocks.bounds ≡ self.old.clocks.bounds }
-        ensures late { AreLateClocksOf self.new events.now }
+        ensures late { AreLateClocksSince first self.new events.now }
         ensures all { OnOk result (self.new.noted ≡ length events.now) }
         ensures memory { OnErr result GrowthRefused }
     {
+        self.noted = self.noted.max(first);
         for position in self.noted..events.len() {
             let event = &events[position];
             self.clocks.reserve_for(event)?;
@@ -57,7 +61,7 @@ impl LateClocks {
     pub fn reserve_for(&mut self, event: &Event) -> Result<(), Memory>
         ensures bounds { self.new.clocks.bounds ≡ self.old.clocks.bounds }
         ensures noted { self.new.noted ≡ self.old.noted }
-        ensures same { (trace : List EventOf) → AreClocksOf self.old.clocks.state trace → AreClocksOf self.new.clocks.state trace }
+        ensures same { (first : ℕ) (trace : List EventOf) → AreClocksSince first self.old.clocks.state trace → AreClocksSince first self.new.clocks.state trace }
         ensures ok { OnOk result (IsOfThreads self.old.clocks.bounds.threads event.now → HasRoomToNote self.new.clocks.bounds.threads self.new.clocks.state event.now) }
         ensures memory { OnErr result GrowthRefused }
     {
@@ -71,8 +75,8 @@ impl LateClocks {
         requires few { position < MOST_EVENTS }
         ensures bounds { self.new.clocks.bounds ≡ self.old.clocks.bounds }
         ensures noted { self.new.noted ≡ position + 1 }
-        ensures next { (trace : List EventOf) → AreClocksOf self.old.clocks.state trace → length trace ≡ position
-            → IsWellFormed self.old.clocks.bounds (trace ++ event.now ∷ []) → AreClocksOf self.new.clocks.state (trace ++ event.now ∷ []) }
+        ensures next { (first : ℕ) (trace : List EventOf) → AreClocksSince first self.old.clocks.state trace → length trace ≡ position
+            → IsWellFormed self.old.clocks.bounds (trace ++ event.now ∷ []) → AreClocksSince first self.new.clocks.state (trace ++ event.now ∷ []) }
     {
         self.clocks.note(position, event);
         self.noted = position + 1;

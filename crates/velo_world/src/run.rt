@@ -8,7 +8,7 @@ ghost use Rattle.velo_events.specs.Graph.{HasCycle};
 ghost use Rattle.velo_events.specs.WellFormed.{IsWellFormed, MayFollow};
 ghost use Rattle.velo_arena.specs.Slots.{limit_of};
 ghost use Rattle.velo_heap.specs.Contents.{bounds_of};
-ghost use Rattle.velo_tables.specs.Clocks.{AreClocksOf};
+ghost use Rattle.velo_tables.specs.Clocks.{AreClocksSince};
 ghost use Rattle.velo_world.specs.Late.{AreLateClocksOf};
 ghost use Rattle.velo_world.specs.World.{FindsNoNode, IsAlarm};
 ghost use Rattle.velo_world.specs.Run.{ComesNext, HasRoomForNext, HasRoomToWatch, HasSlotFor, IsRunOf, IsWatched, KeepsAlarm, Raises};
@@ -50,7 +50,7 @@ pub struct Run {
     pub heap: Heap,
     /// The monitor of the events before the alarm.
     pub monitor: Monitor,
-    /// The clocks of the events before the alarm, or of the first of them.
+    /// The clocks of the first events, while no alarm is kept.
     clocks: LateClocks,
     pub alarm: Option<Alarm>,
     alloc: Global,
@@ -106,7 +106,7 @@ impl Run {
         if self.alarm.is_some() {
             return Ok(());
         }
-        self.clocks.catch_up(events)?;
+        self.clocks.catch_up(0, events)?;
         self.clocks.reserve_for(event)?;
         self.reserve_to_watch(event)
     }
@@ -217,8 +217,8 @@ impl Run {
         }
     }
 
-    /// Raises the alarm of the event at the position, which closes the first cycle, once the clocks noted all before it. It
-    /// stands out of line: an event that raises none does not pay for it.
+    /// Raises the alarm of the event at the position, which closes the first cycle, once the clocks noted what came since its
+    /// transaction began. It stands out of line: an event that raises none does not pay for it.
     #[inline(never)]
     fn raise_alarm_late(
         &mut self,
@@ -237,11 +237,10 @@ impl Run {
         ensures heap { self.new.heap ≡ self.old.heap }
         ensures monitor { self.new.monitor ≡ self.old.monitor }
         ensures bounds { self.new.clocks.clocks.bounds ≡ self.old.clocks.clocks.bounds }
-        ensures clocks { OnOk result (AreLateClocksOf self.new.clocks (take position events.now)) }
         ensures alarm { OnOk result (KeepsAlarm (take position events.now ++ event.now ∷ []) position self.new.alarm) }
         ensures memory { OnErr result GrowthRefused }
     {
-        self.clocks.catch_up(&events[..position])?;
+        self.clocks.catch_up(transaction, &events[..position])?;
         self.raise_alarm(events, position, event, transaction);
         Ok(())
     }
@@ -251,7 +250,7 @@ impl Run {
     #[inline(never)]
     fn raise_alarm(&mut self, events: &[Event], position: usize, event: &Event, transaction: usize)
         requires here { slice_get events.now position ≡ Some event.now }
-        requires clocks { AreClocksOf self.old.clocks.clocks.state (take position events.now) }
+        requires clocks { AreClocksSince transaction self.old.clocks.clocks.state (take position events.now) }
         requires well_formed { IsWellFormed self.old.clocks.clocks.bounds (take position events.now ++ event.now ∷ []) }
         requires acyclic { ¬ HasCycle (take position events.now) }
         requires closes { HasCycle (take position events.now ++ event.now ∷ []) }
@@ -270,7 +269,7 @@ impl Run {
         transaction: usize,
     ) -> Alarm
         requires here { slice_get events.now position ≡ Some event.now }
-        requires clocks { AreClocksOf self.now.clocks.clocks.state (take position events.now) }
+        requires clocks { AreClocksSince transaction self.now.clocks.clocks.state (take position events.now) }
         requires well_formed { IsWellFormed self.now.clocks.clocks.bounds (take position events.now ++ event.now ∷ []) }
         requires acyclic { ¬ HasCycle (take position events.now) }
         requires closes { HasCycle (take position events.now ++ event.now ∷ []) }

@@ -1,4 +1,4 @@
-use Rattle.std.proofs.Common.{◌≡◌, length, sym, subst, ◌∙◌, arith}
+use Rattle.std.proofs.Common.{◌≡◌, length, subst, arith}
 use Rattle.velo_tables.specs.Noted.{IsSized}
 use Rattle.velo_tables.proofs.OnOrder.{order-blank}
 use Rattle.velo_tables.proofs.clocks.ClockTables.new.Goals as goal

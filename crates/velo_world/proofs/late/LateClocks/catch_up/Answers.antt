@@ -1,7 +1,22 @@
-use Rattle.std.proofs.Common.{take, length-take-le, sym, ◌∙◌, arith}
+use Rattle.std.proofs.Common.{take, length-take-le, sym, ◌∙◌, refl, subst, arith}
 use Rattle.std.proofs.lemmas.Option.{slice_get-get_or}
-use Rattle.velo_world.proofs.OnLate.{clocks-before, AreLateClocksOf-next, well_formed-by, well_formed-to, threads-at}
+use Rattle.velo_tables.specs.Clocks.{AreClocksSince}
+use Rattle.velo_world.proofs.OnLate.{AreClocksSince-goes_on, clocks-before, AreLateClocksSince-next, well_formed-by, well_formed-to, threads-at}
 use Rattle.velo_world.proofs.late.LateClocks.catch_up.Goals as goal
+
+pub loop-position-init : goal.loop-position-init
+loop-position-init c =
+    let late = c.requires.late in
+    let few = late.few in
+    let within = c.requires.within in
+    record {
+      noted = refl;
+      late = record {
+        few = omega (arith, c.max-self.ensures, few, within);
+        clocks = subst (λ n. AreClocksSince c.args.first c.args.self.now.clocks.state (take n c.args.events.now)) (sym c.max-self.ensures) (AreClocksSince-goes_on c.args.first c.args.self.now c.args.events.now within late);
+      };
+      bounds = refl;
+    }
 
 pub note-requires-clause-room : goal.note-requires-clause-room
 note-requires-clause-room c =
@@ -18,11 +33,11 @@ loop-position-preserved c =
     let here = slice_get-get_or events position _ c.loop-position-test.true in
     let bounds = c.reserve_for.ensures.bounds ∙ invariant.bounds in
     let well = well_formed-by _ _ _ (sym bounds) (well_formed-to _ events position _ here c.requires.well_formed) in
-    let before = c.reserve_for.ensures.same _ (clocks-before c.loop-position.self events position invariant.late invariant.noted) in
+    let before = c.reserve_for.ensures.same _ _ (clocks-before c.args.first c.loop-position.self events position invariant.late invariant.noted) in
     let within = c.loop-position-test.true in
-    let next = c.note.ensures.next (take position events) before (length-take-le position events (omega (arith, within))) well in
+    let next = c.note.ensures.next _ (take position events) before (length-take-le position events (omega (arith, within))) well in
     record {
       noted = c.note.ensures.noted;
-      late = AreLateClocksOf-next c.note.new.self events position _ here c.note.ensures.noted next;
+      late = AreLateClocksSince-next c.args.first c.note.new.self events position _ here c.note.ensures.noted next;
       bounds = c.note.ensures.bounds ∙ bounds;
     }

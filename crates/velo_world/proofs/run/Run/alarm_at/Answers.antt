@@ -56,5 +56,6 @@ returns-clause-alarm c =
     let blocks = c.deref.ensures ∙ (c.open_blocks_since-blocks.ensures ∙ ap (λ xs. map (block_at xs) (open_blocks xs c.args.event.now.thread.0)) events) in
     let begins = ap begins_of blocks ∙ begins_of-blocks whole (open_blocks whole c.args.event.now.thread.0) in
     IsAlarm-closing past c.args.event.now _ c.requires.acyclic c.requires.closes (sym here) c.requires.transaction
-    (c.blamed-blamed.ensures.blamed past c.requires.clocks here c.requires.well_formed c.requires.acyclic blocks)
+    (c.blamed-blamed.ensures.blamed c.args.transaction past c.requires.clocks here c.requires.well_formed c.requires.acyclic
+    (λ b below. none_open past c.args.event.now b (let last = ap (owner whole) here in omega (arith, below, c.requires.transaction, last))) blocks)
     (c.blamed-blamed.ensures.blocks whole (blocks ∙ ap (map (block_at whole)) (sym begins)))

@@ -14,6 +14,7 @@ catch_up-requires c =
     let stands = c.requires.next.stands in
     record {
       late = clocks-quiet old _ _ (sym c.is_some.ensures ∙ c.if-is_some.false) stands.watched;
+      within = omega arith;
       well_formed = subst (λ b. IsWellFormed b c.args.events.now) (sym stands.watched.bounds_are) stands.heap.well_formed;
       few = (let short = c.requires.next.short in omega (arith, short));
     }

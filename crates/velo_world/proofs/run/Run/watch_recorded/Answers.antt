@@ -4,7 +4,7 @@ use Rattle.velo_heap.specs.Contents.{bounds_of}
 use Rattle.velo_monitor.specs.Watched.{IsMonitorOf}
 use Rattle.velo_world.proofs.OnAlarms.{length-before}
 use Rattle.velo_world.proofs.OnLate.{AreLateClocksOf-push}
-use Rattle.velo_world.proofs.OnRuns.{OnOk-both, alarm-none, IsWatched-stays, IsWatched-quiet, IsWatched-raised, monitor-quiet, clocks-quiet, well-next}
+use Rattle.velo_world.proofs.OnRuns.{OnOk-then, alarm-none, IsWatched-stays, IsWatched-quiet, IsWatched-raised, monitor-quiet, clocks-quiet, well-next}
 use Rattle.velo_world.proofs.run.Run.watch_recorded.Goals as goal
 
 pub returns-then-is_some-clause-watched : goal.returns-then-is_some-clause-watched
@@ -66,5 +66,5 @@ returns-in-Closes-clause-watched c =
     let watched = c.requires.next.stands.watched in
     let here = length-before c.args.events.now c.args.position c.args.event.now c.requires.here in
     let seen = c.in-Closes.ensures.seen _ _ (monitor-quiet c.args.self.now _ _ quiet watched) (sym here) c.requires.next.follows in
-    OnOk-both c.raise_alarm_late.result _ _ _ c.raise_alarm_late.ensures.clocks c.raise_alarm_late.ensures.alarm (λ clocks raised.
-    IsWatched-raised c.raise_alarm_late.new.self (bounds_of c.args.self.now.heap) _ c.args.event.now raised.alarm raised.same (raised.here ∙ sym here) raised.is (subst (λ m. IsMonitorOf (bounds_of c.args.self.now.heap) m (take c.args.position c.args.events.now)) (sym c.raise_alarm_late.ensures.monitor) seen.2) clocks (c.raise_alarm_late.ensures.bounds ∙ watched.bounds_are))
+    OnOk-then c.raise_alarm_late.result _ _ c.raise_alarm_late.ensures.alarm (λ raised.
+    IsWatched-raised c.raise_alarm_late.new.self (bounds_of c.args.self.now.heap) _ c.args.event.now raised.alarm raised.same (raised.here ∙ sym here) raised.is (subst (λ m. IsMonitorOf (bounds_of c.args.self.now.heap) m (take c.args.position c.args.events.now)) (sym c.raise_alarm_late.ensures.monitor) seen.2) (c.raise_alarm_late.ensures.bounds ∙ watched.bounds_are))
