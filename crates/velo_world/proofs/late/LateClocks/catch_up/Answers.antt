@@ -21,7 +21,8 @@ loop-position-init c =
 pub note-requires-clause-room : goal.note-requires-clause-room
 note-requires-clause-room c =
     let events = c.args.events.now in
-    let here = slice_get-get_or events c.loop-position.position _ c.loop-position-test.true in
+    let before = c.loop-position-test.true in
+    let here = slice_get-get_or events c.loop-position.position _ (omega (arith, before)) in
     let well = well_formed-by _ _ events (sym c.loop-position.invariant.bounds) c.requires.well_formed in
     c.in_ok-reserve_for.ensures.ok (threads-at _ events c.loop-position.position _ here well)
 
@@ -30,11 +31,11 @@ loop-position-preserved c =
     let events = c.args.events.now in
     let position = c.loop-position.position in
     let invariant = c.loop-position.invariant in
-    let here = slice_get-get_or events position _ c.loop-position-test.true in
+    let within = c.loop-position-test.true in
+    let here = slice_get-get_or events position _ (omega (arith, within)) in
     let bounds = c.reserve_for.ensures.bounds ∙ invariant.bounds in
     let well = well_formed-by _ _ _ (sym bounds) (well_formed-to _ events position _ here c.requires.well_formed) in
     let before = c.reserve_for.ensures.same _ _ (clocks-before c.args.first c.loop-position.self events position invariant.late invariant.noted) in
-    let within = c.loop-position-test.true in
     let next = c.note.ensures.next _ (take position events) before (length-take-le position events (omega (arith, within))) well in
     record {
       noted = c.note.ensures.noted;
