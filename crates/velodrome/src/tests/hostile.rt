@@ -283,7 +283,7 @@ fn compare_slow(rt: &impl Abort, alloc: Global, log: &[u8], shown: &Shown) -> Re
 #[test]
 fn spoiled_logs(rt: HostRuntime) -> Result<(), Fail> {
     let mut dice = Dice::new(20);
-    for turn in 0..1000 {
+    for turn in 0..4000 {
         let log = spoiled(rt.alloc(), LOGS[turn % 3], &mut dice)?;
         let mut devices = Devices::new(rt.alloc(), &log);
         let words = ["velodrome", "check", "a.log"];
@@ -322,7 +322,7 @@ fn replay_spoiled<R: Threads + Wait + Abort + Sync>(rt: &R, alloc: Global, workl
 #[test]
 fn spoiled_workloads(rt: HostRuntime) -> Result<(), Fail> {
     let mut dice = Dice::new(21);
-    for _ in 0..1000 {
+    for _ in 0..4000 {
         let workload = spoiled(rt.alloc(), COLLIDING, &mut dice)?;
         replay_spoiled(&rt, rt.alloc(), &workload);
         drop(workload);
