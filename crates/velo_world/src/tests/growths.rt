@@ -96,12 +96,14 @@ const DONE: Told = Ok((None, false));
 
 const ALARMED: Told = Ok((None, true));
 
-/// Each kind of action, two that have to wait, and an alarm, after which the run goes on.
-const STEPS: [(ThreadId, Action, Told); 20] = [
+/// Each kind of action, two that have to wait, and an alarm, after which the run goes on. The fork is the fifth event, and so
+/// one of those for which the log grows.
+const STEPS: [(ThreadId, Action, Told); 21] = [
     (MAIN, Action::Write(X, 4), DONE),
     (MAIN, Action::Begin(Label(7)), DONE),
-    (MAIN, Action::Fork(OTHER), DONE),
     (MAIN, Action::Acquire(M), DONE),
+    (MAIN, Action::Read(X), Ok((Some(4), false))),
+    (MAIN, Action::Fork(OTHER), DONE),
     (OTHER, Action::Acquire(M), Err(Refusal::Busy)),
     (MAIN, Action::Release(M), DONE),
     (OTHER, Action::Begin(Label(1)), DONE),
@@ -120,11 +122,12 @@ const STEPS: [(ThreadId, Action, Told); 20] = [
     (MAIN, Action::Exit, ALARMED),
 ];
 
-const LOG: [(ThreadId, Kind); 18] = [
+const LOG: [(ThreadId, Kind); 19] = [
     (MAIN, Kind::Write(X, 4)),
     (MAIN, Kind::Begin(Label(7))),
-    (MAIN, Kind::Fork(OTHER)),
     (MAIN, Kind::Acquire(M)),
+    (MAIN, Kind::Read(X, 4)),
+    (MAIN, Kind::Fork(OTHER)),
     (MAIN, Kind::Release(M)),
     (OTHER, Kind::Begin(Label(1))),
     (OTHER, Kind::Acquire(M)),
@@ -143,18 +146,18 @@ const LOG: [(ThreadId, Kind); 18] = [
 
 const TALLIES: [Tally; 2] = [
     Tally {
-        events: 11,
-        next: 18,
+        events: 12,
+        next: 19,
         last: Some(Event {
             thread: MAIN,
             kind: Kind::Exit,
         }),
-        read_total: 5,
+        read_total: 9,
         written_total: 4,
     },
     Tally {
         events: 7,
-        next: 12,
+        next: 13,
         last: Some(Event {
             thread: OTHER,
             kind: Kind::Exit,
@@ -198,11 +201,11 @@ fn has_the_ends(closed: &Closed) -> bool {
 fn a_refused_growth_of_an_action(rt: HostRuntime) {
     let (mut world, mut shares) = open_world(&rt, rt.alloc(), 2, 2, false);
     play(&rt, &mut world, &mut shares);
-    assert_eq!(rt; traces_in(&world), (18, 2, true));
+    assert_eq!(rt; traces_in(&world), (19, 2, true));
     match world.close(shares) {
         Ok(closed) => {
             assert!(rt; has_the_log(&closed) && has_the_ends(&closed));
-            assert!(rt; is_alarm_at(closed.alarm(), 13));
+            assert!(rt; is_alarm_at(closed.alarm(), 14));
             drop(closed);
         }
         Err(_) => panic!(rt; "a share is missing"),
