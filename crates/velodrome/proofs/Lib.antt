@@ -1,1 +1,2 @@
+pub mod OnCauses
 pub mod OnVerdicts

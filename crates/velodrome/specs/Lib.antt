@@ -1,3 +1,4 @@
+pub mod Causes
 pub mod Check
 pub mod Fate
 pub mod Faults

@@ -1,5 +1,6 @@
 //! `velodrome check`.
 ghost use Rattle.std.specs.Prelude.{◌≡◌};
+ghost use Rattle.velodrome.specs.Causes.{ComesByGrowth};
 ghost use Rattle.velodrome.specs.Fate.{fate_of};
 ghost use Rattle.velodrome.specs.Program.{IsChecked};
 
@@ -31,7 +32,8 @@ fn check_log<I: Source, O: Sink>(
     log: &mut I,
     out: &mut O,
 ) -> Fate
-    ensures { IsChecked options.now.limits.events options.now.limits.nodes options.now.certificate (I.remaining log.old) (O.contents out.old) (O.contents out.new) result }
+    ensures checked { IsChecked options.now.limits.events options.now.limits.nodes options.now.certificate (I.remaining log.old) (O.contents out.old) (O.contents out.new) result }
+    ensures memory { ComesByGrowth result }
 {
     let answer = check_run(
         alloc,
@@ -50,7 +52,9 @@ pub fn check<F: Files, O: Sink>(
     options: &CheckOptions,
     files: &F,
     out: &mut O,
-) -> Fate {
+) -> Fate
+    ensures memory { ComesByGrowth result }
+{
     if is_standard_input(options.log) {
         return check_log(alloc, options, &mut files.standard_input(), out);
     }

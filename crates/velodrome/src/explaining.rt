@@ -1,7 +1,10 @@
 //! `velodrome explain`.
-ghost use Rattle.std.specs.Prelude.{◌≤◌, length};
+ghost use Rattle.std.specs.Prelude.{◌≡◌, ◌≤◌, length, Err, IfErr};
 ghost use Rattle.velo_events.specs.declared.limits.TheConstants.{MOST_EVENTS};
+ghost use Rattle.velo_events.specs.Refusals.{GrowthRefused};
 ghost use Rattle.velo_explain.specs.Evidence.{IsEvidenceAt};
+ghost use Rattle.velo_explain.specs.Faults.{out_of_memory};
+ghost use Rattle.velodrome.specs.Causes.{ComesByGrowth, Fails};
 
 use crate::arguments::ExplainOptions;
 use crate::check::{CheckFault, config_of, do_log};
@@ -17,7 +20,10 @@ use velo_worker::Ending;
 use velo_world::Closed;
 
 /// What an explanation came to.
-fn fate_of(answer: Result<(), ExplainFault>, alarm: bool) -> Fate {
+fn fate_of(answer: Result<(), ExplainFault>, alarm: bool) -> Fate
+    requires { answer ≡ Err out_of_memory → GrowthRefused }
+    ensures memory { ComesByGrowth result }
+{
     match answer {
         Ok(()) => Fate::Finished {
             ending: Ending::Done,
@@ -39,6 +45,7 @@ fn draw<F: Files>(
 ) -> Result<(), Fate>
     requires few { length log.now.events ≤ MOST_EVENTS }
     requires evidence { IsEvidenceAt log.now.events position evidence.now }
+    ensures memory { IfErr result Fails }
 {
     let Some(path) = path else {
         return Ok(());
@@ -65,6 +72,7 @@ fn explain_by<F: Files, O: Sink>(
 ) -> Fate
     requires few { length log.now.events ≤ MOST_EVENTS }
     requires evidence { IsEvidenceAt log.now.events position evidence.now }
+    ensures memory { ComesByGrowth result }
 {
     match draw(alloc, log, position, evidence, path, files) {
         Ok(()) => fate_of(explain(alloc, log, position, evidence, out), true),
@@ -81,6 +89,7 @@ fn explain_closed<F: Files, O: Sink>(
     out: &mut O,
 ) -> Fate
     requires { length closed.now.log ≤ MOST_EVENTS }
+    ensures memory { ComesByGrowth result }
 {
     let log = closed.log();
     let Some(alarm) = closed.alarm() else {
@@ -106,7 +115,9 @@ fn explain_log<I: Source, F: Files, O: Sink>(
     source: &mut I,
     files: &mut F,
     out: &mut O,
-) -> Fate {
+) -> Fate
+    ensures memory { ComesByGrowth result }
+{
     let (bounds, log) = match read_log(alloc, source) {
         Ok(read) => read,
         Err(fault) => return Fate::Check(CheckFault::Log(fault)),
@@ -127,7 +138,9 @@ pub fn explain_file<F: Files, O: Sink>(
     options: &ExplainOptions,
     files: &mut F,
     out: &mut O,
-) -> Fate {
+) -> Fate
+    ensures memory { ComesByGrowth result }
+{
     if is_standard_input(options.log) {
         let mut log = files.standard_input();
         return explain_log(alloc, options.dot, &mut log, files, out);

@@ -1,6 +1,7 @@
 //! What the program does with the words of its command line, whatever its devices are.
 ghost use Rattle.std.specs.Prelude.{◌≡◌};
 ghost use Rattle.clap.specs.Values.{kind_of};
+ghost use Rattle.velodrome.specs.Causes.{AnswersWithCause};
 ghost use Rattle.velodrome.specs.Fate.{status_of_usage};
 
 use crate::arguments::{Request, command, request_of};
@@ -51,7 +52,9 @@ fn do_request<R: Threads + Wait + Sync, F: Files, O: Sink>(
     request: &Request,
     files: &mut F,
     out: &mut O,
-) -> Fate {
+) -> Fate
+    ensures memory { AnswersWithCause request.now result }
+{
     match request {
         Request::Check(options) => check(alloc, options, files, out),
         Request::Replay(options) => replay_file(alloc, options, files, out),

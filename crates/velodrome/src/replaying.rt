@@ -1,5 +1,6 @@
 //! `velodrome replay`.
 ghost use Rattle.std.specs.Prelude.{◌≡◌};
+ghost use Rattle.velodrome.specs.Causes.{ComesByGrowth};
 
 use crate::arguments::{ReplayOptions, RunOptions};
 use crate::fate::Fate;
@@ -20,7 +21,9 @@ fn replay_workload<F: Files, O: Sink>(
     options: &RunOptions,
     files: &mut F,
     out: &mut O,
-) -> Fate {
+) -> Fate
+    ensures memory { ComesByGrowth result }
+{
     let config = config_of_run(workload, options);
     match replay(alloc, workload, schedule, config) {
         Ok(ended) => finish_run(alloc, workload, ended, options, files, out),
@@ -35,7 +38,9 @@ fn replay_by<F: Files, O: Sink>(
     options: &RunOptions,
     files: &mut F,
     out: &mut O,
-) -> Fate {
+) -> Fate
+    ensures memory { ComesByGrowth result }
+{
     match open_workload(alloc, options.file, files) {
         Ok(workload) => {
             let fate = replay_workload(alloc, &workload, schedule, options, files, out);
@@ -53,7 +58,9 @@ pub fn replay_file<F: Files, O: Sink>(
     options: &ReplayOptions,
     files: &mut F,
     out: &mut O,
-) -> Fate {
+) -> Fate
+    ensures memory { ComesByGrowth result }
+{
     match schedule_of(alloc, options.schedule) {
         Ok(schedule) => {
             let fate = replay_by(alloc, &schedule, &options.run, files, out);

@@ -1,5 +1,6 @@
 //! `velodrome run`.
 ghost use Rattle.std.specs.Prelude.{◌≡◌};
+ghost use Rattle.velodrome.specs.Causes.{ComesWithCause};
 
 use crate::arguments::RunOptions;
 use crate::fate::Fate;
@@ -20,7 +21,9 @@ fn run_workload<R: Threads + Wait + Sync, F: Files, O: Sink>(
     options: &RunOptions,
     files: &mut F,
     out: &mut O,
-) -> Fate {
+) -> Fate
+    ensures memory { ComesWithCause result }
+{
     let config = config_of_run(workload, options);
     match live(rt, alloc, workload, config, &OpenGate) {
         Ok(ended) => finish_run(alloc, workload, ended, options, files, out),
@@ -36,7 +39,9 @@ pub fn run_file<R: Threads + Wait + Sync, F: Files, O: Sink>(
     options: &RunOptions,
     files: &mut F,
     out: &mut O,
-) -> Fate {
+) -> Fate
+    ensures memory { ComesWithCause result }
+{
     match open_workload(alloc, options.file, files) {
         Ok(workload) => {
             let fate = run_workload(rt, alloc, &workload, options, files, out);

@@ -1,5 +1,8 @@
 //! Workloads that run: where they are read, and what their runs show.
-ghost use Rattle.std.specs.Prelude.{◌≡◌};
+ghost use Rattle.std.specs.Prelude.{◌≡◌, Err, IfErr};
+ghost use Rattle.velo_events.specs.Refusals.{GrowthRefused};
+ghost use Rattle.velodrome.specs.declared.check.CheckFault.TheVariants as check_fault;
+ghost use Rattle.velodrome.specs.Causes.{Fails, TellsEnding};
 
 use crate::arguments::RunOptions;
 use crate::check::{CheckFault, Verdict, order_or_cycle_of, write_certified, write_report};
@@ -15,7 +18,9 @@ use velo_workload::{MOST_WORKLOAD_BYTES, Workload, parse, text_of};
 use velo_world::Closed;
 
 /// Reads a workload from a source.
-fn read_workload<I: Source>(alloc: Global, source: &mut I) -> Result<Workload, Fate> {
+fn read_workload<I: Source>(alloc: Global, source: &mut I) -> Result<Workload, Fate>
+    ensures memory { IfErr result Fails }
+{
     match read_whole(alloc, source, MOST_WORKLOAD_BYTES) {
         Ok(bytes) => {
             let workload = workload_of(alloc, &bytes);
@@ -28,7 +33,9 @@ fn read_workload<I: Source>(alloc: Global, source: &mut I) -> Result<Workload, F
 }
 
 /// The workload of a file's bytes.
-fn workload_of(alloc: Global, bytes: &[u8]) -> Result<Workload, Fate> {
+fn workload_of(alloc: Global, bytes: &[u8]) -> Result<Workload, Fate>
+    ensures memory { IfErr result Fails }
+{
     let text = match text_of(bytes) {
         Ok(text) => text,
         Err(fault) => return Err(Fate::Work(fault)),
@@ -40,7 +47,9 @@ fn workload_of(alloc: Global, bytes: &[u8]) -> Result<Workload, Fate> {
 }
 
 /// Reads the workload that was asked for.
-pub fn open_workload<F: Files>(alloc: Global, path: &str, files: &F) -> Result<Workload, Fate> {
+pub fn open_workload<F: Files>(alloc: Global, path: &str, files: &F) -> Result<Workload, Fate>
+    ensures memory { IfErr result Fails }
+{
     if is_standard_input(path) {
         return read_workload(alloc, &mut files.standard_input());
     }
@@ -79,7 +88,9 @@ fn is_unreported(ending: Ending) -> bool {
 }
 
 /// Writes the log of a run to the path, if there is one.
-fn write_out<F: Files>(closed: &Closed, path: Option<&str>, files: &mut F) -> Result<(), Fate> {
+fn write_out<F: Files>(closed: &Closed, path: Option<&str>, files: &mut F) -> Result<(), Fate>
+    ensures memory { IfErr result Fails }
+{
     let Some(path) = path else {
         return Ok(());
     };
@@ -93,7 +104,10 @@ fn write_out<F: Files>(closed: &Closed, path: Option<&str>, files: &mut F) -> Re
 }
 
 /// What the verdict of a run came to, by what writing it answered.
-fn fate_of(answer: Result<Verdict, CheckFault>, ending: Ending) -> Fate {
+fn fate_of(answer: Result<Verdict, CheckFault>, ending: Ending) -> Fate
+    requires { answer ≡ Err check_fault.Memory → GrowthRefused }
+    ensures memory { TellsEnding ending result }
+{
     match answer {
         Ok(verdict) => Fate::Finished {
             ending,
@@ -114,7 +128,9 @@ fn tell<F: Files, O: Sink>(
     options: &RunOptions,
     files: &mut F,
     out: &mut O,
-) -> Fate {
+) -> Fate
+    ensures memory { TellsEnding ending result }
+{
     if !options.certificate {
         return match write_out(closed, options.log, files) {
             Ok(()) => fate_of(write_report(closed, names, out), ending),
@@ -142,7 +158,9 @@ pub fn finish_run<F: Files, O: Sink>(
     options: &RunOptions,
     files: &mut F,
     out: &mut O,
-) -> Fate {
+) -> Fate
+    ensures memory { TellsEnding ended.1 result }
+{
     let (closed, ending) = ended;
     let fate = show_run(alloc, workload, &closed, ending, options, files, out);
     drop(closed);
@@ -158,7 +176,9 @@ fn show_run<F: Files, O: Sink>(
     options: &RunOptions,
     files: &mut F,
     out: &mut O,
-) -> Fate {
+) -> Fate
+    ensures memory { TellsEnding ending result }
+{
     if is_unreported(ending) {
         return Fate::Finished {
             ending,

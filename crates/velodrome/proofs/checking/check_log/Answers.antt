@@ -1,0 +1,7 @@
+use Rattle.velodrome.proofs.OnCauses.{of_checked}
+use Rattle.velodrome.proofs.checking.check_log.Goals as goal
+
+pub returns-clause-memory : goal.returns-clause-memory
+returns-clause-memory g c =
+    of_checked c.args.options.now.limits.events c.args.options.now.limits.nodes c.args.options.now.certificate _ _ _ c.fate_of.result
+    (record { answer = c.check_run-answer.result; checks = c.check_run-answer.ensures.answer; told = c.fate_of.ensures })
