@@ -12,7 +12,7 @@ use Rattle.velo_worker.specs.declared.ending.Ending.TheVariants as run
 use Rattle.velo_worker.specs.declared.outcome.Outcome.{Outcome}
 use Rattle.velo_worker.specs.declared.outcome.Outcome.TheVariants.{Done, Gated, Refused}
 use Rattle.velo_worker.specs.declared.progress.Progress.{Progress}
-use Rattle.velo_worker.specs.Causes.{HasCause, EndedWithCause, EndsWithCause}
+use Rattle.velo_worker.specs.Causes.{HasCause, RefusedByGrowth, EndedWithCause, EndsByGrowth}
 use Rattle.velo_worker.specs.Live.{lesser, met}
 use Rattle.velo_worker.specs.Schedule.{ReplayState, ReplaysTo, Tries, TurnOf, TurnsOf, RoundsOf}
 
@@ -22,7 +22,7 @@ pub on_err : {X E P : Type 0} (result : Result X E) → P → OnErr result P
 on_err (Ok x) p = tt
 on_err (Err e) p = p
 
-of_world : (r : Refusal) → is_of_world r ≡ true → HasCause r
+of_world : (r : Refusal) → is_of_world r ≡ true → RefusedByGrowth r
 of_world refusal.Memory is = absurd (false≢true is)
 of_world refusal.RuntimeMemory is = absurd (false≢true is)
 of_world _ is = tt
@@ -45,7 +45,7 @@ of_lesser (Some found) t r before now = go (nat_le found.0.0 t.0)
 
 -- ---- of a replay
 
-of_tries : (w : WorldState) (t : ThreadId) (p : Progress) (ending : Ending) (w' : WorldState) (p' : Progress) → Tries w t p (Some ending) w' p' → EndsWithCause ending
+of_tries : (w : WorldState) (t : ThreadId) (p : Progress) (ending : Ending) (w' : WorldState) (p' : Progress) → Tries w t p (Some ending) w' p' → EndsByGrowth ending
 of_tries w t p run.Halted w' p' tries = tt
 of_tries w t p (run.Refused u r) w' p' (own, not_halted, ends, same, after) = ⊎_elim
     (λ due. of_world r (meaning-refusal w t _ r due))
@@ -55,22 +55,22 @@ of_tries w t p run.Done w' p' tries = tt
 of_tries w t p run.Stuck w' p' tries = tt
 of_tries w t p run.Gated w' p' tries = tt
 
-of_turn : (c : ReplayState) (t : ThreadId) (ending : Ending) (c' : ReplayState) → TurnOf c t (Some ending) c' → EndsWithCause ending
+of_turn : (c : ReplayState) (t : ThreadId) (ending : Ending) (c' : ReplayState) → TurnOf c t (Some ending) c' → EndsByGrowth ending
 of_turn c t ending c' (inl (idle, none, same)) = cc
 of_turn c t ending c' (inr turn) = of_tries c.world t turn.before ending c'.world turn.after turn.tries
 
-of_turns : (ts : List ThreadId) (c : ReplayState) (ending : Ending) (c' : ReplayState) → TurnsOf c ts (Some ending) c' → EndsWithCause ending
+of_turns : (ts : List ThreadId) (c : ReplayState) (ending : Ending) (c' : ReplayState) → TurnsOf c ts (Some ending) c' → EndsByGrowth ending
 unfolding TurnsOf
 of_turns [] c ending c' (none, same) = cc
 of_turns (t ∷ ts) c ending c' (inl (told, is, turn)) = of_turn c t ending c' turn
 of_turns (t ∷ ts) c ending c' (inr (mid, turn, rest)) = of_turns ts mid ending c' rest
 
-of_rounds : (c : ReplayState) (ending : Ending) (c' : ReplayState) → RoundsOf c ending c' → EndsWithCause ending
+of_rounds : (c : ReplayState) (ending : Ending) (c' : ReplayState) → RoundsOf c ending c' → EndsByGrowth ending
 of_rounds _ _ _ (RoundsOf.all_idle c idle) = tt
 of_rounds _ _ _ (RoundsOf.no_event c c' round same) = tt
 of_rounds _ _ _ (RoundsOf.ended c c' ending round) = of_turns _ c ending c' round.turns
 of_rounds _ _ _ (RoundsOf.goes_on c mid c' ending round more rest) = of_rounds mid ending c' rest
 
-pub of_run : (c : ReplayState) (schedule : List ThreadId) (ending : Ending) (c' : ReplayState) → ReplaysTo c schedule ending c' → EndsWithCause ending
+pub of_run : (c : ReplayState) (schedule : List ThreadId) (ending : Ending) (c' : ReplayState) → ReplaysTo c schedule ending c' → EndsByGrowth ending
 of_run c schedule ending c' (inl turns) = of_turns schedule c ending c' turns
 of_run c schedule ending c' (inr (mid, turns, rounds)) = of_rounds mid ending c' rounds

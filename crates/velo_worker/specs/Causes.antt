@@ -16,6 +16,12 @@ HasCause Memory = GrowthRefused
 HasCause RuntimeMemory = GrowthRefused ⊎ StartRefused
 HasCause r = ⊤
 
+-- of a refusal where no thread is started
+abbrev pub RefusedByGrowth : Refusal → Type 0
+RefusedByGrowth Memory = GrowthRefused
+RefusedByGrowth RuntimeMemory = GrowthRefused
+RefusedByGrowth r = ⊤
+
 -- of what a worker ended with
 abbrev pub EndedWithCause : Outcome → Type 0
 EndedWithCause (worker.Refused r) = HasCause r
@@ -25,3 +31,8 @@ EndedWithCause outcome = ⊤
 abbrev pub EndsWithCause : Ending → Type 0
 EndsWithCause (run.Refused t r) = HasCause r
 EndsWithCause ending = ⊤
+
+-- of how a run ends that starts no thread
+abbrev pub EndsByGrowth : Ending → Type 0
+EndsByGrowth (run.Refused t r) = RefusedByGrowth r
+EndsByGrowth ending = ⊤

@@ -2,7 +2,7 @@
 ghost use Rattle.std.specs.Prelude.{◌≡◌, map, IfOk, OnErr, length};
 ghost use Rattle.velo_events.specs.Refusals.{GrowthRefused};
 ghost use Rattle.velo_world.specs.World.{HoldsLiveShares, CompletesShares, opening};
-ghost use Rattle.velo_worker.specs.Causes.{EndsWithCause};
+ghost use Rattle.velo_worker.specs.Causes.{EndsByGrowth};
 ghost use Rattle.velo_worker.specs.Progress.{start_of};
 ghost use Rattle.velo_worker.specs.Schedule.{Replays, ReplaysTo, start};
 
@@ -34,7 +34,7 @@ pub fn replay(
 ) -> Result<(Closed, Ending), Memory>
     requires { config.bounds ≡ workload.now.bounds }
     ensures replays { IfOk result (λ run. Replays workload.now schedule.now config run.1 run.0) }
-    ensures cause { IfOk result (λ run. EndsWithCause run.1) }
+    ensures cause { IfOk result (λ run. EndsByGrowth run.1) }
     ensures memory { OnErr result GrowthRefused }
 {
     let mut state = open(alloc, workload, config)?;

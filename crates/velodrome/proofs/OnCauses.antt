@@ -1,35 +1,29 @@
 -- Why the program comes to want of memory.
-use Rattle.std.proofs.Common.{◌≡◌, inl, inr, ⊎_elim, refl}
-use Rattle.std.specs.Prelude.{ℕ, Bool, true, false, List, [], ◌∷◌, length, nat_le, Option, Some, None, IfSome, Result, Ok, Err, if◌then◌else◌}
+use Rattle.std.proofs.Common.{◌≡◌, ⊎_elim, refl}
+use Rattle.std.specs.Prelude.{ℕ, Bool, true, false, List, Option, Some, None, IfSome, Result, Ok, Err, if◌then◌else◌}
 use Rattle.velo_events.specs.declared.config.Bounds.{Bounds}
 use Rattle.velo_events.specs.declared.config.Config.{Config}
-use Rattle.velo_events.specs.declared.event.Action.{Action}
 use Rattle.velo_events.specs.declared.event.Event.{Event}
 use Rattle.velo_events.specs.declared.event.Kind.{Kind}
-use Rattle.velo_events.specs.declared.event.ThreadId.{ThreadId}
 use Rattle.velo_events.specs.declared.refusal.Refusal.{Refusal}
 use Rattle.velo_events.specs.declared.refusal.Refusal.TheVariants as refusal
 use Rattle.velo_events.specs.Event.{thread_of}
-use Rattle.velo_events.specs.Meaning.{refusal_of, has_its_value, kind_for, event_for}
+use Rattle.velo_events.specs.Meaning.{refusal_of, has_its_value}
 use Rattle.velo_events.specs.Refusals.{GrowthRefused}
 use Rattle.velo_logtext.specs.declared.fault.LogFault.{LogFault}
 use Rattle.velo_logtext.specs.declared.fault.LogFault.TheVariants as log_fault
 use Rattle.velo_traces.specs.declared.judge.Flaw.TheVariants as flaw
 use Rattle.velo_traces.specs.Flaws.{flaw_of, flaw_by}
 use Rattle.velo_world.specs.Faults.{IsRefusedAt}
-use Rattle.velo_world.specs.World.{WorldState, meaning}
 use Rattle.velo_worker.specs.declared.ending.Ending.{Ending}
-use Rattle.velo_worker.specs.declared.ending.Ending.TheVariants as run
-use Rattle.velo_worker.specs.declared.progress.Progress.{Progress}
-use Rattle.velo_worker.specs.Schedule.{ReplayState, ReplaysTo, Replays, Tries, TurnOf, TurnsOf, RoundsOf, start}
-use Rattle.velo_workload.specs.Program.{Program}
 use Rattle.velodrome.specs.declared.check.Verdict.{Verdict}
 use Rattle.velodrome.specs.declared.check.Verdict.TheVariants as verdict
 use Rattle.velodrome.specs.declared.check.CheckFault.{CheckFault}
 use Rattle.velodrome.specs.declared.check.CheckFault.TheVariants as check_fault
 use Rattle.velodrome.specs.declared.fate.Fate.{Fate}
 use Rattle.velodrome.specs.declared.fate.Fate.TheVariants as fate
-use Rattle.velodrome.specs.Causes.{RefusedByGrowth, LogByGrowth, CheckByGrowth, EndsByGrowth, ComesTo, TellsEnding, ComesByGrowth}
+use Rattle.velo_worker.specs.Causes.{RefusedByGrowth, EndsByGrowth}
+use Rattle.velodrome.specs.Causes.{LogByGrowth, CheckByGrowth, ComesTo, TellsEnding, ComesByGrowth}
 use Rattle.velodrome.specs.Check.{Checks}
 use Rattle.velodrome.specs.Fate.{fate_of}
 use Rattle.velodrome.specs.Faults.{IsFaultOfLog}
@@ -105,52 +99,5 @@ of_checked limit nodes certificate read old new f checked =
 
 -- ---- of a replay
 
-of_reason : (halted : Bool) (reason r : Refusal) → RefusedByGrowth reason → ◌≡◌ {A = Result Event Refusal} (if halted then Err refusal.Halted else Err reason) (Err r) → RefusedByGrowth r
-of_reason true reason r cause is = let same : refusal.Halted ≡ r = cc in rw (← same) tt
-of_reason false reason r cause is = let same : reason ≡ r = cc in rw (← same) cause
-
-of_limit : (halted full : Bool) (e : Event) (r : Refusal) → ◌≡◌ {A = Result Event Refusal} (if halted then Err refusal.Halted else (if full then Err refusal.LogFull else Ok e)) (Err r) → RefusedByGrowth r
-of_limit true full e r is = let same : refusal.Halted ≡ r = cc in rw (← same) tt
-of_limit false true e r is = let same : refusal.LogFull ≡ r = cc in rw (← same) tt
-of_limit false false e r is = cc
-
-of_meaning : (w : WorldState) (t : ThreadId) (action : Action) (r : Refusal) → meaning w t action ≡ Err r → RefusedByGrowth r
-of_meaning w t action r h = at (refusal_of w.config.bounds w.log t.0 (kind_for w.log action)) refl
-  where
-    at : (o : Option Refusal) → refusal_of w.config.bounds w.log t.0 (kind_for w.log action) ≡ o → RefusedByGrowth r
-    at (Some reason) is = of_reason w.halted reason r (rw is at (refusal_of-reason w.config.bounds w.log t.0 (kind_for w.log action))) (rw is at h)
-    at None is = of_limit w.halted (nat_le w.config.events (length w.log)) (event_for w.log t action) r (rw is at h)
-
-of_tries : (w : WorldState) (t : ThreadId) (p : Progress) (ending : Ending) (w' : WorldState) (p' : Progress) → Tries w t p (Some ending) w' p' → EndsByGrowth ending
-of_tries w t p (run.Refused u r) w' p' (own, not_halted, ends, same, after) = ⊎_elim
-    (λ due. of_meaning w t _ r due)
-    (λ other. ⊎_elim (λ memory. rw memory.0 memory.1.1) (λ full. rw full.0 tt) other)
-    ends.cause
-of_tries w t p run.Halted w' p' tries = tt
-of_tries w t p run.Done w' p' tries = tt
-of_tries w t p run.Stuck w' p' tries = tt
-of_tries w t p run.Gated w' p' tries = tt
-
-of_turn : (c : ReplayState) (t : ThreadId) (ending : Ending) (c' : ReplayState) → TurnOf c t (Some ending) c' → EndsByGrowth ending
-of_turn c t ending c' (inl (idle, none, same)) = cc
-of_turn c t ending c' (inr turn) = of_tries c.world t turn.before ending c'.world turn.after turn.tries
-
-of_turns : (ts : List ThreadId) (c : ReplayState) (ending : Ending) (c' : ReplayState) → TurnsOf c ts (Some ending) c' → EndsByGrowth ending
-unfolding TurnsOf
-of_turns [] c ending c' (none, same) = cc
-of_turns (t ∷ ts) c ending c' (inl (told, is, turn)) = of_turn c t ending c' turn
-of_turns (t ∷ ts) c ending c' (inr (mid, turn, rest)) = of_turns ts mid ending c' rest
-
-of_rounds : (c : ReplayState) (ending : Ending) (c' : ReplayState) → RoundsOf c ending c' → EndsByGrowth ending
-of_rounds _ _ _ (RoundsOf.all_idle c idle) = tt
-of_rounds _ _ _ (RoundsOf.no_event c c' round same) = tt
-of_rounds _ _ _ (RoundsOf.ended c c' ending round) = of_turns _ c ending c' round.turns
-of_rounds _ _ _ (RoundsOf.goes_on c mid c' ending round more rest) = of_rounds mid ending c' rest
-
-of_run : (c : ReplayState) (schedule : List ThreadId) (ending : Ending) (c' : ReplayState) → ReplaysTo c schedule ending c' → EndsByGrowth ending
-of_run c schedule ending c' (inl turns) = of_turns schedule c ending c' turns
-of_run c schedule ending c' (inr (mid, turns, rounds)) = of_rounds mid ending c' rounds
-
-pub of_replay : (program : Program) (schedule : List ThreadId) (config : Config) (ending : Ending) (closed : WorldState) (f : Fate) → Replays program schedule config ending closed → TellsEnding ending f → ComesByGrowth f
-of_replay program schedule config ending closed f replays tells =
-    ComesTo-map (λ told same. rw same (of_run (start program config) schedule ending replays.last replays.runs)) f tells
+pub of_told : (ending : Ending) (f : Fate) → EndsByGrowth ending → TellsEnding ending f → ComesByGrowth f
+of_told ending f cause tells = ComesTo-map (λ told same. rw same cause) f tells

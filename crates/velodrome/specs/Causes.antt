@@ -1,13 +1,10 @@
 -- Why the program comes to want of memory.
 use Rattle.std.specs.Prelude.{◌≡◌, ⊤}
-use Rattle.velo_events.specs.declared.refusal.Refusal.{Refusal}
-use Rattle.velo_events.specs.declared.refusal.Refusal.TheVariants as refusal
 use Rattle.velo_events.specs.Refusals.{GrowthRefused}
 use Rattle.velo_logtext.specs.declared.fault.LogFault.{LogFault}
 use Rattle.velo_logtext.specs.declared.fault.LogFault.TheVariants as log_fault
 use Rattle.velo_worker.specs.declared.ending.Ending.{Ending}
-use Rattle.velo_worker.specs.declared.ending.Ending.TheVariants as run
-use Rattle.velo_worker.specs.Causes.{EndsWithCause}
+use Rattle.velo_worker.specs.Causes.{RefusedByGrowth, EndsByGrowth, EndsWithCause}
 use Rattle.velo_workload.specs.declared.fault.WorkFault.{WorkFault}
 use Rattle.velo_workload.specs.declared.fault.WorkFault.TheVariants as work_fault
 use Rattle.velodrome.specs.declared.arguments.Request.{Request}
@@ -20,12 +17,6 @@ use Rattle.velodrome.specs.declared.fate.Fate.{Fate}
 use Rattle.velodrome.specs.declared.fate.Fate.TheVariants as fate
 
 -- ---- each fault that is want of memory stands behind a refused growth
-
--- an event that is refused, where no thread is started
-abbrev pub RefusedByGrowth : Refusal → Type 0
-RefusedByGrowth refusal.Memory = GrowthRefused
-RefusedByGrowth refusal.RuntimeMemory = GrowthRefused
-RefusedByGrowth r = ⊤
 
 abbrev pub LogByGrowth : LogFault → Type 0
 LogByGrowth log_fault.Memory = GrowthRefused
@@ -44,11 +35,6 @@ ScheduleByGrowth f = ⊤
 abbrev pub WorkByGrowth : WorkFault → Type 0
 WorkByGrowth work_fault.Memory = GrowthRefused
 WorkByGrowth f = ⊤
-
--- how a run ends that starts no thread
-abbrev pub EndsByGrowth : Ending → Type 0
-EndsByGrowth (run.Refused t r) = RefusedByGrowth r
-EndsByGrowth ending = ⊤
 
 -- ---- of what the program comes to
 
