@@ -1,0 +1,207 @@
+//! Command lines that are right, wrong, or ask for help.
+use crate::help;
+use crate::program::end_without_words;
+use crate::tests::{FILES, Folder, Shown, compare, show, show_short};
+use std::alloc::Global;
+use std::io::ErrorKind;
+use std::process::Abort;
+use std::test::Fail;
+use velo_events::Refusal;
+use velo_logtext::Text;
+
+/// Right words, with the status and standard error: of the two logs one raises an alarm at its last event.
+const RIGHT_WORDS: [(&[&str], u8, &str); 9] = [
+    (&["velodrome", "check", "-"], 3, ""),
+    (&["velodrome", "check", "--certificate", "a.log"], 3, ""),
+    (&["velodrome", "check", "a.log"], 3, ""),
+    (&["velodrome", "check", "b.log"], 0, ""),
+    (&["velodrome", "check", "c.log"], 5, "cannot open\n"),
+    (
+        &[
+            "velodrome",
+            "check",
+            "--events",
+            "5",
+            "a.log",
+            "--nodes",
+            "2",
+        ],
+        3,
+        "",
+    ),
+    (
+        &["velodrome", "check", "a.log", "--nodes=4096", "--events=4"],
+        4,
+        "refused 17 at 4\n",
+    ),
+    (
+        &[
+            "velodrome",
+            "check",
+            "--events=16777216",
+            "--nodes=4096",
+            "b.log",
+        ],
+        0,
+        "",
+    ),
+    (&["velodrome", "--help"], 0, ""),
+];
+
+const WRONG_WORDS: [&[&str]; 10] = [
+    &["velodrome"],
+    &["velodrome", "check"],
+    &["velodrome", "race", "a.log"],
+    &["velodrome", "check", "a.log", "b.log"],
+    &["velodrome", "check", "a.log", "--events", "0"],
+    &["velodrome", "check", "a.log", "--events", "16777217"],
+    &["velodrome", "check", "a.log", "--nodes", "0"],
+    &["velodrome", "check", "a.log", "--nodes", "4097"],
+    &["velodrome", "run"],
+    &["velodrome", "run", "w", "--schedule", "0"],
+];
+
+/// Compares the status of a run and its standard error. It wrote to standard output with a status up to 3 alone.
+fn compare_right(rt: &impl Abort, shown: &Shown, status: u8, err: &str) {
+    let told = (
+        shown.status,
+        shown.out.as_slice().is_empty(),
+        shown.err.as_slice(),
+    );
+    assert_eq!(rt; told, (status, status > 3, err.as_bytes()));
+}
+
+#[test]
+fn right_command_lines(rt: HostRuntime) {
+    let mut folder = Folder::new(rt.alloc(), &FILES, usize::MAX);
+    for (words, status, err) in RIGHT_WORDS {
+        let shown = show(&rt, words, &mut folder);
+        compare_right(&rt, &shown, status, err);
+        drop(shown);
+    }
+    drop(folder);
+}
+
+/// A fault of usage goes to standard error.
+fn compare_wrong(rt: &impl Abort, shown: &Shown) {
+    let told = (shown.status, shown.out.as_slice().is_empty());
+    assert_eq!(rt; told, (2, true));
+    assert!(rt; shown.err.as_slice().starts_with(b"error: "));
+}
+
+#[test]
+fn wrong_command_lines(rt: HostRuntime) {
+    let mut folder = Folder::new(rt.alloc(), &FILES, usize::MAX);
+    for words in WRONG_WORDS {
+        let shown = show(&rt, words, &mut folder);
+        compare_wrong(&rt, &shown);
+        drop(shown);
+    }
+    drop(folder);
+}
+
+/// Words that ask for help, and what stands at its end.
+const HELP: [(&[&str], &str); 9] = [
+    (&["velodrome", "replay", "--help"], help::OF_REPLAY),
+    (&["velodrome", "run", "--help"], help::OF_RUN),
+    (&["velodrome", "explain", "--help"], help::OF_EXPLAIN),
+    (&["velodrome", "--help"], help::OF_PROGRAM),
+    (&["velodrome", "help"], help::OF_PROGRAM),
+    (&["velodrome", "check", "--help"], help::OF_CHECK),
+    (&["velodrome", "check", "-h"], help::OF_CHECK),
+    (&["velodrome", "help", "check"], help::OF_CHECK),
+    (&["velodrome", "--version"], help::VERSION),
+];
+
+/// Help goes to standard output, and has this end.
+fn compare_help(rt: &impl Abort, shown: &Shown, end: &str) {
+    let told = (shown.status, shown.err.as_slice().is_empty());
+    assert_eq!(rt; told, (0, true));
+    let help = shown.out.as_slice().trim_ascii_end();
+    assert!(rt; help.ends_with(end.as_bytes()), "{end}");
+}
+
+#[test]
+fn help_goes_to_standard_output(rt: HostRuntime) {
+    let mut folder = Folder::new(rt.alloc(), &FILES, usize::MAX);
+    for (words, end) in HELP {
+        let shown = show(&rt, words, &mut folder);
+        compare_help(&rt, &shown, end);
+        drop(shown);
+    }
+    drop(folder);
+}
+
+#[test]
+fn help_without_standard_output(rt: HostRuntime) {
+    let mut folder = Folder::new(rt.alloc(), &FILES, usize::MAX);
+    for (words, end) in HELP {
+        let shown = show_short(&rt, rt.alloc(), words, &mut folder, 9);
+        assert_eq!(rt; shown.status, 5, "{end}");
+        assert_eq!(rt; shown.err.as_slice(), b"write failed\n".as_slice());
+        drop(shown);
+    }
+    drop(folder);
+}
+
+/// The refusals that a check can answer.
+const REFUSALS: [Refusal; 17] = [
+    Refusal::NotLive,
+    Refusal::NoSuchVariable,
+    Refusal::NoSuchLock,
+    Refusal::NoSuchThread,
+    Refusal::Busy,
+    Refusal::AlreadyHeld,
+    Refusal::NotHolder,
+    Refusal::NoOpenBlock,
+    Refusal::TooDeep,
+    Refusal::AlreadyForked,
+    Refusal::NotForked,
+    Refusal::NotExited,
+    Refusal::AlreadyJoined,
+    Refusal::BlockOpen,
+    Refusal::LockHeld,
+    Refusal::LogFull,
+    Refusal::GraphFull,
+];
+
+/// What help says of a number is the text of its refusal.
+#[test]
+fn help_has_the_texts_of_refusals(rt: HostRuntime) -> Result<(), Fail> {
+    for refusal in REFUSALS {
+        let number = refusal as u8;
+        let line = format!(in rt.alloc(); "\n{number:>4}  {refusal}")?;
+        assert!(rt; help::OF_CHECK.contains(line.as_str()), "{line}");
+    }
+    Ok(())
+}
+
+/// What a program without words tells of a fault, with its status.
+const WORDLESS: [(ErrorKind, &str, u8); 2] = [
+    (ErrorKind::OutOfMemory, "out of memory\n", 5),
+    (
+        ErrorKind::InvalidData,
+        "error: a word of the command line is not UTF-8\n",
+        2,
+    ),
+];
+
+/// Ends without words, with a standard error that fails after so many bytes.
+fn show_wordless(alloc: Global, kind: ErrorKind, room: usize) -> Shown {
+    let mut err = Text::new(alloc).failing_after(room);
+    let status = end_without_words(kind, &mut err);
+    let out = Text::new(alloc);
+    Shown { out, err, status }
+}
+
+#[test]
+fn words_that_are_missing(rt: HostRuntime) {
+    for (kind, line, status) in WORDLESS {
+        let shown = show_wordless(rt.alloc(), kind, usize::MAX);
+        compare(&rt, &shown, "", line, status, line);
+        drop(shown);
+        let closed = show_wordless(rt.alloc(), kind, 0);
+        compare(&rt, &closed, "", "", 5, line);
+        drop(closed);
+    }
+}

@@ -1,0 +1,338 @@
+//! Logs are checked, explained and certified.
+use crate::check::check_run;
+use crate::tests::{Folder, LOST_UPDATE, LOST_UPDATE_CERTIFIED, LOST_UPDATE_REPORT, compare, show};
+use std::alloc::Global;
+use std::process::Abort;
+use std::sync::Wait;
+use std::thread::Threads;
+use velo_events::MOST_EVENTS;
+use velo_logtext::{Bytes, Text};
+
+/// Reads of one block's write by operations outside blocks.
+const MERGED: &str =
+    "vlog 1 2 1 0\n0 fork 1\n0 begin 1\n0 wr 0 1\n1 rd 0 1\n1 rd 0 1\n1 rd 0 1\n0 end\n";
+
+/// Words that check a log.
+const PLAIN: &[&str] = &["velodrome", "check", "a.log"];
+
+const ONE_EVENT: &[&str] = &["velodrome", "check", "--events", "1", "a.log"];
+
+const ONE_NODE: &[&str] = &["velodrome", "check", "--nodes", "1", "a.log"];
+
+/// What the program does with a log.
+struct Run {
+    words: &'static [&'static str],
+    log: &'static str,
+    out: &'static str,
+    err: &'static str,
+    status: u8,
+}
+
+static RUNS: [Run; 30] = [
+    Run {
+        words: PLAIN,
+        log: "vlog 1 1 0 0\n",
+        out: "events 0\nthread 0 0\nverdict clean\n",
+        err: "",
+        status: 0,
+    },
+    Run {
+        words: PLAIN,
+        log: LOST_UPDATE,
+        out: LOST_UPDATE_REPORT,
+        err: "",
+        status: 3,
+    },
+    Run {
+        words: PLAIN,
+        log: "vlog 1 2 2 0\n0 fork 1\n0 begin 1\n0 wr 0 1\n1 begin 2\n1 wr 1 1\n0 rd 1 1\n1 rd 0 1\n",
+        out: "events 7\nthread 0 4\nthread 1 3\nverdict alarm 6\ntransaction 3\nblame none\n",
+        err: "",
+        status: 3,
+    },
+    Run {
+        words: PLAIN,
+        log: "vlog 1 2 0 0\n0 begin 1\n0 fork 1\n1 exit\n0 join 1\n",
+        out: "events 4\nthread 0 3\nthread 1 1\nverdict alarm 3\ntransaction 0\nblame 0 1\n",
+        err: "",
+        status: 3,
+    },
+    Run {
+        words: PLAIN,
+        log: "vlog 1 2 1 0\n0 fork 1\n0 begin 1\n0 rd 0 0\n0 begin 2\n1 wr 0 3\n0 wr 0 4\n",
+        out: "events 6\nthread 0 5\nthread 1 1\nverdict alarm 5\ntransaction 1\nblame 1 1\n",
+        err: "",
+        status: 3,
+    },
+    Run {
+        words: PLAIN,
+        log: "vlog 1 2 1 0\n0 fork 1\n0 begin 1\n0 begin 2\n0 rd 0 0\n1 wr 0 3\n0 wr 0 4\n",
+        out: "events 6\nthread 0 5\nthread 1 1\nverdict alarm 5\ntransaction 1\nblame 1 1\nblame 2 2\n",
+        err: "",
+        status: 3,
+    },
+    Run {
+        words: PLAIN,
+        log: "vlog 1 2 1 0\n0 fork 1\n0 begin 1\n0 wr 0 1\n1 rd 0 1\n0 wr 0 2\n",
+        out: "events 5\nthread 0 4\nthread 1 1\nverdict alarm 4\ntransaction 1\nblame 1 1\n",
+        err: "",
+        status: 3,
+    },
+    Run {
+        words: PLAIN,
+        log: "vlog 1 2 1 1\n0 fork 1\n0 begin 1\n0 acq 0\n0 rd 0 0\n0 rel 0\n1 acq 0\n1 wr 0 9\n1 rel 0\n0 acq 0\n",
+        out: "events 9\nthread 0 6\nthread 1 3\nverdict alarm 8\ntransaction 1\nblame 1 1\n",
+        err: "",
+        status: 3,
+    },
+    Run {
+        words: PLAIN,
+        log: "vlog 1 2 1 1\n0 fork 1\n0 begin 1\n0 acq 0\n0 rd 0 0\n0 wr 0 1\n0 rel 0\n0 end\n1 begin 1\n1 acq 0\n1 rd 0 1\n1 wr 0 2\n1 rel 0\n1 end\n",
+        out: "events 13\nthread 0 7\nthread 1 6\nverdict clean\n",
+        err: "",
+        status: 0,
+    },
+    Run {
+        words: PLAIN,
+        log: "vlog 1 2 1 0\n1 wr 0 1\n",
+        out: "",
+        err: "refused 2 at 0\n",
+        status: 2,
+    },
+    Run {
+        words: PLAIN,
+        log: "vlog 1 1 1 0\n0 wr 0 5\n0 rd 0 4\n",
+        out: "",
+        err: "wrong value at 1\n",
+        status: 2,
+    },
+    Run {
+        words: PLAIN,
+        log: "vlog 1 1 0 0\n0 fork 0\n",
+        out: "",
+        err: "refused 11 at 0\n",
+        status: 2,
+    },
+    Run {
+        words: PLAIN,
+        log: "vlog 1 1 1 0\n0 rd 0 01\n",
+        out: "",
+        err: "log fault 2 line 2\n",
+        status: 2,
+    },
+    Run {
+        words: PLAIN,
+        log: "vlog 1 1 1 0\n0 wr 0 1",
+        out: "",
+        err: "log fault 3 line 2\n",
+        status: 2,
+    },
+    Run {
+        words: PLAIN,
+        log: "vlog 1 0 0 0\n",
+        out: "",
+        err: "log fault 1\n",
+        status: 2,
+    },
+    Run {
+        words: PLAIN,
+        log: "",
+        out: "",
+        err: "log fault 1\n",
+        status: 2,
+    },
+    Run {
+        words: PLAIN,
+        log: "vlog 1 2 0 1\n0 fork 1\n0 acq 0\n1 acq 0\n",
+        out: "",
+        err: "refused 6 at 2\n",
+        status: 2,
+    },
+    Run {
+        words: PLAIN,
+        log: "vlog 1 2 0 1\n0 fork 1\n0 acq 0\n0 acq 0\n",
+        out: "",
+        err: "refused 7 at 2\n",
+        status: 2,
+    },
+    Run {
+        words: PLAIN,
+        log: "vlog 1 2 0 1\n0 fork 1\n0 acq 0\n0 exit\n",
+        out: "",
+        err: "refused 16 at 2\n",
+        status: 2,
+    },
+    Run {
+        words: PLAIN,
+        log: "vlog 1 2 0 1\n0 fork 1\n0 acq 0\n0 join 1\n",
+        out: "",
+        err: "refused 13 at 2\n",
+        status: 2,
+    },
+    Run {
+        words: ONE_EVENT,
+        log: LOST_UPDATE,
+        out: "",
+        err: "refused 17 at 1\n",
+        status: 4,
+    },
+    Run {
+        words: ONE_EVENT,
+        log: "vlog 1 1 1 0\n0 wr 0 5\n0 rd 0 4\n",
+        out: "",
+        err: "wrong value at 1\n",
+        status: 2,
+    },
+    Run {
+        words: ONE_EVENT,
+        log: "vlog 1 1 0 0\n0 end\n",
+        out: "",
+        err: "refused 9 at 0\n",
+        status: 2,
+    },
+    Run {
+        words: ONE_EVENT,
+        log: "vlog 1 1 1 0\n0 rd 0 0\n0 end\n",
+        out: "",
+        err: "refused 9 at 1\n",
+        status: 2,
+    },
+    Run {
+        words: ONE_NODE,
+        log: "vlog 1 2 1 0\n0 fork 1\n0 begin 1\n0 wr 0 1\n0 end\n1 begin 2\n0 rd 0 1\n1 wr 0 2\n1 end\n",
+        out: "events 8\nthread 0 5\nthread 1 3\nverdict clean\n",
+        err: "",
+        status: 0,
+    },
+    Run {
+        words: ONE_NODE,
+        log: "vlog 1 2 0 0\n0 fork 1\n0 begin 1\n1 begin 2\n",
+        out: "",
+        err: "refused 18 at 2\n",
+        status: 4,
+    },
+    Run {
+        words: &["velodrome", "check", "--nodes", "2", "a.log"],
+        log: MERGED,
+        out: "events 7\nthread 0 4\nthread 1 3\nverdict clean\n",
+        err: "",
+        status: 0,
+    },
+    Run {
+        words: ONE_NODE,
+        log: MERGED,
+        out: "",
+        err: "refused 18 at 3\n",
+        status: 4,
+    },
+    Run {
+        words: ONE_NODE,
+        log: "vlog 1 2 1 0\n0 fork 1\n0 begin 1\n0 wr 0 1\n1 rd 0 2\n",
+        out: "",
+        err: "wrong value at 3\n",
+        status: 2,
+    },
+    Run {
+        words: &["velodrome", "check", "a.log", "--certificate"],
+        log: LOST_UPDATE,
+        out: LOST_UPDATE_CERTIFIED,
+        err: "",
+        status: 3,
+    },
+];
+
+/// Does a run by a log that comes so many bytes at a time.
+fn do_run<R: Threads + Wait + Abort + Sync>(rt: &R, alloc: Global, run: &Run, step: usize) {
+    let files = [("a.log", run.log)];
+    let mut folder = Folder::new(alloc, &files, step);
+    let shown = show(rt, run.words, &mut folder);
+    compare(rt, &shown, run.out, run.err, run.status, run.log);
+    drop((shown, folder));
+}
+
+#[test]
+fn logs_are_checked(rt: HostRuntime) {
+    for run in &RUNS {
+        do_run(&rt, rt.alloc(), run, 1);
+        do_run(&rt, rt.alloc(), run, usize::MAX);
+    }
+}
+
+const LOST_UPDATE_EXPLAINED: &str = "\
+The blocks of this log cannot be serialized.
+Line 6 `0 wr 0 1` closes a cycle of 2 transactions:
+  T1: thread 0, block 7, lines 3 to 6
+  T2: thread 1, outside blocks, line 5
+Each must come before the next, and the last before the first:
+  T1 before T2: line 4 `0 rd 0 0`, then line 5 `1 wr 0 5`
+  T2 before T1: line 5 `1 wr 0 5`, then line 6 `0 wr 0 1`
+To blame in thread 0:
+  block 7, from line 3: line 5 `1 wr 0 5` must come after its begin and before line 6
+";
+
+const LOST_UPDATE_DRAWN: &str = "\
+digraph cycle {
+  rankdir=LR;
+  node [shape=box];
+  subgraph cluster_0 { label=\"thread 0\"; T1 [label=\"T1: block 7\\nlines 3 to 6\"]; }
+  subgraph cluster_1 { label=\"thread 1\"; T2 [label=\"T2: outside blocks\\nline 5\"]; }
+  T1 -> T2 [label=\"line 4: 0 rd 0 0\\nline 5: 1 wr 0 5\"];
+  T2 -> T1 [label=\"line 5: 1 wr 0 5\\nline 6: 0 wr 0 1\"];
+}
+";
+
+/// Logs with their explanation, their picture and the status.
+const EXPLAINED: [(&str, &str, &str, u8); 2] = [
+    (
+        "vlog 1 1 0 0\n",
+        "The blocks of this log can be serialized.\nEvents: 0\nTransactions, which can follow one another: 0\n",
+        "",
+        0,
+    ),
+    (LOST_UPDATE, LOST_UPDATE_EXPLAINED, LOST_UPDATE_DRAWN, 3),
+];
+
+#[test]
+fn verdicts_are_explained(rt: HostRuntime) {
+    for (log, words, picture, status) in EXPLAINED {
+        let files = [("a.log", log)];
+        let mut folder = Folder::new(rt.alloc(), &files, usize::MAX);
+        let asked = ["velodrome", "explain", "a.log", "--dot", "o.dot"];
+        let shown = show(&rt, &asked, &mut folder);
+        compare(&rt, &shown, words, "", status, log);
+        assert_eq!(rt; folder.output.as_slice(), picture.as_bytes());
+        drop((shown, folder));
+    }
+}
+
+/// Logs with their report and the certificate behind it.
+const CERTIFIED: [(&str, &str); 5] = [
+    ("vlog 1 1 0 0\n", "events 0\nthread 0 0\nverdict clean\n"),
+    (LOST_UPDATE, LOST_UPDATE_CERTIFIED),
+    (
+        "vlog 1 2 2 0\n0 fork 1\n0 begin 1\n0 wr 0 1\n1 begin 2\n1 wr 1 1\n0 rd 1 1\n1 rd 0 1\n",
+        "events 7\nthread 0 4\nthread 1 3\nverdict alarm 6\ntransaction 3\nblame none\ncycle 3 1\n",
+    ),
+    (
+        "vlog 1 2 0 0\n0 begin 1\n0 fork 1\n1 exit\n0 join 1\n",
+        "events 4\nthread 0 3\nthread 1 1\nverdict alarm 3\ntransaction 0\nblame 0 1\ncycle 0 2\n",
+    ),
+    (
+        "vlog 1 2 1 0\n0 fork 1\n0 begin 1\n1 wr 0 2\n0 rd 0 2\n0 end\n",
+        "events 5\nthread 0 4\nthread 1 1\nverdict clean\nserial 0\nserial 2\nserial 1 3 4\n",
+    ),
+];
+
+#[test]
+fn certificates_are_written(rt: HostRuntime) {
+    for (log, written) in CERTIFIED {
+        let mut sink = Text::new(rt.alloc()).in_steps(1);
+        let mut source = Bytes::new(log.as_bytes());
+        check_run(rt.alloc(), &mut source, &mut sink, MOST_EVENTS, 1024, true).expect(
+            &rt,
+            "a verdict",
+        );
+        assert_eq!(rt; sink.as_slice(), written.as_bytes());
+        drop(sink);
+    }
+}
