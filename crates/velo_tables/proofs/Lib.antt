@@ -17,6 +17,7 @@ pub mod OnClockRoom
 pub mod OnAlone
 pub mod OnNoted
 pub mod OnReadClocks
+pub mod OnCleared
 pub mod OnAdvance
 pub mod OnBlankClocks
 pub mod OnOrder

@@ -2,12 +2,14 @@
 -- that they say which blocks are to blame.
 use Rattle.std.proofs.Common.{◌≡◌, ℕ, ◌+◌, ◌<◌, ◌≤◌, max, Bool, true, false, List, [], ◌∷◌, ◌++◌, length, map, Option, Some, refl, sym, ap, ◌∙◌, subst, arith, ⊎_elim, inl, inr}
 use Rattle.std.specs.Prelude.{◌⊎◌, ◌↔◌, ◌==◌, nat_lt, filter, slice_get, if◌then◌else◌, IsTrue, IsFalse}
-use Rattle.std.proofs.lemmas.Bool.{cases_Bool, cases_lt, both_ways, false_from_ne_true, and_parts, and_from, or_cases, or_left, ltb-true, lt-ltb, eqb-true, eq-eqb}
+use Rattle.std.proofs.lemmas.Bool.{false≢true, cases_Bool, cases_lt, both_ways, false_from_ne_true, and_parts, and_from, or_cases, or_left, ltb-true, lt-ltb, eqb-true, eq-eqb}
 use Rattle.std.proofs.lemmas.Option.{same_Some, slice_get_within}
 use Rattle.std.proofs.lemmas.List.{length_push}
 use Rattle.velo_events.specs.declared.config.Bounds.{Bounds}
 use Rattle.velo_events.specs.declared.event.Event.{Event}
-use Rattle.velo_events.specs.Event.{thread_of, variable_of, lock_of, are_same, is_by, is_write, is_read, is_fork_of, is_join_of}
+use Rattle.velo_events.specs.Event.{thread_of, variable_of, lock_of, are_same, is_by, is_write, is_write_of, is_read, is_fork_of, is_join_of}
+use Rattle.velo_events.specs.declared.event.Kind.{Kind}
+use Rattle.velo_events.specs.declared.event.Kind.TheVariants.{Read, Write, Acquire, Release, Begin, End, Fork, Join, Exit}
 use Rattle.velo_events.specs.Conflict.{conflict}
 use Rattle.velo_events.specs.Block.{passes_at, is_open_at, open_blocks}
 use Rattle.velo_events.specs.Graph.{ConflictsInOrder, HasCycle, both_conflict, conflict_at}
@@ -25,9 +27,9 @@ use Rattle.velo_tables.specs.Place.{Place, LastOf, LastWrite, LastOn, is_read_of
 use Rattle.velo_tables.specs.Last.{last_at}
 use Rattle.velo_tables.proofs.OnLast.{last_at-push, last_at-is, last_at-within, last_position-at}
 use Rattle.velo_tables.proofs.OnLookUps.{reached-from_conflict, looked_up-is, fork-first, no_join, no_fork, are_same-some, are_same-both, are_same-from, conflict-thread, conflict-variable, conflict-lock, conflict-handled, fork_handles, forks_or_joins, reads_or_writes, conflict_at-events}
-use Rattle.velo_tables.specs.Clocks.{ClockPlace, OfLast, OfWrite, OfReads, OfLock, ClockState, IsAt, IsForeignAt, IsLatestSince, AreClocksSince, IsNoted, KnowsNothing, KnowsTheSame, known_at, foreign_at, beside, greatest_of, clock_of, blame_bound, is_noted, stays}
+use Rattle.velo_tables.specs.Clocks.{ClockPlace, OfLast, OfWrite, OfReads, OfLock, ClockState, IsAt, IsUnwrittenSince, IsForeignAt, IsLatestSince, AreClocksSince, IsNoted, KnowsNothing, KnowsTheSame, known_at, foreign_at, beside, greatest_of, clock_of, blame_bound, is_noted, is_cleared, stays}
 use Rattle.velo_tables.proofs.OnLatest.{most-at, most-some, latest-same, latest-none, latest-union, latest-append}
-use Rattle.velo_tables.proofs.OnBeside.{IsBeside, beside-is, beside-has, beside-conflicts, joined-conflicts, joined-at}
+use Rattle.velo_tables.proofs.OnBeside.{IsBeside, beside-is, beside-has, beside-conflicts, joined-conflicts, joined-at, last-write, read-write}
 
 -- what knows nothing stands for every trace, as far as the events behind its end go
 pub opens : (s : ClockState) (trace : List Event) → KnowsNothing s → AreClocksSince (length trace) s trace
@@ -50,7 +52,7 @@ reserves first old new trace same stands =
 at-within : (trace : List Event) (p : ClockPlace) (i : ℕ) → IsAt trace p i → i < length trace
 at-within trace (OfLast t) i at = last_at-within (LastOf t) trace i at
 at-within trace (OfWrite x) i at = last_at-within (LastWrite x) trace i at
-at-within trace (OfReads x) i at = passes_at-within trace (is_read_of x) i at
+at-within trace (OfReads x) i at = passes_at-within trace (is_read_of x) i at.0
 at-within trace (OfLock m) i at = last_at-within (LastOn m) trace i at
 
 -- an earlier event that conflicts with the appended one at its position conflicts with it
@@ -84,8 +86,8 @@ module _ (first : ℕ) (bounds : Bounds) (s : ClockState) (trace : List Event) (
       let hit : IsTrue (conflict f.0 e) = conflict-from trace e j f.0 f.1 link in
       let w = reached-from_conflict bounds trace e (IsWellFormed-before bounds trace (e ∷ []) well) (IsWellFormed-last bounds trace e well) few j f.0 f.1 hit in
       let q = joined-at trace e w.place w.at (looked_up-is e w.place w.looked) w.last in
-      let below : k < known_at s q.0 u = (stands.known q.0 u).none_later k w.at since q.2 own (Reaches-trans (ConflictsInOrder trace) k j w.at chain w.after) in
-      let upto = most-at (λ p. known_at s p u) (OfLast (thread_of e) ∷ beside e.kind) q.0 q.1 in
+      let below : k < known_at s q.place u = (stands.known q.place u).none_later k q.at since q.there own (Reaches-trans (ConflictsInOrder trace) k w.at q.at (Reaches-trans (ConflictsInOrder trace) k j w.at chain w.after) q.after) in
+      let upto = most-at (λ p. known_at s p u) (OfLast (thread_of e) ∷ beside e.kind) q.place q.among in
       omega (arith, below, upto)
 
   knows-other : IsFalse (u == thread_of e) → IsLatestSince first (trace ++ e ∷ []) (λ i. i ≡ length trace) u joined
@@ -124,11 +126,12 @@ knows_next first bounds s trace e u few well stands =
 
 -- ---- one event more
 
--- at a place that the event is noted at, it stands beside what was, where this is kept, or in its stead
-abbrev After : Bool → Bool → Type 0 → Type 0 → Type 0
-After false keeps A B = A
-After true true A B = A ⊎ B
-After true false A B = B
+-- at a place that the event is noted at, it stands beside what was, where this is kept, or in its stead; at one that it clears nothing stands
+abbrev After : Bool → Bool → Bool → Type 0 → Type 0 → Type 0
+After false false keeps A B = A
+After false true keeps A B = ⊥
+After true clears true A B = A ⊎ B
+After true clears false A B = B
 
 -- reads add up
 abbrev keeps : ClockPlace → Bool
@@ -144,57 +147,103 @@ stays-keeps (OfReads x) n = refl
 stays-keeps (OfLock m) n = refl
 
 -- the last one is the new one, or is as it was
-last-after : (b : Bool) (new old : Option ℕ) (i n : ℕ) → new ≡ (if b then Some n else old) → (new ≡ Some i) ↔ After b false (old ≡ Some i) (i ≡ n)
+last-after : (b : Bool) (new old : Option ℕ) (i n : ℕ) → new ≡ (if b then Some n else old) → (new ≡ Some i) ↔ After b false false (old ≡ Some i) (i ≡ n)
 last-after true new old i n h = (λ at. same_Some i n (sym at ∙ h), λ same. h ∙ ap (λ k. Some k) (sym same))
 last-after false new old i n h = (λ at. sym h ∙ at, λ at. h ∙ at)
 
--- and the new one is one of those that pass
-pass-after : (trace : List Event) (e : Event) (test : Event → Bool) (i : ℕ) (b : Bool) → test e ≡ b → IsTrue (passes_at (trace ++ e ∷ []) test i) ↔ After b true (IsTrue (passes_at trace test i)) (i ≡ length trace)
-pass-after trace e test i true h = (
-  (λ at. ⊎_elim (λ before. inl (sym (passes_at-append trace (e ∷ []) test i before) ∙ at))
-      (λ past. inr (let last : i ≡ length trace = omega (arith, past, passes_at-within (trace ++ e ∷ []) test i at, length_push trace e) in last))
+-- a position behind the longer trace's beginning is its last
+last-behind : (trace : List Event) (e : Event) (test : Event → Bool) (i : ℕ) → length trace ≤ i → IsTrue (passes_at (trace ++ e ∷ []) test i) → i ≡ length trace
+last-behind trace e test i past at = let same : i ≡ length trace = omega (arith, past, passes_at-within (trace ++ e ∷ []) test i at, length_push trace e) in same
+
+passes-before : (trace : List Event) (e : Event) (test : Event → Bool) (i : ℕ) → IsTrue (passes_at trace test i) → IsTrue (passes_at (trace ++ e ∷ []) test i)
+passes-before trace e test i at = passes_at-append trace (e ∷ []) test i (passes_at-within trace test i at) ∙ at
+
+passes-last : (trace : List Event) (e : Event) (test : Event → Bool) (i : ℕ) → i ≡ length trace → IsTrue (passes_at (trace ++ e ∷ []) test i) → IsTrue (test e)
+passes-last trace e test i last at = sym (passes_at-push trace e test) ∙ subst (λ k. IsTrue (passes_at (trace ++ e ∷ []) test k)) last at
+
+-- a variable that is not written behind a position was not before the last event
+unwritten-before : (trace : List Event) (e : Event) (x i : ℕ) → IsUnwrittenSince (trace ++ e ∷ []) x i → IsUnwrittenSince trace x i
+unwritten-before trace e x i unwritten j after = false_from_ne_true _ (λ writes. both_ways _ (unwritten j after) (passes-before trace e (is_write_of x) j writes))
+
+-- nor is it with the last event, if this does not write it or is at the position
+unwritten-next : (trace : List Event) (e : Event) (x i : ℕ) → (i < length trace → IsFalse (is_write_of x e)) → (i < length trace → IsUnwrittenSince trace x i) → IsUnwrittenSince (trace ++ e ∷ []) x i
+unwritten-next trace e x i reads unwritten j after = false_from_ne_true _ (λ writes. ⊎_elim
+    (λ before. both_ways _ (unwritten (omega (arith, before, after)) j after) (sym (passes_at-append trace (e ∷ []) (is_write_of x) j before) ∙ writes))
+    (λ past. let last = last-behind trace e (is_write_of x) j past writes in both_ways _ (reads (omega (arith, last, after))) (passes-last trace e (is_write_of x) j last writes))
+    (cases_lt j (length trace)))
+
+-- what reads does not write
+reads-write_not : (k : Kind) → IsTrue (is_read k) → IsFalse (is_write k)
+reads-write_not (Read x v) is = refl
+reads-write_not (Write x v) is = absurd (false≢true is)
+reads-write_not (Acquire m) is = absurd (false≢true is)
+reads-write_not (Release m) is = absurd (false≢true is)
+reads-write_not (Begin l) is = absurd (false≢true is)
+reads-write_not End is = absurd (false≢true is)
+reads-write_not (Fork t) is = absurd (false≢true is)
+reads-write_not (Join t) is = absurd (false≢true is)
+reads-write_not Exit is = absurd (false≢true is)
+
+-- the reads of a variable since its last write
+reads-after : (trace : List Event) (e : Event) (x i : ℕ) (b w : Bool) → is_read_of x e ≡ b → is_write_of x e ≡ w → IsAt (trace ++ e ∷ []) (OfReads x) i ↔ After b w true (IsAt trace (OfReads x) i) (i ≡ length trace)
+reads-after trace e x i true w reads writes =
+    let no_write : IsFalse (is_write_of x e) = false_from_ne_true _ (λ h. both_ways _ (reads-write_not e.kind (and_parts (is_read e.kind) _ reads).0) (and_parts (is_write e.kind) _ h).0) in (
+      (λ at. ⊎_elim (λ before. inl (sym (passes_at-append trace (e ∷ []) (is_read_of x) i before) ∙ at.0, unwritten-before trace e x i at.1))
+          (λ past. inr (last-behind trace e (is_read_of x) i past at.0))
+          (cases_lt i (length trace))),
+      (λ these. ⊎_elim
+          (λ old. (passes-before trace e (is_read_of x) i old.0, unwritten-next trace e x i (λ _. no_write) (λ _. old.1)))
+          (λ last. (subst (λ k. IsTrue (passes_at (trace ++ e ∷ []) (is_read_of x) k)) (sym last) (passes_at-push trace e (is_read_of x) ∙ reads), unwritten-next trace e x i (λ _. no_write) (λ before. absurd (omega (arith, before, last)))))
+          these),
+    )
+reads-after trace e x i false true reads writes = (
+  (λ at. ⊎_elim
+      (λ before. both_ways _ (at.1 (length trace) before) (passes_at-push trace e (is_write_of x) ∙ writes))
+      (λ past. both_ways _ reads (passes-last trace e (is_read_of x) i (last-behind trace e (is_read_of x) i past at.0) at.0))
       (cases_lt i (length trace))),
-  (λ w. ⊎_elim (λ old. passes_at-append trace (e ∷ []) test i (passes_at-within trace test i old) ∙ old)
-      (λ last. subst (λ k. IsTrue (passes_at (trace ++ e ∷ []) test k)) (sym last) (passes_at-push trace e test ∙ h)) w),
+  (λ none. absurd none),
 )
-pass-after trace e test i false h = (
-  (λ at. ⊎_elim (λ before. sym (passes_at-append trace (e ∷ []) test i before) ∙ at)
-      (λ past. let last : i ≡ length trace = omega (arith, past, passes_at-within (trace ++ e ∷ []) test i at, length_push trace e) in
-      absurd (both_ways (test e) h (sym (passes_at-push trace e test) ∙ subst (λ k. IsTrue (passes_at (trace ++ e ∷ []) test k)) last at)))
+reads-after trace e x i false false reads writes = (
+  (λ at. ⊎_elim
+      (λ before. (sym (passes_at-append trace (e ∷ []) (is_read_of x) i before) ∙ at.0, unwritten-before trace e x i at.1))
+      (λ past. absurd (both_ways _ reads (passes-last trace e (is_read_of x) i (last-behind trace e (is_read_of x) i past at.0) at.0)))
       (cases_lt i (length trace))),
-  (λ old. passes_at-append trace (e ∷ []) test i (passes_at-within trace test i old) ∙ old),
+  (λ old. (passes-before trace e (is_read_of x) i old.0, unwritten-next trace e x i (λ _. writes) (λ _. old.1))),
 )
 
-at-after : (trace : List Event) (e : Event) (p : ClockPlace) (i : ℕ) → IsAt (trace ++ e ∷ []) p i ↔ After (is_noted e p) (keeps p) (IsAt trace p i) (i ≡ length trace)
+at-after : (trace : List Event) (e : Event) (p : ClockPlace) (i : ℕ) → IsAt (trace ++ e ∷ []) p i ↔ After (is_noted e p) (is_cleared e p) (keeps p) (IsAt trace p i) (i ≡ length trace)
 at-after trace e (OfLast t) i = last-after (is_noted e (OfLast t)) (last_at (LastOf t) (trace ++ e ∷ [])) (last_at (LastOf t) trace) i (length trace) (last_at-push (LastOf t) trace e)
 at-after trace e (OfWrite x) i = last-after (is_noted e (OfWrite x)) (last_at (LastWrite x) (trace ++ e ∷ [])) (last_at (LastWrite x) trace) i (length trace) (last_at-push (LastWrite x) trace e)
-at-after trace e (OfReads x) i = pass-after trace e (is_read_of x) i (is_read_of x e) refl
+at-after trace e (OfReads x) i = reads-after trace e x i (is_read_of x e) (is_write_of x e) refl refl
 at-after trace e (OfLock m) i = last-after (is_noted e (OfLock m)) (last_at (LastOn m) (trace ++ e ∷ [])) (last_at (LastOn m) trace) i (length trace) (last_at-push (LastOn m) trace e)
 
 -- the same of those that are not of a thread
-foreign-after : (b keeps : Bool) (New Old Next : Type 0) (new old : Bool) → (Old → new ≡ old) → New ↔ After b keeps Old Next → (New × IsFalse new) ↔ After b keeps (Old × IsFalse old) (Next × IsFalse new)
-foreign-after false keeps New Old Next new old same each = (λ w. let a = each.0 w.0 in (a, sym (same a) ∙ w.1), λ w. (each.1 w.0, same w.0 ∙ w.1))
-foreign-after true true New Old Next new old same each = (
+foreign-after : (b clears keeps : Bool) (New Old Next : Type 0) (new old : Bool) → (Old → new ≡ old) → New ↔ After b clears keeps Old Next → (New × IsFalse new) ↔ After b clears keeps (Old × IsFalse old) (Next × IsFalse new)
+foreign-after false false keeps New Old Next new old same each = (λ w. let a = each.0 w.0 in (a, sym (same a) ∙ w.1), λ w. (each.1 w.0, same w.0 ∙ w.1))
+foreign-after false true keeps New Old Next new old same each = (λ w. each.0 w.0, λ none. absurd none)
+foreign-after true clears true New Old Next new old same each = (
   (λ w. ⊎_elim (λ a. inl (a, sym (same a) ∙ w.1)) (λ b. inr (b, w.1)) (each.0 w.0)),
   (λ w. ⊎_elim (λ a. (each.1 (inl a.0), same a.0 ∙ a.1)) (λ b. (each.1 (inr b.0), b.1)) w),
 )
-foreign-after true false New Old Next new old same each = (λ w. (each.0 w.0, w.1), λ w. (each.1 w.0, w.1))
+foreign-after true clears false New Old Next new old same each = (λ w. (each.0 w.0, w.1), λ w. (each.1 w.0, w.1))
 
 -- and what they know
-latest-after : (first : ℕ) (trace : List Event) (e : Event) (u : ℕ) (b keeps : Bool) (old next now : ℕ → Type 0) (m n : ℕ) → ((i : ℕ) → old i → i < length trace) → ((i : ℕ) → now i ↔ After b keeps (old i) (next i)) → IsLatestSince first trace old u m → IsLatestSince first (trace ++ e ∷ []) next u n → IsLatestSince first (trace ++ e ∷ []) now u (if b then max (if keeps then m else 0) n else m)
-latest-after first trace e u false keeps old next now m n within each l r =
+latest-after : (first : ℕ) (trace : List Event) (e : Event) (u : ℕ) (b clears keeps : Bool) (old next now : ℕ → Type 0) (m n : ℕ) → ((i : ℕ) → old i → i < length trace) → ((i : ℕ) → now i ↔ After b clears keeps (old i) (next i)) → IsLatestSince first trace old u m → IsLatestSince first (trace ++ e ∷ []) next u n
+    → IsLatestSince first (trace ++ e ∷ []) now u (if b then max (if keeps then m else 0) n else (if clears then 0 else m))
+latest-after first trace e u false false keeps old next now m n within each l r =
     latest-same first (trace ++ e ∷ []) u old now m (λ i. (each i).1) (λ i. (each i).0) (latest-append first trace (e ∷ []) u old m within l)
-latest-after first trace e u true true old next now m n within each l r =
+latest-after first trace e u false true keeps old next now m n within each l r = latest-none first (trace ++ e ∷ []) u now (λ i. (each i).0)
+latest-after first trace e u true clears true old next now m n within each l r =
     latest-union first (trace ++ e ∷ []) u old next now m n (λ i a. (each i).1 (inl a)) (λ i a. (each i).1 (inr a)) (λ i. (each i).0) (latest-append first trace (e ∷ []) u old m within l) r
-latest-after first trace e u true false old next now m n within each l r =
+latest-after first trace e u true clears false old next now m n within each l r =
     subst (IsLatestSince first (trace ++ e ∷ []) now u) (let same : n ≡ max 0 n = omega arith in same) (latest-same first (trace ++ e ∷ []) u next now n (λ i. (each i).1) (λ i. (each i).0) r)
 
 module _ (first : ℕ) (bounds : Bounds) (old new : ClockState) (trace : List Event) (e : Event) (few : bounds.threads ≤ 64) (well : IsWellFormed bounds (trace ++ e ∷ [])) (stands : AreClocksSince first old trace) (state_after : IsNoted old (length trace) e new) where
   noted-known : (p : ClockPlace) (u : ℕ) → IsLatestSince first (trace ++ e ∷ []) (IsAt (trace ++ e ∷ []) p) u (known_at new p u)
   noted-known p u =
       subst (IsLatestSince first (trace ++ e ∷ []) (IsAt (trace ++ e ∷ []) p) u)
-      (ap (λ d. if is_noted e p then max d (clock_of old (length trace) e u) else known_at old p u) (sym (stays-keeps p (known_at old p u))) ∙ sym (state_after.known p u))
-      (latest-after first trace e u (is_noted e p) (keeps p) (IsAt trace p) (λ i. i ≡ length trace) (IsAt (trace ++ e ∷ []) p) (known_at old p u) (clock_of old (length trace) e u)
+      (ap (λ d. if is_noted e p then max d (clock_of old (length trace) e u) else (if is_cleared e p then 0 else known_at old p u)) (sym (stays-keeps p (known_at old p u))) ∙ sym (state_after.known p u))
+      (latest-after first trace e u (is_noted e p) (is_cleared e p) (keeps p) (IsAt trace p) (λ i. i ≡ length trace) (IsAt (trace ++ e ∷ []) p) (known_at old p u) (clock_of old (length trace) e u)
       (at-within trace p) (at-after trace e p) (stands.known p u) (knows_next first bounds old trace e u few well stands))
 
   abbrev IsNew : ℕ → ℕ → Type 0
@@ -212,10 +261,10 @@ module _ (first : ℕ) (bounds : Bounds) (old new : ClockState) (trace : List Ev
   noted-foreign : (p : ClockPlace) (u : ℕ) → IsLatestSince first (trace ++ e ∷ []) (IsForeignAt (trace ++ e ∷ []) p u) u (foreign_at new p u)
   noted-foreign p u =
       subst (IsLatestSince first (trace ++ e ∷ []) (IsForeignAt (trace ++ e ∷ []) p u) u)
-      (ap (λ d. if is_noted e p then max d (if u == thread_of e then 0 else clock_of old (length trace) e u) else foreign_at old p u) (sym (stays-keeps p (foreign_at old p u))) ∙ sym (state_after.foreign p u))
-      (latest-after first trace e u (is_noted e p) (keeps p) (IsForeignAt trace p u) (IsNew u) (IsForeignAt (trace ++ e ∷ []) p u) (foreign_at old p u) (if u == thread_of e then 0 else clock_of old (length trace) e u)
+      (ap (λ d. if is_noted e p then max d (if u == thread_of e then 0 else clock_of old (length trace) e u) else (if is_cleared e p then 0 else foreign_at old p u)) (sym (stays-keeps p (foreign_at old p u))) ∙ sym (state_after.foreign p u))
+      (latest-after first trace e u (is_noted e p) (is_cleared e p) (keeps p) (IsForeignAt trace p u) (IsNew u) (IsForeignAt (trace ++ e ∷ []) p u) (foreign_at old p u) (if u == thread_of e then 0 else clock_of old (length trace) e u)
       (λ i w. at-within trace p i w.0)
-      (λ i. foreign-after (is_noted e p) (keeps p) (IsAt (trace ++ e ∷ []) p i) (IsAt trace p i) (i ≡ length trace) (passes_at (trace ++ e ∷ []) (is_by u) i) (passes_at trace (is_by u) i)
+      (λ i. foreign-after (is_noted e p) (is_cleared e p) (keeps p) (IsAt (trace ++ e ∷ []) p i) (IsAt trace p i) (i ≡ length trace) (passes_at (trace ++ e ∷ []) (is_by u) i) (passes_at trace (is_by u) i)
       (λ at. passes_at-append trace (e ∷ []) (is_by u) i (at-within trace p i at)) (at-after trace e p i))
       (stands.foreign p u) (next-foreign u))
 
@@ -256,8 +305,24 @@ module _ (bounds : Bounds) (trace : List Event) (e : Event) (b : ℕ) (few : bou
         record { place = OfWrite x; at = w.0; aside = accesses; there = (w.1, w.2); from = w.3 }
 
     beside-read : (x : ℕ) → variable_of e.kind ≡ Some x → variable_of f.kind ≡ Some x → IsTrue (is_write e.kind) → IsTrue (is_read f.kind) → IsBesideFrom trace e b
-    beside-read x accesses same writes reads =
-        record { place = OfReads x; at = q; aside = (accesses, writes); there = (passes_at-is trace (is_read_of x) q f here ∙ and_from _ _ reads (are_same-from _ _ x same refl), other); from = from }
+    beside-read x accesses same writes reads = ⊎_elim
+        (λ unwritten. record {
+          place = OfReads x;
+          at = q;
+          aside = (accesses, writes);
+          there = ((passes_at-is trace (is_read_of x) q f here ∙ and_from _ _ reads (are_same-from _ _ x same refl), unwritten), other);
+          from = from;
+        })
+        (λ written.
+        let link = read-write trace x q written.0 f here same written.1 written.2 in
+        record {
+          place = OfWrite x;
+          at = written.0;
+          aside = accesses;
+          there = (written.1, false_from_ne_true _ (λ own. no_return trace e b none opened q written.0 other from link own));
+          from = IsFrom-next trace b q written.0 from link;
+        })
+        (last-write trace x q)
 
     beside-on_lock : (m : ℕ) → lock_of e.kind ≡ Some m → lock_of f.kind ≡ Some m → IsBesideFrom trace e b
     beside-on_lock m operates same =

@@ -3,17 +3,18 @@ use Rattle.std.proofs.Common.{◌≡◌, ℕ, ◌+◌, ◌<◌, ◌≤◌, max, 
 use Rattle.std.specs.Prelude.{◌==◌, ◌||◌, if◌then◌else◌}
 use Rattle.std.proofs.Math.ListN.{set}
 use Rattle.std.proofs.lemmas.Bool.{cases_eq, cases_lt, ne_eqb, eq-eqb}
-use Rattle.std.proofs.lemmas.List.{get_or-set_same, get_or-set_other, length-set, get_or_past}
+use Rattle.std.proofs.lemmas.List.{get_or-set_same, get_or-set_other, length-set, get_or_past, set_past}
 use Rattle.velo_events.specs.declared.event.Event.{Event}
 use Rattle.velo_events.specs.declared.event.ThreadId.{ThreadId}
 use Rattle.velo_events.specs.declared.event.Kind.{Kind}
 use Rattle.velo_events.specs.declared.event.Kind.TheVariants.{Read, Write, Acquire, Release, Begin, End, Fork, Join, Exit}
 use Rattle.velo_events.specs.Event.{thread_of}
 use Rattle.velo_tables.proofs.OnKept.{get_or-set}
-use Rattle.velo_tables.specs.Clocks.{Clock, ClockState, ClockPlace, OfLast, OfWrite, OfReads, OfLock, IsNoted, blank_clock, clock_at, known_at, foreign_at, clock_of, beside, greatest_of, stays, is_noted}
-use Rattle.velo_tables.specs.Noted.{maxima, alone_at, joint_at, clock_beside, joined_clock, state_after_beside, state_after, with_thread, HasRoomAt, AreWithin, IsSized, HasRoomToNoteBeside, HasRoomToNote}
+use Rattle.velo_tables.specs.Clocks.{Clock, ClockState, ClockPlace, OfLast, OfWrite, OfReads, OfLock, IsNoted, blank_clock, clock_at, known_at, foreign_at, clock_of, beside, greatest_of, stays, is_noted, is_cleared}
+use Rattle.velo_tables.specs.Noted.{maxima, nothing_in, cleared_at, alone_at, joint_at, clock_beside, joined_clock, state_after_beside, state_after, with_thread, HasRoomAt, AreWithin, IsSized, HasRoomToNoteBeside, HasRoomToNote}
 use Rattle.velo_tables.proofs.OnRaised.{get_or-raised, length-raised}
 use Rattle.velo_tables.proofs.OnClockRoom.{each-set}
+use Rattle.velo_tables.proofs.OnCleared.{length-nothing, get_or-nothing}
 
 -- ---- the clock of the event
 
@@ -93,7 +94,7 @@ room-within n xs i some room = ⊎_elim (λ l. l)
     (cases_lt i (length xs))
 
 module _ (n : ℕ) (s : ClockState) (by : ThreadId) (clock : List ℕ) (sized : IsSized n s) (own : by.0 < n) (f : Clock → ℕ) (v : ℕ) (alone : f (alone_at clock by.0) ≡ v)
-    (beside_others : (c : Clock) → length c.known ≡ n → length c.foreign ≡ n → f (joint_at c clock by.0) ≡ max (f c) v) where
+    (beside_others : (c : Clock) → length c.known ≡ n → length c.foreign ≡ n → f (joint_at c clock by.0) ≡ max (f c) v) (cleared : (c : Clock) → f (cleared_at c) ≡ 0) where
   alone-most : f (alone_at clock by.0) ≡ max 0 v
   alone-most = omega (arith, alone)
 
@@ -121,11 +122,21 @@ module _ (n : ℕ) (s : ClockState) (by : ThreadId) (clock : List ℕ) (sized : 
       (λ off. ap (λ b. if b then max (f (get_or s.reads y blank_clock)) v else f (get_or s.reads x blank_clock)) (ne_eqb y x off) ∙ ap (λ b. if b then max (f (get_or s.reads x blank_clock)) v else f (get_or s.reads x blank_clock)) (sym (ne_eqb y x off)))
       (cases_eq y x))
 
+  after_write : (y x : ℕ) → f (get_or (set s.reads y (cleared_at (get_or s.reads y blank_clock))) x blank_clock) ≡ (if y == x then 0 else f (get_or s.reads x blank_clock))
+  after_write y x = ⊎_elim
+      (λ within. number-set f s.reads y x (cleared_at (get_or s.reads y blank_clock)) within ∙ ap (λ m. if y == x then m else f (get_or s.reads x blank_clock)) (cleared (get_or s.reads y blank_clock)))
+      (λ past. ap (λ cs. f (get_or cs x blank_clock)) (set_past s.reads y (cleared_at (get_or s.reads y blank_clock)) past)
+      ∙ ⊎_elim
+      (λ at. (let none : f (get_or s.reads x blank_clock) ≡ 0 = ap f (get_or_past s.reads x blank_clock (omega (arith, past, at))) ∙ cleared blank_clock in none) ∙ ap (λ b. if b then 0 else f (get_or s.reads x blank_clock)) (sym (eq-eqb y x at)))
+      (λ off. ap (λ b. if b then 0 else f (get_or s.reads x blank_clock)) (sym (ne_eqb y x off)))
+      (cases_eq y x))
+      (cases_lt y (length s.reads))
+
   -- the places after an event of the kind
   abbrev After : Kind → ClockPlace → Type 0
   After k p =
       f (clock_at (state_after_beside (with_thread s by.0 (alone_at clock by.0)) by.0 k clock) p)
-      ≡ (if is_noted (record { thread = by; kind = k }) p then max (stays p (f (clock_at s p))) v else f (clock_at s p))
+      ≡ (if is_noted (record { thread = by; kind = k }) p then max (stays p (f (clock_at s p))) v else (if is_cleared (record { thread = by; kind = k }) p then 0 else f (clock_at s p)))
 
   number-after : (k : Kind) → HasRoomToNoteBeside n s k → (p : ClockPlace) → After k p
   number-after (Read y w) room (OfLast t) = after_own t
@@ -134,7 +145,7 @@ module _ (n : ℕ) (s : ClockState) (by : ThreadId) (clock : List ℕ) (sized : 
   number-after (Read y w) room (OfLock m) = refl
   number-after (Write y w) room (OfLast t) = after_own t
   number-after (Write y w) room (OfWrite x) = after_alone s.writes y.0 x room
-  number-after (Write y w) room (OfReads x) = refl
+  number-after (Write y w) room (OfReads x) = after_write y.0 x
   number-after (Write y w) room (OfLock m) = refl
   number-after (Acquire l) room (OfLast t) = after_own t
   number-after (Acquire l) room (OfWrite x) = refl
@@ -173,11 +184,12 @@ module _ (n : ℕ) (s : ClockState) (position : ℕ) (e : Event) (sized : IsSize
   long : length clock ≡ n
   long = length-joined_clock n s sized e room.own position
 
-  known-after : (p : ClockPlace) (u : ℕ) → known_at (state_after s clock e) p u ≡ (if is_noted e p then max (stays p (known_at s p u)) (clock_of s position e u) else known_at s p u)
+  known-after : (p : ClockPlace) (u : ℕ) → known_at (state_after s clock e) p u ≡ (if is_noted e p then max (stays p (known_at s p u)) (clock_of s position e u) else (if is_cleared e p then 0 else known_at s p u))
   unfolding state_after
   known-after p u =
       number-after n s e.thread clock sized room.own (λ c. get_or c.known u 0) (clock_of s position e u) (joined_clock-at n s sized e room.own position u)
       (λ c known foreign. get_or-raised c.known clock u (omega (arith, known, long)) ∙ ap (λ m. max (get_or c.known u 0) m) (joined_clock-at n s sized e room.own position u))
+      (λ c. get_or-nothing c.known u)
       e.kind room.beside p
 
   foreign-alone : (u : ℕ) → get_or (set clock (thread_of e) 0) u 0 ≡ (if u == thread_of e then 0 else clock_of s position e u)
@@ -197,11 +209,11 @@ module _ (n : ℕ) (s : ClockState) (position : ℕ) (e : Event) (sized : IsSize
       ∙ (ap (λ m. max (get_or c.foreign u 0) m) (joined_clock-at n s sized e room.own position u) ∙ ap (λ b. max (get_or c.foreign u 0) (if b then 0 else clock_of s position e u)) (sym (ne_eqb u (thread_of e) off)))))
       (cases_eq u (thread_of e))
 
-  foreign-after : (p : ClockPlace) (u : ℕ) → foreign_at (state_after s clock e) p u ≡ (if is_noted e p then max (stays p (foreign_at s p u)) (if u == thread_of e then 0 else clock_of s position e u) else foreign_at s p u)
+  foreign-after : (p : ClockPlace) (u : ℕ) → foreign_at (state_after s clock e) p u ≡ (if is_noted e p then max (stays p (foreign_at s p u)) (if u == thread_of e then 0 else clock_of s position e u) else (if is_cleared e p then 0 else foreign_at s p u))
   unfolding state_after
   foreign-after p u =
       number-after n s e.thread clock sized room.own (λ c. get_or c.foreign u 0) (if u == thread_of e then 0 else clock_of s position e u) (foreign-alone u)
-      (λ c known foreign. foreign-added u c foreign) e.kind room.beside p
+      (λ c known foreign. foreign-added u c foreign) (λ c. get_or-nothing c.known u) e.kind room.beside p
 
   pub IsNoted-noted : IsNoted s position e (state_after s clock e)
   IsNoted-noted = record { known = known-after; foreign = foreign-after }
@@ -244,9 +256,20 @@ module _ (n : ℕ) (clock : List ℕ) (by : ℕ) (long : length clock ≡ n) (ow
   added-within xs j room all = set-within n xs j (joint_at (get_or xs j blank_clock) clock by) (room-within n xs j (omega (arith, own)) room)
       (length-raised (get_or xs j blank_clock).known clock ∙ room.known) (length-set (maxima (get_or xs j blank_clock).foreign clock) by _ ∙ (length-raised (get_or xs j blank_clock).foreign clock ∙ room.foreign)) all
 
+  cleared-within : (xs : List Clock) (j : ℕ) → AreWithin n xs → AreWithin n (set xs j (cleared_at (get_or xs j blank_clock)))
+  cleared-within xs j all = ⊎_elim
+      (λ within.
+      let few : length (nothing_in (get_or xs j blank_clock).known) ≤ n = omega (arith, length-nothing (get_or xs j blank_clock).known, all.known j) in
+      record {
+        known = each-set (λ d. length d.known ≤ n) xs j (cleared_at (get_or xs j blank_clock)) within few all.known;
+        foreign = each-set (λ d. length d.foreign ≤ n) xs j (cleared_at (get_or xs j blank_clock)) within few all.foreign;
+      })
+      (λ past. subst (AreWithin n) (sym (set_past xs j (cleared_at (get_or xs j blank_clock)) past)) all)
+      (cases_lt j (length xs))
+
   sized-beside : (s : ClockState) (k : Kind) → HasRoomToNoteBeside n s k → IsSized n s → IsSized n (state_after_beside s by k clock)
   sized-beside s (Read x v) room sized = record { count = sized.count; each = sized.each; threads = sized.threads; writes = sized.writes; reads = added-within s.reads x.0 room sized.reads; locks = sized.locks }
-  sized-beside s (Write x v) room sized = record { count = sized.count; each = sized.each; threads = sized.threads; writes = alone-within s.writes x.0 room sized.writes; reads = sized.reads; locks = sized.locks }
+  sized-beside s (Write x v) room sized = record { count = sized.count; each = sized.each; threads = sized.threads; writes = alone-within s.writes x.0 room sized.writes; reads = cleared-within s.reads x.0 sized.reads; locks = sized.locks }
   sized-beside s (Acquire m) room sized = record { count = sized.count; each = sized.each; threads = sized.threads; writes = sized.writes; reads = sized.reads; locks = alone-within s.locks m.0 room sized.locks }
   sized-beside s (Release m) room sized = record { count = sized.count; each = sized.each; threads = sized.threads; writes = sized.writes; reads = sized.reads; locks = alone-within s.locks m.0 room sized.locks }
   sized-beside s (Fork u) room sized = thread-sized s u.0 room sized

@@ -6,7 +6,7 @@ use Rattle.velo_events.specs.declared.event.Event.{Event}
 use Rattle.velo_events.specs.declared.event.Kind.{Kind}
 use Rattle.velo_events.specs.declared.event.Kind.TheVariants.{Read, Write, Acquire, Release, Begin, End, Fork, Join, Exit}
 use Rattle.velo_events.specs.Event.{thread_of, is_fork_of, are_same, forked_by}
-use Rattle.velo_tables.specs.Clocks.{ClockState, ClockPlace, OfLast, OfWrite, OfReads, OfLock, IsNoted, KnowsNothing, KnowsTheSame, known_at, foreign_at, clock_of, beside, greatest_of, stays, is_noted}
+use Rattle.velo_tables.specs.Clocks.{ClockState, ClockPlace, OfLast, OfWrite, OfReads, OfLock, IsNoted, KnowsNothing, KnowsTheSame, known_at, foreign_at, clock_of, beside, greatest_of, stays, is_noted, is_cleared}
 use Rattle.velo_tables.specs.Order.{IsLed, IsInOrder, ForksUnknown, KeepsOrder}
 use Rattle.velo_tables.proofs.OnLatest.{Among, most-at, most-some}
 
@@ -102,10 +102,14 @@ module _ (s : ClockState) (latest position : ℕ) (e : Event) (order : IsInOrder
       (cases_lt 0 (clock u))
 
   module _ (new : ClockState) (noted : IsNoted s position e new) where
-    -- a place where the event was noted, and any other
+    -- a place where the event was noted, one that it cleared, and any other
     record IsHere (p : ClockPlace) : Type 0 where
       known : (u : ℕ) → known_at new p u ≡ max (stays p (known_at s p u)) (clock u)
       foreign : (u : ℕ) → foreign_at new p u ≡ max (stays p (foreign_at s p u)) (if u == t then 0 else clock u)
+
+    record IsGone (p : ClockPlace) : Type 0 where
+      known : (u : ℕ) → known_at new p u ≡ 0
+      foreign : (u : ℕ) → foreign_at new p u ≡ 0
 
     record IsElsewhere (p : ClockPlace) : Type 0 where
       known : (u : ℕ) → known_at new p u ≡ known_at s p u
@@ -113,18 +117,38 @@ module _ (s : ClockState) (latest position : ℕ) (e : Event) (order : IsInOrder
 
     is_here : (p : ClockPlace) → is_noted e p ≡ true → IsHere p
     is_here p is = record {
-      known = λ u. noted.known p u ∙ ap (λ c. if c then max (stays p (known_at s p u)) (clock u) else known_at s p u) is;
-      foreign = λ u. noted.foreign p u ∙ ap (λ c. if c then max (stays p (foreign_at s p u)) (if u == t then 0 else clock u) else foreign_at s p u) is;
+      known = λ u. noted.known p u ∙ ap (λ c. if c then max (stays p (known_at s p u)) (clock u) else (if is_cleared e p then 0 else known_at s p u)) is;
+      foreign = λ u. noted.foreign p u ∙ ap (λ c. if c then max (stays p (foreign_at s p u)) (if u == t then 0 else clock u) else (if is_cleared e p then 0 else foreign_at s p u)) is;
     }
 
-    is_elsewhere : (p : ClockPlace) → is_noted e p ≡ false → IsElsewhere p
-    is_elsewhere p is = record {
-      known = λ u. noted.known p u ∙ ap (λ c. if c then max (stays p (known_at s p u)) (clock u) else known_at s p u) is;
-      foreign = λ u. noted.foreign p u ∙ ap (λ c. if c then max (stays p (foreign_at s p u)) (if u == t then 0 else clock u) else foreign_at s p u) is;
-    }
+    module _ (p : ClockPlace) (is : is_noted e p ≡ false) where
+      not_here : (u : ℕ) → known_at new p u ≡ (if is_cleared e p then 0 else known_at s p u)
+      not_here u = noted.known p u ∙ ap (λ c. if c then max (stays p (known_at s p u)) (clock u) else (if is_cleared e p then 0 else known_at s p u)) is
 
-    where-noted : (p : ClockPlace) → IsHere p ⊎ IsElsewhere p
-    where-noted p = elim (is_noted e p) as (λ b. is_noted e p ≡ b → IsHere p ⊎ IsElsewhere p) [ true ↦ λ is. inl (is_here p is) | false ↦ λ is. inr (is_elsewhere p is) ] refl
+      foreign-not_here : (u : ℕ) → foreign_at new p u ≡ (if is_cleared e p then 0 else foreign_at s p u)
+      foreign-not_here u = noted.foreign p u ∙ ap (λ c. if c then max (stays p (foreign_at s p u)) (if u == t then 0 else clock u) else (if is_cleared e p then 0 else foreign_at s p u)) is
+
+      is_gone : is_cleared e p ≡ true → IsGone p
+      is_gone gone = record {
+        known = λ u. not_here u ∙ ap (λ c. if c then 0 else known_at s p u) gone;
+        foreign = λ u. foreign-not_here u ∙ ap (λ c. if c then 0 else foreign_at s p u) gone;
+      }
+
+      is_elsewhere : is_cleared e p ≡ false → IsElsewhere p
+      is_elsewhere kept = record {
+        known = λ u. not_here u ∙ ap (λ c. if c then 0 else known_at s p u) kept;
+        foreign = λ u. foreign-not_here u ∙ ap (λ c. if c then 0 else foreign_at s p u) kept;
+      }
+
+      gone-or-elsewhere : IsGone p ⊎ IsElsewhere p
+      gone-or-elsewhere = elim (is_cleared e p) as (λ b. is_cleared e p ≡ b → IsGone p ⊎ IsElsewhere p) [ true ↦ λ gone. inl (is_gone gone) | false ↦ λ kept. inr (is_elsewhere kept) ] refl
+
+    where-noted : (p : ClockPlace) → IsHere p ⊎ (IsGone p ⊎ IsElsewhere p)
+    where-noted p = elim (is_noted e p) as (λ b. is_noted e p ≡ b → IsHere p ⊎ (IsGone p ⊎ IsElsewhere p)) [ true ↦ λ is. inl (is_here p is) | false ↦ λ is. inr (gone-or-elsewhere p is) ] refl
+
+    -- what holds in each of the three cases
+    at-place : (p : ClockPlace) {C : Type 0} → (IsHere p → C) → (IsGone p → C) → (IsElsewhere p → C) → C
+    at-place p here gone elsewhere = ⊎_elim here (λ rest. ⊎_elim gone elsewhere rest) (where-noted p)
 
     stays-most : (p : ClockPlace) (n : ℕ) → stays p n ≤ n
     stays-most (OfReads x) n = omega arith
@@ -144,7 +168,7 @@ module _ (s : ClockState) (latest position : ℕ) (e : Event) (order : IsInOrder
 
     -- an event that was known leads still
     still-follows : (p : ClockPlace) (v : ℕ) (led : IsLed s p v) (q : ClockPlace) → known_at s p led.by ≤ known_at new q led.by → known_at s p v ≤ known_at new q v
-    still-follows p v led q upto = ⊎_elim
+    still-follows p v led q upto = at-place q
         (λ here. ⊎_elim
         (λ less.
         let kept : known_at s p led.by ≤ stays q (known_at s q led.by) = omega (arith, upto, here.known led.by, less) in
@@ -155,14 +179,14 @@ module _ (s : ClockState) (latest position : ℕ) (e : Event) (order : IsInOrder
         omega (arith, there, all, here.known v))
         (λ over. let there = covers p v led over in omega (arith, there, here.known v))
         (cases_lt (clock led.by) (known_at s p led.by)))
+        (λ gone. absurd (omega (arith, upto, gone.known led.by, led.top)))
         (λ elsewhere. let there = led.follows q (omega (arith, upto, elsewhere.known led.by)) in omega (arith, there, elsewhere.known v))
-        (where-noted q)
 
     new-most : (p : ClockPlace) (u : ℕ) → known_at new p u ≤ position + 1
-    new-most p u = ⊎_elim
+    new-most p u = at-place p
         (λ here. let a = clock-most u in let b = stays-most p (known_at s p u) in let c = old-less p u in omega (arith, a, b, c, here.known u))
+        (λ gone. omega (arith, gone.known u))
         (λ elsewhere. let c = old-less p u in omega (arith, c, elsewhere.known u))
-        (where-noted p)
 
     foreign-less : (u : ℕ) → (if u == t then 0 else clock u) ≤ clock u
     foreign-less u = elim (u == t) as (λ b. (if b then 0 else clock u) ≤ clock u) [ true ↦ omega arith | false ↦ omega arith ]
@@ -171,22 +195,22 @@ module _ (s : ClockState) (latest position : ℕ) (e : Event) (order : IsInOrder
     old-foreign p u = let upto = order.foreign p u in omega (arith, upto, keeps.later)
 
     new-foreign : (p : ClockPlace) (u : ℕ) → foreign_at new p u ≤ position + 1
-    new-foreign p u = ⊎_elim
+    new-foreign p u = at-place p
         (λ here. let a = foreign-less u in let m = clock-most u in let b = stays-most p (foreign_at s p u) in let c = old-foreign p u in omega (arith, a, m, b, c, here.foreign u))
+        (λ gone. omega (arith, gone.foreign u))
         (λ elsewhere. let c = old-foreign p u in omega (arith, c, elsewhere.foreign u))
-        (where-noted p)
 
     last-upto : (p : ClockPlace) (u : ℕ) → ¬ (u ≡ t) → known_at new p u ≤ known_at s (OfLast u) u
-    last-upto p u off = ⊎_elim
+    last-upto p u off = at-place p
         (λ here. let a = clock-last u off in let b = stays-most p (known_at s p u) in let c = order.own p u in omega (arith, a, b, c, here.known u))
+        (λ gone. omega (arith, gone.known u))
         (λ elsewhere. let c = order.own p u in omega (arith, c, elsewhere.known u))
-        (where-noted p)
 
     -- a thread that is forked was unknown
     last-kept : (u : ℕ) → ¬ (u ≡ t) → known_at s (OfLast u) u ≤ known_at new (OfLast u) u
     last-kept u off = elim (is_fork_of u e) as (λ b. is_fork_of u e ≡ b → known_at s (OfLast u) u ≤ known_at new (OfLast u) u) [
       | true ↦ λ is. let none = forked-unknown s u e.kind keeps.forked is in omega (arith, none)
-      | false ↦ λ is. let same = (is_elsewhere (OfLast u) (ap (λ b. b || is_fork_of u e) (ne_eqb t u (λ at. off (sym at))) ∙ is)).known u in omega (arith, same)
+      | false ↦ λ is. let same = (is_elsewhere (OfLast u) (ap (λ b. b || is_fork_of u e) (ne_eqb t u (λ at. off (sym at))) ∙ is) refl).known u in omega (arith, same)
     ] refl
 
     new-own : (p : ClockPlace) (u : ℕ) → known_at new p u ≤ known_at new (OfLast u) u
@@ -210,10 +234,10 @@ module _ (s : ClockState) (latest position : ℕ) (e : Event) (order : IsInOrder
           let less = old-foreign p t in
           let none : (if t == t then 0 else clock t) ≡ 0 = ap (λ b. if b then 0 else clock t) (eq-eqb t t refl) in
           omega (arith, here.foreign t, here.known t, clock-own, low, less, none);
-      follows = λ q upto. ⊎_elim
+      follows = λ q upto. at-place q
           (λ there. omega (arith, there.known v, is))
-          (λ elsewhere. let less = old-less q t in absurd (omega (arith, upto, here.known t, clock-own, elsewhere.known t, less)))
-          (where-noted q);
+          (λ gone. absurd (omega (arith, upto, here.known t, clock-own, gone.known t)))
+          (λ elsewhere. let less = old-less q t in absurd (omega (arith, upto, here.known t, clock-own, elsewhere.known t, less)));
     }
 
     -- one of the reads that were known, which the event does not know
@@ -232,11 +256,12 @@ module _ (s : ClockState) (latest position : ℕ) (e : Event) (order : IsInOrder
         }
 
     led-new : (p : ClockPlace) (v : ℕ) → 0 < known_at new p v → IsLed new p v
-    led-new p v some = ⊎_elim
+    led-new p v some = at-place p
         (λ here. ⊎_elim
         (λ more. led-stays p v here more (order.closed.led p v (let low = stays-most p (known_at s p v) in omega (arith, more, low))))
         (λ over. led-here p v here (omega (arith, here.known v, over)))
         (cases_lt (clock v) (stays p (known_at s p v))))
+        (λ gone. absurd (omega (arith, some, gone.known v)))
         (λ elsewhere.
         let led = order.closed.led p v (omega (arith, some, elsewhere.known v)) in
         record {
@@ -244,7 +269,6 @@ module _ (s : ClockState) (latest position : ℕ) (e : Event) (order : IsInOrder
           top = omega (arith, led.top, elsewhere.known led.by, elsewhere.foreign led.by);
           follows = λ q upto. let there = still-follows p v led q (omega (arith, upto, elsewhere.known led.by)) in omega (arith, there, elsewhere.known v);
         })
-        (where-noted p)
 
     pub order-noted : IsInOrder (position + 1) new
     order-noted = record { closed = record { led = led-new }; known = new-most; foreign = new-foreign; own = new-own }

@@ -50,7 +50,7 @@ length-reads (k ∷ ks) [] rs = omega arith
 length-reads (k ∷ ks) (f ∷ fs) [] = omega arith
 length-reads (k ∷ ks) (f ∷ fs) (r ∷ rs) = omega (arith, length-reads ks fs rs)
 
-reads-set : (ks fs : List (List ℕ)) (rs : List ReadBy) (i : ℕ) (k f : List ℕ) (r : ReadBy) → length ks ≤ length fs → length ks ≤ length rs → reads_of (set ks i k) (set fs i f) (set rs i r) ≡ set (reads_of ks fs rs) i (read_clock k f r)
+pub reads-set : (ks fs : List (List ℕ)) (rs : List ReadBy) (i : ℕ) (k f : List ℕ) (r : ReadBy) → length ks ≤ length fs → length ks ≤ length rs → reads_of (set ks i k) (set fs i f) (set rs i r) ≡ set (reads_of ks fs rs) i (read_clock k f r)
 reads-set [] fs rs i k f r p q = refl
 reads-set (x ∷ ks) [] rs i k f r p q = absurd (omega (arith, p))
 reads-set (x ∷ ks) (y ∷ fs) [] i k f r p q = absurd (omega (arith, q))

@@ -1,5 +1,5 @@
 -- What clocks remember of a trace: how far the events at each place know each thread.
-use Rattle.std.specs.Prelude.{◌≡◌, ℕ, ◌+◌, ◌<◌, ◌≤◌, ◌||◌, ◌==◌, max, Bool, List, [], ◌∷◌, map, Some, IsTrue, IsFalse, slice_index_or, if◌then◌else◌}
+use Rattle.std.specs.Prelude.{◌≡◌, ℕ, ◌+◌, ◌<◌, ◌≤◌, ◌||◌, ◌==◌, max, Bool, false, List, [], ◌∷◌, map, Some, IsTrue, IsFalse, slice_index_or, if◌then◌else◌}
 use Rattle.velo_events.specs.declared.event.Event.{Event}
 use Rattle.velo_events.specs.declared.event.Kind.{Kind}
 use Rattle.velo_events.specs.declared.event.Kind.TheVariants.{Read, Write, Acquire, Release, Join}
@@ -15,22 +15,26 @@ IsFrom trace b i = Reaches (ConflictsInOrder trace) b i
 
 -- ---- places
 
--- The reads of a variable are one place: a write conflicts with all of them. The others have one event, the last.
+-- The reads of a variable since its last write are one place: a write conflicts with all of them, and those before the last write lead to it. The others have one event, the last.
 pub data ClockPlace : Type 0 where
   -- the last event of thread t, or its fork while it has none
   OfLast : (t : ℕ) → ClockPlace
   -- the last write of variable x
   OfWrite : (x : ℕ) → ClockPlace
-  -- all reads of variable x
+  -- the reads of variable x since its last write
   OfReads : (x : ℕ) → ClockPlace
   -- the last event of lock m
   OfLock : (m : ℕ) → ClockPlace
+
+-- no event behind position i writes variable x
+abbrev pub IsUnwrittenSince : List Event → ℕ → ℕ → Type 0
+IsUnwrittenSince trace x i = (j : ℕ) → i < j → IsFalse (passes_at trace (is_write_of x) j)
 
 -- the event at position i is one of the place
 abbrev pub IsAt : List Event → ClockPlace → ℕ → Type 0
 IsAt trace (OfLast t) i = last_at (LastOf t) trace ≡ Some i
 IsAt trace (OfWrite x) i = last_at (LastWrite x) trace ≡ Some i
-IsAt trace (OfReads x) i = IsTrue (passes_at trace (is_read_of x) i)
+IsAt trace (OfReads x) i = IsTrue (passes_at trace (is_read_of x) i) × IsUnwrittenSince trace x i
 IsAt trace (OfLock m) i = last_at (LastOn m) trace ≡ Some i
 
 -- and is not of thread u
@@ -122,6 +126,11 @@ is_noted e (OfWrite x) = is_write_of x e
 is_noted e (OfReads x) = is_read_of x e
 is_noted e (OfLock m) = is_on_lock m e
 
+-- a write takes the place of the reads before it
+abbrev pub is_cleared : Event → ClockPlace → Bool
+is_cleared e (OfReads x) = is_write_of x e
+is_cleared e _ = false
+
 -- reads add up, and the events of other places replace one another
 abbrev pub stays : ClockPlace → ℕ → ℕ
 stays (OfReads x) n = n
@@ -130,9 +139,9 @@ stays _ n = 0
 -- the event was noted at the position
 pub record IsNoted (old : ClockState) (position : ℕ) (e : Event) (new : ClockState) : Type 0 where
   pub known : (p : ClockPlace) (u : ℕ) → known_at new p u
-      ≡ (if is_noted e p then max (stays p (known_at old p u)) (clock_of old position e u) else known_at old p u)
+      ≡ (if is_noted e p then max (stays p (known_at old p u)) (clock_of old position e u) else (if is_cleared e p then 0 else known_at old p u))
   pub foreign : (p : ClockPlace) (u : ℕ) → foreign_at new p u
-      ≡ (if is_noted e p then max (stays p (foreign_at old p u)) (if u == thread_of e then 0 else clock_of old position e u) else foreign_at old p u)
+      ≡ (if is_noted e p then max (stays p (foreign_at old p u)) (if u == thread_of e then 0 else clock_of old position e u) else (if is_cleared e p then 0 else foreign_at old p u))
 
 -- nothing is known
 pub record KnowsNothing (s : ClockState) : Type 0 where

@@ -1,5 +1,5 @@
 -- What the clocks have after an event was noted, list by list. Private contracts cite these words, and public ones those of room; else public ones say it place by place.
-use Rattle.std.specs.Prelude.{◌≡◌, ℕ, ◌+◌, ◌<◌, ◌≤◌, max, List, [], ◌∷◌, length, slice_index_or, slice_set, ⊤}
+use Rattle.std.specs.Prelude.{◌≡◌, ℕ, ◌+◌, ◌<◌, ◌≤◌, max, List, [], ◌∷◌, length, replicate, slice_index_or, slice_set, ⊤}
 use Rattle.velo_events.specs.declared.event.Event.{Event}
 use Rattle.velo_tables.specs.declared.last_clocks.LastEvent.{LastEvent}
 use Rattle.velo_events.specs.declared.event.Kind.{Kind}
@@ -39,6 +39,14 @@ pub record AreLast (clocks : List (List ℕ)) (last : List LastEvent) : Type 0 w
 -- it stands there beside the others
 abbrev pub joint_at : Clock → List ℕ → ℕ → Clock
 joint_at old clock t = record { known = maxima old.known clock; foreign = slice_set (maxima old.foreign clock) t (slice_index_or old.foreign t 0) }
+
+-- what the list has room for stays, with nothing known
+abbrev pub nothing_in : List ℕ → List ℕ
+nothing_in numbers = replicate (length numbers) 0
+
+-- nothing stands there any more
+abbrev pub cleared_at : Clock → Clock
+cleared_at old = record { known = nothing_in old.known; foreign = nothing_in old.known }
 
 -- with room for the numbers of n threads
 abbrev pub with_room : ℕ → Clock → Clock
@@ -124,7 +132,7 @@ with_lock s m c = record { threads = s.threads; writes = s.writes; reads = s.rea
 -- after what the operation of thread t with this clock notes beside the last of t
 abbrev pub state_after_beside : ClockState → ℕ → Kind → List ℕ → ClockState
 state_after_beside s t (Read x v) clock = with_reads s x.0 (joint_at (clock_at s (OfReads x.0)) clock t)
-state_after_beside s t (Write x v) clock = with_write s x.0 (alone_at clock t)
+state_after_beside s t (Write x v) clock = with_reads (with_write s x.0 (alone_at clock t)) x.0 (cleared_at (clock_at s (OfReads x.0)))
 state_after_beside s t (Acquire m) clock = with_lock s m.0 (alone_at clock t)
 state_after_beside s t (Release m) clock = with_lock s m.0 (alone_at clock t)
 state_after_beside s t (Fork u) clock = with_thread s u.0 (alone_at clock t)

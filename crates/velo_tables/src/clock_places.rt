@@ -303,7 +303,10 @@ impl PlaceClocks {
         let clock = self.threads[by.0 as usize].known();
         match event.kind {
             Kind::Read(x, _) => self.reads.add(x.0 as usize, clock, by),
-            Kind::Write(x, _) => self.writes.replace(x.0 as usize, clock, by),
+            Kind::Write(x, _) => {
+                self.writes.replace(x.0 as usize, clock, by);
+                self.reads.clear(x.0 as usize);
+            }
             Kind::Acquire(m) | Kind::Release(m) => self.locks.replace(m.0 as usize, clock, by),
             Kind::Fork(u) => copy_thread(&mut self.threads, by, u, list),
             _ => {}

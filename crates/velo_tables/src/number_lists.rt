@@ -2,10 +2,10 @@ ghost use Rattle.velo_events.specs.Refusals.{GrowthRefused};
 ghost use Rattle.std.specs.Prelude.{◌≡◌, ◌<◌, ◌≤◌, ◌+◌, ◌^◌, ◌++◌, [], length, take, slice_index_or, slice_set, vec_len, vec_capacity, IsTrue, ◌↔◌, OnOk, OnErr};
 ghost use Rattle.velo_tables.specs.Readers.{filled_up};
 ghost use Rattle.velo_tables.specs.NumberLists.{list_in, with_list, blank_stretch};
-ghost use Rattle.velo_tables.specs.Noted.{maxima};
+ghost use Rattle.velo_tables.specs.Noted.{maxima, nothing_in};
 
 use crate::filling::fill_up_to;
-use crate::numbers::{copy_but, raise, raise_but};
+use crate::numbers::{clear, copy_but, raise, raise_but};
 use std::alloc::Global;
 use std::marker::Model;
 use velo_events::growth::reserve;
@@ -135,6 +135,15 @@ impl NumberLists {
             &mut self.numbers[stretch.start..stretch.start + stretch.count],
             list,
         );
+    }
+
+    /// Sets each number of the place to 0.
+    pub fn clear(&mut self, number: usize)
+        requires { number < length self.old }
+        ensures { self.new ≡ slice_set self.old number (nothing_in (slice_index_or self.old number [])) }
+    {
+        let stretch = self.stretches[number];
+        clear(&mut self.numbers[stretch.start..stretch.start + stretch.count]);
     }
 
     /// Writes another list over that of the place, but nothing for one thread.

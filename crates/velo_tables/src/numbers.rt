@@ -1,5 +1,5 @@
 ghost use Rattle.std.specs.Prelude.{◌≡◌, ◌≤◌, ◌<◌, length, slice_index_or, slice_set};
-ghost use Rattle.velo_tables.specs.Noted.{maxima};
+ghost use Rattle.velo_tables.specs.Noted.{maxima, nothing_in};
 
 use velo_events::ThreadId;
 
@@ -11,6 +11,13 @@ pub(crate) fn raise(numbers: &mut [u32], others: &[u32])
     for i in 0..others.len() {
         numbers[i] = numbers[i].max(others[i]);
     }
+}
+
+/// Sets each number to 0.
+pub(crate) fn clear(numbers: &mut [u32])
+    ensures { numbers.new ≡ nothing_in numbers.old }
+{
+    numbers.fill(0);
 }
 
 /// The thread's number, or 0 where there is none.

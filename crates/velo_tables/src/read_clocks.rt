@@ -1,7 +1,7 @@
 ghost use Rattle.velo_events.specs.Refusals.{GrowthRefused};
 ghost use Rattle.std.specs.Prelude.{◌≡◌, ◌<◌, ◌≤◌, ◌^◌, [], length, slice_index_or, slice_set, IsTrue, OnOk, OnErr};
 ghost use Rattle.velo_tables.specs.Clocks.{blank_clock};
-ghost use Rattle.velo_tables.specs.Noted.{joint_at, HasRoomAt, AreWithin, KeepNumbers};
+ghost use Rattle.velo_tables.specs.Noted.{cleared_at, joint_at, HasRoomAt, AreWithin, KeepNumbers};
 ghost use Rattle.velo_tables.specs.Order.{KnowsTops};
 
 use crate::filling::fill_up_to;
@@ -147,5 +147,19 @@ impl ReadClocks {
                 self.known.raise(number, clock);
             }
         }
+    }
+
+    /// No read stands at the place any more.
+    pub fn clear(&mut self, number: usize)
+        ensures { self.new ≡ slice_set self.old number (cleared_at (slice_index_or self.old number blank_clock)) }
+    {
+        if number >= self.read_by.len() {
+            return;
+        }
+        if let ReadBy::Nobody = self.read_by[number] {
+            return;
+        }
+        self.known.clear(number);
+        self.read_by[number] = ReadBy::Nobody;
     }
 }
