@@ -1,10 +1,10 @@
 mod growths;
 
-use crate::{Statement, WorkFault, Workload, parse, text_of};
 use std::alloc::Global;
 use std::fmt::Write;
 use std::process::Abort;
 use velo_events::{Bounds, Label, LockId, ThreadId, VarId};
+use velo_workload::{Statement, WorkFault, Workload, parse, text_of};
 
 /// Texts and their faults.
 const FIRST_FAULTS: &[(&str, Option<WorkFault>)] = &[

@@ -1,18 +1,9 @@
 //! One growth is refused, whichever it is: the call tells it, and done again it answers as it would have. Without a refusal
 //! each call is done once.
 use super::{MAIN_BODY, OTHER_BODY, PROGRAM, PROGRAM_BOUNDS, has_body};
-use crate::{WorkFault, parse};
+use crate::growths::again;
 use velo_events::ThreadId;
-
-/// What the call answers, or where a growth is refused what the same call answers then.
-macro_rules! again {
-    ($refused:pat, $call:expr) => {
-        match $call {
-            Err($refused) => $call,
-            answer => answer,
-        }
-    };
-}
+use velo_workload::{WorkFault, parse};
 
 fn are(names: &[String], wanted: &[&str]) -> bool {
     let names = names.iter().map(|name| name.as_str());

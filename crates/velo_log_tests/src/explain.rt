@@ -1,12 +1,10 @@
-mod logs;
-
-use crate::{Evidence, ExplainFault, evidence_of, explain, explain_clean, picture};
-use logs::{acquire, begin, end, fork, read, release, trace_of, write};
+use crate::words::{acquire, begin, end, fork, read, release, trace_of, write};
 use std::alloc::Global;
 use std::process::Abort;
 use std::test::Fail;
 use velo_certify::{CertFault, serial_order};
 use velo_events::{Event, Label};
+use velo_explain::{Evidence, ExplainFault, evidence_of, explain, explain_clean, picture};
 use velo_logtext::Text;
 use velo_traces::{Block, Trace};
 

@@ -4,16 +4,15 @@ ghost use Rattle.velo_logtext.specs.Text.{AreBounds};
 
 mod growths;
 
-use crate::read::read_up_to;
-use crate::{
-    Bytes, Failed, LogFault, ReaderSource, Source, Text, WriteFault, WriterSink, read_log,
-    write_all, write_log,
-};
 use std::alloc::Global;
 use std::fmt::Display;
 use std::io::{Cursor, Error, ErrorKind, Read, Write};
 use std::test::Fail;
 use velo_events::{Bounds, Event, Kind, MOST_EVENTS, ThreadId, VarId};
+use velo_logtext::{
+    Bytes, Failed, LogFault, ReaderSource, Source, Text, WriteFault, WriterSink, read_log,
+    write_all, write_log,
+};
 use velo_traces::Trace;
 
 fn fault_of(alloc: Global, text: &[u8]) -> Option<LogFault> {
@@ -134,22 +133,24 @@ const LATER_LINES: [Case; 27] = [
     ),
 ];
 
-/// Where at most two events are taken.
-const TOO_LONG: [Case; 4] = [
-    ("vlog 1 1 0 0\n0 end\n0 end\n", None),
-    ("vlog 1 1 0 0\n0 end\n0 end\n0", Some(LogFault::TooLong)),
-    ("vlog 1 1 0 0\n0 end\n0 end\n\n", Some(LogFault::TooLong)),
-    ("vlog 1 1 0 0\n0 end\nx\nx\n", Some(LogFault::BadLine(3))),
+/// How many events stand behind the header, what stands behind them, and the fault.
+const AT_THE_LIMIT: [(usize, &str, Option<LogFault>); 4] = [
+    (16_777_216, "", None),
+    (16_777_216, "0", Some(LogFault::TooLong)),
+    (16_777_216, "\n", Some(LogFault::TooLong)),
+    (16_777_215, "x\nx\n", Some(LogFault::BadLine(16_777_217))),
 ];
 
+/// The fault of a text, read in steps.
+fn fault_in_steps(alloc: Global, text: &[u8], step: usize) -> Option<LogFault> {
+    read_log(alloc, &mut Bytes::new(text).in_steps(step)).err()
+}
+
 /// The first text in which, read whole or byte by byte, something else is found.
-fn first_other<'a>(alloc: Global, cases: &[Case<'a>], limit: usize) -> Option<&'a str>
-    requires { limit ≤ MOST_EVENTS }
-{
+fn first_other<'a>(alloc: Global, cases: &[Case<'a>]) -> Option<&'a str> {
     for (text, fault) in cases {
         for step in [1, usize::MAX] {
-            let mut source = Bytes::new(text.as_bytes()).in_steps(step);
-            if read_up_to(alloc, &mut source, limit).err() != *fault {
+            if fault_in_steps(alloc, text.as_bytes(), step) != *fault {
                 return Some(*text);
             }
         }
@@ -157,18 +158,29 @@ fn first_other<'a>(alloc: Global, cases: &[Case<'a>], limit: usize) -> Option<&'
     None
 }
 
+/// A text of a header, so many events, and what stands behind them.
+fn text_of_ends(alloc: Global, count: usize, rest: &str) -> Result<Vec<u8>, Fail> {
+    let mut text = Vec::new(alloc);
+    text.extend_from_slice(b"vlog 1 1 0 0\n")?;
+    for _ in 0..count {
+        text.extend_from_slice(b"0 end\n")?;
+    }
+    text.extend_from_slice(rest.as_bytes())?;
+    Ok(text)
+}
+
 #[test]
-fn faults(rt: HostRuntime) {
-    let alloc = rt.alloc();
-    assert_eq!(rt;
-        first_other(alloc, &FIRST_LINES, MOST_EVENTS as usize),
-        None
-    );
-    assert_eq!(rt;
-        first_other(alloc, &LATER_LINES, MOST_EVENTS as usize),
-        None
-    );
-    assert_eq!(rt; first_other(alloc, &TOO_LONG, 2), None);
+fn faults(rt: HostRuntime) -> Result<(), Fail> {
+    assert_eq!(rt; first_other(rt.alloc(), &FIRST_LINES), None);
+    assert_eq!(rt; first_other(rt.alloc(), &LATER_LINES), None);
+    for (count, rest, fault) in AT_THE_LIMIT {
+        let text = text_of_ends(rt.alloc(), count, rest)?;
+        for step in [1, usize::MAX] {
+            let found = fault_in_steps(rt.alloc(), text.as_slice(), step);
+            assert_eq!(rt; found, fault, "{count} events in steps of {step}");
+        }
+    }
+    Ok(())
 }
 
 #[test]

@@ -1,22 +1,13 @@
 //! One growth is refused, whichever it is: the call tells it, and done again it answers as it would have. Without a refusal
 //! each call is done once.
-use super::logs::trace_of;
 use super::{clean, two_blocks};
-use crate::{CertFault, check_cycle, check_order, cycle_of, serial_order};
+use crate::growths::again;
+use crate::words::trace_of;
 use std::alloc::Global;
 use std::process::Abort;
+use velo_certify::{CertFault, check_cycle, check_order, cycle_of, serial_order};
 use velo_events::{Event, Memory};
 use velo_traces::Trace;
-
-/// What the call answers, or where a growth is refused what the same call answers then.
-macro_rules! again {
-    ($refused:pat, $call:expr) => {
-        match $call {
-            Err($refused) => $call,
-            answer => answer,
-        }
-    };
-}
 
 fn trace(rt: &impl Abort, alloc: Global, events: &[Event]) -> Trace {
     again!(Memory, trace_of(alloc, events)).expect(rt, "memory")

@@ -1,48 +1,6 @@
-//! Event lists that the tests share, and short words for the events in them.
-use velo_events::{Event, Kind, Label, LockId, ThreadId, VarId};
-
-fn by(thread: u8, kind: Kind) -> Event {
-    Event {
-        thread: ThreadId(thread),
-        kind,
-    }
-}
-
-pub fn read(thread: u8, variable: u16, value: u64) -> Event {
-    by(thread, Kind::Read(VarId(variable), value))
-}
-
-pub fn write(thread: u8, variable: u16, value: u64) -> Event {
-    by(thread, Kind::Write(VarId(variable), value))
-}
-
-pub fn acquire(thread: u8, lock: u16) -> Event {
-    by(thread, Kind::Acquire(LockId(lock)))
-}
-
-pub fn release(thread: u8, lock: u16) -> Event {
-    by(thread, Kind::Release(LockId(lock)))
-}
-
-pub fn begin(thread: u8, label: u32) -> Event {
-    by(thread, Kind::Begin(Label(label)))
-}
-
-pub fn end(thread: u8) -> Event {
-    by(thread, Kind::End)
-}
-
-pub fn fork(thread: u8, child: u8) -> Event {
-    by(thread, Kind::Fork(ThreadId(child)))
-}
-
-pub fn join(thread: u8, child: u8) -> Event {
-    by(thread, Kind::Join(ThreadId(child)))
-}
-
-pub fn exit(thread: u8) -> Event {
-    by(thread, Kind::Exit)
-}
+//! Logs whose transactions, edges and blame are known from outside.
+use crate::words::{acquire, begin, end, exit, fork, join, read, release, write};
+use velo_events::Event;
 
 /// Another thread writes between a block's read and its write.
 pub fn lost_update() -> [Event; 5] {

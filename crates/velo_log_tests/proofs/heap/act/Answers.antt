@@ -1,6 +1,6 @@
 use Rattle.std.proofs.Common.{sym, ◌∙◌}
 use Rattle.velo_heap.proofs.OnAdmission.{IsAdmitted-from}
-use Rattle.velo_heap.proofs.tests.act.Goals as goal
+use Rattle.velo_log_tests.proofs.heap.act.Goals as goal
 
 pub apply-requires : goal.apply-requires
 apply-requires c =

@@ -1,5 +1,5 @@
 //! Certificates judged by all pairs of positions, and traces by chance.
-use super::logs::{acquire, begin, end, exit, fork, join, read, release, trace_of, write};
+use crate::words::{acquire, begin, end, exit, fork, join, read, release, trace_of, write};
 use std::alloc::Global;
 use velo_events::{Event, Memory, conflicts};
 use velo_traces::Trace;

@@ -1,7 +1,7 @@
-use crate::{Book, Shares, Tally, gather, gather_both};
 use std::process::Abort;
 use std::test::Fail;
 use velo_events::{Event, Kind, Label, MOST_EVENTS, ThreadId, VarId};
+use velo_ledger::{Book, Shares, Tally, gather, gather_both};
 
 const X: VarId = VarId(0);
 

@@ -1,15 +1,15 @@
 mod graph;
 mod logs;
 
-use crate::{Block, Flaw, Trace, well_formed};
+use crate::words::{acquire, begin, end, exit, fork, join, read, release, trace_of, write};
 use graph::{Edge, edges_of, first_closing, owners_of, pairs_of};
-use logs::{acquire, begin, end, exit, fork, join, read, release, write};
 use smallvec::SmallVec;
 use std::alloc::Global;
 use std::mem::size_of;
 use std::process::Abort;
 use std::test::Fail;
 use velo_events::{Bounds, Event, Label, MOST_OPEN_BLOCKS, Memory, Refusal, ThreadId};
+use velo_traces::{Block, Flaw, Trace, well_formed};
 
 /// Two threads, two variables, one lock.
 const BOUNDS: Bounds = Bounds {
@@ -17,14 +17,6 @@ const BOUNDS: Bounds = Bounds {
     variables: 2,
     locks: 1,
 };
-
-fn trace_of(alloc: Global, events: &[Event]) -> Result<Trace, Memory> {
-    let mut trace = Trace::new(alloc);
-    for event in events {
-        trace.push(*event)?;
-    }
-    Ok(trace)
-}
 
 /// What is known of a log from outside.
 #[derive(Clone, Copy)]

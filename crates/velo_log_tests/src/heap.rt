@@ -2,10 +2,12 @@ ghost use Rattle.std.specs.Prelude.{◌≡◌, ◌<◌, List, IfOk};
 ghost use Rattle.velo_events.specs.declared.event.Event.{Event};
 ghost use Rattle.velo_heap.specs.Contents.{bounds_of, IsHeapOf};
 
-use crate::{Heap, Status};
 use std::alloc::Global;
 use std::test::Fail;
-use velo_events::{Action, Bounds, Config, Event, Kind, Label, LockId, Refusal, ThreadId, VarId};
+use velo_events::{
+    Action, Bounds, Config, Event, Kind, Label, LockId, Refusal, Status, ThreadId, VarId,
+};
+use velo_heap::Heap;
 
 const BOUNDS: Bounds = Bounds {
     threads: 3,

@@ -1,6 +1,6 @@
-use crate::{BadConfig, Bounds, Config, Event, Kind, MOST_OPEN_BLOCKS, Memory, Refusal};
 use std::mem::size_of;
 use std::test::Fail;
+use velo_events::{BadConfig, Bounds, Config, Event, Kind, MOST_OPEN_BLOCKS, Memory, Refusal};
 
 const REFUSALS: [(Refusal, u8, &str); 22] = [
     (Refusal::Halted, 1, "halted"),

@@ -1,7 +1,7 @@
 //! The graph of a trace and its first closing event by brute force: all pairs of events, and a search from each edge.
-use crate::Trace;
 use std::alloc::Global;
 use velo_events::{Memory, conflicts};
+use velo_traces::Trace;
 
 /// An edge between two transactions, and the later event of the pair that brings it.
 #[derive(Clone, Copy)]

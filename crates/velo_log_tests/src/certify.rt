@@ -1,13 +1,12 @@
 mod growths;
-mod logs;
 mod slow;
 
-use crate::{CertFault, check_cycle, check_order, cycle_of, serial_order};
-use logs::{begin, end, exit, fork, join, read, trace_of, write};
+use crate::words::{begin, end, exit, fork, join, read, trace_of, write};
 use slow::{is_cycle, is_serial, trace_by_chance};
 use std::alloc::Global;
 use std::process::Abort;
 use std::test::Fail;
+use velo_certify::{CertFault, check_cycle, check_order, cycle_of, serial_order};
 use velo_events::Event;
 use velo_traces::Trace;
 
