@@ -7,12 +7,13 @@ use super::{
     LOST_UPDATE, M, MAIN, OTHER, Outcome, RECORDED, X, events_at_its_end, is_alarm_at,
     lost_update_outcome, new_world, open_world, replied, two_threads,
 };
-use crate::{Closed, ReliveFault, World};
+use crate::growths::again;
 use std::alloc::Global;
 use std::process::Abort;
 use velo_events::{Action, Bounds, Config, Event, Kind, Label, Memory, Refusal, ThreadId};
 use velo_ledger::{Share, Shares, Tally};
 use velo_traces::Trace;
+use velo_world::{Closed, ReliveFault, World};
 
 #[test]
 fn a_refused_growth_of_a_new_world(rt: HostRuntime) {

@@ -1,10 +1,10 @@
-use crate::{Ending, Gate, OpenGate, live};
 use std::alloc::Global;
 use std::sync::Wait;
 use std::sync::atomic::{AtomicU64, Ordering};
 use std::thread;
 use std::thread::Threads;
 use velo_events::{Config, ThreadId, VarId};
+use velo_worker::{Ending, Gate, OpenGate, live};
 use velo_workload::parse;
 use velo_world::Closed;
 

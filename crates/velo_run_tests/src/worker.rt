@@ -1,7 +1,10 @@
-use crate::{Ending, replay};
+mod growths;
+mod live;
+
 use std::alloc::Global;
 use std::test::Fail;
 use velo_events::{Config, Event, Kind, Label, LockId, Refusal, ThreadId, VarId};
+use velo_worker::{Ending, replay};
 use velo_workload::parse;
 
 const X: VarId = VarId(0);

@@ -1,19 +1,10 @@
 //! One growth is refused, whichever it is: the call tells it, and done again it answers as it would have. Without a refusal
 //! each call is done once.
 use super::{OTHER, X, config};
-use crate::{Shared, close};
+use crate::growths::again;
 use velo_events::growth::reserve;
 use velo_events::{Memory, Refusal};
-
-/// What the call answers, or where a growth is refused what the same call answers then.
-macro_rules! again {
-    ($refused:pat, $call:expr) => {
-        match $call {
-            Err($refused) => $call,
-            answer => answer,
-        }
-    };
-}
+use velo_runtime::{Shared, close};
 
 #[test]
 fn a_refused_growth_of_a_run(rt: HostRuntime) {

@@ -2,19 +2,9 @@ ghost use Rattle.std.specs.Prelude.{◌≡◌, false, None, Some, replicate, sli
 ghost use Rattle.velo_ledger.specs.Shares.{opening_share};
 ghost use Rattle.velo_world.specs.World.{FitsLog, HoldsLiveShares, opening};
 
-/// What the call answers, or where a growth is refused what the same call answers then.
-macro_rules! again {
-    ($refused:pat, $call:expr) => {
-        match $call {
-            Err($refused) => $call,
-            answer => answer,
-        }
-    };
-}
-
 mod growths;
 
-use crate::{Alarm, ReliveFault, Reply, World};
+use crate::growths::again;
 use std::alloc::Global;
 use std::process::Abort;
 use velo_events::{
@@ -22,6 +12,7 @@ use velo_events::{
 };
 use velo_ledger::{Share, Shares};
 use velo_traces::{Block, Trace};
+use velo_world::{Alarm, ReliveFault, Reply, World};
 
 type Step = (ThreadId, Action);
 

@@ -1,7 +1,7 @@
 use Rattle.std.proofs.Common.{ap}
 use Rattle.velo_events.specs.declared.config.Bounds.{Bounds}
 use Rattle.velo_world.proofs.OnReadiness.{HoldsLiveShares-opened}
-use Rattle.velo_world.proofs.tests.open_world.Goals as goal
+use Rattle.velo_run_tests.proofs.world.open_world.Goals as goal
 
 pub returns : goal.returns
 returns g c =

@@ -1,9 +1,5 @@
 mod growths;
 
-use crate::{
-    Missing, Room, RunError, Seat, Shared, Turn, Wanted, close, comes_back, fork_in, step_in,
-    turn_in,
-};
 use std::alloc::Global;
 use std::process::Abort;
 use std::sync::Wait;
@@ -13,6 +9,10 @@ use std::thread::Threads;
 use std::time::{Clock, Duration};
 use velo_events::{
     Action, BadConfig, Bounds, Config, Kind, Label, LockId, Refusal, ThreadId, VarId,
+};
+use velo_runtime::{
+    Missing, Room, RunError, Seat, Shared, Turn, Wanted, close, comes_back, fork_in, step_in,
+    turn_in,
 };
 use velo_world::Closed;
 
@@ -293,7 +293,7 @@ fn goes(rt: &(impl Wait + Clock), shared: &Shared, seat: &mut Seat, step: Step) 
     }
 }
 
-/// The first step that does not go as it should. Then all are woken and refused, so that no test waits forever.
+/// The first step that does not go as it should. Then the run is halted, so that the other thread does not wait forever.
 fn first_wrong(
     rt: &(impl Wait + Clock),
     shared: &Shared,
@@ -303,7 +303,6 @@ fn first_wrong(
     for (at, step) in steps.iter().enumerate() {
         if !goes(rt, shared, seat, *step) {
             shared.halt(rt);
-            shared.wake_all();
             return Some(at);
         }
     }

@@ -2,24 +2,15 @@
 //! each call is done once.
 ghost use Rattle.std.specs.Prelude.{◌≡◌};
 
-use crate::{Ending, LiveFault, OpenGate, live, replay};
+use crate::growths::again;
 use std::alloc::Global;
 use std::process::Abort;
 use std::sync::Wait;
 use std::thread::Threads;
 use velo_events::{Config, Memory, Refusal, ThreadId, VarId};
+use velo_worker::{Ending, LiveFault, OpenGate, live, replay};
 use velo_workload::{WorkFault, Workload, parse};
 use velo_world::Closed;
-
-/// What the call answers, or where a growth is refused what the same call answers then.
-macro_rules! again {
-    ($refused:pat, $call:expr) => {
-        match $call {
-            Err($refused) => $call,
-            answer => answer,
-        }
-    };
-}
 
 /// Two threads that add to one variable under a lock.
 const COUNTERS: &str =
