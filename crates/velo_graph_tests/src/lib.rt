@@ -1,4 +1,5 @@
-//! Tests of the crates that keep and search the graph: they use public calls alone.
+//! Tests of `velo_rows`, `velo_arena`, `velo_graph`, `velo_collect`, `velo_merge`, `velo_tables` and `velo_blame`, through
+//! their public calls.
 #![tactic(auto)]
 
 #[cfg(test)]

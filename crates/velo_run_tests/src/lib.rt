@@ -1,4 +1,4 @@
-//! Tests of the crates that run: they use public calls alone.
+//! Tests of `velo_world`, `velo_runtime` and `velo_worker`, through their public calls.
 #![tactic(auto)]
 
 #[cfg(test)]
