@@ -1,7 +1,7 @@
 """Runs a program again and again and refuses it one growth each time: the first, the second, and so on until it meets none.
 
     python3 tools/sweep.py crates/velodrome/out/velodrome check LOG
-    python3 tools/sweep.py --tests refused_growth crates/velo_world/out/velo_world_tests
+    python3 tools/sweep.py --tests refused_growth crates/velo_run_tests/out/velo_run_tests_tests
 
 A run of the program has to end as the one without a refusal, or with status 5 and `out of memory` (for `run` also `seat lost`)
 on standard error and nothing on standard output.

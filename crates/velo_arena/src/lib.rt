@@ -6,6 +6,3 @@ mod step;
 
 pub use arena::{Arena, GraphFull};
 pub use step::{Node, Step};
-
-#[cfg(test)]
-mod tests;

@@ -27,6 +27,3 @@ pub use order::check_order;
 pub use owners::owners_of;
 pub use serial::serial_order;
 pub use witness::witness_of;
-
-#[cfg(test)]
-mod tests;

@@ -17,6 +17,3 @@ pub use event::{Action, Event, Kind, Label, LockId, Status, ThreadId, VarId, con
 pub use limits::{MOST_EVENTS, MOST_LOCKS, MOST_NODES, MOST_OPEN_BLOCKS, MOST_THREADS};
 pub use memory::Memory;
 pub use refusal::Refusal;
-
-#[cfg(test)]
-mod tests;

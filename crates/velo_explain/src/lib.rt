@@ -15,6 +15,3 @@ pub use evidence::{Blame, Evidence, evidence_of};
 pub use fault::ExplainFault;
 pub use spans::Span;
 pub use writing::{explain, explain_clean, picture};
-
-#[cfg(test)]
-mod tests;

@@ -6,6 +6,3 @@ mod standing;
 
 pub use heap::Heap;
 pub use velo_events::Status;
-
-#[cfg(test)]
-mod tests;

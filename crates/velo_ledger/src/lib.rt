@@ -5,8 +5,6 @@ mod book;
 mod share;
 mod shares;
 mod tally;
-#[cfg(test)]
-mod tests;
 
 pub use book::{Book, gather, gather_both};
 pub use share::Share;

@@ -23,6 +23,3 @@ pub use memory_sink::Text;
 pub use memory_source::Bytes;
 pub use read::read_log;
 pub use write::{put_kind, write_log};
-
-#[cfg(test)]
-mod tests;

@@ -158,8 +158,8 @@ fn read_events<S: Source>(
     }
 }
 
-/// Reads a log of at most so many events. Tests read with a limit of their own.
-pub fn read_up_to<S: Source>(
+/// Reads a log of at most so many events.
+fn read_up_to<S: Source>(
     alloc: Global,
     source: &mut S,
     limit: usize,

@@ -5,8 +5,6 @@ mod error;
 mod room;
 mod seat;
 mod shared;
-#[cfg(test)]
-mod tests;
 mod wait;
 
 pub use error::RunError;

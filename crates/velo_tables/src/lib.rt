@@ -16,6 +16,3 @@ mod variables;
 
 pub use clocks::ClockTables;
 pub use tables::{MOST_PREDECESSORS, Tables};
-
-#[cfg(test)]
-mod tests;

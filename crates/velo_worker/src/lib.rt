@@ -19,10 +19,3 @@ pub use ending::Ending;
 pub use gate::{Gate, OpenGate};
 pub use living::{LiveFault, live};
 pub use replaying::replay;
-
-#[cfg(test)]
-mod growth_tests;
-#[cfg(test)]
-mod live_tests;
-#[cfg(test)]
-mod tests;

@@ -24,6 +24,3 @@ pub use limits::{
 };
 pub use statement::Statement;
 pub use workload::{Workload, parse, text_of};
-
-#[cfg(test)]
-mod tests;

@@ -12,6 +12,3 @@ pub use closed::Closed;
 pub use relive::ReliveFault;
 pub use run::{Alarm, Reply};
 pub use world::World;
-
-#[cfg(test)]
-mod tests;

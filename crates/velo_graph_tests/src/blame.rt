@@ -1,0 +1,323 @@
+ghost use Rattle.std.specs.Prelude.{◌≡◌, ◌<◌, length, take, IfOk, OnOk, IsTrue};
+ghost use Rattle.velo_tables.specs.Noted.{IsOfThreads};
+ghost use Rattle.velo_events.specs.Graph.{HasCycle};
+
+mod growths;
+mod order;
+
+use crate::words::{acquire, begin, end, exit, fork, join, read, release, write};
+use order::has_no_cycle;
+use std::alloc::Global;
+use std::process::Abort;
+use std::test::Fail;
+use velo_blame::{Clocks, Scan, blamed};
+use velo_events::{Bounds, Config, Event, Kind, Label, MOST_OPEN_BLOCKS, Memory};
+use velo_traces::{Block, Trace, well_formed};
+
+/// Three threads, three variables, one lock.
+const BOUNDS: Bounds = Bounds {
+    threads: 3,
+    variables: 3,
+    locks: 1,
+};
+
+/// Ranks by which each transaction comes before the later ones.
+const IN_ORDER: [usize; 10] = [0, 1, 2, 3, 4, 5, 6, 7, 8, 9];
+
+/// What is known of a log from outside.
+#[derive(Clone, Copy)]
+struct Known<'a> {
+    log: &'a str,
+    events: &'a [Event],
+    position: usize,
+    /// An order of the transactions before the position that their conflicts keep.
+    ranks: &'a [usize],
+    /// The blocks that are open at the position in its thread.
+    open: &'a [Block],
+    blamed: &'a [Block],
+}
+
+fn block(first: usize, label: u32) -> Block {
+    Block {
+        first,
+        label: Label(label),
+    }
+}
+
+fn trace_of(alloc: Global, events: &[Event]) -> Result<Trace, Memory>
+    ensures { IfOk result (λ trace. trace.events ≡ events.now) }
+{
+    let mut trace = Trace::new(alloc);
+    for i in 0..events.len() {
+        trace.push(events[i])?;
+    }
+    Ok(trace)
+}
+
+/// The trace of a log whose events before the position have no cycle.
+fn checked(rt: &impl Abort, alloc: Global, known: &Known) -> Result<Trace, Memory>
+    ensures within { IfOk result (λ trace. known.now.position < length trace.events) }
+    ensures there { OnOk result (known.now.position < length known.now.events.now) }
+    ensures acyclic { IfOk result (λ trace. ¬ HasCycle (take known.now.position trace.events)) }
+{
+    if known.position >= known.events.len() {
+        panic!(rt; "no such position in {}", known.log);
+    }
+    let before = trace_of(alloc, &known.events[..known.position])?;
+    if !has_no_cycle(&before, known.ranks) {
+        panic!(rt; "a cycle too early in {}", known.log);
+    }
+    trace_of(alloc, known.events)
+}
+
+/// Whether the event's thread, and one that it forks, are among so many.
+fn is_of_threads(event: Event, threads: u8) -> bool
+    ensures { IsTrue result → IsOfThreads threads event }
+{
+    match event.kind {
+        Kind::Fork(child) => event.thread.0 < threads && child.0 < threads,
+        _ => event.thread.0 < threads,
+    }
+}
+
+/// Clocks of the events.
+fn clocks_of(rt: &impl Abort, alloc: Global, events: &[Event]) -> Result<Clocks, Fail> {
+    let config = Config::new(1, BOUNDS, 100, 10, false)?;
+    let mut clocks = Clocks::new(alloc, &config)?;
+    for i in 0..events.len() {
+        assert!(rt; i < 100);
+        assert!(rt; is_of_threads(events[i], BOUNDS.threads));
+        clocks.reserve_for(&events[i])?;
+        clocks.note(i, &events[i]);
+    }
+    Ok(clocks)
+}
+
+/// Compares what clocks answer.
+fn judge_clocks(rt: &impl Abort, alloc: Global, known: &Known) -> Result<(), Fail>
+    requires { known.now.position < length known.now.events.now }
+{
+    assert!(rt; known.open.len() <= MOST_OPEN_BLOCKS);
+    let clocks = clocks_of(rt, alloc, &known.events[..known.position])?;
+    let event = known.events[known.position];
+    let blocks = clocks.blamed(known.open, known.position, &event);
+    assert_eq!(rt; blocks.as_slice(), known.blamed, "clocks of {}", known.log);
+    Ok(())
+}
+
+/// Compares what a scan, the function and clocks answer. The scan may have been used before.
+fn judge(rt: &impl Abort, alloc: Global, scan: &mut Scan, known: &Known) -> Result<(), Fail>
+    requires { scan.old ≡ BOUNDS }
+    ensures { scan.new ≡ BOUNDS }
+{
+    let trace = checked(rt, alloc, known)?;
+    match well_formed(&trace, BOUNDS) {
+        Ok(()) => {
+            let blocks = scan.blamed(&trace, known.position);
+            assert_eq!(rt; blocks.as_slice(), known.blamed, "scan of {}", known.log);
+        }
+        Err((position, _)) => panic!(rt; "not well-formed at {position} of {}", known.log),
+    }
+    let blocks = blamed(alloc, &trace, known.position)?;
+    assert_eq!(rt; blocks.as_slice(), known.blamed, "blame of {}", known.log);
+    judge_clocks(rt, alloc, known)
+}
+
+fn judge_all(rt: &impl Abort, alloc: Global, logs: &[Known]) -> Result<(), Fail> {
+    let config = Config::new(1, BOUNDS, 100, 10, false)?;
+    let mut scan = Scan::new(alloc, &config)?;
+    for known in logs {
+        judge(rt, alloc, &mut scan, known)?;
+    }
+    Ok(())
+}
+
+#[test]
+fn updates_in_one_block(rt: HostRuntime) -> Result<(), Fail> {
+    let lost = Known {
+        log: "the lost update",
+        events: &[
+            fork(0, 1),
+            begin(0, 7),
+            read(0, 0, 0),
+            write(1, 0, 5),
+            write(0, 0, 1),
+        ],
+        position: 4,
+        ranks: &IN_ORDER,
+        open: &[block(1, 7)],
+        blamed: &[block(1, 7)],
+    };
+    let read_between = Known {
+        log: "a read between two writes",
+        events: &[
+            fork(0, 1),
+            begin(0, 1),
+            write(0, 0, 1),
+            read(1, 0, 1),
+            write(0, 0, 2),
+        ],
+        position: 4,
+        ranks: &IN_ORDER,
+        open: &[block(1, 1)],
+        blamed: &[block(1, 1)],
+    };
+    let later_events = Known {
+        log: "the lost update, with later events",
+        events: &[
+            fork(0, 1),
+            begin(0, 7),
+            read(0, 0, 0),
+            write(1, 0, 5),
+            write(0, 0, 1),
+            end(0),
+            begin(1, 1),
+            begin(0, 2),
+        ],
+        position: 4,
+        ranks: &IN_ORDER,
+        open: &[block(1, 7)],
+        blamed: &[block(1, 7)],
+    };
+    judge_all(&rt, rt.alloc(), &[lost, read_between, later_events])
+}
+
+#[test]
+fn nested_blocks(rt: HostRuntime) -> Result<(), Fail> {
+    let after = Known {
+        log: "inner block after the read",
+        events: &[
+            fork(0, 1),
+            begin(0, 1),
+            read(0, 0, 0),
+            begin(0, 2),
+            write(1, 0, 3),
+            write(0, 0, 4),
+        ],
+        position: 5,
+        ranks: &IN_ORDER,
+        open: &[block(1, 1), block(3, 2)],
+        blamed: &[block(1, 1)],
+    };
+    let before = Known {
+        log: "inner block before the read",
+        events: &[
+            fork(0, 1),
+            begin(0, 1),
+            begin(0, 2),
+            read(0, 0, 0),
+            write(1, 0, 3),
+            write(0, 0, 4),
+        ],
+        position: 5,
+        ranks: &IN_ORDER,
+        open: &[block(1, 1), block(2, 2)],
+        blamed: &[block(1, 1), block(2, 2)],
+    };
+    let ring = Known {
+        log: "three threads in a ring",
+        events: &[
+            fork(0, 1),
+            fork(0, 2),
+            begin(0, 1),
+            write(0, 0, 1),
+            begin(0, 2),
+            read(1, 0, 1),
+            write(1, 1, 1),
+            read(2, 1, 1),
+            write(2, 2, 2),
+            read(0, 2, 2),
+        ],
+        position: 9,
+        ranks: &IN_ORDER,
+        open: &[block(2, 1), block(4, 2)],
+        blamed: &[block(2, 1)],
+    };
+    judge_all(&rt, rt.alloc(), &[after, before, ring])
+}
+
+#[test]
+fn threads_and_locks(rt: HostRuntime) -> Result<(), Fail> {
+    let joined = Known {
+        log: "fork and join",
+        events: &[begin(0, 1), fork(0, 1), exit(1), join(0, 1)],
+        position: 3,
+        ranks: &IN_ORDER,
+        open: &[block(0, 1)],
+        blamed: &[block(0, 1)],
+    };
+    let lock = Known {
+        log: "a lock taken twice",
+        events: &[
+            fork(0, 1),
+            begin(0, 1),
+            acquire(0, 0),
+            read(0, 0, 0),
+            release(0, 0),
+            acquire(1, 0),
+            write(1, 0, 9),
+            release(1, 0),
+            acquire(0, 0),
+        ],
+        position: 8,
+        ranks: &IN_ORDER,
+        open: &[block(1, 1)],
+        blamed: &[block(1, 1)],
+    };
+    judge_all(&rt, rt.alloc(), &[joined, lock])
+}
+
+#[test]
+fn nobody_is_to_blame(rt: HostRuntime) -> Result<(), Fail> {
+    let crossed = Known {
+        log: "two blocks",
+        events: &[
+            fork(0, 1),
+            begin(0, 1),
+            write(0, 0, 1),
+            begin(1, 2),
+            write(1, 1, 1),
+            read(0, 1, 1),
+            read(1, 0, 1),
+        ],
+        position: 6,
+        ranks: &[0, 2, 0, 1],
+        open: &[block(3, 2)],
+        blamed: &[],
+    };
+    let no_block = Known {
+        log: "no open block",
+        events: &[fork(0, 1), write(1, 0, 5), write(0, 0, 1)],
+        position: 2,
+        ranks: &IN_ORDER,
+        open: &[],
+        blamed: &[],
+    };
+    judge_all(&rt, rt.alloc(), &[crossed, no_block])
+}
+
+/// More blocks than a well-formed trace has open, all begun before the read that another thread overwrites.
+#[test]
+fn forty_nested_blocks(rt: HostRuntime) -> Result<(), Fail> {
+    let mut events = [begin(0, 1); 43];
+    events[40] = read(0, 0, 0);
+    events[41] = write(1, 0, 3);
+    events[42] = write(0, 0, 4);
+    let mut ranks = [0; 43];
+    ranks[41] = 1;
+    let known = Known {
+        log: "forty nested blocks",
+        events: &events,
+        position: 42,
+        ranks: &ranks,
+        open: &[],
+        blamed: &[],
+    };
+    let trace = checked(&rt, rt.alloc(), &known)?;
+    let blocks = blamed(rt.alloc(), &trace, known.position)?;
+    assert_eq!(rt; blocks.len(), 40);
+    for i in 0..blocks.len() {
+        assert_eq!(rt; blocks[i], block(i, 1));
+    }
+    Ok(())
+}

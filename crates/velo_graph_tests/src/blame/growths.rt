@@ -1,0 +1,40 @@
+//! One growth is refused, whichever it is: the call tells it, and done again it answers as it would have. Without a refusal
+//! each call is done once.
+use super::{IN_ORDER, Known, block, checked};
+use crate::words::{begin, fork, read, write};
+use velo_blame::blamed;
+use velo_events::Memory;
+
+/// What the call answers, or where a growth is refused what the same call answers then.
+macro_rules! again {
+    ($refused:pat, $call:expr) => {
+        match $call {
+            Err($refused) => $call,
+            answer => answer,
+        }
+    };
+}
+
+#[test]
+fn a_refused_growth_of_blame(rt: HostRuntime) {
+    let known = Known {
+        log: "inner block before the read",
+        events: &[
+            fork(0, 1),
+            begin(0, 1),
+            begin(0, 2),
+            read(0, 0, 0),
+            write(1, 0, 3),
+            write(0, 0, 4),
+        ],
+        position: 5,
+        ranks: &IN_ORDER,
+        open: &[],
+        blamed: &[block(1, 1), block(2, 2)],
+    };
+    let trace = again!(Memory, checked(&rt, rt.alloc(), &known)).expect(&rt, "memory");
+    let blocks = again!(Memory, blamed(rt.alloc(), &trace, known.position));
+    let blocks = blocks.expect(&rt, "memory");
+    assert_eq!(rt; blocks.as_slice(), known.blamed);
+    drop((trace, blocks));
+}

@@ -1,0 +1,48 @@
+use crate::nodes::{edge, finish, open};
+use std::alloc::Global;
+use std::process::Abort;
+use std::test::Fail;
+use velo_arena::Step;
+use velo_graph::Graph;
+use velo_merge::{Placed, place};
+use velo_rows::{Ancestors, BitRow, SetRow};
+
+/// An operation goes into the one finished node that all its other live predecessors come before.
+fn operations_find_their_nodes<A: Ancestors>(rt: &impl Abort, alloc: Global) -> Result<(), Fail> {
+    let mut graph = Graph::<A>::new(alloc, 4)?;
+    let first = open(rt, &mut graph, 0);
+    let second = open(rt, &mut graph, 1);
+    let third = open(rt, &mut graph, 2);
+    let dead = Step {
+        slot: first.slot,
+        stamp: 7,
+    };
+    edge(rt, &mut graph, first, second);
+    assert_eq!(rt; place(&graph, &[]), Placed::None);
+    assert_eq!(rt; place(&graph, &[dead]), Placed::None);
+    assert_eq!(rt; place(&graph, &[second, first]), Placed::New);
+    finish(rt, &mut graph, second);
+    for steps in [
+        [second, first, dead],
+        [first, dead, second],
+        [dead, second, second],
+    ] {
+        assert_eq!(rt; place(&graph, &steps), Placed::In(second));
+    }
+    assert_eq!(rt; place(&graph, &[first]), Placed::New);
+    assert_eq!(rt; place(&graph, &[first, second, third]), Placed::New);
+    finish(rt, &mut graph, third);
+    assert_eq!(rt; place(&graph, &[first, second, third]), Placed::New);
+    assert_eq!(rt; place(&graph, &[third, dead]), Placed::In(third));
+    Ok(())
+}
+
+#[test]
+fn places_over_set_rows(rt: HostRuntime) -> Result<(), Fail> {
+    operations_find_their_nodes::<SetRow>(&rt, rt.alloc())
+}
+
+#[test]
+fn places_over_bit_rows(rt: HostRuntime) -> Result<(), Fail> {
+    operations_find_their_nodes::<BitRow>(&rt, rt.alloc())
+}

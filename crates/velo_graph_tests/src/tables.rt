@@ -1,0 +1,153 @@
+ghost use Rattle.std.specs.Prelude.{◌≡◌, ◌<◌, length};
+ghost use Rattle.velo_tables.specs.Kept.{HasItsThreads};
+ghost use Rattle.velo_tables.specs.Noted.{IsOfThreads};
+
+use std::alloc::Global;
+use std::process::Abort;
+use velo_arena::Step;
+use velo_events::{Bounds, Config, Event, Kind, Label, LockId, ThreadId, VarId};
+use velo_tables::{ClockTables, Tables};
+
+const BOUNDS: Bounds = Bounds {
+    threads: 4,
+    variables: 3,
+    locks: 2,
+};
+
+/// The tables of a run of four threads.
+fn tables_of_four(rt: &impl Abort, alloc: Global) -> Tables
+    ensures { length result.threads ≡ 4 }
+{
+    let config = Config::new(1, BOUNDS, 100, 10, false).expect(rt, "a configuration");
+    Tables::new(alloc, &config).expect(rt, "memory")
+}
+
+fn by(thread: u8, kind: Kind) -> Event
+    ensures thread { result.thread.0 ≡ thread }
+    ensures kind { result.kind ≡ kind }
+{
+    Event {
+        thread: ThreadId(thread),
+        kind,
+    }
+}
+
+fn at(stamp: u32) -> Step {
+    Step { slot: 7, stamp }
+}
+
+/// Makes room for the event and records it.
+fn note(rt: &impl Abort, tables: &mut Tables, event: Event, step: Option<Step>)
+    requires { HasItsThreads tables.old event }
+    ensures { length tables.new.threads ≡ length tables.old.threads }
+{
+    tables.reserve_for(&event).expect(rt, "memory");
+    tables.record(&event, step);
+}
+
+/// Looks at the steps that the event looks up.
+fn look(rt: &impl Abort, tables: &Tables, event: Event, steps: &[Step]) {
+    assert_eq!(rt; tables.predecessors(&event).as_slice(), steps);
+}
+
+const X: VarId = VarId(0);
+
+const Y: VarId = VarId(1);
+
+#[test]
+fn a_write_finds_every_reader(rt: HostRuntime) {
+    let mut tables = tables_of_four(&rt, rt.alloc());
+    note(&rt, &mut tables, by(0, Kind::Read(X, 0)), Some(at(1)));
+    note(&rt, &mut tables, by(2, Kind::Read(X, 0)), Some(at(2)));
+    note(&rt, &mut tables, by(1, Kind::Read(X, 0)), Some(at(3)));
+    note(&rt, &mut tables, by(1, Kind::Read(Y, 0)), Some(at(4)));
+    let write = by(3, Kind::Write(X, 5));
+    look(&rt, &tables, write, &[at(1), at(3), at(2)]);
+
+    tables.reserve_for(&write).expect(&rt, "memory");
+    look(&rt, &tables, write, &[at(1), at(3), at(2)]);
+
+    note(&rt, &mut tables, write, Some(at(5)));
+    let next = by(0, Kind::Write(X, 6));
+    look(&rt, &tables, next, &[at(1), at(5), at(1), at(3), at(2)]);
+
+    note(&rt, &mut tables, by(2, Kind::Read(X, 5)), None);
+    look(&rt, &tables, next, &[at(1), at(5), at(1), at(3)]);
+}
+
+#[test]
+fn a_fork_leads_to_the_child_and_a_join_from_it(rt: HostRuntime) {
+    let mut tables = tables_of_four(&rt, rt.alloc());
+    note(
+        &rt,
+        &mut tables,
+        by(0, Kind::Fork(ThreadId(1))),
+        Some(at(1)),
+    );
+    let first = by(1, Kind::Begin(Label(0)));
+    look(&rt, &tables, first, &[at(1)]);
+    look(&rt, &tables, by(2, Kind::End), &[]);
+
+    note(&rt, &mut tables, first, Some(at(2)));
+    look(
+        &rt,
+        &tables,
+        by(0, Kind::Join(ThreadId(1))),
+        &[at(1), at(2)],
+    );
+}
+
+#[test]
+fn a_lock_has_one_last_event(rt: HostRuntime) {
+    let mut tables = tables_of_four(&rt, rt.alloc());
+    note(
+        &rt,
+        &mut tables,
+        by(0, Kind::Acquire(LockId(1))),
+        Some(at(1)),
+    );
+    note(
+        &rt,
+        &mut tables,
+        by(0, Kind::Release(LockId(1))),
+        Some(at(2)),
+    );
+    look(&rt, &tables, by(1, Kind::Acquire(LockId(1))), &[at(2)]);
+    look(&rt, &tables, by(1, Kind::Acquire(LockId(0))), &[]);
+    assert_eq!(rt; tables.last_on(LockId(1)), Some(at(2)));
+    assert_eq!(rt; tables.last_write(X), None);
+    assert_eq!(rt; tables.last_read(X, ThreadId(3)), None);
+}
+
+/// The clocks of a run of four threads.
+fn clocks_of_four(rt: &impl Abort, alloc: Global) -> ClockTables
+    ensures { length result.threads ≡ 4 }
+{
+    let config = Config::new(1, BOUNDS, 100, 10, false).expect(rt, "a configuration");
+    ClockTables::new(alloc, &config).expect(rt, "memory")
+}
+
+/// Makes room in the clocks for the event and notes it.
+fn note_clock(rt: &impl Abort, clocks: &mut ClockTables, position: u32, event: Event)
+    requires known { IsOfThreads (length clocks.old.threads) event }
+    requires early { position < 100 }
+    ensures { length clocks.new.threads ≡ length clocks.old.threads }
+{
+    clocks.reserve_for(&event).expect(rt, "memory");
+    clocks.note(position, &event);
+}
+
+#[test]
+fn the_own_thread_is_known_through_others(rt: HostRuntime) {
+    let mut clocks = clocks_of_four(&rt, rt.alloc());
+    note_clock(&rt, &mut clocks, 0, by(0, Kind::Fork(ThreadId(1))));
+    note_clock(&rt, &mut clocks, 1, by(0, Kind::Begin(Label(1))));
+    note_clock(&rt, &mut clocks, 2, by(0, Kind::Write(X, 1)));
+    note_clock(&rt, &mut clocks, 3, by(0, Kind::Begin(Label(2))));
+    note_clock(&rt, &mut clocks, 4, by(0, Kind::Write(Y, 1)));
+    assert_eq!(rt; clocks.bound(&by(0, Kind::Write(X, 2))), 0);
+    note_clock(&rt, &mut clocks, 5, by(1, Kind::Read(X, 1)));
+    assert_eq!(rt; clocks.bound(&by(0, Kind::Write(X, 2))), 3);
+    note_clock(&rt, &mut clocks, 6, by(1, Kind::Exit));
+    assert_eq!(rt; clocks.bound(&by(0, Kind::Join(ThreadId(1)))), 3);
+}

@@ -1,0 +1,91 @@
+use std::mem::size_of;
+use std::test::Fail;
+use velo_events::{BadConfig, Bounds, Config, Event, Kind, MOST_OPEN_BLOCKS, Memory, Refusal};
+
+const REFUSALS: [(Refusal, u8, &str); 22] = [
+    (Refusal::Halted, 1, "halted"),
+    (Refusal::NotLive, 2, "thread not live"),
+    (Refusal::NoSuchVariable, 3, "no such variable"),
+    (Refusal::NoSuchLock, 4, "no such lock"),
+    (Refusal::NoSuchThread, 5, "no such thread"),
+    (Refusal::Busy, 6, "lock busy"),
+    (Refusal::AlreadyHeld, 7, "lock already held"),
+    (Refusal::NotHolder, 8, "not the holder"),
+    (Refusal::NoOpenBlock, 9, "no open block"),
+    (Refusal::TooDeep, 10, "blocks too deep"),
+    (Refusal::AlreadyForked, 11, "thread already forked"),
+    (Refusal::NotForked, 12, "thread not forked"),
+    (Refusal::NotExited, 13, "thread not exited"),
+    (Refusal::AlreadyJoined, 14, "thread already joined"),
+    (Refusal::BlockOpen, 15, "block open"),
+    (Refusal::LockHeld, 16, "lock held"),
+    (Refusal::LogFull, 17, "log full"),
+    (Refusal::GraphFull, 18, "graph full"),
+    (Refusal::Memory, 19, "out of memory"),
+    (Refusal::WouldDeadlock, 20, "would deadlock"),
+    (Refusal::RuntimeMemory, 21, "runtime out of memory"),
+    (Refusal::Foreign, 22, "foreign seat"),
+];
+
+#[test]
+fn refusals_have_their_numbers_and_texts(rt: HostRuntime) -> Result<(), Fail> {
+    for (refusal, number, text) in REFUSALS {
+        assert_eq!(rt; refusal as u8, number);
+        assert_eq!(rt; format!(in rt.alloc(); "{refusal}")?.as_str(), text);
+    }
+    assert_eq!(rt;
+        format!(in rt.alloc(); "{Memory}")?.as_str(),
+        "out of memory"
+    );
+    Ok(())
+}
+
+#[test]
+fn bad_values_have_their_numbers_and_texts(rt: HostRuntime) -> Result<(), Fail> {
+    for (bad, number, text) in [
+        (
+            BadConfig::Threads,
+            1,
+            "the number of threads is not from 1 to 64",
+        ),
+        (
+            BadConfig::Variables,
+            2,
+            "the number of variables is out of range",
+        ),
+        (BadConfig::Locks, 3, "the number of locks is above 4096"),
+        (
+            BadConfig::Events,
+            4,
+            "the limit of events is not from 1 to 16777216",
+        ),
+        (
+            BadConfig::Nodes,
+            5,
+            "the limit of nodes is not from 1 to 4096",
+        ),
+    ] {
+        assert_eq!(rt; bad as u8, number);
+        assert_eq!(rt; format!(in rt.alloc(); "{bad}")?.as_str(), text);
+    }
+    Ok(())
+}
+
+/// A configuration with the greatest values of all.
+#[test]
+fn the_limits_may_be_reached(rt: HostRuntime) {
+    let bounds = Bounds {
+        threads: 64,
+        variables: 65_535,
+        locks: 4_096,
+    };
+    let config = Config::new(0, bounds, 16_777_216, 4_096, true).expect(&rt, "in range");
+    assert_eq!(rt; config.bounds, bounds);
+    assert_eq!(rt; MOST_OPEN_BLOCKS, 32);
+}
+
+#[test]
+fn events_are_small(rt: HostRuntime) {
+    assert!(rt; size_of::<Kind>() <= 16);
+    assert!(rt; size_of::<Event>() <= 24);
+}

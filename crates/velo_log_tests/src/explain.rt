@@ -1,0 +1,193 @@
+use crate::words::{acquire, begin, end, fork, read, release, trace_of, write};
+use std::alloc::Global;
+use std::process::Abort;
+use std::test::Fail;
+use velo_certify::{CertFault, serial_order};
+use velo_events::{Event, Label};
+use velo_explain::{Evidence, ExplainFault, evidence_of, explain, explain_clean, picture};
+use velo_logtext::Text;
+use velo_traces::{Block, Trace};
+
+/// A log with its alarm, and what is to be written.
+#[derive(Clone, Copy)]
+struct Known<'a> {
+    events: &'a [Event],
+    position: usize,
+    blamed: &'a [Block],
+    text: &'a str,
+    picture: &'a str,
+}
+
+fn block(first: usize, label: u32) -> Block {
+    Block {
+        first,
+        label: Label(label),
+    }
+}
+
+/// Compares the words and the picture of an alarm with what is wanted.
+fn compare(rt: &impl Abort, alloc: Global, trace: &Trace, known: &Known) -> Result<(), Fail> {
+    assert!(rt; trace.len() < 100);
+    let evidence = evidence_of(alloc, trace, known.position, known.blamed)?;
+    let mut words = Text::new(alloc);
+    explain(alloc, trace, known.position, &evidence, &mut words)?;
+    assert_eq!(rt; words.as_slice(), known.text.as_bytes());
+    let mut drawn = Text::new(alloc).in_steps(3);
+    picture(alloc, trace, known.position, &evidence, &mut drawn)?;
+    assert_eq!(rt; drawn.as_slice(), known.picture.as_bytes());
+    Ok(())
+}
+
+#[test]
+fn alarms(rt: HostRuntime) -> Result<(), Fail> {
+    let lost_update = Known {
+        events: &[
+            fork(0, 1),
+            begin(0, 7),
+            read(0, 0, 0),
+            write(1, 0, 5),
+            write(0, 0, 1),
+        ],
+        position: 4,
+        blamed: &[block(1, 7)],
+        text: "\
+The blocks of this log cannot be serialized.
+Line 6 `0 wr 0 1` closes a cycle of 2 transactions:
+  T1: thread 0, block 7, lines 3 to 6
+  T2: thread 1, outside blocks, line 5
+Each must come before the next, and the last before the first:
+  T1 before T2: line 4 `0 rd 0 0`, then line 5 `1 wr 0 5`
+  T2 before T1: line 5 `1 wr 0 5`, then line 6 `0 wr 0 1`
+To blame in thread 0:
+  block 7, from line 3: line 5 `1 wr 0 5` must come after its begin and before line 6
+",
+        picture: "\
+digraph cycle {
+  rankdir=LR;
+  node [shape=box];
+  subgraph cluster_0 { label=\"thread 0\"; T1 [label=\"T1: block 7\\nlines 3 to 6\"]; }
+  subgraph cluster_1 { label=\"thread 1\"; T2 [label=\"T2: outside blocks\\nline 5\"]; }
+  T1 -> T2 [label=\"line 4: 0 rd 0 0\\nline 5: 1 wr 0 5\"];
+  T2 -> T1 [label=\"line 5: 1 wr 0 5\\nline 6: 0 wr 0 1\"];
+}
+",
+    };
+    let crossed = Known {
+        events: &[
+            fork(0, 1),
+            begin(0, 1),
+            write(0, 0, 1),
+            begin(1, 2),
+            write(1, 1, 1),
+            read(0, 1, 1),
+            read(1, 0, 1),
+        ],
+        position: 6,
+        blamed: &[],
+        text: "\
+The blocks of this log cannot be serialized.
+Line 8 `1 rd 0 1` closes a cycle of 2 transactions:
+  T1: thread 1, block 2, lines 5 to 8
+  T2: thread 0, block 1, lines 3 to 7
+Each must come before the next, and the last before the first:
+  T1 before T2: line 6 `1 wr 1 1`, then line 7 `0 rd 1 1`
+  T2 before T1: line 4 `0 wr 0 1`, then line 8 `1 rd 0 1`
+No block alone is to blame: each can be brought together, but not all transactions at once.
+",
+        picture: "\
+digraph cycle {
+  rankdir=LR;
+  node [shape=box];
+  subgraph cluster_1 { label=\"thread 1\"; T1 [label=\"T1: block 2\\nlines 5 to 8\"]; }
+  subgraph cluster_0 { label=\"thread 0\"; T2 [label=\"T2: block 1\\nlines 3 to 7\"]; }
+  T1 -> T2 [label=\"line 6: 1 wr 1 1\\nline 7: 0 rd 1 1\"];
+  T2 -> T1 [label=\"line 4: 0 wr 0 1\\nline 8: 1 rd 0 1\"];
+}
+",
+    };
+    let nested = Known {
+        events: &[
+            fork(0, 1),
+            begin(0, 1),
+            acquire(0, 3),
+            release(0, 3),
+            begin(0, 2),
+            acquire(1, 3),
+            release(1, 3),
+            acquire(0, 3),
+        ],
+        position: 7,
+        blamed: &[block(1, 1), block(4, 2)],
+        text: "\
+The blocks of this log cannot be serialized.
+Line 9 `0 acq 3` closes a cycle of 2 transactions:
+  T1: thread 0, block 1, lines 3 to 9
+  T2: thread 1, outside blocks, line 7
+Each must come before the next, and the last before the first:
+  T1 before T2: line 5 `0 rel 3`, then line 7 `1 acq 3`
+  T2 before T1: line 7 `1 acq 3`, then line 9 `0 acq 3`
+To blame in thread 0:
+  block 1, from line 3: line 7 `1 acq 3` must come after its begin and before line 9
+",
+        picture: "\
+digraph cycle {
+  rankdir=LR;
+  node [shape=box];
+  subgraph cluster_0 { label=\"thread 0\"; T1 [label=\"T1: block 1\\nlines 3 to 9\"]; }
+  subgraph cluster_1 { label=\"thread 1\"; T2 [label=\"T2: outside blocks\\nline 7\"]; }
+  T1 -> T2 [label=\"line 5: 0 rel 3\\nline 7: 1 acq 3\"];
+  T2 -> T1 [label=\"line 7: 1 acq 3\\nline 9: 0 acq 3\"];
+}
+",
+    };
+    for known in &[lost_update, crossed, nested] {
+        let trace = trace_of(rt.alloc(), known.events)?;
+        compare(&rt, rt.alloc(), &trace, known)?;
+    }
+    Ok(())
+}
+
+#[test]
+fn clean_log(rt: HostRuntime) -> Result<(), Fail> {
+    let events = [
+        fork(0, 1),
+        begin(0, 1),
+        write(1, 0, 2),
+        read(0, 0, 2),
+        end(0),
+    ];
+    let trace = trace_of(rt.alloc(), &events)?;
+    let mut words = Text::new(rt.alloc());
+    match serial_order(rt.alloc(), &trace) {
+        Ok(_) => explain_clean(rt.alloc(), &trace, &mut words)?,
+        Err(_) => panic!(&rt; "no serial order"),
+    }
+    let wanted = "\
+The blocks of this log can be serialized.
+Events: 5
+Transactions, which can follow one another: 3
+";
+    assert_eq!(&rt; words.as_slice(), wanted.as_bytes());
+    Ok(())
+}
+
+#[test]
+fn faults(rt: HostRuntime) -> Result<(), Fail> {
+    let events = [
+        fork(0, 1),
+        begin(0, 7),
+        read(0, 0, 0),
+        write(1, 0, 5),
+        write(0, 0, 1),
+    ];
+    let trace = trace_of(rt.alloc(), &events)?;
+    assert!(&rt; trace.len() < 100);
+    assert!(&rt; evidence_of(rt.alloc(), &trace, 3, &[]).err() == Some(CertFault::NoCycle));
+    assert!(&rt; evidence_of(rt.alloc(), &trace, 5, &[]).err() == Some(CertFault::NotThere));
+    let evidence = evidence_of(rt.alloc(), &trace, 4, &[])?;
+    let mut words = Text::new(rt.alloc()).failing_after(10);
+    let answer = explain(rt.alloc(), &trace, 4, &evidence, &mut words);
+    assert_eq!(&rt; answer, Err(ExplainFault::Write));
+    assert_eq!(&rt; words.as_slice(), b"The blocks".as_slice());
+    Ok(())
+}

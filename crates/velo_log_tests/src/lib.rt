@@ -1,0 +1,24 @@
+//! Tests of `velo_events`, `velo_traces`, `velo_logtext`, `velo_heap`, `velo_certify`, `velo_explain`, `velo_ledger` and
+//! `velo_workload`, through their public calls.
+#![tactic(auto)]
+
+#[cfg(test)]
+mod certify;
+#[cfg(test)]
+mod events;
+#[cfg(test)]
+mod explain;
+#[cfg(test)]
+mod growths;
+#[cfg(test)]
+mod heap;
+#[cfg(test)]
+mod ledger;
+#[cfg(test)]
+mod logtext;
+#[cfg(test)]
+mod traces;
+#[cfg(test)]
+mod words;
+#[cfg(test)]
+mod workload;

@@ -1,0 +1,226 @@
+mod growths;
+
+use std::alloc::Global;
+use std::fmt::Write;
+use std::process::Abort;
+use velo_events::{Bounds, Label, LockId, ThreadId, VarId};
+use velo_workload::{Statement, WorkFault, Workload, parse, text_of};
+
+/// Texts and their faults.
+const FIRST_FAULTS: &[(&str, Option<WorkFault>)] = &[
+    ("", Some(WorkFault::BadLine(0))),
+    ("# only\n\n \t \nvar x\n", Some(WorkFault::BadLine(0))),
+    ("thread main", None),
+    ("thread main\nend\n", None),
+    ("\t thread \t main # read x\n\n#\nend#end\n", None),
+    ("thread main\r\n", Some(WorkFault::BadLine(1))),
+    ("thread main\ndone", Some(WorkFault::Unmatched(2))),
+    ("done", Some(WorkFault::BadLine(1))),
+    (
+        "thread main\nrepeat 2\nread x",
+        Some(WorkFault::Unmatched(2)),
+    ),
+    (
+        "thread main\nrepeat 2\nrepeat 3\nread x\ndone",
+        Some(WorkFault::Unmatched(2)),
+    ),
+    (
+        "thread main\nrepeat 2\n\nthread",
+        Some(WorkFault::Unmatched(2)),
+    ),
+    (
+        "thread main\nrepeat 2\nthread main",
+        Some(WorkFault::Unmatched(2)),
+    ),
+    ("thread main\n\nthread", Some(WorkFault::BadLine(3))),
+    ("var x\nvar x\nthread main", Some(WorkFault::Twice(2))),
+    (
+        "lock x\nvar x\nlock x\nthread main",
+        Some(WorkFault::Twice(3)),
+    ),
+    ("thread a\nend\nthread a", Some(WorkFault::Twice(3))),
+    ("thread main\nread x", Some(WorkFault::Unknown(2))),
+    ("thread main\nread x\nlock m", Some(WorkFault::BadLine(3))),
+    ("lock x\nthread main\nread x", Some(WorkFault::Unknown(3))),
+    (
+        "thread a\nfork b\n\nthread b\njoin c",
+        Some(WorkFault::Unknown(5)),
+    ),
+    ("var x\nread x\nthread main", Some(WorkFault::BadLine(2))),
+    ("thread main\nset 18446744073709551615", None),
+    (
+        "thread main\nset 18446744073709551616",
+        Some(WorkFault::BadLine(2)),
+    ),
+    ("thread main\nadd 01", Some(WorkFault::BadLine(2))),
+    ("thread main\nadd 0", None),
+    ("thread main\nadd 1 1", Some(WorkFault::BadLine(2))),
+    ("thread main\nend 1", Some(WorkFault::BadLine(2))),
+    ("thread 1a", Some(WorkFault::BadLine(1))),
+    (
+        "thread a_1_aaaaaaaaaaaaaaaaaaaaaaaaaaaaa",
+        Some(WorkFault::BadLine(1)),
+    ),
+    ("thread a_1_aaaaaaaaaaaaaaaaaaaaaaaaaaaa", None),
+    (
+        "thread main\nrepeat 18446744073709551615\nset 1\ndone",
+        Some(WorkFault::TooMany(1)),
+    ),
+    (
+        "thread main\nrepeat 18446744073709551615\nset 1\ndone\nwait",
+        Some(WorkFault::BadLine(5)),
+    ),
+    ("\nthread main\nrepeat 8388607\nset 1\ndone\nset 1", None),
+    (
+        "\nthread main\nrepeat 8388607\nset 1\ndone\nset 1\nset 1",
+        Some(WorkFault::TooMany(2)),
+    ),
+    (
+        "thread a\nrepeat 4294967295\nrepeat 4294967295\nend\ndone\ndone\nthread",
+        Some(WorkFault::TooMany(1)),
+    ),
+    (
+        "thread a\nrepeat 0\nrepeat 18446744073709551615\nend\ndone\ndone",
+        None,
+    ),
+];
+
+fn fault_of(alloc: Global, text: &str) -> Option<WorkFault> {
+    parse(alloc, text).err()
+}
+
+/// The fault of the text in which each piece stands so many times.
+fn fault_of_pieces(rt: &impl Abort, alloc: Global, pieces: &[(usize, &str)]) -> Option<WorkFault> {
+    let mut text = String::new(alloc);
+    for (count, piece) in pieces {
+        for _ in 0..*count {
+            text.push_str(*piece).expect(rt, "memory");
+        }
+    }
+    let fault = fault_of(alloc, text.as_str());
+    drop(text);
+    fault
+}
+
+/// The fault of a text that declares so many threads.
+fn fault_of_threads(rt: &impl Abort, alloc: Global, count: usize) -> Option<WorkFault> {
+    let mut text = String::new(alloc);
+    for number in 0..count {
+        writeln!(text, "thread t{number}").expect(rt, "memory");
+    }
+    let fault = fault_of(alloc, text.as_str());
+    drop(text);
+    fault
+}
+
+#[test]
+fn first_faults(rt: HostRuntime) {
+    for (text, fault) in FIRST_FAULTS {
+        assert_eq!(rt; fault_of(rt.alloc(), *text), *fault, "{text}");
+    }
+}
+
+#[test]
+fn limits(rt: HostRuntime) {
+    for (pieces, fault) in [
+        ([(1, "thread a\n"), (8, "repeat 1\n"), (8, "done\n")], None),
+        (
+            [(1, "thread a\n"), (9, "repeat 1\n"), (9, "done\n")],
+            Some(WorkFault::TooMany(10)),
+        ),
+        (
+            [(1, "thread a\n"), (1_000_000, "end\n"), (1, "thread b\n")],
+            None,
+        ),
+        (
+            [
+                (1, "thread a\n"),
+                (1_000_000, "end\n"),
+                (1, "thread b\nend"),
+            ],
+            Some(WorkFault::TooMany(1_000_003)),
+        ),
+    ] {
+        assert_eq!(rt; fault_of_pieces(&rt, rt.alloc(), &pieces), fault);
+    }
+}
+
+#[test]
+fn threads(rt: HostRuntime) {
+    for (count, fault) in [(64, None), (65, Some(WorkFault::TooMany(65)))] {
+        assert_eq!(rt; fault_of_threads(&rt, rt.alloc(), count), fault);
+    }
+}
+
+/// A program with each statement.
+const PROGRAM: &str =
+    "var y\nvar x\nlock end # a lock\nthread main\nfork b\nbegin inc\nread x\nwrite y\n\
+        set 5\nadd 6\nbegin dec\nend\nend\njoin b\n\nthread b\nrepeat 2\nacquire end\nbegin inc\n\
+        release end\ndone";
+
+const PROGRAM_BOUNDS: Bounds = Bounds {
+    threads: 2,
+    variables: 2,
+    locks: 1,
+};
+
+const MAIN_BODY: &[Statement] = &[
+    Statement::Fork(ThreadId(1)),
+    Statement::Begin(Label(0)),
+    Statement::Read(VarId(1)),
+    Statement::Write(VarId(0)),
+    Statement::Set(5),
+    Statement::Add(6),
+    Statement::Begin(Label(1)),
+    Statement::End,
+    Statement::End,
+    Statement::Join(ThreadId(1)),
+];
+
+const OTHER_BODY: &[Statement] = &[
+    Statement::Repeat(2),
+    Statement::Acquire(LockId(0)),
+    Statement::Begin(Label(0)),
+    Statement::Release(LockId(0)),
+    Statement::Done,
+];
+
+fn has_body(workload: &Workload, thread: ThreadId, body: &[Statement]) -> bool {
+    thread.0 < workload.bounds().threads && workload.body(thread) == body
+}
+
+/// The names of the threads, and those of the labels.
+fn names_of(rt: &impl Abort, alloc: Global, workload: &Workload) -> String {
+    let threads = workload.thread_names();
+    let labels = workload.label_names();
+    format!(in alloc; "{threads:?} {labels:?}").expect(rt, "memory")
+}
+
+#[test]
+fn a_program(rt: HostRuntime) {
+    let workload = parse(rt.alloc(), PROGRAM).expect(&rt, "a program");
+    assert_eq!(rt; workload.bounds(), PROGRAM_BOUNDS);
+    assert!(rt; has_body(&workload, ThreadId(0), MAIN_BODY));
+    assert!(rt; has_body(&workload, ThreadId(1), OTHER_BODY));
+    let names = names_of(&rt, rt.alloc(), &workload);
+    drop(workload);
+    assert_eq!(rt; names.as_str(), "[\"main\", \"b\"] [\"inc\", \"dec\"]");
+}
+
+/// The fault of bytes that are no text.
+fn fault_of_bytes(bytes: &[u8]) -> Option<WorkFault> {
+    text_of(bytes).err()
+}
+
+#[test]
+fn texts(rt: HostRuntime) {
+    assert_eq!(rt; text_of(b"thread a"), Ok("thread a"));
+    assert_eq!(rt; fault_of_bytes(b"thread \xff"), Some(WorkFault::BadLine(0)));
+    for (count, fault) in [
+        (16_777_216, WorkFault::BadLine(0)),
+        (16_777_217, WorkFault::TooMany(0)),
+    ] {
+        let bytes = vec![in rt.alloc(); 255u8; count].expect(&rt, "memory");
+        assert_eq!(rt; fault_of_bytes(bytes.as_slice()), Some(fault));
+    }
+}

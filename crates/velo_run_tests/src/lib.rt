@@ -1,0 +1,11 @@
+//! Tests of `velo_world`, `velo_runtime` and `velo_worker`, through their public calls.
+#![tactic(auto)]
+
+#[cfg(test)]
+mod growths;
+#[cfg(test)]
+mod runtime;
+#[cfg(test)]
+mod worker;
+#[cfg(test)]
+mod world;

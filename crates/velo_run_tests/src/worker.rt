@@ -1,0 +1,202 @@
+mod growths;
+mod live;
+
+use std::alloc::Global;
+use std::test::Fail;
+use velo_events::{Config, Event, Kind, Label, LockId, Refusal, ThreadId, VarId};
+use velo_worker::{Ending, replay};
+use velo_workload::parse;
+
+const X: VarId = VarId(0);
+
+const M: LockId = LockId(0);
+
+const N: LockId = LockId(1);
+
+const MAIN: ThreadId = ThreadId(0);
+
+const OTHER: ThreadId = ThreadId(1);
+
+/// No thread of any of the workloads.
+const NOBODY: ThreadId = ThreadId(9);
+
+macro_rules! by {
+    ($thread:expr, $kind:expr) => {
+        Event {
+            thread: $thread,
+            kind: $kind,
+        }
+    };
+}
+
+/// A run, its log, and how it ends.
+#[derive(Clone, Copy)]
+struct Run<'a> {
+    text: &'a str,
+    schedule: &'a [ThreadId],
+    stop: bool,
+    log: &'a [Event],
+    ending: Ending,
+}
+
+/// A sum wraps, and nothing of it is an event.
+const WRAPS: &str = "var x\nthread main\nset 18446744073709551615\nwrite x\nread x\nadd 1\nwrite x";
+
+const WRAPS_LOG: [Event; 4] = [
+    by!(MAIN, Kind::Write(X, 18_446_744_073_709_551_615)),
+    by!(MAIN, Kind::Read(X, 18_446_744_073_709_551_615)),
+    by!(MAIN, Kind::Write(X, 0)),
+    by!(MAIN, Kind::Exit),
+];
+
+/// The second thread writes between the read and the write of the first one's block.
+const LOST_UPDATE: &str =
+    "var x\nthread main\nfork a\nbegin inc\nread x\nadd 1\nwrite x\nend\njoin a\nthread a\nset 5\nwrite x";
+
+const LOST_SCHEDULE: [ThreadId; 5] = [MAIN, MAIN, MAIN, OTHER, MAIN];
+
+const LOST_LOG: [Event; 9] = [
+    by!(MAIN, Kind::Fork(OTHER)),
+    by!(MAIN, Kind::Begin(Label(0))),
+    by!(MAIN, Kind::Read(X, 0)),
+    by!(OTHER, Kind::Write(X, 5)),
+    by!(MAIN, Kind::Write(X, 1)),
+    by!(MAIN, Kind::End),
+    by!(OTHER, Kind::Exit),
+    by!(MAIN, Kind::Join(OTHER)),
+    by!(MAIN, Kind::Exit),
+];
+
+/// Two locks, taken in opposite orders.
+const OPPOSITE: &str =
+    "lock m\nlock n\nthread main\nfork a\nacquire m\nacquire n\nrelease n\nrelease m\nthread a\nacquire n\nacquire m\nrelease m\nrelease n";
+
+const OPPOSITE_SCHEDULE: [ThreadId; 3] = [MAIN, MAIN, OTHER];
+
+const OPPOSITE_LOG: [Event; 3] = [
+    by!(MAIN, Kind::Fork(OTHER)),
+    by!(MAIN, Kind::Acquire(M)),
+    by!(OTHER, Kind::Acquire(N)),
+];
+
+/// A thread tries a lock that is held, and gets it at a later turn.
+const WAITS: &str =
+    "lock m\nthread main\nfork a\nacquire m\nrelease m\nthread a\nacquire m\nrelease m";
+
+const WAITS_SCHEDULE: [ThreadId; 7] = [OTHER, MAIN, MAIN, OTHER, NOBODY, OTHER, MAIN];
+
+const WAITS_LOG: [Event; 7] = [
+    by!(MAIN, Kind::Fork(OTHER)),
+    by!(MAIN, Kind::Acquire(M)),
+    by!(MAIN, Kind::Release(M)),
+    by!(MAIN, Kind::Exit),
+    by!(OTHER, Kind::Acquire(M)),
+    by!(OTHER, Kind::Release(M)),
+    by!(OTHER, Kind::Exit),
+];
+
+/// Repeats in a repeat, one of them done no time.
+const NESTED: &str =
+    "var x\nthread main\nrepeat 2\nadd 1\nrepeat 0\nwrite x\ndone\nrepeat 3\nadd 10\ndone\nwrite x\ndone";
+
+const NESTED_LOG: [Event; 3] = [
+    by!(MAIN, Kind::Write(X, 31)),
+    by!(MAIN, Kind::Write(X, 62)),
+    by!(MAIN, Kind::Exit),
+];
+
+const EXIT_LOG: [Event; 1] = [by!(MAIN, Kind::Exit)];
+
+/// Whether the run has its log and its ending.
+fn plays(alloc: Global, run: &Run<'_>) -> Result<bool, Fail> {
+    let workload = parse(alloc, run.text)?;
+    let config = Config::new(0, workload.bounds(), 100, 64, run.stop)?;
+    let (closed, ending) = replay(alloc, &workload, run.schedule, config)?;
+    Ok(closed.log().as_slice() == run.log && ending == run.ending)
+}
+
+#[test]
+fn workloads_run_by_their_schedules(rt: HostRuntime) -> Result<(), Fail> {
+    for (text, schedule, stop, log, ending) in [
+        (
+            WRAPS,
+            [].as_slice(),
+            false,
+            WRAPS_LOG.as_slice(),
+            Ending::Done,
+        ),
+        (
+            LOST_UPDATE,
+            LOST_SCHEDULE.as_slice(),
+            false,
+            LOST_LOG.as_slice(),
+            Ending::Done,
+        ),
+        (
+            LOST_UPDATE,
+            LOST_SCHEDULE.as_slice(),
+            true,
+            &LOST_LOG[..5],
+            Ending::Halted,
+        ),
+        (
+            OPPOSITE,
+            OPPOSITE_SCHEDULE.as_slice(),
+            false,
+            OPPOSITE_LOG.as_slice(),
+            Ending::Stuck,
+        ),
+        (
+            WAITS,
+            WAITS_SCHEDULE.as_slice(),
+            false,
+            WAITS_LOG.as_slice(),
+            Ending::Done,
+        ),
+        (
+            NESTED,
+            [].as_slice(),
+            false,
+            NESTED_LOG.as_slice(),
+            Ending::Done,
+        ),
+        (
+            "thread main",
+            [].as_slice(),
+            false,
+            EXIT_LOG.as_slice(),
+            Ending::Done,
+        ),
+        (
+            "thread main\nrepeat 8388607\nset 1\ndone\nset 1",
+            [].as_slice(),
+            false,
+            EXIT_LOG.as_slice(),
+            Ending::Done,
+        ),
+        (
+            "thread main\njoin main",
+            [].as_slice(),
+            false,
+            [].as_slice(),
+            Ending::Stuck,
+        ),
+        (
+            "thread main\nend",
+            [].as_slice(),
+            false,
+            [].as_slice(),
+            Ending::Refused(MAIN, Refusal::NoOpenBlock),
+        ),
+    ] {
+        let run = Run {
+            text,
+            schedule,
+            stop,
+            log,
+            ending,
+        };
+        assert!(rt; plays(rt.alloc(), &run)?, "{text}");
+    }
+    Ok(())
+}

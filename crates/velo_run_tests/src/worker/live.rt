@@ -1,0 +1,204 @@
+use std::alloc::Global;
+use std::sync::Wait;
+use std::sync::atomic::{AtomicU64, Ordering};
+use std::thread;
+use std::thread::Threads;
+use velo_events::{Config, ThreadId, VarId};
+use velo_worker::{Ending, Gate, OpenGate, live};
+use velo_workload::parse;
+use velo_world::Closed;
+
+/// Two threads add to one variable under a lock, each a thousand times.
+const COUNTERS: &str =
+    "var x\nlock m\nthread main\nfork a\nfork b\njoin a\njoin b\nthread a\nrepeat 1000\nbegin inc\nacquire m\nread x\nadd 1\nwrite x\nrelease m\nend\ndone\nthread b\nrepeat 1000\nbegin inc\nacquire m\nread x\nadd 1\nwrite x\nrelease m\nend\ndone";
+
+/// The second thread writes between the read and the write of the first one's block, if the gate has it so.
+const LOST_UPDATE: &str =
+    "var x\nthread main\nfork a\nbegin inc\nread x\nadd 1\nwrite x\nend\njoin a\nthread a\nset 5\nwrite x";
+
+/// Two locks, taken in opposite orders.
+const OPPOSITE: &str =
+    "lock m\nlock n\nthread main\nfork a\nacquire m\nacquire n\nrelease n\nrelease m\nthread a\nacquire n\nacquire m\nrelease m\nrelease n";
+
+/// A thread may pass a step only once the other thread has asked for a step of its own.
+#[derive(Clone, Copy)]
+struct Turn {
+    thread: u8,
+    step: u64,
+    awaited: u64,
+}
+
+macro_rules! turn {
+    ($thread:expr, $step:expr, $awaited:expr) => {
+        Turn {
+            thread: $thread,
+            step: $step,
+            awaited: $awaited,
+        }
+    };
+}
+
+const LOST_ORDER: [Turn; 3] = [turn!(1, 0, 3), turn!(0, 3, 1), turn!(1, 1, 4)];
+
+/// Each thread tries its second lock only once both hold their first.
+const BOTH_HOLD: [Turn; 3] = [turn!(0, 2, 1), turn!(1, 1, 2), turn!(1, 1, 2)];
+
+/// A gate that has two threads take turns.
+#[derive(Drop)]
+struct Order {
+    turns: [Turn; 3],
+    /// How many steps each thread has asked for.
+    asked: [AtomicU64; 2],
+}
+
+impl Order {
+    fn of(turns: [Turn; 3]) -> Order {
+        Order {
+            turns,
+            asked: [AtomicU64::new(0), AtomicU64::new(0)],
+        }
+    }
+
+    /// The step of the other thread that this step waits for.
+    fn awaited(&self, thread: ThreadId, step: u64) -> Option<u64> {
+        for turn in &self.turns {
+            if turn.thread == thread.0 && turn.step == step {
+                return Some(turn.awaited);
+            }
+        }
+        None
+    }
+}
+
+/// Whether the other thread asks for the step, or a later one, within a million looks.
+fn is_asked(asked: &AtomicU64, step: u64) -> bool {
+    for _ in 0..1_000_000 {
+        if asked.load(Ordering::SeqCst) > step {
+            return true;
+        }
+        thread::yield_now();
+    }
+    false
+}
+
+impl Gate for Order {
+    fn pass(&self, thread: ThreadId, step: u64) -> bool {
+        let own = usize::from(thread.0.min(1));
+        self.asked[own].store(step.saturating_add(1), Ordering::SeqCst);
+        match self.awaited(thread, step) {
+            Some(awaited) => is_asked(&self.asked[1 - own], awaited),
+            None => true,
+        }
+    }
+}
+
+/// A gate that nobody passes.
+struct ShutGate;
+
+impl Gate for ShutGate {
+    fn pass(&self, _thread: ThreadId, _step: u64) -> bool {
+        false
+    }
+}
+
+/// What a run shows at its end.
+#[derive(Clone, Copy)]
+struct Shown<'a> {
+    ending: Ending,
+    /// The position of its alarm.
+    alarm: Option<usize>,
+    /// The events of each thread.
+    counts: &'a [u64],
+    /// The value of the first variable.
+    first: Option<u64>,
+}
+
+const COUNTED: Shown = Shown {
+    ending: Ending::Done,
+    alarm: None,
+    counts: &[5, 6_001, 6_001],
+    first: Some(2_000),
+};
+
+const LOST: Shown = Shown {
+    ending: Ending::Done,
+    alarm: Some(4),
+    counts: &[7, 2],
+    first: Some(1),
+};
+
+const STUCK: Shown = Shown {
+    ending: Ending::Stuck,
+    alarm: None,
+    counts: &[2, 1],
+    first: None,
+};
+
+const GATED: Shown = Shown {
+    ending: Ending::Gated,
+    alarm: None,
+    counts: &[0, 0],
+    first: Some(0),
+};
+
+fn first_variable(closed: &Closed) -> Option<u64> {
+    if closed.bounds().variables == 0 {
+        return None;
+    }
+    Some(closed.heap().value(VarId(0)))
+}
+
+fn has_counts(closed: &Closed, counts: &[u64]) -> bool {
+    let threads = closed.bounds().threads;
+    if usize::from(threads) != counts.len() {
+        return false;
+    }
+    for thread in 0..threads {
+        if closed.tally(ThreadId(thread)).events != counts[usize::from(thread)] {
+            return false;
+        }
+    }
+    true
+}
+
+fn looks_as(closed: &Closed, shown: &Shown<'_>) -> bool {
+    has_counts(closed, shown.counts)
+        && first_variable(closed) == shown.first
+        && closed.alarm().map(|alarm| alarm.position) == shown.alarm
+}
+
+/// Whether the run of a workload shows what it should.
+fn shows<G: Gate + Sync, R: Threads + Wait + Sync>(
+    rt: &R,
+    alloc: Global,
+    text: &str,
+    gate: &G,
+    shown: &Shown<'_>,
+) -> Option<bool> {
+    let workload = parse(alloc, text).ok()?;
+    let config = Config::new(0, workload.bounds(), 20_000, 4_096, false).ok()?;
+    let (closed, ending) = live(rt, alloc, &workload, config, gate).ok()?;
+    Some(looks_as(&closed, shown) && ending == shown.ending)
+}
+
+#[test]
+fn live_runs_end_as_they_should(rt: HostRuntime) {
+    let alloc = rt.alloc();
+    assert_eq!(rt;
+        shows(&rt, alloc, COUNTERS, &OpenGate, &COUNTED),
+        Some(true)
+    );
+    assert_eq!(rt;
+        shows(&rt, alloc, LOST_UPDATE, &ShutGate, &GATED),
+        Some(true)
+    );
+    for (text, turns, shown) in [
+        (LOST_UPDATE, LOST_ORDER, LOST),
+        (OPPOSITE, BOTH_HOLD, STUCK),
+    ] {
+        assert_eq!(rt;
+            shows(&rt, alloc, text, &Order::of(turns), &shown),
+            Some(true)
+        );
+    }
+}
