@@ -1,5 +1,1 @@
-pub mod Causes
-pub mod Check
-pub mod Fate
-pub mod Faults
-pub mod Program
+pub mod Usage

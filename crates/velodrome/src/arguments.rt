@@ -1,7 +1,6 @@
 //! The words of the command line.
-ghost use Rattle.std.specs.Prelude.{◌≤◌, OnErr};
+ghost use Rattle.std.specs.Prelude.{OnErr};
 ghost use Rattle.velo_events.specs.Refusals.{GrowthRefused};
-ghost use Rattle.velo_events.specs.declared.limits.TheConstants.{MOST_EVENTS, MOST_NODES};
 
 use crate::growth::{with_arguments, with_subcommands};
 use crate::help;
@@ -9,69 +8,7 @@ use clap::{Arg, ArgAction, ArgMatches, Command, value_parser};
 use std::alloc::Global;
 use velo_events::growth::reserve;
 use velo_events::{MOST_EVENTS, MOST_NODES, Memory};
-
-/// The limits of a run.
-#[derive(Clone, Copy, Debug)]
-pub struct Limits {
-    /// The most events that the log may have.
-    pub events: u32,
-    /// The most nodes that the graph may have at one time.
-    pub nodes: u16,
-    ghost some_event: { 1 ≤ events },
-    ghost few_events: { events ≤ MOST_EVENTS },
-    ghost some_node: { 1 ≤ nodes },
-    ghost few_nodes: { nodes ≤ MOST_NODES },
-}
-
-/// What `velodrome check` was asked for.
-#[derive(Clone, Copy, Debug)]
-pub struct CheckOptions<'a> {
-    /// The path of the log, or `-`.
-    pub log: &'a str,
-    pub limits: Limits,
-    /// Whether the certificate of the verdict is written behind the report.
-    pub certificate: bool,
-}
-
-/// What a run of a workload was asked for; `velodrome run` is asked for nothing else.
-#[derive(Clone, Copy, Debug)]
-pub struct RunOptions<'a> {
-    /// The path of the workload, or `-`.
-    pub file: &'a str,
-    /// Whether the event that closes the first cycle ends the run.
-    pub stop: bool,
-    /// The path where the log is written.
-    pub log: Option<&'a str>,
-    pub limits: Limits,
-    /// Whether the certificate of the verdict is written behind the report.
-    pub certificate: bool,
-}
-
-/// What `velodrome replay` was asked for.
-#[derive(Clone, Copy, Debug)]
-pub struct ReplayOptions<'a> {
-    /// The text of the schedule.
-    pub schedule: &'a str,
-    pub run: RunOptions<'a>,
-}
-
-/// What `velodrome explain` was asked for.
-#[derive(Clone, Copy, Debug)]
-pub struct ExplainOptions<'a> {
-    /// The path of the log, or `-`.
-    pub log: &'a str,
-    /// The path where the picture of the cycle is written.
-    pub dot: Option<&'a str>,
-}
-
-/// What the words ask for.
-#[derive(Clone, Copy, Debug)]
-pub enum Request<'a> {
-    Check(CheckOptions<'a>),
-    Replay(ReplayOptions<'a>),
-    Run(RunOptions<'a>),
-    Explain(ExplainOptions<'a>),
-}
+use velo_program::{CheckOptions, ExplainOptions, Limits, ReplayOptions, Request, RunOptions};
 
 /// What an argument of a subcommand looks like.
 enum Argument {

@@ -2,26 +2,16 @@
 #![tactic(auto)]
 
 mod arguments;
-mod check;
-mod checking;
-mod explaining;
-mod fate;
-mod files;
 mod growth;
 mod help;
 mod program;
-mod reading;
-mod replaying;
-mod running;
-mod schedule;
-mod work;
 
-use crate::files::Files;
 use crate::program::{end_without_words, run};
 use std::fs::File;
 use std::io::{ErrorKind, Stdin};
 use std::process::ExitCode;
 use velo_logtext::{ReaderSource, WriterSink};
+use velo_program::Files;
 
 /// The files of the system, and the one that was opened last to be written.
 #[derive(Drop)]

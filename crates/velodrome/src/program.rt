@@ -1,16 +1,9 @@
 //! What the program does with the words of its command line, whatever its devices are.
 ghost use Rattle.std.specs.Prelude.{◌≡◌};
 ghost use Rattle.clap.specs.Values.{kind_of};
-ghost use Rattle.velodrome.specs.Causes.{AnswersWithCause};
-ghost use Rattle.velodrome.specs.Fate.{status_of_usage};
+ghost use Rattle.velodrome.specs.Usage.{status_of_usage};
 
-use crate::arguments::{Request, command, request_of};
-use crate::checking::check;
-use crate::explaining::explain_file;
-use crate::fate::{DEVICE_FAILED, Fate, end_with};
-use crate::files::Files;
-use crate::replaying::replay_file;
-use crate::running::run_file;
+use crate::arguments::{command, request_of};
 use clap::Error;
 use clap::error::ErrorKind;
 use std::alloc::Global;
@@ -21,6 +14,7 @@ use std::thread::Threads;
 use std::{fmt, io};
 use velo_events::Memory;
 use velo_logtext::{Sink, write_all};
+use velo_program::{DEVICE_FAILED, Fate, Files, do_request, end_with};
 
 /// The status of a fault of usage.
 const BAD_USAGE: u8 = 2;
@@ -43,24 +37,6 @@ impl<S: Sink> Write for TextOf<'_, S> {
 /// Writes the text of an error, in one piece.
 fn write_text<S: Sink>(error: &Error, sink: &mut S) -> fmt::Result {
     TextOf { sink }.write(error)
-}
-
-/// Does what was asked for.
-fn do_request<R: Threads + Wait + Sync, F: Files, O: Sink>(
-    rt: &R,
-    alloc: Global,
-    request: &Request,
-    files: &mut F,
-    out: &mut O,
-) -> Fate
-    ensures memory { AnswersWithCause request.now result }
-{
-    match request {
-        Request::Check(options) => check(alloc, options, files, out),
-        Request::Replay(options) => replay_file(alloc, options, files, out),
-        Request::Run(options) => run_file(rt, alloc, options, files, out),
-        Request::Explain(options) => explain_file(alloc, options, files, out),
-    }
 }
 
 /// The status of what the command line came to where there is nothing to do.

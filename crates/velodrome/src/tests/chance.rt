@@ -1,5 +1,4 @@
 //! Live runs whose threads are held up by chance.
-use crate::check::{check_run, order_or_cycle_of, write_certified};
 use std::alloc::Global;
 use std::process::Abort;
 use std::sync::Wait;
@@ -8,6 +7,7 @@ use std::thread::Threads;
 use std::time::{Clock, Duration};
 use velo_events::{Config, ThreadId};
 use velo_logtext::{Bytes, Text, write_log};
+use velo_program::{check_run, order_or_cycle_of, write_certified};
 use velo_report::Names;
 use velo_worker::{Ending, Gate, live};
 use velo_workload::parse;

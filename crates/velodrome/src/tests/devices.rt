@@ -1,6 +1,4 @@
 //! Sources and sinks that fail, and how many writes go out.
-use crate::check::{CheckFault, check_run};
-use crate::fate::{Fate, end_with};
 use crate::program::run;
 use crate::tests::{FILES, Folder, LOST_UPDATE, LOST_UPDATE_CERTIFIED, show_on};
 use std::alloc::Global;
@@ -9,6 +7,7 @@ use std::sync::Wait;
 use std::thread::Threads;
 use velo_events::{MOST_EVENTS, Refusal};
 use velo_logtext::{Bytes, LogFault, Text, WriterSink};
+use velo_program::{CheckFault, Fate, check_run, end_with};
 
 #[test]
 fn reads_fail(rt: HostRuntime) {

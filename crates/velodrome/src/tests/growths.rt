@@ -1,8 +1,8 @@
 //! One growth is refused, whichever it is: the call tells it, and done again it answers as it would have. Without a refusal
 //! each call is done once.
 use super::{LOST_UPDATE, LOST_UPDATE_CERTIFIED};
-use crate::check::{CheckFault, Verdict, check_run};
 use velo_logtext::{Bytes, LogFault, WriterSink};
+use velo_program::{CheckFault, Verdict, check_run};
 
 /// What the call answers, or where a growth is refused what the same call answers then.
 macro_rules! again {

@@ -1,7 +1,6 @@
 //! Devices that fail at each byte, texts that are cut off at each byte, and texts that were spoiled by chance.
 ghost use Rattle.std.specs.Prelude.{◌≤◌};
 
-use crate::files::Files;
 use crate::tests::slow::{Dice, first_lines};
 use crate::tests::workloads::COLLIDING;
 use crate::tests::{LOST_UPDATE, Shown, compare, show_short};
@@ -12,6 +11,7 @@ use std::test::Fail;
 use std::thread::Threads;
 use velo_events::Bounds;
 use velo_logtext::{Bytes, LogFault, Text, read_log};
+use velo_program::Files;
 use velo_traces::{Flaw, Trace, well_formed};
 
 /// One text for each path, and one file to be written, which both fail after so many bytes.

@@ -1,5 +1,4 @@
 //! Logs are checked, explained and certified.
-use crate::check::check_run;
 use crate::tests::{Folder, LOST_UPDATE, LOST_UPDATE_CERTIFIED, LOST_UPDATE_REPORT, compare, show};
 use std::alloc::Global;
 use std::process::Abort;
@@ -7,6 +6,7 @@ use std::sync::Wait;
 use std::thread::Threads;
 use velo_events::MOST_EVENTS;
 use velo_logtext::{Bytes, Text};
+use velo_program::check_run;
 
 /// Reads of one block's write by operations outside blocks.
 const MERGED: &str =

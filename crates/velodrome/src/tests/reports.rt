@@ -1,5 +1,4 @@
 //! Reports: by names, of a long log, and as the definitions have it.
-use crate::check::{Verdict, check_run, config_of, do_log};
 use crate::tests::slow::{BOUNDS, first_lines, world_by_chance};
 use crate::tests::{LOST_UPDATE, LOST_UPDATE_REPORT};
 use std::alloc::{AllocError, Global};
@@ -7,6 +6,7 @@ use std::process::Abort;
 use std::test::Fail;
 use velo_events::{Bounds, Event, Kind, Label, ThreadId, VarId};
 use velo_logtext::{Bytes, Text, read_log, write_log};
+use velo_program::{Verdict, check_run, config_of, do_log};
 use velo_report::{Names, report};
 use velo_traces::Trace;
 use velo_world::Closed;

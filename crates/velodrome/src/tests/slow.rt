@@ -1,13 +1,13 @@
 //! Logs by chance, and their reports by the definitions in the slowest way.
 ghost use Rattle.std.specs.Prelude.{◌≤◌, ◌<◌, length};
 
-use crate::check::config_of;
 use std::alloc::Global;
 use std::process::Abort;
 use std::test::Fail;
 use velo_events::{
     Action, Bounds, Label, LockId, MOST_EVENTS, MOST_NODES, Memory, ThreadId, VarId, conflicts,
 };
+use velo_program::config_of;
 use velo_traces::Trace;
 use velo_world::World;
 

@@ -1,11 +1,11 @@
 //! Workloads, replayed by schedules and run by threads.
-use crate::schedule::{MOST_TURNS, ScheduleFault, schedule_of};
 use crate::tests::{Folder, compare, show};
 use std::alloc::Global;
 use std::process::Abort;
 use std::sync::Wait;
 use std::test::Fail;
 use std::thread::Threads;
+use velo_program::{MOST_TURNS, ScheduleFault, schedule_of};
 
 /// The lost update as a workload.
 pub const COLLIDING: &str =

@@ -1,0 +1,7 @@
+use Rattle.velo_program.proofs.OnCauses.{of_checked}
+use Rattle.velo_program.proofs.checking.check_log.Goals as goal
+
+pub returns-clause-memory : goal.returns-clause-memory
+returns-clause-memory g c =
+    of_checked _ _ _ _ _ _ c.fate_of.result
+    (record { answer = c.check_run-answer.result; checks = c.check_run-answer.ensures.answer; told = c.fate_of.ensures })

@@ -1,0 +1,12 @@
+use Rattle.std.proofs.Common.{List, sym, subst}
+use Rattle.velo_events.specs.declared.event.Event.{Event}
+use Rattle.velo_events.specs.Graph.{IsClosing}
+use Rattle.velo_program.proofs.OnVerdicts.{closing_cycle}
+use Rattle.velo_program.proofs.explaining.explain_closed.Goals as goal
+
+pub unreachable-requires : goal.unreachable-requires
+unreachable-requires g c =
+    let p = c.in-Some.alarm.now.position in
+    closing_cycle c.log-log.result.now.events p
+    (subst (λ (log : List Event). IsClosing log p) (sym c.log-log.ensures.events) c.in-Some.ensures.some.closing)
+    (rw c.in-Err-NoCycle.field-0-is at c.in-Err-NoCycle.ensures.fault)

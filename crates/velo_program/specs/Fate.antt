@@ -1,0 +1,154 @@
+-- How the program ends: its status, and the line on standard error, if there is one.
+use Rattle.std.specs.Prelude.{◌≡◌, ◌⊎◌, Bool, Some, None, ℕ, ◌++◌, [], List, decimal, codes, true, false, if◌then◌else◌, nat_le, Option, Result, Ok, Err}
+use Rattle.std.specs.Io.KnownBytes.{Appends}
+use Rattle.velo_events.specs.declared.refusal.Refusal.{Refusal}
+use Rattle.velo_events.specs.declared.refusal.Refusal.TheVariants.{Halted, NotLive, NoSuchVariable, NoSuchLock, NoSuchThread, Busy, AlreadyHeld, NotHolder, NoOpenBlock, TooDeep, AlreadyForked, NotForked, NotExited, AlreadyJoined, BlockOpen, LockHeld, LogFull, GraphFull, WouldDeadlock, RuntimeMemory, Foreign}
+use Rattle.velo_events.specs.declared.refusal.Refusal.TheVariants as refusal
+use Rattle.velo_logtext.specs.declared.fault.LogFault.{LogFault}
+use Rattle.velo_logtext.specs.declared.fault.LogFault.TheVariants.{BadHeader, BadLine, Truncated, TooLong, Read}
+use Rattle.velo_logtext.specs.declared.fault.LogFault.TheVariants as log_fault
+use Rattle.velo_logtext.specs.Device.{one_more}
+use Rattle.velo_events.specs.declared.event.ThreadId.{ThreadId}
+use Rattle.velo_worker.specs.declared.ending.Ending.{Ending}
+use Rattle.velo_worker.specs.declared.ending.Ending.TheVariants as ending
+use Rattle.velo_workload.specs.declared.fault.WorkFault.{WorkFault}
+use Rattle.velo_workload.specs.declared.fault.WorkFault.TheVariants as work_fault
+use Rattle.velo_program.specs.declared.schedule.ScheduleFault.{ScheduleFault}
+use Rattle.velo_program.specs.declared.schedule.ScheduleFault.TheVariants as schedule_fault
+use Rattle.velo_program.specs.declared.check.Verdict.{Verdict}
+use Rattle.velo_program.specs.declared.check.Verdict.TheVariants as verdict
+use Rattle.velo_program.specs.declared.check.CheckFault.{CheckFault}
+use Rattle.velo_program.specs.declared.check.CheckFault.TheVariants.{Log, Refused, WrongValue, Write, Memory}
+use Rattle.velo_program.specs.declared.fate.Fate.{Fate}
+use Rattle.velo_program.specs.declared.fate.Fate.TheVariants.{Finished, Schedule, Work, Check, CannotOpen, ReadFailed, WriteFailed, Lost}
+use Rattle.velo_program.specs.declared.fate.Fate.TheVariants as fate
+
+abbrev pub number_of : Refusal → ℕ
+number_of Halted = 1
+number_of NotLive = 2
+number_of NoSuchVariable = 3
+number_of NoSuchLock = 4
+number_of NoSuchThread = 5
+number_of Busy = 6
+number_of AlreadyHeld = 7
+number_of NotHolder = 8
+number_of NoOpenBlock = 9
+number_of TooDeep = 10
+number_of AlreadyForked = 11
+number_of NotForked = 12
+number_of NotExited = 13
+number_of AlreadyJoined = 14
+number_of BlockOpen = 15
+number_of LockHeld = 16
+number_of LogFull = 17
+number_of GraphFull = 18
+number_of refusal.Memory = 19
+number_of WouldDeadlock = 20
+number_of RuntimeMemory = 21
+number_of Foreign = 22
+
+-- 2 where the log is at fault, 4 where a limit was met, 5 where memory or a device failed
+abbrev pub status_of_log : LogFault → ℕ
+status_of_log Read = 5
+status_of_log log_fault.Memory = 5
+status_of_log _ = 2
+
+abbrev pub status_of_check : CheckFault → ℕ
+status_of_check (Log fault) = status_of_log fault
+status_of_check (Refused position refusal) = if nat_le 17 (number_of refusal) then 4 else 2
+status_of_check (WrongValue position) = 2
+status_of_check Write = 5
+status_of_check Memory = 5
+
+-- 5 where memory was refused, 4 where the run could not go on; else 0 without an alarm, 3 with one
+abbrev pub status_of_end : Ending → Bool → ℕ
+status_of_end (ending.Refused thread refusal.Memory) alarm = 5
+status_of_end (ending.Refused thread RuntimeMemory) alarm = 5
+status_of_end (ending.Refused thread refused) alarm = 4
+status_of_end ending.Stuck alarm = 4
+status_of_end _ alarm = if alarm then 3 else 0
+
+abbrev pub status_of_schedule : ScheduleFault → ℕ
+status_of_schedule schedule_fault.Bad = 2
+status_of_schedule schedule_fault.Memory = 5
+
+abbrev pub status_of_work : WorkFault → ℕ
+status_of_work work_fault.Memory = 5
+status_of_work _ = 2
+
+abbrev pub status_of : Fate → ℕ
+status_of (Finished how alarm) = status_of_end how alarm
+status_of (Schedule fault) = status_of_schedule fault
+status_of (Work fault) = status_of_work fault
+status_of (Check fault) = status_of_check fault
+status_of CannotOpen = 5
+status_of ReadFailed = 5
+status_of WriteFailed = 5
+status_of fate.Memory = 5
+status_of Lost = 5
+
+abbrev pub line_of_log : LogFault → List ℕ
+line_of_log BadHeader = codes "log fault 1\n"
+line_of_log (BadLine n) = codes "log fault 2 line " ++ decimal n ++ codes "\n"
+line_of_log (Truncated n) = codes "log fault 3 line " ++ decimal n ++ codes "\n"
+line_of_log TooLong = codes "log fault 4\n"
+line_of_log Read = codes "read failed\n"
+line_of_log log_fault.Memory = codes "out of memory\n"
+
+abbrev pub line_of_check : CheckFault → List ℕ
+line_of_check (Log fault) = line_of_log fault
+line_of_check (Refused position refusal) =
+    codes "refused " ++ decimal (number_of refusal) ++ codes " at " ++ decimal position ++ codes "\n"
+line_of_check (WrongValue position) = codes "wrong value at " ++ decimal position ++ codes "\n"
+line_of_check Write = codes "write failed\n"
+line_of_check Memory = codes "out of memory\n"
+
+abbrev pub line_of_refused : ThreadId → Refusal → List ℕ
+line_of_refused thread refusal =
+    codes "refused " ++ decimal (number_of refusal) ++ codes " thread " ++ decimal thread.0 ++ codes "\n"
+
+abbrev pub line_of_end : Ending → List ℕ
+line_of_end (ending.Refused thread refusal.Memory) = codes "out of memory\n"
+line_of_end (ending.Refused thread RuntimeMemory) = codes "out of memory\n"
+line_of_end (ending.Refused thread refused) = line_of_refused thread refused
+line_of_end ending.Stuck = codes "stuck\n"
+line_of_end _ = []
+
+abbrev pub line_of_schedule : ScheduleFault → List ℕ
+line_of_schedule schedule_fault.Bad = codes "bad schedule\n"
+line_of_schedule schedule_fault.Memory = codes "out of memory\n"
+
+-- the number of the fault, and its line
+abbrev pub place_of_work : WorkFault → Option (ℕ × ℕ)
+place_of_work (work_fault.BadLine n) = Some (1, n)
+place_of_work (work_fault.Unknown n) = Some (2, n)
+place_of_work (work_fault.Twice n) = Some (3, n)
+place_of_work (work_fault.Unmatched n) = Some (4, n)
+place_of_work (work_fault.TooMany n) = Some (5, n)
+place_of_work work_fault.Memory = None
+
+abbrev pub line_of_work : Option (ℕ × ℕ) → List ℕ
+line_of_work (Some (number, n)) = codes "workload fault " ++ decimal number ++ codes " line " ++ decimal n ++ codes "\n"
+line_of_work None = codes "out of memory\n"
+
+abbrev pub line_of : Fate → List ℕ
+line_of (Finished how alarm) = line_of_end how
+line_of (Schedule fault) = line_of_schedule fault
+line_of (Work fault) = line_of_work (place_of_work fault)
+line_of (Check fault) = line_of_check fault
+line_of CannotOpen = codes "cannot open\n"
+line_of ReadFailed = codes "read failed\n"
+line_of Lost = codes "seat lost\n"
+line_of WriteFailed = codes "write failed\n"
+line_of fate.Memory = codes "out of memory\n"
+
+-- what a check came to
+abbrev pub fate_of : Result Verdict CheckFault → Fate
+fate_of (Ok verdict.Alarm) = Finished ending.Done true
+fate_of (Ok verdict.Clean) = Finished ending.Done false
+fate_of (Err fault) = Check fault
+
+-- the text went out and this is the status, or the device failed once and the status is 5
+abbrev pub Ends : ℕ → List ℕ → Option (List ℕ) → Option (List ℕ) → ℕ → ℕ → ℕ → Type 0
+Ends status text old new before after result =
+    ((result ≡ status) × Appends old new text × (after ≡ before)) ⊎ ((result ≡ 5) × (after ≡ one_more before))

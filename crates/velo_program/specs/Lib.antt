@@ -1,0 +1,5 @@
+pub mod Causes
+pub mod Check
+pub mod Fate
+pub mod Faults
+pub mod Program

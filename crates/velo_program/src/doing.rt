@@ -1,0 +1,34 @@
+//! Each command is done, whatever the files and the output are.
+ghost use Rattle.std.specs.Prelude.{◌≡◌};
+ghost use Rattle.velo_program.specs.Causes.{AnswersWithCause};
+
+use crate::checking::check;
+use crate::explaining::explain_file;
+use crate::fate::Fate;
+use crate::files::Files;
+use crate::replaying::replay_file;
+use crate::request::Request;
+use crate::running::run_file;
+use std::alloc::Global;
+use std::sync::Wait;
+use std::thread::Threads;
+use velo_logtext::Sink;
+
+/// Does what was asked for, with the report, the certificate or the words of an explanation on the sink, and answers what it
+/// came to. A run of a workload by threads of its own may wait; the other commands start no thread.
+pub fn do_request<R: Threads + Wait + Sync, F: Files, O: Sink>(
+    rt: &R,
+    alloc: Global,
+    request: &Request,
+    files: &mut F,
+    out: &mut O,
+) -> Fate
+    ensures memory { AnswersWithCause request.now result }
+{
+    match request {
+        Request::Check(options) => check(alloc, options, files, out),
+        Request::Replay(options) => replay_file(alloc, options, files, out),
+        Request::Run(options) => run_file(rt, alloc, options, files, out),
+        Request::Explain(options) => explain_file(alloc, options, files, out),
+    }
+}

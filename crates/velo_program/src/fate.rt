@@ -1,0 +1,278 @@
+//! How the program ends: its status, and the line on standard error.
+ghost use Rattle.std.specs.Prelude.{◌≡◌, ◌≤◌, ◌++◌, [], codes, decimal, length, take, IfOk, OnOk, OnErr};
+ghost use Rattle.std.specs.Io.KnownBytes.{Appends};
+ghost use Rattle.velo_logtext.specs.Device.{one_more};
+ghost use Rattle.velo_program.specs.Fate.{Ends, number_of, status_of, status_of_check, status_of_log, status_of_end, status_of_schedule, status_of_work, place_of_work, line_of, line_of_check, line_of_log, line_of_end, line_of_refused, line_of_schedule, line_of_work};
+
+use crate::check::CheckFault;
+use crate::schedule::ScheduleFault;
+use velo_events::{Refusal, ThreadId};
+use velo_logtext::{LogFault, Sink, WriteFault, put_bytes, put_number, write_all};
+use velo_worker::Ending;
+use velo_workload::WorkFault;
+
+/// Room that is enough for a line on standard error.
+const LINE_ROOM: usize = 64;
+
+/// The status where standard error can't be written.
+pub const DEVICE_FAILED: u8 = 5;
+
+/// What a run of the program came to.
+#[derive(Clone, Copy, Debug, PartialEq, Eq)]
+pub enum Fate {
+    /// It came to an end, with or without an alarm. A check is done.
+    Finished { ending: Ending, alarm: bool },
+    /// The schedule is none.
+    Schedule(ScheduleFault),
+    /// The workload is none.
+    Work(WorkFault),
+    /// The check met a fault.
+    Check(CheckFault),
+    /// A file could not be opened.
+    CannotOpen,
+    /// A file could not be read.
+    ReadFailed,
+    /// A file, a report or help could not be written.
+    WriteFailed,
+    /// A growth was refused.
+    Memory,
+    /// A seat was not given back.
+    Lost,
+}
+
+/// The number of a refusal.
+fn number_of(refusal: Refusal) -> u8
+    ensures { result ≡ number_of refusal }
+{
+    refusal as u8
+}
+
+fn status_of_log(fault: LogFault) -> u8
+    ensures { result ≡ status_of_log fault }
+{
+    match fault {
+        LogFault::BadHeader | LogFault::BadLine(_) | LogFault::Truncated(_) | LogFault::TooLong =>
+            2,
+        LogFault::Read | LogFault::Memory => 5,
+    }
+}
+
+fn status_of_check(fault: CheckFault) -> u8
+    ensures { result ≡ status_of_check fault }
+{
+    match fault {
+        CheckFault::Log(fault) => status_of_log(fault),
+        CheckFault::Refused { refusal, .. } if number_of(refusal) >= 17 => 4,
+        CheckFault::Refused { .. } | CheckFault::WrongValue { .. } => 2,
+        CheckFault::Write | CheckFault::Memory => 5,
+    }
+}
+
+fn status_of_end(ending: Ending, alarm: bool) -> u8
+    ensures { result ≡ status_of_end ending alarm }
+{
+    match ending {
+        Ending::Refused(_, Refusal::Memory | Refusal::RuntimeMemory) => 5,
+        Ending::Stuck | Ending::Refused(..) => 4,
+        Ending::Done | Ending::Halted | Ending::Gated => { if alarm { 3 } else { 0 } }
+    }
+}
+
+fn status_of_schedule(fault: ScheduleFault) -> u8
+    ensures { result ≡ status_of_schedule fault }
+{
+    match fault {
+        ScheduleFault::Bad => 2,
+        ScheduleFault::Memory => 5,
+    }
+}
+
+fn status_of_work(fault: WorkFault) -> u8
+    ensures { result ≡ status_of_work fault }
+{
+    match fault {
+        WorkFault::Memory => 5,
+        _ => 2,
+    }
+}
+
+fn status_of(fate: Fate) -> u8
+    ensures { result ≡ status_of fate }
+{
+    match fate {
+        Fate::Finished { ending, alarm } => status_of_end(ending, alarm),
+        Fate::Schedule(fault) => status_of_schedule(fault),
+        Fate::Work(fault) => status_of_work(fault),
+        Fate::Check(fault) => status_of_check(fault),
+        Fate::CannotOpen | Fate::ReadFailed | Fate::WriteFailed | Fate::Memory | Fate::Lost => 5,
+    }
+}
+
+/// Puts the line of a log's fault at the front of a buffer, and answers where it ends.
+fn put_log_fault(buffer: &mut [u8], fault: LogFault) -> usize
+    requires { 64 ≤ length buffer.old }
+    ensures text { take result buffer.new ≡ line_of_log fault }
+    ensures end { result ≤ length buffer.new }
+{
+    match fault {
+        LogFault::BadHeader => put_bytes(buffer, 0, b"log fault 1\n"),
+        LogFault::BadLine(line) => {
+            let at = put_bytes(buffer, 0, b"log fault 2 line ");
+            let at = put_number(buffer, at, line as u64);
+            put_bytes(buffer, at, b"\n")
+        }
+        LogFault::Truncated(line) => {
+            let at = put_bytes(buffer, 0, b"log fault 3 line ");
+            let at = put_number(buffer, at, line as u64);
+            put_bytes(buffer, at, b"\n")
+        }
+        LogFault::TooLong => put_bytes(buffer, 0, b"log fault 4\n"),
+        LogFault::Read => put_bytes(buffer, 0, b"read failed\n"),
+        LogFault::Memory => put_bytes(buffer, 0, b"out of memory\n"),
+    }
+}
+
+/// Puts the line of a check's fault at the front of a buffer, and answers where it ends.
+fn put_check_fault(buffer: &mut [u8], fault: CheckFault) -> usize
+    requires { 64 ≤ length buffer.old }
+    ensures text { take result buffer.new ≡ line_of_check fault }
+    ensures end { result ≤ length buffer.new }
+{
+    match fault {
+        CheckFault::Log(fault) => put_log_fault(buffer, fault),
+        CheckFault::Refused { position, refusal } => {
+            let at = put_bytes(buffer, 0, b"refused ");
+            let at = put_number(buffer, at, u64::from(number_of(refusal)));
+            let at = put_bytes(buffer, at, b" at ");
+            let at = put_number(buffer, at, position as u64);
+            put_bytes(buffer, at, b"\n")
+        }
+        CheckFault::WrongValue { position } => {
+            let at = put_bytes(buffer, 0, b"wrong value at ");
+            let at = put_number(buffer, at, position as u64);
+            put_bytes(buffer, at, b"\n")
+        }
+        CheckFault::Write => put_bytes(buffer, 0, b"write failed\n"),
+        CheckFault::Memory => put_bytes(buffer, 0, b"out of memory\n"),
+    }
+}
+
+/// Puts the line of an ending at the front of a buffer, and answers where it ends: at 0 if there is none.
+fn put_ending(buffer: &mut [u8], ending: Ending) -> usize
+    requires { 64 ≤ length buffer.old }
+    ensures text { take result buffer.new ≡ line_of_end ending }
+    ensures end { result ≤ length buffer.new }
+{
+    match ending {
+        Ending::Refused(_, Refusal::Memory | Refusal::RuntimeMemory) => {
+            put_bytes(buffer, 0, b"out of memory\n")
+        }
+        Ending::Refused(thread, refusal) => put_refused(buffer, thread, refusal),
+        Ending::Stuck => put_bytes(buffer, 0, b"stuck\n"),
+        Ending::Done | Ending::Halted | Ending::Gated => 0,
+    }
+}
+
+/// Puts the line of a refusal that ended a run at the front of a buffer, and answers where it ends.
+fn put_refused(buffer: &mut [u8], thread: ThreadId, refusal: Refusal) -> usize
+    requires { 64 ≤ length buffer.old }
+    ensures text { take result buffer.new ≡ line_of_refused thread refusal }
+    ensures end { result ≤ length buffer.new }
+{
+    let at = put_bytes(buffer, 0, b"refused ");
+    let at = put_number(buffer, at, u64::from(number_of(refusal)));
+    let at = put_bytes(buffer, at, b" thread ");
+    let at = put_number(buffer, at, u64::from(thread.0));
+    put_bytes(buffer, at, b"\n")
+}
+
+/// Puts the line of a schedule's fault at the front of a buffer, and answers where it ends.
+fn put_schedule_fault(buffer: &mut [u8], fault: ScheduleFault) -> usize
+    requires { 64 ≤ length buffer.old }
+    ensures text { take result buffer.new ≡ line_of_schedule fault }
+    ensures end { result ≤ length buffer.new }
+{
+    match fault {
+        ScheduleFault::Bad => put_bytes(buffer, 0, b"bad schedule\n"),
+        ScheduleFault::Memory => put_bytes(buffer, 0, b"out of memory\n"),
+    }
+}
+
+/// The number of a workload's fault and its line; none for want of memory.
+fn place_of_work(fault: WorkFault) -> Option<(u64, usize)>
+    ensures { result ≡ place_of_work fault }
+{
+    match fault {
+        WorkFault::BadLine(line) => Some((1, line)),
+        WorkFault::Unknown(line) => Some((2, line)),
+        WorkFault::Twice(line) => Some((3, line)),
+        WorkFault::Unmatched(line) => Some((4, line)),
+        WorkFault::TooMany(line) => Some((5, line)),
+        WorkFault::Memory => None,
+    }
+}
+
+/// Puts the line of a workload's fault at the front of a buffer, and answers where it ends.
+fn put_work_fault(buffer: &mut [u8], fault: WorkFault) -> usize
+    requires { 64 ≤ length buffer.old }
+    ensures text { take result buffer.new ≡ line_of_work (place_of_work fault) }
+    ensures end { result ≤ length buffer.new }
+{
+    match place_of_work(fault) {
+        Some((number, line)) => {
+            let at = put_bytes(buffer, 0, b"workload fault ");
+            let at = put_number(buffer, at, number);
+            let at = put_bytes(buffer, at, b" line ");
+            let at = put_number(buffer, at, line as u64);
+            put_bytes(buffer, at, b"\n")
+        }
+        None => put_bytes(buffer, 0, b"out of memory\n"),
+    }
+}
+
+/// Puts the line that tells how a run ended at the front of a buffer, and answers where it ends: at 0 if there is none.
+fn put_line(buffer: &mut [u8], fate: Fate) -> usize
+    requires { 64 ≤ length buffer.old }
+    ensures text { take result buffer.new ≡ line_of fate }
+    ensures end { result ≤ length buffer.new }
+{
+    match fate {
+        Fate::Finished { ending, .. } => put_ending(buffer, ending),
+        Fate::Schedule(fault) => put_schedule_fault(buffer, fault),
+        Fate::Work(fault) => put_work_fault(buffer, fault),
+        Fate::Check(fault) => put_check_fault(buffer, fault),
+        Fate::CannotOpen => put_bytes(buffer, 0, b"cannot open\n"),
+        Fate::ReadFailed => put_bytes(buffer, 0, b"read failed\n"),
+        Fate::Lost => put_bytes(buffer, 0, b"seat lost\n"),
+        Fate::WriteFailed => put_bytes(buffer, 0, b"write failed\n"),
+        Fate::Memory => put_bytes(buffer, 0, b"out of memory\n"),
+    }
+}
+
+/// Writes the line that tells how a run ended, if there is one, in one piece, and answers the status to end with: 0
+/// without an alarm, 3 with one, 2 where the input is at fault, 4 where a limit was met or a run got stuck, 5 where memory or
+/// a device failed.
+///
+/// # Errors
+/// `WriteFault` where the sink failed; the status is then 5. It takes no memory.
+pub fn end_line<S: Sink>(fate: &Fate, sink: &mut S) -> Result<u8, WriteFault>
+    ensures status { IfOk result (λ status. status ≡ status_of fate.now) }
+    ensures text { OnOk result (Appends (S.contents sink.old) (S.contents sink.new) (line_of fate.now)) }
+    ensures ok { OnOk result (S.failures sink.new ≡ S.failures sink.old) }
+    ensures err { OnErr result (S.failures sink.new ≡ one_more (S.failures sink.old)) }
+{
+    let mut buffer = [0u8; LINE_ROOM];
+    let end = put_line(&mut buffer, *fate);
+    write_all(sink, &buffer[..end])?;
+    Ok(status_of(*fate))
+}
+
+/// Tells how a run ended, and answers the status to end with.
+pub fn end_with<S: Sink>(fate: &Fate, sink: &mut S) -> u8
+    ensures { Ends (status_of fate.now) (line_of fate.now) (S.contents sink.old) (S.contents sink.new) (S.failures sink.old) (S.failures sink.new) result }
+{
+    match end_line(fate, sink) {
+        Ok(status) => status,
+        Err(WriteFault) => DEVICE_FAILED,
+    }
+}

@@ -1,0 +1,53 @@
+//! `velodrome run`.
+ghost use Rattle.std.specs.Prelude.{◌≡◌};
+ghost use Rattle.velo_program.specs.Causes.{ComesWithCause};
+
+use crate::fate::Fate;
+use crate::files::Files;
+use crate::request::RunOptions;
+use crate::work::{config_of_run, finish_run, open_workload};
+use std::alloc::Global;
+use std::sync::Wait;
+use std::thread::Threads;
+use velo_logtext::Sink;
+use velo_worker::{LiveFault, OpenGate, live};
+use velo_workload::Workload;
+
+/// Runs a workload by threads of its own, and writes what the run shows.
+fn run_workload<R: Threads + Wait + Sync, F: Files, O: Sink>(
+    rt: &R,
+    alloc: Global,
+    workload: &Workload,
+    options: &RunOptions,
+    files: &mut F,
+    out: &mut O,
+) -> Fate
+    ensures memory { ComesWithCause result }
+{
+    let config = config_of_run(workload, options);
+    match live(rt, alloc, workload, config, &OpenGate) {
+        Ok(ended) => finish_run(alloc, workload, ended, options, files, out),
+        Err(LiveFault::Memory) => Fate::Memory,
+        Err(LiveFault::Lost) => Fate::Lost,
+    }
+}
+
+/// Runs the workload that was asked for, and writes what the run shows.
+pub fn run_file<R: Threads + Wait + Sync, F: Files, O: Sink>(
+    rt: &R,
+    alloc: Global,
+    options: &RunOptions,
+    files: &mut F,
+    out: &mut O,
+) -> Fate
+    ensures memory { ComesWithCause result }
+{
+    match open_workload(alloc, options.file, files) {
+        Ok(workload) => {
+            let fate = run_workload(rt, alloc, &workload, options, files, out);
+            drop(workload);
+            fate
+        }
+        Err(fate) => fate,
+    }
+}

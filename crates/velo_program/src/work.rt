@@ -1,0 +1,193 @@
+//! Workloads that run: where they are read, and what their runs show.
+ghost use Rattle.std.specs.Prelude.{◌≡◌, Err, IfErr};
+ghost use Rattle.velo_events.specs.Refusals.{GrowthRefused};
+ghost use Rattle.velo_program.specs.declared.check.CheckFault.TheVariants as check_fault;
+ghost use Rattle.velo_program.specs.Causes.{Fails, TellsEnding};
+
+use crate::check::{CheckFault, Verdict, order_or_cycle_of, write_certified, write_report};
+use crate::fate::Fate;
+use crate::files::{Files, is_standard_input};
+use crate::reading::{ReadFault, read_whole};
+use crate::request::RunOptions;
+use std::alloc::Global;
+use velo_events::{Config, Memory, Refusal};
+use velo_logtext::{Sink, Source, WriteFault, write_log};
+use velo_report::Names;
+use velo_worker::Ending;
+use velo_workload::{MOST_WORKLOAD_BYTES, Workload, parse, text_of};
+use velo_world::Closed;
+
+/// Reads a workload from a source.
+fn read_workload<I: Source>(alloc: Global, source: &mut I) -> Result<Workload, Fate>
+    ensures memory { IfErr result Fails }
+{
+    match read_whole(alloc, source, MOST_WORKLOAD_BYTES) {
+        Ok(bytes) => {
+            let workload = workload_of(alloc, &bytes);
+            drop(bytes);
+            workload
+        }
+        Err(ReadFault::Failed) => Err(Fate::ReadFailed),
+        Err(ReadFault::Memory) => Err(Fate::Memory),
+    }
+}
+
+/// The workload of a file's bytes.
+fn workload_of(alloc: Global, bytes: &[u8]) -> Result<Workload, Fate>
+    ensures memory { IfErr result Fails }
+{
+    let text = match text_of(bytes) {
+        Ok(text) => text,
+        Err(fault) => return Err(Fate::Work(fault)),
+    };
+    match parse(alloc, text) {
+        Ok(workload) => Ok(workload),
+        Err(fault) => Err(Fate::Work(fault)),
+    }
+}
+
+/// Reads the workload that was asked for.
+pub fn open_workload<F: Files>(alloc: Global, path: &str, files: &F) -> Result<Workload, Fate>
+    ensures memory { IfErr result Fails }
+{
+    if is_standard_input(path) {
+        return read_workload(alloc, &mut files.standard_input());
+    }
+    match files.open(path) {
+        Some(mut file) => read_workload(alloc, &mut file),
+        None => Err(Fate::CannotOpen),
+    }
+}
+
+/// The configuration of a run of the workload.
+pub fn config_of_run(workload: &Workload, options: &RunOptions) -> Config
+    ensures bounds { result.bounds ≡ workload.now.bounds }
+    ensures events { result.events ≡ options.now.limits.events }
+    ensures nodes { result.nodes ≡ options.now.limits.nodes }
+    ensures stop { result.stop ≡ options.now.stop }
+{
+    let limits = options.limits;
+    match Config::new(
+        0,
+        workload.bounds(),
+        limits.events,
+        limits.nodes,
+        options.stop,
+    ) {
+        Ok(config) => config,
+        Err(_) => unreachable!(),
+    }
+}
+
+/// Whether a run that ends so has no report: a growth was refused.
+fn is_unreported(ending: Ending) -> bool {
+    matches!(
+        ending,
+        Ending::Refused(_, Refusal::Memory | Refusal::RuntimeMemory)
+    )
+}
+
+/// Writes the log of a run to the path, if there is one.
+fn write_out<F: Files>(closed: &Closed, path: Option<&str>, files: &mut F) -> Result<(), Fate>
+    ensures memory { IfErr result Fails }
+{
+    let Some(path) = path else {
+        return Ok(());
+    };
+    let Some(file) = files.create(path) else {
+        return Err(Fate::CannotOpen);
+    };
+    match write_log(closed.bounds(), closed.log(), file) {
+        Ok(()) => Ok(()),
+        Err(WriteFault) => Err(Fate::WriteFailed),
+    }
+}
+
+/// What the verdict of a run came to, by what writing it answered.
+fn fate_of(answer: Result<Verdict, CheckFault>, ending: Ending) -> Fate
+    requires { answer ≡ Err check_fault.Memory → GrowthRefused }
+    ensures memory { TellsEnding ending result }
+{
+    match answer {
+        Ok(verdict) => Fate::Finished {
+            ending,
+            alarm: verdict == Verdict::Alarm,
+        },
+        Err(CheckFault::Memory) => Fate::Memory,
+        Err(_) => Fate::WriteFailed,
+    }
+}
+
+/// Writes what a run shows: its log to the path, if there is one, then the report, then the certificate, if that was asked
+/// for. The certificate is made before anything is opened.
+fn tell<F: Files, O: Sink>(
+    alloc: Global,
+    closed: &Closed,
+    ending: Ending,
+    names: &Names,
+    options: &RunOptions,
+    files: &mut F,
+    out: &mut O,
+) -> Fate
+    ensures memory { TellsEnding ending result }
+{
+    if !options.certificate {
+        return match write_out(closed, options.log, files) {
+            Ok(()) => fate_of(write_report(closed, names, out), ending),
+            Err(fate) => fate,
+        };
+    }
+    match order_or_cycle_of(alloc, closed) {
+        Ok(list) => {
+            let fate = match write_out(closed, options.log, files) {
+                Ok(()) => fate_of(write_certified(closed, names, &list, out), ending),
+                Err(fate) => fate,
+            };
+            drop(list);
+            fate
+        }
+        Err(Memory) => Fate::Memory,
+    }
+}
+
+/// Writes what a run of a workload shows, and lets go of it.
+pub fn finish_run<F: Files, O: Sink>(
+    alloc: Global,
+    workload: &Workload,
+    ended: (Closed, Ending),
+    options: &RunOptions,
+    files: &mut F,
+    out: &mut O,
+) -> Fate
+    ensures memory { TellsEnding ended.1 result }
+{
+    let (closed, ending) = ended;
+    let fate = show_run(alloc, workload, &closed, ending, options, files, out);
+    drop(closed);
+    fate
+}
+
+/// Writes what a run of a workload shows, by its names. A run in which a growth was refused has no report.
+fn show_run<F: Files, O: Sink>(
+    alloc: Global,
+    workload: &Workload,
+    closed: &Closed,
+    ending: Ending,
+    options: &RunOptions,
+    files: &mut F,
+    out: &mut O,
+) -> Fate
+    ensures memory { TellsEnding ending result }
+{
+    if is_unreported(ending) {
+        return Fate::Finished {
+            ending,
+            alarm: false,
+        };
+    }
+    let names = Names::Words {
+        threads: workload.thread_names(),
+        labels: workload.label_names(),
+    };
+    tell(alloc, closed, ending, &names, options, files, out)
+}
