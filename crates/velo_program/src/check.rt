@@ -54,7 +54,12 @@ fn fault_of(fault: ReliveFault) -> CheckFault
     }
 }
 
-/// The world of a log, all of whose events came about again in it, after its end. The log becomes the world's.
+/// The world of a log, all of whose events came about again in it, after its end. The log becomes the world's. The
+/// configuration has to go on after an alarm.
+///
+/// # Errors
+/// `Refused` or `WrongValue` at the first event that can't come about, by the rule of `check_run`; `Memory` where a growth was
+/// refused.
 pub fn do_log(alloc: Global, config: Config, log: Trace) -> Result<Closed, CheckFault>
     requires goes_on { config.stop ≡ false }
     ensures ok { IfOk result (λ closed. closed ≡ world_of config log.events) }
@@ -75,7 +80,8 @@ pub fn do_log(alloc: Global, config: Config, log: Trace) -> Result<Closed, Check
     }
 }
 
-/// The configuration of a check: it goes on after an alarm.
+/// The configuration of a check, which goes on after an alarm: the bounds of the log, the most events that it may have, 1 to
+/// 16,777,216, and the most nodes that the graph may have at one time, 1 to 4,096.
 pub fn config_of(bounds: Bounds, events: u32, nodes: u16) -> Config
     requires bounds { AreBounds bounds }
     requires events { (1 ≤ events) × (events ≤ MOST_EVENTS) }
@@ -144,7 +150,10 @@ fn cycle_at(alloc: Global, log: &Trace, position: usize) -> Result<Vec<usize>, M
     }
 }
 
-/// What certifies the verdict of a closed world.
+/// What certifies the verdict of a closed world: the serial order of its log, or with an alarm a shortest cycle at its position.
+///
+/// # Errors
+/// `Memory` where a growth was refused.
 pub fn order_or_cycle_of(alloc: Global, closed: &Closed) -> Result<Vec<usize>, Memory>
     ensures list { IfOk result (λ list. IsOrderOrCycle closed.now.log list.items) }
     ensures memory { OnErr result GrowthRefused }
@@ -155,7 +164,11 @@ pub fn order_or_cycle_of(alloc: Global, closed: &Closed) -> Result<Vec<usize>, M
     }
 }
 
-/// Writes the report of a closed world, and then the certificate of its verdict.
+/// Writes the report of a closed world, and then the certificate of its verdict, whose order or cycle has to be that of
+/// the world's log.
+///
+/// # Errors
+/// `Write` where the sink failed; a beginning of the report, or of the certificate behind it, was written.
 pub fn write_certified<O: Sink>(
     closed: &Closed,
     names: &Names,
