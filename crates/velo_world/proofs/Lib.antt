@@ -1,5 +1,4 @@
 pub mod OnAlarms
-pub mod OnLate
 pub mod OnRuns
 pub mod OnCourses
 pub mod OnAnswers

@@ -75,6 +75,9 @@ known_names bounds log e well none =
     (refusal_of-asked bounds log e.thread.0 e.kind ∙ none, HasItsValue-kind_for log (action_of e.kind)) in
     names_asked bounds log e.kind may.known_names
 
+pub well_formed-by : (bounds bounds' : Bounds) (trace : List Event) → bounds ≡ bounds' → IsWellFormed bounds trace → IsWellFormed bounds' trace
+well_formed-by bounds bounds' trace same well = subst (λ b. IsWellFormed b trace) same well
+
 pub follows-by : (bounds bounds' : Bounds) (trace : List Event) (e : Event) → bounds ≡ bounds' → MayFollow bounds trace e → MayFollow bounds' trace e
 follows-by bounds bounds' trace e same follows = subst (λ b. MayFollow b trace e) same follows
 

@@ -11,20 +11,22 @@ use Rattle.velo_events.specs.Graph.{HasCycle}
 use Rattle.velo_events.proofs.OnGraphs.{IsClosing-unique, HasCycle-from_closing}
 use Rattle.velo_events.specs.Merge.{GetsNew}
 use Rattle.velo_arena.specs.Slots.{Slots, used_in, limit_of}
+use Rattle.velo_tables.specs.Clocks.{AreClocksOf, AreClocksSince}
+use Rattle.velo_tables.specs.Noted.{HasRoomToNote, IsOfThreads}
 use Rattle.velo_tables.specs.Place.{Place, looked_up}
 use Rattle.velo_tables.specs.Kept.{Kept, entry, steps_looked_up, HasRoomFor}
+use Rattle.velo_tables.proofs.OnThreads.{IsOfThreads-follows}
 use Rattle.velo_graph.specs.Nodes.{Nodes}
 use Rattle.velo_merge.specs.Named.{live_stamps, HasFinished, IsAncestor}
 use Rattle.velo_monitor.specs.Watched.{Watched, IsMonitorOf}
 use Rattle.velo_monitor.specs.Answers.{NeedsNode}
 use Rattle.velo_world.specs.declared.run.Alarm.{Alarm}
 use Rattle.velo_heap.specs.Contents.{Contents, bounds_of, IsHeapOf}
-use Rattle.velo_events.specs.WellFormed.{IsWellFormed}
+use Rattle.velo_events.specs.WellFormed.{IsWellFormed, MayFollow}
 use Rattle.velo_events.proofs.OnWellFormed.{IsWellFormed-push}
-use Rattle.velo_world.specs.Late.{AreLateClocksOf}
-use Rattle.velo_world.specs.declared.late.LateClocks.{LateClocks}
+use Rattle.velo_blame.specs.Clocks.{RunClocks}
 use Rattle.velo_world.specs.World.{IsAlarm, AlarmOf, IsWatchedPart}
-use Rattle.velo_world.specs.Run.{events_watched, IsWatched, IsRunOf, HasSlotFor, HasRoomToWatch, HasRoomForNext, ComesNext}
+use Rattle.velo_world.specs.Run.{events_watched, IsWatched, IsRunOf, HasSlotFor, HasRoomForNext, ComesNext}
 use Rattle.velo_world.proofs.OnAlarms.{AlarmOf-stays, AlarmOf-quiet}
 use Rattle.velo_world.specs.declared.run.Run.{Run}
 
@@ -84,26 +86,25 @@ pub OnOk-then : {T E : Type 0} (result : Result T E) (P Q : Type 0) → OnOk res
 OnOk-then (Ok x) P Q h f = f h
 OnOk-then (Err x) P Q h f = tt
 
--- the event that may come next finds room at the monitor, where room was made for it
-pub room-reserved : (old new : Run) (trace : List Event) (e : Event) → new.alarm ≡ old.alarm → new.monitor.nodes ≡ old.monitor.nodes → ((p : Place) → entry new.monitor.kept p ≡ entry old.monitor.kept p) → HasSlotFor old trace e → HasRoomFor new.monitor.kept e → HasRoomToWatch new trace e
-room-reserved old new trace e alarm nodes entries slot monitor = record {
+-- the event that may come next finds room at monitor and clocks, where room was made for it
+pub room-reserved : (old new : Run) (trace : List Event) (e : Event) → new.alarm ≡ old.alarm → new.monitor.nodes ≡ old.monitor.nodes → ((p : Place) → entry new.monitor.kept p ≡ entry old.monitor.kept p) → HasSlotFor old trace e → HasRoomFor new.monitor.kept e → HasRoomToNote new.clocks.bounds.threads new.clocks.state e → HasRoomForNext new trace e
+room-reserved old new trace e alarm nodes entries slot monitor clocks = record {
   monitor = λ _. monitor;
   slot = record { slot = λ none needs. rw nodes (slot.slot (sym alarm ∙ none) (NeedsNode-reserved old.monitor new.monitor trace e nodes entries needs)) };
+  clocks = λ _. clocks;
 }
 
 -- after an alarm nothing needs room
-pub watch-alarmed : (run : Run) (trace : List Event) (e : Event) → IsTrue (is_some run.alarm) → HasRoomToWatch run trace e
-watch-alarmed run trace e some = record {
-  monitor = λ none. absurd (alarm-not_none run.alarm some none);
-  slot = record { slot = λ none. absurd (alarm-not_none run.alarm some none) };
-}
-
 pub room-alarmed : (run : Run) (trace : List Event) (e : Event) → IsTrue (is_some run.alarm) → HasRoomForNext run trace e
 room-alarmed run trace e some = record {
-  watch = watch-alarmed run trace e some;
+  monitor = λ none. absurd (alarm-not_none run.alarm some none);
+  slot = record { slot = λ none. absurd (alarm-not_none run.alarm some none) };
   clocks = λ none. absurd (alarm-not_none run.alarm some none);
-  up_to_date = λ none. absurd (alarm-not_none run.alarm some none);
 }
+
+-- the clocks know the threads of the event that may come next
+pub threads-next : (run : Run) (trace : List Event) (e : Event) → IsRunOf run trace → MayFollow (bounds_of run.heap) trace e → IsOfThreads run.clocks.bounds.threads e
+threads-next run trace e stands follows = subst (λ (b : Bounds). IsOfThreads b.threads e) (sym stands.watched.bounds_are) (IsOfThreads-follows (bounds_of run.heap) trace e follows)
 
 -- ---- what monitor and clocks saw
 
@@ -122,10 +123,10 @@ IsWatched-stays run bounds trace e some is =
 pub monitor-quiet : (run : Run) (bounds : Bounds) (trace : List Event) → IsFalse (is_some run.alarm) → IsWatched run bounds trace → IsMonitorOf bounds run.monitor trace
 monitor-quiet run bounds trace quiet is = subst (IsMonitorOf bounds run.monitor) (events_watched-none trace run.alarm quiet) is.monitor
 
-pub clocks-quiet : (run : Run) (bounds : Bounds) (trace : List Event) → IsFalse (is_some run.alarm) → IsWatched run bounds trace → AreLateClocksOf run.clocks trace
+pub clocks-quiet : (run : Run) (bounds : Bounds) (trace : List Event) → IsFalse (is_some run.alarm) → IsWatched run bounds trace → AreClocksOf run.clocks.state trace
 clocks-quiet run bounds trace quiet is = is.clocks (alarm-none run.alarm quiet)
 
-pub IsWatched-quiet : (run : Run) (bounds : Bounds) (trace : List Event) → IsFalse (is_some run.alarm) → ¬ HasCycle trace → IsMonitorOf bounds run.monitor trace → AreLateClocksOf run.clocks trace → run.clocks.clocks.bounds ≡ bounds → IsWatched run bounds trace
+pub IsWatched-quiet : (run : Run) (bounds : Bounds) (trace : List Event) → IsFalse (is_some run.alarm) → ¬ HasCycle trace → IsMonitorOf bounds run.monitor trace → AreClocksOf run.clocks.state trace → run.clocks.bounds ≡ bounds → IsWatched run bounds trace
 IsWatched-quiet run bounds trace quiet acyclic monitor clocks bounds_are =
     let same = sym (events_watched-none trace run.alarm quiet) in
     record {
@@ -135,15 +136,15 @@ IsWatched-quiet run bounds trace quiet acyclic monitor clocks bounds_are =
       bounds_are = bounds_are;
     }
 
--- other clocks of the same events do as well
-pub IsRunOf-clocks : (run : Run) (clocks : LateClocks) (trace : List Event) → IsFalse (is_some run.alarm) → AreLateClocksOf clocks trace → clocks.clocks.bounds ≡ run.clocks.clocks.bounds → IsRunOf run trace → IsRunOf (record run { clocks = clocks }) trace
-IsRunOf-clocks run clocks trace quiet are same is = record {
+-- monitor and clocks of the same events, with more room, do as well
+pub IsRunOf-reserved : (run : Run) (monitor : Watched) (clocks : RunClocks) (trace : List Event) → ((bounds : Bounds) (past : List Event) → IsMonitorOf bounds run.monitor past → IsMonitorOf bounds monitor past) → ((first : ℕ) (past : List Event) → AreClocksSince first run.clocks.state past → AreClocksSince first clocks.state past) → clocks.bounds ≡ run.clocks.bounds → IsRunOf run trace → IsRunOf (record run { monitor = monitor; clocks = clocks }) trace
+IsRunOf-reserved run monitor clocks trace same known bounds_are is = record {
   heap = is.heap;
   watched = record {
     alarm = is.watched.alarm;
-    monitor = is.watched.monitor;
-    clocks = λ none. are;
-    bounds_are = same ∙ is.watched.bounds_are;
+    monitor = same _ _ is.watched.monitor;
+    clocks = λ none. known 0 trace (is.watched.clocks none);
+    bounds_are = bounds_are ∙ is.watched.bounds_are;
   };
 }
 
@@ -160,7 +161,7 @@ IsRunOf-applied run heap bounds trace is same watched = record {
 }
 
 -- at it they stand for the events before
-pub IsWatched-raised : (run : Run) (bounds : Bounds) (trace : List Event) (e : Event) (alarm : Alarm) → run.alarm ≡ Some alarm → alarm.position ≡ length trace → IsAlarm (trace ++ e ∷ []) alarm → IsMonitorOf bounds run.monitor trace → run.clocks.clocks.bounds ≡ bounds → IsWatched run bounds (trace ++ e ∷ [])
+pub IsWatched-raised : (run : Run) (bounds : Bounds) (trace : List Event) (e : Event) (alarm : Alarm) → run.alarm ≡ Some alarm → alarm.position ≡ length trace → IsAlarm (trace ++ e ∷ []) alarm → IsMonitorOf bounds run.monitor trace → run.clocks.bounds ≡ bounds → IsWatched run bounds (trace ++ e ∷ [])
 IsWatched-raised run bounds trace e alarm raised here is monitor bounds_are =
     let part : events_watched (trace ++ e ∷ []) run.alarm ≡ trace = rw (raised, here) (take-before trace e) in
     record {
@@ -171,6 +172,6 @@ IsWatched-raised run bounds trace e alarm raised here is monitor bounds_are =
     }
 
 -- the next event keeps the trace well-formed
-pub well-next : (run : Run) (trace : List Event) (e : Event) → ComesNext run trace e → IsWellFormed run.clocks.clocks.bounds (trace ++ e ∷ [])
+pub well-next : (run : Run) (trace : List Event) (e : Event) → ComesNext run trace e → IsWellFormed run.clocks.bounds (trace ++ e ∷ [])
 well-next run trace e next =
     subst (λ b. IsWellFormed b (trace ++ e ∷ [])) (sym next.stands.watched.bounds_are) (IsWellFormed-push (bounds_of run.heap) trace e next.stands.heap.well_formed next.follows)

@@ -1,6 +1,5 @@
 pub mod World
 pub mod Faults
-pub mod Late
 pub mod Run
 pub mod Course
 pub mod Kept

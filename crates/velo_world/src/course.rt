@@ -6,7 +6,7 @@ ghost use Rattle.velo_world.specs.Course.{course_of, IsCourseOfItsLog, FindsNoRo
 ghost use Rattle.velo_world.specs.Run.{HasRoomForNext};
 
 use crate::run::{Reply, Run};
-use velo_events::{Action, Config, Event, Kind, Refusal, ThreadId};
+use velo_events::{Action, Config, Event, Kind, Memory, Refusal, ThreadId};
 use velo_traces::Trace;
 
 /// A log within its limit, and what follows from it.
@@ -69,10 +69,10 @@ impl Course {
         if self.log.reserve_one().is_err() {
             return Err(Refusal::Memory);
         }
-        if self.run.reserve_for(self.log.as_slice(), event).is_err() {
-            return Err(Refusal::Memory);
+        match self.run.reserve_for(event) {
+            Ok(()) => Ok(()),
+            Err(Memory) => Err(Refusal::Memory),
         }
-        Ok(())
     }
 
     /// Takes in the event, which may come next and for which there is room.

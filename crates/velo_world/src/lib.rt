@@ -3,7 +3,6 @@
 
 mod closed;
 mod course;
-mod late;
 mod relive;
 mod run;
 mod world;

@@ -1,5 +1,5 @@
 //! A recorded log, whose events come about again one after another.
-ghost use Rattle.std.specs.Prelude.{◌≡◌, ◌<◌, ◌+◌, [], ◌∷◌, ◌++◌, ℕ, List, None, Some, false, length, take, slice_get, IfOk, OnOk, IfErr, OnErr};
+ghost use Rattle.std.specs.Prelude.{◌≡◌, ◌<◌, ◌+◌, [], ◌∷◌, ◌++◌, List, None, Some, false, length, take, slice_get, IfOk, OnOk, IfErr, OnErr};
 ghost use Rattle.velo_events.specs.Refusals.{GrowthRefused};
 ghost use Rattle.velo_events.specs.declared.event.Event.{Event as EventOf};
 ghost use Rattle.velo_heap.specs.Contents.{bounds_of, IsHeapOf};
@@ -7,7 +7,7 @@ ghost use Rattle.velo_traces.specs.Flaws.{flaw_of};
 ghost use Rattle.velo_world.specs.World.{CompletesShares, HoldsLiveShares};
 ghost use Rattle.velo_world.specs.Faults.{world_of, IsFaultAtEvent, IsFaultOfLog};
 ghost use Rattle.velo_world.specs.Relived.{IsReliveOf};
-ghost use Rattle.velo_world.specs.Run.{ComesNext, HasRoomToWatch};
+ghost use Rattle.velo_world.specs.Run.{ComesNext, HasRoomForNext};
 
 use crate::course::Course;
 use crate::run::Run;
@@ -117,10 +117,10 @@ impl Relived {
     {
         let event = &events[position];
         match self.make_room(config, events, position, event) {
-            Ok(()) => match self.take_in(config, events, position, event) {
-                Ok(()) => Ok(()),
-                Err(Memory) => Err(ReliveFault::Memory),
-            },
+            Ok(()) => {
+                self.take_in(config, events, position, event);
+                Ok(())
+            }
             Err(fault) => Err(fault),
         }
     }
@@ -140,7 +140,7 @@ impl Relived {
         ensures flawless { OnOk result (flaw_of config.now.bounds (take position events.now) event.now ≡ None) }
         ensures short { OnOk result (position < config.now.events) }
         ensures next { OnOk result (ComesNext self.new.run (take position events.now) event.now) }
-        ensures room { OnOk result (HasRoomToWatch self.new.run (take position events.now) event.now) }
+        ensures room { OnOk result (HasRoomForNext self.new.run (take position events.now) event.now) }
         ensures fault { IfErr result (λ fault. IsFaultAtEvent config.now (take position events.now) event.now fault) }
     {
         match flaw_in(&self.run.heap, event) {
@@ -160,38 +160,27 @@ impl Relived {
                 refusal: Refusal::GraphFull,
             });
         }
-        match self.run.reserve_to_watch(event) {
+        match self.run.reserve_for(event) {
             Ok(()) => Ok(()),
             Err(Memory) => Err(ReliveFault::Memory),
         }
     }
 
     /// Takes in the event at the position, for which there is room.
-    ///
-    /// # Errors
-    /// `Memory` where the event closes the first cycle and a growth for its blame was refused.
     #[inline(always)]
-    fn take_in(
-        &mut self,
-        config: &Config,
-        events: &[Event],
-        position: usize,
-        event: &Event,
-    ) -> Result<(), Memory>
+    fn take_in(&mut self, config: &Config, events: &[Event], position: usize, event: &Event)
         requires goes_on { config.now.stop ≡ false }
         requires here { slice_get events.now position ≡ Some event.now }
         requires stands { IsReliveOf config.now self.old (take position events.now) }
         requires flawless { flaw_of config.now.bounds (take position events.now) event.now ≡ None }
         requires short { position < config.now.events }
         requires next { ComesNext self.old.run (take position events.now) event.now }
-        requires room { HasRoomToWatch self.old.run (take position events.now) event.now }
-        ensures ok { OnOk result (IsReliveOf config.now self.new (take position events.now ++ event.now ∷ [])) }
-        ensures memory { OnErr result GrowthRefused }
+        requires room { HasRoomForNext self.old.run (take position events.now) event.now }
+        ensures { IsReliveOf config.now self.new (take position events.now ++ event.now ∷ []) }
     {
-        self.run.take_in_recorded(events, position, event)?;
+        self.run.take_in(events, position, event);
         self.book.enter_at(&mut self.shares, position, event);
         hand_over(&mut self.kept, &mut self.shares, event);
-        Ok(())
     }
 
     /// The world of the log that came about.

@@ -1,21 +1,19 @@
 //! What follows from the events of a run.
 ghost use Rattle.velo_events.specs.Refusals.{GrowthRefused};
-ghost use Rattle.std.specs.Prelude.{◌≡◌, ◌<◌, [], ◌∷◌, ◌++◌, ℕ, List, Some, length, take, slice_get, IsTrue, IsFalse, IfOk, OnOk, OnErr};
-ghost use Rattle.velo_events.specs.declared.limits.TheConstants.{MOST_EVENTS};
+ghost use Rattle.std.specs.Prelude.{◌≡◌, [], ◌∷◌, ◌++◌, List, Some, take, slice_get, IsTrue, IsFalse, IfOk, OnOk, OnErr};
 ghost use Rattle.velo_events.specs.declared.event.Event.{Event as EventOf};
 ghost use Rattle.velo_events.specs.Block.{owner};
 ghost use Rattle.velo_events.specs.Graph.{HasCycle};
 ghost use Rattle.velo_events.specs.WellFormed.{IsWellFormed, MayFollow};
 ghost use Rattle.velo_arena.specs.Slots.{limit_of};
 ghost use Rattle.velo_heap.specs.Contents.{bounds_of};
-ghost use Rattle.velo_tables.specs.Clocks.{AreClocksSince};
-ghost use Rattle.velo_world.specs.Late.{AreLateClocksOf};
+ghost use Rattle.velo_tables.specs.Clocks.{AreClocksOf};
 ghost use Rattle.velo_world.specs.World.{FindsNoNode, IsAlarm};
-ghost use Rattle.velo_world.specs.Run.{ComesNext, HasRoomForNext, HasRoomToWatch, HasSlotFor, IsRunOf, IsWatched, KeepsAlarm, Raises};
+ghost use Rattle.velo_world.specs.Run.{ComesNext, HasRoomForNext, HasSlotFor, IsRunOf, IsWatched, Raises};
 
-use crate::late::LateClocks;
 use smallvec::SmallVec;
 use std::alloc::Global;
+use velo_blame::Clocks;
 use velo_events::{Config, Event, MOST_OPEN_BLOCKS, Memory};
 use velo_heap::Heap;
 use velo_monitor::{Monitor, Seen};
@@ -50,8 +48,8 @@ pub struct Run {
     pub heap: Heap,
     /// The monitor of the events before the alarm.
     pub monitor: Monitor,
-    /// The clocks of the first events, while no alarm is kept.
-    clocks: LateClocks,
+    /// The clocks of the events before the alarm.
+    clocks: Clocks,
     pub alarm: Option<Alarm>,
     alloc: Global,
 }
@@ -66,7 +64,7 @@ impl Run {
     {
         let heap = Heap::new(alloc, config)?;
         let monitor = Monitor::new(alloc, config)?;
-        let clocks = LateClocks::new(alloc, config)?;
+        let clocks = Clocks::new(alloc, config)?;
         Ok(Run {
             heap,
             monitor,
@@ -92,39 +90,19 @@ impl Run {
         self.monitor.needs_node(event)
     }
 
-    /// Makes room for the next event, which finds a slot for its node if it needs one.
+    /// Makes room for the next event, which finds a slot for its node if it needs one. After an alarm no event needs room.
     #[inline]
-    pub fn reserve_for(&mut self, events: &[Event], event: &Event) -> Result<(), Memory>
-        requires next { ComesNext self.old events.now event.now }
-        requires slot { HasSlotFor self.old events.now event.now }
+    pub fn reserve_for(&mut self, event: &Event) -> Result<(), Memory>
         ensures heap { self.new.heap ≡ self.old.heap }
         ensures nodes { self.new.monitor.nodes ≡ self.old.monitor.nodes }
-        ensures follows { IsRunOf self.new events.now }
-        ensures room { OnOk result (HasRoomForNext self.new events.now event.now) }
-        ensures memory { OnErr result GrowthRefused }
-    {
-        if self.alarm.is_some() {
-            return Ok(());
-        }
-        self.clocks.catch_up(0, events)?;
-        self.clocks.reserve_for(event)?;
-        self.reserve_to_watch(event)
-    }
-
-    /// Makes room for the monitor to see the next event, which finds a slot for its node if it needs one.
-    #[inline]
-    pub fn reserve_to_watch(&mut self, event: &Event) -> Result<(), Memory>
-        ensures heap { self.new.heap ≡ self.old.heap }
-        ensures clocks { self.new.clocks ≡ self.old.clocks }
-        ensures nodes { self.new.monitor.nodes ≡ self.old.monitor.nodes }
-        ensures alarm { self.new.alarm ≡ self.old.alarm }
         ensures follows { (trace : List EventOf) → IsRunOf self.old trace → IsRunOf self.new trace }
-        ensures room { OnOk result ((trace : List EventOf) → IsRunOf self.old trace → MayFollow (bounds_of self.old.heap) trace event.now → HasSlotFor self.old trace event.now → HasRoomToWatch self.new trace event.now) }
+        ensures room { OnOk result ((trace : List EventOf) → IsRunOf self.old trace → MayFollow (bounds_of self.old.heap) trace event.now → HasSlotFor self.old trace event.now → HasRoomForNext self.new trace event.now) }
         ensures memory { OnErr result GrowthRefused }
     {
         if self.alarm.is_some() {
             return Ok(());
         }
+        self.clocks.reserve_for(event)?;
         self.monitor.reserve(event)
     }
 
@@ -140,31 +118,6 @@ impl Run {
     {
         self.watch(events, position, event);
         self.heap.apply(event);
-    }
-
-    /// Takes in the event at the position of a recorded log, which may follow those before it and for which the monitor has
-    /// room. Its clocks note nothing before a cycle closes.
-    ///
-    /// # Errors
-    /// `Memory` where a growth for the clocks was refused.
-    #[inline]
-    pub fn take_in_recorded(
-        &mut self,
-        events: &[Event],
-        position: usize,
-        event: &Event,
-    ) -> Result<(), Memory>
-        requires here { slice_get events.now position ≡ Some event.now }
-        requires next { ComesNext self.old (take position events.now) event.now }
-        requires room { HasRoomToWatch self.old (take position events.now) event.now }
-        ensures bounds { OnOk result (bounds_of self.new.heap ≡ bounds_of self.old.heap) }
-        ensures nodes { OnOk result (limit_of self.new.monitor.nodes.slots ≡ limit_of self.old.monitor.nodes.slots) }
-        ensures follows { OnOk result (IsRunOf self.new (take position events.now ++ event.now ∷ [])) }
-        ensures memory { OnErr result GrowthRefused }
-    {
-        self.watch_recorded(events, position, event)?;
-        self.heap.apply(event);
-        Ok(())
     }
 
     /// Lets monitor and clocks see the event, unless an alarm is kept already, and raises the alarm if it closes a cycle.
@@ -186,72 +139,13 @@ impl Run {
         }
     }
 
-    /// Lets the monitor see the event of a recorded log, unless an alarm is kept already, and raises the alarm if it closes a
-    /// cycle.
-    #[inline]
-    fn watch_recorded(
-        &mut self,
-        events: &[Event],
-        position: usize,
-        event: &Event,
-    ) -> Result<(), Memory>
-        requires here { slice_get events.now position ≡ Some event.now }
-        requires next { ComesNext self.old (take position events.now) event.now }
-        requires room { HasRoomToWatch self.old (take position events.now) event.now }
-        ensures heap { self.new.heap ≡ self.old.heap }
-        ensures nodes { limit_of self.new.monitor.nodes.slots ≡ limit_of self.old.monitor.nodes.slots }
-        ensures watched { OnOk result (IsWatched self.new (bounds_of self.old.heap) (take position events.now ++ event.now ∷ [])) }
-        ensures memory { OnErr result GrowthRefused }
-    {
-        if self.alarm.is_some() {
-            return Ok(());
-        }
-        match self.monitor.observe(position, event) {
-            Seen::Quiet => Ok(()),
-            Seen::Closes { transaction } => self.raise_alarm_late(
-                events,
-                position,
-                event,
-                transaction,
-            ),
-        }
-    }
-
-    /// Raises the alarm of the event at the position, which closes the first cycle, once the clocks noted what came since its
-    /// transaction began. It stands out of line: an event that raises none does not pay for it.
-    #[inline(never)]
-    fn raise_alarm_late(
-        &mut self,
-        events: &[Event],
-        position: usize,
-        event: &Event,
-        transaction: usize,
-    ) -> Result<(), Memory>
-        requires here { slice_get events.now position ≡ Some event.now }
-        requires clocks { AreLateClocksOf self.old.clocks (take position events.now) }
-        requires well_formed { IsWellFormed self.old.clocks.clocks.bounds (take position events.now ++ event.now ∷ []) }
-        requires short { position < MOST_EVENTS }
-        requires acyclic { ¬ HasCycle (take position events.now) }
-        requires closes { HasCycle (take position events.now ++ event.now ∷ []) }
-        requires transaction { transaction ≡ owner (take position events.now ++ event.now ∷ []) position }
-        ensures heap { self.new.heap ≡ self.old.heap }
-        ensures monitor { self.new.monitor ≡ self.old.monitor }
-        ensures bounds { self.new.clocks.clocks.bounds ≡ self.old.clocks.clocks.bounds }
-        ensures alarm { OnOk result (KeepsAlarm (take position events.now ++ event.now ∷ []) position self.new.alarm) }
-        ensures memory { OnErr result GrowthRefused }
-    {
-        self.clocks.catch_up(transaction, &events[..position])?;
-        self.raise_alarm(events, position, event, transaction);
-        Ok(())
-    }
-
     /// Raises the alarm of the event at the position, which closes the first cycle. It stands out of line: an event that
     /// raises none does not pay for the list of blocks.
     #[inline(never)]
     fn raise_alarm(&mut self, events: &[Event], position: usize, event: &Event, transaction: usize)
         requires here { slice_get events.now position ≡ Some event.now }
-        requires clocks { AreClocksSince transaction self.old.clocks.clocks.state (take position events.now) }
-        requires well_formed { IsWellFormed self.old.clocks.clocks.bounds (take position events.now ++ event.now ∷ []) }
+        requires clocks { AreClocksOf self.old.clocks.state (take position events.now) }
+        requires well_formed { IsWellFormed self.old.clocks.bounds (take position events.now ++ event.now ∷ []) }
         requires acyclic { ¬ HasCycle (take position events.now) }
         requires closes { HasCycle (take position events.now ++ event.now ∷ []) }
         requires transaction { transaction ≡ owner (take position events.now ++ event.now ∷ []) position }
@@ -269,8 +163,8 @@ impl Run {
         transaction: usize,
     ) -> Alarm
         requires here { slice_get events.now position ≡ Some event.now }
-        requires clocks { AreClocksSince transaction self.now.clocks.clocks.state (take position events.now) }
-        requires well_formed { IsWellFormed self.now.clocks.clocks.bounds (take position events.now ++ event.now ∷ []) }
+        requires clocks { AreClocksOf self.now.clocks.state (take position events.now) }
+        requires well_formed { IsWellFormed self.now.clocks.bounds (take position events.now ++ event.now ∷ []) }
         requires acyclic { ¬ HasCycle (take position events.now) }
         requires closes { HasCycle (take position events.now ++ event.now ∷ []) }
         requires transaction { transaction ≡ owner (take position events.now ++ event.now ∷ []) position }
@@ -280,7 +174,7 @@ impl Run {
         let so_far = &events[..position + 1];
         // the transaction begins with the outermost of its open blocks
         let blocks = open_blocks_since(so_far, event.thread, transaction, self.alloc);
-        let blamed = self.clocks.clocks.blamed(&blocks, position, event);
+        let blamed = self.clocks.blamed(&blocks, position, event);
         Alarm {
             position,
             transaction,

@@ -26,9 +26,9 @@ returns-in-Ok-clause-stands c =
     let stands = c.requires.stands in
     record {
       short = stands.short;
-      bounds = ap bounds_of c.reserve_to_watch.ensures.heap ∙ stands.bounds;
-      nodes = ap (λ (n : Nodes). limit_of n.slots) c.reserve_to_watch.ensures.nodes ∙ stands.nodes;
-      run = c.reserve_to_watch.ensures.follows _ stands.run;
+      bounds = ap bounds_of c.reserve_for.ensures.heap ∙ stands.bounds;
+      nodes = ap (λ (n : Nodes). limit_of n.slots) c.reserve_for.ensures.nodes ∙ stands.nodes;
+      run = c.reserve_for.ensures.follows _ stands.run;
       book = stands.book;
       keeps = stands.keeps;
       ready = stands.ready;
@@ -42,8 +42,8 @@ returns-in-Ok-clause-next c =
     let none = sym (c.flaw_in.ensures _ stands.run.heap) ∙ c.in-None.is in
     let follows = MayFollow-from_no_flaw _ _ c.args.event.now stands.run.heap.well_formed none in
     record {
-      stands = c.reserve_to_watch.ensures.follows _ stands.run;
-      follows = follows-by _ _ _ c.args.event.now (sym (ap bounds_of c.reserve_to_watch.ensures.heap)) follows;
+      stands = c.reserve_for.ensures.follows _ stands.run;
+      follows = follows-by _ _ _ c.args.event.now (sym (ap bounds_of c.reserve_for.ensures.heap)) follows;
       short = (let inside = c.if-position-config.false in let few = c.args.config.now.few_events in omega (arith, here, inside, few));
     }
 

@@ -1,6 +1,5 @@
 use Rattle.std.proofs.lemmas.Option.{slice_get-get_or}
-use Rattle.velo_world.proofs.OnLate.{well_formed-by}
-use Rattle.velo_world.proofs.OnRelived.{fault_in_log}
+use Rattle.velo_world.proofs.OnRelived.{well_formed-by, fault_in_log}
 use Rattle.velo_world.proofs.relive.Relived.relive_next.Goals as goal
 
 pub returns-in-Err-clause-fault : goal.returns-in-Err-clause-fault

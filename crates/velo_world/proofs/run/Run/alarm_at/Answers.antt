@@ -34,7 +34,7 @@ none_open past e b before =
 
 pub open_blocks_since-blocks-requires : goal.open_blocks_since-blocks-requires
 open_blocks_since-blocks-requires c = record {
-  few = few_open c.args.self.now.clocks.clocks.bounds c.args.events.now c.args.position c.args.event.now c.requires.here c.requires.well_formed;
+  few = few_open c.args.self.now.clocks.bounds c.args.events.now c.args.position c.args.event.now c.requires.here c.requires.well_formed;
   none_before = (λ b below.
       let e = c.args.event.now in let past = take c.args.position c.args.events.now in let whole = past ++ e ∷ [] in
       let last = ap (owner whole) (length-before c.args.events.now c.args.position e c.requires.here) in
@@ -44,7 +44,7 @@ open_blocks_since-blocks-requires c = record {
 
 pub blamed-blamed-requires : goal.blamed-blamed-requires
 blamed-blamed-requires c = record {
-  few = (let few = few_open c.args.self.now.clocks.clocks.bounds c.args.events.now c.args.position c.args.event.now c.requires.here c.requires.well_formed in let count = ap length (c.deref.ensures ∙ c.open_blocks_since-blocks.ensures) ∙ length-map _ _ in omega (arith, few, count));
+  few = (let few = few_open c.args.self.now.clocks.bounds c.args.events.now c.args.position c.args.event.now c.requires.here c.requires.well_formed in let count = ap length (c.deref.ensures ∙ c.open_blocks_since-blocks.ensures) ∙ length-map _ _ in omega (arith, few, count));
 }
 
 pub returns-clause-alarm : goal.returns-clause-alarm
@@ -56,6 +56,5 @@ returns-clause-alarm c =
     let blocks = c.deref.ensures ∙ (c.open_blocks_since-blocks.ensures ∙ ap (λ xs. map (block_at xs) (open_blocks xs c.args.event.now.thread.0)) events) in
     let begins = ap begins_of blocks ∙ begins_of-blocks whole (open_blocks whole c.args.event.now.thread.0) in
     IsAlarm-closing past c.args.event.now _ c.requires.acyclic c.requires.closes (sym here) c.requires.transaction
-    (c.blamed-blamed.ensures.blamed c.args.transaction past c.requires.clocks here c.requires.well_formed c.requires.acyclic
-    (λ b below. none_open past c.args.event.now b (let last = ap (owner whole) here in omega (arith, below, c.requires.transaction, last))) blocks)
+    (c.blamed-blamed.ensures.blamed 0 past c.requires.clocks here c.requires.well_formed c.requires.acyclic (λ b below. absurd (omega (arith, below))) blocks)
     (c.blamed-blamed.ensures.blocks whole (blocks ∙ ap (map (block_at whole)) (sym begins)))

@@ -1,8 +1,7 @@
-use Rattle.std.proofs.Common.{[], ◌∷◌, ◌++◌, length-append, take, sym, ap, ◌∙◌, refl, arith}
+use Rattle.std.proofs.Common.{[], ◌∷◌, ◌++◌, take, sym, ap, ◌∙◌, refl, arith}
 use Rattle.velo_events.specs.Block.{owner}
 use Rattle.velo_heap.specs.Contents.{bounds_of}
 use Rattle.velo_world.proofs.OnAlarms.{length-before}
-use Rattle.velo_world.proofs.OnLate.{AreClocksSince-all, AreClocksSince-later, AreLateClocksOf-all}
 use Rattle.velo_world.proofs.OnRuns.{alarm-none, IsWatched-stays, IsWatched-quiet, IsWatched-raised, monitor-quiet, clocks-quiet, well-next}
 use Rattle.velo_world.proofs.run.Run.watch.Goals as goal
 
@@ -22,8 +21,8 @@ observe-requires c =
       at_end = sym here;
       within = (let short = c.requires.next.short in omega (arith, here, short));
       follows = c.requires.next.follows;
-      room = c.requires.room.watch.monitor none;
-      slot = c.requires.room.watch.slot.slot none;
+      room = c.requires.room.monitor none;
+      slot = c.requires.room.slot.slot none;
     }
 
 pub returns-in-Quiet-clause-watched : goal.returns-in-Quiet-clause-watched
@@ -32,18 +31,11 @@ returns-in-Quiet-clause-watched c =
     let watched = c.requires.next.stands.watched in
     let here = length-before c.args.events.now c.args.position c.args.event.now c.requires.here in
     let seen = c.in-Quiet.ensures.seen _ _ (monitor-quiet c.args.self.now _ _ quiet watched) (sym here) c.requires.next.follows in
-    let none = alarm-none c.args.self.now.alarm quiet in
-    let past = take c.args.position c.args.events.now in
-    let clocks = AreClocksSince-all 0 c.args.self.now.clocks past (clocks-quiet c.args.self.now _ _ quiet watched) (c.requires.room.up_to_date none) in
-    let noted = c.note.ensures.noted in
-    let all = AreLateClocksOf-all c.note.new.self (past ++ c.args.event.now ∷ []) (c.note.ensures.next 0 past clocks here (well-next c.args.self.now _ c.args.event.now c.requires.next)) (omega (arith, noted, here, length-append past (c.args.event.now ∷ []))) in
-    IsWatched-quiet _ _ _ quiet seen.0 seen.1 all (c.note.ensures.bounds ∙ watched.bounds_are)
+    let noted = c.note.ensures.next 0 _ (clocks-quiet c.args.self.now _ _ quiet watched) here (well-next c.args.self.now _ c.args.event.now c.requires.next) in
+    IsWatched-quiet _ _ _ quiet seen.0 seen.1 noted (c.note.ensures.bounds ∙ watched.bounds_are)
 
 pub raise_alarm-requires-clause-clocks : goal.raise_alarm-requires-clause-clocks
-raise_alarm-requires-clause-clocks c =
-    let quiet = sym c.is_some.ensures ∙ c.if-is_some.false in
-    AreClocksSince-later 0 _ _ _ (omega arith)
-    (AreClocksSince-all 0 c.args.self.now.clocks _ (clocks-quiet c.args.self.now _ _ quiet c.requires.next.stands.watched) (c.requires.room.up_to_date (alarm-none c.args.self.now.alarm quiet)))
+raise_alarm-requires-clause-clocks c = clocks-quiet c.args.self.now _ _ (sym c.is_some.ensures ∙ c.if-is_some.false) c.requires.next.stands.watched
 
 pub raise_alarm-requires-clause-well_formed : goal.raise_alarm-requires-clause-well_formed
 raise_alarm-requires-clause-well_formed c = well-next c.args.self.now _ c.args.event.now c.requires.next

@@ -1,10 +1,10 @@
 use Rattle.std.proofs.Common.{take, sym, ap, ◌∙◌, subst}
 use Rattle.velo_heap.specs.Contents.{bounds_of, IsHeapOf}
 use Rattle.velo_world.proofs.OnRuns.{IsRunOf-applied}
-use Rattle.velo_world.proofs.run.Run.take_in_recorded.Goals as goal
+use Rattle.velo_world.proofs.run.Run.take_in.Goals as goal
 
 pub returns-clause-follows : goal.returns-clause-follows
 returns-clause-follows c =
-    let same = c.watch_recorded.ensures.heap in
+    let same = c.watch.ensures.heap in
     let heap = c.apply.ensures.next (take c.args.position c.args.events.now) (subst (λ h. IsHeapOf h (take c.args.position c.args.events.now)) (sym same) c.requires.next.stands.heap) in
-    IsRunOf-applied c.watch_recorded.new.self c.apply.new.self (bounds_of c.args.self.now.heap) _ heap (c.apply.ensures.bounds ∙ ap bounds_of same) c.in_ok-watch_recorded.ensures.watched
+    IsRunOf-applied c.watch.new.self c.apply.new.self (bounds_of c.args.self.now.heap) _ heap (c.apply.ensures.bounds ∙ ap bounds_of same) c.watch.ensures.watched
