@@ -3,7 +3,6 @@ pub mod OnNumberLists
 pub mod OnKept
 pub mod OnOthers
 pub mod OnVariables
-pub mod OnLastClocks
 pub mod OnForgotten
 pub mod OnLast
 pub mod OnLookUps
@@ -13,13 +12,15 @@ pub mod OnLatest
 pub mod OnBeside
 pub mod OnClocks
 pub mod OnRaised
-pub mod OnClockRoom
 pub mod OnAlone
 pub mod OnNoted
-pub mod OnReadClocks
 pub mod OnCleared
-pub mod OnAdvance
-pub mod OnBlankClocks
+pub mod OnRows
+pub mod OnReadPlaces
+pub mod OnReadClocks
+pub mod OnReadsKnown
+pub mod OnReadLists
 pub mod OnOrder
 pub mod OnTops
 pub mod OnThreads
+pub mod OnPlaces

@@ -1,5 +1,5 @@
 -- What the clocks have after an event was noted, place by place.
-use Rattle.std.proofs.Common.{◌≡◌, ℕ, ◌+◌, ◌<◌, ◌≤◌, max, Bool, true, false, List, ◌∷◌, length, map, get_or, refl, sym, ap, ◌∙◌, subst, arith, ⊎_elim}
+use Rattle.std.proofs.Common.{◌≡◌, ℕ, ◌+◌, ◌<◌, max, Bool, true, false, List, ◌∷◌, length, map, get_or, refl, sym, ap, ◌∙◌, arith, ⊎_elim}
 use Rattle.std.specs.Prelude.{◌==◌, ◌||◌, if◌then◌else◌}
 use Rattle.std.proofs.Math.ListN.{set}
 use Rattle.std.proofs.lemmas.Bool.{cases_eq, cases_lt, ne_eqb, eq-eqb}
@@ -11,10 +11,9 @@ use Rattle.velo_events.specs.declared.event.Kind.TheVariants.{Read, Write, Acqui
 use Rattle.velo_events.specs.Event.{thread_of}
 use Rattle.velo_tables.proofs.OnKept.{get_or-set}
 use Rattle.velo_tables.specs.Clocks.{Clock, ClockState, ClockPlace, OfLast, OfWrite, OfReads, OfLock, IsNoted, blank_clock, clock_at, known_at, foreign_at, clock_of, beside, greatest_of, stays, is_noted, is_cleared}
-use Rattle.velo_tables.specs.Noted.{maxima, nothing_in, cleared_at, alone_at, joint_at, clock_beside, joined_clock, state_after_beside, state_after, with_thread, HasRoomAt, AreWithin, IsSized, HasRoomToNoteBeside, HasRoomToNote}
+use Rattle.velo_tables.specs.Noted.{maxima, cleared_at, alone_at, joint_at, clock_beside, joined_clock, state_after_beside, state_after, with_thread, HasRoomAt, AreWithin, IsSized, HasRoomToNoteBeside, HasRoomToNote}
 use Rattle.velo_tables.proofs.OnRaised.{get_or-raised, length-raised}
-use Rattle.velo_tables.proofs.OnClockRoom.{each-set}
-use Rattle.velo_tables.proofs.OnCleared.{length-nothing, get_or-nothing}
+use Rattle.velo_tables.proofs.OnCleared.{get_or-nothing}
 
 -- ---- the clock of the event
 
@@ -218,65 +217,7 @@ module _ (n : ℕ) (s : ClockState) (position : ℕ) (e : Event) (sized : IsSize
   pub IsNoted-noted : IsNoted s position e (state_after s clock e)
   IsNoted-noted = record { known = known-after; foreign = foreign-after }
 
--- ---- sizes
-
-set-room : (n : ℕ) (xs : List Clock) (j i : ℕ) (c : Clock) → j < length xs → length c.known ≡ n → length c.foreign ≡ n → HasRoomAt n xs i → HasRoomAt n (set xs j c) i
-set-room n xs j i c within known foreign room = ⊎_elim
-    (λ at. subst (HasRoomAt n (set xs j c)) at (record {
-      known = ap (λ (d : Clock). length d.known) (get_or-set_same xs j c blank_clock within) ∙ known;
-      foreign = ap (λ (d : Clock). length d.foreign) (get_or-set_same xs j c blank_clock within) ∙ foreign;
-    }))
-    (λ off. record {
-      known = ap (λ (d : Clock). length d.known) (get_or-set_other xs j i c blank_clock (λ e. off (sym e))) ∙ room.known;
-      foreign = ap (λ (d : Clock). length d.foreign) (get_or-set_other xs j i c blank_clock (λ e. off (sym e))) ∙ room.foreign;
-    })
-    (cases_eq j i)
-
-set-within : (n : ℕ) (xs : List Clock) (j : ℕ) (c : Clock) → j < length xs → length c.known ≡ n → length c.foreign ≡ n → AreWithin n xs → AreWithin n (set xs j c)
-set-within n xs j c within known foreign all = record {
-  known = each-set (λ d. length d.known ≤ n) xs j c within (omega (arith, known)) all.known;
-  foreign = each-set (λ d. length d.foreign ≤ n) xs j c within (omega (arith, foreign)) all.foreign;
-}
-
-module _ (n : ℕ) (clock : List ℕ) (by : ℕ) (long : length clock ≡ n) (own : by < n) where
-  pub thread-sized : (s : ClockState) (t : ℕ) → t < n → IsSized n s → IsSized n (with_thread s t (alone_at clock by))
-  thread-sized s t there sized = record {
-    count = length-set s.threads t (alone_at clock by) ∙ sized.count;
-    each = λ u l. set-room n s.threads t u (alone_at clock by) (omega (arith, there, sized.count)) long (length-set clock by 0 ∙ long) (sized.each u l);
-    threads = set-within n s.threads t (alone_at clock by) (omega (arith, there, sized.count)) long (length-set clock by 0 ∙ long) sized.threads;
-    writes = sized.writes;
-    reads = sized.reads;
-    locks = sized.locks;
-  }
-
-  alone-within : (xs : List Clock) (j : ℕ) → HasRoomAt n xs j → AreWithin n xs → AreWithin n (set xs j (alone_at clock by))
-  alone-within xs j room all = set-within n xs j (alone_at clock by) (room-within n xs j (omega (arith, own)) room) long (length-set clock by 0 ∙ long) all
-
-  added-within : (xs : List Clock) (j : ℕ) → HasRoomAt n xs j → AreWithin n xs → AreWithin n (set xs j (joint_at (get_or xs j blank_clock) clock by))
-  added-within xs j room all = set-within n xs j (joint_at (get_or xs j blank_clock) clock by) (room-within n xs j (omega (arith, own)) room)
-      (length-raised (get_or xs j blank_clock).known clock ∙ room.known) (length-set (maxima (get_or xs j blank_clock).foreign clock) by _ ∙ (length-raised (get_or xs j blank_clock).foreign clock ∙ room.foreign)) all
-
-  cleared-within : (xs : List Clock) (j : ℕ) → AreWithin n xs → AreWithin n (set xs j (cleared_at (get_or xs j blank_clock)))
-  cleared-within xs j all = ⊎_elim
-      (λ within.
-      let few : length (nothing_in (get_or xs j blank_clock).known) ≤ n = omega (arith, length-nothing (get_or xs j blank_clock).known, all.known j) in
-      record {
-        known = each-set (λ d. length d.known ≤ n) xs j (cleared_at (get_or xs j blank_clock)) within few all.known;
-        foreign = each-set (λ d. length d.foreign ≤ n) xs j (cleared_at (get_or xs j blank_clock)) within few all.foreign;
-      })
-      (λ past. subst (AreWithin n) (sym (set_past xs j (cleared_at (get_or xs j blank_clock)) past)) all)
-      (cases_lt j (length xs))
-
-  sized-beside : (s : ClockState) (k : Kind) → HasRoomToNoteBeside n s k → IsSized n s → IsSized n (state_after_beside s by k clock)
-  sized-beside s (Read x v) room sized = record { count = sized.count; each = sized.each; threads = sized.threads; writes = sized.writes; reads = added-within s.reads x.0 room sized.reads; locks = sized.locks }
-  sized-beside s (Write x v) room sized = record { count = sized.count; each = sized.each; threads = sized.threads; writes = alone-within s.writes x.0 room sized.writes; reads = cleared-within s.reads x.0 sized.reads; locks = sized.locks }
-  sized-beside s (Acquire m) room sized = record { count = sized.count; each = sized.each; threads = sized.threads; writes = sized.writes; reads = sized.reads; locks = alone-within s.locks m.0 room sized.locks }
-  sized-beside s (Release m) room sized = record { count = sized.count; each = sized.each; threads = sized.threads; writes = sized.writes; reads = sized.reads; locks = alone-within s.locks m.0 room sized.locks }
-  sized-beside s (Fork u) room sized = thread-sized s u.0 room sized
-  sized-beside s (Begin l) room sized = sized
-  sized-beside s End room sized = sized
-  sized-beside s (Join u) room sized = sized
-  sized-beside s Exit room sized = sized
+-- ---- room
 
 pub room-kept : (n : ℕ) (s : ClockState) (t : ℕ) (c : Clock) (k : Kind) → HasRoomToNoteBeside n s k → HasRoomToNoteBeside n (with_thread s t c) k
 room-kept n s t c (Read x v) room = room
@@ -288,10 +229,3 @@ room-kept n s t c (Begin l) room = room
 room-kept n s t c End room = room
 room-kept n s t c (Join u) room = room
 room-kept n s t c Exit room = room
-
--- an event that was noted keeps the sizes
-pub IsSized-noted : (n : ℕ) (s : ClockState) (clock : List ℕ) (e : Event) → length clock ≡ n → IsSized n s → HasRoomToNote n s e → IsSized n (state_after s clock e)
-unfolding state_after
-IsSized-noted n s clock e long sized room =
-    sized-beside n clock (thread_of e) long room.own (with_thread s (thread_of e) (alone_at clock (thread_of e))) e.kind (room-kept n s (thread_of e) (alone_at clock (thread_of e)) e.kind room.beside)
-    (thread-sized n clock (thread_of e) long room.own s (thread_of e) room.own sized)

@@ -341,56 +341,6 @@ module _ (lists : List (List ℕ)) (i n : ℕ) where
   pub long-with_list : length (get_or lists i []) ≤ n → length (get_or (with_list n i lists) i []) ≡ n
   long-with_list within = omega (arith, ap length with_list-here, length-filled_up 0 n (get_or lists i []), within)
 
--- ---- a list is cut
-
-module _ (numbers : List ℕ) (stretches : List Stretch) (lists : List (List ℕ)) (laid : AreLaidOut numbers stretches) (view : map (list_in numbers) stretches ≡ lists) (i count : ℕ) (stretch : Stretch) (there : i < length lists) (at : stretch ≡ get_or stretches i stretch)
-    (within : count ≤ length (get_or lists i [])) where
-  abbrev short_stretch : Stretch
-  short_stretch = record { start = stretch.start; count = count }
-
-  there_stretch : i < length stretches
-  there_stretch = omega (arith, there, same_count numbers stretches lists laid view)
-
-  stretch_is : stretch ≡ get_or stretches i blank_stretch
-  stretch_is = at ∙ get_or_default stretches i stretch blank_stretch there_stretch
-
-  fewer : count ≤ stretch.count
-  fewer = omega (arith, within, count-is numbers stretches lists laid view i, ap (λ (s : Stretch). s.count) stretch_is)
-
-  cut-here : get_or (set stretches i short_stretch) i blank_stretch ≡ short_stretch
-  cut-here = get_or-set_same stretches i short_stretch blank_stretch there_stretch
-
-  cut-other : (j : ℕ) → ¬ (i ≡ j) → get_or (set stretches i short_stretch) j blank_stretch ≡ get_or stretches j blank_stretch
-  cut-other j off = get_or-set_other stretches i j short_stretch blank_stretch (λ e. off (sym e))
-
-  cut-start : (j : ℕ) → (get_or (set stretches i short_stretch) j blank_stretch).start ≡ (get_or stretches j blank_stretch).start
-  cut-start j = ⊎_elim
-      (λ same. subst (λ k. (get_or (set stretches i short_stretch) k blank_stretch).start ≡ (get_or stretches k blank_stretch).start) same (ap (λ (s : Stretch). s.start) (cut-here) ∙ ap (λ (s : Stretch). s.start) stretch_is))
-      (λ off. ap (λ (s : Stretch). s.start) (cut-other j off)) (cases_eq i j)
-
-  cut-count : (j : ℕ) → (get_or (set stretches i short_stretch) j blank_stretch).count ≤ (get_or stretches j blank_stretch).count
-  cut-count j = ⊎_elim
-      (λ same. subst (λ k. (get_or (set stretches i short_stretch) k blank_stretch).count ≤ (get_or stretches k blank_stretch).count) same (omega (arith, ap (λ (s : Stretch). s.count) cut-here, ap (λ (s : Stretch). s.count) stretch_is, fewer)))
-      (λ off. omega (arith, ap (λ (s : Stretch). s.count) (cut-other j off))) (cases_eq i j)
-
-  pub laid-cut : AreLaidOut numbers (set stretches i short_stretch)
-  laid-cut = record {
-    within = λ j. omega (arith, laid.within j, cut-start j, cut-count j);
-    apart = λ j k off. ⊎_elim (λ before. inl (omega (arith, before, cut-start j, cut-start k, cut-count j))) (λ behind. inr (omega (arith, behind, cut-start j, cut-start k, cut-count k))) (laid.apart j k off);
-  }
-
-  cut-list : list_in numbers short_stretch ≡ take count (get_or lists i [])
-  cut-list = sym (ap (take count) (list-is numbers stretches lists laid view i ∙ ap (list_in numbers) (sym stretch_is)) ∙ take-take count stretch.count (drop stretch.start numbers) fewer)
-
-  pub lists-cut : map (list_in numbers) (set stretches i short_stretch) ≡ set lists i (take count (get_or lists i []))
-  lists-cut = ext_get_or [] (map (list_in numbers) (set stretches i short_stretch)) (set lists i (take count (get_or lists i [])))
-      (omega (arith, length-map (set stretches i short_stretch) (list_in numbers), length-set stretches i short_stretch, length-set lists i (take count (get_or lists i [])), same_count numbers stretches lists laid view))
-      (λ j l. get_or-lists numbers (set stretches i short_stretch) j ∙ ⊎_elim
-      (λ same. subst (λ k. list_in numbers (get_or (set stretches i short_stretch) k blank_stretch) ≡ get_or (set lists i (take count (get_or lists i []))) k []) same
-      (ap (list_in numbers) cut-here ∙ (cut-list ∙ sym (get_or-set_same lists i (take count (get_or lists i [])) [] there))))
-      (λ off. ap (list_in numbers) (cut-other j off) ∙ (sym (list-is numbers stretches lists laid view j) ∙ sym (get_or-set_other lists i j (take count (get_or lists i [])) [] (λ e. off (sym e)))))
-      (cases_eq i j))
-
 -- of lists that are no longer than others, neither are the new ones
 pub both-with_list : (xs ys : List (List ℕ)) (i n j : ℕ) → ((k : ℕ) → length (get_or xs k []) ≤ length (get_or ys k [])) → length (get_or (with_list n i xs) j []) ≤ length (get_or (with_list n i ys) j [])
 both-with_list xs ys i n j shorter = ⊎_elim

@@ -67,12 +67,14 @@ pub record Clock : Type 0 where
 abbrev pub blank_clock : Clock
 blank_clock = record { known = []; foreign = [] }
 
--- by number: what is kept of each thread, and of each variable and lock for which there is room
+-- by number: what is kept of each thread, and of each variable and lock for which there is room; and whether there is room for the next event
 pub record ClockState : Type 0 where
   pub threads : List Clock
   pub writes : List Clock
   pub reads : List Clock
   pub locks : List Clock
+  -- there is room for what one more event knows of the threads
+  pub has_spare : Bool
 
 abbrev pub clock_at : ClockState → ClockPlace → Clock
 clock_at s (OfLast t) = slice_index_or s.threads t blank_clock

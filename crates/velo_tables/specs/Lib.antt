@@ -10,4 +10,6 @@ pub mod Last
 pub mod Clocks
 pub mod Noted
 pub mod Order
+pub mod Epochs
 pub mod Reads
+pub mod Places

@@ -1,11 +1,9 @@
 -- What the clocks have after an event was noted, list by list. Private contracts cite these words, and public ones those of room; else public ones say it place by place.
-use Rattle.std.specs.Prelude.{◌≡◌, ℕ, ◌+◌, ◌<◌, ◌≤◌, max, List, [], ◌∷◌, length, replicate, slice_index_or, slice_set, ⊤}
+use Rattle.std.specs.Prelude.{◌≡◌, ℕ, Bool, ◌+◌, ◌<◌, ◌≤◌, max, List, [], ◌∷◌, length, replicate, slice_index_or, slice_set, IsTrue, ⊤}
 use Rattle.velo_events.specs.declared.event.Event.{Event}
-use Rattle.velo_tables.specs.declared.last_clocks.LastEvent.{LastEvent}
 use Rattle.velo_events.specs.declared.event.Kind.{Kind}
 use Rattle.velo_events.specs.declared.event.Kind.TheVariants.{Read, Write, Acquire, Release, Fork, Join}
 use Rattle.velo_events.specs.Event.{thread_of}
-use Rattle.velo_tables.specs.Readers.{filled_up}
 use Rattle.velo_tables.specs.Clocks.{Clock, ClockState, OfLast, OfWrite, OfReads, OfLock, blank_clock, clock_at}
 
 -- ---- lists of numbers
@@ -22,20 +20,6 @@ maxima (x ∷ xs) (y ∷ ys) = max x y ∷ maxima xs ys
 abbrev pub alone_at : List ℕ → ℕ → Clock
 alone_at clock t = record { known = clock; foreign = slice_set clock t 0 }
 
--- by number of a place: an event with this clock stands there alone, and is this one
-abbrev pub alones : List (List ℕ) → List LastEvent → List Clock
-alones [] last = []
-alones (clock ∷ clocks) [] = alone_at clock 0 ∷ alones clocks []
-alones (clock ∷ clocks) (e ∷ es) = alone_at clock e.by.0 ∷ alones clocks es
-
-abbrev pub no_event : LastEvent
-no_event = record { by = record { 0 = 0 }; number = 0 }
-
--- these are the events, and know their own threads by these numbers
-pub record AreLast (clocks : List (List ℕ)) (last : List LastEvent) : Type 0 where
-  pub places : length clocks ≤ length last
-  pub numbers : (i : ℕ) → (slice_index_or last i no_event).number ≡ slice_index_or (slice_index_or clocks i []) (slice_index_or last i no_event).by.0 0
-
 -- it stands there beside the others
 abbrev pub joint_at : Clock → List ℕ → ℕ → Clock
 joint_at old clock t = record { known = maxima old.known clock; foreign = slice_set (maxima old.foreign clock) t (slice_index_or old.foreign t 0) }
@@ -47,10 +31,6 @@ nothing_in numbers = replicate (length numbers) 0
 -- nothing stands there any more
 abbrev pub cleared_at : Clock → Clock
 cleared_at old = record { known = nothing_in old.known; foreign = nothing_in old.known }
-
--- with room for the numbers of n threads
-abbrev pub with_room : ℕ → Clock → Clock
-with_room n c = record { known = filled_up 0 n c.known; foreign = filled_up 0 n c.foreign }
 
 -- ---- some places, by number
 
@@ -103,6 +83,7 @@ HasRoomToNoteBeside n s _ = ⊤
 pub record HasRoomToNote (n : ℕ) (s : ClockState) (e : Event) : Type 0 where
   pub own : thread_of e < n
   pub beside : HasRoomToNoteBeside n s e.kind
+  pub spare : IsTrue s.has_spare
 
 -- what an operation joins to the clock of its thread's last event
 abbrev pub clock_beside : ClockState → Kind → List ℕ → List ℕ
@@ -118,16 +99,16 @@ unfoldable pub joined_clock : ClockState → ℕ → Event → List ℕ
 joined_clock s position e = slice_set (clock_beside s e.kind (clock_at s (OfLast (thread_of e))).known) (thread_of e) (position + 1)
 
 abbrev pub with_thread : ClockState → ℕ → Clock → ClockState
-with_thread s t c = record { threads = slice_set s.threads t c; writes = s.writes; reads = s.reads; locks = s.locks }
+with_thread s t c = record { threads = slice_set s.threads t c; writes = s.writes; reads = s.reads; locks = s.locks; has_spare = s.has_spare }
 
 abbrev pub with_write : ClockState → ℕ → Clock → ClockState
-with_write s x c = record { threads = s.threads; writes = slice_set s.writes x c; reads = s.reads; locks = s.locks }
+with_write s x c = record { threads = s.threads; writes = slice_set s.writes x c; reads = s.reads; locks = s.locks; has_spare = s.has_spare }
 
 abbrev pub with_reads : ClockState → ℕ → Clock → ClockState
-with_reads s x c = record { threads = s.threads; writes = s.writes; reads = slice_set s.reads x c; locks = s.locks }
+with_reads s x c = record { threads = s.threads; writes = s.writes; reads = slice_set s.reads x c; locks = s.locks; has_spare = s.has_spare }
 
 abbrev pub with_lock : ClockState → ℕ → Clock → ClockState
-with_lock s m c = record { threads = s.threads; writes = s.writes; reads = s.reads; locks = slice_set s.locks m c }
+with_lock s m c = record { threads = s.threads; writes = s.writes; reads = s.reads; locks = slice_set s.locks m c; has_spare = s.has_spare }
 
 -- after what the operation of thread t with this clock notes beside the last of t
 abbrev pub state_after_beside : ClockState → ℕ → Kind → List ℕ → ClockState
@@ -140,3 +121,7 @@ state_after_beside s t _ clock = s
 
 unfoldable pub state_after : ClockState → List ℕ → Event → ClockState
 state_after s clock e = state_after_beside (with_thread s (thread_of e) (alone_at clock (thread_of e))) (thread_of e) e.kind clock
+
+-- whether there is room for the next event is another matter
+abbrev pub with_spare : Bool → ClockState → ClockState
+with_spare b s = record { threads = s.threads; writes = s.writes; reads = s.reads; locks = s.locks; has_spare = b }

@@ -1,11 +1,11 @@
 -- Events that are noted in the order of a run: who knows an event knows all that it knows. So where the events of a place are known, there is nothing to join.
 -- Private contracts cite these words.
-use Rattle.std.specs.Prelude.{◌≡◌, ℕ, Bool, ◌<◌, ◌≤◌, List, slice_index_or, IsTrue, ⊤}
+use Rattle.std.specs.Prelude.{◌≡◌, ℕ, ◌<◌, ◌≤◌, List, slice_index_or, ⊤}
 use Rattle.velo_events.specs.declared.event.Event.{Event}
 use Rattle.velo_events.specs.declared.event.Kind.{Kind}
-use Rattle.velo_events.specs.declared.event.Kind.TheVariants.{Fork}
-use Rattle.velo_tables.specs.Clocks.{Clock, ClockState, ClockPlace, OfLast, clock_at, known_at}
-use Rattle.velo_tables.specs.Noted.{maxima, IsSized}
+use Rattle.velo_events.specs.declared.event.Kind.TheVariants.{Read, Write, Acquire, Release, Fork, Join}
+use Rattle.velo_tables.specs.Clocks.{Clock, ClockState, ClockPlace, OfLast, OfWrite, OfReads, OfLock, clock_at, known_at}
+use Rattle.velo_tables.specs.Noted.{maxima}
 
 -- ---- one place
 
@@ -20,6 +20,17 @@ pub record KnowsTops (c : Clock) (clock : List ℕ) : Type 0 where
 -- then it knows all that is known at the place
 abbrev pub TopsTell : Clock → List ℕ → Type 0
 TopsTell c clock = KnowsTops c clock → maxima clock c.known ≡ clock
+
+-- ---- the places beside
+
+-- the clock knows what the events of each place do whose events conflict with the operation
+abbrev pub KnowsBeside : ClockState → Kind → List ℕ → Type 0
+KnowsBeside s (Read x v) clock = KnowsTops (clock_at s (OfWrite x.0)) clock
+KnowsBeside s (Write x v) clock = KnowsTops (clock_at s (OfWrite x.0)) clock × KnowsTops (clock_at s (OfReads x.0)) clock
+KnowsBeside s (Acquire m) clock = KnowsTops (clock_at s (OfLock m.0)) clock
+KnowsBeside s (Release m) clock = KnowsTops (clock_at s (OfLock m.0)) clock
+KnowsBeside s (Join u) clock = KnowsTops (clock_at s (OfLast u.0)) clock
+KnowsBeside s _ clock = ⊤
 
 -- ---- all places
 
@@ -52,9 +63,8 @@ pub record KeepsOrder (s : ClockState) (latest position : ℕ) (e : Event) : Typ
   pub later : latest ≤ position
   pub forked : ForksUnknown s e.kind
 
--- ---- the tables
-
--- Each of the n threads has a number for each, and the places are in order where this is said.
-pub record AreTables (n latest : ℕ) (in_order : Bool) (s : ClockState) : Type 0 where
-  pub sized : IsSized n s
-  pub order : IsTrue in_order → IsInOrder latest s
+-- the event at the position comes after all that is known
+pub record IsAhead (s : ClockState) (position : ℕ) : Type 0 where
+  pub closed : IsClosed s
+  pub own : (p : ClockPlace) (t : ℕ) → known_at s p t ≤ known_at s (OfLast t) t
+  pub later : (p : ClockPlace) (u : ℕ) → known_at s p u ≤ position

@@ -1,333 +1,320 @@
 ghost use Rattle.velo_events.specs.Refusals.{GrowthRefused};
-ghost use Rattle.std.specs.Prelude.{◌≡◌, ◌<◌, ◌≤◌, ◌+◌, ◌^◌, [], length, slice_index_or, slice_set, replicate, IsTrue, IfOk, OnOk, OnErr};
-ghost use Rattle.velo_tables.specs.Readers.{filled_up};
+ghost use Rattle.std.specs.Prelude.{◌≡◌, ◌<◌, ◌≤◌, ◌+◌, ◌^◌, ℕ, true, false, [], length, slice_index_or, slice_set, IsTrue, IfOk, OnOk, OnErr};
 ghost use Rattle.velo_events.specs.Event.{thread_of};
 ghost use Rattle.velo_tables.specs.Clocks.{blank_clock, clock_at, OfLast, blame_bound, KnowsNothing, KnowsTheSame};
-ghost use Rattle.velo_tables.specs.Noted.{maxima, alone_at, joint_at, with_room, with_thread, clock_beside, joined_clock, state_after_beside, state_after, HasRoomAt, AreWithin, KeepNumbers, IsSized, HasRoomToNote, IsOfThreads};
-ghost use Rattle.velo_tables.specs.Order.{TopsTell, IsClosed, KeepsOrder};
+ghost use Rattle.velo_tables.specs.Noted.{clock_beside, joined_clock, state_after_beside, state_after, with_spare, HasRoomToNoteBeside, HasRoomToNote, IsOfThreads};
+ghost use Rattle.velo_tables.specs.Order.{KeepsOrder, KnowsBeside, IsAhead, IsClosed};
+ghost use Rattle.velo_tables.specs.Epochs.{clock_in, alones_in, has_spare, AreRows, IsInUse};
+ghost use Rattle.velo_tables.specs.Reads.{has_lists, FollowsOwn};
+ghost use Rattle.velo_tables.specs.Places.{state_of, is_ready, ArePlaces, KeepsPlaces};
 
-use crate::clock_place::PlaceClock;
-use crate::last_clocks::LastClocks;
-use crate::numbers::number_of;
+use crate::epochs::Epoch;
+use crate::filling::fill_up_to;
 use crate::read_clocks::ReadClocks;
+use crate::shared_rows::SharedRows;
 use std::alloc::Global;
-use std::marker::Model;
-use velo_events::growth::with_capacity;
+use velo_events::growth::filled;
 use velo_events::{Event, Kind, Memory, ThreadId};
 
-/// What is known at the places of a run, by number.
+/// What is known at the places of a run, by number: by the last event of each thread and lock and the last write of each
+/// variable, and by the reads since then.
+///
+/// An event that learns nothing shares the row of its thread's last event, so that what it knows is written down by one epoch.
 #[derive(Debug, Drop)]
 pub(crate) struct PlaceClocks {
-    threads: Vec<PlaceClock>,
-    writes: LastClocks,
-    reads: ReadClocks,
-    locks: LastClocks,
-}
-
-impl Model for PlaceClocks {
-    ghost use Rattle.velo_tables.specs.Clocks.{ClockState};
-
-    ghost Value = { ClockState };
-
-    ghost view = { λ s. record { threads = s.threads.items; writes = s.writes; reads = s.reads; locks = s.locks } };
-}
-
-/// The places of that many threads, with room for what their events know.
-fn blank_threads(alloc: Global, threads: usize) -> Result<Vec<PlaceClock>, Memory>
-    ensures blank { IfOk result (λ places. places.items ≡ replicate threads (with_room threads blank_clock)) }
-    ensures memory { OnErr result GrowthRefused }
-{
-    let mut places = with_capacity(alloc, threads)?;
-    for _ in 0..threads {
-        let place = PlaceClock::blank(alloc, threads)?;
-        places.push_reserved(place);
-    }
-    Ok(places)
-}
-
-/// What the events of other threads than this one, at the place with this number, know of it.
-fn foreign_at(places: &[PlaceClock], number: usize, t: ThreadId) -> u32
-    ensures { result ≡ slice_index_or (slice_index_or places.now number blank_clock).foreign t.0 0 }
-{
-    if number < places.len() {
-        places[number].foreign(t)
-    } else {
-        0
-    }
-}
-
-/// What the events at the place with this number know of the thread.
-fn known_at(places: &[PlaceClock], number: usize, t: ThreadId) -> u32
-    ensures { result ≡ slice_index_or (slice_index_or places.now number blank_clock).known t.0 0 }
-{
-    if number < places.len() {
-        number_of(places[number].known(), t)
-    } else {
-        0
-    }
-}
-
-/// Raises what an event knows by what the events of the place with this number know.
-fn join_place(clock: &mut [u32], places: &[PlaceClock], number: usize)
-    requires { AreWithin (length clock.old) places.now }
-    ensures { clock.new ≡ maxima clock.old (slice_index_or places.now number blank_clock).known }
-{
-    if number < places.len() {
-        places[number].join_to(clock);
-    }
-}
-
-/// An event of the thread stands alone at the place with this number.
-fn replace_place(places: &mut [PlaceClock], number: usize, clock: &[u32], by: ThreadId)
-    requires room { HasRoomAt (length clock.now) places.old number }
-    requires by { by.0 < length clock.now }
-    ensures { places.new ≡ slice_set places.old number (alone_at clock.now by.0) }
-{
-    let place = &mut places[number];
-    place.replace(clock, by);
-}
-
-/// The thread knows this too.
-fn raise_thread(threads: &mut [PlaceClock], t: ThreadId, known: &[u32])
-    requires own { t.0 < length threads.old }
-    requires within { length known.now ≤ length (slice_index_or threads.old t.0 blank_clock).known }
-    ensures { threads.new ≡ slice_set threads.old t.0 (alone_at (maxima (slice_index_or threads.old t.0 blank_clock).known known.now) t.0) }
-{
-    threads[t.0 as usize].raise_by(known, t);
-}
-
-/// The thread knows what the event at the place with this number knows.
-fn learn_last(
-    threads: &mut [PlaceClock],
-    t: ThreadId,
-    places: &LastClocks,
-    number: usize,
-    is_closed: bool,
-)
-    requires own { t.0 < length threads.old }
-    requires within { AreWithin (length (slice_index_or threads.old t.0 blank_clock).known) places.now }
-    requires closed { IsTrue is_closed → TopsTell (slice_index_or places.now number blank_clock) (slice_index_or threads.old t.0 blank_clock).known }
-    ensures { threads.new ≡ slice_set threads.old t.0 (alone_at (maxima (slice_index_or threads.old t.0 blank_clock).known (slice_index_or places.now number blank_clock).known) t.0) }
-{
-    if is_closed && places.is_known(number, threads[t.0 as usize].known()) {
-        threads[t.0 as usize].stand_alone(t);
-    } else {
-        raise_thread(threads, t, places.known(number));
-    }
-}
-
-/// The thread knows what the reads at the place with this number know.
-fn learn_reads(
-    threads: &mut [PlaceClock],
-    t: ThreadId,
-    places: &ReadClocks,
-    number: usize,
-    is_closed: bool,
-)
-    requires own { t.0 < length threads.old }
-    requires within { AreWithin (length (slice_index_or threads.old t.0 blank_clock).known) places.now }
-    requires closed { IsTrue is_closed → TopsTell (slice_index_or places.now number blank_clock) (slice_index_or threads.old t.0 blank_clock).known }
-    ensures { threads.new ≡ slice_set threads.old t.0 (alone_at (maxima (slice_index_or threads.old t.0 blank_clock).known (slice_index_or places.now number blank_clock).known) t.0) }
-{
-    if is_closed && places.is_known(number, threads[t.0 as usize].known()) {
-        threads[t.0 as usize].stand_alone(t);
-    } else {
-        raise_thread(threads, t, places.known(number));
-    }
-}
-
-/// The thread knows what the last write and the reads of the variable with this number know.
-fn learn_both(
-    threads: &mut [PlaceClock],
-    t: ThreadId,
-    writes: &LastClocks,
-    reads: &ReadClocks,
-    number: usize,
-    is_closed: bool,
-)
-    requires own { t.0 < length threads.old }
-    requires writes { AreWithin (length (slice_index_or threads.old t.0 blank_clock).known) writes.now }
-    requires reads { AreWithin (length (slice_index_or threads.old t.0 blank_clock).known) reads.now }
-    requires write_closed { IsTrue is_closed → TopsTell (slice_index_or writes.now number blank_clock) (slice_index_or threads.old t.0 blank_clock).known }
-    requires reads_closed { IsTrue is_closed → TopsTell (slice_index_or reads.now number blank_clock) (maxima (slice_index_or threads.old t.0 blank_clock).known (slice_index_or writes.now number blank_clock).known) }
-    ensures { threads.new ≡ slice_set threads.old t.0 (alone_at (maxima (maxima (slice_index_or threads.old t.0 blank_clock).known (slice_index_or writes.now number blank_clock).known) (slice_index_or reads.now number blank_clock).known) t.0) }
-{
-    learn_last(threads, t, writes, number, is_closed);
-    learn_reads(threads, t, reads, number, is_closed);
-}
-
-/// The thread's last event is one that it knows by this number.
-fn tick_thread(threads: &mut [PlaceClock], t: ThreadId, number: u32)
-    requires own { t.0 < length threads.old }
-    requires by { t.0 < length (slice_index_or threads.old t.0 blank_clock).known }
-    ensures { threads.new ≡ slice_set threads.old t.0 (alone_at (slice_set (slice_index_or threads.old t.0 blank_clock).known t.0 number) t.0) }
-{
-    threads[t.0 as usize].tick(t, number);
-}
-
-/// The thread knows what the other one knows.
-fn join_threads(threads: &mut [PlaceClock], t: ThreadId, u: ThreadId, list: &mut [u32])
-    requires own { t.0 < length threads.old }
-    requires room { HasRoomAt (length list.old) threads.old t.0 }
-    requires by { t.0 < length list.old }
-    requires within { AreWithin (length list.old) threads.old }
-    ensures { threads.new ≡ slice_set threads.old t.0 (alone_at (maxima (slice_index_or threads.old t.0 blank_clock).known (slice_index_or threads.old u.0 blank_clock).known) t.0) }
-{
-    threads[t.0 as usize].copy_to(list);
-    join_place(list, threads, u.0 as usize);
-    replace_place(threads, t.0 as usize, list, t);
-}
-
-/// The other thread knows what the thread knows.
-fn copy_thread(threads: &mut [PlaceClock], t: ThreadId, u: ThreadId, list: &mut [u32])
-    requires own { t.0 < length threads.old }
-    requires all { length (slice_index_or threads.old t.0 blank_clock).known ≡ length list.old }
-    requires room { HasRoomAt (length list.old) threads.old u.0 }
-    requires by { t.0 < length list.old }
-    ensures { threads.new ≡ slice_set threads.old u.0 (alone_at (slice_index_or threads.old t.0 blank_clock).known t.0) }
-{
-    threads[t.0 as usize].copy_to(list);
-    replace_place(threads, u.0 as usize, list, t);
+    pub rows: SharedRows,
+    pub threads: Vec<Epoch>,
+    pub writes: Vec<Epoch>,
+    pub reads: ReadClocks,
+    pub locks: Vec<Epoch>,
 }
 
 impl PlaceClocks {
     /// Places of that many threads, at which nothing is known.
     pub fn new(alloc: Global, threads: usize) -> Result<PlaceClocks, Memory>
-        ensures sized { IfOk result (IsSized threads) }
-        ensures blank { IfOk result KnowsNothing }
+        ensures places { IfOk result (ArePlaces threads) }
+        ensures blank { IfOk result (λ places. KnowsNothing (state_of places)) }
         ensures memory { OnErr result GrowthRefused }
     {
-        let blanks = blank_threads(alloc, threads)?;
+        let rows = SharedRows::new(alloc, threads)?;
+        let blanks = filled(alloc, Epoch::blank(), threads)?;
         Ok(PlaceClocks {
+            rows,
             threads: blanks,
-            writes: LastClocks::new(alloc),
+            writes: Vec::new(alloc),
             reads: ReadClocks::new(alloc),
-            locks: LastClocks::new(alloc),
+            locks: Vec::new(alloc),
         })
     }
 
     /// Makes room for what the event notes.
+    #[inline]
     pub fn reserve_for(&mut self, event: &Event, threads: usize) -> Result<(), Memory>
-        requires { IsSized threads self.old }
-        ensures unchanged { KnowsTheSame self.old self.new }
-        ensures sized { IsSized threads self.new }
-        ensures ok { OnOk result (IsOfThreads threads event.now → HasRoomToNote threads self.new event.now) }
-        ensures err { OnErr result (¬ HasRoomToNote threads self.old event.now) }
+        requires { ArePlaces threads self.old }
+        ensures places { ArePlaces threads self.new }
+        ensures unchanged { KnowsTheSame (state_of self.old) (state_of self.new) }
+        ensures ok { OnOk result (IsOfThreads threads event.now → HasRoomToNote threads (state_of self.new) event.now) }
+        ensures err { OnErr result (¬ HasRoomToNote threads (state_of self.old) event.now) }
+        ensures memory { OnErr result GrowthRefused }
+    {
+        self.reserve_beside(event, threads)?;
+        self.reserve_lists(threads)?;
+        self.reserve_row(threads)
+    }
+
+    /// Makes room at the places beside the last of the event's thread.
+    fn reserve_beside(&mut self, event: &Event, threads: usize) -> Result<(), Memory>
+        requires { ArePlaces threads self.old }
+        ensures places { ArePlaces threads self.new }
+        ensures unchanged { KnowsTheSame (state_of self.old) (state_of self.new) }
+        ensures rows { self.new.rows ≡ self.old.rows }
+        ensures lists { has_lists self.new.reads ≡ has_lists self.old.reads }
+        ensures ok { OnOk result (IsOfThreads threads event.now → HasRoomToNoteBeside threads (state_of self.new) event.now.kind) }
+        ensures err { OnErr result (0 < threads → ¬ HasRoomToNoteBeside threads (state_of self.old) event.now.kind) }
         ensures memory { OnErr result GrowthRefused }
     {
         match event.kind {
-            Kind::Read(x, _) => self.reads.reserve(x.0 as usize, threads),
-            Kind::Write(x, _) => self.writes.reserve(x.0 as usize, threads),
-            Kind::Acquire(m) | Kind::Release(m) => self.locks.reserve(m.0 as usize, threads),
+            Kind::Read(x, _) => self.reads.reserve(x.0 as usize),
+            Kind::Write(x, _) => fill_up_to(&mut self.writes, x.0 as usize, Epoch::blank()),
+            Kind::Acquire(m) | Kind::Release(m) => {
+                fill_up_to(&mut self.locks, m.0 as usize, Epoch::blank())
+            }
             _ => Ok(()),
         }
     }
 
+    /// Makes lists for one more place at which several threads read.
+    #[inline]
+    fn reserve_lists(&mut self, threads: usize) -> Result<(), Memory>
+        requires { ArePlaces threads self.old }
+        ensures places { ArePlaces threads self.new }
+        ensures kept { state_of self.new ≡ with_spare (is_ready self.new) (state_of self.old) }
+        ensures rows { self.new.rows ≡ self.old.rows }
+        ensures ok { OnOk result (has_lists self.new.reads ≡ true) }
+        ensures err { OnErr result (has_lists self.old.reads ≡ false) }
+        ensures memory { OnErr result GrowthRefused }
+    {
+        if self.reads.has_lists() {
+            return Ok(());
+        }
+        self.reads.reserve_lists(&self.rows, threads)
+    }
+
+    /// Makes room for what the next event knows.
+    #[inline]
+    fn reserve_row(&mut self, threads: usize) -> Result<(), Memory>
+        requires { ArePlaces threads self.old }
+        ensures places { ArePlaces threads self.new }
+        ensures kept { KeepsPlaces self.old self.new }
+        ensures ok { OnOk result (has_spare self.new.rows ≡ true) }
+        ensures err { OnErr result (has_spare self.old.rows ≡ false) }
+        ensures memory { OnErr result GrowthRefused }
+    {
+        if self.rows.has_spare() {
+            return Ok(());
+        }
+        self.find_row(threads)
+    }
+
+    /// Finds a row that is not in use, or makes one. Rows are released only where there are more than twice as many as epochs,
+    /// so that at least half of them come free.
+    #[inline(never)]
+    fn find_row(&mut self, threads: usize) -> Result<(), Memory>
+        requires { ArePlaces threads self.old }
+        ensures places { ArePlaces threads self.new }
+        ensures kept { KeepsPlaces self.old self.new }
+        ensures ok { OnOk result (has_spare self.new.rows ≡ true) }
+        ensures memory { OnErr result GrowthRefused }
+    {
+        self.rows.seek();
+        if self.rows.has_spare() {
+            return Ok(());
+        }
+        if self.rows.count() / 2 <= self.most_epochs() {
+            return self.rows.append(threads);
+        }
+        self.release_rows(threads);
+        self.rows.seek();
+        if self.rows.has_spare() {
+            return Ok(());
+        }
+        self.rows.append(threads)
+    }
+
+    /// No more epochs than this stand for events.
+    fn most_epochs(&self) -> usize {
+        self.threads
+            .len()
+            .saturating_add(self.writes.len())
+            .saturating_add(self.reads.count())
+            .saturating_add(self.locks.len())
+    }
+
+    /// Only the rows of epochs that stand at places are in use.
+    fn release_rows(&mut self, threads: usize)
+        requires { ArePlaces threads self.old }
+        ensures places { ArePlaces threads self.new }
+        ensures rows { self.new.rows.rows ≡ self.old.rows.rows }
+        ensures kept { KeepsPlaces self.old self.new }
+    {
+        self.rows.release(threads);
+        self.rows.keep_epochs(&self.threads);
+        self.rows.keep_epochs(&self.writes);
+        self.rows.keep_epochs(&self.locks);
+        self.reads.keep_rows(&mut self.rows);
+    }
+
     /// Whether the places were in order and the event at the position keeps them so: it is later than all, and no thread is
     /// forked after its first event.
+    #[inline]
     pub fn stay_in_order(&self, in_order: bool, latest: u32, position: u32, event: &Event) -> bool
         ensures were { IsTrue result → IsTrue in_order }
-        ensures keeps { IsTrue result → KeepsOrder self.now latest position event.now }
+        ensures keeps { IsTrue result → KeepsOrder (state_of self.now) latest position event.now }
     {
         if !in_order || position < latest {
             return false;
         }
         match event.kind {
-            Kind::Fork(u) => known_at(&self.threads, u.0 as usize, u) == 0,
+            Kind::Fork(u) => self.rows.known(Epoch::at(&self.threads, u.0 as usize), u) == 0,
             _ => true,
         }
     }
 
     /// Notes the event at the position. The list is for what it needs to write down.
-    pub fn note(&mut self, list: &mut [u32], position: u32, event: &Event, is_closed: bool)
-        requires sized { IsSized (length list.old) self.old }
-        requires room { HasRoomToNote (length list.old) self.old event.now }
+    #[inline]
+    pub fn note(&mut self, clock: &mut [u32], position: u32, event: &Event, in_order: bool)
+        requires places { ArePlaces (length clock.old) self.old }
+        requires room { HasRoomToNote (length clock.old) (state_of self.old) event.now }
         requires fits { position + 1 < 2 ^ 32 }
-        requires closed { IsTrue is_closed → IsClosed self.old }
-        ensures { self.new ≡ state_after self.old (joined_clock self.old position event.now) event.now }
+        requires ahead { IsTrue in_order → IsAhead (state_of self.old) position }
+        ensures places { ArePlaces (length clock.old) self.new }
+        ensures noted { state_of self.new ≡ with_spare (is_ready self.new) (state_after (state_of self.old) (joined_clock (state_of self.old) position event.now) event.now) }
     {
-        self.advance(list, position, event, is_closed);
-        self.spread(list, event);
+        let row = self.row_of(clock, event, in_order);
+        let epoch = Epoch {
+            by: event.thread,
+            number: position + 1,
+            row,
+        };
+        self.threads[event.thread.0 as usize] = epoch;
+        self.spread(event, epoch, clock.len(), in_order);
     }
 
-    /// The thread of the event at the position knows what the event does.
-    fn advance(&mut self, list: &mut [u32], position: u32, event: &Event, is_closed: bool)
-        requires sized { IsSized (length list.old) self.old }
-        requires own { thread_of event.now < length list.old }
-        requires fits { position + 1 < 2 ^ 32 }
-        requires closed { IsTrue is_closed → IsClosed self.old }
-        ensures { self.new ≡ with_thread self.old (thread_of event.now) (alone_at (joined_clock self.old position event.now) (thread_of event.now)) }
+    /// The row of what the event knows of other threads.
+    #[inline]
+    fn row_of(&mut self, clock: &mut [u32], event: &Event, in_order: bool) -> usize
+        requires places { ArePlaces (length clock.old) self.old }
+        requires room { HasRoomToNote (length clock.old) (state_of self.old) event.now }
+        requires closed { IsTrue in_order → IsClosed (state_of self.old) }
+        ensures places { ArePlaces (length clock.old) self.new }
+        ensures kept { KeepsPlaces self.old self.new }
+        ensures in_use { IsInUse self.new.rows result }
+        ensures row { (x : ℕ) → slice_set (slice_index_or self.new.rows.rows result []) (thread_of event.now) x
+            ≡ slice_set (clock_beside (state_of self.old) event.now.kind (clock_at (state_of self.old) (OfLast (thread_of event.now))).known) (thread_of event.now) x }
     {
-        self.learn_beside(list, event, is_closed);
-        tick_thread(&mut self.threads, event.thread, position + 1);
+        let own = self.threads[event.thread.0 as usize];
+        if in_order && own.by.0 == event.thread.0 && self.knows_beside(own, event) {
+            return own.row;
+        }
+        self.learn_beside(clock, own, event);
+        self.rows.store(clock)
     }
 
-    /// The thread of the event knows what the events at the places beside know.
-    fn learn_beside(&mut self, list: &mut [u32], event: &Event, is_closed: bool)
-        requires sized { IsSized (length list.old) self.old }
-        requires own { thread_of event.now < length list.old }
-        requires closed { IsTrue is_closed → IsClosed self.old }
-        ensures { self.new ≡ with_thread self.old (thread_of event.now) (alone_at (clock_beside self.old event.now.kind (clock_at self.old (OfLast (thread_of event.now))).known) (thread_of event.now)) }
+    /// Whether the event knows what those at the places beside know.
+    #[inline]
+    fn knows_beside(&self, own: Epoch, event: &Event) -> bool
+        ensures { (threads : ℕ) → ArePlaces threads self.now → IsInUse self.now.rows own.row → IsTrue result → KnowsBeside (state_of self.now) event.now.kind (clock_in self.now.rows.rows own) }
     {
-        let t = event.thread;
-        let threads = self.threads.as_mut_slice();
         match event.kind {
-            Kind::Read(x, _) => learn_last(threads, t, &self.writes, x.0 as usize, is_closed),
-            Kind::Write(x, _) => learn_both(
-                threads,
-                t,
-                &self.writes,
-                &self.reads,
-                x.0 as usize,
-                is_closed,
-            ),
-            Kind::Acquire(m) | Kind::Release(m) => learn_last(
-                threads,
-                t,
-                &self.locks,
-                m.0 as usize,
-                is_closed,
-            ),
-            Kind::Join(u) => join_threads(threads, t, u, list),
-            _ => threads[t.0 as usize].stand_alone(t),
+            Kind::Read(x, _) => self.rows.knows(own, Epoch::at(&self.writes, x.0 as usize)),
+            Kind::Write(x, _) => {
+                self.rows.knows(own, Epoch::at(&self.writes, x.0 as usize))
+                    && self.reads.are_known(&self.rows, own, x.0 as usize)
+            }
+            Kind::Acquire(m) | Kind::Release(m) => {
+                self.rows.knows(own, Epoch::at(&self.locks, m.0 as usize))
+            }
+            Kind::Join(u) => self.rows.knows(own, Epoch::at(&self.threads, u.0 as usize)),
+            _ => true,
         }
     }
 
-    /// The places beside know what the thread of the event knows.
-    fn spread(&mut self, list: &mut [u32], event: &Event)
-        requires sized { IsSized (length list.old) self.old }
-        requires room { HasRoomToNote (length list.old) self.old event.now }
-        ensures { self.new ≡ state_after_beside self.old (thread_of event.now) event.now.kind (clock_at self.old (OfLast (thread_of event.now))).known }
+    /// Writes down what is known by an event and by those at the places beside.
+    fn learn_beside(&self, clock: &mut [u32], own: Epoch, event: &Event)
+        requires places { ArePlaces (length clock.old) self.now }
+        requires in_use { IsInUse self.now.rows own.row }
+        ensures { clock.new ≡ clock_beside (state_of self.now) event.now.kind (clock_in self.now.rows.rows own) }
     {
-        let by = event.thread;
-        let clock = self.threads[by.0 as usize].known();
+        self.rows.copy_clock(own, clock);
         match event.kind {
-            Kind::Read(x, _) => self.reads.add(x.0 as usize, clock, by),
+            Kind::Read(x, _) => self
+                .rows
+                .raise_clock(Epoch::at(&self.writes, x.0 as usize), clock),
             Kind::Write(x, _) => {
-                self.writes.replace(x.0 as usize, clock, by);
+                self.rows
+                    .raise_clock(Epoch::at(&self.writes, x.0 as usize), clock);
+                self.reads.raise_clock(&self.rows, x.0 as usize, clock);
+            }
+            Kind::Acquire(m) | Kind::Release(m) => {
+                self.rows
+                    .raise_clock(Epoch::at(&self.locks, m.0 as usize), clock);
+            }
+            Kind::Join(u) => self
+                .rows
+                .raise_clock(Epoch::at(&self.threads, u.0 as usize), clock),
+            _ => {}
+        }
+    }
+
+    /// The places beside know what the event does.
+    #[inline]
+    fn spread(&mut self, event: &Event, epoch: Epoch, threads: usize, in_order: bool)
+        requires places { ArePlaces threads self.old }
+        requires beside { HasRoomToNoteBeside threads (state_of self.old) event.now.kind }
+        requires by { epoch.by.0 < threads }
+        requires in_use { IsInUse self.old.rows epoch.row }
+        requires lists { has_lists self.old.reads ≡ true }
+        requires follows { IsTrue in_order → FollowsOwn self.old.rows self.old.reads epoch }
+        ensures places { ArePlaces threads self.new }
+        ensures rows { self.new.rows ≡ self.old.rows }
+        ensures noted { state_of self.new ≡ with_spare (is_ready self.new) (state_after_beside (state_of self.old) epoch.by.0 event.now.kind (clock_in self.old.rows.rows epoch)) }
+    {
+        match event.kind {
+            Kind::Read(x, _) => self
+                .reads
+                .add(&self.rows, x.0 as usize, epoch, threads, in_order),
+            Kind::Write(x, _) => {
+                self.writes[x.0 as usize] = epoch;
                 self.reads.clear(x.0 as usize);
             }
-            Kind::Acquire(m) | Kind::Release(m) => self.locks.replace(m.0 as usize, clock, by),
-            Kind::Fork(u) => copy_thread(&mut self.threads, by, u, list),
+            Kind::Acquire(m) | Kind::Release(m) => self.locks[m.0 as usize] = epoch,
+            Kind::Fork(u) => self.threads[u.0 as usize] = epoch,
             _ => {}
         }
     }
 
     /// The open blocks of the event's thread that begin below it are to blame.
     pub fn bound(&self, event: &Event) -> usize
-        ensures { result ≡ blame_bound self.now event.now }
+        ensures { (threads : ℕ) → ArePlaces threads self.now → result ≡ blame_bound (state_of self.now) event.now }
     {
         let t = event.thread;
         match event.kind {
-            Kind::Read(x, _) => self.writes.foreign(x.0 as usize, t) as usize,
+            Kind::Read(x, _) => self.foreign_in(&self.writes, x.0 as usize, t),
             Kind::Write(x, _) => {
-                let writes = self.writes.foreign(x.0 as usize, t);
-                let reads = self.reads.foreign(x.0 as usize, t);
-                writes.max(reads) as usize
+                let writes = self.foreign_in(&self.writes, x.0 as usize, t);
+                let reads = self.reads.foreign(&self.rows, x.0 as usize, t);
+                writes.max(reads as usize)
             }
-            Kind::Acquire(m) | Kind::Release(m) => self.locks.foreign(m.0 as usize, t) as usize,
-            Kind::Join(u) => foreign_at(&self.threads, u.0 as usize, t) as usize,
+            Kind::Acquire(m) | Kind::Release(m) => self.foreign_in(&self.locks, m.0 as usize, t),
+            Kind::Join(u) => self.foreign_in(&self.threads, u.0 as usize, t),
             _ => 0,
         }
+    }
+
+    /// How far the event at the place with this number knows the thread, if it is of another.
+    fn foreign_in(&self, epochs: &[Epoch], number: usize, t: ThreadId) -> usize
+        ensures { (threads : ℕ) → AreRows threads self.now.rows → result ≡ slice_index_or (slice_index_or (alones_in self.now.rows.rows epochs.now) number blank_clock).foreign t.0 0 }
+    {
+        self.rows.foreign(Epoch::at(epochs, number), t) as usize
     }
 }

@@ -1,7 +1,7 @@
 ghost use Rattle.velo_events.specs.Refusals.{GrowthRefused};
 ghost use Rattle.std.specs.Prelude.{◌≡◌, ◌+◌, ◌<◌, ◌^◌, length, IfOk, OnOk, OnErr};
 ghost use Rattle.velo_tables.specs.Clocks.{blame_bound, KnowsNothing, IsNoted, KnowsTheSame};
-ghost use Rattle.velo_tables.specs.Noted.{IsSized, HasRoomToNote, IsOfThreads};
+ghost use Rattle.velo_tables.specs.Noted.{HasRoomToNote, IsOfThreads};
 
 use crate::clock_places::PlaceClocks;
 use std::alloc::Global;
@@ -26,11 +26,11 @@ pub struct ClockTables {
 impl Model for ClockTables {
     ghost use Rattle.std.specs.Prelude.{length};
     ghost use Rattle.velo_tables.specs.Clocks.{ClockState};
-    ghost use Rattle.velo_tables.specs.Order.{AreTables};
+    ghost use Rattle.velo_tables.specs.Places.{state_of, AreTables};
 
     ghost Value = { ClockState };
 
-    ghost view = { λ t. t.places };
+    ghost view = { λ t. state_of t.places };
 
     ghost invariant = { λ t. AreTables (length t.clock.items) t.latest t.in_order t.places };
 }
@@ -75,8 +75,7 @@ impl ClockTables {
         let in_order = self
             .places
             .stay_in_order(self.in_order, self.latest, position, event);
-        self.places
-            .note(&mut self.clock, position, event, self.in_order);
+        self.places.note(&mut self.clock, position, event, in_order);
         self.in_order = in_order;
         self.latest = position + 1;
     }

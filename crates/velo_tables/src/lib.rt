@@ -2,15 +2,15 @@
 //! how far they know each thread, from which blame is told.
 #![tactic(auto)]
 
-mod clock_place;
 mod clock_places;
 mod clocks;
 mod entry;
+mod epochs;
 mod filling;
-mod last_clocks;
 mod number_lists;
 mod numbers;
 mod read_clocks;
+mod shared_rows;
 mod tables;
 mod variables;
 

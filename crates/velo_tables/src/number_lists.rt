@@ -1,11 +1,11 @@
 ghost use Rattle.velo_events.specs.Refusals.{GrowthRefused};
-ghost use Rattle.std.specs.Prelude.{◌≡◌, ◌<◌, ◌≤◌, ◌+◌, ◌^◌, ◌++◌, [], length, take, slice_index_or, slice_set, vec_len, vec_capacity, IsTrue, ◌↔◌, OnOk, OnErr};
+ghost use Rattle.std.specs.Prelude.{◌≡◌, ◌<◌, ◌≤◌, ◌+◌, ◌^◌, ◌++◌, max, [], length, slice_index_or, slice_set, vec_len, vec_capacity, IsTrue, ◌↔◌, OnOk, OnErr};
 ghost use Rattle.velo_tables.specs.Readers.{filled_up};
 ghost use Rattle.velo_tables.specs.NumberLists.{list_in, with_list, blank_stretch};
-ghost use Rattle.velo_tables.specs.Noted.{maxima, nothing_in};
+ghost use Rattle.velo_tables.specs.Noted.{maxima};
 
 use crate::filling::fill_up_to;
-use crate::numbers::{clear, copy_but, raise, raise_but};
+use crate::numbers::{copy_as, raise_but, raise_number};
 use std::alloc::Global;
 use std::marker::Model;
 use velo_events::growth::reserve;
@@ -75,6 +75,15 @@ impl NumberLists {
         }
     }
 
+    /// How many places there are.
+    #[inline(always)]
+    pub fn count(&self) -> usize
+        ensures count { result ≡ length self.now }
+        ensures fits { result < 2 ^ 63 }
+    {
+        self.stretches.len()
+    }
+
     /// The list of the place with this number, which is empty where it was given none.
     pub fn list(&self, number: usize) -> &[u32]
         ensures { result.now ≡ slice_index_or self.now number [] }
@@ -97,7 +106,7 @@ impl NumberLists {
 
     /// Gives the place so many numbers, zeros behind those that it has.
     pub fn reserve(&mut self, number: usize, count: usize) -> Result<(), Memory>
-        requires { number < 2 ^ 32 }
+        requires { number + 1 < 2 ^ 64 }
         ensures ok { OnOk result (self.new ≡ with_list count number self.old) }
         ensures err { OnErr result (self.new ≡ self.old) }
         ensures refused { OnErr result (number < length self.old → length (slice_index_or self.old number []) < count) }
@@ -124,39 +133,31 @@ impl NumberLists {
         self.numbers[stretch.start..stretch.start + stretch.count].copy_from_slice(list);
     }
 
-    /// Raises each number of the place to that of the other list.
-    pub fn raise(&mut self, number: usize, list: &[u32])
-        requires there { number < length self.old }
-        requires within { length list.now ≤ length (slice_index_or self.old number []) }
-        ensures { self.new ≡ slice_set self.old number (maxima (slice_index_or self.old number []) list.now) }
-    {
-        let stretch = self.stretches[number];
-        raise(
-            &mut self.numbers[stretch.start..stretch.start + stretch.count],
-            list,
-        );
-    }
-
-    /// Sets each number of the place to 0.
-    pub fn clear(&mut self, number: usize)
-        requires { number < length self.old }
-        ensures { self.new ≡ slice_set self.old number (nothing_in (slice_index_or self.old number [])) }
-    {
-        let stretch = self.stretches[number];
-        clear(&mut self.numbers[stretch.start..stretch.start + stretch.count]);
-    }
-
-    /// Writes another list over that of the place, but nothing for one thread.
-    pub fn copy_but(&mut self, number: usize, list: &[u32], by: ThreadId)
+    /// Writes another list over that of the place, with this number for one thread.
+    pub fn copy_as(&mut self, number: usize, list: &[u32], by: ThreadId, own: u32)
         requires there { number < length self.old }
         requires same { length (slice_index_or self.old number []) ≡ length list.now }
-        ensures { self.new ≡ slice_set self.old number (slice_set list.now by.0 0) }
+        ensures { self.new ≡ slice_set self.old number (slice_set list.now by.0 own) }
     {
         let stretch = self.stretches[number];
-        copy_but(
+        copy_as(
             &mut self.numbers[stretch.start..stretch.start + stretch.count],
             list,
             by,
+            own,
+        );
+    }
+
+    /// Raises the number of one thread at the place to this one.
+    pub fn raise_number(&mut self, number: usize, t: ThreadId, to: u32)
+        requires { number < length self.old }
+        ensures { self.new ≡ slice_set self.old number (slice_set (slice_index_or self.old number []) t.0 (max (slice_index_or (slice_index_or self.old number []) t.0 0) to)) }
+    {
+        let stretch = self.stretches[number];
+        raise_number(
+            &mut self.numbers[stretch.start..stretch.start + stretch.count],
+            t,
+            to,
         );
     }
 
@@ -173,14 +174,5 @@ impl NumberLists {
             list,
             by,
         );
-    }
-
-    /// Cuts the list of the place to so many numbers.
-    pub fn cut(&mut self, number: usize, count: usize)
-        requires there { number < length self.old }
-        requires within { count ≤ length (slice_index_or self.old number []) }
-        ensures { self.new ≡ slice_set self.old number (take count (slice_index_or self.old number [])) }
-    {
-        self.stretches[number].count = count;
     }
 }

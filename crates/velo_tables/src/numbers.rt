@@ -1,5 +1,5 @@
-ghost use Rattle.std.specs.Prelude.{◌≡◌, ◌≤◌, ◌<◌, length, slice_index_or, slice_set};
-ghost use Rattle.velo_tables.specs.Noted.{maxima, nothing_in};
+ghost use Rattle.std.specs.Prelude.{◌≡◌, ◌≤◌, ◌<◌, max, length, slice_index_or, slice_set};
+ghost use Rattle.velo_tables.specs.Noted.{maxima};
 
 use velo_events::ThreadId;
 
@@ -13,13 +13,6 @@ pub(crate) fn raise(numbers: &mut [u32], others: &[u32])
     }
 }
 
-/// Sets each number to 0.
-pub(crate) fn clear(numbers: &mut [u32])
-    ensures { numbers.new ≡ nothing_in numbers.old }
-{
-    numbers.fill(0);
-}
-
 /// The thread's number, or 0 where there is none.
 pub(crate) fn number_of(numbers: &[u32], t: ThreadId) -> u32
     ensures { result ≡ slice_index_or numbers.now t.0 0 }
@@ -31,15 +24,40 @@ pub(crate) fn number_of(numbers: &[u32], t: ThreadId) -> u32
     }
 }
 
-/// Copies the numbers, but that of one thread.
-pub(crate) fn copy_but(copy: &mut [u32], numbers: &[u32], by: ThreadId)
+/// Sets the number of the thread, if there is one.
+pub(crate) fn set_number(numbers: &mut [u32], t: ThreadId, number: u32)
+    ensures { numbers.new ≡ slice_set numbers.old t.0 number }
+{
+    if (t.0 as usize) < numbers.len() {
+        numbers[t.0 as usize] = number;
+    }
+}
+
+/// Raises the number of the thread to this one, if there is one.
+pub(crate) fn raise_number(numbers: &mut [u32], t: ThreadId, to: u32)
+    ensures { numbers.new ≡ slice_set numbers.old t.0 (max (slice_index_or numbers.old t.0 0) to) }
+{
+    let number = number_of(numbers, t).max(to);
+    set_number(numbers, t, number);
+}
+
+/// Copies the numbers, but sets that of one thread.
+pub(crate) fn copy_as(copy: &mut [u32], numbers: &[u32], by: ThreadId, own: u32)
     requires { length copy.old ≡ length numbers.now }
-    ensures { copy.new ≡ slice_set numbers.now by.0 0 }
+    ensures { copy.new ≡ slice_set numbers.now by.0 own }
 {
     copy.copy_from_slice(numbers);
-    if (by.0 as usize) < copy.len() {
-        copy[by.0 as usize] = 0;
-    }
+    set_number(copy, by, own);
+}
+
+/// Raises each number to that of the other list, with this one for one thread.
+pub(crate) fn raise_as(numbers: &mut [u32], others: &[u32], by: ThreadId, own: u32)
+    requires { length others.now ≡ length numbers.old }
+    ensures { numbers.new ≡ maxima numbers.old (slice_set others.now by.0 own) }
+{
+    let number = number_of(numbers, by).max(own);
+    raise(numbers, others);
+    set_number(numbers, by, number);
 }
 
 /// Raises each number but that of one thread to that of the other list.

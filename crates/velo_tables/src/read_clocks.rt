@@ -1,165 +1,289 @@
 ghost use Rattle.velo_events.specs.Refusals.{GrowthRefused};
-ghost use Rattle.std.specs.Prelude.{◌≡◌, ◌<◌, ◌≤◌, ◌^◌, [], length, slice_index_or, slice_set, IsTrue, OnOk, OnErr};
+ghost use Rattle.std.specs.Prelude.{◌≡◌, ◌<◌, ◌≤◌, ◌+◌, ◌^◌, ℕ, true, false, [], length, slice_index_or, slice_set, IsTrue, OnOk, OnErr};
+ghost use Rattle.velo_tables.specs.declared.read_clocks.ReadBy.TheVariants.{One, Several};
 ghost use Rattle.velo_tables.specs.Clocks.{blank_clock};
-ghost use Rattle.velo_tables.specs.Noted.{cleared_at, joint_at, HasRoomAt, AreWithin, KeepNumbers};
+ghost use Rattle.velo_tables.specs.Noted.{maxima, cleared_at, joint_at, HasRoomAt, KeepNumbers};
 ghost use Rattle.velo_tables.specs.Order.{KnowsTops};
+ghost use Rattle.velo_tables.specs.declared.shared_rows.SharedRows.{SharedRows};
+ghost use Rattle.velo_tables.specs.Epochs.{clock_in, AreRows, IsInUse, UsesMore};
+ghost use Rattle.velo_tables.specs.Reads.{blank_reads, reads_in, has_lists, epoch_in, AreReads, ReadsReferTo, FollowsOwn};
 
+use crate::epochs::Epoch;
 use crate::filling::fill_up_to;
 use crate::number_lists::NumberLists;
-use crate::numbers::number_of;
+use crate::numbers::{number_of, raise};
+use crate::shared_rows::SharedRows;
 use std::alloc::Global;
-use std::marker::Model;
 use velo_events::{Memory, ThreadId};
 
 /// Whose reads stand at a place.
 #[derive(Clone, Copy, Debug)]
 pub(crate) enum ReadBy {
     Nobody,
-    One(ThreadId),
+    /// The last of them, where the thread's events came in order: it knows what those before it know.
+    One(Epoch),
     Several,
 }
 
-/// What all reads of each variable know of each thread, and what those of other threads than this one know of it, by number
-/// of the variable.
-#[derive(Debug, Drop)]
-pub(crate) struct ReadClocks {
-    known: NumberLists,
-    /// It counts only where reads of several threads stand. Where all are of one, what others know of a thread is what is
-    /// known of it, but nothing of the one itself.
-    foreign: NumberLists,
-    read_by: Vec<ReadBy>,
+/// The reads of a variable since its last write.
+#[derive(Clone, Copy, Debug)]
+pub(crate) struct Reads {
+    pub by: ReadBy,
+    /// Which lists are the place's own, counted from 1. They are given to it when several threads read, and stay with it.
+    pub lists: usize,
 }
 
-impl Model for ReadClocks {
-    ghost use Rattle.std.specs.Prelude.{List};
-    ghost use Rattle.velo_tables.specs.Clocks.{Clock};
-
-    ghost Value = { List Clock };
-
-    ghost use Rattle.velo_tables.specs.Reads.{reads_of, AreReads};
-
-    ghost view = { λ p. reads_of p.known p.foreign p.read_by.items };
-
-    ghost invariant = { λ p. AreReads p.known p.foreign p.read_by.items };
+/// What the reads of each variable since its last write know, by number of the variable.
+#[derive(Debug, Drop)]
+pub(crate) struct ReadClocks {
+    /// By number of the lists: the last read of each thread, where reads of several stand.
+    pub own: NumberLists,
+    /// What those of other threads know of each, there.
+    pub foreign: NumberLists,
+    /// Which lists are given next, or 0 while there are none to give.
+    pub spare: usize,
+    pub places: Vec<Reads>,
 }
 
 impl ReadClocks {
     /// No places.
     pub fn new(alloc: Global) -> ReadClocks
-        ensures { result ≡ [] }
+        ensures own { result.own ≡ [] }
+        ensures foreign { result.foreign ≡ [] }
+        ensures spare { result.spare ≡ 0 }
+        ensures places { result.places.items ≡ [] }
     {
         ReadClocks {
-            known: NumberLists::new(alloc),
+            own: NumberLists::new(alloc),
             foreign: NumberLists::new(alloc),
-            read_by: Vec::new(alloc),
+            spare: 0,
+            places: Vec::new(alloc),
         }
     }
 
-    /// Makes room for a read of one of so many threads at the place with this number.
-    pub fn reserve(&mut self, number: usize, threads: usize) -> Result<(), Memory>
-        requires fits { number < 2 ^ 32 }
-        requires within { AreWithin threads self.old }
-        ensures same { KeepNumbers self.old self.new }
-        ensures within { AreWithin threads self.new }
-        ensures ok { OnOk result (HasRoomAt threads self.new number) }
-        ensures refused { OnErr result (0 < threads → ¬ HasRoomAt threads self.old number) }
+    /// How many places there are.
+    pub fn count(&self) -> usize
+        ensures { result ≡ length self.now.places.items }
+    {
+        self.places.len()
+    }
+
+    /// Whether there are lists for one more place at which several threads read.
+    #[inline]
+    pub fn has_lists(&self) -> bool
+        ensures { result ≡ has_lists self.now }
+    {
+        self.spare != 0
+    }
+
+    /// Makes room for a read at the place with this number.
+    #[inline]
+    pub fn reserve(&mut self, number: usize) -> Result<(), Memory>
+        requires fits { number + 1 < 2 ^ 64 }
+        ensures own { self.new.own ≡ self.old.own }
+        ensures foreign { self.new.foreign ≡ self.old.foreign }
+        ensures spare { self.new.spare ≡ self.old.spare }
+        ensures reads { (threads : ℕ) (rows : SharedRows) → AreRows threads rows → AreReads threads rows self.old → AreReads threads rows self.new }
+        ensures same { (threads : ℕ) (rows : SharedRows) → AreRows threads rows → KeepNumbers (reads_in rows self.old) (reads_in rows self.new) }
+        ensures ok { OnOk result ((threads : ℕ) (rows : SharedRows) → AreRows threads rows → AreReads threads rows self.new → HasRoomAt threads (reads_in rows self.new) number) }
+        ensures refused { OnErr result ((threads : ℕ) (rows : SharedRows) → 0 < threads → ¬ HasRoomAt threads (reads_in rows self.old) number) }
         ensures memory { OnErr result GrowthRefused }
     {
-        if self.known.has(number, threads) {
-            return Ok(());
-        }
-        self.grow(number, threads)
+        fill_up_to(
+            &mut self.places,
+            number,
+            Reads {
+                by: ReadBy::Nobody,
+                lists: 0,
+            },
+        )
     }
 
-    /// The rare case: there is no room yet. What is known gets it last, so that there is room for both where there is for this.
+    /// Makes lists for one more place at which several threads read.
     #[inline(never)]
-    fn grow(&mut self, number: usize, threads: usize) -> Result<(), Memory>
-        requires fits { number < 2 ^ 32 }
-        requires within { AreWithin threads self.old }
-        ensures same { KeepNumbers self.old self.new }
-        ensures within { AreWithin threads self.new }
-        ensures ok { OnOk result (HasRoomAt threads self.new number) }
-        ensures refused { OnErr result (0 < threads → ¬ HasRoomAt threads self.old number) }
+    pub fn reserve_lists(&mut self, rows: &SharedRows, threads: usize) -> Result<(), Memory>
+        requires reads { AreReads threads rows.now self.old }
+        requires none { has_lists self.old ≡ false }
+        ensures reads { AreReads threads rows.now self.new }
+        ensures same { reads_in rows.now self.new ≡ reads_in rows.now self.old }
+        ensures ok { OnOk result (has_lists self.new ≡ true) }
         ensures memory { OnErr result GrowthRefused }
     {
-        fill_up_to(&mut self.read_by, number, ReadBy::Nobody)?;
-        self.foreign.reserve(number, threads)?;
-        self.known.reserve(number, threads)
+        let next = self.own.count().max(1);
+        self.foreign.reserve(next, threads)?;
+        self.own.reserve(next, threads)?;
+        self.spare = next;
+        Ok(())
     }
 
-    /// What the reads at the place know.
-    pub fn known(&self, number: usize) -> &[u32]
-        ensures { result.now ≡ (slice_index_or self.now number blank_clock).known }
+    /// Whether the event knows all reads at the place. It is not looked for where several threads read.
+    pub fn are_known(&self, rows: &SharedRows, own: Epoch, number: usize) -> bool
+        ensures { (threads : ℕ) → AreRows threads rows.now → AreReads threads rows.now self.now → IsInUse rows.now own.row → IsTrue result
+            → KnowsTops (slice_index_or (reads_in rows.now self.now) number blank_clock) (clock_in rows.now.rows own) }
     {
-        self.known.list(number)
-    }
-
-    /// Whether the clock knows all reads at the place. It is not looked for where several threads read.
-    pub fn is_known(&self, number: usize, clock: &[u32]) -> bool
-        ensures { IsTrue result → KnowsTops (slice_index_or self.now number blank_clock) clock.now }
-    {
-        if number >= self.read_by.len() {
+        if number >= self.places.len() {
             return true;
         }
-        match self.read_by[number] {
+        match self.places[number].by {
             ReadBy::Nobody => true,
-            ReadBy::One(one) => { number_of(self.known.list(number), one) <= number_of(clock, one) }
+            ReadBy::One(one) => rows.knows(own, one),
             ReadBy::Several => false,
         }
     }
 
-    /// What the reads of other threads at the place know of this one.
-    pub fn foreign(&self, number: usize, t: ThreadId) -> u32
-        ensures { result ≡ slice_index_or (slice_index_or self.now number blank_clock).foreign t.0 0 }
+    /// Raises what is known by what the reads at the place know.
+    pub fn raise_clock(&self, rows: &SharedRows, number: usize, clock: &mut [u32])
+        requires rows { AreRows (length clock.old) rows.now }
+        requires reads { AreReads (length clock.old) rows.now self.now }
+        ensures { clock.new ≡ maxima clock.old (slice_index_or (reads_in rows.now self.now) number blank_clock).known }
     {
-        if number >= self.read_by.len() {
-            return 0;
+        if number >= self.places.len() {
+            return;
         }
-        match self.read_by[number] {
-            ReadBy::Nobody => 0,
-            ReadBy::One(one) if one.0 == t.0 => 0,
-            ReadBy::One(_) => number_of(self.known.list(number), t),
-            ReadBy::Several => number_of(self.foreign.list(number), t),
+        let place = self.places[number];
+        match place.by {
+            ReadBy::Nobody => {}
+            ReadBy::One(one) => rows.raise_clock(one, clock),
+            ReadBy::Several => {
+                raise(clock, self.own.list(place.lists));
+                raise(clock, self.foreign.list(place.lists));
+            }
         }
     }
 
-    /// A read of the thread, which knows this, stands at the place too.
-    pub fn add(&mut self, number: usize, clock: &[u32], by: ThreadId)
-        requires room { HasRoomAt (length clock.now) self.old number }
-        requires by { by.0 < length clock.now }
-        ensures { self.new ≡ slice_set self.old number (joint_at (slice_index_or self.old number blank_clock) clock.now by.0) }
+    /// What the reads of other threads at the place know of this one.
+    pub fn foreign(&self, rows: &SharedRows, number: usize, t: ThreadId) -> u32
+        ensures { (threads : ℕ) → AreRows threads rows.now → AreReads threads rows.now self.now
+            → result ≡ slice_index_or (slice_index_or (reads_in rows.now self.now) number blank_clock).foreign t.0 0 }
     {
-        match self.read_by[number] {
-            ReadBy::Nobody => {
-                self.known.raise(number, clock);
-                self.read_by[number] = ReadBy::One(by);
-            }
-            ReadBy::One(one) if one.0 == by.0 => self.known.raise(number, clock),
-            ReadBy::One(one) => {
-                self.foreign.cut(number, clock.len());
-                self.foreign.copy_but(number, self.known.list(number), one);
-                self.foreign.raise_but(number, clock, by);
-                self.known.raise(number, clock);
-                self.read_by[number] = ReadBy::Several;
-            }
-            ReadBy::Several => {
-                self.foreign.raise_but(number, clock, by);
-                self.known.raise(number, clock);
-            }
+        if number >= self.places.len() {
+            return 0;
         }
+        let place = self.places[number];
+        match place.by {
+            ReadBy::Nobody => 0,
+            ReadBy::One(one) => rows.foreign(one, t),
+            ReadBy::Several => number_of(self.foreign.list(place.lists), t),
+        }
+    }
+
+    /// A read stands at the place too. Where the events came in order, it takes the place of the one before it of its thread.
+    pub fn add(
+        &mut self,
+        rows: &SharedRows,
+        number: usize,
+        epoch: Epoch,
+        threads: usize,
+        in_order: bool,
+    )
+        requires rows { AreRows threads rows.now }
+        requires reads { AreReads threads rows.now self.old }
+        requires room { HasRoomAt threads (reads_in rows.now self.old) number }
+        requires lists { has_lists self.old ≡ true }
+        requires by { epoch.by.0 < threads }
+        requires in_use { IsInUse rows.now epoch.row }
+        requires follows { IsTrue in_order → FollowsOwn rows.now self.old epoch }
+        ensures reads { AreReads threads rows.now self.new }
+        ensures joint { reads_in rows.now self.new
+            ≡ slice_set (reads_in rows.now self.old) number (joint_at (slice_index_or (reads_in rows.now self.old) number blank_clock) (clock_in rows.now.rows epoch) epoch.by.0) }
+    {
+        match self.places[number].by {
+            ReadBy::Nobody => self.places[number].by = ReadBy::One(epoch),
+            ReadBy::One(one) if in_order && one.by.0 == epoch.by.0 => {
+                self.places[number].by = ReadBy::One(epoch);
+            }
+            ReadBy::One(one) => {
+                self.split(rows, number, one, threads);
+                self.join(rows, number, epoch, threads);
+            }
+            ReadBy::Several => self.join(rows, number, epoch, threads),
+        }
+    }
+
+    /// The lists of the place say what its one read knows.
+    fn split(&mut self, rows: &SharedRows, number: usize, one: Epoch, threads: usize)
+        requires rows { AreRows threads rows.now }
+        requires reads { AreReads threads rows.now self.old }
+        requires there { number < length self.old.places.items }
+        requires lists { has_lists self.old ≡ true }
+        requires one { (slice_index_or self.old.places.items number blank_reads).by ≡ One one }
+        ensures reads { AreReads threads rows.now self.new }
+        ensures count { length self.new.places.items ≡ length self.old.places.items }
+        ensures several { (slice_index_or self.new.places.items number blank_reads).by ≡ Several }
+        ensures same { reads_in rows.now self.new ≡ reads_in rows.now self.old }
+    {
+        let lists = self.give_lists(rows, number, threads);
+        self.own
+            .copy_as(lists, rows.rows.list(0), one.by, one.number);
+        self.foreign
+            .copy_as(lists, rows.rows.list(one.row), one.by, 0);
+        self.places[number].by = ReadBy::Several;
+    }
+
+    /// The lists of the place, which are given to it where it has none.
+    fn give_lists(&mut self, rows: &SharedRows, number: usize, threads: usize) -> usize
+        requires reads { AreReads threads rows.now self.old }
+        requires there { number < length self.old.places.items }
+        requires lists { has_lists self.old ≡ true }
+        ensures reads { AreReads threads rows.now self.new }
+        ensures same { reads_in rows.now self.new ≡ reads_in rows.now self.old }
+        ensures own { self.new.own ≡ self.old.own }
+        ensures foreign { self.new.foreign ≡ self.old.foreign }
+        ensures count { length self.new.places.items ≡ length self.old.places.items }
+        ensures by { (slice_index_or self.new.places.items number blank_reads).by ≡ (slice_index_or self.old.places.items number blank_reads).by }
+        ensures result { (slice_index_or self.new.places.items number blank_reads).lists ≡ result }
+        ensures some { 0 < result }
+    {
+        if self.places[number].lists == 0 {
+            self.places[number].lists = self.spare;
+            self.spare = 0;
+        }
+        self.places[number].lists
+    }
+
+    /// A read stands at the place beside those of several threads.
+    fn join(&mut self, rows: &SharedRows, number: usize, epoch: Epoch, threads: usize)
+        requires rows { AreRows threads rows.now }
+        requires reads { AreReads threads rows.now self.old }
+        requires there { number < length self.old.places.items }
+        requires several { (slice_index_or self.old.places.items number blank_reads).by ≡ Several }
+        requires by { epoch.by.0 < threads }
+        requires in_use { IsInUse rows.now epoch.row }
+        ensures reads { AreReads threads rows.now self.new }
+        ensures joint { reads_in rows.now self.new
+            ≡ slice_set (reads_in rows.now self.old) number (joint_at (slice_index_or (reads_in rows.now self.old) number blank_clock) (clock_in rows.now.rows epoch) epoch.by.0) }
+    {
+        let lists = self.places[number].lists;
+        self.own.raise_number(lists, epoch.by, epoch.number);
+        self.foreign
+            .raise_but(lists, rows.rows.list(epoch.row), epoch.by);
     }
 
     /// No read stands at the place any more.
     pub fn clear(&mut self, number: usize)
-        ensures { self.new ≡ slice_set self.old number (cleared_at (slice_index_or self.old number blank_clock)) }
+        ensures lists { has_lists self.new ≡ has_lists self.old }
+        ensures reads { (threads : ℕ) (rows : SharedRows) → AreRows threads rows → AreReads threads rows self.old → AreReads threads rows self.new }
+        ensures cleared { (threads : ℕ) (rows : SharedRows) → AreRows threads rows → AreReads threads rows self.old
+            → reads_in rows self.new ≡ slice_set (reads_in rows self.old) number (cleared_at (slice_index_or (reads_in rows self.old) number blank_clock)) }
     {
-        if number >= self.read_by.len() {
-            return;
+        if number < self.places.len() {
+            self.places[number].by = ReadBy::Nobody;
         }
-        if let ReadBy::Nobody = self.read_by[number] {
-            return;
+    }
+
+    /// The rows of all reads are in use.
+    pub fn keep_rows(&self, rows: &mut SharedRows)
+        requires first { IsInUse rows.old 0 }
+        requires inside { (i : ℕ) → (epoch_in (slice_index_or self.now.places.items i blank_reads).by).row < length rows.old.in_use.items }
+        ensures same { rows.new.rows ≡ rows.old.rows }
+        ensures count { length rows.new.in_use.items ≡ length rows.old.in_use.items }
+        ensures more { UsesMore rows.old rows.new }
+        ensures refers { ReadsReferTo rows.new self.now.places.items }
+    {
+        for place in &self.places {
+            if let ReadBy::One(one) = place.by {
+                rows.keep(one.row);
+            }
         }
-        self.known.clear(number);
-        self.read_by[number] = ReadBy::Nobody;
     }
 }

@@ -1,33 +1,46 @@
-use Rattle.std.proofs.Common.{length, get_or, sym, subst, List}
-use Rattle.velo_events.specs.Event.{thread_of}
-use Rattle.velo_tables.specs.Clocks.{Clock, ClockState, OfWrite, OfReads, OfLock, blank_clock}
-use Rattle.velo_tables.specs.Noted.{maxima}
-use Rattle.velo_tables.specs.Order.{TopsTell}
-use Rattle.velo_tables.proofs.OnTops.{tell-own, tell-both}
+use Rattle.std.proofs.Common.{◌≡◌, length, get_or, sym, ap, ◌∙◌}
+use Rattle.velo_tables.specs.Clocks.{blank_clock}
+use Rattle.velo_tables.specs.Noted.{maxima, clock_beside}
+use Rattle.velo_tables.specs.Epochs.{clock_in}
+use Rattle.velo_tables.specs.Reads.{reads_in}
+use Rattle.velo_tables.specs.Places.{state_of}
+use Rattle.velo_tables.proofs.OnReadClocks.{clock-long}
+use Rattle.velo_tables.proofs.OnPlaces.{learned-there, by-lock}
 use Rattle.velo_tables.proofs.clock_places.PlaceClocks.learn_beside.Goals as goal
 
-pub learn_last-requires-clause-closed : goal.learn_last-requires-clause-closed
-learn_last-requires-clause-closed c = λ said.
-    subst (λ (threads : List Clock). TopsTell (get_or c.self.inside.writes c.in-Read.x.0 blank_clock) (get_or threads (thread_of c.args.event.now) blank_clock).known) (sym c.as_mut_slice-threads.ensures.value)
-    (subst (λ (s : ClockState). TopsTell (get_or s.writes c.in-Read.x.0 blank_clock) (get_or s.threads (thread_of c.args.event.now) blank_clock).known) (sym c.self.view_is)
-    (tell-own c.args.self.now (c.requires.closed said) (length c.args.list.now) c.requires.sized (thread_of c.args.event.now) c.requires.own (OfWrite c.in-Read.x.0) (c.requires.sized.writes.known c.in-Read.x.0)))
+pub returns-in-Read : goal.returns-in-Read
+returns-in-Read c =
+    let now = c.args.self.now in
+    let n = length c.args.clock.now in
+    let are = c.requires.places in
+    let own = clock_in now.rows.rows c.args.own in
+    learned-there n now.rows are.rows now.writes.items are.writes own c.copy_clock.new.clock c.raise_clock.new.clock c.at.result c.deref.result.now c.in-Read.x.0 (clock-long n now.rows are.rows c.args.own c.requires.in_use) c.copy_clock.ensures c.raise_clock.ensures c.at.ensures c.deref.ensures.value
+    ∙ ap (λ k. clock_beside (state_of now) k own) (sym c.in-Read.is)
 
-pub learn_both-requires-clause-write_closed : goal.learn_both-requires-clause-write_closed
-learn_both-requires-clause-write_closed c = λ said.
-    subst (λ (threads : List Clock). TopsTell (get_or c.self.inside.writes c.in-Write.x.0 blank_clock) (get_or threads (thread_of c.args.event.now) blank_clock).known) (sym c.as_mut_slice-threads.ensures.value)
-    (subst (λ (s : ClockState). TopsTell (get_or s.writes c.in-Write.x.0 blank_clock) (get_or s.threads (thread_of c.args.event.now) blank_clock).known) (sym c.self.view_is)
-    (tell-own c.args.self.now (c.requires.closed said) (length c.args.list.now) c.requires.sized (thread_of c.args.event.now) c.requires.own (OfWrite c.in-Write.x.0) (c.requires.sized.writes.known c.in-Write.x.0)))
+pub returns-in-Write : goal.returns-in-Write
+returns-in-Write c =
+    let now = c.args.self.now in
+    let n = length c.args.clock.now in
+    let are = c.requires.places in
+    let own = clock_in now.rows.rows c.args.own in
+    let first = learned-there n now.rows are.rows now.writes.items are.writes own c.copy_clock.new.clock c.raise_clock-in-Write.new.clock c.at-in-Write.result c.deref-in-Write.result.now c.in-Write.x.0 (clock-long n now.rows are.rows c.args.own c.requires.in_use) c.copy_clock.ensures c.raise_clock-in-Write.ensures c.at-in-Write.ensures c.deref-in-Write.ensures.value in
+    c.raise_clock-in-Write-2.ensures
+    ∙ (ap (λ xs. maxima xs (get_or (reads_in now.rows now.reads) c.in-Write.x.0 blank_clock).known) first ∙ ap (λ k. clock_beside (state_of now) k own) (sym c.in-Write.is))
 
-pub learn_last-requires-in-Acquire-clause-closed : goal.learn_last-requires-in-Acquire-clause-closed
-learn_last-requires-in-Acquire-clause-closed c = λ said.
-    subst (λ (threads : List Clock). TopsTell (get_or c.self.inside.locks c.in-Acquire.m.0 blank_clock) (get_or threads (thread_of c.args.event.now) blank_clock).known) (sym c.as_mut_slice-threads.ensures.value)
-    (subst (λ (s : ClockState). TopsTell (get_or s.locks c.in-Acquire.m.0 blank_clock) (get_or s.threads (thread_of c.args.event.now) blank_clock).known) (sym c.self.view_is)
-    (tell-own c.args.self.now (c.requires.closed said) (length c.args.list.now) c.requires.sized (thread_of c.args.event.now) c.requires.own (OfLock c.in-Acquire.m.0) (c.requires.sized.locks.known c.in-Acquire.m.0)))
+pub returns-in-Join : goal.returns-in-Join
+returns-in-Join c =
+    let now = c.args.self.now in
+    let n = length c.args.clock.now in
+    let are = c.requires.places in
+    let own = clock_in now.rows.rows c.args.own in
+    learned-there n now.rows are.rows now.threads.items are.threads own c.copy_clock.new.clock c.raise_clock-in-Join.new.clock c.at-in-Join.result c.deref-in-Join.result.now c.in-Join.u.0 (clock-long n now.rows are.rows c.args.own c.requires.in_use) c.copy_clock.ensures c.raise_clock-in-Join.ensures c.at-in-Join.ensures c.deref-in-Join.ensures.value
+    ∙ ap (λ k. clock_beside (state_of now) k own) (sym c.in-Join.is)
 
-pub learn_both-requires-clause-reads_closed : goal.learn_both-requires-clause-reads_closed
-learn_both-requires-clause-reads_closed c = λ said.
-    let x = c.in-Write.x.0 in
-    let t = thread_of c.args.event.now in
-    subst (λ (threads : List Clock). TopsTell (get_or c.self.inside.reads x blank_clock) (maxima (get_or threads t blank_clock).known (get_or c.self.inside.writes x blank_clock).known)) (sym c.as_mut_slice-threads.ensures.value)
-    (subst (λ (s : ClockState). TopsTell (get_or s.reads x blank_clock) (maxima (get_or s.threads t blank_clock).known (get_or s.writes x blank_clock).known)) (sym c.self.view_is)
-    (tell-both c.args.self.now (c.requires.closed said) (length c.args.list.now) c.requires.sized t c.requires.own (OfReads x) (OfWrite x) (c.requires.sized.reads.known x) (c.requires.sized.writes.known x)))
+pub returns-in-Acquire : goal.returns-in-Acquire
+returns-in-Acquire c =
+    let now = c.args.self.now in
+    let n = length c.args.clock.now in
+    let are = c.requires.places in
+    let own = clock_in now.rows.rows c.args.own in
+    let learned = learned-there n now.rows are.rows now.locks.items are.locks own c.copy_clock.new.clock c.raise_clock-in-Acquire.new.clock c.at-in-Acquire.result c.deref-in-Acquire.result.now c.in-Acquire.m.0 (clock-long n now.rows are.rows c.args.own c.requires.in_use) c.copy_clock.ensures c.raise_clock-in-Acquire.ensures c.at-in-Acquire.ensures c.deref-in-Acquire.ensures.value in
+    by-lock (λ k. c.raise_clock-in-Acquire.new.clock ≡ clock_beside (state_of now) k own) c.args.event.now.kind c.in-Acquire.m c.in-Acquire.is learned learned
