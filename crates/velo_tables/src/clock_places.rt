@@ -116,7 +116,7 @@ impl PlaceClocks {
         self.find_row(threads)
     }
 
-    /// Finds a row that is not in use, or makes one. Rows are released only where there are more than twice as many as epochs,
+    /// Finds a row that is not in use, or makes one. Rows are released only where there are more than twice as many as places,
     /// so that at least half of them come free.
     #[inline(never)]
     fn find_row(&mut self, threads: usize) -> Result<(), Memory>
