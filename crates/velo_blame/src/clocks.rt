@@ -1,5 +1,5 @@
 //! Blame from clocks, which note how far the events of a run know each thread as they come.
-ghost use Rattle.std.specs.Prelude.{◌≡◌, ℕ, ◌+◌, ◌<◌, ◌≤◌, ◌^◌, ◌++◌, ◌∷◌, [], List, length, map, filter, nat_lt, IfOk, OnOk, OnErr, IsFalse};
+ghost use Rattle.std.specs.Prelude.{◌≡◌, ℕ, ◌+◌, ◌<◌, ◌≤◌, ◌^◌, ◌++◌, ◌∷◌, [], List, length, map, filter, nat_lt, IfOk, OnOk, OnErr, IsTrue, IsFalse};
 ghost use Rattle.velo_events.specs.declared.event.Event.{Event};
 ghost use Rattle.velo_events.specs.Event.{thread_of};
 ghost use Rattle.velo_events.specs.Block.{is_open_at, open_blocks};
@@ -84,6 +84,14 @@ impl Clocks {
         ensures memory { OnErr result GrowthRefused }
     {
         self.tables.reserve_for(event)
+    }
+
+    /// Whether there is room for what the event notes, where its threads are the run's.
+    #[inline(always)]
+    pub fn has_room_for(&self, event: &Event) -> bool
+        ensures { IsTrue result → IsOfThreads self.now.bounds.threads event.now → HasRoomToNote self.now.bounds.threads self.now.state event.now }
+    {
+        self.tables.has_room_for(event)
     }
 
     /// Notes the event at the position, which comes next in the trace whose clocks these are. It takes no memory.

@@ -114,6 +114,14 @@ impl Monitor {
         self.tables.reserve_for(event)
     }
 
+    /// Whether there is room for what the next event leaves.
+    #[inline(always)]
+    pub fn has_room_for(&self, event: &Event) -> bool
+        ensures { (bounds : BoundsOf) (trace : List EventOf) → IsMonitorOf bounds self.now trace → MayFollow bounds trace event.now → IsTrue result ↔ HasRoomFor self.now.kept event.now }
+    {
+        self.tables.has_room_for(event)
+    }
+
     /// Whether the next event needs a slot of its own.
     pub fn needs_node(&self, event: &Event) -> bool
         ensures exact { (bounds : BoundsOf) (trace : List EventOf) → IsMonitorOf bounds self.now trace → MayFollow bounds trace event.now → IsTrue result ↔ NeedsNode self.now trace event.now }

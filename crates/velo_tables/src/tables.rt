@@ -131,16 +131,16 @@ impl Tables {
         ensures err { OnErr result (¬ HasRoomFor self.old event.now) }
         ensures memory { OnErr result GrowthRefused }
     {
-        if self.has_room_beside(event) {
+        if self.has_room_for(event) {
             Ok(())
         } else {
             self.grow_for(event)
         }
     }
 
-    /// Whether there is room for what the event records beside the last event of its thread.
+    /// Whether there is room for what the event records. For the last event of a thread of the tables there always is.
     #[inline(always)]
-    fn has_room_beside(&self, event: &Event) -> bool
+    pub fn has_room_for(&self, event: &Event) -> bool
         ensures { IsTrue result ↔ HasRoomBeside self.now (thread_of event.now) event.now.kind }
     {
         match event.kind {

@@ -211,6 +211,7 @@ impl Variables {
     }
 
     /// Whether there is room for a read of the variable by the thread.
+    #[inline(always)]
     pub fn has_room_to_read(&self, x: VarId, t: ThreadId) -> bool
         ensures { IsTrue result ↔ ((x.0 < length self.now) × (t.0 < length (slice_index_or self.now x.0 no_accesses).reads)) }
     {
@@ -219,6 +220,7 @@ impl Variables {
     }
 
     /// Whether there is room for a write of the variable.
+    #[inline(always)]
     pub fn has_room_to_write(&self, x: VarId) -> bool
         ensures { IsTrue result ↔ (x.0 < length self.now) }
     {

@@ -102,6 +102,30 @@ impl Run {
         if self.alarm.is_some() {
             return Ok(());
         }
+        if self.has_room_for(event) {
+            return Ok(());
+        }
+        self.grow_for(event)
+    }
+
+    /// Whether monitor and clocks have room for the next event. It makes no call, so that an event that finds room, as most
+    /// do, pays for a few comparisons alone.
+    #[inline(always)]
+    fn has_room_for(&self, event: &Event) -> bool
+        ensures { IsTrue result → (trace : List EventOf) → IsRunOf self.now trace → MayFollow (bounds_of self.now.heap) trace event.now → HasSlotFor self.now trace event.now → HasRoomForNext self.now trace event.now }
+    {
+        self.clocks.has_room_for(event) && self.monitor.has_room_for(event)
+    }
+
+    /// Makes the room. It stands out of line, for the events that find none.
+    #[inline(never)]
+    fn grow_for(&mut self, event: &Event) -> Result<(), Memory>
+        ensures heap { self.new.heap ≡ self.old.heap }
+        ensures nodes { self.new.monitor.nodes ≡ self.old.monitor.nodes }
+        ensures follows { (trace : List EventOf) → IsRunOf self.old trace → IsRunOf self.new trace }
+        ensures room { OnOk result ((trace : List EventOf) → IsRunOf self.old trace → MayFollow (bounds_of self.old.heap) trace event.now → HasSlotFor self.old trace event.now → HasRoomForNext self.new trace event.now) }
+        ensures memory { OnErr result GrowthRefused }
+    {
         self.clocks.reserve_for(event)?;
         self.monitor.reserve(event)
     }
