@@ -87,9 +87,9 @@ OnOk-then (Ok x) P Q h f = f h
 OnOk-then (Err x) P Q h f = tt
 
 -- the event that may come next finds room at monitor and clocks, where room was made for it
-pub room-reserved : (old new : Run) (trace : List Event) (e : Event) → new.alarm ≡ old.alarm → new.monitor.nodes ≡ old.monitor.nodes → ((p : Place) → entry new.monitor.kept p ≡ entry old.monitor.kept p) → HasSlotFor old trace e → HasRoomFor new.monitor.kept e → HasRoomToNote new.clocks.bounds.threads new.clocks.state e → HasRoomForNext new trace e
+pub room-reserved : (old new : Run) (trace : List Event) (e : Event) → new.alarm ≡ old.alarm → new.monitor.nodes ≡ old.monitor.nodes → ((p : Place) → entry new.monitor.kept p ≡ entry old.monitor.kept p) → HasSlotFor old trace e → (new.alarm ≡ None → HasRoomFor new.monitor.kept e) → HasRoomToNote new.clocks.bounds.threads new.clocks.state e → HasRoomForNext new trace e
 room-reserved old new trace e alarm nodes entries slot monitor clocks = record {
-  monitor = λ _. monitor;
+  monitor = monitor;
   slot = record { slot = λ none needs. rw nodes (slot.slot (sym alarm ∙ none) (NeedsNode-reserved old.monitor new.monitor trace e nodes entries needs)) };
   clocks = λ _. clocks;
 }
@@ -125,6 +125,14 @@ monitor-quiet run bounds trace quiet is = subst (IsMonitorOf bounds run.monitor)
 
 pub clocks-quiet : (run : Run) (bounds : Bounds) (trace : List Event) → IsFalse (is_some run.alarm) → IsWatched run bounds trace → AreClocksOf run.clocks.state trace
 clocks-quiet run bounds trace quiet is = is.clocks (alarm-none run.alarm quiet)
+
+-- where both have room for what may follow, the event that may come next finds it
+pub room-found : (run : Run) (trace : List Event) (e : Event) → ((bounds : Bounds) (past : List Event) → IsMonitorOf bounds run.monitor past → MayFollow bounds past e → HasRoomFor run.monitor.kept e) → (IsOfThreads run.clocks.bounds.threads e → HasRoomToNote run.clocks.bounds.threads run.clocks.state e) → IsRunOf run trace → MayFollow (bounds_of run.heap) trace e → HasSlotFor run trace e → HasRoomForNext run trace e
+room-found run trace e monitor clocks stands follows slot = record {
+  monitor = λ none. monitor _ trace (monitor-quiet run _ trace (ap is_some none) stands.watched) follows;
+  slot = slot;
+  clocks = λ _. clocks (threads-next run trace e stands follows);
+}
 
 pub IsWatched-quiet : (run : Run) (bounds : Bounds) (trace : List Event) → IsFalse (is_some run.alarm) → ¬ HasCycle trace → IsMonitorOf bounds run.monitor trace → AreClocksOf run.clocks.state trace → run.clocks.bounds ≡ bounds → IsWatched run bounds trace
 IsWatched-quiet run bounds trace quiet acyclic monitor clocks bounds_are =

@@ -1,7 +1,8 @@
-use Rattle.std.proofs.Common.{sym, ◌∙◌, refl}
+use Rattle.std.proofs.Common.{ap, refl}
+use Rattle.std.specs.Prelude.{is_some}
 use Rattle.velo_heap.specs.Contents.{bounds_of}
 use Rattle.velo_world.proofs.OnRuns.{OnOk-then, monitor-quiet, room-reserved, threads-next, IsRunOf-reserved}
-use Rattle.velo_world.proofs.run.Run.reserve_for.Goals as goal
+use Rattle.velo_world.proofs.run.Run.grow_for.Goals as goal
 
 pub returns-in_err-reserve_for-clause-follows : goal.returns-in_err-reserve_for-clause-follows
 returns-in_err-reserve_for-clause-follows c = λ trace stands.
@@ -15,6 +16,5 @@ pub returns-clause-room : goal.returns-clause-room
 returns-clause-room c =
     let old = c.args.self.now in
     let e = c.args.event.now in
-    let quiet = sym c.is_some.ensures ∙ c.if-is_some.false in
     OnOk-then c.reserve.result _ _ c.reserve.ensures.room (λ made trace stands follows slot.
-    room-reserved old _ trace e refl c.reserve.ensures.nodes c.reserve.ensures.entries slot (made (bounds_of old.heap) trace (monitor-quiet old _ trace quiet stands.watched) follows) (c.in_ok-reserve_for.ensures.ok (threads-next old trace e stands follows)))
+    room-reserved old _ trace e refl c.reserve.ensures.nodes c.reserve.ensures.entries slot (λ none. made (bounds_of old.heap) trace (monitor-quiet old _ trace (ap is_some none) stands.watched) follows) (c.in_ok-reserve_for.ensures.ok (threads-next old trace e stands follows)))
