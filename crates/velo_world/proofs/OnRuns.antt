@@ -126,14 +126,6 @@ monitor-quiet run bounds trace quiet is = subst (IsMonitorOf bounds run.monitor)
 pub clocks-quiet : (run : Run) (bounds : Bounds) (trace : List Event) → IsFalse (is_some run.alarm) → IsWatched run bounds trace → AreClocksOf run.clocks.state trace
 clocks-quiet run bounds trace quiet is = is.clocks (alarm-none run.alarm quiet)
 
--- where both have room for what may follow, the event that may come next finds it
-pub room-found : (run : Run) (trace : List Event) (e : Event) → ((bounds : Bounds) (past : List Event) → IsMonitorOf bounds run.monitor past → MayFollow bounds past e → HasRoomFor run.monitor.kept e) → (IsOfThreads run.clocks.bounds.threads e → HasRoomToNote run.clocks.bounds.threads run.clocks.state e) → IsRunOf run trace → MayFollow (bounds_of run.heap) trace e → HasSlotFor run trace e → HasRoomForNext run trace e
-room-found run trace e monitor clocks stands follows slot = record {
-  monitor = λ none. monitor _ trace (monitor-quiet run _ trace (ap is_some none) stands.watched) follows;
-  slot = slot;
-  clocks = λ _. clocks (threads-next run trace e stands follows);
-}
-
 pub IsWatched-quiet : (run : Run) (bounds : Bounds) (trace : List Event) → IsFalse (is_some run.alarm) → ¬ HasCycle trace → IsMonitorOf bounds run.monitor trace → AreClocksOf run.clocks.state trace → run.clocks.bounds ≡ bounds → IsWatched run bounds trace
 IsWatched-quiet run bounds trace quiet acyclic monitor clocks bounds_are =
     let same = sym (events_watched-none trace run.alarm quiet) in
