@@ -116,7 +116,7 @@ module _ (n : ℕ) (rows : SharedRows) (are : AreRows n rows) where
   }
 
   module _ (ms : List Epoch) (refers : RefersTo rows ms) where
-    alones-room : (i : ℕ) → i < length ms → HasRoomAt n (alones_in rows.rows ms) i
+    pub alones-room : (i : ℕ) → i < length ms → HasRoomAt n (alones_in rows.rows ms) i
     alones-room i l = record {
       known = ap (λ (c : Clock). length c.known) (alones-at rows.rows ms i l) ∙ clock-long n rows are (get_or ms i blank_epoch) (refers i);
       foreign = ap (λ (c : Clock). length c.foreign) (alones-at rows.rows ms i l) ∙ (length-set (clock_in rows.rows (get_or ms i blank_epoch)) (get_or ms i blank_epoch).by.0 0 ∙ clock-long n rows are (get_or ms i blank_epoch) (refers i));

@@ -47,6 +47,27 @@ impl PlaceClocks {
         })
     }
 
+    /// Whether there is room for what the event notes already.
+    #[inline(always)]
+    pub fn has_room_for(&self, event: &Event) -> bool
+        ensures { (threads : ℕ) → ArePlaces threads self.now → IsTrue result → IsOfThreads threads event.now → HasRoomToNote threads (state_of self.now) event.now }
+    {
+        self.rows.has_spare() && self.reads.has_lists() && self.has_room_beside(event)
+    }
+
+    /// Whether there is at the places beside the last of the event's thread.
+    #[inline(always)]
+    fn has_room_beside(&self, event: &Event) -> bool
+        ensures { (threads : ℕ) → ArePlaces threads self.now → IsTrue result → IsOfThreads threads event.now → HasRoomToNoteBeside threads (state_of self.now) event.now.kind }
+    {
+        match event.kind {
+            Kind::Read(x, _) => (x.0 as usize) < self.reads.count(),
+            Kind::Write(x, _) => (x.0 as usize) < self.writes.len(),
+            Kind::Acquire(m) | Kind::Release(m) => (m.0 as usize) < self.locks.len(),
+            _ => true,
+        }
+    }
+
     /// Makes room for what the event notes.
     #[inline]
     pub fn reserve_for(&mut self, event: &Event, threads: usize) -> Result<(), Memory>

@@ -1,5 +1,5 @@
 ghost use Rattle.velo_events.specs.Refusals.{GrowthRefused};
-ghost use Rattle.std.specs.Prelude.{◌≡◌, ◌+◌, ◌<◌, ◌^◌, length, IfOk, OnOk, OnErr};
+ghost use Rattle.std.specs.Prelude.{◌≡◌, ◌+◌, ◌<◌, ◌^◌, length, IsTrue, IfOk, OnOk, OnErr};
 ghost use Rattle.velo_tables.specs.Clocks.{blame_bound, KnowsNothing, IsNoted, KnowsTheSame};
 ghost use Rattle.velo_tables.specs.Noted.{HasRoomToNote, IsOfThreads};
 
@@ -51,6 +51,14 @@ impl ClockTables {
             in_order: true,
             latest: 0,
         })
+    }
+
+    /// Whether there is room for what the event notes already.
+    #[inline(always)]
+    pub fn has_room_for(&self, event: &Event) -> bool
+        ensures { IsTrue result → IsOfThreads (length self.now.threads) event.now → HasRoomToNote (length self.now.threads) self.now event.now }
+    {
+        self.places.has_room_for(event)
     }
 
     /// Makes room for what the event notes. Nothing that is known changes, also where it is refused.
