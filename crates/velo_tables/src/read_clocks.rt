@@ -195,15 +195,18 @@ impl ReadClocks {
             ReadBy::One(one) if in_order && one.by.0 == epoch.by.0 => {
                 self.places[number].by = ReadBy::One(epoch);
             }
-            ReadBy::One(_) | ReadBy::Several => {
-                self.add_beside(rows, number, epoch.by, epoch.number, epoch.row, threads);
+            ReadBy::One(_) => {
+                self.add_second(rows, number, epoch.by, epoch.number, epoch.row, threads);
+            }
+            ReadBy::Several => {
+                self.join(rows, number, epoch.by, epoch.number, epoch.row, threads);
             }
         }
     }
 
-    /// A read stands at the place beside others. It comes in parts, so that no caller has to keep an epoch in memory.
+    /// A read stands at the place beside the one that stood there alone.
     #[inline(never)]
-    fn add_beside(
+    fn add_second(
         &mut self,
         rows: &SharedRows,
         place: usize,
@@ -216,6 +219,7 @@ impl ReadClocks {
         requires reads { AreReads threads rows.now self.old }
         requires there { place < length self.old.places.items }
         requires some { ¬ ((slice_index_or self.old.places.items place blank_reads).by ≡ Nobody) }
+        requires alone { ¬ ((slice_index_or self.old.places.items place blank_reads).by ≡ Several) }
         requires lists { has_lists self.old ≡ true }
         requires by { by.0 < threads }
         requires in_use { IsInUse rows.now row }
@@ -223,14 +227,9 @@ impl ReadClocks {
         ensures joint { reads_in rows.now self.new
             ≡ slice_set (reads_in rows.now self.old) place (joint_at (slice_index_or (reads_in rows.now self.old) place blank_clock) (clock_in rows.now.rows (record { by = by; number = number; row = row })) by.0) }
     {
-        let epoch = Epoch { by, number, row };
-        match self.places[place].by {
-            ReadBy::Nobody => {}
-            ReadBy::One(one) => {
-                self.split(rows, place, one, threads);
-                self.join(rows, place, epoch, threads);
-            }
-            ReadBy::Several => self.join(rows, place, epoch, threads),
+        if let ReadBy::One(one) = self.places[place].by {
+            self.split(rows, place, one, threads);
+            self.join(rows, place, by, number, row, threads);
         }
     }
 
@@ -275,22 +274,30 @@ impl ReadClocks {
         self.places[number].lists
     }
 
-    /// A read stands at the place beside those of several threads.
-    fn join(&mut self, rows: &SharedRows, number: usize, epoch: Epoch, threads: usize)
+    /// A read stands at the place beside those of several threads. It comes in parts, so that no caller keeps an epoch in memory.
+    #[inline(never)]
+    fn join(
+        &mut self,
+        rows: &SharedRows,
+        place: usize,
+        by: ThreadId,
+        number: u32,
+        row: usize,
+        threads: usize,
+    )
         requires rows { AreRows threads rows.now }
         requires reads { AreReads threads rows.now self.old }
-        requires there { number < length self.old.places.items }
-        requires several { (slice_index_or self.old.places.items number blank_reads).by ≡ Several }
-        requires by { epoch.by.0 < threads }
-        requires in_use { IsInUse rows.now epoch.row }
+        requires there { place < length self.old.places.items }
+        requires several { (slice_index_or self.old.places.items place blank_reads).by ≡ Several }
+        requires by { by.0 < threads }
+        requires in_use { IsInUse rows.now row }
         ensures reads { AreReads threads rows.now self.new }
         ensures joint { reads_in rows.now self.new
-            ≡ slice_set (reads_in rows.now self.old) number (joint_at (slice_index_or (reads_in rows.now self.old) number blank_clock) (clock_in rows.now.rows epoch) epoch.by.0) }
+            ≡ slice_set (reads_in rows.now self.old) place (joint_at (slice_index_or (reads_in rows.now self.old) place blank_clock) (clock_in rows.now.rows (record { by = by; number = number; row = row })) by.0) }
     {
-        let lists = self.places[number].lists;
-        self.own.raise_number(lists, epoch.by, epoch.number);
-        self.foreign
-            .raise_but(lists, rows.rows.list(epoch.row), epoch.by);
+        let lists = self.places[place].lists;
+        self.own.raise_number(lists, by, number);
+        self.foreign.raise_but(lists, rows.rows.list(row), by);
     }
 
     /// No read stands at the place any more.
