@@ -24,3 +24,4 @@ pub mod OnOrder
 pub mod OnTops
 pub mod OnThreads
 pub mod OnPlaces
+pub mod OnShared

@@ -18,22 +18,22 @@ use Rattle.velo_tables.specs.declared.clock_places.PlaceClocks.{PlaceClocks}
 use Rattle.velo_tables.specs.Readers.{filled_up}
 use Rattle.velo_tables.proofs.OnReaders.{get_or-blanks, get_or-filled_up, length-filled_up}
 use Rattle.velo_tables.specs.Clocks.{Clock, ClockState, ClockPlace, OfLast, OfWrite, OfReads, OfLock, KnowsTheSame, KnowsNothing, IsNoted, blank_clock, clock_at, known_at, foreign_at, beside, greatest_of}
-use Rattle.velo_tables.specs.Noted.{maxima, alone_at, clock_beside, joined_clock, state_after_beside, state_after, with_spare, with_thread, HasRoomToNoteBeside, HasRoomAt, AreWithin, KeepNumbers, IsSized}
-use Rattle.velo_tables.specs.Order.{KnowsTops, IsLed, IsAhead}
+use Rattle.velo_tables.specs.Noted.{maxima, alone_at, clock_beside, joined_clock, state_after_beside, state_after, with_spare, with_thread, HasRoomToNote, HasRoomToNoteBeside, HasRoomAt, AreWithin, KeepNumbers, IsSized}
+use Rattle.velo_tables.specs.Order.{IsLed, IsAhead}
 use Rattle.velo_tables.specs.Epochs.{blank_epoch, clock_in, alone_in, alones_in, IsInUse, AreRows, RefersTo}
 use Rattle.velo_tables.specs.Reads.{read_clock, reads_of, reads_in, epoch_in, blank_reads, clock_of_reads}
 use Rattle.velo_tables.specs.Places.{state_of, is_ready, ArePlaces, KeepsPlaces}
 use Rattle.velo_tables.proofs.OnRaised.{raised-nil, raised-same}
 use Rattle.velo_tables.proofs.OnKept.{from_either, OnOk-weaker}
-use Rattle.velo_tables.proofs.OnReadClocks.{clock-long}
-use Rattle.velo_tables.proofs.OnNoted.{length-joined_clock, joined_clock-at}
+use Rattle.velo_tables.proofs.OnReadClocks.{clock-long, reads-within}
+use Rattle.velo_tables.proofs.OnNoted.{length-joined_clock, joined_clock-at, IsNoted-noted}
 
 -- ---- epochs by number
 
 pub alones-at : (rows : List (List ℕ)) (ms : List Epoch) (i : ℕ) → i < length ms → get_or (alones_in rows ms) i blank_clock ≡ alone_in rows (get_or ms i blank_epoch)
 alones-at rows ms i l = get_or-map (alone_in rows) ms i blank_epoch blank_clock l
 
-alones-past : (rows : List (List ℕ)) (ms : List Epoch) (i : ℕ) → length ms ≤ i → get_or (alones_in rows ms) i blank_clock ≡ blank_clock
+pub alones-past : (rows : List (List ℕ)) (ms : List Epoch) (i : ℕ) → length ms ≤ i → get_or (alones_in rows ms) i blank_clock ≡ blank_clock
 alones-past rows ms i past = get_or_past (alones_in rows ms) i blank_clock (omega (arith, past, length-map ms (alone_in rows)))
 
 pub alones-set : (rows : List (List ℕ)) (ms : List Epoch) (i : ℕ) (m : Epoch) → alones_in rows (set ms i m) ≡ set (alones_in rows ms) i (alone_in rows m)
@@ -108,12 +108,6 @@ module _ (n : ℕ) (rows : SharedRows) (are : AreRows n rows) where
 
   foreign-there : (ms : List Epoch) (i u : ℕ) → get_or (get_or (alones_in rows.rows ms) i blank_clock).foreign u 0 ≡ get_or (alone_in rows.rows (get_or ms i blank_epoch)).foreign u 0
   foreign-there ms i u = number-there (λ c. get_or c.foreign u 0) refl (blank-foreign u) ms i
-
-  -- who knows the event knows the place
-  tops-there : (ms : List Epoch) (i : ℕ) (clock : List ℕ) → KnowsTops (alone_in rows.rows (get_or ms i blank_epoch)) clock → KnowsTops (get_or (alones_in rows.rows ms) i blank_clock) clock
-  tops-there ms i clock tops = record {
-    each = λ u top. let there = tops.each u (omega (arith, top, known-there ms i u, foreign-there ms i u)) in omega (arith, there, known-there ms i u);
-  }
 
   module _ (ms : List Epoch) (refers : RefersTo rows ms) where
     pub alones-room : (i : ℕ) → i < length ms → HasRoomAt n (alones_in rows.rows ms) i
@@ -256,10 +250,6 @@ module _ (n : ℕ) (rows : SharedRows) (are : AreRows n rows) (ms : List Epoch) 
       ∙ (ap (λ m. maxima own (clock_in rows.rows m)) (is_at ∙ ap (λ xs. get_or xs i blank_epoch) is_now)
       ∙ raised-there n rows are ms refers i own long))
 
-  -- it knows what the one at a place knows
-  pub known-here : (clock : List ℕ) (at : Epoch) (now : List Epoch) (i : ℕ) → at ≡ get_or now i blank_epoch → now ≡ ms → KnowsTops (alone_in rows.rows at) clock → KnowsTops (get_or (alones_in rows.rows ms) i blank_clock) clock
-  known-here clock at now i is_at is_now tops = tops-there n rows are ms i clock (subst (λ m. KnowsTops (alone_in rows.rows m) clock) (is_at ∙ ap (λ xs. get_or xs i blank_epoch) is_now) tops)
-
 -- ---- the first state
 
 module _ (n : ℕ) (rows : SharedRows) (are : AreRows n rows) (threads writes locks : List Epoch) (own foreign : List (List ℕ)) (rs : List Reads) (spare : Bool) (blanks : threads ≡ replicate n blank_epoch) (no_writes : writes ≡ []) (no_reads : rs ≡ []) (no_locks : locks ≡ []) where
@@ -279,7 +269,7 @@ module _ (n : ℕ) (rows : SharedRows) (are : AreRows n rows) (threads writes lo
 -- ---- the event of a thread
 
 -- lists of one length of which one is no less
-raised-into : (xs ys : List ℕ) → length xs ≡ length ys → ((i : ℕ) → get_or xs i 0 ≤ get_or ys i 0) → maxima xs ys ≡ ys
+pub raised-into : (xs ys : List ℕ) → length xs ≡ length ys → ((i : ℕ) → get_or xs i 0 ≤ get_or ys i 0) → maxima xs ys ≡ ys
 unfolding maxima
 raised-into [] [] long less = refl
 raised-into [] (y ∷ ys) long less = absurd (omega (arith, long))
@@ -295,7 +285,7 @@ module _ (s : ClockState) (position : ℕ) (ahead : IsAhead s position) (p : Clo
       (λ off. absurd (let top = subst (λ (c : Clock). get_or c.foreign led.by 0 < get_or c.known led.by 0) alone led.top in omega (arith, top, get_or-set_other known t led.by 0 0 off)))
       (cases_eq led.by t)
 
-  alone-follows : (v : ℕ) → known_at s p v ≤ known_at s (OfLast t) v
+  pub alone-follows : (v : ℕ) → known_at s p v ≤ known_at s (OfLast t) v
   alone-follows v = ⊎_elim
       (λ some.
       let led = ahead.closed.led p v some in
@@ -329,6 +319,15 @@ sized-places n p are reads = record {
   reads = reads;
   locks = alones-within n p.rows are.rows p.locks.items are.locks;
 }
+
+-- what follows where each list is as it is to be
+pub noted-places : (n m : ℕ) (p : PlaceClocks) (now after : ClockState) (b : Bool) (position : ℕ) (e : Event) → after ≡ with_spare b (state_after (state_of p) (joined_clock (state_of p) position e) e) → state_of p ≡ now → ArePlaces n p → m ≡ n → HasRoomToNote m now e → IsNoted now position e after
+noted-places n m p now after b position e is_after is_now are same room =
+    let roomy : HasRoomToNote n (state_of p) e = subst (λ k. HasRoomToNote k (state_of p) e) same (subst (λ (s : ClockState). HasRoomToNote m s e) (sym is_now) room) in
+    let sized = sized-places n p are (reads-within n p.rows p.reads are.rows are.reads) in
+    subst (λ (s : ClockState). IsNoted s position e after) is_now
+    (subst (λ (s : ClockState). IsNoted (state_of p) position e s) (sym is_after)
+    (noted-spare (state_of p) (state_after (state_of p) (joined_clock (state_of p) position e) e) position e b (IsNoted-noted n (state_of p) position e sized roomy)))
 
 module _ (n : ℕ) (old mid : PlaceClocks) (are : ArePlaces n old) (kept : KeepsPlaces old mid) (position row : ℕ) (e : Event)
     (is_row : (x : ℕ) → set (get_or mid.rows.rows row []) (thread_of e) x ≡ set (clock_beside (state_of old) e.kind (clock_at (state_of old) (OfLast (thread_of e))).known) (thread_of e) x) where
@@ -367,7 +366,3 @@ both-ready false b is = absurd (false≢true is)
 pub ready-both : (a b : Bool) → a ≡ true → b ≡ true → (a && b) ≡ true
 ready-both true b first second = second
 ready-both false b first second = absurd (false≢true first)
-
--- the row of an event at a place is in use
-pub at-used : (i : ℕ) (at : Epoch) (now ms : List Epoch) (rows : SharedRows) → RefersTo rows ms → at ≡ get_or now i blank_epoch → now ≡ ms → IsInUse rows at.row
-at-used i at now ms rows refers is_at is_now = subst (λ (m : Epoch). IsInUse rows m.row) (sym (is_at ∙ ap (λ xs. get_or xs i blank_epoch) is_now)) (refers i)

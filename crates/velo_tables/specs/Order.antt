@@ -21,6 +21,10 @@ pub record KnowsTops (c : Clock) (clock : List ℕ) : Type 0 where
 abbrev pub TopsTell : Clock → List ℕ → Type 0
 TopsTell c clock = KnowsTops c clock → maxima clock c.known ≡ clock
 
+-- the clock knows its own thread as far as the place does
+abbrev pub KnowsOwn : Clock → ℕ → List ℕ → Type 0
+KnowsOwn c t clock = slice_index_or c.known t 0 ≤ slice_index_or clock t 0
+
 -- ---- the places beside
 
 -- the clock knows what the events of each place do whose events conflict with the operation

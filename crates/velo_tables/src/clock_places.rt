@@ -1,9 +1,9 @@
 ghost use Rattle.velo_events.specs.Refusals.{GrowthRefused};
-ghost use Rattle.std.specs.Prelude.{◌≡◌, ◌<◌, ◌≤◌, ◌+◌, ◌^◌, ℕ, true, false, [], length, slice_index_or, slice_set, IsTrue, IfOk, OnOk, OnErr};
-ghost use Rattle.velo_events.specs.Event.{thread_of};
-ghost use Rattle.velo_tables.specs.Clocks.{blank_clock, clock_at, OfLast, blame_bound, KnowsNothing, KnowsTheSame};
+ghost use Rattle.std.specs.Prelude.{◌≡◌, ◌<◌, ◌≤◌, ◌+◌, ◌^◌, ℕ, true, false, [], length, slice_index_or, slice_set, None, IsTrue, IsFalse, IfOk, OnOk, OnErr};
+ghost use Rattle.velo_events.specs.Event.{thread_of, forked_by};
+ghost use Rattle.velo_tables.specs.Clocks.{ClockPlace, blank_clock, clock_at, OfLast, blame_bound, KnowsNothing, KnowsTheSame};
 ghost use Rattle.velo_tables.specs.Noted.{clock_beside, joined_clock, state_after_beside, state_after, with_spare, HasRoomToNoteBeside, HasRoomToNote, IsOfThreads};
-ghost use Rattle.velo_tables.specs.Order.{KeepsOrder, KnowsBeside, IsAhead, IsClosed};
+ghost use Rattle.velo_tables.specs.Order.{KnowsOwn, KeepsOrder, KnowsBeside, IsAhead};
 ghost use Rattle.velo_tables.specs.Epochs.{clock_in, alones_in, has_spare, AreRows, IsInUse};
 ghost use Rattle.velo_tables.specs.Reads.{has_lists, FollowsOwn};
 ghost use Rattle.velo_tables.specs.Places.{state_of, is_ready, ArePlaces, KeepsPlaces};
@@ -201,6 +201,87 @@ impl PlaceClocks {
         }
     }
 
+    /// Notes the event at the position if it learns nothing, so that it shares the row of its thread's last event. Where it may
+    /// learn something, and where it forks or joins, nothing is noted.
+    #[inline(always)]
+    pub fn share(&mut self, position: u32, event: &Event, threads: usize) -> bool
+        requires places { ArePlaces threads self.old }
+        requires room { HasRoomToNote threads (state_of self.old) event.now }
+        requires fits { position + 1 < 2 ^ 32 }
+        requires ahead { IsAhead (state_of self.old) position }
+        ensures places { ArePlaces threads self.new }
+        ensures forks_none { IsTrue result → forked_by event.now.kind ≡ None }
+        ensures noted { IsTrue result → state_of self.new ≡ with_spare (is_ready self.new) (state_after (state_of self.old) (joined_clock (state_of self.old) position event.now) event.now) }
+        ensures same { IsFalse result → self.new ≡ self.old }
+    {
+        let t = event.thread.0 as usize;
+        let own = self.threads[t];
+        if own.by.0 != event.thread.0 {
+            return false;
+        }
+        if !self.share_beside(event, own, position + 1, threads) {
+            return false;
+        }
+        self.threads[t].number = position + 1;
+        true
+    }
+
+    /// The places beside know what the event does, which shares the row of the last of its thread, if it learns nothing there.
+    #[inline(always)]
+    fn share_beside(&mut self, event: &Event, own: Epoch, number: u32, threads: usize) -> bool
+        requires places { ArePlaces threads self.old }
+        requires beside { HasRoomToNoteBeside threads (state_of self.old) event.now.kind }
+        requires by { own.by.0 < threads }
+        requires in_use { IsInUse self.old.rows own.row }
+        requires lists { has_lists self.old.reads ≡ true }
+        requires own { (p : ClockPlace) → KnowsOwn (clock_at (state_of self.old) p) own.by.0 (clock_in self.old.rows.rows own) }
+        requires follows { FollowsOwn self.old.rows self.old.reads (record { by = own.by; number = number; row = own.row }) }
+        ensures places { ArePlaces threads self.new }
+        ensures rows { self.new.rows ≡ self.old.rows }
+        ensures threads { self.new.threads ≡ self.old.threads }
+        ensures known { IsTrue result → KnowsBeside (state_of self.old) event.now.kind (clock_in self.old.rows.rows own) }
+        ensures forks_none { IsTrue result → forked_by event.now.kind ≡ None }
+        ensures noted { IsTrue result → state_of self.new
+            ≡ with_spare (is_ready self.new) (state_after_beside (state_of self.old) own.by.0 event.now.kind (clock_in self.old.rows.rows (record { by = own.by; number = number; row = own.row }))) }
+        ensures same { IsFalse result → self.new ≡ self.old }
+    {
+        let epoch = Epoch {
+            by: own.by,
+            number,
+            row: own.row,
+        };
+        match event.kind {
+            Kind::Read(x, _) => {
+                let x = x.0 as usize;
+                if x < self.writes.len() && !self.rows.knows(own, self.writes[x]) {
+                    return false;
+                }
+                self.reads.add(&self.rows, x, epoch, threads, true);
+            }
+            Kind::Write(x, _) => {
+                let x = x.0 as usize;
+                if !self.rows.knows(own, self.writes[x]) {
+                    return false;
+                }
+                if !self.reads.are_known(&self.rows, own, x) {
+                    return false;
+                }
+                self.reads.clear(x);
+                self.writes[x] = epoch;
+            }
+            Kind::Acquire(m) | Kind::Release(m) => {
+                let m = m.0 as usize;
+                if !self.rows.knows(own, self.locks[m]) {
+                    return false;
+                }
+                self.locks[m] = epoch;
+            }
+            Kind::Fork(_) | Kind::Join(_) => return false,
+            Kind::Begin(_) | Kind::End | Kind::Exit => {}
+        }
+        true
+    }
+
     /// Notes the event at the position. The list is for what it needs to write down.
     #[inline]
     pub fn note(&mut self, clock: &mut [u32], position: u32, event: &Event, in_order: bool)
@@ -211,7 +292,7 @@ impl PlaceClocks {
         ensures places { ArePlaces (length clock.old) self.new }
         ensures noted { state_of self.new ≡ with_spare (is_ready self.new) (state_after (state_of self.old) (joined_clock (state_of self.old) position event.now) event.now) }
     {
-        let row = self.row_of(clock, event, in_order);
+        let row = self.row_of(clock, event);
         let epoch = Epoch {
             by: event.thread,
             number: position + 1,
@@ -222,11 +303,9 @@ impl PlaceClocks {
     }
 
     /// The row of what the event knows of other threads.
-    #[inline]
-    fn row_of(&mut self, clock: &mut [u32], event: &Event, in_order: bool) -> usize
+    fn row_of(&mut self, clock: &mut [u32], event: &Event) -> usize
         requires places { ArePlaces (length clock.old) self.old }
         requires room { HasRoomToNote (length clock.old) (state_of self.old) event.now }
-        requires closed { IsTrue in_order → IsClosed (state_of self.old) }
         ensures places { ArePlaces (length clock.old) self.new }
         ensures kept { KeepsPlaces self.old self.new }
         ensures in_use { IsInUse self.new.rows result }
@@ -234,30 +313,8 @@ impl PlaceClocks {
             ≡ slice_set (clock_beside (state_of self.old) event.now.kind (clock_at (state_of self.old) (OfLast (thread_of event.now))).known) (thread_of event.now) x }
     {
         let own = self.threads[event.thread.0 as usize];
-        if in_order && own.by.0 == event.thread.0 && self.knows_beside(own, event) {
-            return own.row;
-        }
         self.learn_beside(clock, own, event);
         self.rows.store(clock)
-    }
-
-    /// Whether the event knows what those at the places beside know.
-    #[inline]
-    fn knows_beside(&self, own: Epoch, event: &Event) -> bool
-        ensures { (threads : ℕ) → ArePlaces threads self.now → IsInUse self.now.rows own.row → IsTrue result → KnowsBeside (state_of self.now) event.now.kind (clock_in self.now.rows.rows own) }
-    {
-        match event.kind {
-            Kind::Read(x, _) => self.rows.knows(own, Epoch::at(&self.writes, x.0 as usize)),
-            Kind::Write(x, _) => {
-                self.rows.knows(own, Epoch::at(&self.writes, x.0 as usize))
-                    && self.reads.are_known(&self.rows, own, x.0 as usize)
-            }
-            Kind::Acquire(m) | Kind::Release(m) => {
-                self.rows.knows(own, Epoch::at(&self.locks, m.0 as usize))
-            }
-            Kind::Join(u) => self.rows.knows(own, Epoch::at(&self.threads, u.0 as usize)),
-            _ => true,
-        }
     }
 
     /// Writes down what is known by an event and by those at the places beside.

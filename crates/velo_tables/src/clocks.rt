@@ -1,5 +1,5 @@
 ghost use Rattle.velo_events.specs.Refusals.{GrowthRefused};
-ghost use Rattle.std.specs.Prelude.{◌≡◌, ◌+◌, ◌<◌, ◌^◌, length, IsTrue, IfOk, OnOk, OnErr};
+ghost use Rattle.std.specs.Prelude.{◌≡◌, ◌+◌, ◌<◌, ◌^◌, length, IsTrue, IsFalse, IfOk, OnOk, OnErr};
 ghost use Rattle.velo_tables.specs.Clocks.{blame_bound, KnowsNothing, IsNoted, KnowsTheSame};
 ghost use Rattle.velo_tables.specs.Noted.{HasRoomToNote, IsOfThreads};
 
@@ -74,7 +74,40 @@ impl ClockTables {
     }
 
     /// Notes the event at the position.
+    #[inline]
     pub fn note(&mut self, position: u32, event: &Event)
+        requires room { HasRoomToNote (length self.old.threads) self.old event.now }
+        requires fits { position + 1 < 2 ^ 32 }
+        ensures noted { IsNoted self.old position event.now self.new }
+        ensures threads { length self.new.threads ≡ length self.old.threads }
+    {
+        if !self.note_shared(position, event) {
+            self.note_in_full(position, event);
+        }
+    }
+
+    /// Notes the event if it comes in order and learns nothing, as most do.
+    #[inline(always)]
+    fn note_shared(&mut self, position: u32, event: &Event) -> bool
+        requires room { HasRoomToNote (length self.old.threads) self.old event.now }
+        requires fits { position + 1 < 2 ^ 32 }
+        ensures noted { IsTrue result → IsNoted self.old position event.now self.new }
+        ensures same { IsFalse result → self.new ≡ self.old }
+        ensures threads { length self.new.threads ≡ length self.old.threads }
+    {
+        if !self.in_order || position < self.latest {
+            return false;
+        }
+        if !self.places.share(position, event, self.clock.len()) {
+            return false;
+        }
+        self.latest = position + 1;
+        true
+    }
+
+    /// Notes the event, whatever it learns.
+    #[inline(never)]
+    fn note_in_full(&mut self, position: u32, event: &Event)
         requires room { HasRoomToNote (length self.old.threads) self.old event.now }
         requires fits { position + 1 < 2 ^ 32 }
         ensures noted { IsNoted self.old position event.now self.new }

@@ -1,9 +1,9 @@
 ghost use Rattle.velo_events.specs.Refusals.{GrowthRefused};
 ghost use Rattle.std.specs.Prelude.{◌≡◌, ◌<◌, ◌≤◌, ◌+◌, ◌^◌, ℕ, true, false, [], length, slice_index_or, slice_set, IsTrue, OnOk, OnErr};
-ghost use Rattle.velo_tables.specs.declared.read_clocks.ReadBy.TheVariants.{One, Several};
+ghost use Rattle.velo_tables.specs.declared.read_clocks.ReadBy.TheVariants.{Nobody, One, Several};
 ghost use Rattle.velo_tables.specs.Clocks.{blank_clock};
 ghost use Rattle.velo_tables.specs.Noted.{maxima, cleared_at, joint_at, HasRoomAt, KeepNumbers};
-ghost use Rattle.velo_tables.specs.Order.{KnowsTops};
+ghost use Rattle.velo_tables.specs.Order.{KnowsOwn, KnowsTops};
 ghost use Rattle.velo_tables.specs.declared.shared_rows.SharedRows.{SharedRows};
 ghost use Rattle.velo_tables.specs.Epochs.{clock_in, AreRows, IsInUse, UsesMore};
 ghost use Rattle.velo_tables.specs.Reads.{blank_reads, reads_in, has_lists, epoch_in, AreReads, ReadsReferTo, FollowsOwn};
@@ -117,8 +117,10 @@ impl ReadClocks {
     }
 
     /// Whether the event knows all reads at the place. It is not looked for where several threads read.
+    #[inline(always)]
     pub fn are_known(&self, rows: &SharedRows, own: Epoch, number: usize) -> bool
-        ensures { (threads : ℕ) → AreRows threads rows.now → AreReads threads rows.now self.now → IsInUse rows.now own.row → IsTrue result
+        ensures { (threads : ℕ) → AreRows threads rows.now → AreReads threads rows.now self.now → IsInUse rows.now own.row
+            → KnowsOwn (slice_index_or (reads_in rows.now self.now) number blank_clock) own.by.0 (clock_in rows.now.rows own) → IsTrue result
             → KnowsTops (slice_index_or (reads_in rows.now self.now) number blank_clock) (clock_in rows.now.rows own) }
     {
         if number >= self.places.len() {
@@ -168,6 +170,7 @@ impl ReadClocks {
     }
 
     /// A read stands at the place too. Where the events came in order, it takes the place of the one before it of its thread.
+    #[inline(always)]
     pub fn add(
         &mut self,
         rows: &SharedRows,
@@ -192,11 +195,41 @@ impl ReadClocks {
             ReadBy::One(one) if in_order && one.by.0 == epoch.by.0 => {
                 self.places[number].by = ReadBy::One(epoch);
             }
-            ReadBy::One(one) => {
-                self.split(rows, number, one, threads);
-                self.join(rows, number, epoch, threads);
+            ReadBy::One(_) => {
+                self.add_second(rows, number, epoch.by, epoch.number, epoch.row, threads);
             }
-            ReadBy::Several => self.join(rows, number, epoch, threads),
+            ReadBy::Several => {
+                self.join(rows, number, epoch.by, epoch.number, epoch.row, threads);
+            }
+        }
+    }
+
+    /// A read stands at the place beside the one that stood there alone.
+    #[inline(never)]
+    fn add_second(
+        &mut self,
+        rows: &SharedRows,
+        place: usize,
+        by: ThreadId,
+        number: u32,
+        row: usize,
+        threads: usize,
+    )
+        requires rows { AreRows threads rows.now }
+        requires reads { AreReads threads rows.now self.old }
+        requires there { place < length self.old.places.items }
+        requires some { ¬ ((slice_index_or self.old.places.items place blank_reads).by ≡ Nobody) }
+        requires alone { ¬ ((slice_index_or self.old.places.items place blank_reads).by ≡ Several) }
+        requires lists { has_lists self.old ≡ true }
+        requires by { by.0 < threads }
+        requires in_use { IsInUse rows.now row }
+        ensures reads { AreReads threads rows.now self.new }
+        ensures joint { reads_in rows.now self.new
+            ≡ slice_set (reads_in rows.now self.old) place (joint_at (slice_index_or (reads_in rows.now self.old) place blank_clock) (clock_in rows.now.rows (record { by = by; number = number; row = row })) by.0) }
+    {
+        if let ReadBy::One(one) = self.places[place].by {
+            self.split(rows, place, one, threads);
+            self.join(rows, place, by, number, row, threads);
         }
     }
 
@@ -241,25 +274,34 @@ impl ReadClocks {
         self.places[number].lists
     }
 
-    /// A read stands at the place beside those of several threads.
-    fn join(&mut self, rows: &SharedRows, number: usize, epoch: Epoch, threads: usize)
+    /// A read stands at the place beside those of several threads. It comes in parts, so that no caller keeps an epoch in memory.
+    #[inline(never)]
+    fn join(
+        &mut self,
+        rows: &SharedRows,
+        place: usize,
+        by: ThreadId,
+        number: u32,
+        row: usize,
+        threads: usize,
+    )
         requires rows { AreRows threads rows.now }
         requires reads { AreReads threads rows.now self.old }
-        requires there { number < length self.old.places.items }
-        requires several { (slice_index_or self.old.places.items number blank_reads).by ≡ Several }
-        requires by { epoch.by.0 < threads }
-        requires in_use { IsInUse rows.now epoch.row }
+        requires there { place < length self.old.places.items }
+        requires several { (slice_index_or self.old.places.items place blank_reads).by ≡ Several }
+        requires by { by.0 < threads }
+        requires in_use { IsInUse rows.now row }
         ensures reads { AreReads threads rows.now self.new }
         ensures joint { reads_in rows.now self.new
-            ≡ slice_set (reads_in rows.now self.old) number (joint_at (slice_index_or (reads_in rows.now self.old) number blank_clock) (clock_in rows.now.rows epoch) epoch.by.0) }
+            ≡ slice_set (reads_in rows.now self.old) place (joint_at (slice_index_or (reads_in rows.now self.old) place blank_clock) (clock_in rows.now.rows (record { by = by; number = number; row = row })) by.0) }
     {
-        let lists = self.places[number].lists;
-        self.own.raise_number(lists, epoch.by, epoch.number);
-        self.foreign
-            .raise_but(lists, rows.rows.list(epoch.row), epoch.by);
+        let lists = self.places[place].lists;
+        self.own.raise_number(lists, by, number);
+        self.foreign.raise_but(lists, rows.rows.list(row), by);
     }
 
     /// No read stands at the place any more.
+    #[inline(always)]
     pub fn clear(&mut self, number: usize)
         ensures lists { has_lists self.new ≡ has_lists self.old }
         ensures reads { (threads : ℕ) (rows : SharedRows) → AreRows threads rows → AreReads threads rows self.old → AreReads threads rows self.new }

@@ -2,7 +2,7 @@
 ghost use Rattle.velo_events.specs.Refusals.{GrowthRefused};
 ghost use Rattle.std.specs.Prelude.{◌≡◌, ◌<◌, ℕ, true, [], length, slice_index_or, IsTrue, IfOk, OnOk, OnErr};
 ghost use Rattle.velo_tables.specs.Noted.{maxima};
-ghost use Rattle.velo_tables.specs.Order.{KnowsTops};
+ghost use Rattle.velo_tables.specs.Order.{KnowsOwn, KnowsTops};
 ghost use Rattle.velo_tables.specs.Epochs.{blank_epoch, clock_in, alone_in, has_spare, AreRows, IsInUse, RefersTo, KeepsRows, UsesMore};
 
 use crate::epochs::Epoch;
@@ -89,17 +89,13 @@ impl SharedRows {
         }
     }
 
-    /// Whether the one event knows the other, or is later in its thread.
-    #[inline]
+    /// Whether the one event knows the other, as it does each of its own thread.
+    #[inline(always)]
     pub fn knows(&self, own: Epoch, other: Epoch) -> bool
-        ensures { (threads : ℕ) → AreRows threads self.now → IsInUse self.now own.row → IsInUse self.now other.row → IsTrue result
+        ensures { (threads : ℕ) → AreRows threads self.now → IsInUse self.now own.row → KnowsOwn (alone_in self.now.rows other) own.by.0 (clock_in self.now.rows own) → IsTrue result
             → KnowsTops (alone_in self.now.rows other) (clock_in self.now.rows own) }
     {
-        if other.by.0 == own.by.0 {
-            other.number <= own.number
-        } else {
-            other.number <= number_of(self.rows.list(own.row), other.by)
-        }
+        other.by.0 == own.by.0 || other.number <= number_of(self.rows.list(own.row), other.by)
     }
 
     /// Writes down what the event knows.
