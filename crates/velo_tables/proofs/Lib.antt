@@ -1,5 +1,5 @@
 pub mod OnReaders
-pub mod OnNumberLists
+pub mod OnNumberRows
 pub mod OnKept
 pub mod OnOthers
 pub mod OnVariables

@@ -34,7 +34,7 @@ module _ (n : ℕ) (rows : SharedRows) (reads : ReadClocks) (are_rows : AreRows 
   lists-long i is =
       let some = are.several i is in
       let there = are.given i some in
-      (are.own_long (get_or reads.places.items i blank_reads).lists some there, are.foreign_long (get_or reads.places.items i blank_reads).lists some there)
+      (are.own_long (get_or reads.places.items i blank_reads).lists there, are.foreign_long (get_or reads.places.items i blank_reads).lists (omega (arith, there, are.lists)))
 
   place-room : (i : ℕ) → length (read_clock rows.rows reads.own reads.foreign (get_or reads.places.items i blank_reads)).known ≡ n × length (read_clock rows.rows reads.own reads.foreign (get_or reads.places.items i blank_reads)).foreign ≡ n
   place-room i = clock-room (get_or reads.places.items i blank_reads).by (get_or reads.places.items i blank_reads).lists (are.refers i) (lists-long i)

@@ -11,11 +11,11 @@ use Rattle.velo_tables.specs.declared.read_clocks.ReadBy.TheVariants.{Nobody, On
 use Rattle.velo_tables.specs.declared.read_clocks.Reads.{Reads}
 use Rattle.velo_tables.specs.declared.read_clocks.ReadClocks.{ReadClocks}
 use Rattle.velo_tables.specs.Clocks.{Clock, blank_clock}
-use Rattle.velo_tables.specs.NumberLists.{with_list}
+use Rattle.velo_tables.specs.NumberRows.{with_row}
 use Rattle.velo_tables.specs.Noted.{maxima, KeepNumbers}
 use Rattle.velo_tables.specs.Epochs.{AreRows, IsInUse}
 use Rattle.velo_tables.specs.Reads.{blank_reads, clock_by, clock_of_reads, read_clock, reads_of, reads_in, epoch_in, AreReads}
-use Rattle.velo_tables.proofs.OnNumberLists.{length-with_list, with_list-other, long-with_list, within-with_list}
+use Rattle.velo_tables.proofs.OnNumberRows.{length-with_row, with_row-before, long-with_row}
 use Rattle.velo_tables.proofs.OnAlone.{set-again}
 use Rattle.velo_tables.proofs.OnReadPlaces.{reads-at, reads-past, reads-set, reads-same}
 use Rattle.velo_tables.proofs.OnReadClocks.{row-long}
@@ -53,9 +53,8 @@ module _ (old new : ReadClocks) (same_own : new.own ≡ old.own) (same_foreign :
   pub more-are : (n : ℕ) (rows : SharedRows) → AreReads n rows old → AreReads n rows new
   more-are n rows are = record {
     lists = omega (arith, are.lists, ap length same_own, ap length same_foreign);
-    own_long = λ l some there. ap (λ (xs : List (List ℕ)). length (get_or xs l [])) same_own ∙ are.own_long l some (omega (arith, there, ap length same_own));
-    foreign_long = λ l some there. ap (λ (xs : List (List ℕ)). length (get_or xs l [])) same_foreign ∙ are.foreign_long l some (omega (arith, there, ap length same_own));
-    foreign_short = λ l. omega (arith, ap (λ (xs : List (List ℕ)). length (get_or xs l [])) same_foreign, are.foreign_short l);
+    own_long = λ l there. ap (λ (xs : List (List ℕ)). length (get_or xs l [])) same_own ∙ are.own_long l (omega (arith, there, ap length same_own));
+    foreign_long = λ l there. ap (λ (xs : List (List ℕ)). length (get_or xs l [])) same_foreign ∙ are.foreign_long l (omega (arith, there, ap length same_foreign));
     spare = λ some. let there = are.spare (omega (arith, some, same_spare)) in omega (arith, there, same_spare, ap length same_own);
     given = λ i some. let there = are.given i (omega (arith, some, lists_at i)) in omega (arith, there, lists_at i, ap length same_own);
     free = λ i some e. are.free i (omega (arith, some, lists_at i)) (sym (lists_at i) ∙ (e ∙ same_spare));
@@ -99,50 +98,48 @@ clock-same rows own foreign own_new foreign_new Several l same =
     let both = same refl in ap (λ xs. clock_by xs (get_or foreign_new l [])) both.0 ∙ ap (λ xs. clock_by (get_or own l []) xs) both.1
 
 module _ (n : ℕ) (rows : SharedRows) (reads : ReadClocks) (are : AreReads n rows reads) where
-  pub lists-same : (own foreign : List (List ℕ)) → ((l : ℕ) → 0 < l → l < length reads.own → get_or own l [] ≡ get_or reads.own l []) → ((l : ℕ) → 0 < l → l < length reads.own → get_or foreign l [] ≡ get_or reads.foreign l [])
+  lists-same : (own foreign : List (List ℕ)) → ((l : ℕ) → l < length reads.own → get_or own l [] ≡ get_or reads.own l []) → ((l : ℕ) → l < length reads.own → get_or foreign l [] ≡ get_or reads.foreign l [])
       → reads_of rows.rows own foreign reads.places.items ≡ reads_in rows reads
   lists-same own foreign same_own same_foreign = reads-same rows.rows reads.own reads.foreign own foreign reads.places.items (λ i.
       clock-same rows.rows reads.own reads.foreign own foreign (get_or reads.places.items i blank_reads).by (get_or reads.places.items i blank_reads).lists (λ is.
-      let some = are.several i is in
-      let there = are.given i some in
-      (same_own (get_or reads.places.items i blank_reads).lists some there, same_foreign (get_or reads.places.items i blank_reads).lists some there)))
+      let there = are.given i (are.several i is) in
+      (same_own (get_or reads.places.items i blank_reads).lists there, same_foreign (get_or reads.places.items i blank_reads).lists there)))
 
-  -- ---- lists for one more place
+  -- ---- there are lists of one more number
 
-  module _ (next : ℕ) (none : reads.spare ≡ 0) (is_next : next ≡ max (length reads.own) 1) where
-    own-other : (l : ℕ) → l < length reads.own → get_or (with_list n next reads.own) l [] ≡ get_or reads.own l []
-    own-other l there = with_list-other reads.own next n l (λ e. omega (arith, e, there, is_next))
+  module _ (next : ℕ) (near : next ≤ length reads.own) where
+    near_too : next ≤ length reads.foreign
+    near_too = omega (arith, near, are.lists)
 
-    foreign-other : (l : ℕ) → l < length reads.own → get_or (with_list n next reads.foreign) l [] ≡ get_or reads.foreign l []
-    foreign-other l there = with_list-other reads.foreign next n l (λ e. omega (arith, e, there, is_next))
+    own-before : (l : ℕ) → l < length reads.own → get_or (with_row n next reads.own) l [] ≡ get_or reads.own l []
+    own-before l there = with_row-before n next reads.own near l there
 
-    foreign-within : (l : ℕ) → length (get_or (with_list n next reads.foreign) l []) ≤ n
-    foreign-within l = within-with_list reads.foreign next n l (are.foreign_short l)
+    foreign-before : (l : ℕ) → l < length reads.own → get_or (with_row n next reads.foreign) l [] ≡ get_or reads.foreign l []
+    foreign-before l there = with_row-before n next reads.foreign near_too l (omega (arith, there, are.lists))
 
-    pub foreign-same : (own foreign : List (List ℕ)) → own ≡ reads.own → foreign ≡ with_list n next reads.foreign → reads_of rows.rows own foreign reads.places.items ≡ reads_in rows reads
+    pub foreign-same : (own foreign : List (List ℕ)) → own ≡ reads.own → foreign ≡ with_row n next reads.foreign → reads_of rows.rows own foreign reads.places.items ≡ reads_in rows reads
     foreign-same own foreign is_own is_foreign = lists-same own foreign
-        (λ l some there. ap (λ (xs : List (List ℕ)). get_or xs l []) is_own)
-        (λ l some there. ap (λ (xs : List (List ℕ)). get_or xs l []) is_foreign ∙ foreign-other l there)
+        (λ l there. ap (λ (xs : List (List ℕ)). get_or xs l []) is_own)
+        (λ l there. ap (λ (xs : List (List ℕ)). get_or xs l []) is_foreign ∙ foreign-before l there)
 
-    pub both-same : (own foreign : List (List ℕ)) → own ≡ with_list n next reads.own → foreign ≡ with_list n next reads.foreign → reads_of rows.rows own foreign reads.places.items ≡ reads_in rows reads
+    pub both-same : (own foreign : List (List ℕ)) → own ≡ with_row n next reads.own → foreign ≡ with_row n next reads.foreign → reads_of rows.rows own foreign reads.places.items ≡ reads_in rows reads
     both-same own foreign is_own is_foreign = lists-same own foreign
-        (λ l some there. ap (λ (xs : List (List ℕ)). get_or xs l []) is_own ∙ own-other l there)
-        (λ l some there. ap (λ (xs : List (List ℕ)). get_or xs l []) is_foreign ∙ foreign-other l there)
+        (λ l there. ap (λ (xs : List (List ℕ)). get_or xs l []) is_own ∙ own-before l there)
+        (λ l there. ap (λ (xs : List (List ℕ)). get_or xs l []) is_foreign ∙ foreign-before l there)
 
-    module _ (own foreign : List (List ℕ)) (is_foreign : foreign ≡ with_list n next reads.foreign) where
-      foreign-is : (l : ℕ) → length (get_or foreign l []) ≡ length (get_or (with_list n next reads.foreign) l [])
-      foreign-is l = ap (λ (xs : List (List ℕ)). length (get_or xs l [])) is_foreign
+    module _ (own foreign : List (List ℕ)) (is_foreign : foreign ≡ with_row n next reads.foreign) where
+      foreign-long : (l : ℕ) → l < length foreign → length (get_or foreign l []) ≡ n
+      foreign-long l there = ap (λ (xs : List (List ℕ)). length (get_or xs l [])) is_foreign ∙ long-with_row n next reads.foreign near_too are.foreign_long l (omega (arith, there, ap length is_foreign))
 
       foreign-count : length foreign ≡ max (next + 1) (length reads.foreign)
-      foreign-count = ap length is_foreign ∙ length-with_list reads.foreign next n
+      foreign-count = ap length is_foreign ∙ length-with_row n next reads.foreign near_too
 
       pub foreign-are : own ≡ reads.own → AreReads n rows (record { own = own; foreign = foreign; spare = reads.spare; places = reads.places })
       foreign-are is_own = record {
         lists = omega (arith, foreign-count, ap length is_own, are.lists);
-        own_long = λ l some there. ap (λ (xs : List (List ℕ)). length (get_or xs l [])) is_own ∙ are.own_long l some (omega (arith, there, ap length is_own));
-        foreign_long = λ l some there. let under : l < length reads.own = omega (arith, there, ap length is_own) in foreign-is l ∙ (ap length (foreign-other l under) ∙ are.foreign_long l some under);
-        foreign_short = λ l. omega (arith, foreign-is l, foreign-within l);
-        spare = λ some. absurd (omega (arith, some, none));
+        own_long = λ l there. ap (λ (xs : List (List ℕ)). length (get_or xs l [])) is_own ∙ are.own_long l (omega (arith, there, ap length is_own));
+        foreign_long = foreign-long;
+        spare = λ some. omega (arith, are.spare some, ap length is_own);
         given = λ i some. omega (arith, are.given i some, ap length is_own);
         free = are.free;
         several = are.several;
@@ -150,32 +147,18 @@ module _ (n : ℕ) (rows : SharedRows) (reads : ReadClocks) (are : AreReads n ro
         refers = are.refers;
       }
 
-      module _ (is_own : own ≡ with_list n next reads.own) where
-        own-count : length own ≡ next + 1
-        own-count = omega (arith, ap length is_own, length-with_list reads.own next n, is_next)
+      module _ (is_own : own ≡ with_row n next reads.own) where
+        pub own-count : length own ≡ max (next + 1) (length reads.own)
+        own-count = ap length is_own ∙ length-with_row n next reads.own near
 
-        own-next : length (get_or own next []) ≡ n
-        own-next = ap (λ (xs : List (List ℕ)). length (get_or xs next [])) is_own
-            ∙ long-with_list reads.own next n (omega (arith, ap length (get_or_past reads.own next [] (omega (arith, is_next)))))
-
-        foreign-next : length (get_or foreign next []) ≡ n
-        foreign-next = foreign-is next ∙ long-with_list reads.foreign next n (are.foreign_short next)
-
-        -- the new lists, or old ones
-        either : (lists : List (List ℕ)) (l : ℕ) → 0 < l → l < length own → length (get_or lists next []) ≡ n → (l < length reads.own → length (get_or lists l []) ≡ n) → length (get_or lists l []) ≡ n
-        either lists l some there here others = ⊎_elim others
-            (λ past. subst (λ k. length (get_or lists k []) ≡ n) (let at : next ≡ l = omega (arith, some, there, own-count, past, is_next) in at) here)
-            (cases_lt l (length reads.own))
-
-        pub both-are : AreReads n rows (record { own = own; foreign = foreign; spare = next; places = reads.places })
+        pub both-are : AreReads n rows (record { own = own; foreign = foreign; spare = reads.spare; places = reads.places })
         both-are = record {
-          lists = omega (arith, foreign-count, own-count);
-          own_long = λ l some there. either own l some there own-next (λ under. ap (λ (xs : List (List ℕ)). length (get_or xs l [])) is_own ∙ (ap length (own-other l under) ∙ are.own_long l some under));
-          foreign_long = λ l some there. either foreign l some there foreign-next (λ under. foreign-is l ∙ (ap length (foreign-other l under) ∙ are.foreign_long l some under));
-          foreign_short = λ l. omega (arith, foreign-is l, foreign-within l);
-          spare = λ some. omega (arith, own-count);
-          given = λ i some. omega (arith, are.given i some, own-count, is_next);
-          free = λ i some e. omega (arith, are.given i some, e, is_next);
+          lists = omega (arith, foreign-count, own-count, are.lists);
+          own_long = λ l there. ap (λ (xs : List (List ℕ)). length (get_or xs l [])) is_own ∙ long-with_row n next reads.own near are.own_long l (omega (arith, there, ap length is_own));
+          foreign_long = foreign-long;
+          spare = λ some. omega (arith, are.spare some, own-count);
+          given = λ i some. omega (arith, are.given i some, own-count);
+          free = are.free;
           several = are.several;
           apart = are.apart;
           refers = are.refers;

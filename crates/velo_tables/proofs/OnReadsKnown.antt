@@ -257,17 +257,13 @@ module _ (n : ℕ) (rows : SharedRows) (reads : ReadClocks) (are_rows : AreRows 
   pub join-are : AreReads n rows (record { own = own_new; foreign = foreign_new; spare = reads.spare; places = reads.places })
   join-are = record {
     lists = omega (arith, are.lists, own_length, foreign_length);
-    own_long = λ m pos less. ⊎_elim
+    own_long = λ m less. ⊎_elim
         (λ here. subst (λ k. length (get_or own_new k []) ≡ n) here own-long_new)
-        (λ off. ap length (own-off m off) ∙ are.own_long m pos (omega (arith, less, own_length)))
+        (λ off. ap length (own-off m off) ∙ are.own_long m (omega (arith, less, own_length)))
         (cases_eq l m);
-    foreign_long = λ m pos less. ⊎_elim
+    foreign_long = λ m less. ⊎_elim
         (λ here. subst (λ k. length (get_or foreign_new k []) ≡ n) here foreign-long_new)
-        (λ off. ap length (foreign-off m off) ∙ are.foreign_long m pos (omega (arith, less, own_length)))
-        (cases_eq l m);
-    foreign_short = λ m. ⊎_elim
-        (λ here. subst (λ k. length (get_or foreign_new k []) ≤ n) here (omega (arith, foreign-long_new)))
-        (λ off. omega (arith, ap length (foreign-off m off), are.foreign_short m))
+        (λ off. ap length (foreign-off m off) ∙ are.foreign_long m (omega (arith, less, foreign_length)))
         (cases_eq l m);
     spare = λ pos. omega (arith, are.spare pos, own_length);
     given = λ j pos. omega (arith, are.given j pos, own_length);

@@ -1,15 +1,14 @@
 -- Rows of numbers that places share.
-use Rattle.std.proofs.Common.{◌≡◌, ℕ, Bool, true, false, zero, suc, ◌+◌, ◌-◌, ◌<◌, max, List, [], ◌∷◌, ◌++◌, length, get_or, IsTrue, refl, sym, ap, ◌∙◌, subst, arith, ⊎_elim}
+use Rattle.std.proofs.Common.{◌≡◌, ℕ, Bool, true, false, zero, suc, ◌+◌, ◌<◌, ◌≤◌, max, List, [], ◌∷◌, ◌++◌, length, get_or, IsTrue, refl, sym, ap, ◌∙◌, subst, arith, ⊎_elim}
 use Rattle.std.specs.Prelude.{replicate}
 use Rattle.std.proofs.Math.ListN.{set}
-use Rattle.std.proofs.lemmas.Bool.{cases_lt, cases_eq, both_ways}
+use Rattle.std.proofs.lemmas.Bool.{cases_lt, both_ways}
 use Rattle.std.proofs.lemmas.List.{get_or_past, get_or_append_left, length-append, length-replicate}
 use Rattle.velo_tables.specs.declared.shared_rows.SharedRows.{SharedRows}
-use Rattle.velo_tables.specs.Readers.{filled_up}
-use Rattle.velo_tables.specs.NumberLists.{with_list}
+use Rattle.velo_tables.specs.NumberRows.{with_row}
 use Rattle.velo_tables.specs.Noted.{maxima}
 use Rattle.velo_tables.specs.Epochs.{IsInUse, AreRows, KeepsRows}
-use Rattle.velo_tables.proofs.OnNumberLists.{length-with_list, with_list-here, with_list-other, long-with_list}
+use Rattle.velo_tables.proofs.OnNumberRows.{length-with_row, with_row-before, with_row-new, long-with_row}
 
 -- ---- one row
 
@@ -32,16 +31,12 @@ used-still us more r used = subst IsTrue (sym (get_or_append_left us more false 
 
 -- ---- one row alone
 
-module _ (n : ℕ) (new : SharedRows) (uses : new.in_use.items ≡ replicate 1 true) (rows : new.rows ≡ with_list n 0 []) where
-  blank-row : get_or (with_list n 0 []) 0 [] ≡ replicate n 0
-  unfolding filled_up
-  blank-row = with_list-here [] 0 n ∙ ap (λ k. replicate k 0) (let all : n - 0 ≡ n = omega arith in all)
-
+module _ (n : ℕ) (new : SharedRows) (uses : new.in_use.items ≡ replicate 1 true) (rows : new.rows ≡ with_row n 0 []) where
   one-row : length new.rows ≡ 1
-  one-row = omega (arith, ap length rows, length-with_list [] 0 n)
+  one-row = omega (arith, ap length rows, length-with_row n 0 [] (omega arith))
 
   first-row : get_or new.rows 0 [] ≡ replicate n 0
-  first-row = ap (λ (rs : List (List ℕ)). get_or rs 0 []) rows ∙ blank-row
+  first-row = ap (λ (rs : List (List ℕ)). get_or rs 0 []) rows ∙ with_row-new n 0 [] refl
 
   pub rows-alone : AreRows n new
   rows-alone = record {
@@ -53,34 +48,28 @@ module _ (n : ℕ) (new : SharedRows) (uses : new.in_use.items ≡ replicate 1 t
 
 -- ---- one row more
 
-pub rows-same : (n k : ℕ) (old new : List (List ℕ)) → k ≡ length old → new ≡ with_list n k old → (r : ℕ) → r < length old → get_or new r [] ≡ get_or old r []
-rows-same n k old new at rows r there = ap (λ (rs : List (List ℕ)). get_or rs r []) rows ∙ with_list-other old k n r (λ e. omega (arith, at, e, there))
+pub rows-same : (n k : ℕ) (old new : List (List ℕ)) → k ≡ length old → new ≡ with_row n k old → (r : ℕ) → r < length old → get_or new r [] ≡ get_or old r []
+rows-same n k old new at rows r there = ap (λ (rs : List (List ℕ)). get_or rs r []) rows ∙ with_row-before n k old (omega (arith, at)) r there
 
-module _ (n k : ℕ) (old new : SharedRows) (are : AreRows n old) (uses : new.in_use.items ≡ old.in_use.items ++ false ∷ []) (at : k ≡ length old.in_use.items) (rows : new.rows ≡ with_list n k old.rows) where
+module _ (n k : ℕ) (old new : SharedRows) (are : AreRows n old) (uses : new.in_use.items ≡ old.in_use.items ++ false ∷ []) (at : k ≡ length old.in_use.items) (rows : new.rows ≡ with_row n k old.rows) where
   used-too : (r : ℕ) → IsInUse old r → IsInUse new r
   used-too r used = subst (λ us. IsTrue (get_or us r false)) (sym uses) (used-still old.in_use.items (false ∷ []) r used)
 
+  near : k ≤ length old.rows
+  near = omega (arith, at, are.flags)
+
   row-same : (r : ℕ) → r < length old.in_use.items → get_or new.rows r [] ≡ get_or old.rows r []
-  row-same r there = ap (λ (rs : List (List ℕ)). get_or rs r []) rows ∙ with_list-other old.rows k n r (λ e. omega (arith, at, e, there))
-
-  none-there : get_or old.rows k [] ≡ []
-  none-there = get_or_past old.rows k [] (omega (arith, at, are.flags))
-
-  row-new : length (get_or new.rows k []) ≡ n
-  row-new = ap (λ (rs : List (List ℕ)). length (get_or rs k [])) rows ∙ long-with_list old.rows k n (omega (arith, ap length none-there))
+  row-same r there = ap (λ (rs : List (List ℕ)). get_or rs r []) rows ∙ with_row-before n k old.rows near r (omega (arith, there, are.flags))
 
   one-more : length new.rows ≡ k + 1
-  one-more = omega (arith, ap length rows, length-with_list old.rows k n, at, are.flags)
+  one-more = omega (arith, ap length rows, length-with_row n k old.rows near, at, are.flags)
 
   pub rows-appended : AreRows n new
   rows-appended = record {
     flags = omega (arith, one-more, ap length uses, length-append old.in_use.items (false ∷ []), at);
     opened = used-too 0 are.opened;
     first = row-same 0 (used-there old.in_use.items 0 are.opened) ∙ are.first;
-    each = λ r l. ⊎_elim
-        (λ here. subst (λ i. length (get_or new.rows i []) ≡ n) here row-new)
-        (λ off. let there : r < length old.in_use.items = omega (arith, l, one-more, at, off) in ap length (row-same r there) ∙ are.each r (omega (arith, there, are.flags)))
-        (cases_eq k r);
+    each = λ r l. ap (λ (rs : List (List ℕ)). length (get_or rs r [])) rows ∙ long-with_row n k old.rows near are.each r (omega (arith, l, ap length rows));
   }
 
   pub keeps-appended : KeepsRows old new

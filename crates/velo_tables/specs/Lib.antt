@@ -1,7 +1,7 @@
 pub mod Entry
 pub mod Place
 pub mod Readers
-pub mod NumberLists
+pub mod NumberRows
 pub mod Kept
 pub mod Others
 pub mod Variables

@@ -50,9 +50,8 @@ ReadsReferTo rows rs = (i : ℕ) → IsInUse rows (epoch_in (slice_index_or rs i
 -- Lists have n numbers, the spare ones are there and nobody's, no two places have the same, and the rows of the reads are in use.
 pub record AreReads (n : ℕ) (rows : SharedRows) (reads : ReadClocks) : Type 0 where
   pub lists : length reads.own ≤ length reads.foreign
-  pub own_long : (l : ℕ) → 0 < l → l < length reads.own → length (slice_index_or reads.own l []) ≡ n
-  pub foreign_long : (l : ℕ) → 0 < l → l < length reads.own → length (slice_index_or reads.foreign l []) ≡ n
-  pub foreign_short : (l : ℕ) → length (slice_index_or reads.foreign l []) ≤ n
+  pub own_long : (l : ℕ) → l < length reads.own → length (slice_index_or reads.own l []) ≡ n
+  pub foreign_long : (l : ℕ) → l < length reads.foreign → length (slice_index_or reads.foreign l []) ≡ n
   pub spare : 0 < reads.spare → reads.spare < length reads.own
   pub given : (i : ℕ) → 0 < (slice_index_or reads.places.items i blank_reads).lists → (slice_index_or reads.places.items i blank_reads).lists < length reads.own
   pub free : (i : ℕ) → 0 < (slice_index_or reads.places.items i blank_reads).lists → ¬ ((slice_index_or reads.places.items i blank_reads).lists ≡ reads.spare)

@@ -7,7 +7,7 @@ mod clocks;
 mod entry;
 mod epochs;
 mod filling;
-mod number_lists;
+mod number_rows;
 mod numbers;
 mod read_clocks;
 mod shared_rows;

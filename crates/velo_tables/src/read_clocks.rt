@@ -1,5 +1,5 @@
 ghost use Rattle.velo_events.specs.Refusals.{GrowthRefused};
-ghost use Rattle.std.specs.Prelude.{◌≡◌, ◌<◌, ◌≤◌, ◌+◌, ◌^◌, ℕ, true, false, [], length, slice_index_or, slice_set, IsTrue, OnOk, OnErr};
+ghost use Rattle.std.specs.Prelude.{◌≡◌, ◌<◌, ◌≤◌, ◌+◌, ◌^◌, ℕ, max, true, false, [], length, slice_index_or, slice_set, IsTrue, OnOk, OnErr};
 ghost use Rattle.velo_tables.specs.declared.read_clocks.ReadBy.TheVariants.{Nobody, One, Several};
 ghost use Rattle.velo_tables.specs.Clocks.{blank_clock};
 ghost use Rattle.velo_tables.specs.Noted.{maxima, cleared_at, joint_at, HasRoomAt, KeepNumbers};
@@ -10,7 +10,7 @@ ghost use Rattle.velo_tables.specs.Reads.{blank_reads, reads_in, has_lists, epoc
 
 use crate::epochs::Epoch;
 use crate::filling::fill_up_to;
-use crate::number_lists::NumberLists;
+use crate::number_rows::NumberRows;
 use crate::numbers::{number_of, raise};
 use crate::shared_rows::SharedRows;
 use std::alloc::Global;
@@ -37,9 +37,9 @@ pub(crate) struct Reads {
 #[derive(Debug, Drop)]
 pub(crate) struct ReadClocks {
     /// By number of the lists: the last read of each thread, where reads of several stand.
-    pub own: NumberLists,
+    pub own: NumberRows,
     /// What those of other threads know of each, there.
-    pub foreign: NumberLists,
+    pub foreign: NumberRows,
     /// Which lists are given next, or 0 while there are none to give.
     pub spare: usize,
     pub places: Vec<Reads>,
@@ -54,8 +54,8 @@ impl ReadClocks {
         ensures places { result.places.items ≡ [] }
     {
         ReadClocks {
-            own: NumberLists::new(alloc),
-            foreign: NumberLists::new(alloc),
+            own: NumberRows::new(alloc),
+            foreign: NumberRows::new(alloc),
             spare: 0,
             places: Vec::new(alloc),
         }
@@ -109,11 +109,32 @@ impl ReadClocks {
         ensures ok { OnOk result (has_lists self.new ≡ true) }
         ensures memory { OnErr result GrowthRefused }
     {
-        let next = self.own.count().max(1);
-        self.foreign.reserve(next, threads)?;
-        self.own.reserve(next, threads)?;
+        // No place has the first of them, since lists are counted from 1.
+        self.reserve_list(rows, 0, threads)?;
+        let next = self.own.count();
+        self.reserve_list(rows, next, threads)?;
         self.spare = next;
         Ok(())
+    }
+
+    /// Sees to it that there are lists of this number, which may be the next one.
+    fn reserve_list(
+        &mut self,
+        rows: &SharedRows,
+        number: usize,
+        threads: usize,
+    ) -> Result<(), Memory>
+        requires reads { AreReads threads rows.now self.old }
+        requires next { number ≤ length self.old.own }
+        ensures reads { AreReads threads rows.now self.new }
+        ensures same { reads_in rows.now self.new ≡ reads_in rows.now self.old }
+        ensures places { self.new.places.items ≡ self.old.places.items }
+        ensures spare { self.new.spare ≡ self.old.spare }
+        ensures ok { OnOk result (length self.new.own ≡ max (number + 1) (length self.old.own)) }
+        ensures memory { OnErr result GrowthRefused }
+    {
+        self.foreign.reserve(number, threads)?;
+        self.own.reserve(number, threads)
     }
 
     /// Whether the event knows all reads at the place. It is not looked for where several threads read.

@@ -6,7 +6,7 @@ ghost use Rattle.velo_tables.specs.Order.{KnowsOwn, KnowsTops};
 ghost use Rattle.velo_tables.specs.Epochs.{blank_epoch, clock_in, alone_in, has_spare, AreRows, IsInUse, RefersTo, KeepsRows, UsesMore};
 
 use crate::epochs::Epoch;
-use crate::number_lists::NumberLists;
+use crate::number_rows::NumberRows;
 use crate::numbers::{number_of, raise_as, set_number};
 use std::alloc::Global;
 use velo_events::growth::{filled, reserve};
@@ -17,7 +17,7 @@ use velo_events::{Memory, ThreadId};
 /// The first row says that nothing is known, and is always in use.
 #[derive(Debug, Drop)]
 pub(crate) struct SharedRows {
-    pub rows: NumberLists,
+    pub rows: NumberRows,
     /// Whether an epoch may have the row.
     pub in_use: Vec<bool>,
     /// Where the next row goes, if that is not in use.
@@ -39,7 +39,7 @@ impl SharedRows {
         ensures rows { IfOk result (AreRows threads) }
         ensures memory { OnErr result GrowthRefused }
     {
-        let mut rows = NumberLists::new(alloc);
+        let mut rows = NumberRows::new(alloc);
         rows.reserve(0, threads)?;
         let in_use = filled(alloc, true, 1)?;
         Ok(SharedRows {

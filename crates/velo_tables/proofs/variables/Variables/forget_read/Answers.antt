@@ -1,6 +1,11 @@
-use Rattle.velo_tables.proofs.OnNumberLists.{refuted}
+use Rattle.std.proofs.Common.{◌≡◌, Bool, false}
+use Rattle.std.specs.Prelude.{◌↔◌, IsTrue}
+use Rattle.std.proofs.lemmas.Bool.{both_ways}
 use Rattle.velo_tables.proofs.OnVariables.{none-forgotten}
 use Rattle.velo_tables.proofs.variables.Variables.forget_read.Goals as goal
+
+refuted : (b : Bool) (P : Type 0) → b ≡ false → IsTrue b ↔ P → ¬ P
+refuted b P off same = λ p. both_ways b off (same.1 p)
 
 pub put_read-requires-clause-there : goal.put_read-requires-clause-there
 put_read-requires-clause-there c = (c.has_room_to_read.ensures.0 c.if-has_room_to_read.true).0
