@@ -231,7 +231,7 @@ module _ (width number : ℕ) (rows : List (List ℕ)) where
 
 module _ (width count : ℕ) (numbers : List ℕ) (rows : List (List ℕ)) (long : length numbers ≡ count * max width 1) (view : rows_in width count numbers ≡ rows)
     (wide : ℕ) (all_wide : (r : ℕ) → r < length rows → length (get_or rows r []) ≡ wide)
-    (longer : List ℕ) (row : ℕ) (is_row : row ≡ max wide 1) (is_longer : longer ≡ numbers ++ replicate row 0) where
+    (longer : List ℕ) (size : ℕ) (is_size : size ≡ max wide 1) (is_longer : longer ≡ numbers ++ replicate size 0) where
   -- where there is a row, the width is known
   long_wide : length numbers ≡ count * max wide 1
   long_wide = ⊎_elim
@@ -248,7 +248,7 @@ module _ (width count : ℕ) (numbers : List ℕ) (rows : List (List ℕ)) (long
       (cases_lt 0 (length rows))
 
   longer-is : longer ≡ numbers ++ replicate (max wide 1) 0
-  longer-is = is_longer ∙ ap (λ k. numbers ++ replicate k 0) is_row
+  longer-is = is_longer ∙ ap (λ k. numbers ++ replicate k 0) is_size
 
   pub long-reserved : length longer ≡ (count + 1) * max wide 1
   long-reserved = ap length longer-is ∙ long-more wide count numbers long_wide
