@@ -76,9 +76,9 @@ impl Relived {
         let Some(share) = kept.take(ThreadId(0)) else {
             unreachable!()
         };
-        if shares.put(share).is_err() {
+        let Ok(()) = shares.put(share) else {
             unreachable!()
-        }
+        };
         let run = Run::new(alloc, config)?;
         Ok(Relived {
             run,

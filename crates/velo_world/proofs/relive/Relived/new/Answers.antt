@@ -1,5 +1,4 @@
 use Rattle.std.proofs.Common.{◌≡◌, set, Some, refl, ◌∙◌, arith}
-use Rattle.std.proofs.lemmas.Grind.{common_steps}
 use Rattle.std.proofs.lemmas.Option.{same_Some}
 use Rattle.velo_ledger.specs.Shares.{opening_share}
 use Rattle.velo_world.proofs.OnHoldings.{IsBookOf-opening, KeepsUnborn-opening}
@@ -11,7 +10,7 @@ returns-clause-start c =
     let config = c.args.config.now in
     let share = c.in-Some.share in
     let share_is : share ≡ opening_share config.run 0 = same_Some _ _ (c.in-Some.ensures.share ∙ rw (c.in_ok-book.ensures.shares.each 0 config.some_thread) refl) in
-    let after : c.put.new.self ≡ set c.in_ok-shares.shares share.thread.0 (Some share) = grind (arith, common_steps) in
+    let after : c.put.new.self ≡ set c.in_ok-shares.shares share.thread.0 (Some share) = c.in-Ok.ensures.placed in
     record {
       short = omega arith;
       bounds = c.in_ok-run.ensures.bounds;
