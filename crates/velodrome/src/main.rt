@@ -1,15 +1,10 @@
 //! Tells whether the atomic blocks of an observed run can be serialized.
 #![tactic(auto)]
 
-mod arguments;
-mod growth;
-mod help;
-mod program;
-
-use crate::program::{end_without_words, run};
 use std::fs::File;
 use std::io::{ErrorKind, Stdin};
 use std::process::ExitCode;
+use velo_command::{end_without_words, run};
 use velo_logtext::{ReaderSource, WriterSink};
 use velo_program::Files;
 

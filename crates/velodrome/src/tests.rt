@@ -9,11 +9,11 @@ mod reports;
 mod slow;
 mod workloads;
 
-use crate::program::run;
 use std::alloc::Global;
 use std::process::Abort;
 use std::sync::Wait;
 use std::thread::Threads;
+use velo_command::run;
 use velo_logtext::{Bytes, Text};
 use velo_program::Files;
 

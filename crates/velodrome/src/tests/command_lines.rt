@@ -1,11 +1,10 @@
 //! Command lines that are right, wrong, or ask for help.
-use crate::help;
-use crate::program::end_without_words;
 use crate::tests::{FILES, Folder, Shown, compare, show, show_short};
 use std::alloc::Global;
 use std::io::ErrorKind;
 use std::process::Abort;
 use std::test::Fail;
+use velo_command::{end_without_words, help};
 use velo_events::Refusal;
 use velo_logtext::Text;
 

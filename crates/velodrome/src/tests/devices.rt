@@ -1,10 +1,10 @@
 //! Sources and sinks that fail, and how many writes go out.
-use crate::program::run;
 use crate::tests::{FILES, Folder, LOST_UPDATE, LOST_UPDATE_CERTIFIED, show_on};
 use std::alloc::Global;
 use std::io::Write;
 use std::sync::Wait;
 use std::thread::Threads;
+use velo_command::run;
 use velo_events::{MOST_EVENTS, Refusal};
 use velo_logtext::{Bytes, LogFault, Text, WriterSink};
 use velo_program::{CheckFault, Fate, check_run, end_with};

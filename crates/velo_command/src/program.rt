@@ -1,7 +1,7 @@
 //! What the program does with the words of its command line, whatever its devices are.
 ghost use Rattle.std.specs.Prelude.{◌≡◌};
 ghost use Rattle.clap.specs.Values.{kind_of};
-ghost use Rattle.velodrome.specs.Usage.{status_of_usage};
+ghost use Rattle.velo_command.specs.Usage.{status_of_usage};
 
 use crate::arguments::{command, request_of};
 use clap::Error;

@@ -1,0 +1,9 @@
+//! The words of the program's command line, whatever its files and its outputs are.
+#![tactic(auto)]
+
+mod arguments;
+mod growth;
+pub mod help;
+mod program;
+
+pub use program::{end_without_words, run};
