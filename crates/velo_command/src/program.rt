@@ -1,7 +1,10 @@
 //! What the program does with the words of its command line, whatever its devices are.
 ghost use Rattle.std.specs.Prelude.{◌≡◌};
+ghost use Rattle.std.specs.declared.io.ErrorKind.TheVariants.{InvalidData};
 ghost use Rattle.clap.specs.Values.{kind_of};
-ghost use Rattle.velo_command.specs.Usage.{status_of_usage};
+ghost use Rattle.velo_program.specs.Fate.{Ends, line_of};
+ghost use Rattle.velo_program.specs.declared.fate.Fate.TheVariants as fate;
+ghost use Rattle.velo_command.specs.Usage.{not_utf8, status_of_usage};
 
 use crate::arguments::{command, request_of};
 use clap::Error;
@@ -98,7 +101,17 @@ pub fn run<R: Threads + Wait + Sync, F: Files, W: AsStr, O: Sink, E: Sink>(
 }
 
 /// Tells why the words of the command line could not be had, and answers the status to end with.
-pub fn end_without_words<E: Sink>(kind: io::ErrorKind, err: &mut E) -> u8 {
+pub fn end_without_words<E: Sink>(kind: io::ErrorKind, err: &mut E) -> u8
+    ensures not_utf8 {
+        kind ≡ InvalidData →
+        Ends 2 not_utf8 (E.contents err.old) (E.contents err.new) (E.failures err.old) (E.failures err.new) result
+    }
+    ensures memory {
+        ¬ (kind ≡ InvalidData) →
+        Ends 5 (line_of fate.Memory) (E.contents err.old) (E.contents err.new) (E.failures err.old)
+            (E.failures err.new) result
+    }
+{
     if kind != io::ErrorKind::InvalidData {
         return end_with(&Fate::Memory, err);
     }
