@@ -102,15 +102,11 @@ pub fn run<R: Threads + Wait + Sync, F: Files, W: AsStr, O: Sink, E: Sink>(
 
 /// Tells why the words of the command line could not be had, and answers the status to end with.
 pub fn end_without_words<E: Sink>(kind: io::ErrorKind, err: &mut E) -> u8
-    ensures not_utf8 {
-        kind ≡ InvalidData →
-        Ends 2 not_utf8 (E.contents err.old) (E.contents err.new) (E.failures err.old) (E.failures err.new) result
-    }
-    ensures memory {
-        ¬ (kind ≡ InvalidData) →
+    ensures not_utf8 { kind ≡ InvalidData →
+        Ends 2 not_utf8 (E.contents err.old) (E.contents err.new) (E.failures err.old) (E.failures err.new) result }
+    ensures memory { ¬ (kind ≡ InvalidData) →
         Ends 5 (line_of fate.Memory) (E.contents err.old) (E.contents err.new) (E.failures err.old)
-            (E.failures err.new) result
-    }
+        (E.failures err.new) result }
 {
     if kind != io::ErrorKind::InvalidData {
         return end_with(&Fate::Memory, err);
