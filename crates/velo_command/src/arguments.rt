@@ -4,11 +4,10 @@ ghost use Rattle.velo_events.specs.Refusals.{GrowthRefused};
 
 use crate::growth::{with_arguments, with_subcommands};
 use crate::help;
-use clap::{Arg, ArgAction, ArgMatches, Command, value_parser};
+use clap::{Arg, ArgAction, Command, value_parser};
 use std::alloc::Global;
 use velo_events::growth::reserve;
 use velo_events::{MOST_EVENTS, MOST_NODES, Memory};
-use velo_program::{CheckOptions, ExplainOptions, Limits, ReplayOptions, Request, RunOptions};
 
 /// What an argument of a subcommand looks like.
 enum Argument {
@@ -239,59 +238,4 @@ fn nodes_argument<'a>(alloc: Global) -> Arg<'a> {
         .help("The most nodes that the graph may have at one time, 1 to 4096")
         .value_parser(value_parser!(u16).range(1..=i64::from(MOST_NODES)))
         .default_value("1024")
-}
-
-/// Reads the limits from the matches of a subcommand; none where one is out of its range.
-fn limits_of<'a>(found: &ArgMatches<'a>) -> Option<Limits> {
-    let events = found.get_one::<u32>("events")?;
-    let nodes = found.get_one::<u16>("nodes")?;
-    if events < 1 || events > MOST_EVENTS || nodes < 1 || nodes > MOST_NODES {
-        return None;
-    }
-    Some(Limits { events, nodes })
-}
-
-fn check_options<'a>(found: &ArgMatches<'a>) -> Option<CheckOptions<'a>> {
-    Some(CheckOptions {
-        log: found.get_str("LOG")?,
-        limits: limits_of(found)?,
-        certificate: found.get_flag("certificate"),
-    })
-}
-
-fn replay_options<'a>(found: &ArgMatches<'a>) -> Option<ReplayOptions<'a>> {
-    Some(ReplayOptions {
-        schedule: found.get_str("schedule").unwrap_or(""),
-        run: run_options(found)?,
-    })
-}
-
-fn run_options<'a>(found: &ArgMatches<'a>) -> Option<RunOptions<'a>> {
-    Some(RunOptions {
-        file: found.get_str("FILE")?,
-        stop: found.get_flag("stop"),
-        log: found.get_str("log"),
-        limits: limits_of(found)?,
-        certificate: found.get_flag("certificate"),
-    })
-}
-
-fn explain_options<'a>(found: &ArgMatches<'a>) -> Option<ExplainOptions<'a>> {
-    Some(ExplainOptions {
-        log: found.get_str("LOG")?,
-        dot: found.get_str("dot"),
-    })
-}
-
-/// What the matches of the command ask for; none where a word is missing or a number is out of its range, which the
-/// command has refused already.
-pub fn request_of<'a>(matches: &ArgMatches<'a>) -> Option<Request<'a>> {
-    let (name, found) = matches.subcommand()?;
-    match name {
-        "check" => Some(Request::Check(check_options(found)?)),
-        "replay" => Some(Request::Replay(replay_options(found)?)),
-        "run" => Some(Request::Run(run_options(found)?)),
-        "explain" => Some(Request::Explain(explain_options(found)?)),
-        _ => None,
-    }
 }

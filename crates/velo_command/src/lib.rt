@@ -5,5 +5,6 @@ mod arguments;
 mod growth;
 pub mod help;
 mod program;
+mod requests;
 
 pub use program::{end_without_words, run};

@@ -6,7 +6,8 @@ ghost use Rattle.velo_program.specs.Fate.{Ends, line_of};
 ghost use Rattle.velo_program.specs.declared.fate.Fate.TheVariants as fate;
 ghost use Rattle.velo_command.specs.Usage.{not_utf8, status_of_usage};
 
-use crate::arguments::{command, request_of};
+use crate::arguments::command;
+use crate::requests::request_of;
 use clap::Error;
 use clap::error::ErrorKind;
 use std::alloc::Global;

@@ -1,0 +1,51 @@
+-- What the getters of `clap` give, by the rows of the matches.
+use Rattle.std.proofs.Common.{◌≡◌, ◌∙◌, ap, sym, refl, subst, ℕ, Bool, true, false, List, Option, Some, None, Result, Ok, codes, Bor}
+use Rattle.std.specs.Prelude.{[], option_map, unwrap_or}
+use Rattle.std.specs.Str.Parse.{ParsesUnsigned}
+use Rattle.clap.specs.Words.{ReadsOne, Text, first_of, first_value, one_of, one_text, rows_of}
+use Rattle.clap.specs.declared.parser.matches.Found.{Found}
+use Rattle.clap.proofs.WalkLemmas.{first_value-rows, one_text-rows}
+use Rattle.velo_command.specs.Asked.{IsFlag, WritesNumber}
+
+pub option_read : (f : Found) (id : Text) (r : Option (Bor Text)) → option_map (λ s. s.now) r ≡ first_value f id
+    → first_of id (rows_of f) ≡ option_map (λ s. s.now) r
+option_read f id r read = sym (first_value-rows f id) ∙ sym read
+
+pub word_read : (f : Found) (id : Text) (r : Option (Bor Text)) (word : Bor Text) → option_map (λ s. s.now) r ≡ first_value f id
+    → r ≡ Some word → first_of id (rows_of f) ≡ Some word.now
+word_read f id r word read is = option_read f id r read ∙ ap (option_map (λ s. s.now)) is
+
+pub flag_read : (f : Found) (id : Text) (flag : Bool) → (one_text f id ≡ None → flag ≡ false)
+    → (one_text f id ≡ Some (codes "true") → flag ≡ true) → (one_text f id ≡ Some (codes "false") → flag ≡ false)
+    → IsFlag (one_of id (rows_of f)) flag
+flag_read f id flag none set unset =
+    (λ e. set (one_text-rows f id ∙ e), λ e. unset (one_text-rows f id ∙ e), λ e. none (one_text-rows f id ∙ e))
+
+pub number_read : (E : Type 0) (G : List ℕ → Result ℕ E → Type 0) (bits : ℕ) (f : Found) (id : Text) (r : Option ℕ) (n : ℕ)
+    → ((t : List ℕ) (x : Result ℕ E) → G t x → ParsesUnsigned bits 10 t x)
+    → (one_text f id ≡ None → r ≡ None) → ((t : List ℕ) → one_text f id ≡ Some t → ReadsOne G t r)
+    → r ≡ Some n → WritesNumber bits (one_of id (rows_of f)) n
+number_read E G bits f id r n only none value is =
+    subst (λ (t : Option Text). WritesNumber bits t n) (one_text-rows f id) (go (one_text f id) refl)
+  where
+    of_text : (t : Text) → ReadsOne G t r → WritesNumber bits (Some t) n
+    of_text t read =
+        let given : ReadsOne G t (Some n) = rw is at read in
+        let parsed = only t (Ok n) given in
+        (parsed.0.0, parsed.0.1, parsed.1)
+
+    go : (t : Option Text) → one_text f id ≡ t → WritesNumber bits t n
+    go None e =
+        let bad : Some n ≡ None = sym is ∙ none e in
+        cc
+    go (Some t) e = of_text t (value t e)
+
+or_empty : (r : Option (Bor Text)) (empty : Bor Text) → empty.now ≡ [] → unwrap_or (option_map (λ s. s.now) r) [] ≡ (unwrap_or r empty).now
+or_empty None empty none = sym none
+or_empty (Some word) empty none = refl
+
+-- a word, or an empty one
+pub word_or_empty : (f : Found) (id : Text) (r : Option (Bor Text)) (empty word : Bor Text) → option_map (λ s. s.now) r ≡ first_value f id
+    → word ≡ unwrap_or r empty → empty.now ≡ [] → unwrap_or (first_of id (rows_of f)) [] ≡ word.now
+word_or_empty f id r empty word read is none =
+    ap (λ (t : Option Text). unwrap_or t []) (option_read f id r read) ∙ or_empty r empty none ∙ ap (λ (s : Bor Text). s.now) (sym is)

@@ -1,0 +1,14 @@
+use Rattle.std.proofs.Common.{codes}
+use Rattle.clap.specs.Words.{found_of}
+use Rattle.velo_command.proofs.OnAsked.{flag_read, option_read, word_read}
+use Rattle.velo_command.proofs.requests.run_options.Goals as goal
+
+pub returns : goal.returns
+returns c =
+    let f = found_of c.args.found.now in (
+      word_read f (codes "FILE") c.get_str.result c.in_ok-get_str.field-0 c.get_str.ensures c.in_ok-get_str.was,
+      flag_read f (codes "stop") c.get_flag.result c.get_flag.ensures.none c.get_flag.ensures.value c.get_flag.ensures.other,
+      option_read f (codes "log") c.get_str-2.result c.get_str-2.ensures,
+      c.in_ok-limits_of.ensures,
+      flag_read f (codes "certificate") c.get_flag-2.result c.get_flag-2.ensures.none c.get_flag-2.ensures.value c.get_flag-2.ensures.other,
+    )

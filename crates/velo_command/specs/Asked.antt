@@ -1,0 +1,59 @@
+-- What the matches of the command line ask for: the values of a subcommand, by the names of its arguments.
+use Rattle.std.specs.Prelude.{◌≡◌, ◌<◌, ◌^◌, ℕ, Bool, true, false, List, [], Option, Some, None, codes, option_map, unwrap_or}
+use Rattle.std.specs.Str.Parse.{IsNumeral, digits_value, without_leading_plus}
+use Rattle.clap.specs.Words.{Row, Text, first_of, one_of}
+use Rattle.velo_program.specs.declared.request.Limits.{Limits}
+use Rattle.velo_program.specs.declared.request.CheckOptions.{CheckOptions}
+use Rattle.velo_program.specs.declared.request.RunOptions.{RunOptions}
+use Rattle.velo_program.specs.declared.request.ReplayOptions.{ReplayOptions}
+use Rattle.velo_program.specs.declared.request.ExplainOptions.{ExplainOptions}
+use Rattle.velo_program.specs.declared.request.Request.{Request}
+use Rattle.velo_program.specs.declared.request.Request.TheVariants.{Check, Replay, Run, Explain}
+
+-- the text writes this number, which an unsigned type of so many bits holds; a plus may stand before it
+abbrev pub WritesNumber : ℕ → Option Text → ℕ → Type 0
+WritesNumber bits None n = ⊥
+WritesNumber bits (Some text) n =
+    IsNumeral 10 (without_leading_plus text) × (digits_value 10 (without_leading_plus text) < 2 ^ bits)
+    × (n ≡ digits_value 10 (without_leading_plus text))
+
+-- the flag is set where its text says so, and not where it has none
+abbrev pub IsFlag : Option Text → Bool → Type 0
+IsFlag text flag =
+    (text ≡ Some (codes "true") → flag ≡ true) × (text ≡ Some (codes "false") → flag ≡ false)
+    × (text ≡ None → flag ≡ false)
+
+abbrev pub AreLimits : List Row → Limits → Type 0
+AreLimits rows limits =
+    WritesNumber 32 (one_of (codes "events") rows) limits.events
+    × WritesNumber 16 (one_of (codes "nodes") rows) limits.nodes
+
+abbrev pub IsCheck : List Row → CheckOptions → Type 0
+IsCheck rows options =
+    (first_of (codes "LOG") rows ≡ Some options.log.now) × AreLimits rows options.limits
+    × IsFlag (one_of (codes "certificate") rows) options.certificate
+
+abbrev pub IsRun : List Row → RunOptions → Type 0
+IsRun rows options =
+    (first_of (codes "FILE") rows ≡ Some options.file.now)
+    × IsFlag (one_of (codes "stop") rows) options.stop
+    × (first_of (codes "log") rows ≡ option_map (λ path. path.now) options.log)
+    × AreLimits rows options.limits × IsFlag (one_of (codes "certificate") rows) options.certificate
+
+-- no schedule is the empty one
+abbrev pub IsReplay : List Row → ReplayOptions → Type 0
+IsReplay rows options =
+    (unwrap_or (first_of (codes "schedule") rows) [] ≡ options.schedule.now) × IsRun rows options.run
+
+abbrev pub IsExplanation : List Row → ExplainOptions → Type 0
+IsExplanation rows options =
+    (first_of (codes "LOG") rows ≡ Some options.log.now)
+    × (first_of (codes "dot") rows ≡ option_map (λ path. path.now) options.dot)
+
+-- the subcommand of this name, with these values, asks for the request
+abbrev pub AsksFor : Option (Text × List Row) → Request → Type 0
+AsksFor None request = ⊥
+AsksFor (Some found) (Check options) = (found.0 ≡ codes "check") × IsCheck found.1 options
+AsksFor (Some found) (Replay options) = (found.0 ≡ codes "replay") × IsReplay found.1 options
+AsksFor (Some found) (Run options) = (found.0 ≡ codes "run") × IsRun found.1 options
+AsksFor (Some found) (Explain options) = (found.0 ≡ codes "explain") × IsExplanation found.1 options

@@ -1,0 +1,75 @@
+//! What the matches of the command line ask for.
+ghost use Rattle.std.specs.Prelude.{IfSome};
+ghost use Rattle.clap.specs.Words.{found_of, rows_of, subcommand_rows_of};
+ghost use Rattle.velo_command.specs.Asked.{AreLimits, AsksFor, IsCheck, IsExplanation, IsReplay, IsRun};
+
+use clap::ArgMatches;
+use velo_events::{MOST_EVENTS, MOST_NODES};
+use velo_program::{CheckOptions, ExplainOptions, Limits, ReplayOptions, Request, RunOptions};
+
+/// Reads the limits from the matches of a subcommand; none where one is out of its range.
+fn limits_of<'a>(found: &ArgMatches<'a>) -> Option<Limits>
+    ensures { IfSome result (AreLimits (rows_of (found_of found.now))) }
+{
+    let events = found.get_one::<u32>("events")?;
+    let nodes = found.get_one::<u16>("nodes")?;
+    if events < 1 || events > MOST_EVENTS || nodes < 1 || nodes > MOST_NODES {
+        return None;
+    }
+    Some(Limits { events, nodes })
+}
+
+fn check_options<'a>(found: &ArgMatches<'a>) -> Option<CheckOptions<'a>>
+    ensures { IfSome result (IsCheck (rows_of (found_of found.now))) }
+{
+    Some(CheckOptions {
+        log: found.get_str("LOG")?,
+        limits: limits_of(found)?,
+        certificate: found.get_flag("certificate"),
+    })
+}
+
+fn replay_options<'a>(found: &ArgMatches<'a>) -> Option<ReplayOptions<'a>>
+    ensures { IfSome result (IsReplay (rows_of (found_of found.now))) }
+{
+    Some(ReplayOptions {
+        schedule: found.get_str("schedule").unwrap_or(""),
+        run: run_options(found)?,
+    })
+}
+
+fn run_options<'a>(found: &ArgMatches<'a>) -> Option<RunOptions<'a>>
+    ensures { IfSome result (IsRun (rows_of (found_of found.now))) }
+{
+    Some(RunOptions {
+        file: found.get_str("FILE")?,
+        stop: found.get_flag("stop"),
+        log: found.get_str("log"),
+        limits: limits_of(found)?,
+        certificate: found.get_flag("certificate"),
+    })
+}
+
+fn explain_options<'a>(found: &ArgMatches<'a>) -> Option<ExplainOptions<'a>>
+    ensures { IfSome result (IsExplanation (rows_of (found_of found.now))) }
+{
+    Some(ExplainOptions {
+        log: found.get_str("LOG")?,
+        dot: found.get_str("dot"),
+    })
+}
+
+/// What the matches of the command ask for; none where a word is missing or a number is out of its range, which the
+/// command has refused already.
+pub fn request_of<'a>(matches: &ArgMatches<'a>) -> Option<Request<'a>>
+    ensures { IfSome result (AsksFor (subcommand_rows_of matches.now)) }
+{
+    let (name, found) = matches.subcommand()?;
+    match name {
+        "check" => Some(Request::Check(check_options(found)?)),
+        "replay" => Some(Request::Replay(replay_options(found)?)),
+        "run" => Some(Request::Run(run_options(found)?)),
+        "explain" => Some(Request::Explain(explain_options(found)?)),
+        _ => None,
+    }
+}
