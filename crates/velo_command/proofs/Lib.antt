@@ -1,1 +1,3 @@
+mod OnBuilding
+pub mod OnCommandLine
 mod OnAsked

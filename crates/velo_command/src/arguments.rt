@@ -1,228 +1,198 @@
 //! The words of the command line.
-ghost use Rattle.std.specs.Prelude.{OnErr};
+ghost use Rattle.std.specs.Prelude.{◌≡◌, IfOk, OnErr, codes};
+ghost use Rattle.clap.specs.Words.{app_of};
 ghost use Rattle.velo_events.specs.Refusals.{GrowthRefused};
+ghost use Rattle.velo_command.specs.CommandLine.{AddsRules, IsArgument, IsSubcommand, check, command_line, events, explain, flag, graph_options, nodes, replay, run, run_options, valued, word};
 
-use crate::growth::{with_arguments, with_subcommands};
+use crate::growth::{with_argument, with_subcommand};
 use crate::help;
 use clap::{Arg, ArgAction, Command, value_parser};
 use std::alloc::Global;
-use velo_events::growth::reserve;
 use velo_events::{MOST_EVENTS, MOST_NODES, Memory};
-
-/// What an argument of a subcommand looks like.
-enum Argument {
-    /// A word that has to be there.
-    Word {
-        name: &'static str,
-        help: &'static str,
-    },
-    /// An option with a value, under its name.
-    Valued {
-        name: &'static str,
-        value: &'static str,
-        help: &'static str,
-    },
-    /// An option without a value.
-    Flag {
-        name: &'static str,
-        help: &'static str,
-    },
-    /// The most events of a log.
-    Events,
-    /// The most nodes of a graph.
-    Nodes,
-}
-
-const LOG: Argument = Argument::Word {
-    name: "LOG",
-    help: "The path of the log, or - for standard input",
-};
-
-const FILE: Argument = Argument::Word {
-    name: "FILE",
-    help: "The path of the workload, or - for standard input",
-};
-
-const SCHEDULE: Argument = Argument::Valued {
-    name: "schedule",
-    value: "TEXT",
-    help: "Whose turns come first: thread numbers from 0 to 63, parted by one space",
-};
-
-const STOP: Argument = Argument::Flag {
-    name: "stop",
-    help: "End the run at an alarm",
-};
-
-const OUT: Argument = Argument::Valued {
-    name: "log",
-    value: "OUT",
-    help: "Write the log of the run to this path, before the report",
-};
-
-const DOT: Argument = Argument::Valued {
-    name: "dot",
-    value: "OUT",
-    help: "Write the cycle of an alarm to this path, as a Graphviz picture",
-};
-
-const CERTIFICATE: Argument = Argument::Flag {
-    name: "certificate",
-    help: "Write a serial order, or with an alarm a shortest cycle, behind the report",
-};
-
-/// A subcommand of the program.
-struct Subcommand {
-    name: &'static str,
-    about: &'static str,
-    after_help: &'static str,
-    arguments: &'static [Argument],
-}
-
-static SUBCOMMANDS: [Subcommand; 4] = [
-    Subcommand {
-        name: "check",
-        about: "Reads a recorded log and reports the verdict",
-        after_help: help::OF_CHECK,
-        arguments: &[LOG, Argument::Events, Argument::Nodes, CERTIFICATE],
-    },
-    Subcommand {
-        name: "replay",
-        about: "Runs a workload by a schedule and reports the verdict",
-        after_help: help::OF_REPLAY,
-        arguments: &[
-            FILE,
-            SCHEDULE,
-            STOP,
-            OUT,
-            Argument::Events,
-            Argument::Nodes,
-            CERTIFICATE,
-        ],
-    },
-    Subcommand {
-        name: "run",
-        about: "Runs a workload by threads of its own and reports the verdict",
-        after_help: help::OF_RUN,
-        arguments: &[
-            FILE,
-            STOP,
-            OUT,
-            Argument::Events,
-            Argument::Nodes,
-            CERTIFICATE,
-        ],
-    },
-    Subcommand {
-        name: "explain",
-        about: "Reads a recorded log and explains the verdict in words",
-        after_help: help::OF_EXPLAIN,
-        arguments: &[LOG, DOT],
-    },
-];
 
 /// The command line of the program: a word of no subcommand, or a number out of its range, is a fault of usage.
 ///
 /// # Errors
 /// `Memory` where a growth was refused.
 pub fn command<'a>(alloc: Global) -> Result<Command<'a>, Memory>
+    ensures reads { IfOk result (λ c. app_of c ≡ command_line) }
     ensures memory { OnErr result GrowthRefused }
 {
-    let commands = commands_of(alloc, &SUBCOMMANDS)?;
     let program = Command::new(alloc, "velodrome")
         .about("Tells whether the atomic blocks of an observed run can be serialized")
         .version(help::VERSION)
         .after_help(help::OF_PROGRAM)
         .subcommand_required(true);
-    with_subcommands(program, commands)
+    let program = with_subcommand(program, check(alloc)?)?;
+    let program = with_subcommand(program, replay(alloc)?)?;
+    let program = with_subcommand(program, run(alloc)?)?;
+    with_subcommand(program, explain(alloc)?)
 }
 
-/// Adds an item to a list.
-fn push<T: Drop>(items: &mut Vec<T>, item: T) -> Result<(), Memory>
+fn check<'a>(alloc: Global) -> Result<Command<'a>, Memory>
+    ensures reads { IfOk result (IsSubcommand check) }
     ensures memory { OnErr result GrowthRefused }
 {
-    reserve(items, 1)?;
-    items.push_reserved(item);
-    Ok(())
+    let command = Command::new(alloc, "check")
+        .about("Reads a recorded log and reports the verdict")
+        .after_help(help::OF_CHECK);
+    let command = with_argument(command, log(alloc))?;
+    with_graph_options(alloc, command)
 }
 
-/// The commands of these subcommands.
-fn commands_of<'a>(alloc: Global, subcommands: &[Subcommand]) -> Result<Vec<Command<'a>>, Memory>
+fn replay<'a>(alloc: Global) -> Result<Command<'a>, Memory>
+    ensures reads { IfOk result (IsSubcommand replay) }
     ensures memory { OnErr result GrowthRefused }
 {
-    let mut commands = Vec::new(alloc);
-    for subcommand in subcommands {
-        push_made(&mut commands, command_of(alloc, subcommand))?;
-    }
-    Ok(commands)
+    let command = Command::new(alloc, "replay")
+        .about("Runs a workload by a schedule and reports the verdict")
+        .after_help(help::OF_REPLAY);
+    let command = with_argument(command, file(alloc))?;
+    let command = with_argument(command, schedule(alloc))?;
+    with_run_options(alloc, command)
 }
 
-/// Adds a command to a list, if it could be made.
-fn push_made<'a>(
-    commands: &mut Vec<Command<'a>>,
-    made: Result<Command<'a>, Memory>,
-) -> Result<(), Memory>
-    requires { OnErr made GrowthRefused }
+fn run<'a>(alloc: Global) -> Result<Command<'a>, Memory>
+    ensures reads { IfOk result (IsSubcommand run) }
     ensures memory { OnErr result GrowthRefused }
 {
-    push(commands, made?)
+    let command = Command::new(alloc, "run")
+        .about("Runs a workload by threads of its own and reports the verdict")
+        .after_help(help::OF_RUN);
+    let command = with_argument(command, file(alloc))?;
+    with_run_options(alloc, command)
 }
 
-/// The command of a subcommand, with its arguments.
-fn command_of<'a>(alloc: Global, subcommand: &Subcommand) -> Result<Command<'a>, Memory>
+fn explain<'a>(alloc: Global) -> Result<Command<'a>, Memory>
+    ensures reads { IfOk result (IsSubcommand explain) }
     ensures memory { OnErr result GrowthRefused }
 {
-    let arguments = arguments_of(alloc, subcommand.arguments)?;
-    let command = Command::new(alloc, subcommand.name)
-        .about(subcommand.about)
-        .after_help(subcommand.after_help);
-    with_arguments(command, arguments)
+    let command = Command::new(alloc, "explain")
+        .about("Reads a recorded log and explains the verdict in words")
+        .after_help(help::OF_EXPLAIN);
+    let command = with_argument(command, log(alloc))?;
+    with_argument(command, dot(alloc))
 }
 
-/// The arguments that look so.
-fn arguments_of<'a>(alloc: Global, arguments: &[Argument]) -> Result<Vec<Arg<'a>>, Memory>
+/// The command with the options of each command that runs a workload.
+fn with_run_options<'a>(alloc: Global, command: Command<'a>) -> Result<Command<'a>, Memory>
+    ensures adds { IfOk result (AddsRules run_options command.entry) }
     ensures memory { OnErr result GrowthRefused }
 {
-    let mut made = Vec::new(alloc);
-    for argument in arguments {
-        push(&mut made, argument_of(alloc, argument))?;
-    }
-    Ok(made)
+    let command = with_argument(command, stop(alloc))?;
+    let command = with_argument(command, out(alloc))?;
+    with_graph_options(alloc, command)
 }
 
-/// The argument that looks so.
-fn argument_of<'a>(alloc: Global, argument: &Argument) -> Arg<'a> {
-    match argument {
-        Argument::Word { name, help } => word(alloc, name, help),
-        Argument::Valued { name, value, help } => valued(alloc, name, value, help),
-        Argument::Flag { name, help } => flag(alloc, name, help),
-        Argument::Events => events_argument(alloc),
-        Argument::Nodes => nodes_argument(alloc),
-    }
+/// The command with the options of each command that keeps a graph.
+fn with_graph_options<'a>(alloc: Global, command: Command<'a>) -> Result<Command<'a>, Memory>
+    ensures adds { IfOk result (AddsRules graph_options command.entry) }
+    ensures memory { OnErr result GrowthRefused }
+{
+    let command = with_argument(command, events_argument(alloc))?;
+    let command = with_argument(command, nodes_argument(alloc))?;
+    with_argument(command, certificate(alloc))
 }
 
-fn word<'a>(alloc: Global, name: &'a str, help: &'a str) -> Arg<'a> {
+fn log<'a>(alloc: Global) -> Arg<'a>
+    ensures { IsArgument (word (codes "LOG")) result }
+{
+    word(alloc, "LOG", "The path of the log, or - for standard input")
+}
+
+fn file<'a>(alloc: Global) -> Arg<'a>
+    ensures { IsArgument (word (codes "FILE")) result }
+{
+    word(
+        alloc,
+        "FILE",
+        "The path of the workload, or - for standard input",
+    )
+}
+
+fn schedule<'a>(alloc: Global) -> Arg<'a>
+    ensures { IsArgument (valued (codes "schedule")) result }
+{
+    valued(
+        alloc,
+        "schedule",
+        "TEXT",
+        "Whose turns come first: thread numbers from 0 to 63, parted by one space",
+    )
+}
+
+fn stop<'a>(alloc: Global) -> Arg<'a>
+    ensures { IsArgument (flag (codes "stop")) result }
+{
+    flag(alloc, "stop", "End the run at an alarm")
+}
+
+fn out<'a>(alloc: Global) -> Arg<'a>
+    ensures { IsArgument (valued (codes "log")) result }
+{
+    valued(
+        alloc,
+        "log",
+        "OUT",
+        "Write the log of the run to this path, before the report",
+    )
+}
+
+fn dot<'a>(alloc: Global) -> Arg<'a>
+    ensures { IsArgument (valued (codes "dot")) result }
+{
+    valued(
+        alloc,
+        "dot",
+        "OUT",
+        "Write the cycle of an alarm to this path, as a Graphviz picture",
+    )
+}
+
+fn certificate<'a>(alloc: Global) -> Arg<'a>
+    ensures { IsArgument (flag (codes "certificate")) result }
+{
+    flag(
+        alloc,
+        "certificate",
+        "Write a serial order, or with an alarm a shortest cycle, behind the report",
+    )
+}
+
+/// A word that has to be there.
+fn word<'a>(alloc: Global, name: &'a str, help: &'a str) -> Arg<'a>
+    ensures { IsArgument (word name.entry.now) result }
+{
     Arg::new(alloc, name)
         .help(help)
         .required(true)
         .action(ArgAction::Set)
 }
 
-fn valued<'a>(alloc: Global, name: &'a str, value: &'a str, help: &'a str) -> Arg<'a> {
+/// An option with a value, under its name.
+fn valued<'a>(alloc: Global, name: &'a str, value: &'a str, help: &'a str) -> Arg<'a>
+    ensures { IsArgument (valued name.entry.now) result }
+{
     Arg::new(alloc, name)
         .long(name)
         .value_name(value)
         .help(help)
 }
 
-fn flag<'a>(alloc: Global, name: &'a str, help: &'a str) -> Arg<'a> {
+/// An option without a value, under its name.
+fn flag<'a>(alloc: Global, name: &'a str, help: &'a str) -> Arg<'a>
+    ensures { IsArgument (flag name.entry.now) result }
+{
     Arg::new(alloc, name)
         .long(name)
         .help(help)
         .action(ArgAction::SetTrue)
 }
 
-fn events_argument<'a>(alloc: Global) -> Arg<'a> {
+/// The most events of a log.
+fn events_argument<'a>(alloc: Global) -> Arg<'a>
+    ensures { IsArgument events result }
+{
     Arg::new(alloc, "events")
         .long("events")
         .value_name("N")
@@ -231,7 +201,10 @@ fn events_argument<'a>(alloc: Global) -> Arg<'a> {
         .default_value("1048576")
 }
 
-fn nodes_argument<'a>(alloc: Global) -> Arg<'a> {
+/// The most nodes of a graph.
+fn nodes_argument<'a>(alloc: Global) -> Arg<'a>
+    ensures { IsArgument nodes result }
+{
     Arg::new(alloc, "nodes")
         .long("nodes")
         .value_name("N")

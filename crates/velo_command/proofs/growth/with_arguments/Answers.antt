@@ -1,5 +1,0 @@
-use Rattle.velo_seal.specs.Seal.{refused}
-use Rattle.velo_command.proofs.growth.with_arguments.Goals as goal
-
-pub returns-in-Err : goal.returns-in-Err
-returns-in-Err c = record { memory = refused }

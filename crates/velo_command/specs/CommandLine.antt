@@ -1,0 +1,89 @@
+-- What the command line of the program is.
+use Rattle.std.specs.Prelude.{◌≡◌, List, [], ◌∷◌, Some, true, false, pos, codes, fold}
+use Rattle.clap.specs.Words.{App, Rule, Shape, Text, app_of, new_rule, rule_of, shape_of, with_rule}
+use Rattle.clap.specs.Simple.{new_shape}
+use Rattle.clap.specs.declared.builder.action.ArgAction.TheVariants.{Set, SetTrue}
+use Rattle.clap.specs.declared.builder.arg.Arg.{Arg}
+use Rattle.clap.specs.declared.builder.command.Command.{Command}
+use Rattle.clap.specs.declared.builder.command.Command.TheViews.{out-Command}
+use Rattle.clap.specs.declared.builder.value_parser.ValueParser.TheVariants.{Signed}
+use Rattle.velo_events.specs.declared.limits.TheConstants.{MOST_EVENTS, MOST_NODES}
+
+-- ---- the arguments
+
+-- a word that has to be there
+abbrev pub word : Text → Rule
+word name = record (new_rule name) { action = Some Set; required = true }
+
+-- an option with a value, under its name
+abbrev pub valued : Text → Rule
+valued name = record (new_rule name) { long = Some name; value_names = 1 }
+
+-- an option without a value, under its name
+abbrev pub flag : Text → Rule
+flag name = record (new_rule name) { long = Some name; action = Some SetTrue }
+
+-- the most events of a log
+abbrev pub events : Rule
+events = record (valued (codes "events")) {
+  parser = Some (Signed (pos 1) (pos MOST_EVENTS));
+  defaults = codes "1048576" ∷ [];
+}
+
+-- the most nodes of a graph
+abbrev pub nodes : Rule
+nodes = record (valued (codes "nodes")) {
+  parser = Some (Signed (pos 1) (pos MOST_NODES));
+  defaults = codes "1024" ∷ [];
+}
+
+-- the options of each command that keeps a graph
+abbrev pub graph_options : List Rule
+graph_options = events ∷ nodes ∷ flag (codes "certificate") ∷ []
+
+-- the options of each command that runs a workload
+abbrev pub run_options : List Rule
+run_options = flag (codes "stop") ∷ valued (codes "log") ∷ graph_options
+
+-- ---- the subcommands
+
+abbrev pub subcommand : Text → List Rule → Shape
+subcommand name rules = record (new_shape name) { rules = rules }
+
+abbrev pub check : Shape
+check = subcommand (codes "check") (word (codes "LOG") ∷ graph_options)
+
+abbrev pub replay : Shape
+replay = subcommand (codes "replay") (word (codes "FILE") ∷ valued (codes "schedule") ∷ run_options)
+
+abbrev pub run : Shape
+run = subcommand (codes "run") (word (codes "FILE") ∷ run_options)
+
+abbrev pub explain : Shape
+explain = subcommand (codes "explain") (word (codes "LOG") ∷ valued (codes "dot") ∷ [])
+
+-- the program: one of its subcommands has to be named, and it has a version
+abbrev pub command_line : App
+command_line = record {
+  top = record (new_shape (codes "velodrome")) {
+    is_leaf = false;
+    has_version = true;
+    subcommand_required = true;
+  };
+  subs = check ∷ replay ∷ run ∷ explain ∷ [];
+}
+
+-- ---- what the code builds of these
+
+-- the argument looks so, for the one command that it is given to
+abbrev pub IsArgument : Rule → Arg → Type 0
+IsArgument rule a = (rule_of a ≡ rule) × (a.global ≡ false)
+
+-- the command looks so, and has no argument that reaches another command
+abbrev pub IsSubcommand : Shape → Command → Type 0
+IsSubcommand shape c = (shape_of c ≡ shape) × ((out-Command c).has_globals ≡ false)
+
+-- `new` is `old` with these arguments more, behind its own
+abbrev pub AddsRules : List Rule → Command → Command → Type 0
+AddsRules rules old new = (app_of new ≡ fold with_rule (app_of old) rules)
+    × ((out-Command new).has_globals ≡ (out-Command old).has_globals)
