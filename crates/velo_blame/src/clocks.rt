@@ -7,15 +7,15 @@ ghost use Rattle.velo_events.specs.Graph.{HasCycle};
 ghost use Rattle.velo_events.specs.Refusals.{GrowthRefused};
 ghost use Rattle.velo_events.specs.WellFormed.{IsWellFormed};
 ghost use Rattle.velo_traces.specs.Blocks.{block_at};
-ghost use Rattle.velo_tables.specs.Clocks.{AreClocksSince};
-ghost use Rattle.velo_tables.specs.Noted.{HasRoomToNote, IsOfThreads};
+ghost use Rattle.velo_clocks.specs.Clocks.{AreClocksSince};
+ghost use Rattle.velo_clocks.specs.Noted.{HasRoomToNote, IsOfThreads};
 ghost use Rattle.velo_blame.specs.Blamed.{begins_of, AreBlamedAt};
 
 use smallvec::SmallVec;
 use std::alloc::Global;
 use std::marker::Model;
+use velo_clocks::ClockTables;
 use velo_events::{Bounds, Config, Event, MOST_OPEN_BLOCKS, Memory};
-use velo_tables::ClockTables;
 use velo_traces::Block;
 
 /// Which open blocks are to blame where an event closes the first cycle, without a look at the events before it. They were

@@ -1,4 +1,6 @@
 pub mod OnLists
+pub mod OnResults
+pub mod OnFilling
 pub mod OnTraces
 pub mod OnBlocks
 pub mod OnScans
@@ -20,3 +22,5 @@ pub mod OnReaching
 pub mod OnCollection
 pub mod OnBlame
 pub mod OnSerializing
+pub mod OnLast
+pub mod OnLookUps

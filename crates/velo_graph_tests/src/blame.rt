@@ -1,5 +1,5 @@
 ghost use Rattle.std.specs.Prelude.{◌≡◌, ◌<◌, length, take, IfOk, OnOk, IsTrue};
-ghost use Rattle.velo_tables.specs.Noted.{IsOfThreads};
+ghost use Rattle.velo_clocks.specs.Noted.{IsOfThreads};
 ghost use Rattle.velo_events.specs.Graph.{HasCycle};
 
 mod growths;

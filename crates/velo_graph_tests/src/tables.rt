@@ -1,12 +1,12 @@
-ghost use Rattle.std.specs.Prelude.{◌≡◌, ◌<◌, length};
+ghost use Rattle.std.specs.Prelude.{◌≡◌, length};
 ghost use Rattle.velo_tables.specs.Kept.{HasItsThreads};
-ghost use Rattle.velo_tables.specs.Noted.{IsOfThreads};
 
+use crate::words::by;
 use std::alloc::Global;
 use std::process::Abort;
 use velo_arena::Step;
 use velo_events::{Bounds, Config, Event, Kind, Label, LockId, ThreadId, VarId};
-use velo_tables::{ClockTables, Tables};
+use velo_tables::Tables;
 
 const BOUNDS: Bounds = Bounds {
     threads: 4,
@@ -20,16 +20,6 @@ fn tables_of_four(rt: &impl Abort, alloc: Global) -> Tables
 {
     let config = Config::new(1, BOUNDS, 100, 10, false).expect(rt, "a configuration");
     Tables::new(alloc, &config).expect(rt, "memory")
-}
-
-fn by(thread: u8, kind: Kind) -> Event
-    ensures thread { result.thread.0 ≡ thread }
-    ensures kind { result.kind ≡ kind }
-{
-    Event {
-        thread: ThreadId(thread),
-        kind,
-    }
 }
 
 fn at(stamp: u32) -> Step {
@@ -117,37 +107,4 @@ fn a_lock_has_one_last_event(rt: HostRuntime) {
     assert_eq!(rt; tables.last_on(LockId(1)), Some(at(2)));
     assert_eq!(rt; tables.last_write(X), None);
     assert_eq!(rt; tables.last_read(X, ThreadId(3)), None);
-}
-
-/// The clocks of a run of four threads.
-fn clocks_of_four(rt: &impl Abort, alloc: Global) -> ClockTables
-    ensures { length result.threads ≡ 4 }
-{
-    let config = Config::new(1, BOUNDS, 100, 10, false).expect(rt, "a configuration");
-    ClockTables::new(alloc, &config).expect(rt, "memory")
-}
-
-/// Makes room in the clocks for the event and notes it.
-fn note_clock(rt: &impl Abort, clocks: &mut ClockTables, position: u32, event: Event)
-    requires known { IsOfThreads (length clocks.old.threads) event }
-    requires early { position < 100 }
-    ensures { length clocks.new.threads ≡ length clocks.old.threads }
-{
-    clocks.reserve_for(&event).expect(rt, "memory");
-    clocks.note(position, &event);
-}
-
-#[test]
-fn the_own_thread_is_known_through_others(rt: HostRuntime) {
-    let mut clocks = clocks_of_four(&rt, rt.alloc());
-    note_clock(&rt, &mut clocks, 0, by(0, Kind::Fork(ThreadId(1))));
-    note_clock(&rt, &mut clocks, 1, by(0, Kind::Begin(Label(1))));
-    note_clock(&rt, &mut clocks, 2, by(0, Kind::Write(X, 1)));
-    note_clock(&rt, &mut clocks, 3, by(0, Kind::Begin(Label(2))));
-    note_clock(&rt, &mut clocks, 4, by(0, Kind::Write(Y, 1)));
-    assert_eq!(rt; clocks.bound(&by(0, Kind::Write(X, 2))), 0);
-    note_clock(&rt, &mut clocks, 5, by(1, Kind::Read(X, 1)));
-    assert_eq!(rt; clocks.bound(&by(0, Kind::Write(X, 2))), 3);
-    note_clock(&rt, &mut clocks, 6, by(1, Kind::Exit));
-    assert_eq!(rt; clocks.bound(&by(0, Kind::Join(ThreadId(1)))), 3);
 }

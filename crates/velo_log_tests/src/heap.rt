@@ -1,9 +1,9 @@
-ghost use Rattle.std.specs.Prelude.{◌≡◌, ◌<◌, List, IfOk};
+ghost use Rattle.std.specs.Prelude.{◌≡◌, ◌<◌, List};
 ghost use Rattle.velo_events.specs.declared.event.Event.{Event};
 ghost use Rattle.velo_heap.specs.Contents.{bounds_of, IsHeapOf};
 
 use std::alloc::Global;
-use std::test::Fail;
+use std::process::Abort;
 use velo_events::{
     Action, Bounds, Config, Event, Kind, Label, LockId, Refusal, Status, ThreadId, VarId,
 };
@@ -15,14 +15,14 @@ const BOUNDS: Bounds = Bounds {
     locks: 1,
 };
 
-fn heap_of_three_threads(alloc: Global) -> Result<Heap, Fail>
-    ensures stands { IfOk result (λ h. (trace : List Event) × IsHeapOf h trace) }
-    ensures threads { IfOk result (λ h. (bounds_of h).threads ≡ 3) }
-    ensures variables { IfOk result (λ h. (bounds_of h).variables ≡ 1) }
-    ensures locks { IfOk result (λ h. (bounds_of h).locks ≡ 1) }
+fn heap_of_three_threads(rt: &impl Abort, alloc: Global) -> Heap
+    ensures stands { (trace : List Event) × IsHeapOf result trace }
+    ensures threads { (bounds_of result).threads ≡ 3 }
+    ensures variables { (bounds_of result).variables ≡ 1 }
+    ensures locks { (bounds_of result).locks ≡ 1 }
 {
-    let config = Config::new(1, BOUNDS, 100, 1, false)?;
-    Ok(Heap::new(alloc, &config)?)
+    let config = Config::new(1, BOUNDS, 100, 1, false).expect(rt, "in range");
+    Heap::new(alloc, &config).expect(rt, "memory")
 }
 
 /// Does the action if it is admitted, and says why where it is not.
@@ -40,8 +40,11 @@ fn act(heap: &mut Heap, thread: ThreadId, action: Action) -> Option<Refusal>
     }
 }
 
+/// A thread, its action, and the refusal of it, or none.
+type Step = (u8, Action, Option<Refusal>);
+
 /// Does the actions one after another, up to the first whose refusal is not the one beside it.
-fn first_surprise(heap: &mut Heap, steps: &[(u8, Action, Option<Refusal>)]) -> Option<usize>
+fn first_surprise(heap: &mut Heap, steps: &[Step]) -> Option<usize>
     requires { (trace : List Event) × IsHeapOf heap.old trace }
     ensures stands { (trace : List Event) × IsHeapOf heap.new trace }
     ensures bounds { bounds_of heap.new ≡ bounds_of heap.old }
@@ -55,79 +58,81 @@ fn first_surprise(heap: &mut Heap, steps: &[(u8, Action, Option<Refusal>)]) -> O
     None
 }
 
+/// What is tried, one after another, and why it is refused, if it is.
+const STEPS: [Step; 32] = [
+    // an unborn thread, a thread that is not there, and what else would be refused
+    (1, Action::Write(VarId(0), 1), Some(Refusal::NotLive)),
+    (9, Action::Begin(Label(0)), Some(Refusal::NotLive)),
+    (1, Action::Read(VarId(9)), Some(Refusal::NotLive)),
+    (1, Action::Join(ThreadId(9)), Some(Refusal::NotLive)),
+    // numbers out of range
+    (0, Action::Read(VarId(1)), Some(Refusal::NoSuchVariable)),
+    (0, Action::Write(VarId(1), 5), Some(Refusal::NoSuchVariable)),
+    (0, Action::Acquire(LockId(1)), Some(Refusal::NoSuchLock)),
+    (0, Action::Release(LockId(1)), Some(Refusal::NoSuchLock)),
+    (0, Action::Fork(ThreadId(3)), Some(Refusal::NoSuchThread)),
+    (0, Action::Join(ThreadId(3)), Some(Refusal::NoSuchThread)),
+    // threads
+    (0, Action::Fork(ThreadId(0)), Some(Refusal::AlreadyForked)),
+    (0, Action::Join(ThreadId(1)), Some(Refusal::NotForked)),
+    (0, Action::Fork(ThreadId(1)), None),
+    (0, Action::Fork(ThreadId(1)), Some(Refusal::AlreadyForked)),
+    (0, Action::Join(ThreadId(1)), Some(Refusal::NotExited)),
+    // locks: one that the thread holds itself is not busy
+    (0, Action::Release(LockId(0)), Some(Refusal::NotHolder)),
+    (0, Action::Acquire(LockId(0)), None),
+    (0, Action::Acquire(LockId(0)), Some(Refusal::AlreadyHeld)),
+    (1, Action::Acquire(LockId(0)), Some(Refusal::Busy)),
+    (1, Action::Release(LockId(0)), Some(Refusal::NotHolder)),
+    // an exit with an open block and a held lock, then with the lock alone
+    (0, Action::End, Some(Refusal::NoOpenBlock)),
+    (0, Action::Begin(Label(7)), None),
+    (0, Action::Exit, Some(Refusal::BlockOpen)),
+    (0, Action::End, None),
+    (0, Action::Exit, Some(Refusal::LockHeld)),
+    (0, Action::Release(LockId(0)), None),
+    // a thread that has exited
+    (1, Action::Exit, None),
+    (1, Action::Read(VarId(9)), Some(Refusal::NotLive)),
+    (0, Action::Join(ThreadId(1)), None),
+    (0, Action::Join(ThreadId(1)), Some(Refusal::AlreadyJoined)),
+    (0, Action::Exit, None),
+    (0, Action::Exit, Some(Refusal::NotLive)),
+];
+
 #[test]
-fn refusals_in_their_order(rt: HostRuntime) -> Result<(), Fail> {
-    let mut heap = heap_of_three_threads(rt.alloc())?;
-    let steps = [
-        // an unborn thread, a thread that is not there, and what else would be refused
-        (1, Action::Write(VarId(0), 1), Some(Refusal::NotLive)),
-        (9, Action::Begin(Label(0)), Some(Refusal::NotLive)),
-        (1, Action::Read(VarId(9)), Some(Refusal::NotLive)),
-        (1, Action::Join(ThreadId(9)), Some(Refusal::NotLive)),
-        // numbers out of range
-        (0, Action::Read(VarId(1)), Some(Refusal::NoSuchVariable)),
-        (0, Action::Write(VarId(1), 5), Some(Refusal::NoSuchVariable)),
-        (0, Action::Acquire(LockId(1)), Some(Refusal::NoSuchLock)),
-        (0, Action::Release(LockId(1)), Some(Refusal::NoSuchLock)),
-        (0, Action::Fork(ThreadId(3)), Some(Refusal::NoSuchThread)),
-        (0, Action::Join(ThreadId(3)), Some(Refusal::NoSuchThread)),
-        // threads
-        (0, Action::Fork(ThreadId(0)), Some(Refusal::AlreadyForked)),
-        (0, Action::Join(ThreadId(1)), Some(Refusal::NotForked)),
-        (0, Action::Fork(ThreadId(1)), None),
-        (0, Action::Fork(ThreadId(1)), Some(Refusal::AlreadyForked)),
-        (0, Action::Join(ThreadId(1)), Some(Refusal::NotExited)),
-        // locks: one that the thread holds itself is not busy
-        (0, Action::Release(LockId(0)), Some(Refusal::NotHolder)),
-        (0, Action::Acquire(LockId(0)), None),
-        (0, Action::Acquire(LockId(0)), Some(Refusal::AlreadyHeld)),
-        (1, Action::Acquire(LockId(0)), Some(Refusal::Busy)),
-        (1, Action::Release(LockId(0)), Some(Refusal::NotHolder)),
-        // an exit with an open block and a held lock, then with the lock alone
-        (0, Action::End, Some(Refusal::NoOpenBlock)),
-        (0, Action::Begin(Label(7)), None),
-        (0, Action::Exit, Some(Refusal::BlockOpen)),
-        (0, Action::End, None),
-        (0, Action::Exit, Some(Refusal::LockHeld)),
-        (0, Action::Release(LockId(0)), None),
-        // a thread that has exited
-        (1, Action::Exit, None),
-        (1, Action::Read(VarId(9)), Some(Refusal::NotLive)),
-        (0, Action::Join(ThreadId(1)), None),
-        (0, Action::Join(ThreadId(1)), Some(Refusal::AlreadyJoined)),
-        (0, Action::Exit, None),
-        (0, Action::Exit, Some(Refusal::NotLive)),
-    ];
-    assert_eq!(rt; first_surprise(&mut heap, &steps), None);
+fn refusals_in_their_order(rt: HostRuntime) {
+    let mut heap = heap_of_three_threads(&rt, rt.alloc());
+    assert_eq!(rt; first_surprise(&mut heap, &STEPS), None);
     assert_eq!(rt; heap.status(ThreadId(0)), Status::Exited);
     assert_eq!(rt; heap.status(ThreadId(1)), Status::Joined);
     assert_eq!(rt; heap.status(ThreadId(2)), Status::Unborn);
     assert_eq!(rt; heap.holder(LockId(0)), None);
-    Ok(())
 }
 
 #[test]
-fn values_and_holders(rt: HostRuntime) -> Result<(), Fail> {
-    let mut heap = heap_of_three_threads(rt.alloc())?;
+fn values_and_holders(rt: HostRuntime) {
+    let mut heap = heap_of_three_threads(&rt, rt.alloc());
     let read = Event {
         thread: ThreadId(0),
         kind: Kind::Read(VarId(0), 0),
     };
-    assert_eq!(rt; heap.admit(ThreadId(0), Action::Read(VarId(0))), Ok(read));
-    let steps = [
-        (0, Action::Write(VarId(0), 5), None),
-        (0, Action::Acquire(LockId(0)), None),
-        (0, Action::Acquire(LockId(0)), Some(Refusal::AlreadyHeld)),
-    ];
-    assert_eq!(rt; first_surprise(&mut heap, &steps), None);
+    assert!(rt; heap.admit(ThreadId(0), Action::Read(VarId(0))) == Ok(read));
+    assert_eq!(rt;
+        act(&mut heap, ThreadId(0), Action::Write(VarId(0), 5)),
+        None
+    );
+    assert_eq!(rt;
+        act(&mut heap, ThreadId(0), Action::Acquire(LockId(0))),
+        None
+    );
     assert_eq!(rt; heap.value(VarId(0)), 5);
     assert_eq!(rt; heap.holder(LockId(0)), Some(ThreadId(0)));
-    Ok(())
 }
 
 #[test]
-fn blocks_nest_32_deep(rt: HostRuntime) -> Result<(), Fail> {
-    let mut heap = heap_of_three_threads(rt.alloc())?;
+fn blocks_nest_32_deep(rt: HostRuntime) {
+    let mut heap = heap_of_three_threads(&rt, rt.alloc());
     let begins = [(0, Action::Begin(Label(1)), None); 32];
     assert_eq!(rt; first_surprise(&mut heap, &begins), None);
     assert_eq!(rt;
@@ -141,5 +146,4 @@ fn blocks_nest_32_deep(rt: HostRuntime) -> Result<(), Fail> {
         act(&mut heap, ThreadId(0), Action::End),
         Some(Refusal::NoOpenBlock)
     );
-    Ok(())
 }

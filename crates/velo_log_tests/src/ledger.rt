@@ -1,3 +1,4 @@
+use std::alloc::Global;
 use std::process::Abort;
 use std::test::Fail;
 use velo_events::{Event, Kind, Label, MOST_EVENTS, ThreadId, VarId};
@@ -78,82 +79,100 @@ fn counts_the_events_of_two_threads(rt: HostRuntime) -> Result<(), Fail> {
     Ok(())
 }
 
+/// Compares whether the share of a thread fits.
+fn judge_share(rt: &impl Abort, book: &Book, shares: &Shares, thread: u8, fits: bool) {
+    let share = shares.get(ThreadId(thread)).expect(rt, "a share");
+    assert!(rt; book.fits(share) == fits);
+}
+
 #[test]
-fn foreign_shares_do_not_fit(rt: HostRuntime) -> Result<(), Fail> {
+fn foreign_shares_do_not_fit(rt: HostRuntime) {
     let (mut book, mut shares) = Book::open(rt.alloc(), 7, 2).expect(&rt, "memory");
     let (_, of_another_run) = Book::open(rt.alloc(), 8, 2).expect(&rt, "memory");
     let (_, of_another_book) = Book::open(rt.alloc(), 7, 3).expect(&rt, "memory");
     enter(&rt, &mut book, &mut shares, 0, &by(0, Kind::Read(X, 0)));
-    for (foreign, thread, fits) in [
-        (&shares, 0, true),
-        (&of_another_run, 0, false),
-        (&of_another_run, 1, false),
-        (&of_another_book, 0, false),
-        (&of_another_book, 1, true),
-        (&of_another_book, 2, false),
-    ] {
-        let share = foreign.get(ThreadId(thread)).expect(&rt, "a share");
-        assert_eq!(rt; book.fits(share), fits, "of thread {thread}");
-    }
+    judge_share(&rt, &book, &shares, 0, true);
+    judge_share(&rt, &book, &of_another_run, 0, false);
+    judge_share(&rt, &book, &of_another_run, 1, false);
+    judge_share(&rt, &book, &of_another_book, 0, false);
+    judge_share(&rt, &book, &of_another_book, 1, true);
+    judge_share(&rt, &book, &of_another_book, 2, false);
     assert_eq!(rt; gather(&book, &of_another_run), None);
     assert_eq!(rt; gather(&book, &of_another_book), None);
     assert_eq!(rt; gather(&book, &shares), Some(1));
-    Ok(())
 }
 
 #[test]
-fn a_place_takes_one_share(rt: HostRuntime) -> Result<(), Fail> {
+fn a_share_is_taken_once(rt: HostRuntime) {
     let (book, mut shares) = Book::open(rt.alloc(), 7, 2).expect(&rt, "memory");
-    let (_, mut others) = Book::open(rt.alloc(), 8, 2).expect(&rt, "memory");
-    let mut empty = Shares::none(rt.alloc(), 1).expect(&rt, "memory");
-
-    let first = shares.take(ThreadId(0)).expect(&rt, "a share");
+    assert_eq!(rt; gather(&book, &shares), Some(0));
+    assert!(rt; shares.take(ThreadId(0)).is_some());
     assert!(rt; shares.take(ThreadId(0)).is_none());
     assert!(rt; shares.take(ThreadId(2)).is_none());
     assert_eq!(rt; gather(&book, &shares), None);
-    let back = others.put(first).err().expect(&rt, "one share at a place");
-    assert_eq!(rt; (back.run(), back.thread()), (7, ThreadId(0)));
-    assert!(rt; shares.put(back).is_ok());
-    assert_eq!(rt; gather(&book, &shares), Some(0));
-
-    let second = shares.take(ThreadId(1)).expect(&rt, "a share");
-    assert!(rt; empty.put(second).is_err());
-    assert!(rt; empty.get(ThreadId(0)).is_none());
-    Ok(())
 }
 
 #[test]
-fn one_share_of_each_thread_in_two_lists(rt: HostRuntime) -> Result<(), Fail> {
-    let (mut book, mut given) = Book::open(rt.alloc(), 7, 3).expect(&rt, "memory");
+fn a_place_takes_one_share(rt: HostRuntime) {
+    let (_, mut shares) = Book::open(rt.alloc(), 7, 2).expect(&rt, "memory");
+    let (_, mut others) = Book::open(rt.alloc(), 8, 2).expect(&rt, "memory");
+    let first = shares.take(ThreadId(0)).expect(&rt, "a share");
+    let back = others.put(first).err().expect(&rt, "one share at a place");
+    assert_eq!(rt; (back.run(), back.thread()), (7, ThreadId(0)));
+    assert!(rt; shares.put(back).is_ok());
+}
+
+#[test]
+fn a_place_is_of_one_thread(rt: HostRuntime) {
+    let (_, mut shares) = Book::open(rt.alloc(), 7, 2).expect(&rt, "memory");
+    let mut places = Shares::none(rt.alloc(), 1).expect(&rt, "memory");
+    let second = shares.take(ThreadId(1)).expect(&rt, "a share");
+    assert!(rt; places.put(second).is_err());
+    assert!(rt; places.get(ThreadId(0)).is_none());
+}
+
+/// A book of three threads and their shares, by which two events were entered.
+fn two_entered(rt: &impl Abort, alloc: Global) -> (Book, Shares) {
+    let (mut book, mut shares) = Book::open(alloc, 7, 3).expect(rt, "memory");
+    enter(rt, &mut book, &mut shares, 0, &by(0, Kind::Read(X, 0)));
+    enter(rt, &mut book, &mut shares, 1, &by(2, Kind::Read(X, 0)));
+    (book, shares)
+}
+
+/// Moves the share of a thread from one list to the other.
+fn hand_over(rt: &impl Abort, from: &mut Shares, to: &mut Shares, thread: u8) {
+    let share = from.take(ThreadId(thread)).expect(rt, "a share");
+    assert!(rt; to.put(share).is_ok());
+}
+
+/// Compares the number of events by two lists of shares.
+fn judge_both(rt: &impl Abort, book: &Book, kept: &Shares, given: &Shares, events: Option<u64>) {
+    assert_eq!(rt; gather_both(book, kept, given), events);
+}
+
+#[test]
+fn one_share_of_each_thread_in_two_lists(rt: HostRuntime) {
+    let (book, mut given) = two_entered(&rt, rt.alloc());
+    let mut kept = Shares::none(rt.alloc(), 2).expect(&rt, "memory");
+    judge_both(&rt, &book, &kept, &given, Some(2));
+    hand_over(&rt, &mut given, &mut kept, 0);
+    judge_both(&rt, &book, &kept, &given, Some(2));
+    judge_both(&rt, &book, &given, &kept, Some(2));
+}
+
+#[test]
+fn two_shares_of_a_thread_or_none(rt: HostRuntime) {
+    let (book, mut given) = two_entered(&rt, rt.alloc());
     let (_, mut others) = Book::open(rt.alloc(), 7, 3).expect(&rt, "memory");
     let mut kept = Shares::none(rt.alloc(), 2).expect(&rt, "memory");
-    enter(&rt, &mut book, &mut given, 0, &by(0, Kind::Read(X, 0)));
-    enter(&rt, &mut book, &mut given, 1, &by(2, Kind::Read(X, 0)));
-    assert_eq!(rt; gather_both(&book, &kept, &given), Some(2));
-
-    let first = given.take(ThreadId(0)).expect(&rt, "a share");
-    assert_eq!(rt;
-        gather_both(&book, &kept, &given),
-        None,
-        "thread 0 has none"
-    );
-    assert!(rt; kept.put(first).is_ok());
-    assert_eq!(rt; gather_both(&book, &kept, &given), Some(2));
-    assert_eq!(rt; gather_both(&book, &given, &kept), Some(2));
-
-    let another = others.take(ThreadId(1)).expect(&rt, "a share");
-    assert!(rt; book.fits(&another) && kept.put(another).is_ok());
-    assert_eq!(rt; gather_both(&book, &kept, &given), None, "thread 1 has two");
+    // thread 1 has done nothing, so another share of it fits as well
+    hand_over(&rt, &mut others, &mut kept, 1);
+    judge_both(&rt, &book, &kept, &given, None);
     assert!(rt; given.take(ThreadId(1)).is_some());
-    assert_eq!(rt; gather_both(&book, &kept, &given), Some(2));
-
+    judge_both(&rt, &book, &kept, &given, Some(2));
     assert!(rt; given.take(ThreadId(2)).is_some());
-    let old = others.take(ThreadId(2)).expect(&rt, "a share");
-    assert!(rt; given.put(old).is_ok());
-    assert_eq!(rt;
-        gather_both(&book, &kept, &given),
-        None,
-        "that of thread 2 does not fit"
-    );
-    Ok(())
+    judge_both(&rt, &book, &kept, &given, None);
+    // and that of thread 2 is of another book
+    hand_over(&rt, &mut others, &mut given, 2);
+    judge_both(&rt, &book, &kept, &given, None);
 }

@@ -11,9 +11,8 @@ use Rattle.velo_events.specs.Merge.{GetsNew}
 use Rattle.velo_arena.specs.declared.step.Step.{Step}
 use Rattle.velo_arena.specs.Slots.{used_in, limit_of}
 use Rattle.velo_graph.specs.Nodes.{Nodes}
-use Rattle.velo_tables.specs.Place.{Place, looked_up}
+use Rattle.velo_events.specs.Place.{Place, looked_up, last_at}
 use Rattle.velo_tables.specs.Kept.{Kept, entry, steps_looked_up}
-use Rattle.velo_tables.specs.Last.{last_at}
 use Rattle.velo_merge.specs.Named.{live_stamp, live_stamps, HasFinished, IsAncestor}
 use Rattle.velo_monitor.specs.Watched.{Watched, IsEntryFor, AreEntries, IsMonitorOf}
 use Rattle.velo_monitor.specs.Changed.{IsGone, ForgetsDead}

@@ -13,9 +13,8 @@ use Rattle.velo_events.proofs.OnCollection.{IsCovered-transaction}
 use Rattle.velo_arena.specs.declared.step.Step.{Step}
 use Rattle.velo_arena.specs.Slots.{bears}
 use Rattle.velo_graph.specs.Nodes.{Nodes, reaches}
-use Rattle.velo_tables.specs.Place.{Place, looked_up}
+use Rattle.velo_events.specs.Place.{Place, looked_up, last_at}
 use Rattle.velo_tables.specs.Kept.{Kept, entry, steps_looked_up}
-use Rattle.velo_tables.specs.Last.{last_at}
 use Rattle.velo_tables.proofs.OnSteps.{steps_looked_up-contains, steps_looked_up-from}
 use Rattle.velo_merge.specs.Named.{Bears}
 use Rattle.velo_monitor.specs.Watched.{Watched, IsEntryFor, IsStepFor, IsMonitorOf}

@@ -11,7 +11,7 @@ use Rattle.velo_events.specs.Event.{thread_of}
 use Rattle.velo_arena.specs.declared.step.Step.{Step}
 use Rattle.velo_arena.specs.Slots.{bears}
 use Rattle.velo_graph.specs.Nodes.{Nodes, is_ancestor, reaches, leads_on, AddsEdges}
-use Rattle.velo_tables.specs.Place.{LastOf, LastWrite, LastRead, thread_numbers, also_looked_up}
+use Rattle.velo_events.specs.Place.{LastOf, LastWrite, LastRead, thread_numbers, also_looked_up}
 use Rattle.velo_tables.specs.Kept.{Kept, entry, steps_looked_up}
 use Rattle.velo_tables.specs.Others.{but_for, accesses_but_for}
 use Rattle.velo_tables.proofs.OnSteps.{filter_map-contains, filter_map-from}

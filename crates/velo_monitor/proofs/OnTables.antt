@@ -12,10 +12,9 @@ use Rattle.velo_events.proofs.OnCollection.{not_live-append, IsCovered-push}
 use Rattle.velo_arena.specs.declared.step.Step.{Step}
 use Rattle.velo_arena.specs.Slots.{bears}
 use Rattle.velo_graph.specs.Nodes.{Nodes}
-use Rattle.velo_tables.specs.Place.{Place, is_recorded}
+use Rattle.velo_events.specs.Place.{Place, is_recorded, last_at}
 use Rattle.velo_tables.specs.Kept.{Kept, entry, IsRecorded, IsUnchanged}
-use Rattle.velo_tables.specs.Last.{last_at}
-use Rattle.velo_tables.proofs.OnLast.{last_at-push, last_at-within}
+use Rattle.velo_events.proofs.OnLast.{last_at-push, last_at-within}
 use Rattle.velo_merge.specs.Named.{Bears}
 use Rattle.velo_monitor.specs.Watched.{IsEntryFor, AreEntries}
 

@@ -12,7 +12,7 @@ use Rattle.velo_arena.specs.Slots.{bears, Opens, with_node}
 use Rattle.velo_graph.specs.Nodes.{Nodes, IsRoot, IsAlone, IsSound, AddsEdges}
 use Rattle.velo_graph.specs.Collects.{Collects}
 use Rattle.velo_merge.specs.Named.{Bears, live_stamps, HasFinished, IsAncestor}
-use Rattle.velo_tables.specs.Place.{Place, LastOf}
+use Rattle.velo_events.specs.Place.{Place, LastOf}
 use Rattle.velo_tables.specs.Kept.{Kept, entry, steps_looked_up, HasRoomFor, IsRecorded}
 use Rattle.velo_monitor.specs.Watched.{Watched}
 use Rattle.velo_monitor.specs.Steps.{live_slots, ReachesSome}

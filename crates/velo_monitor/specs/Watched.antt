@@ -14,9 +14,8 @@ use Rattle.velo_arena.specs.Slots.{bears, is_finished_in}
 use Rattle.velo_graph.specs.Nodes.{Nodes, is_ancestor, IsSound}
 use Rattle.velo_graph.specs.Collects.{HasNothingLeft}
 use Rattle.velo_merge.specs.Named.{Bears}
-use Rattle.velo_tables.specs.Place.{Place}
+use Rattle.velo_events.specs.Place.{Place, last_at}
 use Rattle.velo_tables.specs.Kept.{Kept, entry}
-use Rattle.velo_tables.specs.Last.{last_at}
 
 -- the nodes in use, the step at each place, and how many blocks each thread has open
 pub record Watched : Type 0 where

@@ -15,7 +15,7 @@ ghost use Rattle.velo_arena.specs.Stamps.{stamps_in};
 ghost use Rattle.velo_graph.specs.Nodes.{IsSound, AddsEdges};
 ghost use Rattle.velo_graph.specs.Collects.{HasNothingLeft};
 ghost use Rattle.velo_merge.specs.Named.{Bears, live_stamps, HasFinished, IsAncestor};
-ghost use Rattle.velo_tables.specs.Place.{Place as PlaceOf, LastOf};
+ghost use Rattle.velo_events.specs.Place.{Place as PlaceOf, LastOf};
 ghost use Rattle.velo_tables.specs.Kept.{entry, steps_looked_up, HasRoomFor};
 ghost use Rattle.velo_tables.specs.Others.{accesses_but_for};
 ghost use Rattle.velo_monitor.specs.Watched.{IsMonitorOf};

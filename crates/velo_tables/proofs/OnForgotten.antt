@@ -4,10 +4,11 @@ use Rattle.std.specs.Prelude.{◌==◌, ◌&&◌, if◌then◌else◌}
 use Rattle.std.proofs.Math.ListN.{set}
 use Rattle.std.proofs.lemmas.Bool.{cases_eq, cases_lt, ne_eqb, eq-eqb}
 use Rattle.std.proofs.lemmas.List.{get_or-set_other, get_or-set_same, length-set, get_or_past, set_past}
-use Rattle.velo_tables.specs.Place.{Place, LastOf, LastWrite, LastRead, LastOn}
+use Rattle.velo_events.specs.Place.{Place, LastOf, LastWrite, LastRead, LastOn}
 use Rattle.velo_tables.specs.Kept.{Kept, Accesses, no_accesses, accesses_of, entry, is_last_read, IsReadForgotten}
 use Rattle.velo_tables.specs.Recorded.{with_read, with_variable}
-use Rattle.velo_tables.proofs.OnKept.{get_or-set, IsRoomier, HasRoomFor-kept}
+use Rattle.velo_events.proofs.OnLists.{get_or-set}
+use Rattle.velo_tables.proofs.OnKept.{IsRoomier, HasRoomFor-kept}
 
 -- what stands past the end is written nowhere
 get_or-cleared : {X : Type 0} (xs : List (Option X)) (i j : ℕ) → get_or (set xs i None) j None ≡ (if i == j then None else get_or xs j None)

@@ -15,10 +15,9 @@ use Rattle.velo_events.proofs.OnOwners.{is_open_at-thread, newest-open, newest-o
 use Rattle.velo_events.proofs.OnGraphs.{Path-map, Leads-trans, Reaches-trans, newest, HasCycle-from_push}
 use Rattle.velo_events.proofs.OnHappening.{HappensBefore-lt, IsFrom-last, IsFrom-before, IsFrom-reaches, ConflictsInOrder-append}
 use Rattle.velo_events.proofs.OnReaching.{IsPredecessor, IsPredecessor-edge, ReachesBy, Reaches-push, Reaches-old, Reaches-by, HasCycle-push_predecessor, HasCycle-from_on}
-use Rattle.velo_tables.specs.Place.{Place, LastOf, looked_up, is_recorded}
-use Rattle.velo_tables.specs.Last.{last_at}
-use Rattle.velo_tables.proofs.OnLast.{last_at-within, last_position-at}
-use Rattle.velo_tables.proofs.OnLookUps.{IsReached, last_of-own, looked_up-conflicts, reached-from_conflict}
+use Rattle.velo_events.specs.Place.{Place, LastOf, looked_up, is_recorded, last_at}
+use Rattle.velo_events.proofs.OnLast.{last_at-within, last_position-at}
+use Rattle.velo_events.proofs.OnLookUps.{IsReached, last_of-own, looked_up-conflicts, reached-from_conflict}
 
 -- the transaction x, another than the event's, has the last event of a place that the event looks up
 pub record IsFound (trace : List Event) (e : Event) (x : ℕ) : Type 0 where

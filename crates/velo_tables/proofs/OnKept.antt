@@ -11,20 +11,13 @@ use Rattle.velo_events.specs.declared.event.Kind.{Kind}
 use Rattle.velo_events.specs.declared.event.ThreadId.{ThreadId}
 use Rattle.velo_events.specs.declared.event.Kind.TheVariants.{Read, Write, Acquire, Release, Begin, End, Fork, Join, Exit}
 use Rattle.velo_events.specs.Event.{thread_of}
-use Rattle.velo_tables.specs.Place.{Place, LastOf, LastWrite, LastRead, LastOn, is_recorded}
-use Rattle.velo_tables.specs.Readers.{filled_up}
+use Rattle.velo_events.specs.Place.{Place, LastOf, LastWrite, LastRead, LastOn, is_recorded}
+use Rattle.velo_events.specs.Growth.{filled_up}
 use Rattle.velo_tables.specs.Kept.{Kept, Accesses, no_accesses, accesses_of, entry, HasRoomFor, HasRoomBeside, HasRoomToRead, IsRecorded, IsUnchanged}
 use Rattle.velo_tables.specs.Recorded.{with_write, with_read, with_reads_of, with_thread, with_variable, kept_after, kept_after_beside}
-use Rattle.velo_tables.proofs.OnReaders.{get_or-filled_up, length-filled_up}
-
--- ---- one list after a write
-
-pub get_or-set : {X : Type 0} (xs : List X) (i j : ℕ) (v d : X) → i < length xs → get_or (set xs i v) j d ≡ (if i == j then v else get_or xs j d)
-get_or-set xs i j v d within =
-    ⊎_elim
-    (λ at. ap (λ k. get_or (set xs i v) k d) (sym at) ∙ (get_or-set_same xs i v d within ∙ ap (λ b. if b then v else get_or xs j d) (sym (eq-eqb i j at))))
-    (λ off. get_or-set_other xs i j v d (λ e. off (sym e)) ∙ ap (λ b. if b then v else get_or xs j d) (sym (ne_eqb i j off)))
-    (cases_eq i j)
+use Rattle.velo_events.proofs.OnLists.{get_or-set}
+use Rattle.velo_events.proofs.OnResults.{from_either, OnOk-weaker}
+use Rattle.velo_events.proofs.OnFilling.{get_or-filled_up, length-filled_up}
 
 or_false : {X : Type 0} (b : Bool) (v w : X) → (if b then v else w) ≡ (if b || false then v else w)
 or_false true v w = refl
@@ -283,22 +276,6 @@ IsUnchanged-same : (kept : Kept) → IsUnchanged kept kept
 IsUnchanged-same kept = record { each = λ p. refl; room = λ e h. h }
 
 -- ---- the answers of calls that make room
-
-pub from_either : {A E : Type 0} (r : Result A E) (P Q R : Type 0) → OnOk r P → OnErr r Q → (P → R) → (Q → R) → R
-from_either (Ok x) P Q R ok err p q = p ok
-from_either (Err x) P Q R ok err p q = q err
-
-pub OnOk-weaker : {A E : Type 0} (r : Result A E) (P Q : Type 0) → OnOk r P → (P → Q) → OnOk r Q
-OnOk-weaker (Ok x) P Q ok p = p ok
-OnOk-weaker (Err x) P Q ok p = tt
-
-pub OnErr-from : {A E : Type 0} (r : Result A E) (P : Type 0) → P → OnErr r P
-OnErr-from (Ok x) P p = tt
-OnErr-from (Err e) P p = p
-
-pub OnErr-weaker : {A E : Type 0} (r : Result A E) (P Q : Type 0) → OnErr r P → (P → Q) → OnErr r Q
-OnErr-weaker (Ok x) P Q err q = tt
-OnErr-weaker (Err x) P Q err q = q err
 
 module _ {A E : Type 0} (r : Result A E) (kept : Kept) where
   pub variables_grown : (number : ℕ) (after : List Accesses) → OnOk r (after ≡ filled_up no_accesses (number + 1) kept.variables) → OnErr r (after ≡ kept.variables) → IsUnchanged kept (with_variables kept after)

@@ -5,7 +5,7 @@ use Rattle.std.specs.List.{filter_map, cons_option}
 use Rattle.std.proofs.lemmas.List.{get_or_past}
 use Rattle.std.specs.Option.{option_to_list}
 use Rattle.velo_arena.specs.declared.step.Step.{Step}
-use Rattle.velo_tables.specs.Place.{LastWrite, LastRead, thread_numbers}
+use Rattle.velo_events.specs.Place.{LastWrite, LastRead, thread_numbers}
 use Rattle.velo_tables.specs.Readers.{AreReaders}
 use Rattle.velo_tables.specs.Kept.{Kept, entry, accesses_of, no_accesses}
 use Rattle.velo_tables.specs.Others.{but_for, steps_of}

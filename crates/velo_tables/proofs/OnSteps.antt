@@ -8,9 +8,9 @@ use Rattle.velo_events.specs.declared.event.Event.{Event}
 use Rattle.velo_events.specs.declared.event.Kind.{Kind}
 use Rattle.velo_events.specs.declared.event.Kind.TheVariants.{Read, Write, Acquire, Release, Begin, End, Fork, Join, Exit}
 use Rattle.velo_events.specs.WellFormed.{NamesKnown, MayFollow}
-use Rattle.velo_tables.specs.Place.{Place, looked_up}
+use Rattle.velo_events.specs.Place.{Place, looked_up, last_at}
 use Rattle.velo_tables.specs.Kept.{Kept, entry, steps_looked_up, OthersKnown, HasItsThreads}
-use Rattle.velo_tables.specs.Last.{last_at, HasLastSteps}
+use Rattle.velo_tables.specs.Last.{HasLastSteps}
 use Rattle.velo_tables.proofs.OnLast.{HasLastSteps-at, HasLastSteps-step}
 
 -- ---- what is in a list of those that have an image

@@ -8,11 +8,13 @@ use Rattle.std.proofs.lemmas.List.{ext_get_or, get_or-set_same, get_or-set_other
 use Rattle.velo_arena.specs.declared.step.Step.{Step}
 use Rattle.velo_tables.specs.declared.variables.Reads.{Reads}
 use Rattle.velo_tables.specs.declared.variables.Variable.{Variable}
-use Rattle.velo_tables.specs.Readers.{filled_up, AreReaders}
+use Rattle.velo_events.specs.Growth.{filled_up}
+use Rattle.velo_tables.specs.Readers.{AreReaders}
 use Rattle.velo_tables.specs.Kept.{Accesses, no_accesses}
 use Rattle.velo_tables.specs.Recorded.{with_write, with_read, with_reads_of}
 use Rattle.velo_tables.specs.Variables.{reads_in, accesses_in, blank_variable, AreApart, place_of, AreReadsLaidOut}
-use Rattle.velo_tables.proofs.OnReaders.{get_or-filled_up, length-filled_up, filled_up-long, AreReaders-filled_up}
+use Rattle.velo_events.proofs.OnFilling.{get_or-filled_up, length-filled_up, filled_up-long}
+use Rattle.velo_tables.proofs.OnReaders.{AreReaders-filled_up}
 
 abbrev Entries : Type 0
 Entries = List (Option Step)

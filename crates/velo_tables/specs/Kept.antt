@@ -7,7 +7,7 @@ use Rattle.velo_events.specs.declared.event.Event.{Event}
 use Rattle.velo_events.specs.declared.event.Kind.{Kind}
 use Rattle.velo_events.specs.declared.event.Kind.TheVariants.{Read, Write, Acquire, Release, Fork}
 use Rattle.velo_events.specs.Event.{thread_of}
-use Rattle.velo_tables.specs.Place.{Place, LastOf, LastWrite, LastRead, LastOn, looked_up, is_recorded}
+use Rattle.velo_events.specs.Place.{Place, LastOf, LastWrite, LastRead, LastOn, looked_up, is_recorded}
 
 -- what is kept of one variable: its last write, and its last read by each thread for which there is room
 pub record Accesses : Type 0 where

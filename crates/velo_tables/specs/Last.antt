@@ -1,19 +1,10 @@
--- The last event of a trace at each place, and the tables that a trace leaves.
-use Rattle.std.specs.Prelude.{◌≡◌, ℕ, suc, Bool, List, [], ◌∷◌, length, Option, Some, None, option_map, slice_index_or, if◌then◌else◌}
-use Rattle.std.specs.Option.{option_or, option_map_or}
+-- The tables that a trace leaves.
+use Rattle.std.specs.Prelude.{◌≡◌, List, length, Option, None, slice_index_or}
+use Rattle.std.specs.Option.{option_map_or}
 use Rattle.velo_arena.specs.declared.step.Step.{Step}
 use Rattle.velo_events.specs.declared.event.Event.{Event}
-use Rattle.velo_tables.specs.Place.{Place, is_recorded}
+use Rattle.velo_events.specs.Place.{Place, last_at}
 use Rattle.velo_tables.specs.Kept.{Kept, entry}
-
--- the position of the last event that passes the test
-unfoldable pub last_position : (Event → Bool) → List Event → Option ℕ
-last_position test [] = None
-last_position test (e ∷ es) = option_or (option_map suc (last_position test es)) (if test e then Some 0 else None)
-
--- the position of the last event that is recorded at the place
-abbrev pub last_at : Place → List Event → Option ℕ
-last_at p trace = last_position (λ e. is_recorded e p) trace
 
 -- The tables stand for the trace, whose event at each position was recorded with the step, or none, that is given for it:
 -- each place has the step of its last event.

@@ -1,15 +1,7 @@
 pub mod Entry
-pub mod Place
 pub mod Readers
-pub mod NumberRows
 pub mod Kept
 pub mod Others
 pub mod Variables
 pub mod Recorded
 pub mod Last
-pub mod Clocks
-pub mod Noted
-pub mod Order
-pub mod Epochs
-pub mod Reads
-pub mod Places

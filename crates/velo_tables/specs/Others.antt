@@ -3,7 +3,7 @@ use Rattle.std.specs.Prelude.{ℕ, ◌==◌, List, ◌++◌, ◌∷◌, Option, 
 use Rattle.std.specs.List.{filter_map}
 use Rattle.std.specs.Option.{option_to_list}
 use Rattle.velo_arena.specs.declared.step.Step.{Step}
-use Rattle.velo_tables.specs.Place.{LastWrite, LastRead, thread_numbers}
+use Rattle.velo_events.specs.Place.{LastWrite, LastRead, thread_numbers}
 use Rattle.velo_tables.specs.Kept.{Kept, Accesses, entry}
 
 -- the step, unless it is of the slot that is left out

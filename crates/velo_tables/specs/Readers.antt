@@ -1,11 +1,7 @@
 -- Which threads have a read of a variable: one bit of a number for each. Private contracts cite these words.
-use Rattle.std.specs.Prelude.{◌≡◌, ℕ, ◌-◌, ◌≤◌, List, ◌++◌, Option, None, length, slice_index_or, replicate}
+use Rattle.std.specs.Prelude.{◌≡◌, ℕ, ◌≤◌, List, Option, None, length, slice_index_or}
 use Rattle.std.specs.Int.{bit_at}
 use Rattle.velo_events.specs.declared.limits.TheConstants.{MOST_THREADS}
-
--- the list, filled up with blanks until it has n elements
-unfoldable pub filled_up : {X : Type 0} → X → ℕ → List X → List X
-filled_up blank n xs = xs ++ replicate (n - length xs) blank
 
 -- there is at most one entry for each thread of a run, and each that is filled has its bit
 pub record AreReaders {X : Type 0} (readers : ℕ) (reads : List (Option X)) : Type 0 where

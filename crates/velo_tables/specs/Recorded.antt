@@ -5,7 +5,7 @@ use Rattle.velo_events.specs.declared.event.Event.{Event}
 use Rattle.velo_events.specs.declared.event.Kind.{Kind}
 use Rattle.velo_events.specs.declared.event.Kind.TheVariants.{Read, Write, Acquire, Release, Fork}
 use Rattle.velo_events.specs.Event.{thread_of}
-use Rattle.velo_tables.specs.Readers.{filled_up}
+use Rattle.velo_events.specs.Growth.{filled_up}
 use Rattle.velo_tables.specs.Kept.{Kept, Accesses, accesses_of}
 
 abbrev pub with_write : Accesses → Option Step → Accesses

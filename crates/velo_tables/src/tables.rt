@@ -5,21 +5,20 @@ ghost use Rattle.std.specs.Option.{option_to_list};
 ghost use Rattle.smallvec.specs.SmallVec.{HasRoomFor as HasSpace};
 ghost use Rattle.velo_events.specs.declared.limits.TheConstants.{MOST_THREADS};
 ghost use Rattle.velo_tables.specs.declared.tables.TheConstants.{MOST_PREDECESSORS};
-ghost use Rattle.velo_tables.specs.Place.{LastOf, LastWrite, LastRead, LastOn, thread_numbers};
-ghost use Rattle.velo_tables.specs.Readers.{filled_up};
+ghost use Rattle.velo_events.specs.Place.{LastOf, LastWrite, LastRead, LastOn, thread_numbers};
+ghost use Rattle.velo_events.specs.Growth.{filled_up};
 ghost use Rattle.velo_tables.specs.Kept.{entry, no_accesses, steps_looked_up, HasItsThreads, HasRoomFor, HasRoomToRead, HasRoomBeside, CoverReaders, IsBlank, IsUnchanged, IsRecorded, IsReadForgotten, accesses_of};
 ghost use Rattle.velo_tables.specs.Others.{but_for, accesses_but_for};
 ghost use Rattle.velo_events.specs.Event.{thread_of, is_write};
 ghost use Rattle.velo_tables.specs.Recorded.{kept_after, kept_after_beside, with_variable, with_read, with_reads_of};
 
 use crate::entry::{Entry, entry_at};
-use crate::filling::fill_up_to;
 use crate::variables::{Variables, push_step};
 use smallvec::SmallVec;
 use std::alloc::Global;
 use std::marker::Model;
 use velo_arena::Step;
-use velo_events::growth::resize;
+use velo_events::growth::{fill_up_to, resize};
 use velo_events::{Config, Event, Kind, LockId, MOST_THREADS, Memory, ThreadId, VarId};
 
 /// The most steps that an event looks up: of its thread, of the last write, and of a read by each thread.

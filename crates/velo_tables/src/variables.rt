@@ -5,21 +5,21 @@ ghost use Rattle.std.specs.Option.{option_to_list};
 ghost use Rattle.smallvec.specs.SmallVec.{HasRoomFor};
 ghost use Rattle.velo_events.specs.declared.limits.TheConstants.{MOST_THREADS};
 ghost use Rattle.velo_arena.specs.declared.step.Step.{Step as StepOf};
-ghost use Rattle.velo_tables.specs.Place.{thread_numbers};
-ghost use Rattle.velo_tables.specs.Readers.{AreReaders, filled_up};
+ghost use Rattle.velo_events.specs.Place.{thread_numbers};
+ghost use Rattle.velo_tables.specs.Readers.{AreReaders};
+ghost use Rattle.velo_events.specs.Growth.{filled_up};
 ghost use Rattle.velo_tables.specs.Kept.{no_accesses};
 ghost use Rattle.velo_tables.specs.Others.{but_for, steps_of};
 ghost use Rattle.velo_tables.specs.Variables.{reads_in};
 ghost use Rattle.velo_tables.specs.Recorded.{with_write, with_read, with_reads_of};
 
 use crate::entry::{Entry, entry_at};
-use crate::filling::fill_up_to;
 use crate::tables::MOST_PREDECESSORS;
 use smallvec::SmallVec;
 use std::alloc::Global;
 use std::marker::Model;
 use velo_arena::Step;
-use velo_events::growth::reserve;
+use velo_events::growth::{fill_up_to, reserve};
 use velo_events::{Memory, ThreadId, VarId};
 
 /// Where the last reads of one variable stand among those of all.

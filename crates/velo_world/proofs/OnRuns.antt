@@ -11,11 +11,11 @@ use Rattle.velo_events.specs.Graph.{HasCycle}
 use Rattle.velo_events.proofs.OnGraphs.{IsClosing-unique, HasCycle-from_closing}
 use Rattle.velo_events.specs.Merge.{GetsNew}
 use Rattle.velo_arena.specs.Slots.{Slots, used_in, limit_of}
-use Rattle.velo_tables.specs.Clocks.{AreClocksOf, AreClocksSince}
-use Rattle.velo_tables.specs.Noted.{HasRoomToNote, IsOfThreads}
-use Rattle.velo_tables.specs.Place.{Place, looked_up}
+use Rattle.velo_clocks.specs.Clocks.{AreClocksOf, AreClocksSince}
+use Rattle.velo_clocks.specs.Noted.{HasRoomToNote, IsOfThreads}
+use Rattle.velo_events.specs.Place.{Place, looked_up}
 use Rattle.velo_tables.specs.Kept.{Kept, entry, steps_looked_up, HasRoomFor}
-use Rattle.velo_tables.proofs.OnThreads.{IsOfThreads-follows}
+use Rattle.velo_clocks.proofs.OnThreads.{IsOfThreads-follows}
 use Rattle.velo_graph.specs.Nodes.{Nodes}
 use Rattle.velo_merge.specs.Named.{live_stamps, HasFinished, IsAncestor}
 use Rattle.velo_monitor.specs.Watched.{Watched, IsMonitorOf}

@@ -6,9 +6,9 @@ use Rattle.velo_events.specs.declared.limits.TheConstants.{MOST_EVENTS}
 use Rattle.velo_events.specs.WellFormed.{MayFollow}
 use Rattle.velo_heap.specs.Contents.{bounds_of, IsHeapOf}
 use Rattle.velo_arena.specs.Slots.{used_in, limit_of}
-use Rattle.velo_tables.specs.Clocks.{AreClocksOf}
+use Rattle.velo_clocks.specs.Clocks.{AreClocksOf}
 use Rattle.velo_tables.specs.Kept.{HasRoomFor}
-use Rattle.velo_tables.specs.Noted.{HasRoomToNote}
+use Rattle.velo_clocks.specs.Noted.{HasRoomToNote}
 use Rattle.velo_monitor.specs.Answers.{NeedsNode}
 use Rattle.velo_monitor.specs.Watched.{IsMonitorOf}
 use Rattle.velo_world.specs.World.{AlarmOf, IsAlarm}

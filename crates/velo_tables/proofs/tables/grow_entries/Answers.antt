@@ -1,6 +1,6 @@
 use Rattle.std.proofs.Common.{◌+◌, ◌∙◌, ap}
-use Rattle.velo_tables.specs.Readers.{filled_up}
-use Rattle.velo_tables.proofs.OnKept.{OnOk-weaker}
+use Rattle.velo_events.specs.Growth.{filled_up}
+use Rattle.velo_events.proofs.OnResults.{OnOk-weaker}
 use Rattle.velo_tables.proofs.tables.grow_entries.Goals as goal
 
 pub returns-clause-ok : goal.returns-clause-ok

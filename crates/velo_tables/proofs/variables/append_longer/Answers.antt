@@ -1,9 +1,9 @@
 use Rattle.std.proofs.Common.{◌++◌, [], ◌∷◌, take, get_or, sym, ap, ◌∙◌, arith}
 use Rattle.std.proofs.lemmas.List.{take_more, take_all, append_assoc}
 use Rattle.std.specs.Prelude.{None}
-use Rattle.velo_tables.specs.Readers.{filled_up}
+use Rattle.velo_events.specs.Growth.{filled_up}
 use Rattle.velo_tables.specs.Variables.{reads_in}
-use Rattle.velo_tables.proofs.OnReaders.{get_or-filled_up}
+use Rattle.velo_events.proofs.OnFilling.{get_or-filled_up}
 use Rattle.velo_tables.proofs.OnVariables.{reads_in-append, length-longer}
 use Rattle.velo_tables.proofs.variables.append_longer.Goals as goal
 

@@ -1,7 +1,7 @@
 use Rattle.std.proofs.Common.{◌≡◌, [], ◌∷◌, ◌++◌, IsTrue, ◌↔◌, false, ap, ◌∙◌, subst}
 use Rattle.std.specs.Option.{option_to_list}
 use Rattle.velo_events.specs.Event.{thread_of}
-use Rattle.velo_tables.specs.Place.{LastOf}
+use Rattle.velo_events.specs.Place.{LastOf}
 use Rattle.velo_tables.specs.Kept.{entry, steps_looked_up}
 use Rattle.velo_graph.specs.Nodes.{AddsEdges}
 use Rattle.velo_monitor.specs.Watched.{Watched}

@@ -1,10 +1,10 @@
 use Rattle.std.proofs.Common.{ℕ, ◌+◌, List, Option, map, sym, ap, subst, ◌∙◌}
 use Rattle.velo_arena.specs.declared.step.Step.{Step}
 use Rattle.velo_tables.specs.declared.variables.Variable.{Variable}
-use Rattle.velo_tables.specs.Readers.{filled_up}
+use Rattle.velo_events.specs.Growth.{filled_up}
 use Rattle.velo_tables.specs.Kept.{no_accesses}
 use Rattle.velo_tables.specs.Variables.{accesses_in, AreReadsLaidOut}
-use Rattle.velo_tables.proofs.OnKept.{from_either, OnOk-weaker}
+use Rattle.velo_events.proofs.OnResults.{from_either, OnOk-weaker}
 use Rattle.velo_tables.proofs.OnVariables.{laid-filled, accesses-filled}
 use Rattle.velo_tables.proofs.variables.Variables.reserve.Goals as goal
 

@@ -1,8 +1,8 @@
 use Rattle.std.proofs.Common.{◌++◌, length, map, sym, subst, ◌∙◌, ap, arith}
 use Rattle.std.specs.Prelude.{None}
-use Rattle.velo_tables.specs.Readers.{filled_up}
+use Rattle.velo_events.specs.Growth.{filled_up}
 use Rattle.velo_tables.specs.Variables.{reads_in, accesses_in, AreReadsLaidOut}
-use Rattle.velo_tables.proofs.OnKept.{OnErr-from}
+use Rattle.velo_events.proofs.OnResults.{OnErr-from}
 use Rattle.velo_tables.proofs.OnVariables.{there, found-fits, had-room, laid-more, accesses-more}
 use Rattle.velo_tables.proofs.variables.Variables.reserve_reads.Goals as goal
 

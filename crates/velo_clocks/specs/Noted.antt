@@ -1,0 +1,127 @@
+-- What the clocks have after an event was noted, list by list. Private contracts cite these words, and public ones those of room; else public ones say it place by place.
+use Rattle.std.specs.Prelude.{◌≡◌, ℕ, Bool, ◌+◌, ◌<◌, ◌≤◌, max, List, [], ◌∷◌, length, replicate, slice_index_or, slice_set, IsTrue, ⊤}
+use Rattle.velo_events.specs.declared.event.Event.{Event}
+use Rattle.velo_events.specs.declared.event.Kind.{Kind}
+use Rattle.velo_events.specs.declared.event.Kind.TheVariants.{Read, Write, Acquire, Release, Fork, Join}
+use Rattle.velo_events.specs.Event.{thread_of}
+use Rattle.velo_clocks.specs.Clocks.{Clock, ClockState, OfLast, OfWrite, OfReads, OfLock, blank_clock, clock_at}
+
+-- ---- lists of numbers
+
+-- each number, or that of the other list, if this is greater
+unfoldable pub maxima : List ℕ → List ℕ → List ℕ
+maxima [] ys = []
+maxima (x ∷ xs) [] = x ∷ xs
+maxima (x ∷ xs) (y ∷ ys) = max x y ∷ maxima xs ys
+
+-- ---- one place
+
+-- an event of thread t with this clock stands there alone
+abbrev pub alone_at : List ℕ → ℕ → Clock
+alone_at clock t = record { known = clock; foreign = slice_set clock t 0 }
+
+-- it stands there beside the others
+abbrev pub joint_at : Clock → List ℕ → ℕ → Clock
+joint_at old clock t = record { known = maxima old.known clock; foreign = slice_set (maxima old.foreign clock) t (slice_index_or old.foreign t 0) }
+
+-- what the list has room for stays, with nothing known
+abbrev pub nothing_in : List ℕ → List ℕ
+nothing_in numbers = replicate (length numbers) 0
+
+-- nothing stands there any more
+abbrev pub cleared_at : Clock → Clock
+cleared_at old = record { known = nothing_in old.known; foreign = nothing_in old.known }
+
+-- ---- some places, by number
+
+-- the place has a number for each of n threads
+pub record HasRoomAt (n : ℕ) (places : List Clock) (i : ℕ) : Type 0 where
+  pub known : length (slice_index_or places i blank_clock).known ≡ n
+  pub foreign : length (slice_index_or places i blank_clock).foreign ≡ n
+
+-- no place has more
+pub record AreWithin (n : ℕ) (places : List Clock) : Type 0 where
+  pub known : (i : ℕ) → length (slice_index_or places i blank_clock).known ≤ n
+  pub foreign : (i : ℕ) → length (slice_index_or places i blank_clock).foreign ≤ n
+
+-- no number is changed
+pub record KeepNumbers (old new : List Clock) : Type 0 where
+  pub known : (i u : ℕ) → slice_index_or (slice_index_or new i blank_clock).known u 0 ≡ slice_index_or (slice_index_or old i blank_clock).known u 0
+  pub foreign : (i u : ℕ) → slice_index_or (slice_index_or new i blank_clock).foreign u 0 ≡ slice_index_or (slice_index_or old i blank_clock).foreign u 0
+
+-- ---- all places
+
+-- each of the n threads has a number for each, and no place more
+pub record IsSized (n : ℕ) (s : ClockState) : Type 0 where
+  pub count : length s.threads ≡ n
+  pub each : (t : ℕ) → t < n → HasRoomAt n s.threads t
+  pub threads : AreWithin n s.threads
+  pub writes : AreWithin n s.writes
+  pub reads : AreWithin n s.reads
+  pub locks : AreWithin n s.locks
+
+-- a thread that the operation forks is one of the n
+abbrev pub ForksOneOf : ℕ → Kind → Type 0
+ForksOneOf n (Fork u) = u.0 < n
+ForksOneOf n _ = ⊤
+
+-- the thread of the event, and one that it forks, are among the n
+pub record IsOfThreads (n : ℕ) (e : Event) : Type 0 where
+  pub own : thread_of e < n
+  pub forked : ForksOneOf n e.kind
+
+-- there is room for what the operation notes beside the last of its own thread
+abbrev pub HasRoomToNoteBeside : ℕ → ClockState → Kind → Type 0
+HasRoomToNoteBeside n s (Read x v) = HasRoomAt n s.reads x.0
+HasRoomToNoteBeside n s (Write x v) = HasRoomAt n s.writes x.0
+HasRoomToNoteBeside n s (Acquire m) = HasRoomAt n s.locks m.0
+HasRoomToNoteBeside n s (Release m) = HasRoomAt n s.locks m.0
+HasRoomToNoteBeside n s (Fork u) = u.0 < n
+HasRoomToNoteBeside n s _ = ⊤
+
+-- there is room for all that the event notes
+pub record HasRoomToNote (n : ℕ) (s : ClockState) (e : Event) : Type 0 where
+  pub own : thread_of e < n
+  pub beside : HasRoomToNoteBeside n s e.kind
+  pub spare : IsTrue s.has_spare
+
+-- what an operation joins to the clock of its thread's last event
+abbrev pub clock_beside : ClockState → Kind → List ℕ → List ℕ
+clock_beside s (Read x v) clock = maxima clock (clock_at s (OfWrite x.0)).known
+clock_beside s (Write x v) clock = maxima (maxima clock (clock_at s (OfWrite x.0)).known) (clock_at s (OfReads x.0)).known
+clock_beside s (Acquire m) clock = maxima clock (clock_at s (OfLock m.0)).known
+clock_beside s (Release m) clock = maxima clock (clock_at s (OfLock m.0)).known
+clock_beside s (Join u) clock = maxima clock (clock_at s (OfLast u.0)).known
+clock_beside s _ clock = clock
+
+-- the clock of the event at the position
+unfoldable pub joined_clock : ClockState → ℕ → Event → List ℕ
+joined_clock s position e = slice_set (clock_beside s e.kind (clock_at s (OfLast (thread_of e))).known) (thread_of e) (position + 1)
+
+abbrev pub with_thread : ClockState → ℕ → Clock → ClockState
+with_thread s t c = record { threads = slice_set s.threads t c; writes = s.writes; reads = s.reads; locks = s.locks; has_spare = s.has_spare }
+
+abbrev pub with_write : ClockState → ℕ → Clock → ClockState
+with_write s x c = record { threads = s.threads; writes = slice_set s.writes x c; reads = s.reads; locks = s.locks; has_spare = s.has_spare }
+
+abbrev pub with_reads : ClockState → ℕ → Clock → ClockState
+with_reads s x c = record { threads = s.threads; writes = s.writes; reads = slice_set s.reads x c; locks = s.locks; has_spare = s.has_spare }
+
+abbrev pub with_lock : ClockState → ℕ → Clock → ClockState
+with_lock s m c = record { threads = s.threads; writes = s.writes; reads = s.reads; locks = slice_set s.locks m c; has_spare = s.has_spare }
+
+-- after what the operation of thread t with this clock notes beside the last of t
+abbrev pub state_after_beside : ClockState → ℕ → Kind → List ℕ → ClockState
+state_after_beside s t (Read x v) clock = with_reads s x.0 (joint_at (clock_at s (OfReads x.0)) clock t)
+state_after_beside s t (Write x v) clock = with_reads (with_write s x.0 (alone_at clock t)) x.0 (cleared_at (clock_at s (OfReads x.0)))
+state_after_beside s t (Acquire m) clock = with_lock s m.0 (alone_at clock t)
+state_after_beside s t (Release m) clock = with_lock s m.0 (alone_at clock t)
+state_after_beside s t (Fork u) clock = with_thread s u.0 (alone_at clock t)
+state_after_beside s t _ clock = s
+
+unfoldable pub state_after : ClockState → List ℕ → Event → ClockState
+state_after s clock e = state_after_beside (with_thread s (thread_of e) (alone_at clock (thread_of e))) (thread_of e) e.kind clock
+
+-- whether there is room for the next event is another matter
+abbrev pub with_spare : Bool → ClockState → ClockState
+with_spare b s = record { threads = s.threads; writes = s.writes; reads = s.reads; locks = s.locks; has_spare = b }

@@ -1,0 +1,397 @@
+ghost use Rattle.velo_events.specs.Refusals.{GrowthRefused};
+ghost use Rattle.std.specs.Prelude.{◌≡◌, ◌<◌, ◌≤◌, ◌+◌, ◌^◌, ℕ, true, false, [], length, slice_index_or, slice_set, None, IsTrue, IsFalse, IfOk, OnOk, OnErr};
+ghost use Rattle.velo_events.specs.Event.{thread_of, forked_by};
+ghost use Rattle.velo_clocks.specs.Clocks.{ClockPlace, blank_clock, clock_at, OfLast, blame_bound, KnowsNothing, KnowsTheSame};
+ghost use Rattle.velo_clocks.specs.Noted.{clock_beside, joined_clock, state_after_beside, state_after, with_spare, HasRoomToNoteBeside, HasRoomToNote, IsOfThreads};
+ghost use Rattle.velo_clocks.specs.Order.{KnowsOwn, KeepsOrder, KnowsBeside, IsAhead};
+ghost use Rattle.velo_clocks.specs.Epochs.{clock_in, alones_in, has_spare, AreRows, IsInUse};
+ghost use Rattle.velo_clocks.specs.Reads.{has_lists, FollowsOwn};
+ghost use Rattle.velo_clocks.specs.Places.{state_of, is_ready, ArePlaces, KeepsPlaces};
+
+use crate::epochs::Epoch;
+use crate::read_clocks::ReadClocks;
+use crate::shared_rows::SharedRows;
+use std::alloc::Global;
+use velo_events::growth::{fill_up_to, filled};
+use velo_events::{Event, Kind, Memory, ThreadId};
+
+/// What is known at the places of a run, by number: by the last event of each thread and lock and the last write of each
+/// variable, and by the reads since then.
+///
+/// An event that learns nothing shares the row of its thread's last event, so that what it knows is written down by one epoch.
+#[derive(Debug, Drop)]
+pub(crate) struct PlaceClocks {
+    pub rows: SharedRows,
+    pub threads: Vec<Epoch>,
+    pub writes: Vec<Epoch>,
+    pub reads: ReadClocks,
+    pub locks: Vec<Epoch>,
+}
+
+impl PlaceClocks {
+    /// Places of that many threads, at which nothing is known.
+    pub fn new(alloc: Global, threads: usize) -> Result<PlaceClocks, Memory>
+        ensures places { IfOk result (ArePlaces threads) }
+        ensures blank { IfOk result (λ places. KnowsNothing (state_of places)) }
+        ensures memory { OnErr result GrowthRefused }
+    {
+        let rows = SharedRows::new(alloc, threads)?;
+        let blanks = filled(alloc, Epoch::blank(), threads)?;
+        Ok(PlaceClocks {
+            rows,
+            threads: blanks,
+            writes: Vec::new(alloc),
+            reads: ReadClocks::new(alloc),
+            locks: Vec::new(alloc),
+        })
+    }
+
+    /// Whether there is room for what the event notes already.
+    #[inline(always)]
+    pub fn has_room_for(&self, event: &Event) -> bool
+        ensures { (threads : ℕ) → ArePlaces threads self.now → IsTrue result → IsOfThreads threads event.now → HasRoomToNote threads (state_of self.now) event.now }
+    {
+        self.rows.has_spare() && self.reads.has_lists() && self.has_room_beside(event)
+    }
+
+    /// Whether there is at the places beside the last of the event's thread.
+    #[inline(always)]
+    fn has_room_beside(&self, event: &Event) -> bool
+        ensures { (threads : ℕ) → ArePlaces threads self.now → IsTrue result → IsOfThreads threads event.now → HasRoomToNoteBeside threads (state_of self.now) event.now.kind }
+    {
+        match event.kind {
+            Kind::Read(x, _) => (x.0 as usize) < self.reads.count(),
+            Kind::Write(x, _) => (x.0 as usize) < self.writes.len(),
+            Kind::Acquire(m) | Kind::Release(m) => (m.0 as usize) < self.locks.len(),
+            _ => true,
+        }
+    }
+
+    /// Makes room for what the event notes.
+    #[inline]
+    pub fn reserve_for(&mut self, event: &Event, threads: usize) -> Result<(), Memory>
+        requires { ArePlaces threads self.old }
+        ensures places { ArePlaces threads self.new }
+        ensures unchanged { KnowsTheSame (state_of self.old) (state_of self.new) }
+        ensures ok { OnOk result (IsOfThreads threads event.now → HasRoomToNote threads (state_of self.new) event.now) }
+        ensures err { OnErr result (¬ HasRoomToNote threads (state_of self.old) event.now) }
+        ensures memory { OnErr result GrowthRefused }
+    {
+        self.reserve_beside(event, threads)?;
+        self.reserve_lists(threads)?;
+        self.reserve_row(threads)
+    }
+
+    /// Makes room at the places beside the last of the event's thread.
+    fn reserve_beside(&mut self, event: &Event, threads: usize) -> Result<(), Memory>
+        requires { ArePlaces threads self.old }
+        ensures places { ArePlaces threads self.new }
+        ensures unchanged { KnowsTheSame (state_of self.old) (state_of self.new) }
+        ensures rows { self.new.rows ≡ self.old.rows }
+        ensures lists { has_lists self.new.reads ≡ has_lists self.old.reads }
+        ensures ok { OnOk result (IsOfThreads threads event.now → HasRoomToNoteBeside threads (state_of self.new) event.now.kind) }
+        ensures err { OnErr result (0 < threads → ¬ HasRoomToNoteBeside threads (state_of self.old) event.now.kind) }
+        ensures memory { OnErr result GrowthRefused }
+    {
+        match event.kind {
+            Kind::Read(x, _) => self.reads.reserve(x.0 as usize),
+            Kind::Write(x, _) => fill_up_to(&mut self.writes, x.0 as usize, Epoch::blank()),
+            Kind::Acquire(m) | Kind::Release(m) => {
+                fill_up_to(&mut self.locks, m.0 as usize, Epoch::blank())
+            }
+            _ => Ok(()),
+        }
+    }
+
+    /// Makes lists for one more place at which several threads read.
+    #[inline]
+    fn reserve_lists(&mut self, threads: usize) -> Result<(), Memory>
+        requires { ArePlaces threads self.old }
+        ensures places { ArePlaces threads self.new }
+        ensures kept { state_of self.new ≡ with_spare (is_ready self.new) (state_of self.old) }
+        ensures rows { self.new.rows ≡ self.old.rows }
+        ensures ok { OnOk result (has_lists self.new.reads ≡ true) }
+        ensures err { OnErr result (has_lists self.old.reads ≡ false) }
+        ensures memory { OnErr result GrowthRefused }
+    {
+        if self.reads.has_lists() {
+            return Ok(());
+        }
+        self.reads.reserve_lists(&self.rows, threads)
+    }
+
+    /// Makes room for what the next event knows.
+    #[inline]
+    fn reserve_row(&mut self, threads: usize) -> Result<(), Memory>
+        requires { ArePlaces threads self.old }
+        ensures places { ArePlaces threads self.new }
+        ensures kept { KeepsPlaces self.old self.new }
+        ensures ok { OnOk result (has_spare self.new.rows ≡ true) }
+        ensures err { OnErr result (has_spare self.old.rows ≡ false) }
+        ensures memory { OnErr result GrowthRefused }
+    {
+        if self.rows.has_spare() {
+            return Ok(());
+        }
+        self.find_row(threads)
+    }
+
+    /// Finds a row that is not in use, or makes one. Rows are released only where there are more than twice as many as places,
+    /// so that at least half of them come free.
+    #[inline(never)]
+    fn find_row(&mut self, threads: usize) -> Result<(), Memory>
+        requires { ArePlaces threads self.old }
+        ensures places { ArePlaces threads self.new }
+        ensures kept { KeepsPlaces self.old self.new }
+        ensures ok { OnOk result (has_spare self.new.rows ≡ true) }
+        ensures memory { OnErr result GrowthRefused }
+    {
+        self.rows.seek();
+        if self.rows.has_spare() {
+            return Ok(());
+        }
+        if self.rows.count() / 2 <= self.most_epochs() {
+            return self.rows.append(threads);
+        }
+        self.release_rows(threads);
+        self.rows.seek();
+        if self.rows.has_spare() {
+            return Ok(());
+        }
+        self.rows.append(threads)
+    }
+
+    /// No more epochs than this stand for events.
+    fn most_epochs(&self) -> usize {
+        self.threads
+            .len()
+            .saturating_add(self.writes.len())
+            .saturating_add(self.reads.count())
+            .saturating_add(self.locks.len())
+    }
+
+    /// Only the rows of epochs that stand at places are in use.
+    fn release_rows(&mut self, threads: usize)
+        requires { ArePlaces threads self.old }
+        ensures places { ArePlaces threads self.new }
+        ensures rows { self.new.rows.rows ≡ self.old.rows.rows }
+        ensures kept { KeepsPlaces self.old self.new }
+    {
+        self.rows.release(threads);
+        self.rows.keep_epochs(&self.threads);
+        self.rows.keep_epochs(&self.writes);
+        self.rows.keep_epochs(&self.locks);
+        self.reads.keep_rows(&mut self.rows);
+    }
+
+    /// Whether the places were in order and the event at the position keeps them so: it is later than all, and no thread is
+    /// forked after its first event.
+    #[inline]
+    pub fn stay_in_order(&self, in_order: bool, latest: u32, position: u32, event: &Event) -> bool
+        ensures were { IsTrue result → IsTrue in_order }
+        ensures keeps { IsTrue result → KeepsOrder (state_of self.now) latest position event.now }
+    {
+        if !in_order || position < latest {
+            return false;
+        }
+        match event.kind {
+            Kind::Fork(u) => self.rows.known(Epoch::at(&self.threads, u.0 as usize), u) == 0,
+            _ => true,
+        }
+    }
+
+    /// Notes the event at the position if it learns nothing, so that it shares the row of its thread's last event. Where it may
+    /// learn something, and where it forks or joins, nothing is noted.
+    #[inline(always)]
+    pub fn share(&mut self, position: u32, event: &Event, threads: usize) -> bool
+        requires places { ArePlaces threads self.old }
+        requires room { HasRoomToNote threads (state_of self.old) event.now }
+        requires fits { position + 1 < 2 ^ 32 }
+        requires ahead { IsAhead (state_of self.old) position }
+        ensures places { ArePlaces threads self.new }
+        ensures forks_none { IsTrue result → forked_by event.now.kind ≡ None }
+        ensures noted { IsTrue result → state_of self.new ≡ with_spare (is_ready self.new) (state_after (state_of self.old) (joined_clock (state_of self.old) position event.now) event.now) }
+        ensures same { IsFalse result → self.new ≡ self.old }
+    {
+        let t = event.thread.0 as usize;
+        let own = self.threads[t];
+        if own.by.0 != event.thread.0 {
+            return false;
+        }
+        if !self.share_beside(event, own, position + 1, threads) {
+            return false;
+        }
+        self.threads[t].number = position + 1;
+        true
+    }
+
+    /// The places beside know what the event does, which shares the row of the last of its thread, if it learns nothing there.
+    #[inline(always)]
+    fn share_beside(&mut self, event: &Event, own: Epoch, number: u32, threads: usize) -> bool
+        requires places { ArePlaces threads self.old }
+        requires beside { HasRoomToNoteBeside threads (state_of self.old) event.now.kind }
+        requires by { own.by.0 < threads }
+        requires in_use { IsInUse self.old.rows own.row }
+        requires lists { has_lists self.old.reads ≡ true }
+        requires own { (p : ClockPlace) → KnowsOwn (clock_at (state_of self.old) p) own.by.0 (clock_in self.old.rows.rows own) }
+        requires follows { FollowsOwn self.old.rows self.old.reads (record { by = own.by; number = number; row = own.row }) }
+        ensures places { ArePlaces threads self.new }
+        ensures rows { self.new.rows ≡ self.old.rows }
+        ensures threads { self.new.threads ≡ self.old.threads }
+        ensures known { IsTrue result → KnowsBeside (state_of self.old) event.now.kind (clock_in self.old.rows.rows own) }
+        ensures forks_none { IsTrue result → forked_by event.now.kind ≡ None }
+        ensures noted { IsTrue result → state_of self.new
+            ≡ with_spare (is_ready self.new) (state_after_beside (state_of self.old) own.by.0 event.now.kind (clock_in self.old.rows.rows (record { by = own.by; number = number; row = own.row }))) }
+        ensures same { IsFalse result → self.new ≡ self.old }
+    {
+        let epoch = Epoch {
+            by: own.by,
+            number,
+            row: own.row,
+        };
+        match event.kind {
+            Kind::Read(x, _) => {
+                let x = x.0 as usize;
+                if x < self.writes.len() && !self.rows.knows(own, self.writes[x]) {
+                    return false;
+                }
+                self.reads.add(&self.rows, x, epoch, threads, true);
+            }
+            Kind::Write(x, _) => {
+                let x = x.0 as usize;
+                if !self.rows.knows(own, self.writes[x]) {
+                    return false;
+                }
+                if !self.reads.are_known(&self.rows, own, x) {
+                    return false;
+                }
+                self.reads.clear(x);
+                self.writes[x] = epoch;
+            }
+            Kind::Acquire(m) | Kind::Release(m) => {
+                let m = m.0 as usize;
+                if !self.rows.knows(own, self.locks[m]) {
+                    return false;
+                }
+                self.locks[m] = epoch;
+            }
+            Kind::Fork(_) | Kind::Join(_) => return false,
+            Kind::Begin(_) | Kind::End | Kind::Exit => {}
+        }
+        true
+    }
+
+    /// Notes the event at the position. The list is for what it needs to write down.
+    #[inline]
+    pub fn note(&mut self, clock: &mut [u32], position: u32, event: &Event, in_order: bool)
+        requires places { ArePlaces (length clock.old) self.old }
+        requires room { HasRoomToNote (length clock.old) (state_of self.old) event.now }
+        requires fits { position + 1 < 2 ^ 32 }
+        requires ahead { IsTrue in_order → IsAhead (state_of self.old) position }
+        ensures places { ArePlaces (length clock.old) self.new }
+        ensures noted { state_of self.new ≡ with_spare (is_ready self.new) (state_after (state_of self.old) (joined_clock (state_of self.old) position event.now) event.now) }
+    {
+        let row = self.row_of(clock, event);
+        let epoch = Epoch {
+            by: event.thread,
+            number: position + 1,
+            row,
+        };
+        self.threads[event.thread.0 as usize] = epoch;
+        self.spread(event, epoch, clock.len(), in_order);
+    }
+
+    /// The row of what the event knows of other threads.
+    fn row_of(&mut self, clock: &mut [u32], event: &Event) -> usize
+        requires places { ArePlaces (length clock.old) self.old }
+        requires room { HasRoomToNote (length clock.old) (state_of self.old) event.now }
+        ensures places { ArePlaces (length clock.old) self.new }
+        ensures kept { KeepsPlaces self.old self.new }
+        ensures in_use { IsInUse self.new.rows result }
+        ensures row { (x : ℕ) → slice_set (slice_index_or self.new.rows.rows result []) (thread_of event.now) x
+            ≡ slice_set (clock_beside (state_of self.old) event.now.kind (clock_at (state_of self.old) (OfLast (thread_of event.now))).known) (thread_of event.now) x }
+    {
+        let own = self.threads[event.thread.0 as usize];
+        self.learn_beside(clock, own, event);
+        self.rows.store(clock)
+    }
+
+    /// Writes down what is known by an event and by those at the places beside.
+    fn learn_beside(&self, clock: &mut [u32], own: Epoch, event: &Event)
+        requires places { ArePlaces (length clock.old) self.now }
+        requires in_use { IsInUse self.now.rows own.row }
+        ensures { clock.new ≡ clock_beside (state_of self.now) event.now.kind (clock_in self.now.rows.rows own) }
+    {
+        self.rows.copy_clock(own, clock);
+        match event.kind {
+            Kind::Read(x, _) => self
+                .rows
+                .raise_clock(Epoch::at(&self.writes, x.0 as usize), clock),
+            Kind::Write(x, _) => {
+                self.rows
+                    .raise_clock(Epoch::at(&self.writes, x.0 as usize), clock);
+                self.reads.raise_clock(&self.rows, x.0 as usize, clock);
+            }
+            Kind::Acquire(m) | Kind::Release(m) => {
+                self.rows
+                    .raise_clock(Epoch::at(&self.locks, m.0 as usize), clock);
+            }
+            Kind::Join(u) => self
+                .rows
+                .raise_clock(Epoch::at(&self.threads, u.0 as usize), clock),
+            _ => {}
+        }
+    }
+
+    /// The places beside know what the event does.
+    #[inline]
+    fn spread(&mut self, event: &Event, epoch: Epoch, threads: usize, in_order: bool)
+        requires places { ArePlaces threads self.old }
+        requires beside { HasRoomToNoteBeside threads (state_of self.old) event.now.kind }
+        requires by { epoch.by.0 < threads }
+        requires in_use { IsInUse self.old.rows epoch.row }
+        requires lists { has_lists self.old.reads ≡ true }
+        requires follows { IsTrue in_order → FollowsOwn self.old.rows self.old.reads epoch }
+        ensures places { ArePlaces threads self.new }
+        ensures rows { self.new.rows ≡ self.old.rows }
+        ensures noted { state_of self.new ≡ with_spare (is_ready self.new) (state_after_beside (state_of self.old) epoch.by.0 event.now.kind (clock_in self.old.rows.rows epoch)) }
+    {
+        match event.kind {
+            Kind::Read(x, _) => self
+                .reads
+                .add(&self.rows, x.0 as usize, epoch, threads, in_order),
+            Kind::Write(x, _) => {
+                self.writes[x.0 as usize] = epoch;
+                self.reads.clear(x.0 as usize);
+            }
+            Kind::Acquire(m) | Kind::Release(m) => self.locks[m.0 as usize] = epoch,
+            Kind::Fork(u) => self.threads[u.0 as usize] = epoch,
+            _ => {}
+        }
+    }
+
+    /// The open blocks of the event's thread that begin below it are to blame.
+    pub fn bound(&self, event: &Event) -> usize
+        ensures { (threads : ℕ) → ArePlaces threads self.now → result ≡ blame_bound (state_of self.now) event.now }
+    {
+        let t = event.thread;
+        match event.kind {
+            Kind::Read(x, _) => self.foreign_in(&self.writes, x.0 as usize, t),
+            Kind::Write(x, _) => {
+                let writes = self.foreign_in(&self.writes, x.0 as usize, t);
+                let reads = self.reads.foreign(&self.rows, x.0 as usize, t);
+                writes.max(reads as usize)
+            }
+            Kind::Acquire(m) | Kind::Release(m) => self.foreign_in(&self.locks, m.0 as usize, t),
+            Kind::Join(u) => self.foreign_in(&self.threads, u.0 as usize, t),
+            _ => 0,
+        }
+    }
+
+    /// How far the event at the place with this number knows the thread, if it is of another.
+    fn foreign_in(&self, epochs: &[Epoch], number: usize, t: ThreadId) -> usize
+        ensures { (threads : ℕ) → AreRows threads self.now.rows → result ≡ slice_index_or (slice_index_or (alones_in self.now.rows.rows epochs.now) number blank_clock).foreign t.0 0 }
+    {
+        self.rows.foreign(Epoch::at(epochs, number), t) as usize
+    }
+}
