@@ -146,13 +146,18 @@ fn fault_in_steps(alloc: Global, text: &[u8], step: usize) -> Option<LogFault> {
     read_log(alloc, &mut Bytes::new(text).in_steps(step)).err()
 }
 
-/// The first text in which, read whole or byte by byte, something else is found.
-fn first_other<'a>(alloc: Global, cases: &[Case<'a>]) -> Option<&'a str> {
-    for (text, fault) in cases {
-        for step in [1, usize::MAX] {
-            if fault_in_steps(alloc, text.as_bytes(), step) != *fault {
-                return Some(*text);
-            }
+/// Whether the fault is found in the text, read whole and byte by byte.
+fn is_found(alloc: Global, text: &str, fault: Option<LogFault>) -> bool {
+    fault_in_steps(alloc, text.as_bytes(), 1) == fault
+        && fault_in_steps(alloc, text.as_bytes(), usize::MAX) == fault
+}
+
+/// The first case in which something else is found.
+fn first_other(alloc: Global, cases: &[Case]) -> Option<usize> {
+    for i in 0..cases.len() {
+        let (text, fault) = cases[i];
+        if !is_found(alloc, text, fault) {
+            return Some(i);
         }
     }
     None

@@ -1,5 +1,5 @@
 -- What the tables keep at each place: after an event was recorded, after room was made, and in the order of a look-up.
-use Rattle.std.proofs.Common.{◌≡◌, ℕ, ◌+◌, ◌<◌, ◌≤◌, Bool, true, false, List, length, get_or, Option, None, Result, Ok, Err, refl, sym, ap, ◌∙◌, subst, arith, ⊎_elim, max}
+use Rattle.std.proofs.Common.{◌≡◌, ℕ, ◌+◌, ◌<◌, ◌≤◌, Bool, true, false, List, length, get_or, Option, None, Result, refl, sym, ap, ◌∙◌, subst, arith, ⊎_elim, max}
 use Rattle.std.specs.Prelude.{OnOk, OnErr}
 use Rattle.std.specs.Prelude.{◌==◌, ◌||◌, ◌&&◌, if◌then◌else◌}
 use Rattle.std.proofs.Math.ListN.{set}
