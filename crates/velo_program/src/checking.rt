@@ -2,7 +2,7 @@
 ghost use Rattle.std.specs.Prelude.{◌≡◌};
 ghost use Rattle.velo_program.specs.Causes.{ComesByGrowth};
 ghost use Rattle.velo_program.specs.Fate.{fate_of};
-ghost use Rattle.velo_program.specs.Program.{IsChecked};
+ghost use Rattle.velo_program.specs.Program.{DoesCheck, IsChecked};
 
 use crate::check::{CheckFault, Verdict, check_run};
 use crate::fate::Fate;
@@ -53,6 +53,7 @@ pub fn check<F: Files, O: Sink>(
     files: &F,
     out: &mut O,
 ) -> Fate
+    ensures done { DoesCheck (F.gives_at files.now) (F.fails_at files.now) (F.gives files.now) options.now (O.contents out.old) (O.contents out.new) result }
     ensures memory { ComesByGrowth result }
 {
     if is_standard_input(options.log) {

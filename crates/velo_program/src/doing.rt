@@ -1,6 +1,7 @@
 //! Each command is done, whatever the files and the output are.
 ghost use Rattle.std.specs.Prelude.{◌≡◌};
 ghost use Rattle.velo_program.specs.Causes.{AnswersWithCause};
+ghost use Rattle.velo_program.specs.Program.{Does};
 
 use crate::checking::check;
 use crate::explaining::explain_file;
@@ -23,6 +24,7 @@ pub fn do_request<R: Threads + Wait + Sync, F: Files, O: Sink>(
     files: &mut F,
     out: &mut O,
 ) -> Fate
+    ensures done { Does (F.gives_at files.old) (F.fails_at files.old) (F.gives files.old) request.now (O.contents out.old) (O.contents out.new) result }
     ensures memory { AnswersWithCause request.now result }
 {
     match request {
