@@ -15,31 +15,18 @@ use Rattle.velo_logtext.specs.declared.fault.LogFault.TheVariants as log_fault
 use Rattle.velo_traces.specs.declared.judge.Flaw.TheVariants as flaw
 use Rattle.velo_traces.specs.Flaws.{flaw_of, flaw_by}
 use Rattle.velo_world.specs.Faults.{IsRefusedAt}
-use Rattle.velo_worker.specs.declared.ending.Ending.{Ending}
 use Rattle.velo_program.specs.declared.check.Verdict.{Verdict}
 use Rattle.velo_program.specs.declared.check.Verdict.TheVariants as verdict
 use Rattle.velo_program.specs.declared.check.CheckFault.{CheckFault}
 use Rattle.velo_program.specs.declared.check.CheckFault.TheVariants as check_fault
 use Rattle.velo_program.specs.declared.fate.Fate.{Fate}
-use Rattle.velo_program.specs.declared.fate.Fate.TheVariants as fate
-use Rattle.velo_worker.specs.Causes.{RefusedByGrowth, EndsByGrowth}
-use Rattle.velo_program.specs.Causes.{LogByGrowth, CheckByGrowth, ComesTo, TellsEnding, ComesByGrowth}
+use Rattle.velo_worker.specs.Causes.{RefusedByGrowth}
+use Rattle.velo_program.specs.Causes.{LogByGrowth, CheckByGrowth, ComesByGrowth}
 use Rattle.velo_program.specs.Check.{Checks}
 use Rattle.velo_program.specs.Fate.{fate_of}
 use Rattle.velo_program.specs.Faults.{IsFaultOfLog}
 use Rattle.velo_program.specs.Program.{IsChecked}
-
--- an ending that is so is also so
-pub ComesTo-map : {P Q : Ending → Type 0} → ((ending : Ending) → P ending → Q ending) → (f : Fate) → ComesTo P f → ComesTo Q f
-ComesTo-map to (fate.Finished ending alarm) h = to ending h
-ComesTo-map to (fate.Schedule f) h = h
-ComesTo-map to (fate.Work f) h = h
-ComesTo-map to (fate.Check f) h = h
-ComesTo-map to fate.Memory h = h
-ComesTo-map to fate.CannotOpen h = tt
-ComesTo-map to fate.ReadFailed h = tt
-ComesTo-map to fate.WriteFailed h = tt
-ComesTo-map to fate.Lost h = tt
+use Rattle.velo_program.specs.Writing.{Writing}
 
 -- ---- by what it means no event is refused for want of memory
 
@@ -65,14 +52,14 @@ of_flaw_by None false r cause is = cc
 of_flaw : (bounds : Bounds) (log : List Event) (e : Event) (r : Refusal) → flaw_of bounds log e ≡ Some (flaw.Refused r) → RefusedByGrowth r
 of_flaw bounds log e r is = of_flaw_by (refusal_of bounds log (thread_of e) e.kind) (has_its_value log e.kind) r (refusal_of-reason bounds log (thread_of e) e.kind) is
 
-of_refused : (limit nodes : ℕ) (bounds : Bounds) (log : List Event) (p : ℕ) (r : Refusal) → IsRefusedAt limit nodes bounds log p r → RefusedByGrowth r
+pub of_refused : (limit nodes : ℕ) (bounds : Bounds) (log : List Event) (p : ℕ) (r : Refusal) → IsRefusedAt limit nodes bounds log p r → RefusedByGrowth r
 of_refused limit nodes bounds log p r refused =
     ⊎_elim
     (λ first. of_flaw bounds _ first.0.event r first.0.reason)
     (λ full. ⊎_elim (λ h. rw h.0 tt) (λ h. rw h.0 tt) full.2)
     refused
 
-of_log : (f : LogFault) → (f ≡ log_fault.Memory → GrowthRefused) → LogByGrowth f
+pub of_log : (f : LogFault) → (f ≡ log_fault.Memory → GrowthRefused) → LogByGrowth f
 of_log log_fault.Memory cause = cause refl
 of_log _ cause = tt
 
@@ -93,11 +80,6 @@ of_checks limit nodes certificate read old new (Err (check_fault.Refused p r)) c
 of_checks limit nodes certificate read old new (Err check_fault.Memory) checks = checks.0
 of_checks limit nodes certificate read old new (Err _) checks = tt
 
-pub of_checked : (limit nodes : ℕ) (certificate : Bool) (read old new : Option (List ℕ)) (f : Fate) → IsChecked limit nodes certificate read old new f → ComesByGrowth f
-of_checked limit nodes certificate read old new f checked =
-    rw checked.told (of_checks limit nodes certificate read old new checked.answer checked.checks)
-
--- ---- of a replay
-
-pub of_told : (ending : Ending) (f : Fate) → EndsByGrowth ending → TellsEnding ending f → ComesByGrowth f
-of_told ending f cause tells = ComesTo-map (λ told same. rw same cause) f tells
+pub of_checked : (limit nodes : ℕ) (certificate : Bool) (read : Option (List ℕ)) (out : Writing) (f : Fate) → IsChecked limit nodes certificate read out f → ComesByGrowth f
+of_checked limit nodes certificate read out f checked =
+    rw checked.told (of_checks limit nodes certificate read out.old out.new checked.answer checked.checks)

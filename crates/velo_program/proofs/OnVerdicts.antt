@@ -156,6 +156,20 @@ module _ (names : Names) (w : WorldState) (list : List ℕ) (certifies : IsOrder
 
 -- ---- the order or the cycle
 
+-- before the first closing event there is no cycle
+pub no_cycle_before : (log : List Event) (p : ℕ) → IsClosing log p → ¬ HasCycle (take p log)
+no_cycle_before log p closing = before p refl
+  where
+    no_edge : (cycle : List ℕ) → IsCycle (Edge []) cycle → ⊥
+    no_edge [] h = h
+    no_edge (a ∷ []) h = h
+    no_edge (a ∷ b ∷ []) h = (let l = h.0.in_trace in omega (arith, l))
+    no_edge (a ∷ b ∷ c ∷ cs) h = (let l = h.0.in_trace in omega (arith, l))
+
+    before : (q : ℕ) → q ≡ p → HasCycle (take q log) → ⊥
+    before zero at c = no_edge c.cycle c.is_cycle
+    before (suc q) at c = closing.least q (omega (arith, at)) (subst (λ k. HasCycle (take k log)) (let more : suc q ≡ q + 1 = omega arith in more) c)
+
 -- at the first closing event a cycle passes the transaction
 pub closing_cycle : (log : List Event) (p : ℕ) → IsClosing log p → HasNoCycleAt log p → ⊥
 closing_cycle log p closing none = around (HasCycle-push before e.0 (subst HasCycle next closing.closes))
@@ -181,21 +195,11 @@ closing_cycle log p closing none = around (HasCycle-push before e.0 (subst HasCy
         ∙ (owner-append (take (p + 1) log) (drop (p + 1) log) p (let l = closing.in_trace in omega (arith, l, length-take (p + 1) log))
         ∙ (ap (λ (xs : List Event). owner xs p) next ∙ ap (owner (before ++ e.0 ∷ [])) (let l = closing.in_trace in let here : p ≡ length before = omega (arith, l, length-take p log) in here)))
 
-    cycle_before : (q : ℕ) → q ≡ p → HasCycle (take q log) → ⊥
-    cycle_before zero at c = no_edge c.cycle c.is_cycle
-      where
-        no_edge : (cycle : List ℕ) → IsCycle (Edge []) cycle → ⊥
-        no_edge [] h = h
-        no_edge (a ∷ []) h = h
-        no_edge (a ∷ b ∷ []) h = (let l = h.0.in_trace in omega (arith, l))
-        no_edge (a ∷ b ∷ c ∷ cs) h = (let l = h.0.in_trace in omega (arith, l))
-    cycle_before (suc q) at c = closing.least q (omega (arith, at)) (subst (λ k. HasCycle (take k log)) (let more : suc q ≡ q + 1 = omega arith in more) c)
-
     makes : (x : ℕ) → Leads (Edge before) n x → New x n → ⊥
     makes x there edge =
         let made = IsCycle-by New n x (there.0, Path-map (Edge before) New (Edge-append before (e.0 ∷ [])) n there.0 x there.1) ([], edge) in
         none.none made.0 (subst (λ (xs : List Event). IsCycle (Edge xs) made.0) (sym next) made.1) (subst (Contains made.0) (sym is_n) made.2)
 
     around : HasCycle before ⊎ ((x : ℕ) × Reaches (Edge before) n x × New x n) → ⊥
-    around (inl c) = cycle_before p refl c
+    around (inl c) = no_cycle_before log p closing c
     around (inr w) = ⊎_elim (λ at. w.2.differ (sym at)) (λ there. makes w.0 there w.2) w.1

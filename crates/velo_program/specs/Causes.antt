@@ -1,5 +1,5 @@
 -- Why the program comes to want of memory.
-use Rattle.std.specs.Prelude.{◌≡◌, ⊤}
+use Rattle.std.specs.Prelude.{⊤}
 use Rattle.velo_events.specs.Refusals.{GrowthRefused}
 use Rattle.velo_logtext.specs.declared.fault.LogFault.{LogFault}
 use Rattle.velo_logtext.specs.declared.fault.LogFault.TheVariants as log_fault
@@ -46,14 +46,6 @@ ComesTo EndsSo (fate.Work f) = WorkByGrowth f
 ComesTo EndsSo (fate.Check f) = CheckByGrowth f
 ComesTo EndsSo fate.Memory = GrowthRefused
 ComesTo EndsSo f = ⊤
-
--- it comes to no ending
-abbrev pub Fails : Fate → Type 0
-Fails f = ComesTo (λ ending. ⊥) f
-
--- it comes to this ending, or fails behind it
-abbrev pub TellsEnding : Ending → Fate → Type 0
-TellsEnding ended f = ComesTo (λ ending. ending ≡ ended) f
 
 -- want of memory stands behind a refused growth; that of a live run may stand behind the refused start of a thread
 abbrev pub ComesWithCause : Fate → Type 0

@@ -1,5 +1,11 @@
 pub mod Causes
 pub mod Check
+pub mod Explaining
 pub mod Fate
 pub mod Faults
+pub mod Paths
+pub mod Playing
 pub mod Program
+pub mod Reading
+pub mod Schedule
+pub mod Writing

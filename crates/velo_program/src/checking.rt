@@ -3,6 +3,7 @@ ghost use Rattle.std.specs.Prelude.{◌≡◌};
 ghost use Rattle.velo_program.specs.Causes.{ComesByGrowth};
 ghost use Rattle.velo_program.specs.Fate.{fate_of};
 ghost use Rattle.velo_program.specs.Program.{DoesCheck, IsChecked};
+ghost use Rattle.velo_program.specs.Writing.{writing};
 
 use crate::check::{CheckFault, Verdict, check_run};
 use crate::fate::Fate;
@@ -32,7 +33,7 @@ fn check_log<I: Source, O: Sink>(
     log: &mut I,
     out: &mut O,
 ) -> Fate
-    ensures checked { IsChecked options.now.limits.events options.now.limits.nodes options.now.certificate (I.remaining log.old) (O.contents out.old) (O.contents out.new) result }
+    ensures checked { IsChecked options.now.limits.events options.now.limits.nodes options.now.certificate (I.remaining log.old) (writing O.contents O.failures out.old out.new) result }
     ensures memory { ComesByGrowth result }
 {
     let answer = check_run(
@@ -53,7 +54,7 @@ pub fn check<F: Files, O: Sink>(
     files: &F,
     out: &mut O,
 ) -> Fate
-    ensures done { DoesCheck (F.gives_at files.now) (F.fails_at files.now) (F.gives files.now) options.now (O.contents out.old) (O.contents out.new) result }
+    ensures done { DoesCheck (F.gives_at files.now) (F.fails_at files.now) (F.gives files.now) options.now (writing O.contents O.failures out.old out.new) result }
     ensures memory { ComesByGrowth result }
 {
     if is_standard_input(options.log) {

@@ -2,6 +2,7 @@
 ghost use Rattle.std.specs.Prelude.{◌≡◌};
 ghost use Rattle.velo_program.specs.Causes.{AnswersWithCause};
 ghost use Rattle.velo_program.specs.Program.{Does};
+ghost use Rattle.velo_program.specs.Writing.{writing};
 
 use crate::checking::check;
 use crate::explaining::explain_file;
@@ -24,7 +25,7 @@ pub fn do_request<R: Threads + Wait + Sync, F: Files, O: Sink>(
     files: &mut F,
     out: &mut O,
 ) -> Fate
-    ensures done { Does (F.gives_at files.old) (F.fails_at files.old) (F.gives files.old) request.now (O.contents out.old) (O.contents out.new) result }
+    ensures done { Does (F.gives_at files.old) (F.fails_at files.old) (F.gives files.old) request.now (writing O.contents O.failures out.old out.new) result }
     ensures memory { AnswersWithCause request.now result }
 {
     match request {

@@ -1,10 +1,11 @@
 //! `velodrome explain`.
-ghost use Rattle.std.specs.Prelude.{◌≡◌, ◌≤◌, length, Err, IfErr};
+ghost use Rattle.std.specs.Prelude.{◌≡◌, ◌≤◌, length, IfErr};
 ghost use Rattle.velo_events.specs.declared.limits.TheConstants.{MOST_EVENTS};
-ghost use Rattle.velo_events.specs.Refusals.{GrowthRefused};
 ghost use Rattle.velo_explain.specs.Evidence.{IsEvidenceAt};
-ghost use Rattle.velo_explain.specs.Faults.{out_of_memory};
-ghost use Rattle.velo_program.specs.Causes.{ComesByGrowth, Fails};
+ghost use Rattle.velo_program.specs.Causes.{ComesByGrowth};
+ghost use Rattle.velo_program.specs.Explaining.{Explains, FailsToDraw, Tells, TellsAt, TellsVerdict, fate_of_telling};
+ghost use Rattle.velo_program.specs.Program.{DoesExplain};
+ghost use Rattle.velo_program.specs.Writing.{writing};
 
 use crate::check::{CheckFault, config_of, do_log};
 use crate::fate::Fate;
@@ -21,8 +22,7 @@ use velo_world::Closed;
 
 /// What an explanation came to.
 fn fate_of(answer: Result<(), ExplainFault>, alarm: bool) -> Fate
-    requires { answer ≡ Err out_of_memory → GrowthRefused }
-    ensures memory { ComesByGrowth result }
+    ensures { result ≡ fate_of_telling answer alarm }
 {
     match answer {
         Ok(()) => Fate::Finished {
@@ -45,7 +45,7 @@ fn draw<F: Files>(
 ) -> Result<(), Fate>
     requires few { length log.now.events ≤ MOST_EVENTS }
     requires evidence { IsEvidenceAt log.now.events position evidence.now }
-    ensures memory { IfErr result Fails }
+    ensures { IfErr result (FailsToDraw (F.fails_at files.old) path.entry) }
 {
     let Some(path) = path else {
         return Ok(());
@@ -72,7 +72,7 @@ fn explain_by<F: Files, O: Sink>(
 ) -> Fate
     requires few { length log.now.events ≤ MOST_EVENTS }
     requires evidence { IsEvidenceAt log.now.events position evidence.now }
-    ensures memory { ComesByGrowth result }
+    ensures { Tells (TellsAt log.now.events position evidence.now) (F.fails_at files.old) path.entry (writing O.contents O.failures out.old out.new) result }
 {
     match draw(alloc, log, position, evidence, path, files) {
         Ok(()) => fate_of(explain(alloc, log, position, evidence, out), true),
@@ -89,7 +89,7 @@ fn explain_closed<F: Files, O: Sink>(
     out: &mut O,
 ) -> Fate
     requires { length closed.now.log ≤ MOST_EVENTS }
-    ensures memory { ComesByGrowth result }
+    ensures { Tells (TellsVerdict closed.now.log) (F.fails_at files.old) path.entry (writing O.contents O.failures out.old out.new) result }
 {
     let log = closed.log();
     let Some(alarm) = closed.alarm() else {
@@ -116,7 +116,7 @@ fn explain_log<I: Source, F: Files, O: Sink>(
     files: &mut F,
     out: &mut O,
 ) -> Fate
-    ensures memory { ComesByGrowth result }
+    ensures { Explains (I.remaining source.old) (F.fails_at files.old) path.entry (writing O.contents O.failures out.old out.new) result }
 {
     let (bounds, log) = match read_log(alloc, source) {
         Ok(read) => read,
@@ -139,6 +139,7 @@ pub fn explain_file<F: Files, O: Sink>(
     files: &mut F,
     out: &mut O,
 ) -> Fate
+    ensures done { DoesExplain (F.gives_at files.old) (F.fails_at files.old) (F.gives files.old) options.now (writing O.contents O.failures out.old out.new) result }
     ensures memory { ComesByGrowth result }
 {
     if is_standard_input(options.log) {

@@ -32,7 +32,8 @@ pub trait Files {
         ensures { gives self.now (Self.StandardInput.remaining result) };
 
     /// Opens the file at a path to be written, and empties it; none where this fails.
-    fn create(&mut self, path: &str) -> Option<&mut Self::Output>;
+    fn create(&mut self, path: &str) -> Option<&mut Self::Output>
+        ensures { IsNone result → fails_at self.old path.now };
 }
 
 /// Whether the path stands for standard input.

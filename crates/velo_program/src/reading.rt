@@ -2,6 +2,7 @@
 ghost use Rattle.std.specs.Prelude.{◌≡◌, ◌+◌, Err, IfOk, vec_len};
 ghost use Rattle.velo_events.specs.Refusals.{GrowthRefused};
 ghost use Rattle.velo_program.specs.declared.reading.ReadFault.TheVariants as read_fault;
+ghost use Rattle.velo_program.specs.Reading.{GrowsByPiece, IsReadOf};
 
 use std::alloc::Global;
 use velo_events::Memory;
@@ -23,6 +24,7 @@ pub enum ReadFault {
 /// Reads the next bytes to the end of those that are there, and answers how many.
 fn read_more<I: Source>(source: &mut I, bytes: &mut Vec<u8>) -> Result<usize, ReadFault>
     ensures grows { IfOk result (λ count. vec_len bytes.new ≡ vec_len bytes.old + count) }
+    ensures bytes { IfOk result (GrowsByPiece (I.remaining source.old) (I.remaining source.new) bytes.old.items bytes.new.items) }
     ensures memory { result ≡ Err read_fault.Memory → GrowthRefused }
 {
     let done = bytes.len();
@@ -45,6 +47,7 @@ pub fn read_whole<I: Source>(
     source: &mut I,
     most: usize,
 ) -> Result<Vec<u8>, ReadFault>
+    ensures bytes { IfOk result (λ bytes. IsReadOf most (I.remaining source.old) bytes.items) }
     ensures memory { result ≡ Err read_fault.Memory → GrowthRefused }
 {
     let mut bytes = Vec::new(alloc);

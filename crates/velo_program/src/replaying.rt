@@ -1,6 +1,9 @@
 //! `velodrome replay`.
 ghost use Rattle.std.specs.Prelude.{◌≡◌};
 ghost use Rattle.velo_program.specs.Causes.{ComesByGrowth};
+ghost use Rattle.velo_program.specs.Playing.{IsReplay, ShowsRun};
+ghost use Rattle.velo_program.specs.Program.{DoesReplay, DoesReplayBy};
+ghost use Rattle.velo_program.specs.Writing.{writing};
 
 use crate::fate::Fate;
 use crate::files::Files;
@@ -22,7 +25,7 @@ fn replay_workload<F: Files, O: Sink>(
     files: &mut F,
     out: &mut O,
 ) -> Fate
-    ensures memory { ComesByGrowth result }
+    ensures { ShowsRun (IsReplay schedule.now options.now workload.now) workload.now options.now.certificate (F.fails_at files.old) options.now.log (writing O.contents O.failures out.old out.new) result }
 {
     let config = config_of_run(workload, options);
     match replay(alloc, workload, schedule, config) {
@@ -39,7 +42,7 @@ fn replay_by<F: Files, O: Sink>(
     files: &mut F,
     out: &mut O,
 ) -> Fate
-    ensures memory { ComesByGrowth result }
+    ensures { DoesReplayBy (F.gives_at files.old) (F.fails_at files.old) (F.gives files.old) schedule.now options.now (writing O.contents O.failures out.old out.new) result }
 {
     match open_workload(alloc, options.file, files) {
         Ok(workload) => {
@@ -59,6 +62,7 @@ pub fn replay_file<F: Files, O: Sink>(
     files: &mut F,
     out: &mut O,
 ) -> Fate
+    ensures done { DoesReplay (F.gives_at files.old) (F.fails_at files.old) (F.gives files.old) options.now (writing O.contents O.failures out.old out.new) result }
     ensures memory { ComesByGrowth result }
 {
     match schedule_of(alloc, options.schedule) {

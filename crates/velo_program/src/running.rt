@@ -1,6 +1,9 @@
 //! `velodrome run`.
 ghost use Rattle.std.specs.Prelude.{◌≡◌};
 ghost use Rattle.velo_program.specs.Causes.{ComesWithCause};
+ghost use Rattle.velo_program.specs.Playing.{IsLiveRun, ShowsLiveRun};
+ghost use Rattle.velo_program.specs.Program.{DoesRun};
+ghost use Rattle.velo_program.specs.Writing.{writing};
 
 use crate::fate::Fate;
 use crate::files::Files;
@@ -22,7 +25,7 @@ fn run_workload<R: Threads + Wait + Sync, F: Files, O: Sink>(
     files: &mut F,
     out: &mut O,
 ) -> Fate
-    ensures memory { ComesWithCause result }
+    ensures { ShowsLiveRun (IsLiveRun workload.now) workload.now options.now.certificate (F.fails_at files.old) options.now.log (writing O.contents O.failures out.old out.new) result }
 {
     let config = config_of_run(workload, options);
     match live(rt, alloc, workload, config, &OpenGate) {
@@ -40,6 +43,7 @@ pub fn run_file<R: Threads + Wait + Sync, F: Files, O: Sink>(
     files: &mut F,
     out: &mut O,
 ) -> Fate
+    ensures done { DoesRun (F.gives_at files.old) (F.fails_at files.old) (F.gives files.old) options.now (writing O.contents O.failures out.old out.new) result }
     ensures memory { ComesWithCause result }
 {
     match open_workload(alloc, options.file, files) {

@@ -1,11 +1,13 @@
 //! The text of a schedule.
-ghost use Rattle.std.specs.Prelude.{◌≡◌, ◌<◌, ◌≤◌, length, Err, IfSome};
+ghost use Rattle.std.specs.Prelude.{◌≡◌, ◌≢◌, ◌<◌, ◌≤◌, ◌+◌, ◌++◌, ◌∷◌, ℕ, [], vec_len, Err, OnOk, IfOk, IfErr, IfSome, IfNone};
 ghost use Rattle.velo_events.specs.Refusals.{GrowthRefused};
+ghost use Rattle.velo_events.specs.declared.event.ThreadId.{ThreadId};
 ghost use Rattle.velo_program.specs.declared.schedule.ScheduleFault.TheVariants as schedule_fault;
+ghost use Rattle.velo_program.specs.Schedule.{IsNumberOf, IsSchedule, IsFaultOfSchedule};
 
 use std::alloc::Global;
 use velo_events::growth::reserve;
-use velo_events::{Memory, ThreadId};
+use velo_events::{MOST_THREADS, Memory, ThreadId};
 
 /// The most numbers that a schedule has.
 pub const MOST_TURNS: usize = 1_000_000;
@@ -21,7 +23,8 @@ pub enum ScheduleFault {
 
 /// The value of a digit.
 fn digit(byte: u8) -> Option<u8>
-    ensures { IfSome result (λ digit. digit ≤ 9) }
+    ensures some { IfSome result (λ digit. (digit ≤ 9) × (byte ≡ 48 + digit)) }
+    ensures none { IfNone result ((digit : ℕ) → digit ≤ 9 → byte ≢ 48 + digit) }
 {
     if byte.is_ascii_digit() {
         Some(byte - b'0')
@@ -30,25 +33,24 @@ fn digit(byte: u8) -> Option<u8>
     }
 }
 
-/// The number up to 63 that begins at a place, without a leading zero, and the place behind it.
-fn number_at(text: &[u8], at: usize) -> Option<(u8, usize)>
-    ensures { IfSome result (λ found. (found.0 ≤ 63) × (at < found.1) × (found.1 ≤ length text.now)) }
+/// The thread whose number, without leading zeros, the word is.
+fn thread_of(word: &str) -> Option<ThreadId>
+    ensures some { IfSome result (IsNumberOf word.now) }
+    ensures none { IfNone result ((thread : ThreadId) → ¬ IsNumberOf word.now thread) }
 {
-    let first = digit(*text.get(at)?)?;
-    let Some(byte) = text.get(at + 1) else {
-        return Some((first, at + 1));
+    let number = match word.as_bytes() {
+        [ones] => digit(*ones)?,
+        [tens, ones] if *tens != b'0' => 10 * digit(*tens)? + digit(*ones)?,
+        _ => return None,
     };
-    let Some(second) = digit(*byte) else {
-        return Some((first, at + 1));
-    };
-    if first == 0 || first > 6 || (first == 6 && second > 3) {
-        return None;
-    }
-    Some((first * 10 + second, at + 2))
+    (number < MOST_THREADS).then_some(ThreadId(number))
 }
 
 /// Adds a thread to a schedule.
 fn push(schedule: &mut Vec<ThreadId>, thread: ThreadId) -> Result<(), ScheduleFault>
+    ensures pushed { OnOk result (schedule.new.items ≡ schedule.old.items ++ thread ∷ []) }
+    ensures few { OnOk result (vec_len schedule.new ≤ MOST_TURNS) }
+    ensures full { result ≡ Err schedule_fault.Bad → MOST_TURNS ≤ vec_len schedule.old }
     ensures memory { result ≡ Err schedule_fault.Memory → GrowthRefused }
 {
     if schedule.len() >= MOST_TURNS {
@@ -69,23 +71,18 @@ fn push(schedule: &mut Vec<ThreadId>, thread: ThreadId) -> Result<(), ScheduleFa
 /// # Errors
 /// `Bad` for another text, `Memory` where a growth was refused.
 pub fn schedule_of(alloc: Global, text: &str) -> Result<Vec<ThreadId>, ScheduleFault>
-    ensures memory { result ≡ Err schedule_fault.Memory → GrowthRefused }
+    ensures schedule { IfOk result (λ schedule. IsSchedule text.now schedule.items) }
+    ensures fault { IfErr result (IsFaultOfSchedule text.now) }
 {
-    let text = text.as_bytes();
     let mut schedule = Vec::new(alloc);
-    let mut at = 0;
-    while at < text.len() {
-        if at > 0 {
-            if text[at] != b' ' {
-                return Err(ScheduleFault::Bad);
-            }
-            at += 1;
-        }
-        let Some((number, end)) = number_at(text, at) else {
+    if text.is_empty() {
+        return Ok(schedule);
+    }
+    for word in text.split(' ') {
+        let Some(thread) = thread_of(word) else {
             return Err(ScheduleFault::Bad);
         };
-        push(&mut schedule, ThreadId(number))?;
-        at = end;
+        push(&mut schedule, thread)?;
     }
     Ok(schedule)
 }

@@ -1,8 +1,9 @@
 //! Workloads that run: where they are read, and what their runs show.
-ghost use Rattle.std.specs.Prelude.{◌≡◌, Err, IfErr};
-ghost use Rattle.velo_events.specs.Refusals.{GrowthRefused};
-ghost use Rattle.velo_program.specs.declared.check.CheckFault.TheVariants as check_fault;
-ghost use Rattle.velo_program.specs.Causes.{Fails, TellsEnding};
+ghost use Rattle.std.specs.Prelude.{◌≡◌, true, false, Some, IfOk, IfErr};
+ghost use Rattle.velo_program.specs.Check.{IsOrderOrCycle};
+ghost use Rattle.velo_program.specs.Playing.{FailsToLog, IsConfigOf, IsEnded, IsTextOf, ShowsBy, ShowsRun, fate_of_showing, is_unreported};
+ghost use Rattle.velo_program.specs.Program.{FailsToParse, OpensNoProgram, OpensProgram};
+ghost use Rattle.velo_program.specs.Writing.{writing};
 
 use crate::check::{CheckFault, Verdict, order_or_cycle_of, write_certified, write_report};
 use crate::fate::Fate;
@@ -19,7 +20,8 @@ use velo_world::Closed;
 
 /// Reads a workload from a source.
 fn read_workload<I: Source>(alloc: Global, source: &mut I) -> Result<Workload, Fate>
-    ensures memory { IfErr result Fails }
+    ensures some { IfOk result (IsTextOf (I.remaining source.old)) }
+    ensures none { IfErr result (FailsToParse (I.remaining source.old)) }
 {
     match read_whole(alloc, source, MOST_WORKLOAD_BYTES) {
         Ok(bytes) => {
@@ -34,7 +36,8 @@ fn read_workload<I: Source>(alloc: Global, source: &mut I) -> Result<Workload, F
 
 /// The workload of a file's bytes.
 fn workload_of(alloc: Global, bytes: &[u8]) -> Result<Workload, Fate>
-    ensures memory { IfErr result Fails }
+    ensures some { IfOk result (IsTextOf (Some bytes.now)) }
+    ensures none { IfErr result (FailsToParse (Some bytes.now)) }
 {
     let text = match text_of(bytes) {
         Ok(text) => text,
@@ -48,7 +51,8 @@ fn workload_of(alloc: Global, bytes: &[u8]) -> Result<Workload, Fate>
 
 /// Reads the workload that was asked for.
 pub fn open_workload<F: Files>(alloc: Global, path: &str, files: &F) -> Result<Workload, Fate>
-    ensures memory { IfErr result Fails }
+    ensures some { IfOk result (OpensProgram (F.gives_at files.now) (F.fails_at files.now) (F.gives files.now) path.now) }
+    ensures none { IfErr result (OpensNoProgram (F.gives_at files.now) (F.fails_at files.now) (F.gives files.now) path.now) }
 {
     if is_standard_input(path) {
         return read_workload(alloc, &mut files.standard_input());
@@ -61,10 +65,7 @@ pub fn open_workload<F: Files>(alloc: Global, path: &str, files: &F) -> Result<W
 
 /// The configuration of a run of the workload.
 pub fn config_of_run(workload: &Workload, options: &RunOptions) -> Config
-    ensures bounds { result.bounds ≡ workload.now.bounds }
-    ensures events { result.events ≡ options.now.limits.events }
-    ensures nodes { result.nodes ≡ options.now.limits.nodes }
-    ensures stop { result.stop ≡ options.now.stop }
+    ensures { IsConfigOf workload.now options.now result }
 {
     let limits = options.limits;
     match Config::new(
@@ -80,7 +81,9 @@ pub fn config_of_run(workload: &Workload, options: &RunOptions) -> Config
 }
 
 /// Whether a run that ends so has no report: a growth was refused.
-fn is_unreported(ending: Ending) -> bool {
+fn is_unreported(ending: Ending) -> bool
+    ensures { result ≡ is_unreported ending }
+{
     matches!(
         ending,
         Ending::Refused(_, Refusal::Memory | Refusal::RuntimeMemory)
@@ -89,7 +92,7 @@ fn is_unreported(ending: Ending) -> bool {
 
 /// Writes the log of a run to the path, if there is one.
 fn write_out<F: Files>(closed: &Closed, path: Option<&str>, files: &mut F) -> Result<(), Fate>
-    ensures memory { IfErr result Fails }
+    ensures { IfErr result (FailsToLog (F.fails_at files.old) path.entry) }
 {
     let Some(path) = path else {
         return Ok(());
@@ -105,8 +108,7 @@ fn write_out<F: Files>(closed: &Closed, path: Option<&str>, files: &mut F) -> Re
 
 /// What the verdict of a run came to, by what writing it answered.
 fn fate_of(answer: Result<Verdict, CheckFault>, ending: Ending) -> Fate
-    requires { answer ≡ Err check_fault.Memory → GrowthRefused }
-    ensures memory { TellsEnding ending result }
+    ensures { result ≡ fate_of_showing answer ending }
 {
     match answer {
         Ok(verdict) => Fate::Finished {
@@ -115,6 +117,42 @@ fn fate_of(answer: Result<Verdict, CheckFault>, ending: Ending) -> Fate
         },
         Err(CheckFault::Memory) => Fate::Memory,
         Err(_) => Fate::WriteFailed,
+    }
+}
+
+/// Writes the log of a run to the path, if there is one, and then the report.
+fn tell_plain<F: Files, O: Sink>(
+    closed: &Closed,
+    ending: Ending,
+    names: &Names,
+    path: Option<&str>,
+    files: &mut F,
+    out: &mut O,
+) -> Fate
+    ensures { ShowsBy names.now false closed.now ending (F.fails_at files.old) path.entry (writing O.contents O.failures out.old out.new) result }
+{
+    match write_out(closed, path, files) {
+        Ok(()) => fate_of(write_report(closed, names, out), ending),
+        Err(fate) => fate,
+    }
+}
+
+/// Writes the log of a run to the path, if there is one, then the report, and then the certificate.
+fn tell_certified<F: Files, O: Sink>(
+    closed: &Closed,
+    ending: Ending,
+    names: &Names,
+    list: &[usize],
+    path: Option<&str>,
+    files: &mut F,
+    out: &mut O,
+) -> Fate
+    requires { IsOrderOrCycle closed.now.log list.now }
+    ensures { ShowsBy names.now true closed.now ending (F.fails_at files.old) path.entry (writing O.contents O.failures out.old out.new) result }
+{
+    match write_out(closed, path, files) {
+        Ok(()) => fate_of(write_certified(closed, names, list, out), ending),
+        Err(fate) => fate,
     }
 }
 
@@ -129,20 +167,14 @@ fn tell<F: Files, O: Sink>(
     files: &mut F,
     out: &mut O,
 ) -> Fate
-    ensures memory { TellsEnding ending result }
+    ensures { ShowsBy names.now options.now.certificate closed.now ending (F.fails_at files.old) options.now.log (writing O.contents O.failures out.old out.new) result }
 {
     if !options.certificate {
-        return match write_out(closed, options.log, files) {
-            Ok(()) => fate_of(write_report(closed, names, out), ending),
-            Err(fate) => fate,
-        };
+        return tell_plain(closed, ending, names, options.log, files, out);
     }
     match order_or_cycle_of(alloc, closed) {
         Ok(list) => {
-            let fate = match write_out(closed, options.log, files) {
-                Ok(()) => fate_of(write_certified(closed, names, &list, out), ending),
-                Err(fate) => fate,
-            };
+            let fate = tell_certified(closed, ending, names, &list, options.log, files, out);
             drop(list);
             fate
         }
@@ -159,7 +191,7 @@ pub fn finish_run<F: Files, O: Sink>(
     files: &mut F,
     out: &mut O,
 ) -> Fate
-    ensures memory { TellsEnding ended.1 result }
+    ensures { ShowsRun (IsEnded ended.0 ended.1) workload.now options.now.certificate (F.fails_at files.old) options.now.log (writing O.contents O.failures out.old out.new) result }
 {
     let (closed, ending) = ended;
     let fate = show_run(alloc, workload, &closed, ending, options, files, out);
@@ -177,7 +209,7 @@ fn show_run<F: Files, O: Sink>(
     files: &mut F,
     out: &mut O,
 ) -> Fate
-    ensures memory { TellsEnding ending result }
+    ensures { ShowsRun (IsEnded closed.now ending) workload.now options.now.certificate (F.fails_at files.old) options.now.log (writing O.contents O.failures out.old out.new) result }
 {
     if is_unreported(ending) {
         return Fate::Finished {

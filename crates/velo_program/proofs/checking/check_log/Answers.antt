@@ -3,5 +3,5 @@ use Rattle.velo_program.proofs.checking.check_log.Goals as goal
 
 pub returns-clause-memory : goal.returns-clause-memory
 returns-clause-memory g c =
-    of_checked _ _ _ _ _ _ c.fate_of.result
-    (record { answer = c.check_run-answer.result; checks = c.check_run-answer.ensures.answer; told = c.fate_of.ensures })
+    of_checked _ _ _ _ _ c.fate_of.result
+    (record { answer = c.check_run-answer.result; checks = c.check_run-answer.ensures.answer; written = c.check_run-answer.ensures.written; told = c.fate_of.ensures })

@@ -1,9 +1,9 @@
 use Rattle.std.proofs.Common.{◌+◌, ◌-◌}
-use Rattle.std.specs.Prelude.{⊤}
+use Rattle.std.specs.Io.KnownBytes.{Consumes}
 use Rattle.velo_program.proofs.reading.read_whole.Given as goal
 
 abbrev pub invariant-loop-source : goal.invariant-loop-source
-invariant-loop-source g l = ⊤
+invariant-loop-source g l = Consumes (g.I.Source.remaining l.fn.source) (g.I.Source.remaining l.source) l.bytes.items
 
 abbrev pub decreases-loop-source : goal.decreases-loop-source
 decreases-loop-source g l = l.most + 1 - l.bytes.len

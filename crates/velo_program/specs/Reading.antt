@@ -1,0 +1,15 @@
+-- What reading a whole file gives.
+use Rattle.std.specs.Prelude.{◌≡◌, ◌≤◌, ◌++◌, [], ⊤, ℕ, List, length, Option, Some, None}
+use Rattle.std.specs.Io.KnownBytes.{Consumes, IsAtEnd}
+
+-- the bytes are all that the source gives, where they are known; or they are more than the most that are wanted, and a beginning
+abbrev pub IsReadOf : ℕ → Option (List ℕ) → List ℕ → Type 0
+IsReadOf most None bytes = ⊤
+IsReadOf most (Some all) bytes = (rest : List ℕ) × (all ≡ bytes ++ rest) × (length bytes ≤ most → rest ≡ [])
+
+-- the bytes grew by a piece of what the source gives, of so many bytes, and of none only at its end
+pub record GrowsByPiece (before after : Option (List ℕ)) (old new : List ℕ) (count : ℕ) : Type 0 where
+  pub piece : List ℕ
+  pub grown : new ≡ old ++ piece
+  pub given : Consumes before after piece
+  pub last : count ≡ 0 → IsAtEnd after

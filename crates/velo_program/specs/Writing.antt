@@ -1,0 +1,25 @@
+-- What a command does to the sink of its output.
+use Rattle.std.specs.Prelude.{◌≡◌, ℕ, List, Option}
+use Rattle.std.specs.Io.KnownBytes.{Appends}
+use Rattle.velo_logtext.specs.Device.{AppendsBeginning, one_more}
+
+-- the bytes of a sink, where they are known, and how often it has failed, before and after
+pub record Writing : Type 0 where
+  pub old : Option (List ℕ)
+  pub new : Option (List ℕ)
+  pub before : ℕ
+  pub after : ℕ
+
+abbrev pub writing : {S : Type 0} → (S → Option (List ℕ)) → (S → ℕ) → S → S → Writing
+writing contents failures old new = record { old = contents old; new = contents new; before = failures old; after = failures new }
+
+-- the text went out
+abbrev pub Writes : Writing → List ℕ → Type 0
+Writes out text = Appends out.old out.new text × (out.after ≡ out.before)
+
+-- a beginning of it went out, up to the sink's failure
+abbrev pub BreaksOff : Writing → List ℕ → Type 0
+BreaksOff out text = AppendsBeginning out.old out.new text × (out.after ≡ one_more out.before)
+
+abbrev pub WritesNothing : Writing → Type 0
+WritesNothing out = (out.new ≡ out.old) × (out.after ≡ out.before)
