@@ -1,13 +1,12 @@
 -- How the program ends where no request is done.
-use Rattle.std.specs.Prelude.{◌≡◌, ◌⊎◌, ℕ, List, [], Option, codes}
-use Rattle.std.specs.Io.KnownBytes.{Appends}
+use Rattle.std.specs.Prelude.{◌⊎◌, ℕ, List, [], codes}
 use Rattle.clap.specs.declared.error.kind.ErrorKind.{ErrorKind}
 use Rattle.clap.specs.declared.error.kind.ErrorKind.TheVariants.{DisplayHelp, DisplayVersion, OutOfMemory}
 use Rattle.velo_events.specs.Refusals.{GrowthRefused}
-use Rattle.velo_logtext.specs.Device.{AppendsBeginning, one_more}
 use Rattle.velo_program.specs.Fate.{line_of, status_of}
 use Rattle.velo_program.specs.declared.fate.Fate.TheVariants.{WriteFailed}
 use Rattle.velo_program.specs.declared.fate.Fate.TheVariants as fate
+use Rattle.velo_program.specs.Writing.{BreaksOff, Writes, Writing}
 
 -- the status where the words are at fault
 abbrev pub bad_usage : ℕ
@@ -17,11 +16,11 @@ bad_usage = 2
 abbrev pub not_utf8 : List ℕ
 not_utf8 = codes "error: a word of the command line is not UTF-8\n"
 
--- the text went to standard output, and the end is a good one without a line; or a beginning of it did, the device failed
--- once, and the end is that of a failed write
-abbrev pub Shows : Option (List ℕ) → Option (List ℕ) → ℕ → ℕ → List ℕ → (ℕ → List ℕ → Type 0) → Type 0
-Shows old new before after text Ended = (Appends old new text × (after ≡ before) × Ended 0 [])
-    ⊎ (AppendsBeginning old new text × (after ≡ one_more before) × Ended (status_of WriteFailed) (line_of WriteFailed))
+-- the text went to standard output, and the end is a good one without a line; or it broke off, and the end is that of a
+-- failed write
+abbrev pub Shows : Writing → List ℕ → (ℕ → List ℕ → Type 0) → Type 0
+Shows out text Ended =
+    (Writes out text × Ended 0 []) ⊎ (BreaksOff out text × Ended (status_of WriteFailed) (line_of WriteFailed))
 
 -- an error of this kind was told by this text: help and the version were shown; behind any other one all else is kept as it
 -- was, and the text is the line that the program ends with. Want of memory is told otherwise
