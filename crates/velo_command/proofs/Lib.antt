@@ -1,3 +1,4 @@
 mod OnBuilding
 pub mod OnCommandLine
 mod OnAsked
+mod OnRunning

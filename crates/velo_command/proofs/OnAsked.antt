@@ -1,6 +1,6 @@
 -- What the getters of `clap` give, by the rows of the matches.
-use Rattle.std.proofs.Common.{◌≡◌, ◌∙◌, ap, sym, refl, subst, ℕ, Bool, true, false, List, Option, Some, None, Result, Ok, codes, Bor}
-use Rattle.std.specs.Prelude.{[], option_map, unwrap_or}
+use Rattle.std.proofs.Common.{◌≡◌, ◌∙◌, ap, sym, refl, subst, ℕ, Bool, true, false, List, Option, Some, None, Result, Ok, Err, codes, Bor}
+use Rattle.std.specs.Prelude.{[], IfNone, option_map, unwrap_or}
 use Rattle.std.specs.Str.Parse.{ParsesUnsigned}
 use Rattle.clap.specs.Words.{ReadsOne, Text, first_of, first_value, one_of, one_text, rows_of}
 use Rattle.clap.specs.declared.parser.matches.Found.{Found}
@@ -49,3 +49,35 @@ pub word_or_empty : (f : Found) (id : Text) (r : Option (Bor Text)) (empty word 
     → word ≡ unwrap_or r empty → empty.now ≡ [] → unwrap_or (first_of id (rows_of f)) [] ≡ word.now
 word_or_empty f id r empty word read is none =
     ap (λ (t : Option Text). unwrap_or t []) (option_read f id r read) ∙ or_empty r empty none ∙ ap (λ (s : Bor Text). s.now) (sym is)
+
+-- ---- where nothing is asked for
+
+-- what asks for nothing asks for nothing where there is no value
+pub on_none : {T X : Type 0} (r : Option T) (Asks : X → Type 0) → ((x : X) → ¬ Asks x) → IfNone r ((x : X) → ¬ Asks x)
+on_none None Asks nothing = nothing
+on_none (Some value) Asks nothing = tt
+
+-- a word that the getter does not give is none of the values
+pub no_word : (f : Found) (id : Text) (r : Option (Bor Text)) (word : Text) → option_map (λ s. s.now) r ≡ first_value f id
+    → r ≡ None → ¬ (first_of id (rows_of f) ≡ Some word)
+no_word f id r word read none given =
+    let bad : None ≡ Some word = sym (option_read f id r read ∙ ap (option_map (λ s. s.now)) none) ∙ given in
+    cc
+
+-- nor does a text write a number that the getter does not give
+pub no_number : (E : Type 0) (G : List ℕ → Result ℕ E → Type 0) (bits : ℕ) (f : Found) (id : Text) (r : Option ℕ) (n : ℕ)
+    → ((t : List ℕ) (x : Result ℕ E) → G t x → ParsesUnsigned bits 10 t x)
+    → ((t : List ℕ) → one_text f id ≡ Some t → ReadsOne G t r) → r ≡ None → ¬ WritesNumber bits (one_of id (rows_of f)) n
+no_number E G bits f id r n only value none =
+    subst (λ (t : Option Text). ¬ WritesNumber bits t n) (one_text-rows f id) (go (one_text f id) refl)
+  where
+    go : (t : Option Text) → one_text f id ≡ t → ¬ WritesNumber bits t n
+    go None e written = written
+    go (Some t) e written =
+        let read : ReadsOne G t None = rw none at (value t e) in
+        only t (Err read.0) read.1 (written.0, written.1)
+
+-- a text writes one number
+pub one_number : (bits : ℕ) (text : Option Text) (m n : ℕ) → WritesNumber bits text m → WritesNumber bits text n → m ≡ n
+one_number bits None m n first second = absurd first
+one_number bits (Some text) m n first second = first.2 ∙ sym second.2

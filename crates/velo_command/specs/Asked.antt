@@ -57,3 +57,7 @@ AsksFor (Some found) (Check options) = (found.0 ≡ codes "check") × IsCheck fo
 AsksFor (Some found) (Replay options) = (found.0 ≡ codes "replay") × IsReplay found.1 options
 AsksFor (Some found) (Run options) = (found.0 ≡ codes "run") × IsRun found.1 options
 AsksFor (Some found) (Explain options) = (found.0 ≡ codes "explain") × IsExplanation found.1 options
+
+-- no request is asked for
+abbrev pub AsksForNothing : Option (Text × List Row) → Type 0
+AsksForNothing asked = (request : Request) → ¬ AsksFor asked request

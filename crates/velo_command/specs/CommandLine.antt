@@ -1,6 +1,6 @@
 -- What the command line of the program is.
-use Rattle.std.specs.Prelude.{◌≡◌, List, [], ◌∷◌, Some, true, false, pos, codes, fold}
-use Rattle.clap.specs.Words.{App, Rule, Shape, Text, app_of, new_rule, rule_of, shape_of, with_rule}
+use Rattle.std.specs.Prelude.{◌≡◌, List, [], ◌∷◌, Option, Some, true, false, pos, codes, fold}
+use Rattle.clap.specs.Words.{App, Kinds, Row, Rule, Shape, Text, app_of, fault_of, new_rule, rule_of, shape_of, subcommand_of, with_rule}
 use Rattle.clap.specs.Simple.{new_shape}
 use Rattle.clap.specs.declared.builder.action.ArgAction.TheVariants.{Set, SetTrue}
 use Rattle.clap.specs.declared.builder.arg.Arg.{Arg}
@@ -72,6 +72,16 @@ command_line = record {
   };
   subs = check ∷ replay ∷ run ∷ explain ∷ [];
 }
+
+-- ---- what it makes of words
+
+-- the kinds of fault that the words may be refused with: none where they are right
+unfoldable pub faults_of : List Text → Kinds
+faults_of words = fault_of command_line words
+
+-- the subcommand that the words name, with the values of its arguments
+unfoldable pub asked_by : List Text → Option (Text × List Row)
+asked_by words = subcommand_of command_line words
 
 -- ---- what the code builds of these
 

@@ -1,10 +1,13 @@
 //! Growing calls of `clap`, each with the fact that its refusal leaves. No other code of this
 //! crate can show this fact.
-ghost use Rattle.std.specs.Prelude.{IfOk, OnErr};
-ghost use Rattle.clap.specs.Words.{AddsArg, AddsSubcommand};
+ghost use Rattle.std.specs.Prelude.{◌≡◌, true, map, IfErr, IfOk, OnErr};
+ghost use Rattle.clap.specs.Words.{AddsArg, AddsSubcommand, FailsBy, HasMatchesOf, app_of, fault_of, is_simple_and_free, kind_of};
+ghost use Rattle.clap.specs.declared.error.kind.ErrorKind.TheVariants.{OutOfMemory};
 ghost use Rattle.velo_events.specs.Refusals.{GrowthRefused};
 
-use clap::{Arg, Command};
+use clap::{Arg, ArgMatches, Command, Error};
+use std::alloc::Global;
+use std::convert::AsStr;
 use velo_events::Memory;
 
 /// The command with one more argument.
@@ -28,6 +31,32 @@ pub fn with_subcommand<'a>(
 {
     match command.subcommand(subcommand) {
         Ok(command) => Ok(command),
+        Err(_) => Err(Memory),
+    }
+}
+
+/// The matches of the words. An error for want of memory is a refused growth too.
+pub fn matches_of<'a, W: AsStr>(
+    command: Command<'a>,
+    words: &'a [W],
+) -> Result<ArgMatches<'a>, Error>
+    ensures ok { IfOk result (HasMatchesOf (app_of command.entry) (map W.text words.entry.now)) }
+    ensures kinds { is_simple_and_free (app_of command.entry) ≡ true
+        → FailsBy (fault_of (app_of command.entry) (map W.text words.entry.now)) result }
+    ensures memory { IfErr result (λ error. kind_of error ≡ OutOfMemory → GrowthRefused) }
+{
+    match command.try_get_matches_from(words) {
+        Ok(matches) => Ok(matches),
+        Err(error) => Err(error),
+    }
+}
+
+/// The text of an error, whole, so that it can go out in one piece.
+pub fn text_of(alloc: Global, error: &Error) -> Result<String, Memory>
+    ensures { OnErr result GrowthRefused }
+{
+    match format!(in alloc; "{error}") {
+        Ok(text) => Ok(text),
         Err(_) => Err(Memory),
     }
 }

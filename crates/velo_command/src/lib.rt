@@ -6,5 +6,6 @@ mod growth;
 pub mod help;
 mod program;
 mod requests;
+mod telling;
 
 pub use program::{end_without_words, run};

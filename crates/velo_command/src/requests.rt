@@ -1,7 +1,12 @@
 //! What the matches of the command line ask for.
-ghost use Rattle.std.specs.Prelude.{IfSome};
+ghost use Rattle.std.specs.Prelude.{IfNone, IfSome};
 ghost use Rattle.clap.specs.Words.{found_of, rows_of, subcommand_rows_of};
-ghost use Rattle.velo_command.specs.Asked.{AreLimits, AsksFor, IsCheck, IsExplanation, IsReplay, IsRun};
+ghost use Rattle.velo_program.specs.declared.request.Limits.{Limits};
+ghost use Rattle.velo_program.specs.declared.request.CheckOptions.{CheckOptions};
+ghost use Rattle.velo_program.specs.declared.request.ExplainOptions.{ExplainOptions};
+ghost use Rattle.velo_program.specs.declared.request.ReplayOptions.{ReplayOptions};
+ghost use Rattle.velo_program.specs.declared.request.RunOptions.{RunOptions};
+ghost use Rattle.velo_command.specs.Asked.{AreLimits, AsksFor, AsksForNothing, IsCheck, IsExplanation, IsReplay, IsRun};
 
 use clap::ArgMatches;
 use velo_events::{MOST_EVENTS, MOST_NODES};
@@ -9,7 +14,8 @@ use velo_program::{CheckOptions, ExplainOptions, Limits, ReplayOptions, Request,
 
 /// Reads the limits from the matches of a subcommand; none where one is out of its range.
 fn limits_of<'a>(found: &ArgMatches<'a>) -> Option<Limits>
-    ensures { IfSome result (AreLimits (rows_of (found_of found.now))) }
+    ensures some { IfSome result (AreLimits (rows_of (found_of found.now))) }
+    ensures none { IfNone result ((limits : Limits) → ¬ AreLimits (rows_of (found_of found.now)) limits) }
 {
     let events = found.get_one::<u32>("events")?;
     let nodes = found.get_one::<u16>("nodes")?;
@@ -20,7 +26,8 @@ fn limits_of<'a>(found: &ArgMatches<'a>) -> Option<Limits>
 }
 
 fn check_options<'a>(found: &ArgMatches<'a>) -> Option<CheckOptions<'a>>
-    ensures { IfSome result (IsCheck (rows_of (found_of found.now))) }
+    ensures some { IfSome result (IsCheck (rows_of (found_of found.now))) }
+    ensures none { IfNone result ((options : CheckOptions) → ¬ IsCheck (rows_of (found_of found.now)) options) }
 {
     Some(CheckOptions {
         log: found.get_str("LOG")?,
@@ -30,7 +37,8 @@ fn check_options<'a>(found: &ArgMatches<'a>) -> Option<CheckOptions<'a>>
 }
 
 fn replay_options<'a>(found: &ArgMatches<'a>) -> Option<ReplayOptions<'a>>
-    ensures { IfSome result (IsReplay (rows_of (found_of found.now))) }
+    ensures some { IfSome result (IsReplay (rows_of (found_of found.now))) }
+    ensures none { IfNone result ((options : ReplayOptions) → ¬ IsReplay (rows_of (found_of found.now)) options) }
 {
     Some(ReplayOptions {
         schedule: found.get_str("schedule").unwrap_or(""),
@@ -39,7 +47,8 @@ fn replay_options<'a>(found: &ArgMatches<'a>) -> Option<ReplayOptions<'a>>
 }
 
 fn run_options<'a>(found: &ArgMatches<'a>) -> Option<RunOptions<'a>>
-    ensures { IfSome result (IsRun (rows_of (found_of found.now))) }
+    ensures some { IfSome result (IsRun (rows_of (found_of found.now))) }
+    ensures none { IfNone result ((options : RunOptions) → ¬ IsRun (rows_of (found_of found.now)) options) }
 {
     Some(RunOptions {
         file: found.get_str("FILE")?,
@@ -51,7 +60,8 @@ fn run_options<'a>(found: &ArgMatches<'a>) -> Option<RunOptions<'a>>
 }
 
 fn explain_options<'a>(found: &ArgMatches<'a>) -> Option<ExplainOptions<'a>>
-    ensures { IfSome result (IsExplanation (rows_of (found_of found.now))) }
+    ensures some { IfSome result (IsExplanation (rows_of (found_of found.now))) }
+    ensures none { IfNone result ((options : ExplainOptions) → ¬ IsExplanation (rows_of (found_of found.now)) options) }
 {
     Some(ExplainOptions {
         log: found.get_str("LOG")?,
@@ -62,7 +72,8 @@ fn explain_options<'a>(found: &ArgMatches<'a>) -> Option<ExplainOptions<'a>>
 /// What the matches of the command ask for; none where a word is missing or a number is out of its range, which the
 /// command has refused already.
 pub fn request_of<'a>(matches: &ArgMatches<'a>) -> Option<Request<'a>>
-    ensures { IfSome result (AsksFor (subcommand_rows_of matches.now)) }
+    ensures some { IfSome result (AsksFor (subcommand_rows_of matches.now)) }
+    ensures none { IfNone result (AsksForNothing (subcommand_rows_of matches.now)) }
 {
     let (name, found) = matches.subcommand()?;
     match name {

@@ -1,11 +1,15 @@
 use Rattle.std.proofs.Common.{codes, refl}
-use Rattle.clap.specs.Words.{found_of}
-use Rattle.velo_command.proofs.OnAsked.{word_or_empty}
+use Rattle.clap.specs.Words.{found_of, rows_of}
+use Rattle.velo_command.specs.Asked.{IsReplay}
+use Rattle.velo_command.proofs.OnAsked.{on_none, word_or_empty}
 use Rattle.velo_command.proofs.requests.replay_options.Goals as goal
 
-pub returns : goal.returns
-returns c =
+pub returns-clause-some : goal.returns-clause-some
+returns-clause-some c =
     let f = found_of c.args.found.now in (
       word_or_empty f (codes "schedule") c.get_str.result _ c.unwrap_or.result c.get_str.ensures c.unwrap_or.ensures refl,
-      c.in_ok-run_options.ensures,
+      c.in_ok-run_options.ensures.some,
     )
+
+pub returns-in_err-run_options-clause-none : goal.returns-in_err-run_options-clause-none
+returns-in_err-run_options-clause-none c = on_none _ (IsReplay (rows_of (found_of c.args.found.now))) (λ options asks. c.in_err-run_options.ensures.none options.run asks.1)

@@ -1,0 +1,11 @@
+use Rattle.std.proofs.Common.{refl}
+use Rattle.velo_command.proofs.OnRunning.{runs_asked, runs_told}
+use Rattle.velo_command.proofs.program.run.Goals as goal
+
+pub returns-in-Ok-matches_of : goal.returns-in-Ok-matches_of
+returns-in-Ok-matches_of g c =
+    runs_asked _ _ _ _ _ _ _ c.in-Ok.ensures.reads c.in-Ok-matches_of.ensures.ok c.in-Ok-matches_of.ensures.kinds c.do_asked-status.ensures
+
+pub returns-in-Err-matches_of : goal.returns-in-Err-matches_of
+returns-in-Err-matches_of g c =
+    runs_told _ _ _ _ _ _ _ _ c.in-Ok.ensures.reads c.in-Err-matches_of.ensures.kinds refl c.tell_error-status.ensures

@@ -1,0 +1,76 @@
+//! What the program tells where the words of its command line ask for nothing to be done.
+ghost use Rattle.std.specs.Prelude.{◌≡◌, ◌≢◌, ◌⊎◌};
+ghost use Rattle.clap.specs.Words.{kind_of};
+ghost use Rattle.clap.specs.declared.error.kind.ErrorKind.TheVariants.{OutOfMemory};
+ghost use Rattle.velo_events.specs.Refusals.{GrowthRefused};
+ghost use Rattle.velo_program.specs.Fate.{Ends};
+ghost use Rattle.velo_program.specs.Writing.{writing};
+ghost use Rattle.velo_command.specs.Usage.{IsTold, LacksMemory, Shows, Tells, bad_usage};
+
+use crate::growth::text_of;
+use clap::Error;
+use clap::error::ErrorKind;
+use std::alloc::Global;
+use velo_events::Memory;
+use velo_logtext::{Sink, write_all};
+use velo_program::{DEVICE_FAILED, Fate, end_with};
+
+/// The status of a fault of usage.
+pub const BAD_USAGE: u8 = 2;
+
+/// Tells an error of the words: help on the one sink, a fault of usage on the other. Answers the status to end with.
+pub fn tell_error<O: Sink, E: Sink>(alloc: Global, error: &Error, out: &mut O, err: &mut E) -> u8
+    requires { kind_of error.now ≡ OutOfMemory → GrowthRefused }
+    ensures { IsTold (kind_of error.now)
+        (Shows (writing O.contents O.failures out.old out.new))
+        (out.new ≡ out.old)
+        (λ status text. Ends status text (E.contents err.old) (E.contents err.new) (E.failures err.old) (E.failures err.new) result)
+        ⊎ LacksMemory (out.new ≡ out.old)
+        (λ status text. Ends status text (E.contents err.old) (E.contents err.new) (E.failures err.old) (E.failures err.new) result) }
+{
+    if error.kind() == ErrorKind::OutOfMemory {
+        return end_with(&Fate::Memory, err);
+    }
+    let text = match text_of(alloc, error) {
+        Ok(text) => text,
+        Err(Memory) => return end_with(&Fate::Memory, err),
+    };
+    let status = tell_text(error.kind(), text.as_bytes(), out, err);
+    drop(text);
+    status
+}
+
+/// Tells an error of this kind by its text.
+fn tell_text<O: Sink, E: Sink>(kind: ErrorKind, text: &[u8], out: &mut O, err: &mut E) -> u8
+    ensures { kind ≢ OutOfMemory → Tells kind
+        (Shows (writing O.contents O.failures out.old out.new))
+        (out.new ≡ out.old)
+        (λ status text. Ends status text (E.contents err.old) (E.contents err.new) (E.failures err.old) (E.failures err.new) result)
+        text.now }
+{
+    match kind {
+        ErrorKind::DisplayHelp | ErrorKind::DisplayVersion => show_help(text, out, err),
+        _ => tell_fault(text, err),
+    }
+}
+
+/// Shows help, or tells that it could not be written.
+fn show_help<O: Sink, E: Sink>(text: &[u8], out: &mut O, err: &mut E) -> u8
+    ensures { Shows (writing O.contents O.failures out.old out.new) text.now
+        (λ status text. Ends status text (E.contents err.old) (E.contents err.new) (E.failures err.old) (E.failures err.new) result) }
+{
+    match write_all(out, text) {
+        Ok(()) => 0,
+        Err(_) => end_with(&Fate::WriteFailed, err),
+    }
+}
+
+/// Tells a fault of usage. Where this fails there is no other place to tell it.
+pub fn tell_fault<E: Sink>(text: &[u8], err: &mut E) -> u8
+    ensures { Ends bad_usage text.now (E.contents err.old) (E.contents err.new) (E.failures err.old) (E.failures err.new) result }
+{
+    match write_all(err, text) {
+        Ok(()) => BAD_USAGE,
+        Err(_) => DEVICE_FAILED,
+    }
+}
