@@ -2,3 +2,4 @@ mod OnBuilding
 pub mod OnCommandLine
 mod OnAsked
 mod OnRunning
+mod OnWords

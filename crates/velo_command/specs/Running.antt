@@ -22,6 +22,7 @@ pub record IsUnasked (asked : Option (Text × List Row)) (Kept : Type 0) (Ended 
   pub kept : Kept
   pub ended : Ended bad_usage []
 
+-- what was asked for was done, or nothing was asked for
 abbrev pub DoesAsked : Option (Text × List Row) → (Request → Fate → Type 0) → Type 0 → (ℕ → List ℕ → Type 0) → Type 0
 DoesAsked asked Done Kept Ended = IsDone asked Done Ended ⊎ IsUnasked asked Kept Ended
 

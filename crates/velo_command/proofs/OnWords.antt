@@ -1,0 +1,107 @@
+-- What some command lines ask for, and why others ask for nothing: by computing.
+use Rattle.std.proofs.Common.{◌≡◌, ◌∷◌, [], refl, sym, ap, codes, true, false, List, rules}
+use Rattle.std.specs.Prelude.{Some, None, option_map}
+use Rattle.clap.specs.Faults.{defaults_fault, walk_fault}
+use Rattle.clap.specs.Walk.{walked}
+use Rattle.clap.specs.Words.{Text}
+use Rattle.clap.specs.declared.error.kind.ErrorKind.TheVariants.{DisplayHelp, DisplayVersion, InvalidSubcommand, MissingRequiredArgument, MissingSubcommand, UnknownArgument, ValueValidation}
+use Rattle.velo_program.specs.declared.request.CheckOptions.{CheckOptions}
+use Rattle.velo_program.specs.declared.request.ExplainOptions.{ExplainOptions}
+use Rattle.velo_program.specs.declared.request.ReplayOptions.{ReplayOptions}
+use Rattle.velo_program.specs.declared.request.RunOptions.{RunOptions}
+use Rattle.velo_program.specs.declared.request.Request.TheVariants.{Check, Explain, Replay, Run}
+use Rattle.velo_command.specs.Asked.{AsksFor}
+use Rattle.velo_command.specs.CommandLine.{asked_by, faults_of}
+
+-- ---- right words
+
+-- a log alone, with the limits that are there by default
+abbrev check_words : List Text
+check_words = codes "velodrome" ∷ codes "check" ∷ codes "a" ∷ []
+
+check_is_right : faults_of check_words ≡ []
+unfolding faults_of walk_fault walked defaults_fault
+check_is_right = refl
+
+check_asks : (options : CheckOptions) → options.log.now ≡ codes "a" → options.limits.events ≡ 1048576 → options.limits.nodes ≡ 1024 → options.certificate ≡ false
+    → AsksFor (asked_by check_words) (Check options)
+unfolding asked_by walked
+check_asks options log events nodes certificate = (refl, (ap Some (sym log), search rules, search rules))
+
+-- a workload with all options
+abbrev run_words : List Text
+run_words = codes "velodrome" ∷ codes "run" ∷ codes "--events=5" ∷ codes "w" ∷ codes "--nodes" ∷ codes "+2" ∷ codes "--log" ∷ codes "o" ∷ codes "--stop" ∷ codes "--certificate" ∷ []
+
+run_is_right : faults_of run_words ≡ []
+unfolding faults_of walk_fault walked defaults_fault
+run_is_right = refl
+
+run_asks : (options : RunOptions) → options.file.now ≡ codes "w" → options.stop ≡ true → option_map (λ path. path.now) options.log ≡ Some (codes "o")
+    → options.limits.events ≡ 5 → options.limits.nodes ≡ 2 → options.certificate ≡ true → AsksFor (asked_by run_words) (Run options)
+unfolding asked_by walked
+run_asks options file stop log events nodes certificate = (refl, (ap Some (sym file), search rules, sym log, search rules, search rules))
+
+-- a schedule is one word, and none is the empty one
+abbrev replay_words : List Text
+replay_words = codes "velodrome" ∷ codes "replay" ∷ codes "-" ∷ codes "--schedule" ∷ codes "0 1" ∷ []
+
+replay_is_right : faults_of replay_words ≡ []
+unfolding faults_of walk_fault walked defaults_fault
+replay_is_right = refl
+
+replay_asks : (options : ReplayOptions) → options.schedule.now ≡ codes "0 1" → options.run.file.now ≡ codes "-" → options.run.stop ≡ false → options.run.log ≡ None
+    → options.run.limits.events ≡ 1048576 → options.run.limits.nodes ≡ 1024 → options.run.certificate ≡ false
+    → AsksFor (asked_by replay_words) (Replay options)
+unfolding asked_by walked
+replay_asks options schedule file stop log events nodes certificate = (
+  refl,
+  (sym schedule, (ap Some (sym file), search rules, ap (option_map (λ path. path.now)) (sym log), search rules, search rules)),
+)
+
+-- a log and a picture
+abbrev explain_words : List Text
+explain_words = codes "velodrome" ∷ codes "explain" ∷ codes "a" ∷ codes "--dot" ∷ codes "p" ∷ []
+
+explain_is_right : faults_of explain_words ≡ []
+unfolding faults_of walk_fault walked defaults_fault
+explain_is_right = refl
+
+explain_asks : (options : ExplainOptions) → options.log.now ≡ codes "a" → option_map (λ path. path.now) options.dot ≡ Some (codes "p")
+    → AsksFor (asked_by explain_words) (Explain options)
+unfolding asked_by walked
+explain_asks options log dot = (refl, (ap Some (sym log), sym dot))
+
+-- ---- wrong words, and words that ask for help
+
+no_subcommand : faults_of (codes "velodrome" ∷ []) ≡ MissingSubcommand ∷ []
+unfolding faults_of walk_fault walked defaults_fault
+no_subcommand = refl
+
+no_such_subcommand : faults_of (codes "velodrome" ∷ codes "race" ∷ []) ≡ UnknownArgument ∷ InvalidSubcommand ∷ []
+unfolding faults_of walk_fault walked defaults_fault
+no_such_subcommand = refl
+
+no_log : faults_of (codes "velodrome" ∷ codes "check" ∷ []) ≡ MissingRequiredArgument ∷ []
+unfolding faults_of walk_fault walked defaults_fault
+no_log = refl
+
+no_such_option : faults_of (codes "velodrome" ∷ codes "check" ∷ codes "a" ∷ codes "--stop" ∷ []) ≡ UnknownArgument ∷ []
+unfolding faults_of walk_fault walked defaults_fault
+no_such_option = refl
+
+too_many_nodes : faults_of (codes "velodrome" ∷ codes "check" ∷ codes "a" ∷ codes "--nodes" ∷ codes "4097" ∷ []) ≡ ValueValidation ∷ []
+unfolding faults_of walk_fault walked defaults_fault
+too_many_nodes = refl
+
+help : faults_of (codes "velodrome" ∷ codes "check" ∷ codes "--help" ∷ []) ≡ DisplayHelp ∷ []
+unfolding faults_of walk_fault walked defaults_fault
+help = refl
+
+-- help on a subcommand, if there is one of this name
+help_on_a_subcommand : faults_of (codes "velodrome" ∷ codes "help" ∷ codes "check" ∷ []) ≡ DisplayHelp ∷ InvalidSubcommand ∷ []
+unfolding faults_of walk_fault walked defaults_fault
+help_on_a_subcommand = refl
+
+version : faults_of (codes "velodrome" ∷ codes "--version" ∷ []) ≡ DisplayVersion ∷ []
+unfolding faults_of walk_fault walked defaults_fault
+version = refl
