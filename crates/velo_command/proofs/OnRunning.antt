@@ -8,7 +8,7 @@ use Rattle.velo_program.specs.declared.fate.Fate.{Fate}
 use Rattle.velo_program.specs.declared.request.Request.{Request}
 use Rattle.velo_command.specs.CommandLine.{asked_by, command_line, faults_of}
 use Rattle.velo_command.specs.Running.{DoesAsked, Runs}
-use Rattle.velo_command.specs.Usage.{IsTold, LacksMemory, Tells}
+use Rattle.velo_command.specs.Usage.{IsTold, LacksMemory, TellsError}
 use Rattle.velo_command.proofs.OnCommandLine.{line_is_simple, line_is_simple_and_free}
 
 -- the words were taken, and what they ask for was done
@@ -26,7 +26,7 @@ runs_asked line words m Done Shown Kept Ended is matches faultless does =
 
 -- what was told with nothing changed was told with a further thing unchanged
 tells_too : (Unchanged : Type 0) (kind : ErrorKind) (Shown : List ℕ → (ℕ → List ℕ → Type 0) → Type 0) (Kept : Type 0) (Ended : ℕ → List ℕ → Type 0) (text : List ℕ)
-    → Unchanged → Tells kind Shown Kept Ended text → Tells kind (λ t End. Unchanged × Shown t End) (Unchanged × Kept) Ended text
+    → Unchanged → TellsError kind Shown Kept Ended text → TellsError kind (λ t End. Unchanged × Shown t End) (Unchanged × Kept) Ended text
 tells_too Unchanged DisplayHelp Shown Kept Ended text same told = (same, told)
 tells_too Unchanged DisplayVersion Shown Kept Ended text same told = (same, told)
 tells_too Unchanged OutOfMemory Shown Kept Ended text same told = told
@@ -45,7 +45,7 @@ runs_told line words kind Unchanged Done Shown Kept Ended is has_kind same told 
       | inl t ↦ inl (record {
         kind = kind;
         among = elim kinds [
-          | inl wants ↦ absurd (subst (λ (k : ErrorKind). Tells k Shown Kept Ended t.text) wants t.told)
+          | inl wants ↦ absurd (subst (λ (k : ErrorKind). TellsError k Shown Kept Ended t.text) wants t.told)
           | inr among ↦ among
         ];
         told = record { text = t.text; told = tells_too Unchanged kind Shown Kept Ended t.text same t.told };

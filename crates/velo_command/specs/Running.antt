@@ -9,7 +9,7 @@ use Rattle.velo_command.specs.Asked.{AsksFor, AsksForNothing}
 use Rattle.velo_command.specs.Usage.{IsTold, LacksMemory, bad_usage}
 
 -- a request that was asked for was done, and the end is that of what it came to
-pub record IsDone (asked : Option (Text × List Row)) (Done : Request → Fate → Type 0) (Ended : ℕ → List ℕ → Type 0) : Type 0 where
+pub record DoesRequest (asked : Option (Text × List Row)) (Done : Request → Fate → Type 0) (Ended : ℕ → List ℕ → Type 0) : Type 0 where
   pub request : Request
   pub fate : Fate
   pub asks : AsksFor asked request
@@ -24,7 +24,7 @@ pub record IsUnasked (asked : Option (Text × List Row)) (Kept : Type 0) (Ended 
 
 -- what was asked for was done, or nothing was asked for
 abbrev pub DoesAsked : Option (Text × List Row) → (Request → Fate → Type 0) → Type 0 → (ℕ → List ℕ → Type 0) → Type 0
-DoesAsked asked Done Kept Ended = IsDone asked Done Ended ⊎ IsUnasked asked Kept Ended
+DoesAsked asked Done Kept Ended = DoesRequest asked Done Ended ⊎ IsUnasked asked Kept Ended
 
 -- one of these faults was told; help and the version are among them
 pub record TellsFault (faults : Kinds) (Shown : List ℕ → (ℕ → List ℕ → Type 0) → Type 0) (Kept : Type 0) (Ended : ℕ → List ℕ → Type 0) : Type 0 where

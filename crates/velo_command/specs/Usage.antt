@@ -18,22 +18,22 @@ not_utf8 = codes "error: a word of the command line is not UTF-8\n"
 
 -- the text went to standard output, and the end is a good one without a line; or it broke off, and the end is that of a
 -- failed write
-abbrev pub Shows : Writing → List ℕ → (ℕ → List ℕ → Type 0) → Type 0
-Shows out text Ended =
+abbrev pub ShowsHelp : Writing → List ℕ → (ℕ → List ℕ → Type 0) → Type 0
+ShowsHelp out text Ended =
     (Writes out text × Ended 0 []) ⊎ (BreaksOff out text × Ended (status_of WriteFailed) (line_of WriteFailed))
 
 -- an error of this kind was told by this text: help and the version were shown; behind any other one all else is kept as it
 -- was, and the text is the line that the program ends with. Want of memory is told otherwise
-abbrev pub Tells : ErrorKind → (List ℕ → (ℕ → List ℕ → Type 0) → Type 0) → Type 0 → (ℕ → List ℕ → Type 0) → List ℕ → Type 0
-Tells DisplayHelp Shown Kept Ended text = Shown text Ended
-Tells DisplayVersion Shown Kept Ended text = Shown text Ended
-Tells OutOfMemory Shown Kept Ended text = ⊥
-Tells kind Shown Kept Ended text = Kept × Ended bad_usage text
+abbrev pub TellsError : ErrorKind → (List ℕ → (ℕ → List ℕ → Type 0) → Type 0) → Type 0 → (ℕ → List ℕ → Type 0) → List ℕ → Type 0
+TellsError DisplayHelp Shown Kept Ended text = Shown text Ended
+TellsError DisplayVersion Shown Kept Ended text = Shown text Ended
+TellsError OutOfMemory Shown Kept Ended text = ⊥
+TellsError kind Shown Kept Ended text = Kept × Ended bad_usage text
 
 -- an error of this kind was told, by some text
 pub record IsTold (kind : ErrorKind) (Shown : List ℕ → (ℕ → List ℕ → Type 0) → Type 0) (Kept : Type 0) (Ended : ℕ → List ℕ → Type 0) : Type 0 where
   pub text : List ℕ
-  pub told : Tells kind Shown Kept Ended text
+  pub told : TellsError kind Shown Kept Ended text
 
 -- a growth was refused, all is kept as it was, and the end is that of want of memory
 pub record LacksMemory (Kept : Type 0) (Ended : ℕ → List ℕ → Type 0) : Type 0 where

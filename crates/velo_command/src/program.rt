@@ -9,7 +9,7 @@ ghost use Rattle.velo_program.specs.Writing.{writing};
 ghost use Rattle.velo_program.specs.declared.fate.Fate.TheVariants as fate;
 ghost use Rattle.velo_command.specs.CommandLine.{asked_by, faults_of};
 ghost use Rattle.velo_command.specs.Running.{DoesAsked, Runs};
-ghost use Rattle.velo_command.specs.Usage.{Shows, bad_usage, not_utf8};
+ghost use Rattle.velo_command.specs.Usage.{ShowsHelp, bad_usage, not_utf8};
 
 use crate::arguments::command;
 use crate::growth::matches_of;
@@ -39,7 +39,7 @@ pub fn run<R: Threads + Wait + Sync, F: Files, W: AsStr, O: Sink, E: Sink>(
         (λ request came_to. AnswersWithCause request came_to
         × Does (F.gives_at files.old) (F.fails_at files.old) (F.gives files.old) request (writing O.contents O.failures out.old out.new) came_to)
         (λ text Ended. (files.new ≡ files.old)
-        × Shows (writing O.contents O.failures out.old out.new) text Ended)
+        × ShowsHelp (writing O.contents O.failures out.old out.new) text Ended)
         ((files.new ≡ files.old) × (out.new ≡ out.old))
         (λ status text. Ends status text (E.contents err.old) (E.contents err.new) (E.failures err.old) (E.failures err.new) result) }
 {

@@ -5,7 +5,7 @@ ghost use Rattle.clap.specs.declared.error.kind.ErrorKind.TheVariants.{OutOfMemo
 ghost use Rattle.velo_events.specs.Refusals.{GrowthRefused};
 ghost use Rattle.velo_program.specs.Fate.{Ends};
 ghost use Rattle.velo_program.specs.Writing.{writing};
-ghost use Rattle.velo_command.specs.Usage.{IsTold, LacksMemory, Shows, Tells, bad_usage};
+ghost use Rattle.velo_command.specs.Usage.{IsTold, LacksMemory, ShowsHelp, TellsError, bad_usage};
 
 use crate::growth::text_of;
 use clap::Error;
@@ -22,7 +22,7 @@ pub const BAD_USAGE: u8 = 2;
 pub fn tell_error<O: Sink, E: Sink>(alloc: Global, error: &Error, out: &mut O, err: &mut E) -> u8
     requires { kind_of error.now ≡ OutOfMemory → GrowthRefused }
     ensures { IsTold (kind_of error.now)
-        (Shows (writing O.contents O.failures out.old out.new))
+        (ShowsHelp (writing O.contents O.failures out.old out.new))
         (out.new ≡ out.old)
         (λ status text. Ends status text (E.contents err.old) (E.contents err.new) (E.failures err.old) (E.failures err.new) result)
         ⊎ LacksMemory (out.new ≡ out.old)
@@ -42,8 +42,8 @@ pub fn tell_error<O: Sink, E: Sink>(alloc: Global, error: &Error, out: &mut O, e
 
 /// Tells an error of this kind by its text.
 fn tell_text<O: Sink, E: Sink>(kind: ErrorKind, text: &[u8], out: &mut O, err: &mut E) -> u8
-    ensures { kind ≢ OutOfMemory → Tells kind
-        (Shows (writing O.contents O.failures out.old out.new))
+    ensures { kind ≢ OutOfMemory → TellsError kind
+        (ShowsHelp (writing O.contents O.failures out.old out.new))
         (out.new ≡ out.old)
         (λ status text. Ends status text (E.contents err.old) (E.contents err.new) (E.failures err.old) (E.failures err.new) result)
         text.now }
@@ -56,7 +56,7 @@ fn tell_text<O: Sink, E: Sink>(kind: ErrorKind, text: &[u8], out: &mut O, err: &
 
 /// Shows help, or tells that it could not be written.
 fn show_help<O: Sink, E: Sink>(text: &[u8], out: &mut O, err: &mut E) -> u8
-    ensures { Shows (writing O.contents O.failures out.old out.new) text.now
+    ensures { ShowsHelp (writing O.contents O.failures out.old out.new) text.now
         (λ status text. Ends status text (E.contents err.old) (E.contents err.new) (E.failures err.old) (E.failures err.new) result) }
 {
     match write_all(out, text) {

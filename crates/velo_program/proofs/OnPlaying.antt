@@ -22,7 +22,7 @@ use Rattle.velo_program.specs.declared.request.RunOptions.{RunOptions}
 use Rattle.velo_program.specs.declared.schedule.ScheduleFault.TheVariants as schedule_fault
 use Rattle.velo_program.specs.Causes.{ComesTo, ComesByGrowth, ComesWithCause}
 use Rattle.velo_program.specs.Check.{Shows, write_failures}
-use Rattle.velo_program.specs.Playing.{AreNamesOf, FailsToLog, IsEnded, IsFaultOfText, IsLiveRun, IsReplay, IsTextOf, ShowsBy, ShowsEnd, ShowsLiveRun, ShowsRun, fate_of_showing, is_unreported}
+use Rattle.velo_program.specs.Playing.{AreNamesOf, FailsToLog, IsEnded, IsFaultOfText, IsLiveRunOf, IsReplayOf, IsTextOf, ShowsBy, ShowsEnd, ShowsLiveRun, ShowsRun, fate_of_showing, is_unreported}
 use Rattle.velo_program.specs.Program.{DoesReplay, DoesReplayBy, DoesRun, FailsToParse, OpensNoProgram}
 use Rattle.velo_program.specs.Reading.{IsReadOf}
 use Rattle.velo_program.specs.Schedule.{IsSchedule}
@@ -192,7 +192,7 @@ module _ (gives_at : List ℕ → Option (List ℕ) → Type 0) (fails_at : List
   of_unopened EndsSo path f (inr h) = rw h.0 tt
 
   of_replay_by : (schedule : List ThreadId) (options : RunOptions) (f : Fate) → DoesReplayBy gives_at fails_at gives schedule options out f → ComesByGrowth f
-  of_replay_by schedule options f (inl h) = of_shown fails_at options.log out h.0 options.certificate (IsReplay schedule options h.0) EndsByGrowth (λ ended w run. run.cause) f h.2
+  of_replay_by schedule options f (inl h) = of_shown fails_at options.log out h.0 options.certificate (IsReplayOf schedule options h.0) EndsByGrowth (λ ended w run. run.cause) f h.2
   of_replay_by schedule options f (inr h) = of_unopened EndsByGrowth options.file.now f h.0
 
   pub of_replay : (options : ReplayOptions) (f : Fate) → DoesReplay gives_at fails_at gives options out f → ComesByGrowth f
@@ -223,9 +223,9 @@ module _ (gives_at : List ℕ → Option (List ℕ) → Type 0) (fails_at : List
   by_schedule options schedule is fate.Lost h = (schedule, is, h)
 
   of_live : (program : Program) (options : RunOptions) (f : Fate)
-      → ShowsLiveRun (IsLiveRun program) program options.certificate fails_at options.log out f → ComesWithCause f
+      → ShowsLiveRun (IsLiveRunOf program) program options.certificate fails_at options.log out f → ComesWithCause f
   of_live program options fate.Lost h = tt
-  of_live program options (fate.Finished ended alarm) h = of_shown fails_at options.log out program options.certificate (IsLiveRun program) EndsWithCause (λ e w run. run.cause) (fate.Finished ended alarm) h
+  of_live program options (fate.Finished ended alarm) h = of_shown fails_at options.log out program options.certificate (IsLiveRunOf program) EndsWithCause (λ e w run. run.cause) (fate.Finished ended alarm) h
   of_live program options (fate.Schedule f) h = absurd h
   of_live program options (fate.Work f) h = absurd h
   of_live program options (fate.Check f) h = absurd h

@@ -122,14 +122,14 @@ pub record IsConfigOf (program : Program) (options : RunOptions) (config : Confi
   pub stop : config.stop ≡ options.stop
 
 -- a replay of the program by a schedule
-pub record IsReplay (schedule : List ThreadId) (options : RunOptions) (program : Program) (ended : Ending) (w : WorldState) : Type 0 where
+pub record IsReplayOf (schedule : List ThreadId) (options : RunOptions) (program : Program) (ended : Ending) (w : WorldState) : Type 0 where
   pub config : Config
   pub configured : IsConfigOf program options config
   pub replays : Replays program schedule config ended w
   pub cause : EndsByGrowth ended
 
 -- a run of the program by threads of its own: where it is done, each thread that was born did its body
-pub record IsLiveRun (program : Program) (ended : Ending) (w : WorldState) : Type 0 where
+pub record IsLiveRunOf (program : Program) (ended : Ending) (w : WorldState) : Type 0 where
   pub done : ended ≡ ending.Done → AllDone program w
   pub cause : EndsWithCause ended
 

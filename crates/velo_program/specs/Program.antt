@@ -18,7 +18,7 @@ use Rattle.velo_program.specs.Check.{Checks, write_failures}
 use Rattle.velo_program.specs.Explaining.{Explains}
 use Rattle.velo_program.specs.Fate.{fate_of}
 use Rattle.velo_program.specs.Paths.{FailsToRead, ReadsAt}
-use Rattle.velo_program.specs.Playing.{IsFaultOfWork, IsLiveRun, IsReplay, IsTextOf, ShowsLiveRun, ShowsRun}
+use Rattle.velo_program.specs.Playing.{IsFaultOfWork, IsLiveRunOf, IsReplayOf, IsTextOf, ShowsLiveRun, ShowsRun}
 use Rattle.velo_program.specs.Schedule.{IsFaultOfSchedule, IsSchedule}
 use Rattle.velo_program.specs.Writing.{Writing, WritesNothing}
 
@@ -87,11 +87,11 @@ module _ (gives_at : List ℕ → Option (List ℕ) → Type 0) (fails_at : List
 
   abbrev pub DoesRun : RunOptions → Writing → Fate → Type 0
   DoesRun options out f =
-      PlaysAt (λ program. ShowsLiveRun (IsLiveRun program) program options.certificate fails_at options.log out f) options.file.now out f
+      PlaysAt (λ program. ShowsLiveRun (IsLiveRunOf program) program options.certificate fails_at options.log out f) options.file.now out f
 
   abbrev pub DoesReplayBy : List ThreadId → RunOptions → Writing → Fate → Type 0
   DoesReplayBy schedule options out f =
-      PlaysAt (λ program. ShowsRun (IsReplay schedule options program) program options.certificate fails_at options.log out f) options.file.now out f
+      PlaysAt (λ program. ShowsRun (IsReplayOf schedule options program) program options.certificate fails_at options.log out f) options.file.now out f
 
   -- a schedule that is none is told before any file is opened
   abbrev pub DoesReplay : ReplayOptions → Writing → Fate → Type 0

@@ -1,7 +1,7 @@
 //! `velodrome replay`.
 ghost use Rattle.std.specs.Prelude.{◌≡◌};
 ghost use Rattle.velo_program.specs.Causes.{ComesByGrowth};
-ghost use Rattle.velo_program.specs.Playing.{IsReplay, ShowsRun};
+ghost use Rattle.velo_program.specs.Playing.{IsReplayOf, ShowsRun};
 ghost use Rattle.velo_program.specs.Program.{DoesReplay, DoesReplayBy};
 ghost use Rattle.velo_program.specs.Writing.{writing};
 
@@ -25,7 +25,7 @@ fn replay_workload<F: Files, O: Sink>(
     files: &mut F,
     out: &mut O,
 ) -> Fate
-    ensures { ShowsRun (IsReplay schedule.now options.now workload.now) workload.now options.now.certificate (F.fails_at files.old) options.now.log (writing O.contents O.failures out.old out.new) result }
+    ensures { ShowsRun (IsReplayOf schedule.now options.now workload.now) workload.now options.now.certificate (F.fails_at files.old) options.now.log (writing O.contents O.failures out.old out.new) result }
 {
     let config = config_of_run(workload, options);
     match replay(alloc, workload, schedule, config) {

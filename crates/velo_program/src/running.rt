@@ -1,7 +1,7 @@
 //! `velodrome run`.
 ghost use Rattle.std.specs.Prelude.{◌≡◌};
 ghost use Rattle.velo_program.specs.Causes.{ComesWithCause};
-ghost use Rattle.velo_program.specs.Playing.{IsLiveRun, ShowsLiveRun};
+ghost use Rattle.velo_program.specs.Playing.{IsLiveRunOf, ShowsLiveRun};
 ghost use Rattle.velo_program.specs.Program.{DoesRun};
 ghost use Rattle.velo_program.specs.Writing.{writing};
 
@@ -25,7 +25,7 @@ fn run_workload<R: Threads + Wait + Sync, F: Files, O: Sink>(
     files: &mut F,
     out: &mut O,
 ) -> Fate
-    ensures { ShowsLiveRun (IsLiveRun workload.now) workload.now options.now.certificate (F.fails_at files.old) options.now.log (writing O.contents O.failures out.old out.new) result }
+    ensures { ShowsLiveRun (IsLiveRunOf workload.now) workload.now options.now.certificate (F.fails_at files.old) options.now.log (writing O.contents O.failures out.old out.new) result }
 {
     let config = config_of_run(workload, options);
     match live(rt, alloc, workload, config, &OpenGate) {
