@@ -1,4 +1,4 @@
-use Rattle.std.proofs.Common.{◌≡◌, ℕ, ◌+◌, List, [], ◌∷◌, ◌++◌, length, map, replicate, sym, ap, ◌∙◌, arith}
+use Rattle.std.proofs.Common.{◌≡◌, ℕ, ◌+◌, List, [], ◌∷◌, ◌++◌, length, map, replicate, sym, ap, ◌∙◌, arith, rules}
 use Rattle.std.specs.FinSet as set
 use Rattle.std.proofs.lemmas.List.{length-map, length-replicate, map-append, replicate-append-replicate}
 use Rattle.velo_graph.proofs.rows.empty_rows.Goals as goal
@@ -33,3 +33,6 @@ pub returns-clause-capacities : goal.returns-clause-capacities
 returns-clause-capacities g c =
     let all : c.loop-slot._slot ≡ c.args.limit = omega (arith, c.loop-slot-test.false, c.loop-slot.auto._slot-end) in
     c.loop-slot.invariant.1 ∙ ap (λ k. replicate k c.args.limit) all
+
+pub returns-in_err-rows-clause-memory : goal.returns-in_err-rows-clause-memory
+returns-in_err-rows-clause-memory g c = search rules

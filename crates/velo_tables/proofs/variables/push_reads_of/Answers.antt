@@ -1,4 +1,4 @@
-use Rattle.std.proofs.Common.{ℕ, ◌+◌, ◌<◌, ◌++◌, Option, get_or, sym, ap, subst, ◌∙◌, refl, arith}
+use Rattle.std.proofs.Common.{ℕ, ◌+◌, ◌<◌, ◌++◌, Option, get_or, sym, ap, subst, ◌∙◌, refl, arith, rules}
 use Rattle.std.proofs.Math.Facts.{Fits-lt-pow}
 use Rattle.std.specs.Prelude.{None}
 use Rattle.std.specs.Option.{option_to_list}
@@ -28,3 +28,6 @@ returns-clause-items c =
     let at = c.loop-rest in
     let f = λ (t : ℕ). but_for c.args.slot (get_or c.args.reads.now t None) in
     IsWalked-all c.args.readers f c.args.list.now.items at.rest at.thread at.list.items (HaveBits-but_for c.args.slot c.args.readers c.args.reads.now c.requires.covered) c.loop-rest-test.false at.invariant.walked
+
+pub loop-rest-init : goal.loop-rest-init
+loop-rest-init c = search rules
