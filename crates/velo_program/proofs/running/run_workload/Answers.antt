@@ -1,6 +1,7 @@
 use Rattle.velo_program.specs.Playing.{IsLiveRunOf}
 use Rattle.velo_program.specs.Writing.{writing}
 use Rattle.velo_program.proofs.OnPlaying.{ShowsRun-map, live, of_ended}
+use Rattle.std.proofs.Common.{rules}
 use Rattle.velo_program.proofs.running.run_workload.Goals as goal
 
 pub returns-in-Ok : goal.returns-in-Ok
@@ -12,3 +13,6 @@ returns-in-Ok g c =
       done = c.in-Ok.ensures.done;
       cause = c.in-Ok.ensures.cause;
     })) _ c.finish_run.ensures)
+
+pub returns-in-Err-Lost : goal.returns-in-Err-Lost
+returns-in-Err-Lost g c = search rules

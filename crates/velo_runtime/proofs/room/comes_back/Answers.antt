@@ -1,4 +1,4 @@
-use Rattle.std.proofs.Common.{◌≡◌, sym, arith, ap, length}
+use Rattle.std.proofs.Common.{◌≡◌, sym, arith, ap, length, rules}
 use Rattle.std.proofs.lemmas.Bool.{false≢true}
 use Rattle.velo_runtime.specs.Rooms.{RoomState}
 use Rattle.velo_runtime.proofs.Chains.{within-start, within-no_lead, within-next}
@@ -23,3 +23,6 @@ loop-preserved c =
       there = c.wait_of-next.ensures.there;
       same = within-next c.args.room.now.world.log c.args.room.now.waits c.args.caller.0 _ _ c.in-Some.wanted c.in-Some-leads_to.thread.0 c.loop.next c.wait_of-next.result _ (omega (arith, all)) c.in-Some.is (sym c.in-Some-leads_to.ensures) c.if-thread-caller.false c.wait_of-next.ensures.wait c.loop.invariant.same;
     }
+
+pub returns : goal.returns
+returns c = search rules

@@ -1,9 +1,10 @@
-use Rattle.std.proofs.Common.{[], ◌∷◌, ◌++◌, subst, sym, ◌∙◌}
+use Rattle.std.proofs.Common.{[], ◌∷◌, ◌++◌, subst, sym, ◌∙◌, arith}
 use Rattle.std.specs.Prelude.{IsTrue, ◌↔◌}
 use Rattle.velo_events.specs.Graph.{HasCycle}
 use Rattle.velo_world.specs.World.{AlarmOf}
 use Rattle.velo_world.proofs.OnAlarms.{AlarmOf-alarmed}
 use Rattle.velo_world.proofs.OnCourses.{pushed-part}
+use Rattle.std.proofs.lemmas.Grind.{common_steps, elements}
 use Rattle.velo_world.proofs.course.Course.commit.Goals as goal
 
 pub returns-clause-replies : goal.returns-clause-replies
@@ -16,3 +17,15 @@ returns-clause-replies c =
       alarmed = subst (λ b. IsTrue b ↔ HasCycle (log ++ c.args.event ∷ [])) (sym c.is_some-alarmed.ensures)
           (AlarmOf-alarmed _ c.take_in.new.self.alarm (subst (λ past. AlarmOf (past ++ c.args.event ∷ []) c.take_in.new.self.alarm) part c.take_in.ensures.follows.watched.alarm));
     }
+
+pub take_in-requires-clause-here : goal.take_in-requires-clause-here
+take_in-requires-clause-here c = grind (arith, elements)
+
+pub take_in-requires-clause-next : goal.take_in-requires-clause-next
+take_in-requires-clause-next c = grind (arith, common_steps)
+
+pub take_in-requires-clause-room : goal.take_in-requires-clause-room
+take_in-requires-clause-room c = grind (arith, common_steps)
+
+pub returns-clause-stands : goal.returns-clause-stands
+returns-clause-stands c = grind (arith, common_steps)

@@ -5,6 +5,7 @@ use Rattle.velo_heap.specs.Contents.{bounds_of}
 use Rattle.velo_traces.proofs.OnFlaws.{MayFollow-from_no_flaw}
 use Rattle.velo_world.proofs.OnAlarms.{length-before}
 use Rattle.velo_world.proofs.OnRelived.{flaw-by, follows-by}
+use Rattle.std.proofs.lemmas.Grind.{elements}
 use Rattle.velo_world.proofs.relive.Relived.make_room.Goals as goal
 
 pub returns-then-has_no_node_for-clause-fault : goal.returns-then-has_no_node_for-clause-fault
@@ -53,3 +54,12 @@ returns-in-Ok-clause-room c =
     let none = sym (c.flaw_in.ensures _ stands.run.heap) ∙ c.in-None.is in
     let follows = MayFollow-from_no_flaw _ _ c.args.event.now stands.run.heap.well_formed none in
     c.in-Ok.ensures.room _ stands.run follows (c.has_no_node_for.ensures.slot c.if-has_no_node_for.false _ stands.run follows)
+
+pub returns-in-Some-Refused-clause-fault : goal.returns-in-Some-Refused-clause-fault
+returns-in-Some-Refused-clause-fault c = grind (arith, elements)
+
+pub returns-in-Some-WrongValue-clause-fault : goal.returns-in-Some-WrongValue-clause-fault
+returns-in-Some-WrongValue-clause-fault c = grind (arith, elements)
+
+pub returns-then-position-config-clause-fault : goal.returns-then-position-config-clause-fault
+returns-then-position-config-clause-fault c = grind (arith, elements)

@@ -3,6 +3,7 @@ use Rattle.std.proofs.lemmas.Option.{same_Some}
 use Rattle.velo_ledger.specs.Shares.{opening_share}
 use Rattle.velo_world.proofs.OnHoldings.{IsBookOf-opening, KeepsUnborn-opening}
 use Rattle.velo_world.proofs.OnReadiness.{HoldsLiveShares-opened, CompletesShares-opened}
+use Rattle.std.proofs.lemmas.Grind.{elements}
 use Rattle.velo_world.proofs.relive.Relived.new.Goals as goal
 
 pub returns-clause-start : goal.returns-clause-start
@@ -21,3 +22,6 @@ returns-clause-start c =
       ready = rw (after, share_is, c.in_ok-shares.ensures.empty) (HoldsLiveShares-opened config);
       complete = rw (after, share_is, c.in_ok-shares.ensures.empty) (CompletesShares-opened config);
     }
+
+pub unreachable-requires-in_default-put : goal.unreachable-requires-in_default-put
+unreachable-requires-in_default-put c = grind (arith, elements)

@@ -3,6 +3,7 @@ use Rattle.velo_events.specs.Block.{owner}
 use Rattle.velo_heap.specs.Contents.{bounds_of}
 use Rattle.velo_world.proofs.OnAlarms.{length-before}
 use Rattle.velo_world.proofs.OnRuns.{alarm-none, IsWatched-stays, IsWatched-quiet, IsWatched-raised, monitor-quiet, clocks-quiet, well-next}
+use Rattle.std.proofs.lemmas.Grind.{elements}
 use Rattle.velo_world.proofs.run.Run.watch.Goals as goal
 
 pub returns-then-is_some-clause-watched : goal.returns-then-is_some-clause-watched
@@ -61,3 +62,9 @@ returns-in-Closes-clause-watched c =
     let seen = c.in-Closes.ensures.seen _ _ (monitor-quiet c.args.self.now _ _ quiet watched) (sym here) c.requires.next.follows in
     let raised = c.raise_alarm.ensures in
     rw raised.same (IsWatched-raised _ _ _ c.args.event.now raised.alarm refl (raised.here ∙ sym here) raised.is seen.2 watched.bounds_are)
+
+pub note-requires-clause-room : goal.note-requires-clause-room
+note-requires-clause-room c = grind (arith, elements)
+
+pub note-requires-clause-fits : goal.note-requires-clause-fits
+note-requires-clause-fits c = grind (arith, elements)
