@@ -1,4 +1,4 @@
-use Rattle.std.proofs.Common.{refl}
+use Rattle.std.proofs.Common.{refl, rules}
 use Rattle.velo_command.proofs.OnRunning.{runs_asked, runs_told}
 use Rattle.velo_command.proofs.program.run.Goals as goal
 
@@ -9,3 +9,6 @@ returns-in-Ok-matches_of g c =
 pub returns-in-Err-matches_of : goal.returns-in-Err-matches_of
 returns-in-Err-matches_of g c =
     runs_told _ _ _ _ _ _ _ _ c.in-Ok.ensures.reads c.in-Err-matches_of.ensures.kinds refl c.tell_error-status.ensures
+
+pub returns-in-Err : goal.returns-in-Err
+returns-in-Err g c = search rules

@@ -1,4 +1,4 @@
-use Rattle.std.proofs.Common.{◌≡◌, arith, codes}
+use Rattle.std.proofs.Common.{◌≡◌, arith, codes, rules}
 use Rattle.std.specs.Str.Parse.{ExplainsUnsignedError, HasUnsignedDigitsIfOk, ParsesUnsigned}
 use Rattle.clap.specs.Words.{found_of, rows_of}
 use Rattle.velo_command.specs.Asked.{AreLimits}
@@ -34,3 +34,6 @@ returns-then-events-lt1-clause-none c = λ limits asks.
     (number_read _ (λ t x. ParsesUnsigned 16 10 t x × ExplainsUnsignedError 10 t x × HasUnsignedDigitsIfOk t x) 16 f (codes "nodes") c.get_one-2.result c.in_ok-nodes.nodes
     (λ t x given. given.0) c.get_one-2.ensures.none c.get_one-2.ensures.value c.in_ok-nodes.was) in
     omega arith
+
+pub invariant_of-result : goal.invariant_of-result
+invariant_of-result c = search rules
