@@ -3,6 +3,3 @@ use Rattle.velo_runtime.proofs.room.Room.turn_after.Goals as goal
 
 pub returns-then-comes_back-clause-turn : goal.returns-then-comes_back-clause-turn
 returns-then-comes_back-clause-turn c = search rules
-
-pub returns-in-Ok-clause-turn : goal.returns-in-Ok-clause-turn
-returns-in-Ok-clause-turn c = search rules
