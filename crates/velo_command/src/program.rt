@@ -4,6 +4,7 @@ ghost use Rattle.std.specs.declared.io.ErrorKind.TheVariants.{InvalidData};
 ghost use Rattle.clap.specs.Words.{subcommand_rows_of};
 ghost use Rattle.velo_program.specs.Causes.{AnswersWithCause};
 ghost use Rattle.velo_program.specs.Fate.{Ends, line_of};
+ghost use Rattle.velo_program.specs.Paths.{ReadsAt, WritesAt};
 ghost use Rattle.velo_program.specs.Program.{Does};
 ghost use Rattle.velo_program.specs.Writing.{writing};
 ghost use Rattle.velo_program.specs.declared.fate.Fate.TheVariants as fate;
@@ -37,7 +38,9 @@ pub fn run<R: Threads + Wait + Sync, F: Files, W: AsStr, O: Sink, E: Sink>(
 ) -> u8
     ensures { Runs (faults_of (map W.text words.now)) (asked_by (map W.text words.now))
         (λ request came_to. AnswersWithCause request came_to
-        × Does (F.gives_at files.old) (F.fails_at files.old) (F.gives files.old) request (writing O.contents O.failures out.old out.new) came_to)
+        × Does (ReadsAt (F.gives_at files.old) F.Input.remaining F.Input.failures (F.gives files.old) F.StandardInput.remaining F.StandardInput.failures)
+        (F.fails_at files.old) (WritesAt (F.takes_at files.old) F.Output.contents F.Output.failures)
+        request (writing O.contents O.failures out.old out.new) came_to)
         (λ text Ended. (files.new ≡ files.old)
         × ShowsHelp (writing O.contents O.failures out.old out.new) text Ended)
         ((files.new ≡ files.old) × (out.new ≡ out.old))
@@ -72,7 +75,9 @@ fn do_asked<R: Threads + Wait + Sync, F: Files, O: Sink, E: Sink>(
 ) -> u8
     ensures { DoesAsked (subcommand_rows_of matches.now)
         (λ request came_to. AnswersWithCause request came_to
-        × Does (F.gives_at files.old) (F.fails_at files.old) (F.gives files.old) request (writing O.contents O.failures out.old out.new) came_to)
+        × Does (ReadsAt (F.gives_at files.old) F.Input.remaining F.Input.failures (F.gives files.old) F.StandardInput.remaining F.StandardInput.failures)
+        (F.fails_at files.old) (WritesAt (F.takes_at files.old) F.Output.contents F.Output.failures)
+        request (writing O.contents O.failures out.old out.new) came_to)
         ((files.new ≡ files.old) × (out.new ≡ out.old))
         (λ status text. Ends status text (E.contents err.old) (E.contents err.new) (E.failures err.old) (E.failures err.new) result) }
 {

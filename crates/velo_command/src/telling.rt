@@ -13,7 +13,8 @@ use clap::error::ErrorKind;
 use std::alloc::Global;
 use velo_events::Memory;
 use velo_logtext::{Sink, write_all};
-use velo_program::{DEVICE_FAILED, Fate, end_with};
+use velo_program::status::{DONE, FAILED};
+use velo_program::{Fate, end_with};
 
 /// The status of a fault of usage.
 pub const BAD_USAGE: u8 = 2;
@@ -60,7 +61,7 @@ fn show_help<O: Sink, E: Sink>(text: &[u8], out: &mut O, err: &mut E) -> u8
         (λ status text. Ends status text (E.contents err.old) (E.contents err.new) (E.failures err.old) (E.failures err.new) result) }
 {
     match write_all(out, text) {
-        Ok(()) => 0,
+        Ok(()) => DONE,
         Err(_) => end_with(&Fate::WriteFailed, err),
     }
 }
@@ -71,6 +72,6 @@ pub fn tell_fault<E: Sink>(text: &[u8], err: &mut E) -> u8
 {
     match write_all(err, text) {
         Ok(()) => BAD_USAGE,
-        Err(_) => DEVICE_FAILED,
+        Err(_) => FAILED,
     }
 }

@@ -26,6 +26,7 @@ use Rattle.velo_program.specs.Check.{Checks}
 use Rattle.velo_program.specs.Fate.{fate_of}
 use Rattle.velo_program.specs.Faults.{IsFaultOfLog}
 use Rattle.velo_program.specs.Program.{IsChecked}
+use Rattle.velo_program.specs.Reading.{Reading}
 use Rattle.velo_program.specs.Writing.{Writing}
 
 -- ---- by what it means no event is refused for want of memory
@@ -80,6 +81,6 @@ of_checks limit nodes certificate read old new (Err (check_fault.Refused p r)) c
 of_checks limit nodes certificate read old new (Err check_fault.Memory) checks = checks.0
 of_checks limit nodes certificate read old new (Err _) checks = tt
 
-pub of_checked : (limit nodes : ℕ) (certificate : Bool) (read : Option (List ℕ)) (out : Writing) (f : Fate) → IsChecked limit nodes certificate read out f → ComesByGrowth f
+pub of_checked : (limit nodes : ℕ) (certificate : Bool) (read : Reading) (out : Writing) (f : Fate) → IsChecked limit nodes certificate read out f → ComesByGrowth f
 of_checked limit nodes certificate read out f checked =
-    rw checked.told (of_checks limit nodes certificate read out.old out.new checked.answer checked.checks)
+    rw checked.told (of_checks limit nodes certificate read.bytes out.old out.new checked.answer checked.checks)

@@ -1,6 +1,6 @@
 -- What an explanation comes to.
 use Rattle.std.proofs.Common.{◌≡◌, refl, sym, subst, inl, inr, take}
-use Rattle.std.specs.Prelude.{ℕ, Bool, true, false, List, Option, Result, Ok, Err, OnOk, OnErr}
+use Rattle.std.specs.Prelude.{ℕ, Bool, true, false, List, Option, Some, Result, Ok, Err, OnOk, OnErr}
 use Rattle.std.specs.Borrow.{Bor}
 use Rattle.std.specs.Io.KnownBytes.{Appends}
 use Rattle.velo_events.specs.declared.config.Bounds.{Bounds}
@@ -14,6 +14,7 @@ use Rattle.velo_world.specs.declared.run.Alarm.{Alarm}
 use Rattle.velo_world.specs.World.{IsAlarm}
 use Rattle.velo_explain.specs.declared.evidence.Evidence.{Evidence}
 use Rattle.velo_explain.specs.Evidence.{IsEvidence, HaveReasons}
+use Rattle.velo_explain.specs.Picture.{picture_text}
 use Rattle.velo_explain.specs.Text.{explanation_text}
 use Rattle.velo_explain.specs.declared.fault.ExplainFault.{ExplainFault}
 use Rattle.velo_explain.specs.declared.fault.ExplainFault.TheVariants as explain_fault
@@ -25,43 +26,44 @@ use Rattle.velo_program.specs.declared.fate.Fate.{Fate}
 use Rattle.velo_program.specs.declared.fate.Fate.TheVariants as fate
 use Rattle.velo_program.specs.Causes.{ComesByGrowth, CheckByGrowth}
 use Rattle.velo_program.specs.Check.{IsInput}
-use Rattle.velo_program.specs.Explaining.{Explains, FailsToDraw, IsFaultOfInput, Tells, TellsAt, TellsInput, TellsVerdict, fate_of_telling}
+use Rattle.velo_program.specs.Explaining.{Draws, Explains, FailsToDraw, IsFaultOfInput, Tells, TellsAt, TellsInput, TellsVerdict, fate_of_telling}
+use Rattle.velo_program.specs.Reading.{Reading}
 use Rattle.velo_program.specs.Writing.{Writing, WritesNothing}
 use Rattle.velo_program.proofs.OnCauses.{of_log, of_refused}
 use Rattle.velo_program.proofs.OnVerdicts.{no_cycle_before}
 
-module _ (fails_at : List ℕ → Type 0) (path : Option (Bor (List ℕ))) (out : Writing) where
+module _ (fails_at : List ℕ → Type 0) (writes_at : List ℕ → Writing → Type 0) (path : Option (Bor (List ℕ))) (out : Writing) where
   -- where the picture fails nothing goes out
-  pub undrawn : (P : Bool → List ℕ → Type 0) (f : Fate) → FailsToDraw fails_at path f → WritesNothing out → Tells P fails_at path out f
-  undrawn P fate.CannotOpen h none = (h, none)
-  undrawn P fate.WriteFailed h none = inl (h, none)
-  undrawn P fate.Memory h none = (h, none.1)
-  undrawn P (fate.Finished ended alarm) h none = absurd h
-  undrawn P (fate.Schedule f) h none = h
-  undrawn P (fate.Work f) h none = h
-  undrawn P (fate.Check f) h none = h
-  undrawn P fate.ReadFailed h none = h
-  undrawn P fate.Lost h none = h
+  pub undrawn : (P : Bool → List ℕ → Option (List ℕ) → Type 0) (alarm : Bool) (text picture : List ℕ) → P alarm text (Some picture)
+      → (f : Fate) → FailsToDraw fails_at writes_at path picture f → WritesNothing out → Tells P fails_at writes_at path out f
+  undrawn P alarm text picture is fate.CannotOpen h none = (h, none)
+  undrawn P alarm text picture is fate.WriteFailed h none = (alarm, text, Some picture, is, inl (h, none))
+  undrawn P alarm text picture is fate.Memory h none = (h, none.1)
+  undrawn P alarm text picture is (fate.Finished ended told) h none = absurd h
+  undrawn P alarm text picture is (fate.Schedule f) h none = h
+  undrawn P alarm text picture is (fate.Work f) h none = h
+  undrawn P alarm text picture is (fate.Check f) h none = h
+  undrawn P alarm text picture is fate.ReadFailed h none = h
+  undrawn P alarm text picture is fate.Lost h none = h
 
   -- the text was written, or a beginning of it
-  pub written : {X : Type 0} (P : Bool → List ℕ → Type 0) (alarm : Bool) (text : List ℕ) (answer : Result X ExplainFault) → P alarm text
-      → OnOk answer (Appends out.old out.new text) → OnErr answer (AppendsBeginning out.old out.new text)
+  pub written : {X : Type 0} (P : Bool → List ℕ → Option (List ℕ) → Type 0) (alarm : Bool) (text : List ℕ) (drawn : Option (List ℕ)) (answer : Result X ExplainFault)
+      → P alarm text drawn → Draws writes_at path drawn → OnOk answer (Appends out.old out.new text) → OnErr answer (AppendsBeginning out.old out.new text)
       → out.after ≡ failures_after answer out.before → (answer ≡ Err explain_fault.Memory → GrowthRefused)
-      → Tells P fails_at path out (fate_of_telling answer alarm)
-  written P alarm text (Ok told) is ok err failures memory = (text, is, (ok, failures))
-  written P alarm text (Err explain_fault.Memory) is ok err failures memory = (memory refl, failures)
-  written P alarm text (Err explain_fault.Write) is ok err failures memory = inr (alarm, text, is, (err, failures))
+      → Tells P fails_at writes_at path out (fate_of_telling answer alarm)
+  written P alarm text drawn (Ok told) is drew ok err failures memory = (text, drawn, is, drew, (ok, failures))
+  written P alarm text drawn (Err explain_fault.Memory) is drew ok err failures memory = (memory refl, failures)
+  written P alarm text drawn (Err explain_fault.Write) is drew ok err failures memory = (alarm, text, drawn, is, inr (drew, (err, failures)))
 
   -- what is told so is also told so
-  pub Tells-map : {P Q : Bool → List ℕ → Type 0} → ((alarm : Bool) (text : List ℕ) → P alarm text → Q alarm text)
-      → (f : Fate) → Tells P fails_at path out f → Tells Q fails_at path out f
-  Tells-map to (fate.Finished ending.Done alarm) h = (h.0, to alarm h.0 h.1, h.2)
+  pub Tells-map : {P Q : Bool → List ℕ → Option (List ℕ) → Type 0} → ((alarm : Bool) (text : List ℕ) (drawn : Option (List ℕ)) → P alarm text drawn → Q alarm text drawn)
+      → (f : Fate) → Tells P fails_at writes_at path out f → Tells Q fails_at writes_at path out f
+  Tells-map to (fate.Finished ending.Done alarm) h = (h.0, h.1, to alarm h.0 h.1 h.2, h.3, h.4)
   Tells-map to (fate.Finished ending.Stuck alarm) h = absurd h
   Tells-map to (fate.Finished ending.Halted alarm) h = absurd h
   Tells-map to (fate.Finished ending.Gated alarm) h = absurd h
   Tells-map to (fate.Finished (ending.Refused t r) alarm) h = absurd h
-  Tells-map to fate.WriteFailed (inl h) = inl h
-  Tells-map to fate.WriteFailed (inr h) = inr (h.0, h.1, to h.0 h.1 h.2, h.3)
+  Tells-map to fate.WriteFailed h = (h.0, h.1, h.2, to h.0 h.1 h.2 h.3, h.4)
   Tells-map to fate.CannotOpen h = h
   Tells-map to fate.Memory h = h
   Tells-map to (fate.Schedule f) h = h
@@ -71,14 +73,14 @@ module _ (fails_at : List ℕ → Type 0) (path : Option (Bor (List ℕ))) (out 
   Tells-map to fate.Lost h = h
 
   -- what is told of the log that was read is told of the input
-  pub of_input : (read : Option (List ℕ)) (bounds : Bounds) (log : List Event) → IsInput read bounds log → IsWellFormed bounds log
-      → (f : Fate) → Tells (TellsVerdict log) fails_at path out f → Explains read fails_at path out f
+  pub of_input : (read : Reading) (bounds : Bounds) (log : List Event) → IsInput read.bytes bounds log → IsWellFormed bounds log
+      → (f : Fate) → Tells (TellsVerdict log) fails_at writes_at path out f → Explains read fails_at writes_at path out f
   of_input read bounds log input well f h = by_fate f (Tells-map told f h)
     where
-      told : (alarm : Bool) (text : List ℕ) → TellsVerdict log alarm text → TellsInput read alarm text
-      told alarm text verdict = record { bounds = bounds; trace = log; input = input; well_formed = well; verdict = verdict }
+      told : (alarm : Bool) (text : List ℕ) (drawn : Option (List ℕ)) → TellsVerdict log alarm text drawn → TellsInput read.bytes alarm text drawn
+      told alarm text drawn verdict = record { bounds = bounds; trace = log; input = input; well_formed = well; verdict = verdict }
 
-      by_fate : (f : Fate) → Tells (TellsInput read) fails_at path out f → Explains read fails_at path out f
+      by_fate : (f : Fate) → Tells (TellsInput read.bytes) fails_at writes_at path out f → Explains read fails_at writes_at path out f
       by_fate (fate.Check f) h = absurd h
       by_fate (fate.Finished ended alarm) h = h
       by_fate fate.WriteFailed h = h
@@ -93,9 +95,9 @@ module _ (fails_at : List ℕ → Type 0) (path : Option (Bor (List ℕ))) (out 
 pub of_evidence : (events log : List Event) → events ≡ log → (a : Alarm) (blamed : List Block) → blamed ≡ a.blamed.items → (evidence : Evidence)
     → IsAlarm log a → IsEvidence events a.position blamed evidence
     → (¬ HasCycle (take a.position events) → HaveReasons events a.position blamed evidence)
-    → (alarm : Bool) (text : List ℕ) → TellsAt events a.position evidence alarm text → TellsVerdict log alarm text
-of_evidence events log is a blamed same evidence is_alarm is_evidence reasons false text h = cc
-of_evidence events log is a blamed same evidence is_alarm is_evidence reasons true text h =
+    → (alarm : Bool) (text : List ℕ) (drawn : Option (List ℕ)) → TellsAt events a.position evidence alarm text drawn → TellsVerdict log alarm text drawn
+of_evidence events log is a blamed same evidence is_alarm is_evidence reasons false text drawn h = let alarm = h.0 in cc
+of_evidence events log is a blamed same evidence is_alarm is_evidence reasons true text drawn h =
     record {
       alarm = a;
       is_alarm = is_alarm;
@@ -106,6 +108,7 @@ of_evidence events log is a blamed same evidence is_alarm is_evidence reasons tr
           (subst (λ (b : List Block). HaveReasons events a.position b evidence) same
           (reasons (subst (λ (l : List Event). ¬ HasCycle (take a.position l)) (sym is) (no_cycle_before log a.position is_alarm.closing))));
       told = subst (λ (l : List Event). text ≡ explanation_text l a.position evidence) is h.1;
+      pictured = subst (λ (l : List Event). drawn ≡ Some (picture_text l evidence)) is h.2;
     }
 
 -- ---- want of memory
@@ -117,18 +120,18 @@ by_growth read (check_fault.WrongValue p) fault = tt
 by_growth read check_fault.Memory fault = fault
 by_growth read check_fault.Write fault = tt
 
-pub of_explained : (read : Option (List ℕ)) (fails_at : List ℕ → Type 0) (path : Option (Bor (List ℕ))) (out : Writing) (f : Fate)
-    → Explains read fails_at path out f → ComesByGrowth f
-of_explained read fails_at path out (fate.Check f) h = by_growth read f h.0
-of_explained read fails_at path out (fate.Finished ending.Done alarm) h = tt
-of_explained read fails_at path out (fate.Finished ending.Stuck alarm) h = tt
-of_explained read fails_at path out (fate.Finished ending.Halted alarm) h = tt
-of_explained read fails_at path out (fate.Finished ending.Gated alarm) h = tt
-of_explained read fails_at path out (fate.Finished (ending.Refused t r) alarm) h = absurd h
-of_explained read fails_at path out fate.WriteFailed h = tt
-of_explained read fails_at path out fate.CannotOpen h = tt
-of_explained read fails_at path out fate.Memory h = h.0
-of_explained read fails_at path out (fate.Schedule f) h = absurd h
-of_explained read fails_at path out (fate.Work f) h = absurd h
-of_explained read fails_at path out fate.ReadFailed h = tt
-of_explained read fails_at path out fate.Lost h = tt
+pub of_explained : (read : Reading) (fails_at : List ℕ → Type 0) (writes_at : List ℕ → Writing → Type 0) (path : Option (Bor (List ℕ))) (out : Writing) (f : Fate)
+    → Explains read fails_at writes_at path out f → ComesByGrowth f
+of_explained read fails_at writes_at path out (fate.Check f) h = by_growth read.bytes f h.0
+of_explained read fails_at writes_at path out (fate.Finished ending.Done alarm) h = tt
+of_explained read fails_at writes_at path out (fate.Finished ending.Stuck alarm) h = tt
+of_explained read fails_at writes_at path out (fate.Finished ending.Halted alarm) h = tt
+of_explained read fails_at writes_at path out (fate.Finished ending.Gated alarm) h = tt
+of_explained read fails_at writes_at path out (fate.Finished (ending.Refused t r) alarm) h = absurd h
+of_explained read fails_at writes_at path out fate.WriteFailed h = tt
+of_explained read fails_at writes_at path out fate.CannotOpen h = tt
+of_explained read fails_at writes_at path out fate.Memory h = h.0
+of_explained read fails_at writes_at path out (fate.Schedule f) h = absurd h
+of_explained read fails_at writes_at path out (fate.Work f) h = absurd h
+of_explained read fails_at writes_at path out fate.ReadFailed h = tt
+of_explained read fails_at writes_at path out fate.Lost h = tt

@@ -22,9 +22,10 @@ use Rattle.velo_program.specs.declared.request.RunOptions.{RunOptions}
 use Rattle.velo_program.specs.declared.schedule.ScheduleFault.TheVariants as schedule_fault
 use Rattle.velo_program.specs.Causes.{ComesTo, ComesByGrowth, ComesWithCause}
 use Rattle.velo_program.specs.Check.{Shows, write_failures}
-use Rattle.velo_program.specs.Playing.{AreNamesOf, FailsToLog, IsEnded, IsFaultOfText, IsLiveRunOf, IsReplayOf, IsTextOf, ShowsBy, ShowsEnd, ShowsLiveRun, ShowsRun, fate_of_showing, is_unreported}
+use Rattle.velo_program.specs.Paths.{Saves}
+use Rattle.velo_program.specs.Playing.{AreNamesOf, FailsToSave, IsEnded, IsFaultOfText, IsFaultOfWork, IsLiveRunOf, IsReplayOf, IsTextOf, ShowsBy, ShowsEnd, ShowsLiveRun, ShowsRun, fate_of_showing, is_unreported, text_of_log}
 use Rattle.velo_program.specs.Program.{DoesReplay, DoesReplayBy, DoesRun, FailsToParse, OpensNoProgram}
-use Rattle.velo_program.specs.Reading.{IsReadOf}
+use Rattle.velo_program.specs.Reading.{IsReadOf, Reading}
 use Rattle.velo_program.specs.Schedule.{IsSchedule}
 use Rattle.velo_program.specs.Writing.{Writing, WritesNothing}
 
@@ -45,32 +46,24 @@ fault_of_text : (all bytes : List ℕ) (fault : WorkFault) → IsReadOf MOST_WOR
 fault_of_text all bytes fault is (inl many) = inl (let n = longer all bytes is.0 is.1 in let m = many.0 in omega (arith, n, m), many.1)
 fault_of_text all bytes fault is (inr few) = subst (λ (b : List ℕ). IsFaultOfText b fault) (whole all bytes is.0 is.1 (is.2 few.0)) (inr few)
 
-pub fault_read : (read : Option (List ℕ)) (bytes : List ℕ) (f : Fate) → IsReadOf MOST_WORKLOAD_BYTES read bytes → FailsToParse (Some bytes) f → FailsToParse read f
-fault_read read bytes (fate.Work work_fault.Memory) is h = h
-fault_read None bytes (fate.Work (work_fault.BadLine n)) is h = tt
-fault_read None bytes (fate.Work (work_fault.Unknown n)) is h = tt
-fault_read None bytes (fate.Work (work_fault.Twice n)) is h = tt
-fault_read None bytes (fate.Work (work_fault.Unmatched n)) is h = tt
-fault_read None bytes (fate.Work (work_fault.TooMany n)) is h = tt
-fault_read (Some all) bytes (fate.Work (work_fault.BadLine n)) is h = fault_of_text all bytes _ is h
-fault_read (Some all) bytes (fate.Work (work_fault.Unknown n)) is h = fault_of_text all bytes _ is h
-fault_read (Some all) bytes (fate.Work (work_fault.Twice n)) is h = fault_of_text all bytes _ is h
-fault_read (Some all) bytes (fate.Work (work_fault.Unmatched n)) is h = fault_of_text all bytes _ is h
-fault_read (Some all) bytes (fate.Work (work_fault.TooMany n)) is h = fault_of_text all bytes _ is h
-fault_read read bytes fate.ReadFailed is h = h
-fault_read read bytes fate.Memory is h = h
-fault_read read bytes (fate.Finished ended alarm) is h = h
-fault_read read bytes (fate.Schedule f) is h = h
-fault_read read bytes (fate.Check f) is h = h
-fault_read read bytes fate.CannotOpen is h = h
-fault_read read bytes fate.WriteFailed is h = h
-fault_read read bytes fate.Lost is h = h
+pub fault_read : (read : Option (List ℕ)) (bytes : List ℕ) (f : WorkFault) → IsReadOf MOST_WORKLOAD_BYTES read bytes → IsFaultOfWork (Some bytes) f → IsFaultOfWork read f
+fault_read read bytes work_fault.Memory is h = h
+fault_read None bytes (work_fault.BadLine n) is h = tt
+fault_read None bytes (work_fault.Unknown n) is h = tt
+fault_read None bytes (work_fault.Twice n) is h = tt
+fault_read None bytes (work_fault.Unmatched n) is h = tt
+fault_read None bytes (work_fault.TooMany n) is h = tt
+fault_read (Some all) bytes (work_fault.BadLine n) is h = fault_of_text all bytes _ is h
+fault_read (Some all) bytes (work_fault.Unknown n) is h = fault_of_text all bytes _ is h
+fault_read (Some all) bytes (work_fault.Twice n) is h = fault_of_text all bytes _ is h
+fault_read (Some all) bytes (work_fault.Unmatched n) is h = fault_of_text all bytes _ is h
+fault_read (Some all) bytes (work_fault.TooMany n) is h = fault_of_text all bytes _ is h
 
 -- ---- what is written of a run
 
-module _ (fails_at : List ℕ → Type 0) (path : Option (Bor (List ℕ))) (out : Writing) where
+module _ (fails_at : List ℕ → Type 0) (writes_at : List ℕ → Writing → Type 0) (path : Option (Bor (List ℕ))) (out : Writing) where
   module _ (names : Names) (certificate : Bool) (w : WorldState) (ending : Ending) where
-    pub unlogged : (f : Fate) → FailsToLog fails_at path f → WritesNothing out → ShowsBy names certificate w ending fails_at path out f
+    pub unlogged : (f : Fate) → FailsToSave fails_at writes_at path (text_of_log w) f → WritesNothing out → ShowsBy names certificate w ending fails_at writes_at path out f
     unlogged fate.CannotOpen h none = (h, none)
     unlogged fate.WriteFailed h none = inl (h, none)
     unlogged (fate.Finished ended alarm) h none = absurd h
@@ -81,30 +74,31 @@ module _ (fails_at : List ℕ → Type 0) (path : Option (Bor (List ℕ))) (out 
     unlogged fate.Memory h none = absurd h
     unlogged fate.Lost h none = h
 
-    pub written : (answer : Result Verdict CheckFault) → Shows names certificate w out.old out.new answer → out.after ≡ write_failures answer out.before
-        → ShowsBy names certificate w ending fails_at path out (fate_of_showing answer ending)
-    written (Ok answer) shows failures =
-        (refl, record { answer = answer; verdict = shows.0; told = refl }, (shows.1.text, shows.1.is_output, (shows.1.appends, failures)))
-    written (Err check_fault.Write) shows failures = inr (shows.text, shows.is_output, (shows.appends, failures))
-    written (Err check_fault.Memory) shows failures = (shows.0, (shows.1, failures))
-    written (Err (check_fault.Log f)) shows failures = absurd shows
-    written (Err (check_fault.Refused p r)) shows failures = absurd shows
-    written (Err (check_fault.WrongValue p)) shows failures = absurd shows
+    pub written : Saves writes_at path (text_of_log w) → (answer : Result Verdict CheckFault) → Shows names certificate w out.old out.new answer → out.after ≡ write_failures answer out.before
+        → ShowsBy names certificate w ending fails_at writes_at path out (fate_of_showing answer ending)
+    written saved (Ok answer) shows failures =
+        (refl, record { answer = answer; verdict = shows.0; told = refl }, saved, (shows.1.text, shows.1.is_output, (shows.1.appends, failures)))
+    written saved (Err check_fault.Write) shows failures = inr (saved, (shows.text, shows.is_output, (shows.appends, failures)))
+    written saved (Err check_fault.Memory) shows failures = (shows.0, (shows.1, failures))
+    written saved (Err (check_fault.Log f)) shows failures = absurd shows
+    written saved (Err (check_fault.Refused p r)) shows failures = absurd shows
+    written saved (Err (check_fault.WrongValue p)) shows failures = absurd shows
 
   module _ (program : Program) (certificate : Bool) where
     -- what is shown by the program's names is shown of the run
     pub shown : (names : Names) → AreNamesOf program names → (w : WorldState) (ending : Ending) → is_unreported ending ≡ false
-        → (f : Fate) → ShowsBy names certificate w ending fails_at path out f → ShowsRun (IsEnded w ending) program certificate fails_at path out f
+        → (f : Fate) → ShowsBy names certificate w ending fails_at writes_at path out f → ShowsRun (IsEnded w ending) program certificate fails_at writes_at path out f
     shown names own w ending reported (fate.Finished ended alarm) h =
         let is : false ≡ is_unreported ended = sym (ap is_unreported h.0 ∙ reported) in (
           w,
           (h.0, refl),
-          subst (λ (b : Bool). ShowsEnd b program certificate out w alarm) is
-              (h.1, (h.2.0, record { names = names; own = own; output = h.2.1 }, h.2.2)),
+          subst (λ (b : Bool). ShowsEnd b program certificate writes_at path out w alarm) is
+              (h.1, h.2, (h.3.0, record { names = names; own = own; output = h.3.1 }, h.3.2)),
         )
-    shown names own w ending reported fate.WriteFailed (inl h) = inl h
+    shown names own w ending reported fate.WriteFailed (inl h) =
+        inl (record { ended = ending; world = w; is_run = (refl, refl); breaks_off = h.0; no_report = h.1 })
     shown names own w ending reported fate.WriteFailed (inr h) =
-        inr (record { ended = ending; world = w; is_run = (refl, refl); text = h.0; is_report = record { names = names; own = own; output = h.1 }; breaks_off = h.2 })
+        inr (record { ended = ending; world = w; is_run = (refl, refl); saved = h.0; text = h.1.0; is_report = record { names = names; own = own; output = h.1.1 }; breaks_off = h.1.2 })
     shown names own w ending reported fate.CannotOpen h = h
     shown names own w ending reported fate.Memory h = h
     shown names own w ending reported (fate.Schedule f) h = h
@@ -115,17 +109,18 @@ module _ (fails_at : List ℕ → Type 0) (path : Option (Bor (List ℕ))) (out 
 
     -- a run that ended so shows nothing
     pub shows_nothing : (w : WorldState) (ending : Ending) → is_unreported ending ≡ true → WritesNothing out
-        → ShowsRun (IsEnded w ending) program certificate fails_at path out (fate.Finished ending false)
+        → ShowsRun (IsEnded w ending) program certificate fails_at writes_at path out (fate.Finished ending false)
     shows_nothing w ending unreported none =
-        (w, (refl, refl), subst (λ (b : Bool). ShowsEnd b program certificate out w false) (sym unreported) (refl, none))
+        (w, (refl, refl), subst (λ (b : Bool). ShowsEnd b program certificate writes_at path out w false) (sym unreported) (refl, none))
 
     -- what holds of the ending and the world of the run that was shown
     pub ShowsRun-map : {P Q : Ending → WorldState → Type 0} → ((ended : Ending) (w : WorldState) → P ended w → Q ended w)
-        → (f : Fate) → ShowsRun P program certificate fails_at path out f → ShowsRun Q program certificate fails_at path out f
+        → (f : Fate) → ShowsRun P program certificate fails_at writes_at path out f → ShowsRun Q program certificate fails_at writes_at path out f
     ShowsRun-map to (fate.Finished ended alarm) h = (h.0, to ended h.0 h.1, h.2)
-    ShowsRun-map to fate.WriteFailed (inl h) = inl h
+    ShowsRun-map to fate.WriteFailed (inl h) =
+        inl (record { ended = h.ended; world = h.world; is_run = to h.ended h.world h.is_run; breaks_off = h.breaks_off; no_report = h.no_report })
     ShowsRun-map to fate.WriteFailed (inr h) =
-        inr (record { ended = h.ended; world = h.world; is_run = to h.ended h.world h.is_run; text = h.text; is_report = h.is_report; breaks_off = h.breaks_off })
+        inr (record { ended = h.ended; world = h.world; is_run = to h.ended h.world h.is_run; saved = h.saved; text = h.text; is_report = h.is_report; breaks_off = h.breaks_off })
     ShowsRun-map to fate.CannotOpen h = h
     ShowsRun-map to fate.Memory h = h
     ShowsRun-map to (fate.Schedule f) h = h
@@ -135,7 +130,7 @@ module _ (fails_at : List ℕ → Type 0) (path : Option (Bor (List ℕ))) (out 
     ShowsRun-map to fate.Lost h = h
 
     -- a run that loses no seat
-    pub live : (P : Ending → WorldState → Type 0) (f : Fate) → ShowsRun P program certificate fails_at path out f → ShowsLiveRun P program certificate fails_at path out f
+    pub live : (P : Ending → WorldState → Type 0) (f : Fate) → ShowsRun P program certificate fails_at writes_at path out f → ShowsLiveRun P program certificate fails_at writes_at path out f
     live P (fate.Finished ended alarm) h = h
     live P fate.WriteFailed h = h
     live P fate.CannotOpen h = h
@@ -148,7 +143,7 @@ module _ (fails_at : List ℕ → Type 0) (path : Option (Bor (List ℕ))) (out 
 
     -- want of memory has the cause that the ending has
     pub of_shown : (P : Ending → WorldState → Type 0) (EndsSo : Ending → Type 0) → ((ended : Ending) (w : WorldState) → P ended w → EndsSo ended)
-        → (f : Fate) → ShowsRun P program certificate fails_at path out f → ComesTo EndsSo f
+        → (f : Fate) → ShowsRun P program certificate fails_at writes_at path out f → ComesTo EndsSo f
     of_shown P EndsSo so (fate.Finished ended alarm) h = so ended h.0 h.1
     of_shown P EndsSo so fate.WriteFailed h = tt
     of_shown P EndsSo so fate.CannotOpen h = tt
@@ -170,7 +165,7 @@ schedule_read text schedule lent is h = subst (IsSchedule text) (sym is) h
 
 -- ---- want of memory
 
-of_fault : (EndsSo : Ending → Type 0) (read : Option (List ℕ)) (f : Fate) → FailsToParse read f → ComesTo EndsSo f
+of_fault : (EndsSo : Ending → Type 0) (read : Reading) (f : Fate) → FailsToParse read f → ComesTo EndsSo f
 of_fault EndsSo read (fate.Work work_fault.Memory) h = h
 of_fault EndsSo read (fate.Work (work_fault.BadLine n)) h = tt
 of_fault EndsSo read (fate.Work (work_fault.Unknown n)) h = tt
@@ -186,16 +181,16 @@ of_fault EndsSo read fate.CannotOpen h = tt
 of_fault EndsSo read fate.WriteFailed h = tt
 of_fault EndsSo read fate.Lost h = tt
 
-module _ (gives_at : List ℕ → Option (List ℕ) → Type 0) (fails_at : List ℕ → Type 0) (gives : Option (List ℕ) → Type 0) (out : Writing) where
-  of_unopened : (EndsSo : Ending → Type 0) (path : List ℕ) (f : Fate) → OpensNoProgram gives_at fails_at gives path f → ComesTo EndsSo f
+module _ (reads_at : List ℕ → Reading → Type 0) (fails_at : List ℕ → Type 0) (writes_at : List ℕ → Writing → Type 0) (out : Writing) where
+  of_unopened : (EndsSo : Ending → Type 0) (path : List ℕ) (f : Fate) → OpensNoProgram reads_at fails_at writes_at path f → ComesTo EndsSo f
   of_unopened EndsSo path f (inl h) = of_fault EndsSo h.read f h.fault
   of_unopened EndsSo path f (inr h) = rw h.0 tt
 
-  of_replay_by : (schedule : List ThreadId) (options : RunOptions) (f : Fate) → DoesReplayBy gives_at fails_at gives schedule options out f → ComesByGrowth f
-  of_replay_by schedule options f (inl h) = of_shown fails_at options.log out h.0 options.certificate (IsReplayOf schedule options h.0) EndsByGrowth (λ ended w run. run.cause) f h.2
+  of_replay_by : (schedule : List ThreadId) (options : RunOptions) (f : Fate) → DoesReplayBy reads_at fails_at writes_at schedule options out f → ComesByGrowth f
+  of_replay_by schedule options f (inl h) = of_shown fails_at writes_at options.log out h.0 options.certificate (IsReplayOf schedule options h.0) EndsByGrowth (λ ended w run. run.cause) f h.2
   of_replay_by schedule options f (inr h) = of_unopened EndsByGrowth options.file.now f h.0
 
-  pub of_replay : (options : ReplayOptions) (f : Fate) → DoesReplay gives_at fails_at gives options out f → ComesByGrowth f
+  pub of_replay : (options : ReplayOptions) (f : Fate) → DoesReplay reads_at fails_at writes_at options out f → ComesByGrowth f
   of_replay options (fate.Schedule schedule_fault.Bad) h = tt
   of_replay options (fate.Schedule schedule_fault.Memory) h = h.0
   of_replay options (fate.Finished ended alarm) h = of_replay_by h.0 options.run _ h.2
@@ -209,7 +204,7 @@ module _ (gives_at : List ℕ → Option (List ℕ) → Type 0) (fails_at : List
 
   -- what a replay comes to is never a fault of its schedule
   pub by_schedule : (options : ReplayOptions) (schedule : List ThreadId) → IsSchedule options.schedule.now schedule
-      → (f : Fate) → DoesReplayBy gives_at fails_at gives schedule options.run out f → DoesReplay gives_at fails_at gives options out f
+      → (f : Fate) → DoesReplayBy reads_at fails_at writes_at schedule options.run out f → DoesReplay reads_at fails_at writes_at options out f
   by_schedule options schedule is (fate.Schedule f) (inl h) = absurd h.2
   by_schedule options schedule is (fate.Schedule f) (inr (inl h, none)) = absurd h.fault
   by_schedule options schedule is (fate.Schedule f) (inr (inr h, none)) = let bad = h.0 in cc
@@ -223,9 +218,9 @@ module _ (gives_at : List ℕ → Option (List ℕ) → Type 0) (fails_at : List
   by_schedule options schedule is fate.Lost h = (schedule, is, h)
 
   of_live : (program : Program) (options : RunOptions) (f : Fate)
-      → ShowsLiveRun (IsLiveRunOf program) program options.certificate fails_at options.log out f → ComesWithCause f
+      → ShowsLiveRun (IsLiveRunOf program) program options.certificate fails_at writes_at options.log out f → ComesWithCause f
   of_live program options fate.Lost h = tt
-  of_live program options (fate.Finished ended alarm) h = of_shown fails_at options.log out program options.certificate (IsLiveRunOf program) EndsWithCause (λ e w run. run.cause) (fate.Finished ended alarm) h
+  of_live program options (fate.Finished ended alarm) h = of_shown fails_at writes_at options.log out program options.certificate (IsLiveRunOf program) EndsWithCause (λ e w run. run.cause) (fate.Finished ended alarm) h
   of_live program options (fate.Schedule f) h = absurd h
   of_live program options (fate.Work f) h = absurd h
   of_live program options (fate.Check f) h = absurd h
@@ -234,6 +229,6 @@ module _ (gives_at : List ℕ → Option (List ℕ) → Type 0) (fails_at : List
   of_live program options fate.WriteFailed h = tt
   of_live program options fate.Memory h = h.0
 
-  pub of_run : (options : RunOptions) (f : Fate) → DoesRun gives_at fails_at gives options out f → ComesWithCause f
+  pub of_run : (options : RunOptions) (f : Fate) → DoesRun reads_at fails_at writes_at options out f → ComesWithCause f
   of_run options f (inl h) = of_live h.0 options f h.2
   of_run options f (inr h) = of_unopened EndsWithCause options.file.now f h.0

@@ -1,11 +1,12 @@
 -- What replaying or running a workload comes to, by the bytes of its text and by the definitions.
-use Rattle.std.specs.Prelude.{◌≡◌, ◌⊎◌, ◌≤◌, ◌<◌, ℕ, Bool, true, false, List, length, map, string_bytes, Option, IfSome, IsSome, Result, Ok, Err}
+use Rattle.std.specs.Prelude.{◌≡◌, ◌⊎◌, ◌≤◌, ◌<◌, ℕ, Bool, true, false, List, length, map, string_bytes, Option, IfSome, Result, Ok, Err}
 use Rattle.std.specs.Borrow.{Bor}
 use Rattle.std.specs.Str.{IsUtf8}
 use Rattle.velo_events.specs.declared.config.Config.{Config}
 use Rattle.velo_events.specs.declared.event.ThreadId.{ThreadId}
 use Rattle.velo_events.specs.declared.refusal.Refusal.TheVariants as refusal
 use Rattle.velo_events.specs.Refusals.{GrowthRefused}
+use Rattle.velo_logtext.specs.Text.{log_text}
 use Rattle.velo_report.specs.declared.names.Names.{Names}
 use Rattle.velo_report.specs.declared.names.Names.TheVariants.{Numbers, Words}
 use Rattle.velo_worker.specs.declared.ending.Ending.{Ending}
@@ -27,7 +28,7 @@ use Rattle.velo_program.specs.declared.fate.Fate.TheVariants.{Finished, CannotOp
 use Rattle.velo_program.specs.declared.fate.Fate.TheVariants as fate
 use Rattle.velo_program.specs.declared.request.RunOptions.{RunOptions}
 use Rattle.velo_program.specs.Check.{IsOutput, IsVerdict}
-use Rattle.velo_program.specs.Paths.{FailsAt}
+use Rattle.velo_program.specs.Paths.{FailsAt, Saves, BreaksOffAt}
 use Rattle.velo_program.specs.Writing.{Writing, Writes, BreaksOff, WritesNothing}
 
 -- ---- the workload of an input
@@ -77,40 +78,55 @@ pub record IsVerdictOf (w : WorldState) (alarm : Bool) : Type 0 where
   pub verdict : IsVerdict w.log answer
   pub told : alarm ≡ is_alarm answer
 
--- what was written of a run that came to an end: nothing, or the report
-abbrev pub ShowsEnd : Bool → Program → Bool → Writing → WorldState → Bool → Type 0
-ShowsEnd true program certificate out w alarm = (alarm ≡ false) × WritesNothing out
-ShowsEnd false program certificate out w alarm = IsVerdictOf w alarm × ((text : List ℕ) × IsReportOf program certificate w text × Writes out text)
+-- the text of the world's log
+abbrev pub text_of_log : WorldState → List ℕ
+text_of_log w = log_text w.config.bounds w.log
 
--- a beginning of the report was written
-pub record ShowsPart (IsRun : Ending → WorldState → Type 0) (program : Program) (certificate : Bool) (out : Writing) : Type 0 where
+-- what was written of a run that came to an end: nothing, or its log to the path, if there is one, and the report
+abbrev pub ShowsEnd : Bool → Program → Bool → (List ℕ → Writing → Type 0) → Option (Bor (List ℕ)) → Writing → WorldState → Bool → Type 0
+ShowsEnd true program certificate writes_at path out w alarm = (alarm ≡ false) × WritesNothing out
+ShowsEnd false program certificate writes_at path out w alarm =
+    IsVerdictOf w alarm × Saves writes_at path (text_of_log w) × ((text : List ℕ) × IsReportOf program certificate w text × Writes out text)
+
+-- a beginning of the log was written to the path, and nothing of the report
+pub record SavesPart (IsRun : Ending → WorldState → Type 0) (writes_at : List ℕ → Writing → Type 0) (path : Option (Bor (List ℕ))) (out : Writing) : Type 0 where
   pub ended : Ending
   pub world : WorldState
   pub is_run : IsRun ended world
+  pub breaks_off : BreaksOffAt writes_at path (text_of_log world)
+  pub no_report : WritesNothing out
+
+-- the log was written, and a beginning of the report
+pub record ShowsPart (IsRun : Ending → WorldState → Type 0) (program : Program) (certificate : Bool) (writes_at : List ℕ → Writing → Type 0) (path : Option (Bor (List ℕ))) (out : Writing) : Type 0 where
+  pub ended : Ending
+  pub world : WorldState
+  pub is_run : IsRun ended world
+  pub saved : Saves writes_at path (text_of_log world)
   pub text : List ℕ
   pub is_report : IsReportOf program certificate world text
   pub breaks_off : BreaksOff out text
 
--- the file of the log failed, which goes out first: its path did not open, or what stands there could not be written
-abbrev pub FailsToLog : (List ℕ → Type 0) → Option (Bor (List ℕ)) → Fate → Type 0
-FailsToLog fails_at path CannotOpen = FailsAt fails_at path
-FailsToLog fails_at path WriteFailed = IsSome path
-FailsToLog fails_at path f = ⊥
+-- the file of the log failed, which goes out first: its path did not open, or what stands there took a beginning of the text
+abbrev pub FailsToSave : (List ℕ → Type 0) → (List ℕ → Writing → Type 0) → Option (Bor (List ℕ)) → List ℕ → Fate → Type 0
+FailsToSave fails_at writes_at path text CannotOpen = FailsAt fails_at path
+FailsToSave fails_at writes_at path text WriteFailed = BreaksOffAt writes_at path text
+FailsToSave fails_at writes_at path text f = ⊥
 
--- what was written of a run that ended so, by the endings and worlds that it may have: its report, a beginning of that where
--- the sink failed, or nothing where the file of the log did
-abbrev pub ShowsRun : (Ending → WorldState → Type 0) → Program → Bool → (List ℕ → Type 0) → Option (Bor (List ℕ)) → Writing → Fate → Type 0
-ShowsRun IsRun program certificate fails_at path out (Finished ended alarm) =
-    (w : WorldState) × IsRun ended w × ShowsEnd (is_unreported ended) program certificate out w alarm
-ShowsRun IsRun program certificate fails_at path out WriteFailed = (IsSome path × WritesNothing out) ⊎ ShowsPart IsRun program certificate out
-ShowsRun IsRun program certificate fails_at path out CannotOpen = FailsAt fails_at path × WritesNothing out
-ShowsRun IsRun program certificate fails_at path out fate.Memory = GrowthRefused × WritesNothing out
-ShowsRun IsRun program certificate fails_at path out f = ⊥
+-- what was written of a run that ended so, by the endings and worlds that it may have: its log and its report, or a beginning of
+-- that where the file of the log or the sink failed
+abbrev pub ShowsRun : (Ending → WorldState → Type 0) → Program → Bool → (List ℕ → Type 0) → (List ℕ → Writing → Type 0) → Option (Bor (List ℕ)) → Writing → Fate → Type 0
+ShowsRun IsRun program certificate fails_at writes_at path out (Finished ended alarm) =
+    (w : WorldState) × IsRun ended w × ShowsEnd (is_unreported ended) program certificate writes_at path out w alarm
+ShowsRun IsRun program certificate fails_at writes_at path out WriteFailed =
+    SavesPart IsRun writes_at path out ⊎ ShowsPart IsRun program certificate writes_at path out
+ShowsRun IsRun program certificate fails_at writes_at path out CannotOpen = FailsAt fails_at path × WritesNothing out
+ShowsRun IsRun program certificate fails_at writes_at path out fate.Memory = GrowthRefused × WritesNothing out
+ShowsRun IsRun program certificate fails_at writes_at path out f = ⊥
 
 -- a run by threads may lose a seat
-abbrev pub ShowsLiveRun : (Ending → WorldState → Type 0) → Program → Bool → (List ℕ → Type 0) → Option (Bor (List ℕ)) → Writing → Fate → Type 0
-ShowsLiveRun IsRun program certificate fails_at path out Lost = WritesNothing out
-ShowsLiveRun IsRun program certificate fails_at path out f = ShowsRun IsRun program certificate fails_at path out f
+abbrev pub ShowsLiveRun : (Ending → WorldState → Type 0) → Program → Bool → (List ℕ → Type 0) → (List ℕ → Writing → Type 0) → Option (Bor (List ℕ)) → Writing → Fate → Type 0
+ShowsLiveRun IsRun program certificate fails_at writes_at path out Lost = WritesNothing out
+ShowsLiveRun IsRun program certificate fails_at writes_at path out f = ShowsRun IsRun program certificate fails_at writes_at path out f
 
 -- ---- the runs of a workload
 
@@ -146,11 +162,14 @@ abbrev pub IsEnded : WorldState → Ending → Ending → WorldState → Type 0
 IsEnded closed ending ended w = (ended ≡ ending) × (w ≡ closed)
 
 -- what is written of a closed world by these names
-abbrev pub ShowsBy : Names → Bool → WorldState → Ending → (List ℕ → Type 0) → Option (Bor (List ℕ)) → Writing → Fate → Type 0
-ShowsBy names certificate w ending fails_at path out (Finished ended alarm) =
-    (ended ≡ ending) × IsVerdictOf w alarm × ((text : List ℕ) × IsOutput names certificate w.config.bounds.threads w.log text × Writes out text)
-ShowsBy names certificate w ending fails_at path out WriteFailed = (IsSome path × WritesNothing out)
-    ⊎ ((text : List ℕ) × IsOutput names certificate w.config.bounds.threads w.log text × BreaksOff out text)
-ShowsBy names certificate w ending fails_at path out CannotOpen = FailsAt fails_at path × WritesNothing out
-ShowsBy names certificate w ending fails_at path out fate.Memory = GrowthRefused × WritesNothing out
-ShowsBy names certificate w ending fails_at path out f = ⊥
+abbrev pub ShowsBy : Names → Bool → WorldState → Ending → (List ℕ → Type 0) → (List ℕ → Writing → Type 0) → Option (Bor (List ℕ)) → Writing → Fate → Type 0
+ShowsBy names certificate w ending fails_at writes_at path out (Finished ended alarm) =
+    (ended ≡ ending) × IsVerdictOf w alarm × Saves writes_at path (text_of_log w)
+    × ((text : List ℕ) × IsOutput names certificate w.config.bounds.threads w.log text × Writes out text)
+ShowsBy names certificate w ending fails_at writes_at path out WriteFailed =
+    (BreaksOffAt writes_at path (text_of_log w) × WritesNothing out)
+    ⊎ (Saves writes_at path (text_of_log w)
+    × ((text : List ℕ) × IsOutput names certificate w.config.bounds.threads w.log text × BreaksOff out text))
+ShowsBy names certificate w ending fails_at writes_at path out CannotOpen = FailsAt fails_at path × WritesNothing out
+ShowsBy names certificate w ending fails_at writes_at path out fate.Memory = GrowthRefused × WritesNothing out
+ShowsBy names certificate w ending fails_at writes_at path out f = ⊥

@@ -2,7 +2,9 @@
 ghost use Rattle.std.specs.Prelude.{◌≡◌};
 ghost use Rattle.velo_program.specs.Causes.{ComesByGrowth};
 ghost use Rattle.velo_program.specs.Fate.{fate_of};
+ghost use Rattle.velo_program.specs.Paths.{ReadsAt, WritesAt};
 ghost use Rattle.velo_program.specs.Program.{DoesCheck, IsChecked};
+ghost use Rattle.velo_program.specs.Reading.{reading};
 ghost use Rattle.velo_program.specs.Writing.{writing};
 
 use crate::check::{CheckFault, Verdict, check_run};
@@ -33,7 +35,7 @@ fn check_log<I: Source, O: Sink>(
     log: &mut I,
     out: &mut O,
 ) -> Fate
-    ensures checked { IsChecked options.now.limits.events options.now.limits.nodes options.now.certificate (I.remaining log.old) (writing O.contents O.failures out.old out.new) result }
+    ensures checked { IsChecked options.now.limits.events options.now.limits.nodes options.now.certificate (reading I.remaining I.failures log.old log.new) (writing O.contents O.failures out.old out.new) result }
     ensures memory { ComesByGrowth result }
 {
     let answer = check_run(
@@ -48,13 +50,16 @@ fn check_log<I: Source, O: Sink>(
 }
 
 /// Checks the log that was asked for.
-pub fn check<F: Files, O: Sink>(
+pub fn check_file<F: Files, O: Sink>(
     alloc: Global,
     options: &CheckOptions,
     files: &F,
     out: &mut O,
 ) -> Fate
-    ensures done { DoesCheck (F.gives_at files.now) (F.fails_at files.now) (F.gives files.now) options.now (writing O.contents O.failures out.old out.new) result }
+    ensures done { DoesCheck
+        (ReadsAt (F.gives_at files.now) F.Input.remaining F.Input.failures (F.gives files.now) F.StandardInput.remaining F.StandardInput.failures)
+        (F.fails_at files.now) (WritesAt (F.takes_at files.now) F.Output.contents F.Output.failures)
+        options.now (writing O.contents O.failures out.old out.new) result }
     ensures memory { ComesByGrowth result }
 {
     if is_standard_input(options.log) {

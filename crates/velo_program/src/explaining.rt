@@ -1,10 +1,13 @@
 //! `velodrome explain`.
-ghost use Rattle.std.specs.Prelude.{◌≡◌, ◌≤◌, length, IfErr};
+ghost use Rattle.std.specs.Prelude.{◌≡◌, ◌≤◌, length, IfErr, OnOk};
 ghost use Rattle.velo_events.specs.declared.limits.TheConstants.{MOST_EVENTS};
 ghost use Rattle.velo_explain.specs.Evidence.{IsEvidenceAt};
+ghost use Rattle.velo_explain.specs.Picture.{picture_text};
 ghost use Rattle.velo_program.specs.Causes.{ComesByGrowth};
 ghost use Rattle.velo_program.specs.Explaining.{Explains, FailsToDraw, Tells, TellsAt, TellsVerdict, fate_of_telling};
+ghost use Rattle.velo_program.specs.Paths.{ReadsAt, Saves, WritesAt};
 ghost use Rattle.velo_program.specs.Program.{DoesExplain};
+ghost use Rattle.velo_program.specs.Reading.{reading};
 ghost use Rattle.velo_program.specs.Writing.{writing};
 
 use crate::check::{CheckFault, config_of, do_log};
@@ -21,7 +24,7 @@ use velo_worker::Ending;
 use velo_world::Closed;
 
 /// What an explanation came to.
-fn fate_of(answer: Result<(), ExplainFault>, alarm: bool) -> Fate
+fn fate_of_telling(answer: Result<(), ExplainFault>, alarm: bool) -> Fate
     ensures { result ≡ fate_of_telling answer alarm }
 {
     match answer {
@@ -45,7 +48,9 @@ fn draw<F: Files>(
 ) -> Result<(), Fate>
     requires few { length log.now.events ≤ MOST_EVENTS }
     requires evidence { IsEvidenceAt log.now.events position evidence.now }
-    ensures { IfErr result (FailsToDraw (F.fails_at files.old) path.entry) }
+    ensures drawn { OnOk result (Saves (WritesAt (F.takes_at files.old) F.Output.contents F.Output.failures) path.entry (picture_text log.now.events evidence.now)) }
+    ensures failed { IfErr result (FailsToDraw
+        (F.fails_at files.old) (WritesAt (F.takes_at files.old) F.Output.contents F.Output.failures) path.entry (picture_text log.now.events evidence.now)) }
 {
     let Some(path) = path else {
         return Ok(());
@@ -72,10 +77,12 @@ fn explain_by<F: Files, O: Sink>(
 ) -> Fate
     requires few { length log.now.events ≤ MOST_EVENTS }
     requires evidence { IsEvidenceAt log.now.events position evidence.now }
-    ensures { Tells (TellsAt log.now.events position evidence.now) (F.fails_at files.old) path.entry (writing O.contents O.failures out.old out.new) result }
+    ensures { Tells (TellsAt log.now.events position evidence.now)
+        (F.fails_at files.old) (WritesAt (F.takes_at files.old) F.Output.contents F.Output.failures) path.entry
+        (writing O.contents O.failures out.old out.new) result }
 {
     match draw(alloc, log, position, evidence, path, files) {
-        Ok(()) => fate_of(explain(alloc, log, position, evidence, out), true),
+        Ok(()) => fate_of_telling(explain(alloc, log, position, evidence, out), true),
         Err(fate) => fate,
     }
 }
@@ -89,11 +96,13 @@ fn explain_closed<F: Files, O: Sink>(
     out: &mut O,
 ) -> Fate
     requires { length closed.now.log ≤ MOST_EVENTS }
-    ensures { Tells (TellsVerdict closed.now.log) (F.fails_at files.old) path.entry (writing O.contents O.failures out.old out.new) result }
+    ensures { Tells (TellsVerdict closed.now.log)
+        (F.fails_at files.old) (WritesAt (F.takes_at files.old) F.Output.contents F.Output.failures) path.entry
+        (writing O.contents O.failures out.old out.new) result }
 {
     let log = closed.log();
     let Some(alarm) = closed.alarm() else {
-        return fate_of(explain_clean(alloc, log, out), false);
+        return fate_of_telling(explain_clean(alloc, log, out), false);
     };
     let position = alarm.position;
     match evidence_of(alloc, log, position, alarm.blamed.as_slice()) {
@@ -116,7 +125,9 @@ fn explain_log<I: Source, F: Files, O: Sink>(
     files: &mut F,
     out: &mut O,
 ) -> Fate
-    ensures { Explains (I.remaining source.old) (F.fails_at files.old) path.entry (writing O.contents O.failures out.old out.new) result }
+    ensures { Explains (reading I.remaining I.failures source.old source.new)
+        (F.fails_at files.old) (WritesAt (F.takes_at files.old) F.Output.contents F.Output.failures) path.entry
+        (writing O.contents O.failures out.old out.new) result }
 {
     let (bounds, log) = match read_log(alloc, source) {
         Ok(read) => read,
@@ -139,7 +150,10 @@ pub fn explain_file<F: Files, O: Sink>(
     files: &mut F,
     out: &mut O,
 ) -> Fate
-    ensures done { DoesExplain (F.gives_at files.old) (F.fails_at files.old) (F.gives files.old) options.now (writing O.contents O.failures out.old out.new) result }
+    ensures done { DoesExplain
+        (ReadsAt (F.gives_at files.old) F.Input.remaining F.Input.failures (F.gives files.old) F.StandardInput.remaining F.StandardInput.failures)
+        (F.fails_at files.old) (WritesAt (F.takes_at files.old) F.Output.contents F.Output.failures)
+        options.now (writing O.contents O.failures out.old out.new) result }
     ensures memory { ComesByGrowth result }
 {
     if is_standard_input(options.log) {

@@ -6,6 +6,7 @@ ghost use Rattle.velo_program.specs.Fate.{Ends, number_of, status_of, status_of_
 
 use crate::check::CheckFault;
 use crate::schedule::ScheduleFault;
+use crate::status::{ALARM, BAD_INPUT, DONE, FAILED, INCOMPLETE};
 use velo_events::{Refusal, ThreadId};
 use velo_logtext::{LogFault, Sink, WriteFault, put_bytes, put_number, write_all};
 use velo_worker::Ending;
@@ -14,17 +15,14 @@ use velo_workload::WorkFault;
 /// Room that is enough for a line on standard error.
 const LINE_ROOM: usize = 64;
 
-/// The status where standard error can't be written.
-pub const DEVICE_FAILED: u8 = 5;
-
 /// What a run of the program came to.
 #[derive(Clone, Copy, Debug, PartialEq, Eq)]
 pub enum Fate {
     /// It came to an end, with or without an alarm. A check is done.
     Finished { ending: Ending, alarm: bool },
-    /// The schedule is none.
+    /// The text is no schedule.
     Schedule(ScheduleFault),
-    /// The workload is none.
+    /// The text is no workload.
     Work(WorkFault),
     /// The check met a fault.
     Check(CheckFault),
@@ -52,8 +50,8 @@ fn status_of_log(fault: LogFault) -> u8
 {
     match fault {
         LogFault::BadHeader | LogFault::BadLine(_) | LogFault::Truncated(_) | LogFault::TooLong =>
-            2,
-        LogFault::Read | LogFault::Memory => 5,
+            BAD_INPUT,
+        LogFault::Read | LogFault::Memory => FAILED,
     }
 }
 
@@ -62,9 +60,10 @@ fn status_of_check(fault: CheckFault) -> u8
 {
     match fault {
         CheckFault::Log(fault) => status_of_log(fault),
-        CheckFault::Refused { refusal, .. } if number_of(refusal) >= 17 => 4,
-        CheckFault::Refused { .. } | CheckFault::WrongValue { .. } => 2,
-        CheckFault::Write | CheckFault::Memory => 5,
+        CheckFault::Refused { refusal, .. } if number_of(refusal) >= number_of(Refusal::LogFull) =>
+            INCOMPLETE,
+        CheckFault::Refused { .. } | CheckFault::WrongValue { .. } => BAD_INPUT,
+        CheckFault::Write | CheckFault::Memory => FAILED,
     }
 }
 
@@ -72,9 +71,9 @@ fn status_of_end(ending: Ending, alarm: bool) -> u8
     ensures { result ≡ status_of_end ending alarm }
 {
     match ending {
-        Ending::Refused(_, Refusal::Memory | Refusal::RuntimeMemory) => 5,
-        Ending::Stuck | Ending::Refused(..) => 4,
-        Ending::Done | Ending::Halted | Ending::Gated => { if alarm { 3 } else { 0 } }
+        Ending::Refused(_, Refusal::Memory | Refusal::RuntimeMemory) => FAILED,
+        Ending::Stuck | Ending::Refused(..) => INCOMPLETE,
+        Ending::Done | Ending::Halted | Ending::Gated => { if alarm { ALARM } else { DONE } }
     }
 }
 
@@ -82,8 +81,8 @@ fn status_of_schedule(fault: ScheduleFault) -> u8
     ensures { result ≡ status_of_schedule fault }
 {
     match fault {
-        ScheduleFault::Bad => 2,
-        ScheduleFault::Memory => 5,
+        ScheduleFault::Bad => BAD_INPUT,
+        ScheduleFault::Memory => FAILED,
     }
 }
 
@@ -91,8 +90,8 @@ fn status_of_work(fault: WorkFault) -> u8
     ensures { result ≡ status_of_work fault }
 {
     match fault {
-        WorkFault::Memory => 5,
-        _ => 2,
+        WorkFault::Memory => FAILED,
+        _ => BAD_INPUT,
     }
 }
 
@@ -104,7 +103,9 @@ fn status_of(fate: Fate) -> u8
         Fate::Schedule(fault) => status_of_schedule(fault),
         Fate::Work(fault) => status_of_work(fault),
         Fate::Check(fault) => status_of_check(fault),
-        Fate::CannotOpen | Fate::ReadFailed | Fate::WriteFailed | Fate::Memory | Fate::Lost => 5,
+        Fate::CannotOpen | Fate::ReadFailed | Fate::WriteFailed | Fate::Memory | Fate::Lost => {
+            FAILED
+        }
     }
 }
 
@@ -249,12 +250,11 @@ fn put_line(buffer: &mut [u8], fate: Fate) -> usize
     }
 }
 
-/// Writes the line that tells how a run ended, if there is one, in one piece, and answers the status to end with: 0
-/// without an alarm, 3 with one, 2 where the input is at fault, 4 where a limit was met or a run got stuck, 5 where memory or
-/// a device failed.
+/// Writes the line that tells how a run ended, if there is one, in one piece, and answers the status to end with. It takes no
+/// memory.
 ///
 /// # Errors
-/// `WriteFault` where the sink failed; the status is then 5. It takes no memory.
+/// `WriteFault` where the sink failed; the status is then [`FAILED`].
 pub fn end_line<S: Sink>(fate: &Fate, sink: &mut S) -> Result<u8, WriteFault>
     ensures status { IfOk result (λ status. status ≡ status_of fate.now) }
     ensures text { OnOk result (Appends (S.contents sink.old) (S.contents sink.new) (line_of fate.now)) }
@@ -273,6 +273,6 @@ pub fn end_with<S: Sink>(fate: &Fate, sink: &mut S) -> u8
 {
     match end_line(fate, sink) {
         Ok(status) => status,
-        Err(WriteFault) => DEVICE_FAILED,
+        Err(WriteFault) => FAILED,
     }
 }

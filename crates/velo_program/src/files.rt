@@ -22,6 +22,9 @@ pub trait Files {
     /// What is said of the bytes of standard input, where they are known.
     ghost gives: { Self → Option (List ℕ) → Type 0 } = { λ _ _. ⊤ };
 
+    /// What is said of the bytes of a file that opens at a path to be written, as it opens.
+    ghost takes_at: { Self → List ℕ → Option (List ℕ) → Type 0 } = { λ _ _ _. ⊤ };
+
     /// Opens the file at a path to be read; none where this fails.
     fn open(&self, path: &str) -> Option<Self::Input>
         ensures some { IfSome result (λ input. gives_at self.now path.now (Self.Input.remaining input)) }
@@ -33,7 +36,8 @@ pub trait Files {
 
     /// Opens the file at a path to be written, and empties it; none where this fails.
     fn create(&mut self, path: &str) -> Option<&mut Self::Output>
-        ensures { IsNone result → fails_at self.old path.now };
+        ensures some { IfSome result (λ file. takes_at self.old path.now (Self.Output.contents file.now)) }
+        ensures none { IsNone result → fails_at self.old path.now };
 }
 
 /// Whether the path stands for standard input.

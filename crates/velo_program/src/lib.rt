@@ -12,13 +12,14 @@ mod replaying;
 mod request;
 mod running;
 mod schedule;
+pub mod status;
 mod work;
 
 pub use check::{
     CheckFault, Verdict, check_run, config_of, do_log, order_or_cycle_of, write_certified,
 };
 pub use doing::do_request;
-pub use fate::{DEVICE_FAILED, Fate, end_with};
+pub use fate::{Fate, end_with};
 pub use files::Files;
 pub use request::{CheckOptions, ExplainOptions, Limits, ReplayOptions, Request, RunOptions};
 pub use schedule::{MOST_TURNS, ScheduleFault, schedule_of};

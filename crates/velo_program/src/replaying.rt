@@ -1,6 +1,7 @@
 //! `velodrome replay`.
 ghost use Rattle.std.specs.Prelude.{◌≡◌};
 ghost use Rattle.velo_program.specs.Causes.{ComesByGrowth};
+ghost use Rattle.velo_program.specs.Paths.{ReadsAt, WritesAt};
 ghost use Rattle.velo_program.specs.Playing.{IsReplayOf, ShowsRun};
 ghost use Rattle.velo_program.specs.Program.{DoesReplay, DoesReplayBy};
 ghost use Rattle.velo_program.specs.Writing.{writing};
@@ -25,7 +26,9 @@ fn replay_workload<F: Files, O: Sink>(
     files: &mut F,
     out: &mut O,
 ) -> Fate
-    ensures { ShowsRun (IsReplayOf schedule.now options.now workload.now) workload.now options.now.certificate (F.fails_at files.old) options.now.log (writing O.contents O.failures out.old out.new) result }
+    ensures { ShowsRun (IsReplayOf schedule.now options.now workload.now) workload.now options.now.certificate
+        (F.fails_at files.old) (WritesAt (F.takes_at files.old) F.Output.contents F.Output.failures) options.now.log
+        (writing O.contents O.failures out.old out.new) result }
 {
     let config = config_of_run(workload, options);
     match replay(alloc, workload, schedule, config) {
@@ -42,7 +45,10 @@ fn replay_by<F: Files, O: Sink>(
     files: &mut F,
     out: &mut O,
 ) -> Fate
-    ensures { DoesReplayBy (F.gives_at files.old) (F.fails_at files.old) (F.gives files.old) schedule.now options.now (writing O.contents O.failures out.old out.new) result }
+    ensures { DoesReplayBy
+        (ReadsAt (F.gives_at files.old) F.Input.remaining F.Input.failures (F.gives files.old) F.StandardInput.remaining F.StandardInput.failures)
+        (F.fails_at files.old) (WritesAt (F.takes_at files.old) F.Output.contents F.Output.failures)
+        schedule.now options.now (writing O.contents O.failures out.old out.new) result }
 {
     match open_workload(alloc, options.file, files) {
         Ok(workload) => {
@@ -62,7 +68,10 @@ pub fn replay_file<F: Files, O: Sink>(
     files: &mut F,
     out: &mut O,
 ) -> Fate
-    ensures done { DoesReplay (F.gives_at files.old) (F.fails_at files.old) (F.gives files.old) options.now (writing O.contents O.failures out.old out.new) result }
+    ensures done { DoesReplay
+        (ReadsAt (F.gives_at files.old) F.Input.remaining F.Input.failures (F.gives files.old) F.StandardInput.remaining F.StandardInput.failures)
+        (F.fails_at files.old) (WritesAt (F.takes_at files.old) F.Output.contents F.Output.failures)
+        options.now (writing O.contents O.failures out.old out.new) result }
     ensures memory { ComesByGrowth result }
 {
     match schedule_of(alloc, options.schedule) {

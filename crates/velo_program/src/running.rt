@@ -1,6 +1,7 @@
 //! `velodrome run`.
 ghost use Rattle.std.specs.Prelude.{◌≡◌};
 ghost use Rattle.velo_program.specs.Causes.{ComesWithCause};
+ghost use Rattle.velo_program.specs.Paths.{ReadsAt, WritesAt};
 ghost use Rattle.velo_program.specs.Playing.{IsLiveRunOf, ShowsLiveRun};
 ghost use Rattle.velo_program.specs.Program.{DoesRun};
 ghost use Rattle.velo_program.specs.Writing.{writing};
@@ -25,7 +26,9 @@ fn run_workload<R: Threads + Wait + Sync, F: Files, O: Sink>(
     files: &mut F,
     out: &mut O,
 ) -> Fate
-    ensures { ShowsLiveRun (IsLiveRunOf workload.now) workload.now options.now.certificate (F.fails_at files.old) options.now.log (writing O.contents O.failures out.old out.new) result }
+    ensures { ShowsLiveRun (IsLiveRunOf workload.now) workload.now options.now.certificate
+        (F.fails_at files.old) (WritesAt (F.takes_at files.old) F.Output.contents F.Output.failures) options.now.log
+        (writing O.contents O.failures out.old out.new) result }
 {
     let config = config_of_run(workload, options);
     match live(rt, alloc, workload, config, &OpenGate) {
@@ -43,7 +46,10 @@ pub fn run_file<R: Threads + Wait + Sync, F: Files, O: Sink>(
     files: &mut F,
     out: &mut O,
 ) -> Fate
-    ensures done { DoesRun (F.gives_at files.old) (F.fails_at files.old) (F.gives files.old) options.now (writing O.contents O.failures out.old out.new) result }
+    ensures done { DoesRun
+        (ReadsAt (F.gives_at files.old) F.Input.remaining F.Input.failures (F.gives files.old) F.StandardInput.remaining F.StandardInput.failures)
+        (F.fails_at files.old) (WritesAt (F.takes_at files.old) F.Output.contents F.Output.failures)
+        options.now (writing O.contents O.failures out.old out.new) result }
     ensures memory { ComesWithCause result }
 {
     match open_workload(alloc, options.file, files) {

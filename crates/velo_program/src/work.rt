@@ -1,8 +1,10 @@
 //! Workloads that run: where they are read, and what their runs show.
-ghost use Rattle.std.specs.Prelude.{◌≡◌, true, false, Some, IfOk, IfErr};
+ghost use Rattle.std.specs.Prelude.{◌≡◌, true, false, Some, IfOk, IfErr, OnOk};
 ghost use Rattle.velo_program.specs.Check.{IsOrderOrCycle};
-ghost use Rattle.velo_program.specs.Playing.{FailsToLog, IsConfigOf, IsEnded, IsTextOf, ShowsBy, ShowsRun, fate_of_showing, is_unreported};
+ghost use Rattle.velo_program.specs.Paths.{ReadsAt, Saves, WritesAt};
+ghost use Rattle.velo_program.specs.Playing.{FailsToSave, IsConfigOf, IsEnded, IsFaultOfWork, IsTextOf, ShowsBy, ShowsRun, fate_of_showing, is_unreported, text_of_log};
 ghost use Rattle.velo_program.specs.Program.{FailsToParse, OpensNoProgram, OpensProgram};
+ghost use Rattle.velo_program.specs.Reading.{reading};
 ghost use Rattle.velo_program.specs.Writing.{writing};
 
 use crate::check::{CheckFault, Verdict, order_or_cycle_of, write_certified, write_report};
@@ -15,19 +17,22 @@ use velo_events::{Config, Memory, Refusal};
 use velo_logtext::{Sink, Source, WriteFault, write_log};
 use velo_report::Names;
 use velo_worker::Ending;
-use velo_workload::{MOST_WORKLOAD_BYTES, Workload, parse, text_of};
+use velo_workload::{MOST_WORKLOAD_BYTES, WorkFault, Workload, parse, text_of};
 use velo_world::Closed;
 
 /// Reads a workload from a source.
 fn read_workload<I: Source>(alloc: Global, source: &mut I) -> Result<Workload, Fate>
     ensures some { IfOk result (IsTextOf (I.remaining source.old)) }
-    ensures none { IfErr result (FailsToParse (I.remaining source.old)) }
+    ensures none { IfErr result (FailsToParse (reading I.remaining I.failures source.old source.new)) }
 {
     match read_whole(alloc, source, MOST_WORKLOAD_BYTES) {
         Ok(bytes) => {
             let workload = workload_of(alloc, &bytes);
             drop(bytes);
-            workload
+            match workload {
+                Ok(workload) => Ok(workload),
+                Err(fault) => Err(Fate::Work(fault)),
+            }
         }
         Err(ReadFault::Failed) => Err(Fate::ReadFailed),
         Err(ReadFault::Memory) => Err(Fate::Memory),
@@ -35,24 +40,26 @@ fn read_workload<I: Source>(alloc: Global, source: &mut I) -> Result<Workload, F
 }
 
 /// The workload of a file's bytes.
-fn workload_of(alloc: Global, bytes: &[u8]) -> Result<Workload, Fate>
+fn workload_of(alloc: Global, bytes: &[u8]) -> Result<Workload, WorkFault>
     ensures some { IfOk result (IsTextOf (Some bytes.now)) }
-    ensures none { IfErr result (FailsToParse (Some bytes.now)) }
+    ensures none { IfErr result (IsFaultOfWork (Some bytes.now)) }
 {
-    let text = match text_of(bytes) {
-        Ok(text) => text,
-        Err(fault) => return Err(Fate::Work(fault)),
-    };
-    match parse(alloc, text) {
-        Ok(workload) => Ok(workload),
-        Err(fault) => Err(Fate::Work(fault)),
+    match text_of(bytes) {
+        Ok(text) => parse(alloc, text),
+        Err(fault) => Err(fault),
     }
 }
 
 /// Reads the workload that was asked for.
 pub fn open_workload<F: Files>(alloc: Global, path: &str, files: &F) -> Result<Workload, Fate>
-    ensures some { IfOk result (OpensProgram (F.gives_at files.now) (F.fails_at files.now) (F.gives files.now) path.now) }
-    ensures none { IfErr result (OpensNoProgram (F.gives_at files.now) (F.fails_at files.now) (F.gives files.now) path.now) }
+    ensures some { IfOk result (OpensProgram
+        (ReadsAt (F.gives_at files.now) F.Input.remaining F.Input.failures (F.gives files.now) F.StandardInput.remaining F.StandardInput.failures)
+        (F.fails_at files.now) (WritesAt (F.takes_at files.now) F.Output.contents F.Output.failures)
+        path.now) }
+    ensures none { IfErr result (OpensNoProgram
+        (ReadsAt (F.gives_at files.now) F.Input.remaining F.Input.failures (F.gives files.now) F.StandardInput.remaining F.StandardInput.failures)
+        (F.fails_at files.now) (WritesAt (F.takes_at files.now) F.Output.contents F.Output.failures)
+        path.now) }
 {
     if is_standard_input(path) {
         return read_workload(alloc, &mut files.standard_input());
@@ -92,7 +99,9 @@ fn is_unreported(ending: Ending) -> bool
 
 /// Writes the log of a run to the path, if there is one.
 fn write_out<F: Files>(closed: &Closed, path: Option<&str>, files: &mut F) -> Result<(), Fate>
-    ensures { IfErr result (FailsToLog (F.fails_at files.old) path.entry) }
+    ensures saved { OnOk result (Saves (WritesAt (F.takes_at files.old) F.Output.contents F.Output.failures) path.entry (text_of_log closed.now)) }
+    ensures failed { IfErr result (FailsToSave
+        (F.fails_at files.old) (WritesAt (F.takes_at files.old) F.Output.contents F.Output.failures) path.entry (text_of_log closed.now)) }
 {
     let Some(path) = path else {
         return Ok(());
@@ -107,7 +116,7 @@ fn write_out<F: Files>(closed: &Closed, path: Option<&str>, files: &mut F) -> Re
 }
 
 /// What the verdict of a run came to, by what writing it answered.
-fn fate_of(answer: Result<Verdict, CheckFault>, ending: Ending) -> Fate
+fn fate_of_showing(answer: Result<Verdict, CheckFault>, ending: Ending) -> Fate
     ensures { result ≡ fate_of_showing answer ending }
 {
     match answer {
@@ -129,10 +138,12 @@ fn tell_plain<F: Files, O: Sink>(
     files: &mut F,
     out: &mut O,
 ) -> Fate
-    ensures { ShowsBy names.now false closed.now ending (F.fails_at files.old) path.entry (writing O.contents O.failures out.old out.new) result }
+    ensures { ShowsBy names.now false closed.now ending
+        (F.fails_at files.old) (WritesAt (F.takes_at files.old) F.Output.contents F.Output.failures) path.entry
+        (writing O.contents O.failures out.old out.new) result }
 {
     match write_out(closed, path, files) {
-        Ok(()) => fate_of(write_report(closed, names, out), ending),
+        Ok(()) => fate_of_showing(write_report(closed, names, out), ending),
         Err(fate) => fate,
     }
 }
@@ -148,10 +159,12 @@ fn tell_certified<F: Files, O: Sink>(
     out: &mut O,
 ) -> Fate
     requires { IsOrderOrCycle closed.now.log list.now }
-    ensures { ShowsBy names.now true closed.now ending (F.fails_at files.old) path.entry (writing O.contents O.failures out.old out.new) result }
+    ensures { ShowsBy names.now true closed.now ending
+        (F.fails_at files.old) (WritesAt (F.takes_at files.old) F.Output.contents F.Output.failures) path.entry
+        (writing O.contents O.failures out.old out.new) result }
 {
     match write_out(closed, path, files) {
-        Ok(()) => fate_of(write_certified(closed, names, list, out), ending),
+        Ok(()) => fate_of_showing(write_certified(closed, names, list, out), ending),
         Err(fate) => fate,
     }
 }
@@ -167,7 +180,9 @@ fn tell<F: Files, O: Sink>(
     files: &mut F,
     out: &mut O,
 ) -> Fate
-    ensures { ShowsBy names.now options.now.certificate closed.now ending (F.fails_at files.old) options.now.log (writing O.contents O.failures out.old out.new) result }
+    ensures { ShowsBy names.now options.now.certificate closed.now ending
+        (F.fails_at files.old) (WritesAt (F.takes_at files.old) F.Output.contents F.Output.failures) options.now.log
+        (writing O.contents O.failures out.old out.new) result }
 {
     if !options.certificate {
         return tell_plain(closed, ending, names, options.log, files, out);
@@ -191,7 +206,9 @@ pub fn finish_run<F: Files, O: Sink>(
     files: &mut F,
     out: &mut O,
 ) -> Fate
-    ensures { ShowsRun (IsEnded ended.0 ended.1) workload.now options.now.certificate (F.fails_at files.old) options.now.log (writing O.contents O.failures out.old out.new) result }
+    ensures { ShowsRun (IsEnded ended.0 ended.1) workload.now options.now.certificate
+        (F.fails_at files.old) (WritesAt (F.takes_at files.old) F.Output.contents F.Output.failures) options.now.log
+        (writing O.contents O.failures out.old out.new) result }
 {
     let (closed, ending) = ended;
     let fate = show_run(alloc, workload, &closed, ending, options, files, out);
@@ -209,7 +226,9 @@ fn show_run<F: Files, O: Sink>(
     files: &mut F,
     out: &mut O,
 ) -> Fate
-    ensures { ShowsRun (IsEnded closed.now ending) workload.now options.now.certificate (F.fails_at files.old) options.now.log (writing O.contents O.failures out.old out.new) result }
+    ensures { ShowsRun (IsEnded closed.now ending) workload.now options.now.certificate
+        (F.fails_at files.old) (WritesAt (F.takes_at files.old) F.Output.contents F.Output.failures) options.now.log
+        (writing O.contents O.failures out.old out.new) result }
 {
     if is_unreported(ending) {
         return Fate::Finished {

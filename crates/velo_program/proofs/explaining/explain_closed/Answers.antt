@@ -1,4 +1,4 @@
-use Rattle.std.proofs.Common.{List, false, length, refl, sym, subst}
+use Rattle.std.proofs.Common.{List, None, false, length, refl, sym, subst}
 use Rattle.velo_events.specs.declared.event.Event.{Event}
 use Rattle.velo_events.specs.Graph.{HasCycle, IsClosing}
 use Rattle.velo_explain.specs.Count.{transactions_of}
@@ -13,13 +13,14 @@ pub returns-in_default : goal.returns-in_default
 returns-in_default g c =
     let events = c.log-log.result.now.events in
     let text = clean_text (length events) (transactions_of events) in
-    let told : TellsVerdict events false text = record {
+    let told : TellsVerdict events false text None = record {
       no_cycle = subst (λ (log : List Event). ¬ HasCycle log) (sym c.log-log.ensures.events) c.in_default.ensures.none;
       told = refl;
+      pictured = refl;
     } in
-    rw c.fate_of.ensures
-    (written (g.F.Files.fails_at c.args.files.now) c.args.path (writing g.O.Sink.contents g.O.Sink.failures c.args.out.now c.explain_clean.new.sink) (TellsVerdict c.args.closed.now.log) false text c.explain_clean.result
-    (subst (λ (log : List Event). TellsVerdict log false text) c.log-log.ensures.events told)
+    rw c.fate_of_telling.ensures
+    (written (g.F.Files.fails_at c.args.files.now) _ c.args.path (writing g.O.Sink.contents g.O.Sink.failures c.args.out.now c.explain_clean.new.sink) (TellsVerdict c.args.closed.now.log) false text None c.explain_clean.result
+    (subst (λ (log : List Event). TellsVerdict log false text None) c.log-log.ensures.events told) tt
     c.explain_clean.ensures.ok c.explain_clean.ensures.err c.explain_clean.ensures.failures c.explain_clean.ensures.memory)
 
 pub unreachable-requires : goal.unreachable-requires
@@ -31,7 +32,7 @@ unreachable-requires g c =
 
 pub returns-in-Ok : goal.returns-in-Ok
 returns-in-Ok g c =
-    Tells-map (g.F.Files.fails_at c.args.files.now) c.args.path (writing g.O.Sink.contents g.O.Sink.failures c.args.out.now c.explain_by-fate.new.out)
+    Tells-map (g.F.Files.fails_at c.args.files.now) _ c.args.path (writing g.O.Sink.contents g.O.Sink.failures c.args.out.now c.explain_by-fate.new.out)
     (of_evidence c.log-log.result.now.events c.args.closed.now.log c.log-log.ensures.events c.in-Some.alarm.now c.as_slice.result.now c.as_slice.ensures
     c.in-Ok.evidence c.in-Some.ensures.some c.in-Ok.ensures.evidence c.in-Ok.ensures.reasons)
     _ c.explain_by-fate.ensures

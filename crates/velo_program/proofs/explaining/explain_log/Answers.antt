@@ -1,6 +1,7 @@
 use Rattle.std.proofs.Common.{sym, subst}
 use Rattle.velo_world.specs.World.{WorldState}
 use Rattle.velo_program.specs.Check.{IsInput}
+use Rattle.velo_program.specs.Reading.{reading}
 use Rattle.velo_program.specs.Writing.{writing}
 use Rattle.velo_program.proofs.OnExplaining.{of_input}
 use Rattle.velo_program.proofs.OnVerdicts.{input_found}
@@ -13,6 +14,6 @@ returns-in-Ok-do_log g c =
     let input : IsInput known c.in-Ok.read.0 c.in-Ok.read.1.events = input_found known _ _ _ c.in-Ok.ensures.found in
     let configured : IsInput known c.config_of.result.bounds c.in-Ok.read.1.events =
     subst (λ b. IsInput known b c.in-Ok.read.1.events) (sym c.config_of.ensures.bounds) input in
-    of_input (g.F.Files.fails_at c.args.files.now) c.args.path (writing g.O.Sink.contents g.O.Sink.failures c.args.out.now c.explain_closed-fate.new.out) known c.in-Ok-do_log.closed.config.bounds c.in-Ok-do_log.closed.log
+    of_input (g.F.Files.fails_at c.args.files.now) _ c.args.path (writing g.O.Sink.contents g.O.Sink.failures c.args.out.now c.explain_closed-fate.new.out) (reading g.I.Source.remaining g.I.Source.failures c.args.source.now c.read_log.new.source) c.in-Ok-do_log.closed.config.bounds c.in-Ok-do_log.closed.log
     (subst (λ (w : WorldState). IsInput known w.config.bounds w.log) (sym world) configured)
     c.in-Ok-do_log.ensures.well_formed _ c.explain_closed-fate.ensures

@@ -1,5 +1,5 @@
 use Rattle.std.proofs.Common.{rules}
-use Rattle.velo_program.proofs.checking.check.Goals as goal
+use Rattle.velo_program.proofs.checking.check_file.Goals as goal
 
 pub returns-in-Some-clause-done : goal.returns-in-Some-clause-done
 returns-in-Some-clause-done g c = search rules
