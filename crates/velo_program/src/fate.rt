@@ -22,9 +22,9 @@ pub const DEVICE_FAILED: u8 = 5;
 pub enum Fate {
     /// It came to an end, with or without an alarm. A check is done.
     Finished { ending: Ending, alarm: bool },
-    /// The schedule is none.
+    /// The text is no schedule.
     Schedule(ScheduleFault),
-    /// The workload is none.
+    /// The text is no workload.
     Work(WorkFault),
     /// The check met a fault.
     Check(CheckFault),
