@@ -41,6 +41,9 @@ impl Model for Arena {
 
 impl Arena {
     /// All slots below the limit are free.
+    ///
+    /// # Errors
+    /// `Memory` where a growth was refused.
     pub fn new(alloc: Global, limit: u16) -> Result<Arena, Memory>
         ensures nodes { IfOk result (λ arena. arena.nodes ≡ replicate limit None) }
         ensures newest { IfOk result (λ arena. arena.newest ≡ None) }
@@ -56,7 +59,11 @@ impl Arena {
         })
     }
 
-    /// Puts a new node, which is not finished, into a free slot.
+    /// Puts a new node, which has not finished, into a free slot. The stamp has to be later than the newest, if there
+    /// is one.
+    ///
+    /// # Errors
+    /// `GraphFull` exactly where all slots are in use. Nothing changes then.
     pub fn open(&mut self, stamp: u32) -> Result<Step, GraphFull>
         requires { ForSome self.old.newest (λ newest. newest < stamp) }
         ensures opens { IfOk result (λ step. Opens self.old self.new step.slot stamp) }
@@ -77,7 +84,7 @@ impl Arena {
         Ok(Step { slot, stamp })
     }
 
-    /// Marks the node of a step as finished.
+    /// Marks the node of a step as finished. The step has to name a node in use.
     pub fn finish(&mut self, step: Step)
         requires { IsTrue (bears self.old step.slot step.stamp) }
         ensures finished { self.new ≡ with_node self.old step.slot (Some (record { stamp = step.stamp; finished = true })) }
@@ -139,6 +146,7 @@ impl Arena {
         self.extent
     }
 
+    /// Whether the slot has a node. One that is not there has none.
     pub fn is_used(&self, slot: u16) -> bool
         ensures { result ≡ is_used self.now slot }
     {

@@ -19,9 +19,10 @@ const ALICE: ThreadId = ThreadId(1);
 
 const BOB: ThreadId = ThreadId(2);
 
-/// What the blocks are.
+/// The label of the block of a transfer.
 const TRANSFER: Label = Label(0);
 
+/// The label of the block of a deposit.
 const DEPOSIT: Label = Label(1);
 
 /// Two accounts, and the seats of the three threads that work at them.
@@ -35,6 +36,9 @@ pub struct Bank {
 
 impl Bank {
     /// Opens a bank with 1,000 in each account.
+    ///
+    /// # Errors
+    /// What `Shared::open` or a seat refused.
     pub fn open<R: Wait>(rt: &R, alloc: Global) -> Result<Bank, RunError> {
         let bounds = Bounds {
             threads: 3,
@@ -57,6 +61,9 @@ impl Bank {
     }
 
     /// Alice and Bob move money at once, in whatever order their threads come.
+    ///
+    /// # Errors
+    /// The first refusal of Alice's seat, or else of Bob's.
     pub fn transfer_at_once<R: Threads + Wait + Sync>(&mut self, rt: &R) -> Result<(), Refusal> {
         let Bank {
             accounts,
@@ -74,7 +81,10 @@ impl Bank {
         moved_back
     }
 
-    /// Bob's thread deposits between Alice's read and her write, and nothing but luck would tell.
+    /// Bob's thread deposits between Alice's read and her write, so that his deposit is lost.
+    ///
+    /// # Errors
+    /// The first refusal of a seat.
     pub fn lose_a_deposit<R: Threads + Wait + Sync>(&mut self, rt: &R) -> Result<(), Refusal> {
         let Bank {
             accounts,
@@ -93,6 +103,9 @@ impl Bank {
     }
 
     /// Waits for Alice and Bob to go home, and reads both accounts.
+    ///
+    /// # Errors
+    /// The first refusal of a seat.
     pub fn balances<R: Wait>(&mut self, rt: &R) -> Result<(u64, u64), Refusal> {
         let Bank {
             accounts,
@@ -106,6 +119,9 @@ impl Bank {
     }
 
     /// Ends the run, for its report.
+    ///
+    /// # Errors
+    /// `Memory` where the list of the seats was refused, and `Missing` where one of them does not fit.
     pub fn close(self, alloc: Global) -> Result<Closed, RunError> {
         let Bank {
             accounts,

@@ -94,7 +94,8 @@ impl Clocks {
         self.tables.has_room_for(event)
     }
 
-    /// Notes the event at the position, which comes next in the trace whose clocks these are. It takes no memory.
+    /// Notes the event at the position, which comes next in the trace whose clocks these are. The position has to be
+    /// below 2^32 - 1, and there has to be room, as after `reserve_for`. It takes no memory.
     pub fn note(&mut self, position: usize, event: &Event)
         requires room { HasRoomToNote self.old.bounds.threads self.old.state event.now }
         requires fits { position + 1 < 2 ^ 32 }

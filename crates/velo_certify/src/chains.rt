@@ -8,18 +8,21 @@ use std::alloc::Global;
 use velo_events::Memory;
 use velo_events::growth::{filled, reserve};
 
-/// A transaction from which an edge leads, and where the list goes on: at the link with this number, counted from 1, or
-/// nowhere.
+/// A transaction from which an edge leads, and where the list goes on. Links are counted from 1.
 #[derive(Clone, Copy)]
 pub(crate) struct Link {
+    /// The transaction.
     pub before: usize,
+    /// The number of the link at which the list goes on, or 0.
     pub next: usize,
 }
 
 /// A list for each transaction.
 #[derive(Drop)]
 pub(crate) struct Links {
+    /// For each transaction the number of the link at which its list begins, or 0.
     pub heads: Vec<usize>,
+    /// The links of all lists.
     pub links: Vec<Link>,
     ghost descending: { AreDescending links.items },
     ghost within: { AreWithin heads.items (length links.items) },
@@ -27,6 +30,9 @@ pub(crate) struct Links {
 
 impl Links {
     /// Empty lists for so many transactions.
+    ///
+    /// # Errors
+    /// `Memory` where a growth was refused.
     pub fn new(alloc: Global, count: usize) -> Result<Links, Memory>
         ensures blank { IfOk result (λ l. IsBlank l.heads.items) }
         ensures count { IfOk result (λ l. length l.heads.items ≡ count) }
@@ -39,6 +45,9 @@ impl Links {
     }
 
     /// Puts a transaction at the front of a list.
+    ///
+    /// # Errors
+    /// `Memory` where a growth was refused.
     pub fn add(&mut self, before: usize, to: usize) -> Result<(), Memory>
         requires { to < length self.old.heads.items }
         ensures links { OnOk result (self.new.links.items ≡ self.old.links.items ++ record { before = before; next = slice_index self.old.heads.items to } ∷ []) }

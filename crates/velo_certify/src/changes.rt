@@ -34,6 +34,9 @@ fn raise(row: &mut Vec<usize>, place: usize, number: usize) -> usize
 
 impl Changes {
     /// For so many threads, variables and locks, without numbers.
+    ///
+    /// # Errors
+    /// `Memory` where a growth was refused.
     pub fn new(alloc: Global, counts: Counts) -> Result<Changes, Memory>
         ensures blank { IfOk result AreUnchanged }
         ensures sizes { IfOk result (λ changes. change_sizes changes ≡ sizes_of counts.threads counts.variables counts.locks) }

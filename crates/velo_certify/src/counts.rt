@@ -8,8 +8,11 @@ use velo_events::{Event, Kind};
 /// Numbers above those of all threads, variables and locks that were named.
 #[derive(Clone, Copy)]
 pub(crate) struct Counts {
+    /// Of threads.
     pub threads: usize,
+    /// Of variables.
     pub variables: usize,
+    /// Of locks.
     pub locks: usize,
 }
 

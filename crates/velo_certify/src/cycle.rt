@@ -69,6 +69,10 @@ fn last_cycle(alloc: Global, events: &[Event]) -> Result<Vec<usize>, CertFault>
 ///
 /// Each event is passed a bounded number of times, however long the cycle is, and the transactions that are at one distance are
 /// sorted.
+///
+/// # Errors
+/// `NotThere` where the trace has no such position, `NoCycle` where no cycle of the events up to it contains its
+/// transaction, and `Memory` where a growth was refused.
 pub fn cycle_of(alloc: Global, trace: &Trace, position: usize) -> Result<Vec<usize>, CertFault>
     ensures cycle { IfOk result (λ cycle. IsShortestCycleAt trace.now.events position cycle.items) }
     ensures fault { IfErr result (IsCycleFault trace.now.events position) }
@@ -127,6 +131,9 @@ fn is_last_cycle(alloc: Global, events: &[Event], cycle: &[usize]) -> Result<boo
 
 /// Whether the list is a cycle of the events up to the position that begins with the transaction of the position and is no
 /// longer than any other such cycle. It trusts nobody: any list and any position may be given.
+///
+/// # Errors
+/// `Memory` where a growth was refused.
 pub fn check_cycle(
     alloc: Global,
     trace: &Trace,

@@ -117,10 +117,14 @@ fn all_edge_events(
     Ok(edges)
 }
 
-/// The events behind the edges of a cycle of the events up to the position, in its order: for each transaction two
-/// conflicting events, the earlier one of it and the later one of the next transaction.
+/// The events behind the edges of a cycle, in its order: for each transaction two conflicting events, the earlier one
+/// of it and the later one of the next transaction. The list has to be a cycle of the events up to the position that
+/// begins with the transaction of the position.
 ///
 /// It takes one pass over the events up to the position for each transaction of the cycle, and one to make the table.
+///
+/// # Errors
+/// `Memory` where a growth was refused.
 pub fn edge_events_of(
     alloc: Global,
     trace: &Trace,

@@ -189,6 +189,9 @@ fn link_all_on(
 }
 
 /// The lists of all transactions of the events, made in one pass forwards and one backwards.
+///
+/// # Errors
+/// `Memory` where a growth was refused.
 pub(crate) fn links_of(
     alloc: Global,
     events: &[Event],

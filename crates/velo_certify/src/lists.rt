@@ -71,6 +71,9 @@ fn pass_list(
 
 impl Lists {
     /// The lists of the events, none of which is passed.
+    ///
+    /// # Errors
+    /// `Memory` where a growth was refused.
     pub fn new(alloc: Global, events: &[Event]) -> Result<Lists, Memory>
         ensures names { IfOk result (λ lists. AllNameRows (list_sizes lists) events.now (length events.now)) }
         ensures lists { IfOk result (AreListed events.now 0) }

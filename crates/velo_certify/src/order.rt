@@ -138,6 +138,9 @@ fn is_serial(
 /// positions of each transaction next to one another. It trusts nobody: any list may be given.
 ///
 /// Its time and memory grow with the numbers of positions, threads, variables and locks.
+///
+/// # Errors
+/// `Memory` where a growth was refused.
 pub fn check_order(alloc: Global, trace: &Trace, order: &[usize]) -> Result<bool, Memory>
     ensures serial { IfOk result (λ yes. IsTrue yes ↔ (IsReordering trace.now.events order.now × IsSerial trace.now.events order.now)) }
     ensures memory { OnErr result GrowthRefused }

@@ -65,6 +65,9 @@ fn next_owner(events: &[Event], at: usize, threads: &mut [ThreadBlocks]) -> usiz
 }
 
 /// The transaction of each position, named by its first position.
+///
+/// # Errors
+/// `Memory` where a growth was refused.
 pub fn owners_of(alloc: Global, events: &[Event]) -> Result<Vec<usize>, Memory>
     ensures owners { IfOk result (λ owners. AreOwners owners.items events.now) }
     ensures memory { OnErr result GrowthRefused }

@@ -139,11 +139,15 @@ fn list_all(alloc: Global, events: &[Event]) -> Result<Vec<usize>, CertFault>
     }
 }
 
-/// A serial reordering of the trace: its transactions one after another, each time the least of those whose predecessors are
-/// all listed, the positions of each rising. `HasCycle` is answered exactly where the trace has a cycle.
+/// A serial reordering of the trace: its transactions one after another, each time the least of those whose
+/// predecessors are all listed, the positions of each rising.
 ///
-/// Every reordering of a well-formed trace is well-formed and leaves the same heap, so what the trace does its serial order
-/// does too.
+/// Every reordering of a well-formed trace is well-formed and leaves the same heap, so what the trace does its serial
+/// order does too.
+///
+/// # Errors
+/// `HasCycle` where the trace has a cycle, and `Memory` where a growth was refused. Of a trace with a cycle no order is
+/// answered.
 pub fn serial_order(alloc: Global, trace: &Trace) -> Result<Vec<usize>, CertFault>
     ensures order { IfOk result (λ order. IsSerialOrder trace.now.events order.items) }
     ensures acyclic { OnOk result (¬ HasCycle trace.now.events) }

@@ -25,6 +25,9 @@ pub(crate) struct Table {
 }
 
 /// A row without numbers.
+///
+/// # Errors
+/// `Memory` where a growth was refused.
 pub(crate) fn blank_row(alloc: Global, count: usize) -> Result<Vec<usize>, Memory>
     ensures blank { IfOk result (λ row. IsBlank row.items) }
     ensures count { IfOk result (λ row. length row.items ≡ count) }
@@ -54,6 +57,9 @@ fn raise_at(row: &mut Vec<usize>, place: usize, number: usize)
 
 impl Table {
     /// A table for the events, without numbers.
+    ///
+    /// # Errors
+    /// `Memory` where a growth was refused.
     pub fn new(alloc: Global, events: &[Event]) -> Result<Table, Memory>
         ensures blank { IfOk result AreBlank }
         ensures names { IfOk result (λ table. AllNameRows (sizes table) events.now (length events.now)) }

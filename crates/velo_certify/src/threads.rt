@@ -20,6 +20,9 @@ pub(crate) struct Threads {
 
 impl Threads {
     /// The threads of the events, where none is listed.
+    ///
+    /// # Errors
+    /// `Memory` where a growth was refused.
     pub fn new(alloc: Global, events: &[Event], counts: Counts) -> Result<Threads, Memory>
         requires { AllNameRows (sizes_of counts.threads counts.variables counts.locks) events.now (length events.now) }
         ensures names { IfOk result (λ threads. NamesFronts events.now threads.fronts.items) }

@@ -83,10 +83,14 @@ fn first_witness(events: &[Event], marks: &[usize], begin: usize, position: usiz
     None
 }
 
-/// An event of another thread that happens after the begin and conflicts with the event at the later position, the first
-/// one, if there is one. Where both are of one block, no reordering brings the block together then.
+/// An event of another thread that happens after the begin and conflicts with the event at the later position, which
+/// has to be there: the first one, if there is one. Where both are of one block, no reordering brings the block
+/// together then.
 ///
 /// It takes two passes over the events up to the position, and one over all to make the table.
+///
+/// # Errors
+/// `Memory` where a growth was refused.
 pub fn witness_of(
     alloc: Global,
     trace: &Trace,

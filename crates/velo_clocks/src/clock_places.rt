@@ -21,15 +21,23 @@ use velo_events::{Event, Kind, Memory, ThreadId};
 /// An event that learns nothing shares the row of its thread's last event, so that what it knows is written down by one epoch.
 #[derive(Debug, Drop)]
 pub(crate) struct PlaceClocks {
+    /// What the events at the places know.
     pub rows: SharedRows,
+    /// The last event of each thread.
     pub threads: Vec<Epoch>,
+    /// The last write of each variable.
     pub writes: Vec<Epoch>,
+    /// The reads of each variable since then.
     pub reads: ReadClocks,
+    /// The last event of each lock.
     pub locks: Vec<Epoch>,
 }
 
 impl PlaceClocks {
     /// Places of that many threads, at which nothing is known.
+    ///
+    /// # Errors
+    /// `Memory` where a growth was refused.
     pub fn new(alloc: Global, threads: usize) -> Result<PlaceClocks, Memory>
         ensures places { IfOk result (ArePlaces threads) }
         ensures blank { IfOk result (λ places. KnowsNothing (state_of places)) }
@@ -68,6 +76,9 @@ impl PlaceClocks {
     }
 
     /// Makes room for what the event notes.
+    ///
+    /// # Errors
+    /// `Memory` where there was too little room and a growth was refused. What is known is as before then.
     #[inline]
     pub fn reserve_for(&mut self, event: &Event, threads: usize) -> Result<(), Memory>
         requires { ArePlaces threads self.old }

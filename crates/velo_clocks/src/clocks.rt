@@ -37,6 +37,9 @@ impl Model for ClockTables {
 
 impl ClockTables {
     /// Tables of a run's threads, at which nothing is known.
+    ///
+    /// # Errors
+    /// `Memory` where a growth was refused.
     pub fn new(alloc: Global, config: &Config) -> Result<ClockTables, Memory>
         ensures blank { IfOk result KnowsNothing }
         ensures threads { IfOk result (λ tables. length tables.threads ≡ config.now.bounds.threads) }
@@ -62,6 +65,9 @@ impl ClockTables {
     }
 
     /// Makes room for what the event notes. Nothing that is known changes, also where it is refused.
+    ///
+    /// # Errors
+    /// `Memory` where there was too little room and a growth was refused.
     pub fn reserve_for(&mut self, event: &Event) -> Result<(), Memory>
         ensures unchanged { KnowsTheSame self.old self.new }
         ensures threads { length self.new.threads ≡ length self.old.threads }
@@ -73,7 +79,8 @@ impl ClockTables {
         self.places.reserve_for(event, threads)
     }
 
-    /// Notes the event at the position.
+    /// Notes the event at the position, which has to be below 2^32 - 1. There has to be room for it, as after
+    /// `reserve_for`.
     #[inline]
     pub fn note(&mut self, position: u32, event: &Event)
         requires room { HasRoomToNote (length self.old.threads) self.old event.now }

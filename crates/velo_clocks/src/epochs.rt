@@ -3,7 +3,7 @@ ghost use Rattle.velo_clocks.specs.Epochs.{blank_epoch};
 
 use velo_events::ThreadId;
 
-/// An event at a place: when it came in its thread, as the epochs of FastTrack (Flanagan and Freund, 2009), and what it knows.
+/// An event at a place: when it came in its thread, and what it knows.
 #[derive(Clone, Copy, Debug)]
 pub(crate) struct Epoch {
     /// Its thread. What others know is what is known, but nothing of this thread itself.

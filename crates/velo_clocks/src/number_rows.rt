@@ -76,6 +76,9 @@ impl NumberRows {
     }
 
     /// Sees to it that there is a row of this number, which may be the next one, with so many numbers. One that is new has zeros.
+    ///
+    /// # Errors
+    /// `Memory` where the row was not there and a growth was refused. The rows are as before then.
     pub fn reserve(&mut self, number: usize, width: usize) -> Result<(), Memory>
         requires next { number ≤ length self.old }
         requires width { (r : ℕ) → r < length self.old → length (slice_index_or self.old r []) ≡ width }

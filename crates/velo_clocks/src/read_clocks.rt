@@ -19,15 +19,18 @@ use velo_events::{Memory, ThreadId};
 /// Whose reads stand at a place.
 #[derive(Clone, Copy, Debug)]
 pub(crate) enum ReadBy {
+    /// No reads.
     Nobody,
     /// The last of them, where the thread's events came in order: it knows what those before it know.
     One(Epoch),
+    /// Reads of several threads, which stand in the lists of the place.
     Several,
 }
 
 /// The reads of a variable since its last write.
 #[derive(Clone, Copy, Debug)]
 pub(crate) struct Reads {
+    /// Whose they are.
     pub by: ReadBy,
     /// Which lists are the place's own, counted from 1. They are given to it when several threads read, and stay with it.
     pub lists: usize,
@@ -42,6 +45,7 @@ pub(crate) struct ReadClocks {
     pub foreign: NumberRows,
     /// Which lists are given next, or 0 while there are none to give.
     pub spare: usize,
+    /// The reads at each place.
     pub places: Vec<Reads>,
 }
 
@@ -77,6 +81,9 @@ impl ReadClocks {
     }
 
     /// Makes room for a read at the place with this number.
+    ///
+    /// # Errors
+    /// `Memory` where there was no room and a growth was refused. What the reads know is as before then.
     #[inline]
     pub fn reserve(&mut self, number: usize) -> Result<(), Memory>
         requires fits { number + 1 < 2 ^ 64 }
@@ -100,6 +107,9 @@ impl ReadClocks {
     }
 
     /// Makes lists for one more place at which several threads read.
+    ///
+    /// # Errors
+    /// `Memory` where a growth was refused. What the reads know is as before then.
     #[inline(never)]
     pub fn reserve_lists(&mut self, rows: &SharedRows, threads: usize) -> Result<(), Memory>
         requires reads { AreReads threads rows.now self.old }

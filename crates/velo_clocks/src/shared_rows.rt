@@ -17,6 +17,7 @@ use velo_events::{Memory, ThreadId};
 /// The first row says that nothing is known, and is always in use.
 #[derive(Debug, Drop)]
 pub(crate) struct SharedRows {
+    /// The rows.
     pub rows: NumberRows,
     /// Whether an epoch may have the row.
     pub in_use: Vec<bool>,
@@ -35,6 +36,9 @@ fn free_from(in_use: &[bool], start: usize) -> usize {
 
 impl SharedRows {
     /// The first row alone, for the numbers of so many threads.
+    ///
+    /// # Errors
+    /// `Memory` where a growth was refused.
     pub fn new(alloc: Global, threads: usize) -> Result<SharedRows, Memory>
         ensures rows { IfOk result (AreRows threads) }
         ensures memory { OnErr result GrowthRefused }
@@ -139,6 +143,9 @@ impl SharedRows {
     }
 
     /// One row more, which comes next.
+    ///
+    /// # Errors
+    /// `Memory` where a growth was refused. What the rows say is as before then.
     pub fn append(&mut self, threads: usize) -> Result<(), Memory>
         requires { AreRows threads self.old }
         ensures rows { AreRows threads self.new }

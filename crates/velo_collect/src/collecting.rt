@@ -28,6 +28,9 @@ impl Model for Freed {
 
 impl Freed {
     /// Room for that many stamps, and none told.
+    ///
+    /// # Errors
+    /// `Memory` where a growth was refused.
     pub fn new(alloc: Global, limit: u16) -> Result<Freed, Memory>
         ensures stamps { IfOk result (λ freed. freed.stamps ≡ []) }
         ensures room { IfOk result (λ freed. freed.room ≡ limit) }
@@ -45,7 +48,8 @@ impl Freed {
     }
 }
 
-/// Frees finished nodes without ancestors, until there is none: exactly those without an unfinished ancestor.
+/// Frees exactly the finished nodes without an unfinished ancestor. Their stamps are told, for which there has to be
+/// room: as many as the graph has slots.
 pub fn collect<A: Ancestors>(graph: &mut Graph<A>, freed: &mut Freed)
     requires room { limit_of graph.old.slots ≤ freed.old.room }
     ensures collects { Collects graph.old graph.new }

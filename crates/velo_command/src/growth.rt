@@ -11,6 +11,9 @@ use std::convert::AsStr;
 use velo_events::Memory;
 
 /// The command with one more argument.
+///
+/// # Errors
+/// `Memory` where a growth was refused.
 pub fn with_argument<'a>(command: Command<'a>, argument: Arg<'a>) -> Result<Command<'a>, Memory>
     ensures adds { IfOk result (AddsArg command.entry argument.entry) }
     ensures memory { OnErr result GrowthRefused }
@@ -22,6 +25,9 @@ pub fn with_argument<'a>(command: Command<'a>, argument: Arg<'a>) -> Result<Comm
 }
 
 /// The command with one more subcommand.
+///
+/// # Errors
+/// `Memory` where a growth was refused.
 pub fn with_subcommand<'a>(
     command: Command<'a>,
     subcommand: Command<'a>,
@@ -35,7 +41,10 @@ pub fn with_subcommand<'a>(
     }
 }
 
-/// The matches of the words. An error for want of memory is a refused growth too.
+/// The matches of the words.
+///
+/// # Errors
+/// A fault of the words. One for want of memory is a refused growth too.
 pub fn matches_of<'a, W: AsStr>(
     command: Command<'a>,
     words: &'a [W],
@@ -52,6 +61,9 @@ pub fn matches_of<'a, W: AsStr>(
 }
 
 /// The text of an error, whole, so that it can go out in one piece.
+///
+/// # Errors
+/// `Memory` where a growth was refused.
 pub fn text_of(alloc: Global, error: &Error) -> Result<String, Memory>
     ensures { OnErr result GrowthRefused }
 {

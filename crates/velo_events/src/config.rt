@@ -61,8 +61,10 @@ pub struct Config {
 impl Config {
     ghost use Rattle.velo_events.specs.Config.{first_bad_value};
 
-    /// A configuration of these values, where all of them are in range. The error names the first that is not, in the order
-    /// of the parameters.
+    /// A configuration of these values.
+    ///
+    /// # Errors
+    /// The first value that is out of its range, in the order of the parameters.
     pub fn new(
         run: u64,
         bounds: Bounds,

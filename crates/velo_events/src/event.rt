@@ -50,17 +50,26 @@ pub struct Event {
     pub kind: Kind,
 }
 
-/// What a thread wants to do: as `Kind`, but a read has no value yet.
+/// What a thread wants to do: as [`Kind`], but a read has no value yet.
 #[derive(Clone, Copy, Debug, PartialEq, Eq)]
 pub enum Action {
+    /// To read the variable.
     Read(VarId),
+    /// To write this value to the variable.
     Write(VarId, u64),
+    /// To acquire the lock.
     Acquire(LockId),
+    /// To release the lock.
     Release(LockId),
+    /// To begin an atomic block, within those that it has open.
     Begin(Label),
+    /// To end its innermost open block.
     End,
+    /// To fork the thread.
     Fork(ThreadId),
+    /// To join the thread.
     Join(ThreadId),
+    /// To act no more.
     Exit,
 }
 

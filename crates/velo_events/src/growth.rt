@@ -7,7 +7,10 @@ ghost use Rattle.velo_events.specs.Refusals.{GrowthRefused};
 use crate::Memory;
 use std::alloc::Global;
 
-/// Makes room for more items.
+/// Makes room for so many more items.
+///
+/// # Errors
+/// `Memory` where there was too little room and the growth was refused. Items and room are as before then.
 pub fn reserve<T>(items: &mut Vec<T>, more: usize) -> Result<(), Memory>
     ensures items { items.new.items ≡ items.old.items }
     ensures len { vec_len items.new ≡ vec_len items.old }
@@ -23,7 +26,10 @@ pub fn reserve<T>(items: &mut Vec<T>, more: usize) -> Result<(), Memory>
     }
 }
 
-/// A list with room.
+/// A list without items, with room for exactly so many.
+///
+/// # Errors
+/// `Memory` where a growth was refused.
 pub fn with_capacity<T>(alloc: Global, capacity: usize) -> Result<Vec<T>, Memory>
     ensures items { IfOk result (λ items. items.items ≡ []) }
     ensures len { IfOk result (λ items. vec_len items ≡ 0) }
@@ -38,6 +44,9 @@ pub fn with_capacity<T>(alloc: Global, capacity: usize) -> Result<Vec<T>, Memory
 }
 
 /// Cuts a list to a length, or fills it up to it.
+///
+/// # Errors
+/// `Memory` where there was too little room and the growth was refused. The items are as before then.
 pub fn resize<T: Copy>(items: &mut Vec<T>, count: usize, item: T) -> Result<(), Memory>
     ensures items { items.new.items ≡ (if is_ok result then take count items.old.items ++ replicate (count - vec_len items.old) item else items.old.items) }
     ensures len { vec_len items.new ≡ (if is_ok result then count else vec_len items.old) }
@@ -51,7 +60,10 @@ pub fn resize<T: Copy>(items: &mut Vec<T>, count: usize, item: T) -> Result<(), 
     }
 }
 
-/// Fills the list up with blanks until it has an item of this number.
+/// Fills the list up with blanks until it has an item of this number, which has to be below the greatest `usize`.
+///
+/// # Errors
+/// `Memory` where there was no such item and the growth was refused. The items are as before then.
 #[inline]
 pub fn fill_up_to<T: Copy>(items: &mut Vec<T>, number: usize, blank: T) -> Result<(), Memory>
     requires { number + 1 < 2 ^ 64 }
@@ -77,7 +89,10 @@ fn lengthen<T: Copy>(items: &mut Vec<T>, count: usize, blank: T) -> Result<(), M
     resize(items, count, blank)
 }
 
-/// A list of so many clones.
+/// A list of so many clones of the item.
+///
+/// # Errors
+/// `Memory` where a growth was refused.
 pub fn filled<T: Clone + Drop>(alloc: Global, item: T, count: usize) -> Result<Vec<T>, Memory>
     ensures items_if_clones_equal { IfOk result (λ items. ((y : T) → T.is_clone item y → y ≡ item) → items.items ≡ replicate count item) }
     ensures len { IfOk result (λ items. vec_len items ≡ count) }

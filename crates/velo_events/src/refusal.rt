@@ -66,7 +66,8 @@ pub enum Refusal {
     /// To wait here would be to wait for oneself, by a chain of waiting threads.
     #[error("would deadlock")]
     WouldDeadlock = 20,
-    /// The room could not be made, or a thread not started.
+    /// A room could not be made; or of a live run a thread could not be started, or a growth was refused for what a thread needs
+    /// at its start: the copy of a sender, or the walk through its body.
     #[error("runtime out of memory")]
     RuntimeMemory = 21,
     /// The seat's share does not say what the room's log says of its thread, as that of another room's seat.

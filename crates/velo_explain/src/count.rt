@@ -23,6 +23,9 @@ fn count_firsts(events: &[Event], owners: &[usize]) -> usize
 }
 
 /// The number of transactions, which is that of any serial order.
+///
+/// # Errors
+/// `Memory` where a growth was refused.
 pub(crate) fn transactions_of(alloc: Global, events: &[Event]) -> Result<usize, Memory>
     ensures count { IfOk result (λ count. count ≡ transactions_of events.now) }
     ensures memory { OnErr result GrowthRefused }

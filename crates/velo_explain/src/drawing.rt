@@ -126,6 +126,9 @@ fn add_arrows(page: &mut Page, events: &[Event], edges: &[EdgeEvents]) -> Result
 }
 
 /// The picture of the cycle of an alarm at a position.
+///
+/// # Errors
+/// `Memory` where a growth was refused.
 pub(crate) fn picture_of(
     alloc: Global,
     events: &[Event],

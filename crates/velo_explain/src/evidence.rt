@@ -15,6 +15,7 @@ use velo_traces::{Block, Trace};
 /// A block to blame, and why.
 #[derive(Clone, Copy, Debug, PartialEq, Eq)]
 pub struct Blame {
+    /// The block.
     pub block: Block,
     /// The position of an event of another thread that happens after the block's begin and conflicts with the closing event.
     pub witness: usize,

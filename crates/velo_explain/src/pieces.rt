@@ -13,7 +13,9 @@ use velo_logtext::{put_kind, put_number};
 /// A piece of text.
 #[derive(Clone, Copy)]
 pub(crate) enum Piece<'a> {
+    /// A text as it is.
     Text(&'a str),
+    /// The digits of a number.
     Number(u64),
     /// An event as it stands in the log.
     Words(Event),
@@ -136,6 +138,9 @@ impl Page {
     }
 
     /// Adds pieces.
+    ///
+    /// # Errors
+    /// `Memory` where a growth was refused.
     pub fn add(&mut self, pieces: &[Piece]) -> Result<(), Memory>
         ensures ok { OnOk result (self.new ≡ self.old ++ pieces_text pieces.now) }
         ensures memory { OnErr result GrowthRefused }

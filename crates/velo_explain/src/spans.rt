@@ -15,7 +15,9 @@ use velo_traces::Trace;
 /// The first and the last position of a transaction.
 #[derive(Clone, Copy, Debug, PartialEq, Eq)]
 pub struct Span {
+    /// The first position.
     pub first: usize,
+    /// The last position.
     pub last: usize,
 }
 
@@ -52,6 +54,9 @@ fn all_spans(alloc: Global, events: &[Event], cycle: &[usize]) -> Result<Vec<Spa
 }
 
 /// The spans of the transactions of a cycle in the events up to the position.
+///
+/// # Errors
+/// `Memory` where a growth was refused.
 pub(crate) fn spans_of(
     alloc: Global,
     trace: &Trace,

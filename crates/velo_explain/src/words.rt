@@ -221,6 +221,9 @@ fn add_blames(
 }
 
 /// The explanation of an alarm at a position.
+///
+/// # Errors
+/// `Memory` where a growth was refused.
 pub(crate) fn explanation(
     alloc: Global,
     events: &[Event],
@@ -243,6 +246,9 @@ pub(crate) fn explanation(
 }
 
 /// The explanation of a clean log.
+///
+/// # Errors
+/// `Memory` where a growth was refused.
 #[tactic(auto, unfolding(crate::specs::Text::clean_text))]
 pub(crate) fn clean_explanation(
     alloc: Global,

@@ -34,9 +34,16 @@ fn write_page<S: Sink>(page: &Page, sink: &mut S) -> Result<(), ExplainFault>
     }
 }
 
-/// Writes what an alarm at the position means: the closing event, the transactions of the cycle with their threads, blocks and
-/// lines, the two events behind each edge, and the blocks to blame, each with an event of another thread that parts it. The
-/// log has a header, so position P stands on line P + 2.
+/// Writes what an alarm at the position means: the closing event, the transactions of the cycle with their threads,
+/// blocks and lines, the two events behind each edge, and the blocks to blame, each with an event of another thread
+/// that parts it. The log has a header, so position P stands on line P + 2.
+///
+/// The evidence has to be as `evidence_of` gives it for the trace and the position, and the trace has at most
+/// [`MOST_EVENTS`](velo_events::MOST_EVENTS) events.
+///
+/// # Errors
+/// `Memory` where a growth was refused, and `Write` where the sink failed. At most a beginning of the text was written
+/// then.
 pub fn explain<S: Sink>(
     alloc: Global,
     trace: &Trace,
@@ -55,8 +62,12 @@ pub fn explain<S: Sink>(
     write_page(&page, sink)
 }
 
-/// Writes the cycle of an alarm as a Graphviz picture: a column for each thread, a box for each transaction with its block and
-/// lines, and an arrow for each edge with its two events.
+/// Writes the cycle of an alarm as a Graphviz picture: a column for each thread, a box for each transaction with its
+/// block and lines, and an arrow for each edge with its two events. It asks for what `explain` asks for.
+///
+/// # Errors
+/// `Memory` where a growth was refused, and `Write` where the sink failed. At most a beginning of the picture was
+/// written then.
 pub fn picture<S: Sink>(
     alloc: Global,
     trace: &Trace,
@@ -75,8 +86,12 @@ pub fn picture<S: Sink>(
     write_page(&page, sink)
 }
 
-/// Writes that the blocks of a log without a cycle can be serialized: how many events there are, and how many transactions a
-/// serial order has.
+/// Writes that the blocks of a log, which has to be without a cycle, can be serialized: how many events there are, and
+/// how many transactions a serial order has.
+///
+/// # Errors
+/// `Memory` where a growth was refused, and `Write` where the sink failed. At most a beginning of the text was written
+/// then.
 pub fn explain_clean<S: Sink>(
     alloc: Global,
     trace: &Trace,

@@ -57,6 +57,9 @@ impl<A: Ancestors> Model for Graph<A> {
 
 impl<A: Ancestors> Graph<A> {
     /// All slots below the limit are free.
+    ///
+    /// # Errors
+    /// `Memory` where a growth was refused.
     pub fn new(alloc: Global, limit: u16) -> Result<Graph<A>, Memory>
         ensures nodes { IfOk result (λ graph. graph.slots.nodes ≡ replicate limit None) }
         ensures newest { IfOk result (λ graph. graph.slots.newest ≡ None) }
@@ -78,7 +81,11 @@ impl<A: Ancestors> Graph<A> {
         })
     }
 
-    /// Puts a new node, which is not finished and without ancestors and descendants, into a free slot.
+    /// Puts a new node, which has not finished and has neither ancestors nor descendants, into a free slot. The stamp
+    /// has to be later than the newest, if there is one.
+    ///
+    /// # Errors
+    /// `GraphFull` exactly where all slots are in use. Nothing changes then.
     pub fn open(&mut self, stamp: u32) -> Result<Step, GraphFull>
         requires { ForSome self.old.slots.newest (λ newest. newest < stamp) }
         ensures opens { IfOk result (λ step. Opens self.old.slots self.new.slots step.slot stamp) }
@@ -94,7 +101,7 @@ impl<A: Ancestors> Graph<A> {
         Ok(step)
     }
 
-    /// Marks the node of a step as finished.
+    /// Marks the node of a step as finished. The step has to name a node in use.
     pub fn finish(&mut self, step: Step)
         requires { IsTrue (bears self.old.slots step.slot step.stamp) }
         ensures finished { self.new.slots ≡ with_node self.old.slots step.slot (Some (record { stamp = step.stamp; finished = true })) }
@@ -120,7 +127,8 @@ impl<A: Ancestors> Graph<A> {
         self.arena.free(slot);
     }
 
-    /// Frees exactly the finished nodes without an unfinished ancestor, and tells their stamps.
+    /// Frees exactly the finished nodes without an unfinished ancestor, and tells their stamps in place of what the
+    /// list had. There has to be room for as many as there are slots.
     pub fn free_unneeded(&mut self, freed: &mut Vec<u32>)
         requires room { limit_of self.old.slots ≤ vec_capacity freed.old }
         ensures collects { Collects self.old self.new }
@@ -187,6 +195,7 @@ impl<A: Ancestors> Graph<A> {
         self.arena.extent()
     }
 
+    /// Whether the slot has a node. One that is not there has none.
     pub fn is_used(&self, slot: u16) -> bool
         ensures { result ≡ is_used self.now.slots slot }
     {

@@ -11,6 +11,9 @@ use velo_events::growth::with_capacity;
 use velo_rows::Ancestors;
 
 /// As many empty sets as there are slots.
+///
+/// # Errors
+/// `Memory` where a growth was refused.
 pub fn empty_rows<A: Ancestors>(alloc: Global, limit: u16) -> Result<Vec<A>, Memory>
     ensures members { IfOk result (λ rows. map A.members rows.items ≡ replicate limit set.empty) }
     ensures capacities { IfOk result (λ rows. map A.capacity rows.items ≡ replicate limit limit) }
@@ -67,8 +70,11 @@ pub fn take_out<A: Ancestors>(rows: &mut [A], count: u16, slot: u16)
 /// The slots of a set that have no ancestors.
 #[derive(Clone, Copy, Debug, PartialEq, Eq)]
 pub enum Roots {
+    /// There is none.
     Zero,
+    /// This slot alone.
     One(u16),
+    /// There are several.
     Many,
 }
 

@@ -7,6 +7,7 @@ use velo_events::{Kind, Label, MOST_OPEN_BLOCKS, Refusal, Status, ThreadId};
 /// How one thread stands.
 #[derive(Clone, Copy, Debug)]
 pub struct Standing {
+    /// How far it has come.
     pub status: Status,
     /// How many blocks it has open.
     pub depth: u8,
@@ -26,12 +27,17 @@ impl Standing {
         }
     }
 
+    /// Whether it may act.
     pub fn is_live(self) -> bool
         ensures { result ≡ is_live self.status }
     {
         matches!(self.status, Status::Live)
     }
 
+    /// The begin of a block by this thread.
+    ///
+    /// # Errors
+    /// `TooDeep` where as many blocks are open as may be.
     pub fn admit_begin(self, label: Label) -> Result<Kind, Refusal>
         ensures { result ≡ begin_in self label }
     {
@@ -42,6 +48,10 @@ impl Standing {
         }
     }
 
+    /// The end of a block by this thread.
+    ///
+    /// # Errors
+    /// `NoOpenBlock` where it has none open.
     pub fn admit_end(self) -> Result<Kind, Refusal>
         ensures { result ≡ end_in self }
     {
@@ -52,6 +62,10 @@ impl Standing {
         }
     }
 
+    /// The exit of this thread.
+    ///
+    /// # Errors
+    /// `BlockOpen` where it has a block open, and else `LockHeld` where it holds a lock.
     pub fn admit_exit(self) -> Result<Kind, Refusal>
         ensures { result ≡ exit_in self }
     {
@@ -65,6 +79,9 @@ impl Standing {
     }
 
     /// The fork of this thread, whose number is `u`.
+    ///
+    /// # Errors
+    /// `AlreadyForked` where it is born already.
     pub fn admit_fork(self, u: ThreadId) -> Result<Kind, Refusal>
         ensures { result ≡ fork_by u self.status }
     {
@@ -75,6 +92,9 @@ impl Standing {
     }
 
     /// The join of this thread, whose number is `u`.
+    ///
+    /// # Errors
+    /// `NotForked`, `NotExited` or `AlreadyJoined`, by how far it has come.
     pub fn admit_join(self, u: ThreadId) -> Result<Kind, Refusal>
         ensures { result ≡ join_by u self.status }
     {

@@ -38,6 +38,9 @@ impl Book {
     ///
     /// Books that are alive together need different numbers of their runs. With the same number, a share of one book fits
     /// another where the other's row says the same.
+    ///
+    /// # Errors
+    /// `Memory` where a growth was refused.
     pub fn open(alloc: Global, run: u64, threads: u8) -> Result<(Book, Shares), Memory>
         ensures book { IfOk result (λ opened. opened.0 ≡ opening_accounts run threads) }
         ensures shares { IfOk result (λ opened. AreOpening run threads opened.1) }
@@ -76,7 +79,9 @@ impl Book {
         self.rows[place].is_same(&share.tally)
     }
 
-    /// Adds an event to the row and to the share of its thread.
+    /// Adds an event to the row and to the share of its thread. The share has to fit and to be of the event's thread,
+    /// and the position has to be behind that of the thread's last event and below
+    /// [`MOST_EVENTS`](velo_events::MOST_EVENTS).
     #[inline]
     pub fn enter(&mut self, share: &mut Share, position: usize, event: &Event)
         requires fits { FitsBook self.old share.old }
@@ -93,7 +98,8 @@ impl Book {
         share.tally = tally;
     }
 
-    /// Adds an event to the row of its thread and to the share at its thread's place, which stays there.
+    /// Adds an event to the row of its thread and to the share at its thread's place, which stays there. A share has to
+    /// be there, and the rest is asked for as by [`Book::enter`].
     #[inline]
     pub fn enter_at(&mut self, shares: &mut Shares, position: usize, event: &Event)
         requires there { CanEnterAt self.old shares.old position event.now }

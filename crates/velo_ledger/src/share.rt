@@ -7,8 +7,11 @@ use velo_events::{Event, ThreadId};
 /// What one thread knows of its own row. It has no copy, and only `Book::open` makes shares.
 #[derive(Debug, Drop)]
 pub struct Share {
+    /// The number of its run.
     pub(crate) run: u64,
+    /// Its thread.
     pub(crate) thread: ThreadId,
+    /// What the thread knows of its row.
     pub(crate) tally: Tally,
 }
 

@@ -12,6 +12,7 @@ use velo_events::{Memory, ThreadId};
 /// A place for each thread's share.
 #[derive(Debug, Drop)]
 pub struct Shares {
+    /// By number of the threads.
     pub(crate) places: Vec<Option<Share>>,
 }
 
@@ -38,6 +39,9 @@ impl Shares {
     }
 
     /// A place for each of so many threads, and every place empty.
+    ///
+    /// # Errors
+    /// `Memory` where a growth was refused.
     pub fn none(alloc: Global, threads: u8) -> Result<Shares, Memory>
         ensures empty { IfOk result (λ shares. shares ≡ replicate threads None) }
         ensures memory { OnErr result GrowthRefused }
@@ -85,7 +89,10 @@ impl Shares {
         }
     }
 
-    /// Puts a share at its thread's place, or gives it back where that place is filled or not there.
+    /// Puts a share at its thread's place.
+    ///
+    /// # Errors
+    /// The share itself, exactly where that place is filled or not there. The places are as they were then.
     pub fn put(&mut self, share: Share) -> Result<(), Share>
         ensures ok { IsOk result ↔ (slice_get self.old share.thread.0 ≡ Some None) }
         ensures placed { OnOk result (self.new ≡ slice_set self.old share.thread.0 (Some share)) }

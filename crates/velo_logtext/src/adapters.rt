@@ -7,11 +7,13 @@ use std::io::{Read, Write};
 /// A reader as a source. An error of any kind is a failure, and nothing is tried again.
 #[derive(Drop)]
 pub struct ReaderSource<R> {
+    /// The reader.
     pub reader: R,
     failures: u64,
 }
 
 impl<R> ReaderSource<R> {
+    /// The reader as a source, of which no read has failed.
     pub fn new(reader: R) -> ReaderSource<R>
         ensures reader { result.reader ≡ reader }
         ensures failures { result.failures ≡ 0 }
@@ -50,11 +52,13 @@ impl<R: Read> Source for ReaderSource<R> {
 /// piece that is not empty; nothing is tried again.
 #[derive(Drop)]
 pub struct WriterSink<W> {
+    /// The writer.
     pub writer: W,
     failures: u64,
 }
 
 impl<W> WriterSink<W> {
+    /// The writer as a sink, of which no write has failed.
     pub fn new(writer: W) -> WriterSink<W>
         ensures writer { result.writer ≡ writer }
         ensures failures { result.failures ≡ 0 }

@@ -22,6 +22,9 @@ pub trait Source {
 
     /// Puts the next bytes at the front of the piece, and answers how many. It answers 0 for a piece
     /// that is not empty only at the end of the input.
+    ///
+    /// # Errors
+    /// `Failed` where the device failed, which counts one failure more.
     fn read(&mut self, piece: &mut [u8]) -> Result<usize, Failed>
         ensures bound { ReadsAtMost result piece.new }
         ensures bytes { ReadConsumes (remaining self.old) (remaining self.new) result piece.new }
@@ -38,6 +41,9 @@ pub trait Sink {
     ghost failures: { Self → ℕ };
 
     /// Takes bytes from the front of the piece, and answers how many: at least one where there are any.
+    ///
+    /// # Errors
+    /// `Failed` where the device failed, which counts one failure more.
     fn write(&mut self, piece: &[u8]) -> Result<usize, Failed>
         ensures bound { WritesAtMost result piece.now }
         ensures some { 0 < length piece.now → IfOk result (λ n. 0 < n) }
@@ -46,7 +52,10 @@ pub trait Sink {
         ensures err { OnErr result (failures self.new ≡ one_more (failures self.old)) };
 }
 
-/// Writes all the bytes, or a beginning of them up to the first failure.
+/// Writes all the bytes.
+///
+/// # Errors
+/// `WriteFault` at the first failure of the sink. A beginning of the bytes was written then.
 pub fn write_all<S: Sink>(sink: &mut S, bytes: &[u8]) -> Result<(), WriteFault>
     ensures ok { OnOk result (Appends (S.contents sink.old) (S.contents sink.new) bytes.now) }
     ensures err { OnErr result (AppendsBeginning (S.contents sink.old) (S.contents sink.new) bytes.now) }

@@ -17,7 +17,8 @@ pub enum LogFault {
     /// The input ends within this line, after 1 to 64 bytes of it.
     #[error("line {0} is cut off")]
     Truncated(usize),
-    /// A byte stands after the 16,777,216th event's line.
+    /// A byte stands after the line of the last event that a log may have: the one with the number
+    /// [`MOST_EVENTS`](velo_events::MOST_EVENTS), counted from 1.
     #[error("too many events")]
     TooLong,
     /// The source failed in this call.

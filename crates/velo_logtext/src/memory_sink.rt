@@ -17,6 +17,7 @@ pub struct Text {
 }
 
 impl Text {
+    /// A sink to which nothing was written.
     pub fn new(alloc: Global) -> Text
         ensures { ⟦<Text as Sink>⟧.contents result ≡ Some [] }
     {

@@ -16,6 +16,7 @@ pub struct Bytes<'a> {
 }
 
 impl<'a> Bytes<'a> {
+    /// A source of these bytes.
     pub fn new(bytes: &'a [u8]) -> Bytes<'a>
         ensures { ⟦<Bytes<'a> as Source>⟧.remaining result ≡ Some bytes.now }
     {

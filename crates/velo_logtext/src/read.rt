@@ -194,9 +194,12 @@ fn read_up_to<S: Source>(
 
 /// Reads a log up to the end of the source.
 ///
-/// What it finds is what stands in the source's bytes, however they are cut into pieces: the text of
-/// a log, or the first line that is wrong. `Read` comes only where the source failed in this call,
-/// and `Memory` only where a growth was refused.
+/// What it finds is what stands in the source's bytes, however they are cut into pieces: the text of a log, or the
+/// first line that is wrong.
+///
+/// # Errors
+/// `BadHeader`, `BadLine`, `Truncated` or `TooLong` for the first line that is wrong; `Read` only where the source
+/// failed in this call, and `Memory` only where a growth was refused.
 pub fn read_log<S: Source>(alloc: Global, source: &mut S) -> Result<(Bounds, Trace), LogFault>
     // What is answered stands in the bytes.
     ensures found { IfSome (S.remaining source.old) (λ bytes. Answers MOST_EVENTS bytes (finding_of result)) }

@@ -81,7 +81,11 @@ fn put_header(buffer: &mut [u8], bounds: Bounds) -> usize
     put_bytes(buffer, at, b"\n")
 }
 
-/// Writes a log: the one text of its bounds and events.
+/// Writes a log: the one text of its bounds and events. The bounds have to be in the ranges of a configuration, and the
+/// events at most [`MOST_EVENTS`](velo_events::MOST_EVENTS).
+///
+/// # Errors
+/// `WriteFault` where the sink failed. A beginning of the text was written then.
 pub fn write_log<S: Sink>(bounds: Bounds, trace: &Trace, sink: &mut S) -> Result<(), WriteFault>
     requires bounds { AreBounds bounds }
     requires few { length trace.now.events ≤ MOST_EVENTS }

@@ -140,6 +140,10 @@ impl Monitor {
     }
 
     /// Takes in the next event, unless it closes a cycle. Afterwards nothing is left that could be collected.
+    ///
+    /// The position has to be the number of the events before it, below [`MOST_EVENTS`](velo_events::MOST_EVENTS), and
+    /// the event one that may follow them. There has to be room for it, as after `reserve`, and a free slot where
+    /// `needs_node` says so.
     pub fn observe(&mut self, position: usize, event: &Event) -> Seen
         requires { IsNext self.old position event.now }
         ensures limit { limit_of self.new.nodes.slots ≡ limit_of self.old.nodes.slots }

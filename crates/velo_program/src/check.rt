@@ -80,8 +80,9 @@ pub fn do_log(alloc: Global, config: Config, log: Trace) -> Result<Closed, Check
     }
 }
 
-/// The configuration of a check, which goes on after an alarm: the bounds of the log, the most events that it may have, 1 to
-/// 16,777,216, and the most nodes that the graph may have at one time, 1 to 4,096.
+/// The configuration of a check, which goes on after an alarm: the bounds of the log, the most events that it may have,
+/// 1 to [`MOST_EVENTS`](velo_events::MOST_EVENTS), and the most nodes that the graph may have at one time, 1 to
+/// [`MOST_NODES`](velo_events::MOST_NODES).
 pub fn config_of(bounds: Bounds, events: u32, nodes: u16) -> Config
     requires bounds { AreBounds bounds }
     requires events { (1 ≤ events) × (events ≤ MOST_EVENTS) }
@@ -108,6 +109,9 @@ fn verdict_of(closed: &Closed) -> Verdict
 }
 
 /// Writes the report of a closed world.
+///
+/// # Errors
+/// `Write` where the sink failed. A beginning of the report was written then.
 pub fn write_report<O: Sink>(
     closed: &Closed,
     names: &Names,
@@ -225,8 +229,8 @@ fn finish<O: Sink>(
 /// Reads a whole log, does its events one after another, and writes the report, and behind it, if it is asked for, the
 /// certificate of the verdict: the lines of a serial order, or with an alarm the line of a shortest cycle at its position.
 ///
-/// The limits are the most events that the log may have, 1 to 16,777,216, and the most nodes that the graph may have at
-/// one time, 1 to 4,096.
+/// The limits are the most events that the log may have, 1 to [`MOST_EVENTS`](velo_events::MOST_EVENTS), and the most nodes
+/// that the graph may have at one time, 1 to [`MOST_NODES`](velo_events::MOST_NODES).
 ///
 /// # Errors
 /// A fault of the text comes before any other; else the first event that can't come about decides, and a refusal there

@@ -5,9 +5,9 @@ ghost use Rattle.velo_events.specs.declared.limits.TheConstants.{MOST_EVENTS, MO
 /// The limits of a run.
 #[derive(Clone, Copy, Debug)]
 pub struct Limits {
-    /// The most events that the log may have, 1 to 16,777,216.
+    /// The most events that the log may have, 1 to [`MOST_EVENTS`](velo_events::MOST_EVENTS).
     pub events: u32,
-    /// The most nodes that the graph may have at one time, 1 to 4,096.
+    /// The most nodes that the graph may have at one time, 1 to [`MOST_NODES`](velo_events::MOST_NODES).
     pub nodes: u16,
     ghost some_event: { 1 ≤ events },
     ghost few_events: { events ≤ MOST_EVENTS },

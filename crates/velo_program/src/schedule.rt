@@ -15,7 +15,8 @@ pub const MOST_TURNS: usize = 1_000_000;
 /// Why a text is no schedule.
 #[derive(Clone, Copy, Debug, PartialEq, Eq)]
 pub enum ScheduleFault {
-    /// It is another text than numbers from 0 to 63 without leading zeros, parted by one space, or has too many of them.
+    /// It is another text than the numbers of threads, below [`MOST_THREADS`], without leading zeros, parted by one
+    /// space, or has more of them than [`MOST_TURNS`].
     Bad,
     /// A growth was refused.
     Memory,
@@ -65,8 +66,9 @@ fn push(schedule: &mut Vec<ThreadId>, thread: ThreadId) -> Result<(), ScheduleFa
     }
 }
 
-/// Reads a schedule: the threads whose turns come one after another. The text has their numbers, 0 to 63 without leading
-/// zeros, parted by one space, at most 1,000,000 of them; the empty text is the empty schedule.
+/// Reads a schedule: the threads whose turns come one after another. The text has their numbers, below [`MOST_THREADS`]
+/// and without leading zeros, parted by one space, at most [`MOST_TURNS`] of them; the empty text is the empty
+/// schedule.
 ///
 /// # Errors
 /// `Bad` for another text, `Memory` where a growth was refused.

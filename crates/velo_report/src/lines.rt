@@ -28,7 +28,9 @@ fn write_spaced(number: u64, text: &mut [u8; LONGEST]) -> usize
 /// A word of a line.
 #[derive(Clone, Copy)]
 pub(crate) enum Word<'a> {
+    /// A word as it is.
     Text(&'a str),
+    /// The digits of a number.
     Number(u64),
 }
 
@@ -72,6 +74,9 @@ impl Lines {
     }
 
     /// Writes what was gathered.
+    ///
+    /// # Errors
+    /// `WriteFault` where the sink failed. A beginning of what was gathered was written then.
     pub fn flush<S: Sink>(&mut self, sink: &mut S) -> Result<(), WriteFault>
         ensures ok { OnOk result (Appends (S.contents sink.old) (S.contents sink.new) self.old) }
         ensures empty { OnOk result (self.new ≡ []) }
@@ -143,6 +148,9 @@ impl Lines {
     }
 
     /// Adds a line: its first word, the others, each behind a space, and a newline.
+    ///
+    /// # Errors
+    /// `WriteFault` where the sink failed. A beginning of what was gathered and of the line was written then.
     pub fn add_line<S: Sink>(
         &mut self,
         sink: &mut S,
@@ -162,6 +170,9 @@ impl Lines {
     }
 
     /// Adds a line of numbers: its first word, the numbers, each behind a space, and a newline.
+    ///
+    /// # Errors
+    /// `WriteFault` where the sink failed. A beginning of what was gathered and of the line was written then.
     pub fn add_numbers<S: Sink>(
         &mut self,
         sink: &mut S,

@@ -57,6 +57,9 @@ impl Debug for Room {
 
 impl Room {
     /// A room without events, and the seat of thread 0.
+    ///
+    /// # Errors
+    /// `Memory` where a growth was refused.
     pub(crate) fn open(alloc: Global, config: Config) -> Result<(Room, Seat), Memory>
         ensures room { IfOk result (λ opened. opened.0 ≡ opening_room config) }
         ensures seat { IfOk result (λ opened. opened.1 ≡ opening_share config.run 0) }
@@ -111,7 +114,10 @@ impl Room {
         self.world.halt();
     }
 
-    /// Ends the run, if the seats are one fitting seat of each thread that was born. It takes no memory.
+    /// Ends the run. It takes no memory.
+    ///
+    /// # Errors
+    /// Room and seats as they were, exactly where the seats are not one fitting seat of each thread that was born.
     pub(crate) fn close(self, mut seats: Vec<Seat>) -> Result<Closed, (Room, Vec<Seat>)>
         ensures closed { IfOk result (λ closed. closed ≡ self.world) }
         ensures all { IfOk result (λ closed. AreSeatsOf self.world seats.items) }

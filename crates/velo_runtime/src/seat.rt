@@ -19,6 +19,7 @@ use velo_world::Reply;
 /// A thread's place in a run: its share of the book. Whoever has the seat acts as the thread.
 #[derive(Debug, Drop)]
 pub struct Seat {
+    /// The share of its thread.
     pub(crate) share: Share,
 }
 
@@ -30,8 +31,8 @@ impl Model for Seat {
     ghost view = { λ seat. seat.share };
 }
 
-/// Each of the calls that are passed `rt` takes the room's lock, and does one action in one hold of it. On a refusal, which
-/// is that of `turn_in`, and for a fork that of `fork_in`, the seat is as it was.
+/// Each of the calls that are passed `rt` takes the room's lock, and does one action in one hold of it. `Memory` (19) is
+/// answered only where a growth was refused, and `RuntimeMemory` (21) never.
 ///
 /// No call may be made by a thread that has the room's guard: it would wait for itself.
 impl Seat {
@@ -43,6 +44,9 @@ impl Seat {
     }
 
     /// Reads a variable, and answers its value.
+    ///
+    /// # Errors
+    /// The refusal of [`turn_in`]. The seat is as it was then.
     pub fn read<R: Wait>(&mut self, rt: &R, shared: &Shared, x: VarId) -> Result<u64, Refusal>
         ensures read { IfOk result (λ value. GainsEvent self.old self.new (kind.Read x value)) }
         ensures unchanged { OnErr result (self.new ≡ self.old) }
@@ -57,6 +61,9 @@ impl Seat {
     }
 
     /// Writes a value to a variable.
+    ///
+    /// # Errors
+    /// The refusal of [`turn_in`]. The seat is as it was then.
     pub fn write<R: Wait>(
         &mut self,
         rt: &R,
@@ -73,6 +80,9 @@ impl Seat {
     }
 
     /// Acquires a lock. While another thread holds it, the call waits; it never answers `Busy` (6).
+    ///
+    /// # Errors
+    /// The refusal of [`turn_in`]. The seat is as it was then.
     pub fn acquire<R: Wait>(
         &mut self,
         rt: &R,
@@ -89,6 +99,9 @@ impl Seat {
     }
 
     /// Releases a lock, and notifies the threads that wait.
+    ///
+    /// # Errors
+    /// The refusal of [`turn_in`]. The seat is as it was then.
     pub fn release<R: Wait>(
         &mut self,
         rt: &R,
@@ -104,6 +117,9 @@ impl Seat {
     }
 
     /// Begins an atomic block.
+    ///
+    /// # Errors
+    /// The refusal of [`turn_in`]. The seat is as it was then.
     pub fn begin<R: Wait>(
         &mut self,
         rt: &R,
@@ -119,6 +135,9 @@ impl Seat {
     }
 
     /// Ends the innermost open block.
+    ///
+    /// # Errors
+    /// The refusal of [`turn_in`]. The seat is as it was then.
     pub fn end<R: Wait>(&mut self, rt: &R, shared: &Shared) -> Result<Reply, Refusal>
         ensures ended { IfOk result (λ reply. GainsEventOf self.old self.new reply kind.End) }
         ensures unchanged { OnErr result (self.new ≡ self.old) }
@@ -129,6 +148,9 @@ impl Seat {
     }
 
     /// Forks a thread, and gives its seat.
+    ///
+    /// # Errors
+    /// The refusal of [`fork_in`]. The seat is as it was then.
     pub fn fork<R: Wait>(
         &mut self,
         rt: &R,
@@ -147,6 +169,9 @@ impl Seat {
     }
 
     /// Joins a thread. Until it has exited, the call waits; it never answers `NotExited` (13).
+    ///
+    /// # Errors
+    /// The refusal of [`turn_in`]. The seat is as it was then.
     pub fn join<R: Wait>(
         &mut self,
         rt: &R,
@@ -163,6 +188,9 @@ impl Seat {
     }
 
     /// Ends the thread, and notifies those that wait.
+    ///
+    /// # Errors
+    /// The refusal of [`turn_in`]. The seat is as it was then.
     pub fn exit<R: Wait>(&mut self, rt: &R, shared: &Shared) -> Result<Reply, Refusal>
         ensures exited { IfOk result (λ reply. GainsEventOf self.old self.new reply kind.Exit) }
         ensures unchanged { OnErr result (self.new ≡ self.old) }

@@ -77,7 +77,9 @@ impl Shared {
 #[derive(Drop, Error)]
 #[error("a seat is missing, or one does not fit")]
 pub struct Missing {
+    /// The room under its lock.
     pub shared: Shared,
+    /// The seats that were given.
     pub seats: Vec<Seat>,
 }
 

@@ -29,6 +29,7 @@ impl Model for Entry {
 }
 
 impl Entry {
+    /// The entry of the step, or of none.
     pub fn new(step: Option<Step>) -> Entry
         ensures { result ≡ step }
     {
@@ -46,6 +47,7 @@ impl Entry {
         }
     }
 
+    /// The step, if there is one.
     pub fn step(self) -> Option<Step>
         ensures { result ≡ self }
     {

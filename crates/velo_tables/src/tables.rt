@@ -66,6 +66,9 @@ fn put_entry(entries: &mut Vec<Entry>, number: usize, step: Option<Step>)
 
 impl Tables {
     /// Tables of a run's threads, without a step.
+    ///
+    /// # Errors
+    /// `Memory` where a growth was refused.
     pub fn new(alloc: Global, config: &Config) -> Result<Tables, Memory>
         ensures threads { IfOk result (λ tables. length tables.threads ≡ config.now.bounds.threads) }
         ensures blank { IfOk result IsBlank }
@@ -123,6 +126,9 @@ impl Tables {
 
 impl Tables {
     /// Makes room for what the event records. No step changes, also where it is refused.
+    ///
+    /// # Errors
+    /// `Memory` where there was too little room and a growth was refused.
     pub fn reserve_for(&mut self, event: &Event) -> Result<(), Memory>
         ensures unchanged { IsUnchanged self.old self.new }
         ensures threads { length self.new.threads ≡ length self.old.threads }
@@ -201,7 +207,8 @@ impl Tables {
         grow_entries(&mut self.locks, m.0 as usize)
     }
 
-    /// Keeps the step, or none, as that of the last event at each place that the event records.
+    /// Keeps the step, or none, as that of the last event at each place that the event records. There has to be room
+    /// for it, as after `reserve_for`.
     #[tactic(auto, unfolding(crate::specs::Recorded::kept_after))]
     pub fn record(&mut self, event: &Event, step: Option<Step>)
         requires { HasRoomFor self.old event.now }
@@ -220,8 +227,8 @@ impl Tables {
         self.record_beside(event, step);
     }
 
-    /// Keeps the step as that of the last event at each place that the event records, where it is that of the thread's last
-    /// event already.
+    /// Keeps the step as that of the last event at each place that the event records, where it is that of the thread's
+    /// last event already. There has to be room for it too.
     pub fn record_inside(&mut self, event: &Event, step: Step)
         requires room { HasRoomFor self.old event.now }
         requires current { entry self.old (LastOf (thread_of event.now)) ≡ Some step }

@@ -247,6 +247,9 @@ impl Variables {
 
 impl Variables {
     /// Makes room for the variable.
+    ///
+    /// # Errors
+    /// `Memory` where there was no room for it and a growth was refused. Nothing changes then.
     pub fn reserve(&mut self, x: VarId) -> Result<(), Memory>
         ensures ok { OnOk result (self.new ≡ filled_up no_accesses (x.0 + 1) self.old) }
         ensures err { OnErr result (self.new ≡ self.old) }
@@ -262,6 +265,9 @@ impl Variables {
     }
 
     /// Makes room for the reads of the variable by that many threads.
+    ///
+    /// # Errors
+    /// `Memory` where a growth was refused. Nothing changes then.
     pub fn reserve_reads(&mut self, x: VarId, threads: usize) -> Result<(), Memory>
         requires there { x.0 < length self.old }
         requires few { threads ≤ MOST_THREADS }
@@ -283,6 +289,7 @@ impl Variables {
         Ok(())
     }
 
+    /// Keeps the step, or none, as that of the variable's last write, for which there is room.
     pub fn record_write(&mut self, x: VarId, step: Option<Step>)
         requires { x.0 < length self.old }
         ensures { self.new ≡ slice_set self.old x.0 (with_write (slice_index_or self.old x.0 no_accesses) step) }
@@ -290,6 +297,7 @@ impl Variables {
         self.variables[x.0 as usize].write = Entry::new(step);
     }
 
+    /// Keeps the step, or none, as that of the thread's last read of the variable, for which there is room.
     pub fn record_read(&mut self, x: VarId, t: ThreadId, step: Option<Step>)
         requires there { x.0 < length self.old }
         requires room { t.0 < length (slice_index_or self.old x.0 no_accesses).reads }

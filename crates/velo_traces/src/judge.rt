@@ -267,10 +267,13 @@ fn flaw_in(earlier: &[Event], bounds: Bounds, event: Event) -> Option<Flaw>
     }
 }
 
-/// Judges whether the trace can come about within the bounds. The error is the first position whose event may not follow
-/// those before it, and why.
+/// Judges whether the trace can come about within the bounds.
 ///
-/// It takes no memory. Its time grows with the square of the number of events, and at an exit with the number of locks too.
+/// It takes no memory. Its time grows with the square of the number of events, and at an exit with the number of locks
+/// too.
+///
+/// # Errors
+/// The first position whose event may not follow those before it, and why.
 pub fn well_formed(trace: &Trace, bounds: Bounds) -> Result<(), (usize, Flaw)>
     ensures ok { OnOk result (IsWellFormed bounds trace.now.events) }
     ensures err { IfErr result (λ found. IsFirstFlaw bounds trace.now.events found.0 found.1) }

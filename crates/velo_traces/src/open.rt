@@ -60,7 +60,8 @@ fn take_in(
     }
 }
 
-/// The blocks of a thread that are open at the end of the events, outermost first.
+/// The blocks of a thread that are open at the end of the events, outermost first. At most [`MOST_OPEN_BLOCKS`] may be
+/// open.
 pub fn open_blocks_in(
     events: &[Event],
     thread: ThreadId,
@@ -72,8 +73,8 @@ pub fn open_blocks_in(
     open_blocks_since(events, thread, 0, alloc)
 }
 
-/// The blocks of a thread that are open at the end of the events, outermost first, where none of them begins before the
-/// position `first`. It looks at no event before that position.
+/// The blocks of a thread that are open at the end of the events, outermost first, where at most [`MOST_OPEN_BLOCKS`]
+/// are open and none of them begins before the position `first`. It looks at no event before that position.
 pub fn open_blocks_since(
     events: &[Event],
     thread: ThreadId,

@@ -38,8 +38,10 @@ impl Trace {
         }
     }
 
-    /// Makes room for one more event. It fails only where there was none and memory for it was refused; then the trace is as
-    /// it was.
+    /// Makes room for one more event.
+    ///
+    /// # Errors
+    /// `Memory` where there was no room and a growth was refused. The trace is as it was then.
     pub fn reserve_one(&mut self) -> Result<(), Memory>
         ensures events { self.new.events ≡ self.old.events }
         ensures ok { OnOk result (0 < self.new.room) }
@@ -58,7 +60,10 @@ impl Trace {
         self.items.push_reserved(event);
     }
 
-    /// Appends an event. It fails only where there was no room and memory for it was refused; then the trace is as it was.
+    /// Appends an event.
+    ///
+    /// # Errors
+    /// `Memory` where there was no room and a growth was refused. The trace is as it was then.
     pub fn push(&mut self, event: Event) -> Result<(), Memory>
         ensures ok { OnOk result (self.new.events ≡ self.old.events ++ event ∷ []) }
         ensures full { OnErr result (self.old.room ≡ 0) }

@@ -47,6 +47,7 @@ impl Cursor {
         }
     }
 
+    /// The position of the statement that comes next.
     pub fn position(&self) -> usize
         ensures { result ≡ self.now.position }
     {

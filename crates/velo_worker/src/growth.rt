@@ -11,6 +11,9 @@ use velo_events::Memory;
 const PLACES: usize = 128;
 
 /// A channel with room for all messages of a run.
+///
+/// # Errors
+/// `Memory` where a growth was refused.
 pub fn channel<T: Drop>(alloc: Global) -> Result<(Sender<T>, Receiver<T>), Memory>
     ensures memory { OnErr result GrowthRefused }
 {
@@ -21,6 +24,9 @@ pub fn channel<T: Drop>(alloc: Global) -> Result<(Sender<T>, Receiver<T>), Memor
 }
 
 /// A further sender of a channel.
+///
+/// # Errors
+/// `Memory` where a growth was refused.
 pub fn copy<T: Drop>(sender: &Sender<T>) -> Result<Sender<T>, Memory>
     ensures memory { OnErr result GrowthRefused }
 {

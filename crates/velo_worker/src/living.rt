@@ -43,7 +43,7 @@ impl From<Memory> for LiveFault {
 }
 
 /// Lets each thread of a workload do its body in a thread of its own, and closes the world after the last has ended. It answers
-/// that world, and how the run ended.
+/// that world, and how the run ended. The configuration has to have the workload's bounds.
 ///
 /// Before each of its events a thread asks the gate. One that the gate does not let pass, or whose action is refused, halts the
 /// world: what the others try after that is refused. It may wait for locks, for threads to join, and for the gate.

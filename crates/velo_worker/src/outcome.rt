@@ -22,7 +22,9 @@ pub enum Outcome {
 /// What a worker hands back at its end. Where it was refused for want of memory, a growth or the start of a thread was refused.
 #[derive(Debug, Drop)]
 pub struct Ended {
+    /// Its seat.
     pub seat: Seat,
+    /// How it ended.
     pub outcome: Outcome,
 }
 

@@ -12,7 +12,9 @@ use velo_workload::Statement;
 /// A thread's register, and what it has left to do.
 #[derive(Drop)]
 pub struct Progress<'a> {
+    /// Its register.
     pub register: u64,
+    /// What it has left to do.
     pub left: Walk<'a>,
     /// Whether it has exited.
     pub done: bool,

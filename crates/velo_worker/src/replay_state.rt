@@ -18,9 +18,11 @@ use velo_world::{Closed, World};
 /// A world in which the threads of a workload act in turn.
 #[derive(Drop)]
 pub struct ReplayState<'a> {
+    /// The world.
     pub world: World,
     /// The share of each thread that was forked, at its place.
     pub shares: Shares,
+    /// How far each thread has come, by number.
     pub threads: Vec<Progress<'a>>,
 }
 

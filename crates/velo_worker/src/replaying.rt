@@ -17,7 +17,7 @@ use velo_workload::Workload;
 use velo_world::{Closed, World};
 
 /// Lets the threads of a workload act in turn: first in the order of the schedule, then in rounds of all threads. It
-/// answers the world after its end, and how the run ended.
+/// answers the world after its end, and how the run ended. The configuration has to have the workload's bounds.
 ///
 /// In its turn a thread does its statements without events up to its next event, and tries that. It passes where it has
 /// exited, was not forked yet or is no thread of the workload, and where it has to wait for a lock or for the end of

@@ -12,6 +12,9 @@ use std::thread::Scope;
 pub struct Unstarted;
 
 /// Starts a thread for a worker.
+///
+/// # Errors
+/// `Unstarted` where the start was refused.
 pub fn start_worker<'s, E, G: Gate + Sync, R: Wait + Sync>(
     scope: &Scope<'s, E>,
     rt: &'s R,

@@ -28,16 +28,22 @@ pub enum Message {
 /// It goes through a channel of its own, since a message cannot carry a sender of its own channel.
 #[derive(Drop)]
 pub struct Birth {
+    /// The seat.
     pub seat: Seat,
+    /// The sender for what its worker tells the starter.
     pub messages: Sender<Message>,
 }
 
 /// What the workers of a run share.
 #[derive(Drop)]
 pub struct Site<'a, G> {
+    /// Where they take memory.
     pub alloc: Global,
+    /// Whose bodies they do.
     pub workload: &'a Workload,
+    /// The room in which they act.
     pub shared: &'a Shared,
+    /// What they ask before each event.
     pub gate: &'a G,
     /// Where births go.
     pub nursery: &'a Sender<Birth>,

@@ -20,6 +20,7 @@ use velo_events::growth::reserve;
 #[derive(Drop)]
 pub struct Bodies<'a> {
     alloc: Global,
+    /// Those that are whole.
     pub whole: Vec<Draft<'a>>,
     current: Draft<'a>,
 }
@@ -37,6 +38,9 @@ impl<'a> Bodies<'a> {
     }
 
     /// The current body is whole.
+    ///
+    /// # Errors
+    /// `Memory` where a growth was refused.
     pub fn finish(&mut self) -> Result<(), Memory>
         ensures sketches { OnOk result (sketches_of self.new ≡ record { whole = (sketches_of self.old).whole ++ (sketches_of self.old).current ∷ []; current = record { statements = []; later = [] } }) }
         ensures memory { OnErr result GrowthRefused }
@@ -48,6 +52,9 @@ impl<'a> Bodies<'a> {
     }
 
     /// Takes in a line of this number.
+    ///
+    /// # Errors
+    /// `Memory` where a growth was refused.
     pub fn take(&mut self, outline: &Outline, phrase: Phrase<'a>, line: usize) -> Result<(), Memory>
         requires { AreFew (known_of outline.now) }
         ensures sketches { OnOk result (sketches_of self.new ≡ with_phrase (names_in (known_of outline.now)) (sketches_of self.old) (said phrase.entry) line) }
@@ -62,6 +69,9 @@ impl<'a> Bodies<'a> {
 }
 
 /// The bodies of drafts, by all names of the text.
+///
+/// # Errors
+/// `Unknown` for the first line that uses a name that the text does not declare; `Memory` where a growth was refused.
 pub fn complete_bodies(
     alloc: Global,
     outline: &Outline,

@@ -19,7 +19,9 @@ use velo_events::growth::reserve;
 /// A statement with a name that the lines up to its own do not declare.
 #[derive(Clone, Copy)]
 pub struct Later<'a> {
+    /// The statement, by its names.
     pub said: Spoken<'a>,
+    /// Its line.
     pub line: usize,
     /// Where it stands in the body.
     pub place: usize,
@@ -30,6 +32,7 @@ pub struct Later<'a> {
 pub struct Draft<'a> {
     /// With a `Done` in place of each that is not known.
     pub statements: Vec<Statement>,
+    /// Those that are not known.
     pub later: Vec<Later<'a>>,
 }
 
@@ -70,6 +73,9 @@ impl<'a> Draft<'a> {
     }
 
     /// Takes in the statement of a line.
+    ///
+    /// # Errors
+    /// `Memory` where a growth was refused.
     pub fn take(&mut self, outline: &Outline, said: Spoken<'a>, line: usize) -> Result<(), Memory>
         requires { AreFew (known_of outline.now) }
         ensures sketch { OnOk result (sketch_of self.new ≡ with_statement (names_in (known_of outline.now)) (sketch_of self.old) (spoken said.entry) line) }
@@ -92,6 +98,9 @@ fn set(statements: &mut Vec<Statement>, place: usize, statement: Statement)
 }
 
 /// The body of a draft, by all names of the text.
+///
+/// # Errors
+/// `Unknown` for the first line that uses a name that the text does not declare; `Memory` where a growth was refused.
 pub fn complete_body(outline: &Outline, draft: Draft) -> Result<Vec<Statement>, WorkFault>
     requires { AreFew (known_of outline.now) }
     ensures judged { Judges (unknown_later (names_in (known_of outline.now)) (sketch_of draft.entry).later) result }

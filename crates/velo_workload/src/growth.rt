@@ -13,6 +13,9 @@ use std::alloc::Global;
 use velo_events::Memory;
 
 /// Puts the name behind the others, unless it is among them.
+///
+/// # Errors
+/// `Memory` where a growth was refused.
 pub fn insert<'a>(names: &mut IndexSet<&'a str>, name: &'a str) -> Result<bool, Memory>
     ensures names { IfOk result (λ new. names_of names.new ≡ insert_key bytes_eq (names_of names.old) name.now) }
     ensures new { IfOk result (λ new. new ≡ not (is_among (names_of names.old) name.now)) }
@@ -25,6 +28,9 @@ pub fn insert<'a>(names: &mut IndexSet<&'a str>, name: &'a str) -> Result<bool, 
 }
 
 /// A copy of a text.
+///
+/// # Errors
+/// `Memory` where a growth was refused.
 pub fn copy_of(alloc: Global, text: &str) -> Result<String, Memory>
     ensures text { IfOk result (λ copy. string_bytes copy ≡ text.now) }
     ensures memory { OnErr result GrowthRefused }

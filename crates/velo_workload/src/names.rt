@@ -30,6 +30,10 @@ pub fn number_of(names: &IndexSet<&str>, name: &str) -> Option<usize>
 }
 
 /// Takes in a name that a line declares, where there may be so many.
+///
+/// # Errors
+/// `Twice` where it is among them, and else `TooMany` where there are as many as may be. `Memory` where a growth was
+/// refused.
 pub fn declare<'a>(
     names: &mut IndexSet<&'a str>,
     name: &'a str,

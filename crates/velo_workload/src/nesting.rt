@@ -84,6 +84,9 @@ impl Nesting {
     }
 
     /// Opens a repeat of this line.
+    ///
+    /// # Errors
+    /// `Memory` where a growth was refused.
     pub fn open_repeat(&mut self, times: u64, line: usize) -> Result<(), Memory>
         ensures thread_line { OnOk result ((nesting_of self.new).thread_line ≡ (nesting_of self.old).thread_line) }
         ensures open { OnOk result ((nesting_of self.new).open_repeats ≡ (nesting_of self.old).open_repeats ++ record { line = line; outside = (nesting_of self.old).rounds } ∷ []) }
@@ -128,6 +131,9 @@ impl Nesting {
     }
 
     /// The fault of a body that ends here.
+    ///
+    /// # Errors
+    /// `Unmatched` for the innermost repeat that is open, and else `TooMany` where the body costs more than it may.
     pub fn end(&self) -> Result<(), WorkFault>
         ensures { Judges (nesting_fault (nesting_of self.now)) result }
     {

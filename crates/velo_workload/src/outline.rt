@@ -20,10 +20,15 @@ use velo_events::{MOST_LOCKS, MOST_THREADS, Memory};
 /// What is known of the lines that are read.
 #[derive(Drop)]
 pub struct Outline<'a> {
+    /// The variables that are declared.
     pub variables: IndexSet<&'a str>,
+    /// The locks that are declared.
     pub locks: IndexSet<&'a str>,
+    /// The threads that have a line.
     pub threads: IndexSet<&'a str>,
+    /// The labels that blocks have.
     pub labels: IndexSet<&'a str>,
+    /// How many statements the bodies have.
     pub statements: usize,
     body: Nesting,
 }
@@ -155,6 +160,9 @@ impl<'a> Outline<'a> {
     }
 
     /// Reads a text's lines, before any other, and puts down its bodies.
+    ///
+    /// # Errors
+    /// The first fault of the first pass; `Memory` where a growth was refused.
     pub fn read(&mut self, text: &'a [u8], bodies: &mut Bodies<'a>) -> Result<(), WorkFault>
         requires first { kept_of self.old ≡ whole [] }
         requires none { sketches_of bodies.old ≡ record { whole = []; current = record { statements = []; later = [] } } }

@@ -13,20 +13,35 @@ use crate::words::{Words, after_line, find_words};
 /// What the first word of a line says.
 #[derive(Clone, Copy)]
 pub enum Verb {
+    /// `var`.
     Variable,
+    /// `lock`.
     Lock,
+    /// `thread`.
     Thread,
+    /// `read`.
     Read,
+    /// `write`.
     Write,
+    /// `set`.
     Set,
+    /// `add`.
     Add,
+    /// `acquire`.
     Acquire,
+    /// `release`.
     Release,
+    /// `begin`.
     Begin,
+    /// `end`.
     End,
+    /// `fork`.
     Fork,
+    /// `join`.
     Join,
+    /// `repeat`.
     Repeat,
+    /// `done`.
     Done,
     /// No statement begins with the word.
     Unknown,
@@ -35,25 +50,40 @@ pub enum Verb {
 /// What has to follow the first word.
 #[derive(Clone, Copy)]
 pub enum Argument {
+    /// No word.
     Nothing,
+    /// A name.
     Name,
+    /// A number.
     Number,
 }
 
 /// A statement of a body, with names where the program has numbers.
 #[derive(Clone, Copy)]
 pub enum Spoken<'a> {
+    /// `read` of a variable.
     Read(&'a str),
+    /// `write` to a variable.
     Write(&'a str),
+    /// `set` to a number.
     Set(u64),
+    /// `add` of a number.
     Add(u64),
+    /// `acquire` of a lock.
     Acquire(&'a str),
+    /// `release` of a lock.
     Release(&'a str),
+    /// `begin` with a label.
     Begin(&'a str),
+    /// `end`.
     End,
+    /// `fork` of a thread.
     Fork(&'a str),
+    /// `join` of a thread.
     Join(&'a str),
+    /// `repeat`, so many times.
     Repeat(u64),
+    /// `done`.
     Done,
 }
 
@@ -66,9 +96,13 @@ pub enum Phrase<'a> {
     Bad,
     /// No statement, and its first word is `thread`.
     BadThread,
+    /// The declaration of a variable.
     Variable(&'a str),
+    /// The declaration of a lock.
     Lock(&'a str),
+    /// The line of a thread.
     Thread(&'a str),
+    /// A statement of a body.
     Body(Spoken<'a>),
 }
 

@@ -13,13 +13,20 @@ pub enum Statement {
     Set(u64),
     /// The register grows by this number, and wraps at 64 bits.
     Add(u64),
+    /// An event; the thread acquires the lock.
     Acquire(LockId),
+    /// An event; the thread releases the lock.
     Release(LockId),
+    /// An event; the thread begins a block with the label.
     Begin(Label),
+    /// An event; the thread ends its innermost open block.
     End,
+    /// An event; the thread forks this one.
     Fork(ThreadId),
+    /// An event; the thread joins this one.
     Join(ThreadId),
     /// The statements up to the `Done` that matches it are done so many times.
     Repeat(u64),
+    /// The end of the innermost `Repeat` that is open there.
     Done,
 }

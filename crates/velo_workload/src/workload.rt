@@ -48,7 +48,8 @@ impl Model for Workload {
 }
 
 impl Workload {
-    /// How many threads, variables and locks it has: 1 to 64 threads, at most 65,535 variables and at most 4,096 locks.
+    /// How many threads, variables and locks it has: 1 to [`MOST_THREADS`](velo_events::MOST_THREADS) threads, at most
+    /// [`MOST_VARIABLES`](crate::MOST_VARIABLES) variables and at most [`MOST_LOCKS`](velo_events::MOST_LOCKS) locks.
     pub fn bounds(&self) -> Bounds
         ensures bounds { result ≡ self.now.bounds }
         ensures bodies { length self.now.bodies ≡ result.threads }
@@ -164,11 +165,14 @@ fn parse_into<'a>(
     }
 }
 
-/// Parses a text.
+/// Parses a text to the program that it means.
 ///
-/// It answers the program that the text means, or the first fault: the first pass judges all but undeclared names, line by
-/// line, and the second pass these. Its time and memory grow with the text. The text is read once: the second pass goes over
-/// the statements alone whose names are not declared up to their line.
+/// Its time and memory grow with the text. The text is read once: the second pass goes over the statements alone whose
+/// names are not declared up to their line.
+///
+/// # Errors
+/// The first fault of the text: the first pass judges all but undeclared names, line by line, and the second pass
+/// these. `Memory` only where a growth was refused.
 pub fn parse(alloc: Global, text: &str) -> Result<Workload, WorkFault>
     ensures { Answers (meaning_of text.now) result }
 {
@@ -179,6 +183,10 @@ pub fn parse(alloc: Global, text: &str) -> Result<Workload, WorkFault>
 }
 
 /// The text that a file's bytes are, for [`parse`].
+///
+/// # Errors
+/// `TooMany(0)` exactly where there are more bytes than [`MOST_WORKLOAD_BYTES`](crate::MOST_WORKLOAD_BYTES), and else
+/// `BadLine(0)` where they are not UTF-8.
 pub fn text_of(bytes: &[u8]) -> Result<&str, WorkFault>
     ensures text { IfOk result (λ text. text.now ≡ bytes.now) }
     ensures few { OnOk result (length bytes.now ≤ MOST_WORKLOAD_BYTES) }

@@ -17,6 +17,7 @@ use velo_traces::Trace;
 /// A world after its end, in which nobody acts any more.
 #[derive(Drop, Debug)]
 pub struct Closed {
+    /// The world.
     pub(crate) world: World,
 }
 

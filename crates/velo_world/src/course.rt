@@ -12,9 +12,13 @@ use velo_traces::Trace;
 /// A log within its limit, and what follows from it.
 #[derive(Drop)]
 pub struct Course {
+    /// What the run was opened with.
     pub config: Config,
+    /// Whether every action is refused.
     pub halted: bool,
+    /// The events so far.
     pub log: Trace,
+    /// What follows from them.
     pub run: Run,
 }
 

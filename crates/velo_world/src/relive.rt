@@ -40,11 +40,11 @@ pub struct Relived {
 
 impl World {
     /// The world of a recorded log, whose events came about again one after another, with the threads' shares at their
-    /// places. The log becomes the world's.
+    /// places. The log becomes the world's. The configuration's `stop` has to be off.
     ///
     /// # Errors
-    /// The first event that can't come about decides, and a refusal there comes before a wrong value, and this before the
-    /// limits of events and of nodes.
+    /// `Refused` or `WrongValue` for the first event that can't come about: a refusal comes before a wrong value, and
+    /// this before the limits of events and of nodes. `Memory` where a growth was refused.
     pub fn relive(alloc: Global, config: Config, log: Trace) -> Result<(World, Shares), ReliveFault>
         requires goes_on { config.stop ≡ false }
         ensures world { IfOk result (λ relived. relived.0 ≡ world_of config log.events) }

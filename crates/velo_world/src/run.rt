@@ -45,17 +45,22 @@ pub struct Reply {
 /// What follows from the events of a run: heap, graph, clocks and alarm.
 #[derive(Drop)]
 pub struct Run {
+    /// The heap that the events leave.
     pub heap: Heap,
     /// The monitor of the events before the alarm.
     pub monitor: Monitor,
     /// The clocks of the events before the alarm.
     clocks: Clocks,
+    /// The alarm, once an event has closed a cycle.
     pub alarm: Option<Alarm>,
     alloc: Global,
 }
 
 impl Run {
     /// A run without events.
+    ///
+    /// # Errors
+    /// `Memory` where a growth was refused.
     pub fn new(alloc: Global, config: &Config) -> Result<Run, Memory>
         ensures bounds { IfOk result (λ run. bounds_of run.heap ≡ config.now.bounds) }
         ensures nodes { IfOk result (λ run. limit_of run.monitor.nodes.slots ≡ config.now.nodes) }
@@ -91,6 +96,9 @@ impl Run {
     }
 
     /// Makes room for the next event, which finds a slot for its node if it needs one. After an alarm no event needs room.
+    ///
+    /// # Errors
+    /// `Memory` where a growth was refused. What follows from the events is as before then.
     #[inline]
     pub fn reserve_for(&mut self, event: &Event) -> Result<(), Memory>
         ensures heap { self.new.heap ≡ self.old.heap }

@@ -38,10 +38,13 @@ use velo_traces::Trace;
 /// world keeps until the thread is forked.
 #[derive(Drop)]
 pub struct World {
+    /// The run on its way.
     pub(crate) course: Course,
+    /// A row for each thread.
     pub(crate) book: Book,
     /// The shares of the threads that are not born yet.
     pub(crate) kept: Shares,
+    /// Where it takes memory.
     pub(crate) alloc: Global,
 }
 
@@ -98,7 +101,8 @@ impl World {
         Ok((world, share))
     }
 
-    /// Does an action of the share's thread, which is one event at the end of the log. The shares that fitted fit again.
+    /// Does an action of the share's thread, which is one event at the end of the log. The share has to fit, and the action is
+    /// no fork. The shares that fitted fit again.
     ///
     /// # Errors
     /// The first refusal that applies: `Halted` (1), those of the heap (2 to 16), `LogFull` (17), `GraphFull` (18), which an
@@ -119,8 +123,8 @@ impl World {
         }
     }
 
-    /// Forks a thread, which is one event of the share's thread, and hands out the share that the child begins with. It
-    /// fits, and the shares that fitted fit again.
+    /// Forks a thread, which is one event of the share's thread, and hands out the share that the child begins with. The
+    /// share has to fit. The child's share fits, and the shares that fitted fit again.
     ///
     /// # Errors
     /// The first refusal that applies, as for `act`. Nothing changes then, the share neither.
@@ -279,8 +283,11 @@ impl World {
         self.book.fits(share)
     }
 
-    /// Ends the run where the shares that the world keeps and those given are one fitting share of each thread. Else the
-    /// world and the shares are given back as they were.
+    /// Ends the run.
+    ///
+    /// # Errors
+    /// The world and the shares as they were, exactly where those that the world keeps and those given are not one
+    /// fitting share of each thread.
     pub fn close(self, given: Shares) -> Result<Closed, (World, Shares)>
         ensures closes { Closes self given result }
         ensures sum { IfOk result (λ closed. events_in_all given ≡ length closed.log) }
