@@ -11,6 +11,7 @@ pub mod OnWellFormed
 pub mod OnStatuses
 pub mod OnMeaning
 pub mod OnDepths
+pub mod OnConflicts
 pub mod OnGraphs
 pub mod OnReorderings
 pub mod Deciders
