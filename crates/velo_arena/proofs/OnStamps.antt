@@ -1,5 +1,5 @@
 -- The stamps in use: rising, as many as there are slots in use, and each of some slot.
-use Rattle.std.proofs.Common.{◌≡◌, ℕ, zero, suc, ◌+◌, ◌<◌, ◌≤◌, Bool, true, false, ◌||◌, eqb, ltb, List, [], ◌∷◌, length, get_or, Option, Some, None, refl, sym, ap, ◌∙◌, subst, ⊎_elim, arith}
+use Rattle.std.proofs.Common.{◌≡◌, ℕ, zero, suc, ◌+◌, ◌<◌, ◌≤◌, true, false, ◌||◌, eqb, ltb, List, [], ◌∷◌, length, get_or, Option, Some, None, refl, sym, ap, ◌∙◌, subst, ⊎_elim, arith}
 use Rattle.std.specs.Prelude.{is_some, count_by, Contains}
 use Rattle.std.specs.List.{list_any}
 use Rattle.std.specs.List.Sorted.{IsStrictlyIncreasing}
@@ -7,6 +7,7 @@ use Rattle.std.specs.Cmp.{nat_eq_equiv}
 use Rattle.std.proofs.lemmas.Bool.{cases_Bool, cond-true, cond-false, ltb-true, ltb-false, or_cases, or_left, or_right, or_parts, eqb-true, eq-eqb, false≢true, false_from_ne_true, eqb-false}
 use Rattle.std.proofs.lemmas.List.Sums.{sum_by-cons}
 use Rattle.std.proofs.lemmas.Map.Views.{Contains-from_any, list_any-from_Contains, exact_unsigned_eq}
+use Rattle.velo_events.proofs.OnTests.{or_regroup}
 use Rattle.velo_arena.specs.declared.step.Node.{Node}
 use Rattle.velo_arena.specs.Slots.{Slots, node_in, used_in, HasOwnStamps}
 use Rattle.velo_arena.specs.Stamps.{put_in_order, stamps_of_nodes, stamps_in}
@@ -54,10 +55,6 @@ length-put z (x ∷ xs) =
     (λ (lt : ltb z x ≡ true). ap length (cond-true (ltb z x) (z ∷ x ∷ xs) (x ∷ put_in_order z xs) lt))
     (λ (ge : ltb z x ≡ false). ap length (cond-false (ltb z x) (z ∷ x ∷ xs) (x ∷ put_in_order z xs) ge) ∙ ap suc (length-put z xs))
     (cases_Bool (ltb z x))
-
-or_regroup : (a b c : Bool) → (a || (b || c)) ≡ (b || (a || c))
-or_regroup true b c = sym (or_right b true refl)
-or_regroup false b c = refl
 
 any-put : (q z : ℕ) (xs : List ℕ) → list_any (eqb q) (put_in_order z xs) ≡ (eqb q z || list_any (eqb q) xs)
 any-put q z [] = refl

@@ -2,7 +2,6 @@ pub mod OnChains
 pub mod OnLinks
 pub mod OnLinkedPaths
 pub mod OnListed
-pub mod OnConflicts
 pub mod OnGreatest
 pub mod OnRows
 pub mod OnChanges

@@ -9,14 +9,15 @@ use Rattle.velo_events.specs.declared.event.LockId.{LockId}
 use Rattle.velo_events.specs.declared.event.ThreadId.{ThreadId}
 use Rattle.velo_events.specs.declared.event.Kind.{Kind}
 use Rattle.velo_events.specs.declared.event.Kind.TheVariants.{Read, Write, Acquire, Release, Begin, End, Fork, Join, Exit}
+use Rattle.velo_events.specs.About.{variable_written, thread_in, written_in, lock_in, is_about}
 use Rattle.velo_events.specs.Event.{thread_of, lock_of}
 use Rattle.velo_events.proofs.OnScans.{passes_at-event}
+use Rattle.velo_events.proofs.OnConflicts.{IsPlain}
 use Rattle.velo_traces.proofs.Past.{past}
 use Rattle.velo_certify.specs.declared.changes.Changes.{Changes}
 use Rattle.velo_certify.specs.Changes.{AreUnchanged, HasChanges, IsSwapped, TakesChanges, change_sizes}
 use Rattle.velo_certify.specs.Owners.{event_at}
-use Rattle.velo_certify.specs.Table.{IsGreatest, IsNumbered, numbers_before, numbers_from, written_by, thread_in, written_in, lock_in, is_about, IsRow, HasPlaces, NamesRows, strong_for}
-use Rattle.velo_certify.proofs.OnConflicts.{IsPlain}
+use Rattle.velo_certify.specs.Table.{IsGreatest, IsNumbered, numbers_before, numbers_from, IsRow, HasPlaces, NamesRows, strong_for}
 use Rattle.velo_certify.proofs.OnGreatest.{IsGreatest-same, IsRow-none, IsNumbered-before, IsNumbered-from}
 use Rattle.velo_certify.proofs.OnRows.{IsPlaced, IsRow-after}
 
@@ -106,7 +107,7 @@ swapped-plain old number _ h = absurd h
 
 -- ---- both in one
 
-placed-written : (c : Changes) (k : Kind) → HasPlaces (change_sizes c) k → IsPlaced c.writes.items (written_by k)
+placed-written : (c : Changes) (k : Kind) → HasPlaces (change_sizes c) k → IsPlaced c.writes.items (variable_written k)
 placed-written c (Write x v) h = h.0
 placed-written c _ h = tt
 
@@ -132,7 +133,7 @@ TakesChanges-by trace n e number old mid new other within here names swapped thr
     step before after numbered has = record {
       threads = IsRow-after trace n e here before after number numbered thread_in (Some (thread_of e)) refl old.threads.items new.threads.items names.thread
           (threads ∙ ap (λ row. slice_set row (thread_of e) (max (slice_index row (thread_of e)) number)) swapped.threads) has.threads;
-      writes = IsRow-after trace n e here before after number numbered written_in (written_by e.kind) refl old.writes.items new.writes.items (placed-written old e.kind names.names) (writes ∙ swapped.writes) has.writes;
+      writes = IsRow-after trace n e here before after number numbered written_in (variable_written e.kind) refl old.writes.items new.writes.items (placed-written old e.kind names.names) (writes ∙ swapped.writes) has.writes;
       locks = IsRow-after trace n e here before after number numbered lock_in (lock_of e.kind) refl old.locks.items new.locks.items (placed-lock old e.kind names.names) (locks ∙ swapped.locks) has.locks;
     }
 

@@ -1,10 +1,12 @@
 -- The greatest number of positions whose events pass a test: of two tests, and with one more number.
 use Rattle.std.proofs.Common.{◌≡◌, ◌≢◌, ℕ, ◌+◌, ◌<◌, ◌≤◌, max, Bool, true, false, cond, List, length, get_or, Option, Some, None, refl, sym, ap, ◌∙◌, subst, arith, ⊎_elim, inl, inr}
 use Rattle.std.specs.Prelude.{◌⊎◌, ◌&&◌, ◌||◌, ◌==◌, nat_lt, nat_le, slice_get, IsTrue, IsFalse}
+use Rattle.std.specs.Cmp.{nat_eq_equiv}
 use Rattle.std.proofs.Math.ListN.{set}
 use Rattle.std.proofs.lemmas.Bool.{cases_lt, cases_eq, or_cases, or_left, or_right, eq-eqb, ne_eqb, both_ways, lt-ltb, le-leb, le-ltb, lt-leb, cond-true}
 use Rattle.std.proofs.lemmas.List.{length-set, get_or-set_same, get_or-set_other}
 use Rattle.velo_events.specs.declared.event.Event.{Event}
+use Rattle.velo_events.specs.About.{is_about}
 use Rattle.velo_events.specs.Event.{are_same, thread_of, variable_of, lock_of, handled_by, is_write}
 use Rattle.velo_events.specs.Block.{passes_at}
 use Rattle.velo_events.specs.Graph.{conflict_at, both_conflict}
@@ -12,7 +14,7 @@ use Rattle.velo_events.specs.Conflict.{conflict}
 use Rattle.velo_events.proofs.OnScans.{passes_at-event, passes_at-is, event_at}
 use Rattle.velo_events.proofs.OnOwners.{passes_at-within}
 use Rattle.velo_events.proofs.OnReorderings.{conflict_at-within}
-use Rattle.velo_certify.specs.Table.{IsGreatest, IsGreatestBefore, IsGreatestAfter, IsNumbered, numbers_before, numbers_from, is_about, IsRow, IsBlank}
+use Rattle.velo_certify.specs.Table.{IsGreatest, IsGreatestBefore, IsGreatestAfter, IsNumbered, numbers_before, numbers_from, IsRow, IsBlank}
 
 module _ (trace : List Event) (numbers : ℕ → ℕ) where
   passes-map : (p q : Event → Bool) (i : ℕ) → ((e : Event) → IsTrue (p e) → IsTrue (q e)) → IsTrue (passes_at trace p i) → IsTrue (passes_at trace q i)
@@ -149,14 +151,11 @@ module _ (trace : List Event) (j : ℕ) (e : Event) (here : slice_get trace j �
 
 -- ---- conflicts are the same both ways
 
-eqb-comm : (m n : ℕ) → (m == n) ≡ (n == m)
-eqb-comm m n = ⊎_elim (λ h. eq-eqb m n h ∙ sym (eq-eqb n m (sym h))) (λ h. ne_eqb m n h ∙ sym (ne_eqb n m (λ e. h (sym e)))) (cases_eq m n)
-
 are_same-comm : (a b : Option ℕ) → are_same a b ≡ are_same b a
 are_same-comm None None = refl
 are_same-comm None (Some y) = refl
 are_same-comm (Some x) None = refl
-are_same-comm (Some x) (Some y) = eqb-comm x y
+are_same-comm (Some x) (Some y) = nat_eq_equiv.symm x y
 
 or-comm : (a b : Bool) → (a || b) ≡ (b || a)
 or-comm true true = refl
@@ -170,7 +169,7 @@ or-swap false b c = or-comm b c
 
 pub conflict-comm : (a b : Event) → conflict a b ≡ conflict b a
 conflict-comm a b =
-    ap (λ s. s || (are_same (variable_of a.kind) (variable_of b.kind) && (is_write a.kind || is_write b.kind)) || are_same (lock_of a.kind) (lock_of b.kind) || are_same (handled_by a.kind) (Some (thread_of b)) || are_same (handled_by b.kind) (Some (thread_of a))) (eqb-comm (thread_of a) (thread_of b))
+    ap (λ s. s || (are_same (variable_of a.kind) (variable_of b.kind) && (is_write a.kind || is_write b.kind)) || are_same (lock_of a.kind) (lock_of b.kind) || are_same (handled_by a.kind) (Some (thread_of b)) || are_same (handled_by b.kind) (Some (thread_of a))) (nat_eq_equiv.symm (thread_of a) (thread_of b))
     ∙ (ap (λ s. (thread_of b == thread_of a) || (s && (is_write a.kind || is_write b.kind)) || are_same (lock_of a.kind) (lock_of b.kind) || are_same (handled_by a.kind) (Some (thread_of b)) || are_same (handled_by b.kind) (Some (thread_of a))) (are_same-comm (variable_of a.kind) (variable_of b.kind))
     ∙ (ap (λ s. (thread_of b == thread_of a) || (are_same (variable_of b.kind) (variable_of a.kind) && s) || are_same (lock_of a.kind) (lock_of b.kind) || are_same (handled_by a.kind) (Some (thread_of b)) || are_same (handled_by b.kind) (Some (thread_of a))) (or-comm (is_write a.kind) (is_write b.kind))
     ∙ (ap (λ s. (thread_of b == thread_of a) || (are_same (variable_of b.kind) (variable_of a.kind) && (is_write b.kind || is_write a.kind)) || s || are_same (handled_by a.kind) (Some (thread_of b)) || are_same (handled_by b.kind) (Some (thread_of a))) (are_same-comm (lock_of a.kind) (lock_of b.kind))

@@ -6,6 +6,7 @@ use Rattle.std.proofs.lemmas.Option.{slice_get-get_or}
 use Rattle.velo_events.specs.declared.event.Event.{Event}
 use Rattle.velo_events.specs.declared.event.Kind.{Kind}
 use Rattle.velo_events.specs.declared.event.Kind.TheVariants.{Read, Write, Acquire, Release, Begin, End, Fork, Join, Exit}
+use Rattle.velo_events.specs.About.{is_about, thread_in, written_in, lock_in, variable_written}
 use Rattle.velo_events.specs.Conflict.{conflict}
 use Rattle.velo_events.specs.Event.{thread_of, are_same, variable_of, is_write, lock_of, handled_by}
 use Rattle.velo_events.specs.Block.{owner, passes_at}
@@ -17,7 +18,7 @@ use Rattle.velo_traces.proofs.Past.{past}
 use Rattle.velo_certify.specs.Links.{is_weak, IsLast, IsFirst, LinksBack, LinksSoFar}
 use Rattle.velo_certify.specs.Owners.{event_at}
 use Rattle.velo_certify.specs.Serial.{has, IsFree}
-use Rattle.velo_certify.specs.Table.{is_about, thread_in, written_in, lock_in, written_by, strong_for}
+use Rattle.velo_certify.specs.Table.{strong_for}
 use Rattle.velo_certify.proofs.OnLinks.{edge-into, edge-out, conflicts-own, conflicts-strong}
 
 -- a position is linked to a later one of another transaction
@@ -135,7 +136,7 @@ module _ (trace : List Event) where
   of_thing test changes k j within at_j last =
       inr (subst (λ t. IsLast trace t k j) (sym (changes (event_at trace j) (sym (passes_here test j within) ∙ at_j))) last)
 
-written_changes : (x : ℕ) (k : Kind) → IsTrue (are_same (written_by k) (Some x)) → strong_for k ≡ is_about written_in x
+written_changes : (x : ℕ) (k : Kind) → IsTrue (are_same (variable_written k) (Some x)) → strong_for k ≡ is_about written_in x
 written_changes x (Write y v) h = ap (λ (n : ℕ). is_about written_in n) (eqb-true y.0 x h)
 written_changes x _ h = absurd (false≢true h)
 
@@ -151,7 +152,7 @@ handled_uses u _ h = absurd (false≢true h)
 
 -- two operations on a variable, the first or the second of which writes it
 abbrev OnVariable : Kind → Kind → Type 0
-OnVariable k l = (x : ℕ) × ((IsTrue (are_same (written_by k) (Some x)) × (strong_for l ≡ is_about written_in x)) ⊎ (IsTrue (is_weak k) × (strong_for k ≡ is_about written_in x) × IsTrue (are_same (written_by l) (Some x))))
+OnVariable k l = (x : ℕ) × ((IsTrue (are_same (variable_written k) (Some x)) × (strong_for l ≡ is_about written_in x)) ⊎ (IsTrue (is_weak k) × (strong_for k ≡ is_about written_in x) × IsTrue (are_same (variable_written l) (Some x))))
 
 on_variable : (k l : Kind) → IsTrue (are_same (variable_of k) (variable_of l)) → IsTrue (is_write k || is_write l) → OnVariable k l
 on_variable (Write x v) (Write y w) h i = (x.0, inl (eq-eqb x.0 x.0 refl, ap (λ (n : ℕ). is_about written_in n) (sym (eqb-true x.0 y.0 h))))

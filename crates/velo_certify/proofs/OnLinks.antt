@@ -6,19 +6,20 @@ use Rattle.std.proofs.lemmas.Option.{slice_get-get_or}
 use Rattle.velo_events.specs.declared.event.Event.{Event}
 use Rattle.velo_events.specs.declared.event.Kind.{Kind}
 use Rattle.velo_events.specs.declared.event.Kind.TheVariants.{Read, Write, Acquire, Release, Fork, Join}
+use Rattle.velo_events.specs.About.{is_about, thread_in}
 use Rattle.velo_events.specs.Event.{thread_of}
 use Rattle.velo_events.specs.Block.{owner, passes_at}
 use Rattle.velo_events.specs.Conflict.{conflict}
 use Rattle.velo_events.specs.Graph.{conflict_at, Edge}
 use Rattle.velo_events.proofs.OnScans.{passes_at-is, passes_at-event}
 use Rattle.velo_events.proofs.OnOwners.{passes_at-within}
+use Rattle.velo_events.proofs.OnConflicts.{conflict-read, conflict-write, conflict-acquire, conflict-release, conflict-fork, conflict-join}
 use Rattle.velo_traces.proofs.Past.{past}
 use Rattle.velo_certify.specs.declared.chains.Links.{Links}
 use Rattle.velo_certify.specs.Links.{is_weak, IsLast, IsFirst, LinksBack, LinksOn, IsInList, IsGrown, IsImplied, IsKept, counted, counted_back, HasRows, HasLinks}
 use Rattle.velo_certify.specs.Owners.{event_at}
-use Rattle.velo_certify.specs.Table.{IsGreatest, IsBlank, numbers_before, numbers_from, is_about, thread_in, strong_for}
+use Rattle.velo_certify.specs.Table.{IsGreatest, IsBlank, numbers_before, numbers_from, strong_for}
 use Rattle.velo_certify.specs.Threads.{thread_at}
-use Rattle.velo_certify.proofs.OnConflicts.{conflict-read, conflict-write, conflict-acquire, conflict-release, conflict-fork, conflict-join}
 use Rattle.velo_certify.proofs.OnGreatest.{conflict-comm}
 
 -- ---- positions by their numbers

@@ -7,16 +7,17 @@ use Rattle.std.proofs.lemmas.Option.{same_Some, none-some, slice_get-get_or}
 use Rattle.velo_events.specs.declared.event.Event.{Event}
 use Rattle.velo_events.specs.declared.event.Kind.{Kind}
 use Rattle.velo_events.specs.declared.event.Kind.TheVariants.{Read, Write, Acquire, Release, Begin, End, Fork, Join, Exit}
+use Rattle.velo_events.specs.About.{is_about, thread_in, handled_in, written_in, read_in, lock_in, variable_written, variable_read}
 use Rattle.velo_events.specs.Block.{passes_at}
 use Rattle.velo_events.specs.Event.{are_same, thread_of, handled_by, lock_of}
 use Rattle.velo_events.proofs.OnScans.{passes_at-is}
 use Rattle.velo_events.proofs.OnOwners.{passes_at-within}
+use Rattle.velo_events.proofs.OnConflicts.{IsPlain}
 use Rattle.velo_traces.proofs.Past.{past}
 use Rattle.velo_certify.specs.declared.lists.Lists.{Lists}
 use Rattle.velo_certify.specs.Lists.{IsFirst, IsRising, IsListed, AreListed, list_sizes}
 use Rattle.velo_certify.specs.Owners.{event_at}
-use Rattle.velo_certify.specs.Table.{is_about, thread_in, handled_in, written_in, read_in, lock_in, written_by, read_by, NamesRows, HasPlaces}
-use Rattle.velo_certify.proofs.OnConflicts.{IsPlain}
+use Rattle.velo_certify.specs.Table.{NamesRows, HasPlaces}
 
 are_same-some : (o : Option ℕ) (x : ℕ) → IsTrue (are_same o (Some x)) → o ≡ Some x
 are_same-some (Some y) x h = ap Some (eqb-true y x h)
@@ -163,8 +164,8 @@ alike_with old _ n = old.alike.items
 pub record ArePut (old : Lists) (t : ℕ) (k : Kind) (n : ℕ) (new : Lists) : Type 0 where
   pub threads : new.threads.items ≡ set old.threads.items t n
   pub handles : new.handles.items ≡ with_front old.handles.items (handled_by k) n
-  pub writes : new.writes.items ≡ with_front old.writes.items (written_by k) n
-  pub reads : new.reads.items ≡ with_front old.reads.items (read_by k) n
+  pub writes : new.writes.items ≡ with_front old.writes.items (variable_written k) n
+  pub reads : new.reads.items ≡ with_front old.reads.items (variable_read k) n
   pub locks : new.locks.items ≡ with_front old.locks.items (lock_of k) n
   pub following : new.following.items ≡ set old.following.items n (slice_index old.threads.items t)
   pub alike : new.alike.items ≡ alike_with old k n
@@ -190,11 +191,11 @@ module _ (trace : List Event) (n : ℕ) (old : Lists) (within : n < length trace
   handle-next (Join u) x h = there (slice_index old.handles.items u.0) ∙ ap (slice_index old.handles.items) (same_Some u.0 x h)
   handle-next _ x h = absurd (none-some x h)
 
-  write-next : (k : Kind) (x : ℕ) → written_by k ≡ Some x → slice_index (alike_with old k n) n ≡ slice_index old.writes.items x
+  write-next : (k : Kind) (x : ℕ) → variable_written k ≡ Some x → slice_index (alike_with old k n) n ≡ slice_index old.writes.items x
   write-next (Write y v) x h = there (slice_index old.writes.items y.0) ∙ ap (slice_index old.writes.items) (same_Some y.0 x h)
   write-next _ x h = absurd (none-some x h)
 
-  read-next : (k : Kind) (x : ℕ) → read_by k ≡ Some x → slice_index (alike_with old k n) n ≡ slice_index old.reads.items x
+  read-next : (k : Kind) (x : ℕ) → variable_read k ≡ Some x → slice_index (alike_with old k n) n ≡ slice_index old.reads.items x
   read-next (Read y v) x h = there (slice_index old.reads.items y.0) ∙ ap (slice_index old.reads.items) (same_Some y.0 x h)
   read-next _ x h = absurd (none-some x h)
 
@@ -220,11 +221,11 @@ placed-handle old (Fork u) h = h.1
 placed-handle old (Join u) h = h.1
 placed-handle old _ h = tt
 
-placed-write : (old : Lists) (k : Kind) → HasPlaces (list_sizes old) k → IsPlaced old.writes.items (written_by k)
+placed-write : (old : Lists) (k : Kind) → HasPlaces (list_sizes old) k → IsPlaced old.writes.items (variable_written k)
 placed-write old (Write x v) h = h.0
 placed-write old _ h = tt
 
-placed-read : (old : Lists) (k : Kind) → HasPlaces (list_sizes old) k → IsPlaced old.reads.items (read_by k)
+placed-read : (old : Lists) (k : Kind) → HasPlaces (list_sizes old) k → IsPlaced old.reads.items (variable_read k)
 placed-read old (Read x v) h = h.1
 placed-read old _ h = tt
 
@@ -239,8 +240,8 @@ AreListed-put trace n e old new here within names w k kind is = record {
       (IsListed-after trace n e here within thread_in old.threads.items old.following.items (set old.following.items n (slice_index old.threads.items (thread_of e))) w.threads (AreSameBut-set old.following.items n (slice_index old.threads.items (thread_of e))) (Some (thread_of e)) refl names.thread
       (λ x h. get_or-set_same old.following.items n (slice_index old.threads.items (thread_of e)) 0 (let c = w.following.count in omega (arith, within, c)) ∙ ap (slice_index old.threads.items) (same_Some (thread_of e) x h))));
   handles = alike_row handled_in (handled_by k) (ap handled_by kind) old.handles.items new.handles.items w.handles is.handles (placed-handle old k places) (handle-next trace n old within w k);
-  writes = alike_row written_in (written_by k) (ap written_by kind) old.writes.items new.writes.items w.writes is.writes (placed-write old k places) (write-next trace n old within w k);
-  reads = alike_row read_in (read_by k) (ap read_by kind) old.reads.items new.reads.items w.reads is.reads (placed-read old k places) (read-next trace n old within w k);
+  writes = alike_row written_in (variable_written k) (ap variable_written kind) old.writes.items new.writes.items w.writes is.writes (placed-write old k places) (write-next trace n old within w k);
+  reads = alike_row read_in (variable_read k) (ap variable_read kind) old.reads.items new.reads.items w.reads is.reads (placed-read old k places) (read-next trace n old within w k);
   locks = alike_row lock_in (lock_of k) (ap lock_of kind) old.locks.items new.locks.items w.locks is.locks (placed-lock old k places) (lock-next trace n old within w k);
   following = subst (IsRising trace) (sym is.following) (IsRising-set trace old.following.items n (slice_index old.threads.items (thread_of e)) within (after_n trace n old within w thread_in old.threads.items old.following.items (thread_of e) w.threads names.thread) w.following);
   alike = subst (IsRising trace) (sym is.alike) (alike-rising trace n old within w k places);

@@ -9,17 +9,18 @@ use Rattle.velo_events.specs.declared.event.VarId.{VarId}
 use Rattle.velo_events.specs.declared.event.LockId.{LockId}
 use Rattle.velo_events.specs.declared.event.ThreadId.{ThreadId}
 use Rattle.velo_events.specs.declared.event.Kind.TheVariants.{Read, Write, Acquire, Release, Fork, Join}
+use Rattle.velo_events.specs.About.{is_about, thread_in, handled_in, written_in, read_in, lock_in}
 use Rattle.velo_events.specs.Conflict.{conflict}
 use Rattle.velo_events.specs.Event.{thread_of}
 use Rattle.velo_events.specs.Block.{owner, passes_at}
 use Rattle.velo_events.proofs.OnScans.{passes_at-event, passes_at-is}
+use Rattle.velo_events.proofs.OnConflicts.{is_near, IsPlain, conflict-read, conflict-write, conflict-acquire, conflict-release, conflict-fork, conflict-join, conflict-plain}
 use Rattle.velo_certify.specs.declared.lists.Lists.{Lists}
 use Rattle.velo_certify.specs.declared.reached.Reached.{Reached}
 use Rattle.velo_certify.specs.Lists.{list_sizes}
 use Rattle.velo_certify.specs.Owners.{event_at}
 use Rattle.velo_certify.specs.Search.{Grows, ReachesOneMore, IsPassed, ArePassed, level_at, IsSearching, ReachesBelow, Passes, PassesList, PassesConflicts}
-use Rattle.velo_certify.specs.Table.{NamesRows, AllNameRows, is_about, thread_in, handled_in, written_in, read_in, lock_in}
-use Rattle.velo_certify.proofs.OnConflicts.{is_near, IsPlain, conflict-read, conflict-write, conflict-acquire, conflict-release, conflict-fork, conflict-join, conflict-plain}
+use Rattle.velo_certify.specs.Table.{NamesRows, AllNameRows}
 use Rattle.velo_certify.proofs.OnLists.{here as event_here}
 use Rattle.velo_certify.proofs.OnReached.{cases_zero, Grows-twice, LeadsNewTo-twice}
 

@@ -1,12 +1,10 @@
 -- What is self-serializable in a longer trace is so in its beginning.
-use Rattle.std.proofs.Common.{◌≡◌, ℕ, zero, suc, ◌<◌, ◌≤◌, Bool, true, false, cond, not, List, [], ◌∷◌, ◌++◌, length, length-append, refl, sym, ap, ◌∙◌, arith, ⊎_elim}
-use Rattle.std.specs.Prelude.{◌==◌, ◌&&◌, nat_lt, if◌then◌else◌, count_by, filter, slice_index, IsTrue, IsFalse, AllPairs}
-use Rattle.std.proofs.lemmas.Bool.{cases_Bool, cases_lt, ltb-true, lt-ltb, le-ltb, lt-leb, ne_eqb, both_ways, false_from_ne_true, not_from_true}
+use Rattle.std.proofs.Common.{◌≡◌, ℕ, zero, suc, ◌<◌, Bool, true, false, cond, List, [], ◌∷◌, ◌++◌, length, length-append, refl, sym, ap, ◌∙◌, arith, ⊎_elim}
+use Rattle.std.specs.Prelude.{◌==◌, ◌&&◌, nat_lt, if◌then◌else◌, count_by, filter, slice_index, IsTrue, AllPairs}
+use Rattle.std.proofs.lemmas.Bool.{cases_lt, ltb-true, lt-ltb, le-ltb, lt-leb, both_ways, false_from_ne_true}
 use Rattle.std.proofs.lemmas.List.{get_or_default}
 use Rattle.std.proofs.lemmas.List.Elements.{filter_passes}
 use Rattle.std.proofs.lemmas.List.Kept.{AllPairs-filter}
-use Rattle.std.proofs.lemmas.List.Sums.{sum_by-le}
-use Rattle.std.proofs.lemmas.List.Filters.{sum_by-filter_both}
 use Rattle.velo_events.specs.declared.event.Event.{Event}
 use Rattle.velo_events.specs.Event.{thread_of}
 use Rattle.velo_events.specs.Block.{passes_at, is_begin_at, is_open_at, is_in_block}
@@ -16,6 +14,7 @@ use Rattle.velo_events.proofs.OnBlocks.{is_in_block-append}
 use Rattle.velo_events.proofs.OnGraphs.{conflict_at-append}
 use Rattle.velo_events.proofs.OnReorderings.{conflict_at-within}
 use Rattle.velo_events.proofs.OnBlame.{KeepsOrder, IsReordering-by}
+use Rattle.velo_events.proofs.OnSerializing.{count_filter}
 
 -- ---- what a filter keeps stands in its order
 
@@ -63,19 +62,6 @@ StandTogether-filter member p order t k l m before behind within first last =
     (ap member at_k.1 ∙ first) (ap member at_m.1 ∙ last)
 
 -- ---- the positions of the beginning of a trace
-
-count_none : (p : ℕ → Bool) (i : ℕ) (xs : List ℕ) → IsFalse (p i) → count_by (λ k. k == i) (filter p xs) ≡ 0
-count_none p i xs fails = omega (arith, sum_by-le (λ k. cond {A = ℕ} (k == i) 1 0) 0 (filter p xs) (λ k d l. each _ (filter_passes p xs k d l)))
-  where
-    each : (x : ℕ) → IsTrue (p x) → cond {A = ℕ} (x == i) 1 0 ≤ 0
-    each x h = rw (ne_eqb x i (λ at. both_ways (p i) fails (ap p (sym at) ∙ h))) (omega arith)
-
--- a filter keeps all of an element, or nothing
-count_filter : (p : ℕ → Bool) (i : ℕ) (xs : List ℕ) → count_by (λ k. k == i) (filter p xs) ≡ cond (p i) (count_by (λ k. k == i) xs) 0
-count_filter p i xs =
-    let both = sum_by-filter_both p (λ x. not (p x)) (λ x. refl) (λ k. cond {A = ℕ} (k == i) 1 0) xs in
-    ⊎_elim (λ e. rw e (let none = count_none (λ x. not (p x)) i xs (not_from_true _ e) in omega (arith, both, none)))
-    (λ e. rw e (count_none p i xs e)) (cases_Bool (p i))
 
 module _ (trace more : List Event) where
   -- a block of the beginning has the same positions there

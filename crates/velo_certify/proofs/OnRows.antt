@@ -8,13 +8,14 @@ use Rattle.velo_events.specs.declared.event.LockId.{LockId}
 use Rattle.velo_events.specs.declared.event.ThreadId.{ThreadId}
 use Rattle.velo_events.specs.declared.event.Kind.{Kind}
 use Rattle.velo_events.specs.declared.event.Kind.TheVariants.{Read, Write, Acquire, Release, Begin, End, Fork, Join, Exit}
+use Rattle.velo_events.specs.About.{variable_written, variable_read, thread_in, handled_in, written_in, read_in, lock_in, is_about}
 use Rattle.velo_events.specs.Event.{thread_of, handled_by, lock_of}
 use Rattle.velo_events.specs.Conflict.{conflict}
+use Rattle.velo_events.proofs.OnConflicts.{is_near, IsPlain, conflict-read, conflict-write, conflict-acquire, conflict-release, conflict-fork, conflict-join, conflict-plain}
 use Rattle.velo_certify.specs.declared.table.Table.{Table}
 use Rattle.velo_certify.specs.Changes.{row_after}
-use Rattle.velo_certify.specs.Table.{IsGreatest, IsNumbered, numbers_before, numbers_from, written_by, read_by, thread_in, handled_in, written_in, read_in, lock_in, is_about, IsRow, AreBlank, HasNumbers, sizes, HasPlaces, NamesRows, IsLookedUp, IsNoted, TakesIn}
+use Rattle.velo_certify.specs.Table.{IsGreatest, IsNumbered, numbers_before, numbers_from, IsRow, AreBlank, HasNumbers, sizes, HasPlaces, NamesRows, IsLookedUp, IsNoted, TakesIn}
 use Rattle.velo_certify.proofs.OnGreatest.{IsGreatest-or, IsGreatest-same, IsRow-noted, IsRow-passed, IsRow-none, IsNumbered-before, IsNumbered-from, IsGreatestBefore-by, IsGreatestAfter-by}
-use Rattle.velo_certify.proofs.OnConflicts.{is_near, IsPlain, conflict-read, conflict-write, conflict-acquire, conflict-release, conflict-fork, conflict-join, conflict-plain}
 
 -- a blank table, before there are numbers
 pub HasNumbers-none : (trace : List Event) (numbers : ℕ → ℕ) (table : Table) → ((i : ℕ) → i < length trace → numbers i ≡ 0) → AreBlank table → HasNumbers trace numbers table
@@ -114,11 +115,11 @@ places-handled s (Fork u) h = h.1
 places-handled s (Join u) h = h.1
 places-handled s _ h = tt
 
-places-written : (s : Table) (k : Kind) → HasPlaces (sizes s) k → IsPlaced s.writes.items (written_by k)
+places-written : (s : Table) (k : Kind) → HasPlaces (sizes s) k → IsPlaced s.writes.items (variable_written k)
 places-written s (Write x v) h = h.0
 places-written s _ h = tt
 
-places-read : (s : Table) (k : Kind) → HasPlaces (sizes s) k → IsPlaced s.reads.items (read_by k)
+places-read : (s : Table) (k : Kind) → HasPlaces (sizes s) k → IsPlaced s.reads.items (variable_read k)
 places-read s (Read x v) h = h.1
 places-read s _ h = tt
 
@@ -131,8 +132,8 @@ places-lock s _ h = tt
 pub record AreAfter (old : Table) (t : ℕ) (k : Kind) (number : ℕ) (new : Table) : Type 0 where
   pub threads : new.threads.items ≡ set old.threads.items t (max (get_or old.threads.items t 0) number)
   pub handles : new.handles.items ≡ row_after old.handles.items (handled_by k) number
-  pub writes : new.writes.items ≡ row_after old.writes.items (written_by k) number
-  pub reads : new.reads.items ≡ row_after old.reads.items (read_by k) number
+  pub writes : new.writes.items ≡ row_after old.writes.items (variable_written k) number
+  pub reads : new.reads.items ≡ row_after old.reads.items (variable_read k) number
   pub locks : new.locks.items ≡ row_after old.locks.items (lock_of k) number
 
 pub IsNoted-after : (old : Table) (e : Event) (number : ℕ) (new : Table) → NamesRows (sizes old) e → (k : Kind) → e.kind ≡ k → AreAfter old (thread_of e) k number new → IsNoted old e number new
@@ -142,8 +143,8 @@ IsNoted-after old e number new names k kind is = record {
       record {
         threads = IsRow-after trace n e here before after number step thread_in (Some (thread_of e)) refl old.threads.items new.threads.items names.thread is.threads has.threads;
         handles = IsRow-after trace n e here before after number step handled_in (handled_by k) (ap handled_by kind) old.handles.items new.handles.items (places-handled old k places) is.handles has.handles;
-        writes = IsRow-after trace n e here before after number step written_in (written_by k) (ap written_by kind) old.writes.items new.writes.items (places-written old k places) is.writes has.writes;
-        reads = IsRow-after trace n e here before after number step read_in (read_by k) (ap read_by kind) old.reads.items new.reads.items (places-read old k places) is.reads has.reads;
+        writes = IsRow-after trace n e here before after number step written_in (variable_written k) (ap variable_written kind) old.writes.items new.writes.items (places-written old k places) is.writes has.writes;
+        reads = IsRow-after trace n e here before after number step read_in (variable_read k) (ap variable_read kind) old.reads.items new.reads.items (places-read old k places) is.reads has.reads;
         locks = IsRow-after trace n e here before after number step lock_in (lock_of k) (ap lock_of kind) old.locks.items new.locks.items (places-lock old k places) is.locks has.locks;
       };
 }

@@ -5,6 +5,7 @@ use Rattle.std.proofs.lemmas.Bool.{cases_lt}
 use Rattle.std.proofs.lemmas.List.{get_or_past}
 use Rattle.std.proofs.lemmas.Option.{same_Some}
 use Rattle.velo_events.specs.declared.event.Event.{Event}
+use Rattle.velo_events.specs.About.{is_about, thread_in, handled_in, written_in, read_in, lock_in}
 use Rattle.velo_events.specs.Block.{owner}
 use Rattle.velo_events.specs.Conflict.{conflict}
 use Rattle.velo_events.specs.Graph.{conflict_at, Edge}
@@ -17,7 +18,7 @@ use Rattle.velo_certify.specs.Distances.{AreDistances, AreTowards}
 use Rattle.velo_certify.specs.Lists.{IsFirst, IsListed, AreListed, list_sizes}
 use Rattle.velo_certify.specs.Owners.{event_at}
 use Rattle.velo_certify.specs.Search.{IsStart, IsQueued, Grows, LeadsNewTo, AreOnLevel, IsSortedFrom, IsPassed, ArePassed, level_at, Passes, PassesConflicts, ExpandsBelow, Expands, IsSearched}
-use Rattle.velo_certify.specs.Table.{AllNameRows, is_about, thread_in, handled_in, written_in, read_in, lock_in}
+use Rattle.velo_certify.specs.Table.{AllNameRows}
 use Rattle.velo_certify.specs.Threads.{thread_at, IsFirstFrom}
 use Rattle.velo_certify.proofs.OnGreatest.{passes-conflict, conflict-passes}
 use Rattle.velo_certify.proofs.OnLists.{here, about-named, named-about}

@@ -2,10 +2,11 @@
 use Rattle.std.specs.Prelude.{◌≡◌, ℕ, ◌+◌, max, List, length, Option, Some, None, slice_index, slice_set}
 use Rattle.velo_events.specs.declared.event.Event.{Event}
 use Rattle.velo_events.specs.declared.event.Kind.{Kind}
+use Rattle.velo_events.specs.About.{variable_written, thread_in, written_in, lock_in}
 use Rattle.velo_events.specs.Event.{lock_of}
 use Rattle.velo_certify.specs.declared.changes.Changes.{Changes}
 use Rattle.velo_certify.specs.Owners.{event_at}
-use Rattle.velo_certify.specs.Table.{Sizes, sizes_of, IsBlank, IsGreatest, IsRow, numbers_before, numbers_from, written_by, thread_in, written_in, lock_in, strong_for}
+use Rattle.velo_certify.specs.Table.{Sizes, sizes_of, IsBlank, IsGreatest, IsRow, numbers_before, numbers_from, strong_for}
 
 -- how many things each row has
 abbrev pub change_sizes : Changes → Sizes
@@ -31,7 +32,7 @@ row_after row None number = row
 -- what the operation changes has its number, and the answer is what was there before
 pub record IsSwapped (old : Changes) (kind : Kind) (number : ℕ) (new : Changes) (other : ℕ) : Type 0 where
   pub threads : new.threads.items ≡ old.threads.items
-  pub writes : new.writes.items ≡ row_after old.writes.items (written_by kind) number
+  pub writes : new.writes.items ≡ row_after old.writes.items (variable_written kind) number
   pub locks : new.locks.items ≡ row_after old.locks.items (lock_of kind) number
   pub found : (trace : List Event) (numbers : ℕ → ℕ) → HasChanges trace numbers old → IsGreatest trace numbers (strong_for kind) other
 

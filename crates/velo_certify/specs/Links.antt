@@ -4,6 +4,7 @@ use Rattle.std.specs.Prelude.{◌≡◌, ◌≢◌, ℕ, ◌+◌, ◌*◌, ◌-�
 use Rattle.velo_events.specs.declared.event.Event.{Event}
 use Rattle.velo_events.specs.declared.event.Kind.{Kind}
 use Rattle.velo_events.specs.declared.event.Kind.TheVariants.{Read, Fork, Join}
+use Rattle.velo_events.specs.About.{is_about, thread_in}
 use Rattle.velo_events.specs.Event.{thread_of}
 use Rattle.velo_events.specs.Block.{owner, passes_at}
 use Rattle.velo_events.specs.Graph.{Edge}
@@ -11,7 +12,7 @@ use Rattle.velo_certify.specs.Chains.{IsIn, IsChain}
 use Rattle.velo_certify.specs.declared.chains.Links.{Links}
 use Rattle.velo_certify.specs.Owners.{event_at}
 use Rattle.velo_certify.specs.Serial.{has}
-use Rattle.velo_certify.specs.Table.{is_about, thread_in, strong_for}
+use Rattle.velo_certify.specs.Table.{strong_for}
 use Rattle.velo_certify.specs.Threads.{thread_at}
 
 -- ---- which positions are linked

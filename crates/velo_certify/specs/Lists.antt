@@ -1,9 +1,10 @@
 -- Positions in rising lists, by what their events are about. Private contracts cite these words.
 use Rattle.std.specs.Prelude.{◌≡◌, ℕ, ◌+◌, ◌<◌, ◌≤◌, Bool, List, length, Option, slice_index, IsTrue}
 use Rattle.velo_events.specs.declared.event.Event.{Event}
+use Rattle.velo_events.specs.About.{is_about, thread_in, handled_in, written_in, read_in, lock_in}
 use Rattle.velo_events.specs.Block.{passes_at}
 use Rattle.velo_certify.specs.declared.lists.Lists.{Lists}
-use Rattle.velo_certify.specs.Table.{Sizes, is_about, thread_in, handled_in, written_in, read_in, lock_in}
+use Rattle.velo_certify.specs.Table.{Sizes}
 
 -- j is the first position from n on whose event passes the test, or the number of positions where there is none
 pub record IsFirst (trace : List Event) (test : Event → Bool) (n j : ℕ) : Type 0 where

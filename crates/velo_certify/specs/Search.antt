@@ -1,6 +1,7 @@
 -- A search backwards along the edges of the graph, which passes rising lists of positions. Private contracts cite these words.
 use Rattle.std.specs.Prelude.{◌≡◌, ℕ, ◌+◌, ◌<◌, ◌≤◌, Bool, List, length, Option, Some, slice_get, slice_index, IsTrue}
 use Rattle.velo_events.specs.declared.event.Event.{Event}
+use Rattle.velo_events.specs.About.{is_about, thread_in, handled_in, written_in, read_in, lock_in}
 use Rattle.velo_events.specs.Conflict.{conflict}
 use Rattle.velo_events.specs.Block.{owner, passes_at}
 use Rattle.velo_events.specs.Graph.{conflict_at, Edge}
@@ -9,7 +10,7 @@ use Rattle.velo_certify.specs.declared.reached.Reached.{Reached}
 use Rattle.velo_certify.specs.Distances.{AreTowards}
 use Rattle.velo_certify.specs.Lists.{AreNext, IsRising, list_sizes}
 use Rattle.velo_certify.specs.Owners.{AreOwners}
-use Rattle.velo_certify.specs.Table.{AllNameRows, is_about, thread_in, handled_in, written_in, read_in, lock_in}
+use Rattle.velo_certify.specs.Table.{AllNameRows}
 
 -- ---- what was reached
 

@@ -1,9 +1,10 @@
 -- Numbers of positions, and the greatest of those whose events pass a test. Private contracts cite these words.
-use Rattle.std.specs.Prelude.{◌≡◌, ◌≢◌, ℕ, ◌+◌, ◌<◌, ◌≤◌, Bool, false, cond, nat_lt, nat_le, List, length, Option, Some, None, ⊤, slice_get, slice_index, IsTrue}
+use Rattle.std.specs.Prelude.{◌≡◌, ◌≢◌, ℕ, ◌+◌, ◌<◌, ◌≤◌, Bool, false, cond, nat_lt, nat_le, List, length, Option, Some, ⊤, slice_get, slice_index, IsTrue}
 use Rattle.velo_events.specs.declared.event.Event.{Event}
 use Rattle.velo_events.specs.declared.event.Kind.{Kind}
 use Rattle.velo_events.specs.declared.event.Kind.TheVariants.{Read, Write, Acquire, Release, Fork, Join}
-use Rattle.velo_events.specs.Event.{are_same, thread_of, lock_of, handled_by}
+pub use Rattle.velo_events.specs.About.{thread_in, handled_in, written_in, read_in, lock_in, is_about}
+use Rattle.velo_events.specs.Event.{thread_of}
 use Rattle.velo_events.specs.Conflict.{conflict}
 use Rattle.velo_events.specs.Block.{passes_at}
 use Rattle.velo_events.specs.Graph.{conflict_at}
@@ -25,36 +26,6 @@ pub record IsGreatestBefore (trace : List Event) (numbers : ℕ → ℕ) (j m : 
 pub record IsGreatestAfter (trace : List Event) (numbers : ℕ → ℕ) (j m : ℕ) : Type 0 where
   pub covers : (i : ℕ) → j < i → IsTrue (conflict_at trace j i) → numbers i ≤ m
   pub reached : 0 < m → (i : ℕ) × (j < i) × IsTrue (conflict_at trace j i) × (numbers i ≡ m)
-
--- ---- what the rows are numbered by
-
-abbrev pub written_by : Kind → Option ℕ
-written_by (Write x v) = Some x.0
-written_by _ = None
-
-abbrev pub read_by : Kind → Option ℕ
-read_by (Read x v) = Some x.0
-read_by _ = None
-
--- its thread, the thread that it forks or joins, the variable that it writes, that it reads, its lock
-abbrev pub thread_in : Event → Option ℕ
-thread_in e = Some (thread_of e)
-
-abbrev pub handled_in : Event → Option ℕ
-handled_in e = handled_by e.kind
-
-abbrev pub written_in : Event → Option ℕ
-written_in e = written_by e.kind
-
-abbrev pub read_in : Event → Option ℕ
-read_in e = read_by e.kind
-
-abbrev pub lock_in : Event → Option ℕ
-lock_in e = lock_of e.kind
-
--- the event is about the thing with this number
-abbrev pub is_about : (Event → Option ℕ) → ℕ → Event → Bool
-is_about named x e = are_same (named e) (Some x)
 
 -- ---- the rows
 

@@ -1,5 +1,7 @@
 pub mod OnLists
 pub mod OnResults
+pub mod OnTests
+pub mod OnNumbers
 pub mod OnFilling
 pub mod OnTraces
 pub mod OnBlocks
@@ -9,6 +11,7 @@ pub mod OnWellFormed
 pub mod OnStatuses
 pub mod OnMeaning
 pub mod OnDepths
+pub mod OnConflicts
 pub mod OnGraphs
 pub mod OnReorderings
 pub mod Deciders

@@ -220,7 +220,7 @@ count_none p i xs fails = omega (arith, sum_by-le (λ k. cond {A = ℕ} (k == i)
     each x h = rw (ne_eqb x i (λ at. both_ways (p i) fails (ap p (sym at) ∙ h))) (omega arith)
 
 -- a filter keeps all of an element, or nothing
-count_filter : (p : ℕ → Bool) (i : ℕ) (xs : List ℕ) → count_by (λ k. k == i) (filter p xs) ≡ cond (p i) (count_by (λ k. k == i) xs) 0
+pub count_filter : (p : ℕ → Bool) (i : ℕ) (xs : List ℕ) → count_by (λ k. k == i) (filter p xs) ≡ cond (p i) (count_by (λ k. k == i) xs) 0
 count_filter p i xs =
     let both = sum_by-filter_both p (λ x. not (p x)) (λ x. refl) (λ k. cond {A = ℕ} (k == i) 1 0) xs in
     ⊎_elim (λ e. rw e (let none = count_none (λ x. not (p x)) i xs (not_from_true _ e) in omega (arith, both, none)))

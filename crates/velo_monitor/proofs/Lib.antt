@@ -3,7 +3,6 @@ pub mod OnLooks
 pub mod OnClosing
 pub mod OnLive
 pub mod OnInside
-pub mod OnNumbers
 pub mod OnCollecting
 pub mod OnMerging
 pub mod OnTables

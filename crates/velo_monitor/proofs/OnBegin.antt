@@ -18,8 +18,8 @@ use Rattle.velo_arena.specs.Slots.{Slots, bears, is_finished_in}
 use Rattle.velo_graph.specs.Nodes.{Nodes, is_ancestor, reaches, leads_on, IsSound, AddsEdges}
 use Rattle.velo_tables.specs.Kept.{IsRecorded}
 use Rattle.velo_merge.specs.Named.{Bears}
+use Rattle.velo_merge.proofs.OnStamps.{one_stamp}
 use Rattle.velo_monitor.specs.Watched.{Watched, IsAccountedIn, AreDepths, IsMonitorOf}
-use Rattle.velo_monitor.proofs.OnNodes.{one_stamp}
 use Rattle.velo_monitor.proofs.OnInside.{AreNamed}
 use Rattle.velo_monitor.proofs.OnTables.{entries-recorded}
 use Rattle.velo_monitor.proofs.OnOpening.{HasFresh, ancestors-opened}

@@ -18,7 +18,7 @@ use Rattle.velo_tables.specs.Kept.{entry}
 use Rattle.velo_merge.specs.Named.{Bears}
 use Rattle.velo_monitor.specs.Watched.{Watched, AreFounded, AreAncestors, AreEntries, IsAccountedIn, AreDepths, IsMonitorOf}
 use Rattle.velo_graph.specs.Collects.{IsUnneeded, Collects}
-use Rattle.velo_monitor.proofs.OnNumbers.{some_below}
+use Rattle.velo_graph.proofs.OnRoots.{some_below}
 use Rattle.velo_monitor.proofs.OnCollecting.{unneeded-dead, collects-before, entry-collected}
 
 -- all that it is to stand for a trace, but that something may be left to collect

@@ -10,9 +10,9 @@ use Rattle.velo_arena.specs.declared.step.Step.{Step}
 use Rattle.velo_arena.specs.Slots.{node_in, has_stamp, bears, is_finished_in}
 use Rattle.velo_graph.specs.Nodes.{Nodes, IsSound}
 use Rattle.velo_merge.specs.Named.{Bears}
+use Rattle.velo_merge.proofs.OnStamps.{one_slot}
 use Rattle.velo_monitor.specs.Watched.{AreFounded, AreAncestors, IsEntryFor}
 use Rattle.velo_graph.specs.Collects.{IsUnneeded, Collects}
-use Rattle.velo_monitor.proofs.OnNodes.{one_slot}
 
 -- what is unneeded is not live
 pub unneeded-dead : (nodes : Nodes) (trace : List Event) (k a : ℕ) → IsSound nodes → AreFounded nodes trace → AreAncestors nodes trace → Bears nodes k a → IsUnneeded nodes k → ¬ IsLive trace a

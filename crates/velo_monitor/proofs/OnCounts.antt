@@ -5,21 +5,14 @@ use Rattle.std.proofs.lemmas.Bool.{cases_eq, and_right, eq-eqb, ne_eqb, false≢
 use Rattle.velo_events.specs.declared.config.Bounds.{Bounds}
 use Rattle.velo_events.specs.declared.event.Event.{Event}
 use Rattle.velo_events.specs.declared.event.Kind.{Kind}
-use Rattle.velo_events.specs.declared.event.Kind.TheVariants.{Begin, End}
+use Rattle.velo_events.specs.declared.event.Kind.TheVariants.{End}
 use Rattle.velo_events.specs.Event.{thread_of, is_by, is_begin, is_end, is_begin_by, is_end_by}
 use Rattle.velo_events.specs.Heap.{times, depth_in}
 use Rattle.velo_events.specs.WellFormed.{IsWellFormed, IsInTurn, MayFollow}
+use Rattle.velo_events.proofs.OnScans.{begin-no_end, end-no_begin}
 use Rattle.velo_events.proofs.OnWellFormed.{Facts-from}
 use Rattle.velo_monitor.specs.Watched.{AreDepths}
 use Rattle.velo_monitor.proofs.OnDepthsAfter.{depth-other, depth-begin, depth-end}
-
-pub begin-not_end : (k : Kind) → IsTrue (is_begin k) → IsFalse (is_end k)
-begin-not_end (Begin l) h = refl
-begin-not_end _ h = absurd (false≢true h)
-
-pub end-not_begin : (k : Kind) → IsTrue (is_end k) → IsFalse (is_begin k)
-end-not_begin End h = refl
-end-not_begin _ h = absurd (false≢true h)
 
 end-in_turn : (trace : List Event) (t : ℕ) (k : Kind) → IsTrue (is_end k) → IsInTurn trace t k → times (is_end_by t) trace < times (is_begin_by t) trace
 end-in_turn trace t End h turn = turn
@@ -51,11 +44,11 @@ module _ (bounds : Bounds) (trace : List Event) (e : Event) (well : IsWellFormed
 
   pub depth-begun : IsTrue (is_begin e.kind) → depth_in (trace ++ e ∷ []) (thread_of e) ≡ depth_in trace (thread_of e) + 1
   depth-begun begun =
-      depth-begin trace e (thread_of e) ((Facts-from bounds trace well).nested (thread_of e)) (and_from (is_by (thread_of e) e) (is_begin e.kind) by_own begun) (no_end_by (thread_of e) (begin-not_end e.kind begun))
+      depth-begin trace e (thread_of e) ((Facts-from bounds trace well).nested (thread_of e)) (and_from (is_by (thread_of e) e) (is_begin e.kind) by_own begun) (no_end_by (thread_of e) (begin-no_end e.kind begun))
 
   pub depth-ended : IsTrue (is_end e.kind) → depth_in (trace ++ e ∷ []) (thread_of e) ≡ depth_in trace (thread_of e) - 1
   depth-ended ended =
-      let one = depth-end trace e (thread_of e) (end-in_turn trace (thread_of e) e.kind ended follows.in_turn) (no_begin_by (thread_of e) (end-not_begin e.kind ended)) (and_from (is_by (thread_of e) e) (is_end e.kind) by_own ended) in
+      let one = depth-end trace e (thread_of e) (end-in_turn trace (thread_of e) e.kind ended follows.in_turn) (no_begin_by (thread_of e) (end-no_begin e.kind ended)) (and_from (is_by (thread_of e) e) (is_end e.kind) by_own ended) in
       omega (arith, one)
 
   module _ (depths : List ℕ) (are : AreDepths bounds depths trace) where

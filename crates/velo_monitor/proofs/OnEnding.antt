@@ -22,8 +22,8 @@ use Rattle.velo_arena.proofs.OnSlots.{node_of_stamp, in_range}
 use Rattle.velo_graph.specs.Nodes.{Nodes, is_ancestor, IsSound, AddsEdges}
 use Rattle.velo_tables.specs.Kept.{IsRecorded}
 use Rattle.velo_merge.specs.Named.{Bears}
+use Rattle.velo_merge.proofs.OnStamps.{one_slot, one_stamp}
 use Rattle.velo_monitor.specs.Watched.{Watched, AreAncestors, AreDepths, IsMonitorOf}
-use Rattle.velo_monitor.proofs.OnNodes.{one_slot, one_stamp}
 use Rattle.velo_monitor.proofs.OnInside.{AreNamed, ancestors-inside}
 use Rattle.velo_monitor.proofs.OnTables.{entries-recorded}
 use Rattle.velo_monitor.proofs.OnCollected.{IsUncollected}

@@ -14,8 +14,9 @@ use Rattle.velo_events.proofs.OnUnfinished.{newest-unfinished, IsUnfinished-befo
 use Rattle.velo_graph.specs.Nodes.{Nodes, is_ancestor, reaches, AddsEdges, leads_on}
 use Rattle.velo_tables.proofs.OnGraphLookUps.{IsFound, ReachesByFound, Reaches-push_found}
 use Rattle.velo_merge.specs.Named.{Bears}
+use Rattle.velo_merge.proofs.OnStamps.{one_slot, one_stamp}
 use Rattle.velo_monitor.specs.Watched.{Watched, AreAncestors, IsMonitorOf}
-use Rattle.velo_monitor.proofs.OnNodes.{one_slot, one_stamp, reaches-sound, reaches-unfinished}
+use Rattle.velo_monitor.proofs.OnNodes.{reaches-sound, reaches-unfinished}
 use Rattle.velo_monitor.proofs.OnLooks.{Names, stamp-reaches, stamp-newest, stamp-other, looked_up-unfinished, named}
 
 -- the slots are those that the event's steps name

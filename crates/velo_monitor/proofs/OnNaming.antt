@@ -16,9 +16,9 @@ use Rattle.velo_events.specs.Place.{LastOf}
 use Rattle.velo_tables.specs.Kept.{entry, steps_looked_up}
 use Rattle.velo_tables.proofs.OnSteps.{steps_looked_up-from}
 use Rattle.velo_merge.specs.Named.{Bears}
+use Rattle.velo_merge.proofs.OnStamps.{one_slot, one_stamp}
 use Rattle.velo_monitor.specs.Watched.{Watched, IsMonitorOf}
 use Rattle.velo_monitor.specs.Steps.{live_slots, ReachesSome}
-use Rattle.velo_monitor.proofs.OnNodes.{one_slot, one_stamp}
 use Rattle.velo_monitor.proofs.OnLooks.{Names}
 use Rattle.velo_monitor.proofs.OnInside.{AreNamed}
 use Rattle.velo_monitor.proofs.OnClosing.{closes-by, closes-from}

@@ -1,30 +1,14 @@
 -- Nodes by their stamps.
-use Rattle.std.proofs.Common.{◌≡◌, ℕ, List, true, eqb, sym, ap, ◌∙◌, subst, ⊎_elim, inl}
+use Rattle.std.proofs.Common.{◌≡◌, ℕ, List, true, eqb, subst, ⊎_elim, inl}
 use Rattle.std.specs.Prelude.{IsTrue}
 use Rattle.std.proofs.lemmas.Bool.{cases_eq, eq-eqb, eqb-true, or_left, or_right, or_cases}
 use Rattle.velo_events.specs.declared.event.Event.{Event}
 use Rattle.velo_events.specs.Block.{IsUnfinished}
 use Rattle.velo_events.specs.Graph.{Edge, Reaches}
-use Rattle.velo_arena.specs.declared.step.Node.{Node}
-use Rattle.velo_arena.specs.Slots.{node_in, HasOwnStamps}
-use Rattle.velo_arena.proofs.OnSlots.{node_of_stamp, same_node}
 use Rattle.velo_graph.specs.Nodes.{Nodes, is_ancestor, reaches, IsSound}
 use Rattle.velo_merge.specs.Named.{Bears}
+use Rattle.velo_merge.proofs.OnStamps.{one_slot, one_stamp}
 use Rattle.velo_monitor.specs.Watched.{AreAncestors}
-
--- a stamp is borne by one slot
-pub one_slot : (nodes : Nodes) (j k a : ℕ) → HasOwnStamps nodes.slots → Bears nodes j a → Bears nodes k a → j ≡ k
-one_slot nodes j k a own first second =
-    let m = node_of_stamp (node_in nodes.slots j) a first in
-    let n = node_of_stamp (node_in nodes.slots k) a second in
-    own.apart j k m.0 n.0 m.1 n.1 (m.2 ∙ sym n.2)
-
--- and a slot bears one stamp
-pub one_stamp : (nodes : Nodes) (k a b : ℕ) → Bears nodes k a → Bears nodes k b → a ≡ b
-one_stamp nodes k a b first second =
-    let m = node_of_stamp (node_in nodes.slots k) a first in
-    let n = node_of_stamp (node_in nodes.slots k) b second in
-    sym m.2 ∙ ap (λ (z : Node). z.stamp) (same_node (node_in nodes.slots k) m.0 n.0 m.1 n.1) ∙ n.2
 
 -- an unfinished node reaches, in the graph of nodes, each node that it reaches in the trace
 pub reaches-unfinished : (nodes : Nodes) (trace : List Event) (j k a b : ℕ) → IsSound nodes → AreAncestors nodes trace → Bears nodes j a → Bears nodes k b → IsUnfinished trace a → Reaches (Edge trace) a b → IsTrue (reaches nodes j k)

@@ -14,8 +14,9 @@ use Rattle.velo_events.proofs.OnUnfinished.{IsUnfinished-before}
 use Rattle.velo_graph.specs.Nodes.{Nodes, is_ancestor, reaches, AddsEdges, leads_on, IsAlone}
 use Rattle.velo_tables.proofs.OnGraphLookUps.{IsFound, ReachesByFound, Reaches-push_found}
 use Rattle.velo_merge.specs.Named.{Bears}
+use Rattle.velo_merge.proofs.OnStamps.{one_stamp}
 use Rattle.velo_monitor.specs.Watched.{Watched, AreAncestors, IsMonitorOf}
-use Rattle.velo_monitor.proofs.OnNodes.{one_stamp, reaches-sound}
+use Rattle.velo_monitor.proofs.OnNodes.{reaches-sound}
 use Rattle.velo_monitor.proofs.OnLooks.{Names, stamp-reaches, stamp-other, looked_up-unfinished, named}
 use Rattle.velo_monitor.proofs.OnInside.{AreNamed}
 

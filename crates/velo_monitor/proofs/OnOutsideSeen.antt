@@ -20,12 +20,11 @@ use Rattle.velo_arena.specs.Slots.{Slots, node_in, bears, is_finished_in}
 use Rattle.velo_arena.proofs.OnSlots.{node_of_stamp}
 use Rattle.velo_graph.specs.Nodes.{Nodes, is_ancestor}
 use Rattle.velo_merge.specs.Named.{Bears, live_stamps}
-use Rattle.velo_merge.proofs.OnStamps.{step_of_stamp, stamp_of_step}
+use Rattle.velo_merge.proofs.OnStamps.{one_slot, step_of_stamp, stamp_of_step}
 use Rattle.velo_tables.specs.Kept.{steps_looked_up, IsRecorded}
 use Rattle.velo_monitor.specs.Watched.{Watched, IsEntryFor, AreDepths, IsMonitorOf}
 use Rattle.velo_monitor.specs.Steps.{live_slots}
 use Rattle.velo_monitor.specs.Changed.{BeginsBlock, GetsNoNode, GoesIntoNode, GetsOwnNode, AfterOutside}
-use Rattle.velo_monitor.proofs.OnNodes.{one_slot}
 use Rattle.velo_monitor.proofs.OnLooks.{Names}
 use Rattle.velo_monitor.proofs.OnCurrent.{outside-depth, fresh-opens}
 use Rattle.velo_monitor.proofs.OnOpening.{HasFresh}

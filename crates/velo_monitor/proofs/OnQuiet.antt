@@ -8,8 +8,8 @@ use Rattle.velo_arena.specs.Slots.{Slots, limit_of, is_finished_in}
 use Rattle.velo_graph.specs.Nodes.{Nodes, is_ancestor, reaches, leads_on, IsSound, IsRoot, AddsEdges}
 use Rattle.velo_graph.specs.Collects.{HasNothingLeft}
 use Rattle.velo_graph.proofs.OnNodes.{used_in_range}
+use Rattle.velo_graph.proofs.OnRoots.{some_below}
 use Rattle.velo_monitor.specs.Watched.{Watched, IsMonitorOf}
-use Rattle.velo_monitor.proofs.OnNumbers.{some_below}
 use Rattle.velo_monitor.proofs.OnCollected.{IsUncollected}
 use Rattle.velo_monitor.proofs.OnEnding.{Finishes}
 

@@ -2,9 +2,10 @@
 use Rattle.std.proofs.Common.{◌≡◌, ◌≢◌, ◌⊎◌, inl, inr, ℕ, ◌+◌, ◌-◌, ◌*◌, ◌/◌, ◌%◌, ◌^◌, ◌<◌, ◌≤◌, Bool, true, false, cond, eqb, leb, not, ◌&&◌, List, [], ◌∷◌, ◌++◌, Option, Some, None, ⊎_elim, refl, sym, ap, ◌∙◌, append_assoc, append-nil, arith}
 use Rattle.std.specs.Prelude.{decimal, IfSome}
 use Rattle.std.specs.Char.{is_ascii_digit}
-use Rattle.std.proofs.lemmas.Fmt.{decimal_digit, decimal_step, decimal_by_steps}
+use Rattle.std.proofs.lemmas.Fmt.{decimal_digit, decimal_by_steps}
 use Rattle.std.proofs.lemmas.Bool.Decides.{nat_tests}
-use Rattle.std.proofs.lemmas.Bool.{cases_lt}
+use Rattle.std.proofs.lemmas.Bool.{cases_lt, and_parts}
+use Rattle.velo_events.proofs.OnNumbers.{digit_is, is_digit, decimal_more}
 use Rattle.velo_workload.specs.Words.{is_word, digits_on, number_of}
 
 -- ---- choices
@@ -15,27 +16,6 @@ chosen false x y z e = inr (refl, e)
 
 some_is : (m n : ℕ) → Some m ≡ Some n → m ≡ n
 some_is m n e = cc
-
-both : (a b : Bool) → (a && b) ≡ true → (a ≡ true) × (b ≡ true)
-both true true e = (refl, refl)
-both true false e = absurd cc
-both false b e = absurd cc
-
--- ---- digits
-
-digit_is : (c : ℕ) → is_ascii_digit c ≡ true → (48 ≤ c) × (c ≤ 57)
-digit_is c e = (grind (arith, nat_tests), grind (arith, nat_tests))
-
-is_digit : (d : ℕ) → d < 10 → is_ascii_digit (48 + d) ≡ true
-is_digit d h = grind (arith, nat_tests)
-
--- one digit more
-decimal_more : (n d : ℕ) → 0 < n → d < 10 → n * 10 + d < 2 ^ 64 → decimal (n * 10 + d) ≡ decimal n ++ (48 + d) ∷ []
-decimal_more n d some small fits =
-    let q : (n * 10 + d) / 10 ≡ n = omega arith in
-    let r : (n * 10 + d) % 10 ≡ d = omega arith in
-    let s = decimal_step (n * 10 + d) (omega arith) fits in
-    s ∙ ap (λ (k : ℕ). decimal k ++ (48 + (n * 10 + d) % 10) ∷ []) q ∙ ap (λ (k : ℕ). decimal n ++ (48 + k) ∷ []) r
 
 -- ---- what is taken
 
@@ -76,7 +56,7 @@ number_taken most [] m le fits e = absurd cc
 number_taken most (c ∷ cs) m le fits e =
     ⊎_elim
     (λ right.
-    let tests = both (is_ascii_digit c) (not (eqb c 48 && is_word cs)) right.0 in
+    let tests = and_parts (is_ascii_digit c) (not (eqb c 48 && is_word cs)) right.0 in
     first_taken most c cs m le fits tests.0 tests.1 right.1)
     (λ other. absurd (let none = other.1 in cc))
     (chosen (is_ascii_digit c && not (eqb c 48 && is_word cs)) (digits_on most (c - 48) cs) None (Some m) e)

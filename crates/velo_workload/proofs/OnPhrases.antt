@@ -1,9 +1,10 @@
 -- Names are text, and the words of a line say what its reader takes them to say.
-use Rattle.std.proofs.Common.{◌≡◌, ℕ, ◌<◌, Bool, true, false, ◌&&◌, eqb, List, [], ◌∷◌, length, refl, ap, ◌∙◌, arith}
+use Rattle.std.proofs.Common.{◌≡◌, ℕ, ◌<◌, Bool, true, false, eqb, List, [], ◌∷◌, length, refl, ap, ◌∙◌, arith}
 use Rattle.std.specs.List.{list_all}
 use Rattle.std.specs.Str.{IsAscii, IsUtf8}
 use Rattle.std.proofs.lemmas.Str.{IsUtf8-from_ascii}
 use Rattle.std.proofs.lemmas.Str.Ascii.{IsAscii-nil, IsAscii-cons}
+use Rattle.std.proofs.lemmas.Bool.{and_parts}
 use Rattle.std.proofs.lemmas.Bool.Decides.{nat_tests}
 use Rattle.velo_workload.specs.Words.{Word, AreWords, is_name, is_name_byte}
 use Rattle.velo_workload.specs.Phrase.{verb_of, argument_of, bad_phrase, phrase_of_one_word, phrase_with_argument, phrase_by, phrase_of_words}
@@ -11,22 +12,17 @@ use Rattle.velo_workload.specs.Phrase.{verb_of, argument_of, bad_phrase, phrase_
 small : (b : ℕ) → is_name_byte b ≡ true → b < 128
 small b e = grind (arith, nat_tests)
 
-both : (a b : Bool) → (a && b) ≡ true → (a ≡ true) × (b ≡ true)
-both true true e = (refl, refl)
-both true false e = absurd cc
-both false b e = absurd cc
-
 name_ascii : (w : List ℕ) → list_all is_name_byte w ≡ true → IsAscii w
 name_ascii [] e = IsAscii-nil
 name_ascii (b ∷ bs) e =
-    let h = both (is_name_byte b) (list_all is_name_byte bs) e in
+    let h = and_parts (is_name_byte b) (list_all is_name_byte bs) e in
     IsAscii-cons b bs (small b h.0) (name_ascii bs h.1)
 
 pub name_text : (w : List ℕ) → is_name w ≡ true → IsUtf8 w
 name_text [] e = absurd cc
 name_text (c ∷ cs) e =
-    let h = both _ _ e in
-    let k = both _ _ h.1 in
+    let h = and_parts _ _ e in
+    let k = and_parts _ _ h.1 in
     IsUtf8-from_ascii (c ∷ cs) (name_ascii (c ∷ cs) k.1)
 
 some_bytes : (w : Word) → 0 < length w → eqb (length w) 0 ≡ false

@@ -1,24 +1,15 @@
-use Rattle.std.proofs.Common.{◌≡◌, ◌+◌, ◌∷◌, length, map, get_or, sym, ap, ◌∙◌, subst, arith, refl}
-use Rattle.std.specs.Prelude.{IsFalse}
+use Rattle.std.proofs.Common.{◌≡◌, ◌+◌, ◌∷◌, length, map, get_or, sym, ap, ◌∙◌, subst, arith}
 use Rattle.std.specs.Option.{option_map_or}
 use Rattle.std.proofs.lemmas.Bool.{not-true, not-false, and_left, and_right, and_from}
 use Rattle.std.proofs.lemmas.List.{length-map}
 use Rattle.std.proofs.lemmas.Option.{slice_get-get_or}
-use Rattle.velo_events.specs.declared.event.Label.{Label}
-use Rattle.velo_events.specs.declared.event.Kind.{Kind}
-use Rattle.velo_events.specs.declared.event.Kind.TheVariants.{Begin, End}
 use Rattle.velo_events.specs.Event.{is_begin, is_end}
 use Rattle.velo_events.specs.Scan.{LeavesEnds, open_from}
-use Rattle.velo_events.proofs.OnScans.{end_by-no_begin_by}
+use Rattle.velo_events.proofs.OnScans.{end_by-no_begin_by, other_kind}
 use Rattle.velo_events.proofs.OnOpenBlocks.{LeavesEnds-other, LeavesEnds-begin, LeavesEnds-open, LeavesEnds-end, is_open-begin, is_open-ended, is_open-no_begin, open_from-closed, open_from-opened, length-open_from}
 use Rattle.velo_traces.specs.Blocks.{block_at, label_of}
 use Rattle.velo_traces.proofs.Past.{past}
 use Rattle.velo_traces.proofs.open.take_in.Goals as goal
-
-is_other : (k : Kind) → ((l : Label) → k ≡ Begin l → ⊥) → (k ≡ End → ⊥) → IsFalse (is_begin k) × IsFalse (is_end k)
-is_other (Begin l) no_begin no_end = absurd (no_begin l refl)
-is_other End no_begin no_end = absurd (no_end refl)
-is_other _ no_begin no_end = (refl, refl)
 
 pub returns-then-ne-clause-ends : goal.returns-then-ne-clause-ends
 returns-then-ne-clause-ends c =
@@ -54,7 +45,7 @@ pub returns-in_default : goal.returns-in_default
 returns-in_default c =
     let trace = c.args.events.now in let n = c.args.at in let e = get_or trace n past in
     let here = slice_get-get_or trace n past c.requires.within in
-    let other = is_other e.kind c.in_default.not-Begin c.in_default.not-End in
+    let other = other_kind e.kind c.in_default.not-Begin c.in_default.not-End in
     let closed = is_open-no_begin trace c.args.thread.0 n e here (and_right _ _ other.0) in
     record {
       few_ends = omega arith;

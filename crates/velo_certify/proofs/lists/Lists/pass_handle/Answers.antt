@@ -1,6 +1,6 @@
 use Rattle.std.proofs.Common.{subst}
+use Rattle.velo_events.specs.About.{handled_in}
 use Rattle.velo_certify.specs.Search.{PassesList}
-use Rattle.velo_certify.specs.Table.{handled_in}
 use Rattle.velo_certify.proofs.OnPasses.{IsSearching-handles}
 use Rattle.velo_certify.proofs.lists.Lists.pass_handle.Goals as goal
 

@@ -1,6 +1,6 @@
 use Rattle.std.proofs.Common.{subst}
+use Rattle.velo_events.specs.About.{lock_in}
 use Rattle.velo_certify.specs.Search.{PassesList}
-use Rattle.velo_certify.specs.Table.{lock_in}
 use Rattle.velo_certify.proofs.OnPasses.{IsSearching-locks}
 use Rattle.velo_certify.proofs.lists.Lists.pass_lock.Goals as goal
 

@@ -1,6 +1,6 @@
 use Rattle.std.proofs.Common.{subst}
+use Rattle.velo_events.specs.About.{read_in}
 use Rattle.velo_certify.specs.Search.{PassesList}
-use Rattle.velo_certify.specs.Table.{read_in}
 use Rattle.velo_certify.proofs.OnPasses.{IsSearching-reads}
 use Rattle.velo_certify.proofs.lists.Lists.pass_reads.Goals as goal
 

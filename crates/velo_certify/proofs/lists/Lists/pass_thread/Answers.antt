@@ -1,6 +1,6 @@
 use Rattle.std.proofs.Common.{subst}
+use Rattle.velo_events.specs.About.{thread_in}
 use Rattle.velo_certify.specs.Search.{PassesList}
-use Rattle.velo_certify.specs.Table.{thread_in}
 use Rattle.velo_certify.proofs.OnPasses.{IsSearching-threads}
 use Rattle.velo_certify.proofs.lists.Lists.pass_thread.Goals as goal
 

@@ -1,6 +1,6 @@
 use Rattle.std.proofs.Common.{subst}
+use Rattle.velo_events.specs.About.{written_in}
 use Rattle.velo_certify.specs.Search.{PassesList}
-use Rattle.velo_certify.specs.Table.{written_in}
 use Rattle.velo_certify.proofs.OnPasses.{IsSearching-writes}
 use Rattle.velo_certify.proofs.lists.Lists.pass_writes.Goals as goal
 
