@@ -71,7 +71,18 @@ fn bad_values_have_their_numbers_and_texts(rt: HostRuntime) -> Result<(), Fail> 
     Ok(())
 }
 
-/// A configuration with the greatest values of all.
+/// The most events, the most nodes, and which of the two is out of its range.
+const LIMITS: [(u32, u16, Option<BadConfig>); 7] = [
+    (1, 1, None),
+    (16_777_216, 4_096, None),
+    (0, 1, Some(BadConfig::Events)),
+    (16_777_217, 4_096, Some(BadConfig::Events)),
+    (1, 0, Some(BadConfig::Nodes)),
+    (16_777_216, 4_097, Some(BadConfig::Nodes)),
+    (0, 0, Some(BadConfig::Events)),
+];
+
+/// Configurations with the greatest bounds, and limits at both sides of their ends.
 #[test]
 fn the_limits_may_be_reached(rt: HostRuntime) {
     let bounds = Bounds {
@@ -81,6 +92,10 @@ fn the_limits_may_be_reached(rt: HostRuntime) {
     };
     let config = Config::new(0, bounds, 16_777_216, 4_096, true).expect(&rt, "in range");
     assert_eq!(rt; config.bounds, bounds);
+    for (events, nodes, bad) in LIMITS {
+        let refused = Config::new(0, bounds, events, nodes, true).err();
+        assert_eq!(rt; refused, bad, "{events} events, {nodes} nodes");
+    }
     assert_eq!(rt; MOST_OPEN_BLOCKS, 32);
 }
 

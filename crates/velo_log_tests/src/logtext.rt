@@ -61,7 +61,7 @@ type Case<'a> = (&'a str, Option<LogFault>);
 
 const BAD_HEADER: Option<LogFault> = Some(LogFault::BadHeader);
 
-const FIRST_LINES: [Case; 18] = [
+const FIRST_LINES: [Case; 19] = [
     ("", BAD_HEADER),
     ("\n", BAD_HEADER),
     ("vlog 1 1 0 0", BAD_HEADER),
@@ -69,6 +69,7 @@ const FIRST_LINES: [Case; 18] = [
     ("vlog 1 65 0 0\n", BAD_HEADER),
     ("vlog 1 1 65536 0\n", BAD_HEADER),
     ("vlog 1 1 0 4097\n", BAD_HEADER),
+    ("vlog 01 1 0 0\n", BAD_HEADER),
     ("vlog 1 01 0 0\n", BAD_HEADER),
     ("vlog 2 1 0 0\n", BAD_HEADER),
     ("vlog 1  1 0 0\n", BAD_HEADER),

@@ -385,6 +385,66 @@ fn two_threads(rt: HostRuntime) {
     }
 }
 
+// ---- a thread that is joined before the first one goes on
+
+/// What the first thread does before the second is started.
+const BEFORE: [Step; 2] = [
+    Step::Do(Action::Begin(Label(7)), DONE),
+    Step::Do(Action::Read(X), Ok((Some(0), false))),
+];
+
+/// What the second thread does, and what the first does once that is joined.
+const JOINED: Case = Case {
+    stop: false,
+    first: &[Step::Do(Action::Write(X, 1), ALARMED)],
+    second: &[Step::Do(Action::Write(X, 5), DONE)],
+    log: &[
+        (MAIN, Kind::Fork(OTHER)),
+        (MAIN, Kind::Begin(Label(7))),
+        (MAIN, Kind::Read(X, 0)),
+        (OTHER, Kind::Write(X, 5)),
+        (MAIN, Kind::Write(X, 1)),
+    ],
+    alarm: Some((4, 1)),
+};
+
+/// Has a thread that is started for it follow a script, joins it, and answers the first step that goes wrong.
+fn first_wrong_apart<R: Wait + Clock + Threads + Sync>(
+    rt: &R,
+    shared: &Shared,
+    seat: &mut Seat,
+    steps: &[Step],
+) -> Option<usize> {
+    thread::scope(thread::scope_env(), rt, |scope| {
+        match scope.spawn(move || first_wrong(rt, shared, seat, steps)) {
+            Ok(started) => started.join(rt),
+            Err(_) => Some(0),
+        }
+    })
+}
+
+/// Plays the case of a thread that is joined. The first step of each part that goes wrong, and whether the run ends as it
+/// should.
+fn play_joined<R: Wait + Clock + Threads + Sync>(
+    rt: &R,
+    alloc: Global,
+) -> Result<([Option<usize>; 3], bool), RunError> {
+    let (shared, mut first, mut second) = pair(rt, alloc, JOINED.stop)?;
+    let before = first_wrong(rt, &shared, &mut first, &BEFORE);
+    let between = first_wrong_apart(rt, &shared, &mut second, JOINED.second);
+    let after = first_wrong(rt, &shared, &mut first, JOINED.first);
+    let closed = close_both(alloc, shared, first, second)?;
+    let is_right = ends_as(&closed, &JOINED);
+    drop(closed);
+    Ok(([before, between, after], is_right))
+}
+
+#[test]
+fn a_joined_thread(rt: HostRuntime) {
+    let outcome = play_joined(&rt, rt.alloc()).ok();
+    assert_eq!(rt; outcome, Some(([None; 3], true)));
+}
+
 // ---- four threads at once
 
 /// Writes 1 to 20 to the variable that has the number of the seat's thread.
@@ -630,5 +690,70 @@ fn held(
 fn one_hold_of_a_room(rt: HostRuntime) {
     for hold in [CONFIGURED, HALTED, TURNS] {
         assert_eq!(rt; held(&rt, rt.alloc(), &hold), (None, hold.end));
+    }
+}
+
+// ---- a seat of another run
+
+/// Does the action in one hold.
+fn act_alone(rt: &impl Wait, shared: &Shared, seat: &mut Seat, action: Action) -> Answer {
+    let mut room = shared.room.lock(rt);
+    step_or_turn(&mut room, seat, action)
+}
+
+/// Closes a run with one seat.
+fn close_with(
+    rt: &impl Abort,
+    alloc: Global,
+    shared: Shared,
+    seat: Seat,
+) -> Result<Closed, Missing> {
+    let seats = vec![in alloc; seat].expect(rt, "memory");
+    close(shared, seats)
+}
+
+/// Closes a run with the seat of another one. Both are given back.
+fn close_with_foreign(
+    rt: &impl Abort,
+    alloc: Global,
+    shared: Shared,
+    foreign: Seat,
+) -> Option<(Shared, Seat)> {
+    let Missing { shared, mut seats } = close_with(rt, alloc, shared, foreign).err()?;
+    match seats.pop() {
+        Some(seat) => Some((shared, seat)),
+        None => {
+            drop((shared, seats));
+            None
+        }
+    }
+}
+
+/// Writes in the run, and closes it: the answer to the write, and how many events there are.
+fn write_and_close(
+    rt: &(impl Wait + Abort),
+    alloc: Global,
+    shared: Shared,
+    mut seat: Seat,
+) -> (Answer, Option<u64>) {
+    let written = act_alone(rt, &shared, &mut seat, Action::Write(X, 1));
+    let closed = close_with(rt, alloc, shared, seat).ok();
+    let total = closed.as_ref().map(|closed| closed.total());
+    drop(closed);
+    (written, total)
+}
+
+/// The seat of one run neither acts in another nor closes it, and both runs go on.
+#[test]
+fn a_foreign_seat(rt: HostRuntime) {
+    let (first_run, mut first) = open(&rt, rt.alloc(), 1, 100, false);
+    let (second_run, second) = open(&rt, rt.alloc(), 2, 100, false);
+    let foreign = act_alone(&rt, &second_run, &mut first, Action::Write(X, 1));
+    assert_eq!(rt; foreign, Err(Refusal::Foreign));
+    let given_back = close_with_foreign(&rt, rt.alloc(), second_run, first);
+    let (second_run, first) = given_back.expect(&rt, "not closed");
+    for (shared, seat) in [(first_run, first), (second_run, second)] {
+        let told = write_and_close(&rt, rt.alloc(), shared, seat);
+        assert_eq!(rt; told, (Ok(Some(0)), Some(1)));
     }
 }

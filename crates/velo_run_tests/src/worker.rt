@@ -6,6 +6,7 @@ use std::test::Fail;
 use velo_events::{Config, Event, Kind, Label, LockId, Refusal, ThreadId, VarId};
 use velo_worker::{Ending, replay};
 use velo_workload::parse;
+use velo_world::Closed;
 
 const X: VarId = VarId(0);
 
@@ -36,6 +37,8 @@ struct Run<'a> {
     schedule: &'a [ThreadId],
     stop: bool,
     log: &'a [Event],
+    /// What each thread read and wrote, added up.
+    totals: &'a [(u128, u128)],
     ending: Ending,
 }
 
@@ -107,22 +110,39 @@ const NESTED_LOG: [Event; 3] = [
 
 const EXIT_LOG: [Event; 1] = [by!(MAIN, Kind::Exit)];
 
-/// Whether the run has its log and its ending.
+/// Whether each thread has its totals of what it read and wrote.
+fn has_totals(closed: &Closed, totals: &[(u128, u128)]) -> bool {
+    let threads = closed.bounds().threads;
+    if usize::from(threads) != totals.len() {
+        return false;
+    }
+    for thread in 0..threads {
+        let tally = closed.tally(ThreadId(thread));
+        if (tally.read_total, tally.written_total) != totals[usize::from(thread)] {
+            return false;
+        }
+    }
+    true
+}
+
+/// Whether the run has its log, its totals and its ending.
 fn plays(alloc: Global, run: &Run<'_>) -> Result<bool, Fail> {
     let workload = parse(alloc, run.text)?;
     let config = Config::new(0, workload.bounds(), 100, 64, run.stop)?;
     let (closed, ending) = replay(alloc, &workload, run.schedule, config)?;
-    Ok(closed.log().as_slice() == run.log && ending == run.ending)
+    let has_log = closed.log().as_slice() == run.log;
+    Ok(has_log && has_totals(&closed, run.totals) && ending == run.ending)
 }
 
 #[test]
 fn workloads_run_by_their_schedules(rt: HostRuntime) -> Result<(), Fail> {
-    for (text, schedule, stop, log, ending) in [
+    for (text, schedule, stop, log, totals, ending) in [
         (
             WRAPS,
             [].as_slice(),
             false,
             WRAPS_LOG.as_slice(),
+            [(18_446_744_073_709_551_615, 18_446_744_073_709_551_615)].as_slice(),
             Ending::Done,
         ),
         (
@@ -130,6 +150,7 @@ fn workloads_run_by_their_schedules(rt: HostRuntime) -> Result<(), Fail> {
             LOST_SCHEDULE.as_slice(),
             false,
             LOST_LOG.as_slice(),
+            [(0, 1), (0, 5)].as_slice(),
             Ending::Done,
         ),
         (
@@ -137,6 +158,7 @@ fn workloads_run_by_their_schedules(rt: HostRuntime) -> Result<(), Fail> {
             LOST_SCHEDULE.as_slice(),
             true,
             &LOST_LOG[..5],
+            [(0, 1), (0, 5)].as_slice(),
             Ending::Halted,
         ),
         (
@@ -144,6 +166,7 @@ fn workloads_run_by_their_schedules(rt: HostRuntime) -> Result<(), Fail> {
             OPPOSITE_SCHEDULE.as_slice(),
             false,
             OPPOSITE_LOG.as_slice(),
+            [(0, 0), (0, 0)].as_slice(),
             Ending::Stuck,
         ),
         (
@@ -151,6 +174,7 @@ fn workloads_run_by_their_schedules(rt: HostRuntime) -> Result<(), Fail> {
             WAITS_SCHEDULE.as_slice(),
             false,
             WAITS_LOG.as_slice(),
+            [(0, 0), (0, 0)].as_slice(),
             Ending::Done,
         ),
         (
@@ -158,6 +182,7 @@ fn workloads_run_by_their_schedules(rt: HostRuntime) -> Result<(), Fail> {
             [].as_slice(),
             false,
             NESTED_LOG.as_slice(),
+            [(0, 93)].as_slice(),
             Ending::Done,
         ),
         (
@@ -165,6 +190,7 @@ fn workloads_run_by_their_schedules(rt: HostRuntime) -> Result<(), Fail> {
             [].as_slice(),
             false,
             EXIT_LOG.as_slice(),
+            [(0, 0)].as_slice(),
             Ending::Done,
         ),
         (
@@ -172,6 +198,7 @@ fn workloads_run_by_their_schedules(rt: HostRuntime) -> Result<(), Fail> {
             [].as_slice(),
             false,
             EXIT_LOG.as_slice(),
+            [(0, 0)].as_slice(),
             Ending::Done,
         ),
         (
@@ -179,6 +206,7 @@ fn workloads_run_by_their_schedules(rt: HostRuntime) -> Result<(), Fail> {
             [].as_slice(),
             false,
             [].as_slice(),
+            [(0, 0)].as_slice(),
             Ending::Stuck,
         ),
         (
@@ -186,6 +214,7 @@ fn workloads_run_by_their_schedules(rt: HostRuntime) -> Result<(), Fail> {
             [].as_slice(),
             false,
             [].as_slice(),
+            [(0, 0)].as_slice(),
             Ending::Refused(MAIN, Refusal::NoOpenBlock),
         ),
     ] {
@@ -194,6 +223,7 @@ fn workloads_run_by_their_schedules(rt: HostRuntime) -> Result<(), Fail> {
             schedule,
             stop,
             log,
+            totals,
             ending,
         };
         assert!(rt; plays(rt.alloc(), &run)?, "{text}");

@@ -4,9 +4,10 @@ use std::sync::atomic::{AtomicU64, Ordering};
 use std::thread;
 use std::thread::Threads;
 use velo_events::{Config, ThreadId, VarId};
+use velo_traces::Block;
 use velo_worker::{Ending, Gate, OpenGate, live};
 use velo_workload::parse;
-use velo_world::Closed;
+use velo_world::{Alarm, Closed};
 
 /// Two threads add to one variable under a lock, each a thousand times.
 const COUNTERS: &str =
@@ -105,8 +106,10 @@ impl Gate for ShutGate {
 #[derive(Clone, Copy)]
 struct Shown<'a> {
     ending: Ending,
-    /// The position of its alarm.
-    alarm: Option<usize>,
+    /// The position of its alarm, and that of its transaction.
+    alarm: Option<(usize, usize)>,
+    /// Where each block that is to blame begins, and its label.
+    blamed: &'a [(usize, &'a str)],
     /// The events of each thread.
     counts: &'a [u64],
     /// The value of the first variable.
@@ -116,13 +119,15 @@ struct Shown<'a> {
 const COUNTED: Shown = Shown {
     ending: Ending::Done,
     alarm: None,
+    blamed: &[],
     counts: &[5, 6_001, 6_001],
     first: Some(2_000),
 };
 
 const LOST: Shown = Shown {
     ending: Ending::Done,
-    alarm: Some(4),
+    alarm: Some((4, 1)),
+    blamed: &[(1, "inc")],
     counts: &[7, 2],
     first: Some(1),
 };
@@ -130,6 +135,7 @@ const LOST: Shown = Shown {
 const STUCK: Shown = Shown {
     ending: Ending::Stuck,
     alarm: None,
+    blamed: &[],
     counts: &[2, 1],
     first: None,
 };
@@ -137,6 +143,7 @@ const STUCK: Shown = Shown {
 const GATED: Shown = Shown {
     ending: Ending::Gated,
     alarm: None,
+    blamed: &[],
     counts: &[0, 0],
     first: Some(0),
 };
@@ -161,10 +168,36 @@ fn has_counts(closed: &Closed, counts: &[u64]) -> bool {
     true
 }
 
-fn looks_as(closed: &Closed, shown: &Shown<'_>) -> bool {
+/// Whether the block begins there and has the label of this name.
+fn is_named(block: &Block, labels: &[String], first: usize, label: &str) -> bool {
+    let name = labels.get(block.label.0 as usize);
+    block.first == first && name.is_some_and(|name| name.as_str() == label)
+}
+
+/// Whether the alarm blames these blocks, outermost first.
+fn has_blame(alarm: &Alarm, labels: &[String], blamed: &[(usize, &str)]) -> bool {
+    let blocks = alarm.blamed.as_slice();
+    blocks.len() == blamed.len()
+        && blocks.iter().zip(blamed).all(|(block, (first, label))| is_named(
+            block, labels, *first, *label,
+        ))
+}
+
+/// Whether there is the alarm, and it blames what it should.
+fn has_alarm(closed: &Closed, labels: &[String], shown: &Shown<'_>) -> bool {
+    match closed.alarm() {
+        Some(alarm) => {
+            shown.alarm == Some((alarm.position, alarm.transaction))
+                && has_blame(alarm, labels, shown.blamed)
+        }
+        None => shown.alarm.is_none(),
+    }
+}
+
+fn looks_as(closed: &Closed, labels: &[String], shown: &Shown<'_>) -> bool {
     has_counts(closed, shown.counts)
         && first_variable(closed) == shown.first
-        && closed.alarm().map(|alarm| alarm.position) == shown.alarm
+        && has_alarm(closed, labels, shown)
 }
 
 /// Whether the run of a workload shows what it should.
@@ -178,7 +211,7 @@ fn shows<G: Gate + Sync, R: Threads + Wait + Sync>(
     let workload = parse(alloc, text).ok()?;
     let config = Config::new(0, workload.bounds(), 20_000, 4_096, false).ok()?;
     let (closed, ending) = live(rt, alloc, &workload, config, gate).ok()?;
-    Some(looks_as(&closed, shown) && ending == shown.ending)
+    Some(looks_as(&closed, workload.label_names(), shown) && ending == shown.ending)
 }
 
 #[test]

@@ -5,7 +5,7 @@ use std::io::ErrorKind;
 use std::process::Abort;
 use std::test::Fail;
 use velo_command::{end_without_words, help};
-use velo_events::Refusal;
+use velo_events::{MOST_EVENTS, MOST_NODES, MOST_THREADS, Refusal};
 use velo_logtext::Text;
 
 /// Right words, with the status and standard error: of the two logs one raises an alarm at its last event.
@@ -127,6 +127,35 @@ fn help_goes_to_standard_output(rt: HostRuntime) {
         let shown = show(&rt, words, &mut folder);
         compare_help(&rt, &shown, end);
         drop(shown);
+    }
+    drop(folder);
+}
+
+/// The words of a command's help before a limit and after it.
+const LIMITS: [(&str, &str, u32, &str); 7] = [
+    ("check", "have, 1 to ", MOST_EVENTS, " ["),
+    ("check", "one time, 1 to ", MOST_NODES as u32, " ["),
+    ("replay", "have, 1 to ", MOST_EVENTS, " ["),
+    ("replay", "one time, 1 to ", MOST_NODES as u32, " ["),
+    ("replay", "from 0 to ", MOST_THREADS as u32 - 1, ","),
+    ("run", "have, 1 to ", MOST_EVENTS, " ["),
+    ("run", "one time, 1 to ", MOST_NODES as u32, " ["),
+];
+
+/// Whether these words stand in what went to standard output.
+fn has_words(shown: &Shown, words: &str) -> bool {
+    let out = str::from_utf8(shown.out.as_slice());
+    out.is_ok_and(|help| help.contains(words))
+}
+
+#[test]
+fn help_has_the_limits(rt: HostRuntime) {
+    let mut folder = Folder::new(rt.alloc(), &FILES, usize::MAX);
+    for (command, before, limit, after) in LIMITS {
+        let shown = show(&rt, &["velodrome", command, "--help"], &mut folder);
+        let words = format!(in rt.alloc(); "{before}{limit}{after}").expect(&rt, "memory");
+        assert!(rt; has_words(&shown, words.as_str()), "{command}: {words}");
+        drop((shown, words));
     }
     drop(folder);
 }

@@ -190,6 +190,61 @@ fn writes_to_files_fail(rt: HostRuntime) {
     }
 }
 
+/// What the program shows of the lost update cut off behind so many whole lines, and within the next one.
+const CUT_OFF: [(&str, &str); 6] = [
+    ("", "log fault 1\n"),
+    (
+        "events 0\nthread 0 0\nthread 1 0\nverdict clean\n",
+        "log fault 3 line 2\n",
+    ),
+    (
+        "events 1\nthread 0 1\nthread 1 0\nverdict clean\n",
+        "log fault 3 line 3\n",
+    ),
+    (
+        "events 2\nthread 0 2\nthread 1 0\nverdict clean\n",
+        "log fault 3 line 4\n",
+    ),
+    (
+        "events 3\nthread 0 3\nthread 1 0\nverdict clean\n",
+        "log fault 3 line 5\n",
+    ),
+    (
+        "events 4\nthread 0 3\nthread 1 1\nverdict clean\n",
+        "log fault 3 line 6\n",
+    ),
+];
+
+/// Checks the beginning of a log of which this is to be shown, behind its last line or within it.
+fn check_cut_off<R: Threads + Wait + Abort + Sync>(
+    rt: &R,
+    alloc: Global,
+    log: &[u8],
+    (report, fault): (&str, &str),
+) {
+    let mut devices = Devices::new(alloc, log);
+    let words = ["velodrome", "check", "a.log"];
+    let shown = show(rt, &words, &mut devices, usize::MAX);
+    if log.ends_with(b"\n") {
+        compare(rt, &shown, report, "", 0, fault);
+    } else {
+        compare(rt, &shown, "", fault, 2, fault);
+    }
+    drop((shown, devices));
+}
+
+#[test]
+fn logs_are_cut_off_at_each_byte(rt: HostRuntime) {
+    let log = LOST_UPDATE.as_bytes();
+    assert_eq!(rt; log.len(), 59);
+    for count in 0..log.len() {
+        let front = &log[..count];
+        let lines = front.iter().filter(|byte| **byte == b'\n').count();
+        let wanted = CUT_OFF.get(lines).expect(&rt, "few lines");
+        check_cut_off(&rt, rt.alloc(), front, *wanted);
+    }
+}
+
 /// Bytes that spoil a text in ways that matter.
 const BYTES: &[u8] = b"0123456789 \n\r\tabdefgijklnoqrtwx#_-\0\xff";
 

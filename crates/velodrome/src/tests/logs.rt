@@ -1,4 +1,5 @@
 //! Logs are checked, explained and certified.
+use crate::tests::workloads::COLLIDING_LOG;
 use crate::tests::{Folder, LOST_UPDATE, LOST_UPDATE_CERTIFIED, LOST_UPDATE_REPORT, compare, show};
 use std::alloc::Global;
 use std::process::Abort;
@@ -12,12 +13,18 @@ use velo_program::check_run;
 const MERGED: &str =
     "vlog 1 2 1 0\n0 fork 1\n0 begin 1\n0 wr 0 1\n1 rd 0 1\n1 rd 0 1\n1 rd 0 1\n0 end\n";
 
+/// The lost update, after whose alarm two blocks are open at a time.
+const AFTER_THE_ALARM: &str =
+    "vlog 1 2 1 0\n0 fork 1\n0 begin 7\n0 rd 0 0\n1 wr 0 5\n0 wr 0 1\n0 end\n1 begin 1\n0 begin 2\n";
+
 /// Words that check a log.
 const PLAIN: &[&str] = &["velodrome", "check", "a.log"];
 
 const ONE_EVENT: &[&str] = &["velodrome", "check", "--events", "1", "a.log"];
 
 const ONE_NODE: &[&str] = &["velodrome", "check", "--nodes", "1", "a.log"];
+
+const TWO_NODES: &[&str] = &["velodrome", "check", "--nodes", "2", "a.log"];
 
 /// What the program does with a log.
 struct Run {
@@ -28,7 +35,7 @@ struct Run {
     status: u8,
 }
 
-static RUNS: [Run; 30] = [
+static RUNS: [Run; 36] = [
     Run {
         words: PLAIN,
         log: "vlog 1 1 0 0\n",
@@ -75,6 +82,20 @@ static RUNS: [Run; 30] = [
         words: PLAIN,
         log: "vlog 1 2 1 0\n0 fork 1\n0 begin 1\n0 wr 0 1\n1 rd 0 1\n0 wr 0 2\n",
         out: "events 5\nthread 0 4\nthread 1 1\nverdict alarm 4\ntransaction 1\nblame 1 1\n",
+        err: "",
+        status: 3,
+    },
+    Run {
+        words: PLAIN,
+        log: "vlog 1 3 3 0\n0 fork 1\n0 fork 2\n0 begin 1\n0 wr 0 1\n0 begin 2\n1 rd 0 1\n1 wr 1 1\n2 rd 1 1\n2 wr 2 2\n0 rd 2 2\n",
+        out: "events 10\nthread 0 6\nthread 1 2\nthread 2 2\nverdict alarm 9\ntransaction 2\nblame 2 1\n",
+        err: "",
+        status: 3,
+    },
+    Run {
+        words: PLAIN,
+        log: COLLIDING_LOG,
+        out: "events 9\nthread 0 7\nthread 1 2\nverdict alarm 4\ntransaction 1\nblame 1 0\n",
         err: "",
         status: 3,
     },
@@ -177,6 +198,13 @@ static RUNS: [Run; 30] = [
         status: 4,
     },
     Run {
+        words: &["velodrome", "check", "--events", "3", "a.log"],
+        log: LOST_UPDATE,
+        out: "",
+        err: "refused 17 at 3\n",
+        status: 4,
+    },
+    Run {
         words: ONE_EVENT,
         log: "vlog 1 1 1 0\n0 wr 0 5\n0 rd 0 4\n",
         out: "",
@@ -212,7 +240,7 @@ static RUNS: [Run; 30] = [
         status: 4,
     },
     Run {
-        words: &["velodrome", "check", "--nodes", "2", "a.log"],
+        words: TWO_NODES,
         log: MERGED,
         out: "events 7\nthread 0 4\nthread 1 3\nverdict clean\n",
         err: "",
@@ -221,6 +249,27 @@ static RUNS: [Run; 30] = [
     Run {
         words: ONE_NODE,
         log: MERGED,
+        out: "",
+        err: "refused 18 at 3\n",
+        status: 4,
+    },
+    Run {
+        words: ONE_NODE,
+        log: "vlog 1 1 0 0\n0 begin 1\n0 end\n0 begin 2\n0 end\n0 begin 3\n0 end\n",
+        out: "events 6\nthread 0 6\nverdict clean\n",
+        err: "",
+        status: 0,
+    },
+    Run {
+        words: TWO_NODES,
+        log: AFTER_THE_ALARM,
+        out: "events 8\nthread 0 6\nthread 1 2\nverdict alarm 4\ntransaction 1\nblame 1 7\n",
+        err: "",
+        status: 3,
+    },
+    Run {
+        words: ONE_NODE,
+        log: AFTER_THE_ALARM,
         out: "",
         err: "refused 18 at 3\n",
         status: 4,

@@ -27,7 +27,8 @@ const WAITING: &str =
 const COUNTING: &str =
     "var x\nlock m\nthread main\nfork a\nfork b\njoin a\njoin b\nread x\nthread a\nrepeat 100\nbegin l\nacquire m\nread x\nadd 1\nwrite x\nrelease m\nend\ndone\nthread b\nrepeat 100\nbegin l\nacquire m\nread x\nadd 1\nwrite x\nrelease m\nend\ndone\n";
 
-const COLLIDING_LOG: &str =
+/// The log of its replay, which is checked as well.
+pub const COLLIDING_LOG: &str =
     "vlog 1 2 1 0\n0 fork 1\n0 begin 0\n0 rd 0 0\n1 wr 0 5\n0 wr 0 1\n0 end\n1 exit\n0 join 1\n0 exit\n";
 
 const COLLIDING_REPORT: &str =
@@ -57,7 +58,7 @@ const UNSCHEDULED: &[&str] = &["velodrome", "replay", "w"];
 
 const LIVE: &[&str] = &["velodrome", "run", "w"];
 
-static WORKS: [Work; 26] = [
+static WORKS: [Work; 27] = [
     Work {
         words: REPLAYED,
         workload: COLLIDING,
@@ -98,6 +99,14 @@ static WORKS: [Work; 26] = [
         err: "stuck\n",
         log: "",
         status: 4,
+    },
+    Work {
+        words: UNSCHEDULED,
+        workload: "thread main",
+        out: "events 1\nthread 0 main 1\nverdict clean\n",
+        err: "",
+        log: "",
+        status: 0,
     },
     Work {
         words: &["velodrome", "replay", "w", "--certificate"],
