@@ -16,7 +16,7 @@ use velo_logtext::{Sink, write_all};
 use velo_program::{DEVICE_FAILED, Fate, end_with};
 
 /// The status of a fault of usage.
-pub const BAD_USAGE: u8 = 2;
+const BAD_USAGE: u8 = 2;
 
 /// Tells an error of the words: help on the one sink, a fault of usage on the other. Answers the status to end with.
 pub fn tell_error<O: Sink, E: Sink>(alloc: Global, error: &Error, out: &mut O, err: &mut E) -> u8
