@@ -1,5 +1,11 @@
 mod OnBuilding
 pub mod OnCommandLine
 mod OnAsked
+mod OnWalk
+mod OnStop
+mod OnRows
+mod OnLimits
+mod OnRight
+mod OnRequest
 mod OnRunning
 mod OnWords

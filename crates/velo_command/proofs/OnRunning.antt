@@ -6,22 +6,34 @@ use Rattle.clap.specs.declared.error.kind.ErrorKind.TheVariants.{DisplayHelp, Di
 use Rattle.clap.specs.declared.parser.matches.ArgMatches.{ArgMatches}
 use Rattle.velo_program.specs.declared.fate.Fate.{Fate}
 use Rattle.velo_program.specs.declared.request.Request.{Request}
+use Rattle.velo_command.specs.Asked.{AsksForNothing}
 use Rattle.velo_command.specs.CommandLine.{asked_by, command_line, faults_of}
-use Rattle.velo_command.specs.Running.{DoesAsked, Runs}
+use Rattle.velo_command.specs.Running.{DoesRequest, Runs}
 use Rattle.velo_command.specs.Usage.{IsTold, LacksMemory, TellsError}
 use Rattle.velo_command.proofs.OnCommandLine.{line_is_simple, line_is_simple_and_free}
+use Rattle.velo_command.proofs.OnRequest.{faultless_asks}
+
+-- matches of words that were taken ask for a request
+pub matches_ask : (line : App) (words : List Text) (m : ArgMatches) → line ≡ command_line → HasMatchesOf line words m
+    → (is_simple_and_free line ≡ true → fault_of line words ≡ []) → ¬ AsksForNothing (subcommand_rows_of m)
+unfolding faults_of asked_by
+matches_ask line words m is matches faultless nothing =
+    let same : subcommand_rows_of m ≡ subcommand_of command_line words =
+    (subst (λ (x : App). HasMatchesOf x words m) is matches line_is_simple).1 in
+    faultless_asks words (subst (λ (x : App). is_simple_and_free x ≡ true → fault_of x words ≡ []) is faultless line_is_simple_and_free)
+    (subst AsksForNothing same nothing)
 
 -- the words were taken, and what they ask for was done
 pub runs_asked : (line : App) (words : List Text) (m : ArgMatches) (Done : Request → Fate → Type 0) (Shown : List ℕ → (ℕ → List ℕ → Type 0) → Type 0) (Kept : Type 0) (Ended : ℕ → List ℕ → Type 0)
     → line ≡ command_line → HasMatchesOf line words m → (is_simple_and_free line ≡ true → fault_of line words ≡ [])
-    → DoesAsked (subcommand_rows_of m) Done Kept Ended → Runs (faults_of words) (asked_by words) Done Shown Kept Ended
+    → DoesRequest (subcommand_rows_of m) Done Ended → Runs (faults_of words) (asked_by words) Done Shown Kept Ended
 unfolding faults_of asked_by
 runs_asked line words m Done Shown Kept Ended is matches faultless does =
     let same : subcommand_rows_of m ≡ subcommand_of command_line words =
     (subst (λ (x : App). HasMatchesOf x words m) is matches line_is_simple).1 in
     inl (
       subst (λ (x : App). is_simple_and_free x ≡ true → fault_of x words ≡ []) is faultless line_is_simple_and_free,
-      subst (λ asked. DoesAsked asked Done Kept Ended) same does,
+      subst (λ asked. DoesRequest asked Done Ended) same does,
     )
 
 -- what was told with nothing changed was told with a further thing unchanged

@@ -5,8 +5,8 @@ use Rattle.clap.specs.declared.error.kind.ErrorKind.{ErrorKind}
 use Rattle.velo_program.specs.Fate.{line_of, status_of}
 use Rattle.velo_program.specs.declared.fate.Fate.{Fate}
 use Rattle.velo_program.specs.declared.request.Request.{Request}
-use Rattle.velo_command.specs.Asked.{AsksFor, AsksForNothing}
-use Rattle.velo_command.specs.Usage.{IsTold, LacksMemory, bad_usage}
+use Rattle.velo_command.specs.Asked.{AsksFor}
+use Rattle.velo_command.specs.Usage.{IsTold, LacksMemory}
 
 -- a request that was asked for was done, and the end is that of what it came to
 pub record DoesRequest (asked : Option (Text × List Row)) (Done : Request → Fate → Type 0) (Ended : ℕ → List ℕ → Type 0) : Type 0 where
@@ -16,16 +16,6 @@ pub record DoesRequest (asked : Option (Text × List Row)) (Done : Request → F
   pub done : Done request fate
   pub ended : Ended (status_of fate) (line_of fate)
 
--- no request was asked for, and all is kept as it was
-pub record IsUnasked (asked : Option (Text × List Row)) (Kept : Type 0) (Ended : ℕ → List ℕ → Type 0) : Type 0 where
-  pub nothing : AsksForNothing asked
-  pub kept : Kept
-  pub ended : Ended bad_usage []
-
--- what was asked for was done, or nothing was asked for
-abbrev pub DoesAsked : Option (Text × List Row) → (Request → Fate → Type 0) → Type 0 → (ℕ → List ℕ → Type 0) → Type 0
-DoesAsked asked Done Kept Ended = DoesRequest asked Done Ended ⊎ IsUnasked asked Kept Ended
-
 -- one of these faults was told; help and the version are among them
 pub record TellsFault (faults : Kinds) (Shown : List ℕ → (ℕ → List ℕ → Type 0) → Type 0) (Kept : Type 0) (Ended : ℕ → List ℕ → Type 0) : Type 0 where
   pub kind : ErrorKind
@@ -34,5 +24,5 @@ pub record TellsFault (faults : Kinds) (Shown : List ℕ → (ℕ → List ℕ �
 
 -- the words have no fault, and what they ask for was done; or one of their faults was told; or memory ran out before
 abbrev pub Runs : Kinds → Option (Text × List Row) → (Request → Fate → Type 0) → (List ℕ → (ℕ → List ℕ → Type 0) → Type 0) → Type 0 → (ℕ → List ℕ → Type 0) → Type 0
-Runs faults asked Done Shown Kept Ended = ((faults ≡ []) × DoesAsked asked Done Kept Ended)
+Runs faults asked Done Shown Kept Ended = ((faults ≡ []) × DoesRequest asked Done Ended)
     ⊎ (TellsFault faults Shown Kept Ended ⊎ LacksMemory Kept Ended)

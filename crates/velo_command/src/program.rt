@@ -8,14 +8,15 @@ ghost use Rattle.velo_program.specs.Paths.{ReadsAt, WritesAt};
 ghost use Rattle.velo_program.specs.Program.{Does};
 ghost use Rattle.velo_program.specs.Writing.{writing};
 ghost use Rattle.velo_program.specs.declared.fate.Fate.TheVariants as fate;
+ghost use Rattle.velo_command.specs.Asked.{AsksForNothing};
 ghost use Rattle.velo_command.specs.CommandLine.{asked_by, faults_of};
-ghost use Rattle.velo_command.specs.Running.{DoesAsked, Runs};
+ghost use Rattle.velo_command.specs.Running.{DoesRequest, Runs};
 ghost use Rattle.velo_command.specs.Usage.{ShowsHelp, bad_usage, not_utf8};
 
 use crate::arguments::command;
 use crate::growth::matches_of;
 use crate::requests::request_of;
-use crate::telling::{BAD_USAGE, tell_error, tell_fault};
+use crate::telling::{tell_error, tell_fault};
 use clap::ArgMatches;
 use std::alloc::Global;
 use std::convert::AsStr;
@@ -64,7 +65,7 @@ pub fn run<R: Threads + Wait + Sync, F: Files, W: AsStr, O: Sink, E: Sink>(
     }
 }
 
-/// Does what the matches ask for, and answers the status to end with.
+/// Does what the matches ask for, and answers the status to end with. Behind words without a fault they ask for something.
 fn do_asked<R: Threads + Wait + Sync, F: Files, O: Sink, E: Sink>(
     rt: &R,
     alloc: Global,
@@ -73,17 +74,17 @@ fn do_asked<R: Threads + Wait + Sync, F: Files, O: Sink, E: Sink>(
     out: &mut O,
     err: &mut E,
 ) -> u8
-    ensures { DoesAsked (subcommand_rows_of matches.now)
+    requires { ¬ AsksForNothing (subcommand_rows_of matches.now) }
+    ensures { DoesRequest (subcommand_rows_of matches.now)
         (λ request came_to. AnswersWithCause request came_to
         × Does (ReadsAt (F.gives_at files.old) F.Input.remaining F.Input.failures (F.gives files.old) F.StandardInput.remaining F.StandardInput.failures)
         (F.fails_at files.old) (WritesAt (F.takes_at files.old) F.Output.contents F.Output.failures)
         request (writing O.contents O.failures out.old out.new) came_to)
-        ((files.new ≡ files.old) × (out.new ≡ out.old))
         (λ status text. Ends status text (E.contents err.old) (E.contents err.new) (E.failures err.old) (E.failures err.new) result) }
 {
     match request_of(matches) {
         Some(request) => end_with(&do_request(rt, alloc, &request, files, out), err),
-        None => BAD_USAGE,
+        None => unreachable!(),
     }
 }
 

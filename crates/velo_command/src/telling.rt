@@ -17,7 +17,7 @@ use velo_program::status::{DONE, FAILED};
 use velo_program::{Fate, end_with};
 
 /// The status of a fault of usage.
-pub const BAD_USAGE: u8 = 2;
+const BAD_USAGE: u8 = 2;
 
 /// Tells an error of the words: help on the one sink, a fault of usage on the other. Answers the status to end with.
 pub fn tell_error<O: Sink, E: Sink>(alloc: Global, error: &Error, out: &mut O, err: &mut E) -> u8

@@ -1,6 +1,10 @@
 use Rattle.std.proofs.Common.{refl, rules}
-use Rattle.velo_command.proofs.OnRunning.{runs_asked, runs_told}
+use Rattle.velo_command.proofs.OnRunning.{matches_ask, runs_asked, runs_told}
 use Rattle.velo_command.proofs.program.run.Goals as goal
+
+pub do_asked-status-requires-after_bounds : goal.do_asked-status-requires-after_bounds
+do_asked-status-requires-after_bounds g c κs within =
+    matches_ask _ _ _ c.in-Ok.ensures.reads c.in-Ok-matches_of.ensures.ok c.in-Ok-matches_of.ensures.kinds
 
 pub returns-in-Ok-matches_of : goal.returns-in-Ok-matches_of
 returns-in-Ok-matches_of g c =

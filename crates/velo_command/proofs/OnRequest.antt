@@ -1,0 +1,115 @@
+-- The request that right words ask for.
+use Rattle.std.proofs.Common.{◌≡◌, ◌≤◌, ◌<◌, ◌^◌, Bool, false, refl, sym, ap, arith, subst, inl, inr, List, [], Option, Some, None, codes, Bor}
+use Rattle.std.specs.Prelude.{option_map, unwrap_or}
+use Rattle.std.specs.Option.{option_map_or}
+use Rattle.std.specs.Str.{bytes_eq}
+use Rattle.std.specs.Str.Parse.{digits_value, without_leading_plus}
+use Rattle.clap.specs.Words.{Row, Text, first_of, one_of}
+use Rattle.velo_program.specs.declared.request.Limits.{Limits}
+use Rattle.velo_program.specs.declared.request.CheckOptions.{CheckOptions}
+use Rattle.velo_program.specs.declared.request.RunOptions.{RunOptions}
+use Rattle.velo_program.specs.declared.request.ReplayOptions.{ReplayOptions}
+use Rattle.velo_program.specs.declared.request.ExplainOptions.{ExplainOptions}
+use Rattle.velo_program.specs.declared.request.Request.{Request}
+use Rattle.velo_program.specs.declared.request.Request.TheVariants.{Check, Replay, Run, Explain}
+use Rattle.velo_command.specs.Asked.{AreLimits, AsksFor, AsksForNothing, IsCheck, IsExplanation, IsFlag, IsReplay, IsRun, WritesNumber}
+use Rattle.velo_command.specs.CommandLine.{asked_by, faults_of}
+use Rattle.velo_command.proofs.OnLimits.{HasWord}
+use Rattle.velo_command.proofs.OnRight.{HasLimits, IsRight, faultless_is_right}
+
+-- ---- the parts of a request
+
+a_path : Text → Bor Text
+a_path text = record { ref_ptr = (0, 0); now = text }
+
+a_path_if : Option Text → Option (Bor Text)
+a_path_if = option_map a_path
+
+path_of : (text : Option Text) → text ≡ option_map (λ path. path.now) (a_path_if text)
+unfolding a_path a_path_if
+path_of None = refl
+path_of (Some text) = refl
+
+abbrev is_true : Option Text → Bool
+is_true text = option_map_or (λ t. bytes_eq t (codes "true")) text false
+
+is_flag : (text : Option Text) → IsFlag text (is_true text)
+is_flag text = (λ e. ap is_true e, λ e. ap is_true e, λ e. ap is_true e)
+
+a_limits : (rows : List Row) → HasLimits rows → (limits : Limits) × AreLimits rows limits
+a_limits rows has =
+    let events = digits_value 10 (without_leading_plus has.0.0) in
+    let nodes = digits_value 10 (without_leading_plus has.1.0) in
+    let few_events : events ≤ 16777216 = has.0.2.2 in
+    let few_nodes : nodes ≤ 4096 = has.1.2.2 in
+    let events_fit : events < 2 ^ 32 = omega arith in
+    let nodes_fit : nodes < 2 ^ 16 = omega arith in (
+      record { events = events; nodes = nodes; some_event = has.0.2.1; few_events = few_events; some_node = has.1.2.1; few_nodes = few_nodes },
+      (
+        subst (λ text. WritesNumber 32 text events) (sym has.0.1) (has.0.2.0, events_fit, refl),
+        subst (λ text. WritesNumber 16 text nodes) (sym has.1.1) (has.1.2.0, nodes_fit, refl),
+      ),
+    )
+
+-- ---- the request
+
+a_check : (rows : List Row) → HasWord (codes "LOG") rows → HasLimits rows → (options : CheckOptions) × IsCheck rows options
+unfolding a_path
+a_check rows word has =
+    let limits = a_limits rows has in (
+      record { log = a_path word.0; limits = limits.0; certificate = is_true (one_of (codes "certificate") rows) },
+      (word.1, limits.1, is_flag (one_of (codes "certificate") rows)),
+    )
+
+a_run : (rows : List Row) → HasWord (codes "FILE") rows → HasLimits rows → (options : RunOptions) × IsRun rows options
+unfolding a_path
+a_run rows word has =
+    let limits = a_limits rows has in (
+      record {
+        file = a_path word.0;
+        stop = is_true (one_of (codes "stop") rows);
+        log = a_path_if (first_of (codes "log") rows);
+        limits = limits.0;
+        certificate = is_true (one_of (codes "certificate") rows);
+      },
+      (
+        word.1,
+        is_flag (one_of (codes "stop") rows),
+        path_of (first_of (codes "log") rows),
+        limits.1,
+        is_flag (one_of (codes "certificate") rows),
+      ),
+    )
+
+a_replay : (rows : List Row) → HasWord (codes "FILE") rows → HasLimits rows → (options : ReplayOptions) × IsReplay rows options
+unfolding a_path
+a_replay rows word has =
+    let run = a_run rows word has in
+    (record { schedule = a_path (unwrap_or (first_of (codes "schedule") rows) []); run = run.0 }, (refl, run.1))
+
+an_explanation : (rows : List Row) → HasWord (codes "LOG") rows → (options : ExplainOptions) × IsExplanation rows options
+unfolding a_path
+an_explanation rows word =
+    (record { log = a_path word.0; dot = a_path_if (first_of (codes "dot") rows) }, (word.1, path_of (first_of (codes "dot") rows)))
+
+right_asks : (found : Text × List Row) → IsRight found → (request : Request) × AsksFor (Some found) request
+right_asks found (inl is) =
+    let options = a_check found.1 is.1 is.2 in
+    (Check options.0, (is.0, options.1))
+right_asks found (inr (inl is)) =
+    let options = a_replay found.1 is.1 is.2 in
+    (Replay options.0, (is.0, options.1))
+right_asks found (inr (inr (inl is))) =
+    let options = a_run found.1 is.1 is.2 in
+    (Run options.0, (is.0, options.1))
+right_asks found (inr (inr (inr is))) =
+    let options = an_explanation found.1 is.1 in
+    (Explain options.0, (is.0, options.1))
+
+-- words without a fault ask for a request
+pub faultless_asks : (words : List Text) → faults_of words ≡ [] → ¬ AsksForNothing (asked_by words)
+unfolding faults_of asked_by
+faultless_asks words e nothing =
+    let right = faultless_is_right words e in
+    let asks = right_asks right.0 right.2 in
+    nothing asks.0 (subst (λ found. AsksFor found asks.0) (sym right.1) asks.1)

@@ -1,0 +1,194 @@
+-- Right words ask for a request: without a fault they name a subcommand, its word is there, and its limits are numbers in
+-- their ranges.
+use Rattle.std.proofs.Common.{◌≡◌, ◌∙◌, ◌⊎◌, ◌||◌, Bool, true, false, refl, sym, ap, inl, inr, List, [], ◌∷◌, Option, Some, None, true≢false, is_some, codes}
+use Rattle.std.specs.Prelude.{find, option_map}
+use Rattle.std.specs.Option.{option_map_or}
+use Rattle.std.specs.Str.{bytes_eq}
+use Rattle.std.proofs.lemmas.Slice.Eq.{bytes_eq-Decides}
+use Rattle.clap.specs.Walk.{Row, Rule, Text, answers_to, finished, has_row, nothing_held, reading_by, rows_after, settled, walk, walk_from}
+use Rattle.clap.specs.Simple.{App, Shape, argument_words, built, built_leaf, entered, filled, help_rule, inherited, label_of, names_of, rows_at, subcommand_of, with_index}
+use Rattle.clap.specs.Takes.{is_given}
+use Rattle.clap.specs.Faults.{built_fault, defaults_fault, entered_fault, fault_of, level_fault, settle_fault, values_fault, walk_fault}
+use Rattle.clap.specs.declared.parser.matches.ValueSource.{ValueSource}
+use Rattle.velo_events.specs.declared.limits.TheConstants.{MOST_EVENTS, MOST_NODES}
+use Rattle.velo_command.specs.CommandLine.{check, command_line, events, explain, flag, nodes, replay, run, valued, word}
+use Rattle.velo_command.proofs.OnWalk.{Each, found_has, level_keeps, neither}
+use Rattle.velo_command.proofs.OnStop.{StopsNotAtHelp, walk_stops}
+use Rattle.velo_command.proofs.OnRows.{IsFilled, MakesRows, default_keeps, defaults_have, is_plain, new_row, required_given, row_given, row_there, subcommand_there, used_keeps}
+use Rattle.velo_command.proofs.OnLimits.{HasLimit, HasWord, IsAccepted, limit_read, word_read}
+
+-- ---- the subcommand
+
+-- the words without a fault enter this subcommand, whose level has no fault
+abbrev Enters : App → Option (Text × List Text) → Type 0
+Enters a stop = (p : Text × List Text) × (s : Shape) × (find (λ x. answers_to p.0 (label_of x)) a.subs ≡ Some s) × (bytes_eq p.0 (codes "help") ≡ false)
+    × (level_fault s [] nothing_held p.1 false [] ≡ []) × (entered a stop ≡ Some (rows_at s p.1))
+
+enters : (a : App) (stop : Option (Text × List Text)) → StopsNotAtHelp stop → is_some (entered a stop) ≡ true → entered_fault a stop ≡ [] → Enters a stop
+enters a None stops has e = absurd (true≢false (sym has))
+enters a (Some p) stops has e = go (find (λ x. answers_to p.0 (label_of x)) a.subs) refl has e
+  where
+    go : (o : Option Shape) → find (λ x. answers_to p.0 (label_of x)) a.subs ≡ o → is_some (option_map (λ s. rows_at s p.1) o) ≡ true
+        → option_map_or (λ s. level_fault s [] nothing_held p.1 false []) o [] ≡ [] → Enters a (Some p)
+    go None found has e = absurd (true≢false (sym has))
+    go (Some s) found has e = (p, s, found, stops, e, ap (option_map (λ s. rows_at s p.1)) found)
+
+-- a command with `help` that asks for a subcommand enters one
+faultless_enters : (a : App) (words : List Text) → a.top.disable_help_subcommand ≡ false → a.top.subcommand_required ≡ true → built_fault a nothing_held words ≡ []
+    → Enters a (walk a.top.rules (names_of a) nothing_held words).stopped
+faultless_enters a words enabled required e =
+    let end = walk a.top.rules (names_of a) nothing_held words in
+    let walk_part = neither (walk_fault a.top (names_of a) (walk_from nothing_held) words) _ e in
+    let below_part = neither (entered_fault a end.stopped) _ walk_part.1 in
+    let settle_part = neither (settle_fault a.top.rules a.top.args_override_self end.held) _ below_part.1 in
+    let defaults_part = neither (defaults_fault (settled a.top.rules end.held).rows a.top.rules) _ settle_part.1 in
+    enters a end.stopped (walk_stops a.top enabled (names_of a) (walk_from nothing_held) words walk_part.0 tt)
+    (subcommand_there a.top (finished a.top.rules end.held) _ required defaults_part.1) below_part.0
+
+-- ---- the level of a subcommand
+
+-- the row has a value, and is accepted where it is that of a limit
+abbrev Passes : List Rule → Row → Type 0
+Passes limits r = IsFilled r.values × Each (λ l. IsAccepted l r) limits
+
+-- a plain argument that is one of the limits, or has another name
+makes : (limits : List Rule) (a : Rule) → is_plain a ≡ true → Each (λ l. (bytes_eq a.id l.id ≡ false) ⊎ (a ≡ l)) limits → MakesRows (Passes limits) a
+makes limits a plain each = (plain, λ source values some fault. (some, go source values fault limits each))
+  where
+    one : (source : ValueSource) (values : List Text) → values_fault a values ≡ [] → (l : Rule) → (bytes_eq a.id l.id ≡ false) ⊎ (a ≡ l)
+        → IsAccepted l (new_row a.id (reading_by a) source values)
+    one source values fault l (inl apart) same = absurd (true≢false (sym same ∙ apart))
+    one source values fault l (inr is) same = (ap reading_by is, rw is at fault)
+
+    go : (source : ValueSource) (values : List Text) → values_fault a values ≡ [] → (ls : List Rule) → Each (λ l. (bytes_eq a.id l.id ≡ false) ⊎ (a ≡ l)) ls
+        → Each (λ l. IsAccepted l (new_row a.id (reading_by a) source values)) ls
+    go source values fault [] each = tt
+    go source values fault (l ∷ ls) each = (one source values fault l each.0, go source values fault ls each.1)
+
+-- what a level without a fault has: rows that pass, what has to be given, and what has a default
+pub record HasLevel (limits : List Rule) (s : Shape) (rows : List Row) : Type 0 where
+  pub passes : Each (Passes limits) rows
+  pub given : Each (λ a. a.required ≡ true → is_given a.id rows ≡ true) s.rules
+  pub defaults : Each (λ a. IsFilled a.defaults → has_row a.id rows ≡ true) s.rules
+
+level_has : (limits : List Rule) (s : Shape) (words : List Text) → s.args_override_self ≡ false → Each (MakesRows (Passes limits)) s.rules
+    → level_fault s [] nothing_held words false [] ≡ [] → HasLevel limits s (rows_after s.rules [] words)
+level_has limits s words once plain e =
+    let keeps = level_keeps (Each (Passes limits)) (MakesRows (Passes limits)) s (used_keeps (Passes limits) s.args_override_self once) (default_keeps (Passes limits))
+    plain [] words false [] tt e in
+    record {
+      passes = keeps.0;
+      given = required_given s (rows_after s.rules [] words) keeps.1;
+      defaults = defaults_have (settled s.rules (walk s.rules [] nothing_held words).held).rows s.rules;
+    }
+
+-- ---- the subcommands of the program
+
+-- its limits, and both are read
+abbrev limits : List Rule
+limits = filled events ∷ filled nodes ∷ []
+
+abbrev pub HasLimits : List Row → Type 0
+HasLimits rows = HasLimit (codes "events") MOST_EVENTS rows × HasLimit (codes "nodes") MOST_NODES rows
+
+word_there : (id : Text) (rows : List Row) → Each (Passes limits) rows → is_given id rows ≡ true → HasWord id rows
+word_there id rows passes given = word_read (Passes limits) id rows (λ r holds. holds.0) (row_given (Passes limits) id rows passes given)
+
+limits_there : (rows : List Row) → Each (Passes limits) rows → has_row (codes "events") rows ≡ true → has_row (codes "nodes") rows ≡ true → HasLimits rows
+limits_there rows passes events_there nodes_there = (
+  limit_read (Passes limits) (filled events) MOST_EVENTS rows (λ r holds. (holds.0, holds.1.0)) refl (row_there (Passes limits) (codes "events") rows passes events_there),
+  limit_read (Passes limits) (filled nodes) MOST_NODES rows (λ r holds. (holds.0, holds.1.1.0)) refl (row_there (Passes limits) (codes "nodes") rows passes nodes_there),
+)
+
+-- each argument is plain
+makes_word : (name : Text) → bytes_eq name (codes "events") ≡ false → bytes_eq name (codes "nodes") ≡ false → MakesRows (Passes limits) (with_index 1 (filled (word name)))
+makes_word name events_apart nodes_apart = makes limits (with_index 1 (filled (word name))) refl (inl events_apart, (inl nodes_apart, tt))
+
+makes_valued : (name : Text) → bytes_eq name (codes "events") ≡ false → bytes_eq name (codes "nodes") ≡ false → MakesRows (Passes limits) (filled (valued name))
+makes_valued name events_apart nodes_apart = makes limits (filled (valued name)) refl (inl events_apart, (inl nodes_apart, tt))
+
+makes_flag : (name : Text) → bytes_eq name (codes "events") ≡ false → bytes_eq name (codes "nodes") ≡ false → MakesRows (Passes limits) (filled (flag name))
+makes_flag name events_apart nodes_apart = makes limits (filled (flag name)) refl (inl events_apart, (inl nodes_apart, tt))
+
+makes_events : MakesRows (Passes limits) (filled events)
+makes_events = makes limits (filled events) refl (inr refl, (inl refl, tt))
+
+makes_nodes : MakesRows (Passes limits) (filled nodes)
+makes_nodes = makes limits (filled nodes) refl (inl refl, (inr refl, tt))
+
+makes_help : MakesRows (Passes limits) (filled help_rule)
+makes_help = makes limits (filled help_rule) refl (inl refl, (inl refl, tt))
+
+-- the subcommand as it is built
+abbrev leaf : Shape → Shape
+leaf s = built_leaf (inherited command_line.top s)
+
+abbrev rows_of_leaf : Shape → List Text → List Row
+rows_of_leaf s words = rows_after (leaf s).rules [] words
+
+check_right : (words : List Text) → level_fault (leaf check) [] nothing_held words false [] ≡ [] → HasWord (codes "LOG") (rows_of_leaf check words) × HasLimits (rows_of_leaf check words)
+check_right words e =
+    let level = level_has limits (leaf check) words refl (makes_word (codes "LOG") refl refl, (makes_events, (makes_nodes, (makes_flag (codes "certificate") refl refl, (makes_help, tt))))) e in
+    (word_there (codes "LOG") (rows_of_leaf check words) level.passes (level.given.0 refl), limits_there (rows_of_leaf check words) level.passes (level.defaults.1.0 tt) (level.defaults.1.1.0 tt))
+
+run_right : (words : List Text) → level_fault (leaf run) [] nothing_held words false [] ≡ [] → HasWord (codes "FILE") (rows_of_leaf run words) × HasLimits (rows_of_leaf run words)
+run_right words e =
+    let level = level_has limits (leaf run) words refl (makes_word (codes "FILE") refl refl, (makes_flag (codes "stop") refl refl, (makes_valued (codes "log") refl refl, (makes_events, (makes_nodes, (makes_flag (codes "certificate") refl refl, (makes_help, tt))))))) e in (
+      word_there (codes "FILE") (rows_of_leaf run words) level.passes (level.given.0 refl),
+      limits_there (rows_of_leaf run words) level.passes (level.defaults.1.1.1.0 tt) (level.defaults.1.1.1.1.0 tt),
+    )
+
+replay_right : (words : List Text) → level_fault (leaf replay) [] nothing_held words false [] ≡ []
+    → HasWord (codes "FILE") (rows_of_leaf replay words) × HasLimits (rows_of_leaf replay words)
+replay_right words e =
+    let level = level_has limits (leaf replay) words refl (makes_word (codes "FILE") refl refl, (makes_valued (codes "schedule") refl refl, (makes_flag (codes "stop") refl refl, (makes_valued (codes "log") refl refl, (makes_events, (makes_nodes, (makes_flag (codes "certificate") refl refl, (makes_help, tt)))))))) e in (
+      word_there (codes "FILE") (rows_of_leaf replay words) level.passes (level.given.0 refl),
+      limits_there (rows_of_leaf replay words) level.passes (level.defaults.1.1.1.1.0 tt) (level.defaults.1.1.1.1.1.0 tt),
+    )
+
+explain_right : (words : List Text) → level_fault (leaf explain) [] nothing_held words false [] ≡ [] → HasWord (codes "LOG") (rows_of_leaf explain words)
+explain_right words e =
+    let level = level_has limits (leaf explain) words refl (makes_word (codes "LOG") refl refl, (makes_valued (codes "dot") refl refl, (makes_help, tt))) e in
+    word_there (codes "LOG") (rows_of_leaf explain words) level.passes (level.given.0 refl)
+
+-- ---- the words
+
+-- the subcommand is one of the program's, its word is there, and its limits are numbers in their ranges
+abbrev pub IsRight : Text × List Row → Type 0
+IsRight found = ((found.0 ≡ codes "check") × HasWord (codes "LOG") found.1 × HasLimits found.1)
+    ⊎ (((found.0 ≡ codes "replay") × HasWord (codes "FILE") found.1 × HasLimits found.1)
+    ⊎ (((found.0 ≡ codes "run") × HasWord (codes "FILE") found.1 × HasLimits found.1)
+    ⊎ ((found.0 ≡ codes "explain") × HasWord (codes "LOG") found.1)))
+
+-- the subcommand is right where its level has no fault and it is not entered as `help`
+abbrev IsRightAt : Text → List Text → Shape → Type 0
+IsRightAt name words s = answers_to name (label_of s) ≡ true → level_fault s [] nothing_held words false [] ≡ [] → IsRight (rows_at s words)
+
+not_help : (name : Text) → bytes_eq name (codes "help") ≡ false → answers_to name (codes "help", []) ≡ true → ⊥
+not_help name apart hit = true≢false (sym ((bytes_eq-Decides name (codes "help")).1 (sym ((bytes_eq-Decides (codes "help") name).0 (alone (bytes_eq (codes "help") name) hit)))) ∙ apart)
+  where
+    alone : (b : Bool) → (b || false) ≡ true → b ≡ true
+    alone true e = refl
+    alone false e = e
+
+each_right : (name : Text) (words : List Text) → bytes_eq name (codes "help") ≡ false → Each (IsRightAt name words) (built command_line).subs
+each_right name words apart = (
+  λ hit e. inl (refl, (check_right words e).0, (check_right words e).1),
+  (
+    λ hit e. inr (inl (refl, (replay_right words e).0, (replay_right words e).1)),
+    (
+      λ hit e. inr (inr (inl (refl, (run_right words e).0, (run_right words e).1))),
+      (λ hit e. inr (inr (inr (refl, explain_right words e))), (λ hit e. absurd (not_help name apart hit), tt)),
+    ),
+  ),
+)
+
+-- words without a fault ask for a request
+pub faultless_is_right : (words : List Text) → fault_of command_line words ≡ []
+    → (found : Text × List Row) × (subcommand_of command_line words ≡ Some found) × IsRight found
+faultless_is_right words e =
+    let at = faultless_enters (built command_line) (argument_words command_line words) refl refl e in
+    let p = at.0 in
+    let s = at.1 in
+    let is = found_has (IsRightAt p.0 p.1) (λ x. answers_to p.0 (label_of x)) (built command_line).subs s (each_right p.0 p.1 at.3) at.2 in
+    (rows_at s p.1, at.5, is.0 is.1 at.4)
