@@ -1,4 +1,5 @@
 ghost use Rattle.std.specs.Prelude.{◌≡◌};
+ghost use Rattle.velo_events.specs.declared.memory.Memory.{Memory};
 ghost use Rattle.velo_runtime.specs.declared.error.RunError.TheVariants as run_error;
 
 use crate::shared::Missing;
@@ -56,12 +57,16 @@ impl From<Memory> for RunError {
 }
 
 impl From<AllocError> for RunError {
+    ghost from_gives = { λ _ error. (memory : Memory) × (error ≡ run_error.Memory memory) };
+
     fn from(_error: AllocError) -> RunError {
         RunError::Memory(Memory)
     }
 }
 
 impl<T: Drop> From<AllocFailed<T>> for RunError {
+    ghost from_gives = { λ _ error. (memory : Memory) × (error ≡ run_error.Memory memory) };
+
     fn from(_error: AllocFailed<T>) -> RunError {
         RunError::Memory(Memory)
     }
