@@ -4,15 +4,13 @@ use Rattle.std.specs.Prelude.{slice_get, slice_index, slice_set}
 use Rattle.std.proofs.lemmas.Bool.{false≢true, le-ltb, lt-leb}
 use Rattle.std.proofs.lemmas.Option.{slice_get-get_or, same_Some}
 use Rattle.velo_events.specs.declared.event.Event.{Event}
-use Rattle.velo_events.specs.declared.event.VarId.{VarId}
-use Rattle.velo_events.specs.declared.event.LockId.{LockId}
+use Rattle.velo_events.specs.declared.event.Cell.{Cell}
 use Rattle.velo_events.specs.declared.event.ThreadId.{ThreadId}
-use Rattle.velo_events.specs.declared.event.Kind.{Kind}
-use Rattle.velo_events.specs.declared.event.Kind.TheVariants.{Read, Write, Acquire, Release, Begin, End, Fork, Join, Exit}
-use Rattle.velo_events.specs.About.{variable_written, thread_in, written_in, lock_in, is_about}
-use Rattle.velo_events.specs.Event.{thread_of, lock_of}
+use Rattle.velo_events.specs.declared.event.Access.{Access}
+use Rattle.velo_events.specs.declared.event.Access.TheVariants.{Shared, Exclusive, Nothing}
+use Rattle.velo_events.specs.About.{cell_written, thread_in, written_in, is_about}
+use Rattle.velo_events.specs.Event.{thread_of, access_of}
 use Rattle.velo_events.proofs.OnScans.{passes_at-event}
-use Rattle.velo_events.proofs.OnConflicts.{IsPlain}
 use Rattle.velo_traces.proofs.Past.{past}
 use Rattle.velo_certify.specs.declared.changes.Changes.{Changes}
 use Rattle.velo_certify.specs.Changes.{AreUnchanged, HasChanges, IsSwapped, TakesChanges, change_sizes}
@@ -27,7 +25,6 @@ HasChanges-none : (trace : List Event) (numbers : ℕ → ℕ) (c : Changes) →
 HasChanges-none trace numbers c none blank = record {
   threads = IsRow-none trace numbers none thread_in c.threads.items blank.threads;
   writes = IsRow-none trace numbers none written_in c.writes.items blank.writes;
-  locks = IsRow-none trace numbers none lock_in c.locks.items blank.locks;
 }
 
 pub HasChanges-before : (trace : List Event) (numbers : ℕ → ℕ) (c : Changes) → AreUnchanged c → HasChanges trace (numbers_before numbers 0) c
@@ -43,54 +40,33 @@ IsRow-raised : (trace : List Event) (numbers : ℕ → ℕ) (named : Event → O
 IsRow-raised trace numbers named row x a within is w = subst (IsGreatest trace numbers (is_about named x)) (sym is) (w.each x within)
 
 module _ (old : Changes) (number a : ℕ) where
-  pub swapped-read : (x : VarId) (v : ℕ) → x.0 < length old.writes.items → a ≡ slice_index old.writes.items x.0 → IsSwapped old (Read x v) number old a
-  swapped-read x v within is = record {
+  pub swapped-read : (x : Cell) → x.0 < length old.writes.items → a ≡ slice_index old.writes.items x.0 → IsSwapped old (Shared x) number old a
+  swapped-read x within is = record {
     threads = refl;
     writes = refl;
-    locks = refl;
-    found = λ trace numbers has. IsGreatest-same trace numbers (is_about written_in x.0) (strong_for (Read x v)) a (λ f. refl) (IsRow-raised trace numbers written_in old.writes.items x.0 a within is has.writes);
+    found = λ trace numbers has. IsGreatest-same trace numbers (is_about written_in x.0) (strong_for (Shared x)) a (λ f. refl) (IsRow-raised trace numbers written_in old.writes.items x.0 a within is has.writes);
   }
 
-  pub swapped-write : (x : VarId) (v : ℕ) (new : Changes) → new.threads.items ≡ old.threads.items → new.writes.items ≡ slice_set old.writes.items x.0 (max (slice_index old.writes.items x.0) number) → new.locks.items ≡ old.locks.items → x.0 < length old.writes.items → a ≡ slice_index old.writes.items x.0 → IsSwapped old (Write x v) number new a
-  swapped-write x v new threads writes locks within is = record {
+  pub swapped-write : (x : Cell) (new : Changes) → new.threads.items ≡ old.threads.items → new.writes.items ≡ slice_set old.writes.items x.0 (max (slice_index old.writes.items x.0) number) → x.0 < length old.writes.items → a ≡ slice_index old.writes.items x.0 → IsSwapped old (Exclusive x) number new a
+  swapped-write x new threads writes within is = record {
     threads = threads;
     writes = writes;
-    locks = locks;
-    found = λ trace numbers has. IsGreatest-same trace numbers (is_about written_in x.0) (strong_for (Write x v)) a (λ f. refl) (IsRow-raised trace numbers written_in old.writes.items x.0 a within is has.writes);
+    found = λ trace numbers has. IsGreatest-same trace numbers (is_about written_in x.0) (strong_for (Exclusive x)) a (λ f. refl) (IsRow-raised trace numbers written_in old.writes.items x.0 a within is has.writes);
   }
 
-  module _ (m : LockId) (new : Changes) (threads : new.threads.items ≡ old.threads.items) (writes : new.writes.items ≡ old.writes.items) (locks : new.locks.items ≡ slice_set old.locks.items m.0 (max (slice_index old.locks.items m.0) number)) (within : m.0 < length old.locks.items) (is : a ≡ slice_index old.locks.items m.0) where
-    pub swapped-acquire : IsSwapped old (Acquire m) number new a
-    swapped-acquire = record {
-      threads = threads;
-      writes = writes;
-      locks = locks;
-      found = λ trace numbers has. IsGreatest-same trace numbers (is_about lock_in m.0) (strong_for (Acquire m)) a (λ f. refl) (IsRow-raised trace numbers lock_in old.locks.items m.0 a within is has.locks);
-    }
-
-    pub swapped-release : IsSwapped old (Release m) number new a
-    swapped-release = record {
-      threads = threads;
-      writes = writes;
-      locks = locks;
-      found = λ trace numbers has. IsGreatest-same trace numbers (is_about lock_in m.0) (strong_for (Release m)) a (λ f. refl) (IsRow-raised trace numbers lock_in old.locks.items m.0 a within is has.locks);
-    }
-
   module _ (u : ThreadId) (within : u.0 < length old.threads.items) (is : a ≡ slice_index old.threads.items u.0) where
-    pub swapped-fork : IsSwapped old (Fork u) number old a
+    pub swapped-fork : IsSwapped old (Access.Fork u) number old a
     swapped-fork = record {
       threads = refl;
       writes = refl;
-      locks = refl;
-      found = λ trace numbers has. IsGreatest-same trace numbers (is_about thread_in u.0) (strong_for (Fork u)) a (λ f. refl) (IsRow-raised trace numbers thread_in old.threads.items u.0 a within is has.threads);
+        found = λ trace numbers has. IsGreatest-same trace numbers (is_about thread_in u.0) (strong_for (Access.Fork u)) a (λ f. refl) (IsRow-raised trace numbers thread_in old.threads.items u.0 a within is has.threads);
     }
 
-    pub swapped-join : IsSwapped old (Join u) number old a
+    pub swapped-join : IsSwapped old (Access.Join u) number old a
     swapped-join = record {
       threads = refl;
       writes = refl;
-      locks = refl;
-      found = λ trace numbers has. IsGreatest-same trace numbers (is_about thread_in u.0) (strong_for (Join u)) a (λ f. refl) (IsRow-raised trace numbers thread_in old.threads.items u.0 a within is has.threads);
+        found = λ trace numbers has. IsGreatest-same trace numbers (is_about thread_in u.0) (strong_for (Access.Join u)) a (λ f. refl) (IsRow-raised trace numbers thread_in old.threads.items u.0 a within is has.threads);
     }
 
 none-strong : (trace : List Event) (numbers : ℕ → ℕ) (test : Event → Bool) → ((f : Event) → test f ≡ false) → IsGreatest trace numbers test 0
@@ -99,26 +75,18 @@ none-strong trace numbers test none = record {
   reached = λ some. absurd (omega (arith, some));
 }
 
-pub swapped-plain : (old : Changes) (number : ℕ) (k : Kind) → IsPlain k → IsSwapped old k number old 0
-swapped-plain old number (Begin l) h = record { threads = refl; writes = refl; locks = refl; found = λ trace numbers has. none-strong trace numbers (strong_for (Begin l)) (λ f. refl) }
-swapped-plain old number End h = record { threads = refl; writes = refl; locks = refl; found = λ trace numbers has. none-strong trace numbers (strong_for End) (λ f. refl) }
-swapped-plain old number Exit h = record { threads = refl; writes = refl; locks = refl; found = λ trace numbers has. none-strong trace numbers (strong_for Exit) (λ f. refl) }
-swapped-plain old number _ h = absurd h
+pub swapped-plain : (old : Changes) (number : ℕ) → IsSwapped old Nothing number old 0
+swapped-plain old number = record { threads = refl; writes = refl; found = λ trace numbers has. none-strong trace numbers (strong_for Nothing) (λ f. refl) }
 
 -- ---- both in one
 
-placed-written : (c : Changes) (k : Kind) → HasPlaces (change_sizes c) k → IsPlaced c.writes.items (variable_written k)
-placed-written c (Write x v) h = h.0
+placed-written : (c : Changes) (k : Access) → HasPlaces (change_sizes c) k → IsPlaced c.writes.items (cell_written k)
+placed-written c (Exclusive x) h = h.0
 placed-written c _ h = tt
 
-placed-lock : (c : Changes) (k : Kind) → HasPlaces (change_sizes c) k → IsPlaced c.locks.items (lock_of k)
-placed-lock c (Acquire m) h = h
-placed-lock c (Release m) h = h
-placed-lock c _ h = tt
-
-pub TakesChanges-by : (trace : List Event) (n : ℕ) (e : Event) (number : ℕ) (old mid new : Changes) (other : ℕ) → n < length trace → slice_get trace n ≡ Some e → NamesRows (change_sizes old) e → IsSwapped old e.kind number mid other
-    → new.threads.items ≡ slice_set mid.threads.items (thread_of e) (max (slice_index mid.threads.items (thread_of e)) number) → new.writes.items ≡ mid.writes.items → new.locks.items ≡ mid.locks.items → TakesChanges trace n number old new other
-TakesChanges-by trace n e number old mid new other within here names swapped threads writes locks = record {
+pub TakesChanges-by : (trace : List Event) (n : ℕ) (e : Event) (number : ℕ) (old mid new : Changes) (other : ℕ) → n < length trace → slice_get trace n ≡ Some e → NamesRows (change_sizes old) e → IsSwapped old (access_of e.kind) number mid other
+    → new.threads.items ≡ slice_set mid.threads.items (thread_of e) (max (slice_index mid.threads.items (thread_of e)) number) → new.writes.items ≡ mid.writes.items → TakesChanges trace n number old new other
+TakesChanges-by trace n e number old mid new other within here names swapped threads writes = record {
   forward = λ numbers is has. (
     step (numbers_before numbers n) (numbers_before numbers (n + 1)) (IsNumbered-before numbers n number is) has,
     known (numbers_before numbers n) has,
@@ -133,9 +101,8 @@ TakesChanges-by trace n e number old mid new other within here names swapped thr
     step before after numbered has = record {
       threads = IsRow-after trace n e here before after number numbered thread_in (Some (thread_of e)) refl old.threads.items new.threads.items names.thread
           (threads ∙ ap (λ row. slice_set row (thread_of e) (max (slice_index row (thread_of e)) number)) swapped.threads) has.threads;
-      writes = IsRow-after trace n e here before after number numbered written_in (variable_written e.kind) refl old.writes.items new.writes.items (placed-written old e.kind names.names) (writes ∙ swapped.writes) has.writes;
-      locks = IsRow-after trace n e here before after number numbered lock_in (lock_of e.kind) refl old.locks.items new.locks.items (placed-lock old e.kind names.names) (locks ∙ swapped.locks) has.locks;
+      writes = IsRow-after trace n e here before after number numbered written_in (cell_written (access_of e.kind)) refl old.writes.items new.writes.items (placed-written old (access_of e.kind) names.names) (writes ∙ swapped.writes) has.writes;
     }
 
-    known : (numbers : ℕ → ℕ) → HasChanges trace numbers old → IsGreatest trace numbers (strong_for (event_at trace n).kind) other
-    known numbers has = subst (λ (f : Event). IsGreatest trace numbers (strong_for f.kind) other) (same_Some e (event_at trace n) (sym here ∙ slice_get-get_or trace n past within)) (swapped.found trace numbers has)
+    known : (numbers : ℕ → ℕ) → HasChanges trace numbers old → IsGreatest trace numbers (strong_for (access_of (event_at trace n).kind)) other
+    known numbers has = subst (λ (f : Event). IsGreatest trace numbers (strong_for (access_of f.kind)) other) (same_Some e (event_at trace n) (sym here ∙ slice_get-get_or trace n past within)) (swapped.found trace numbers has)

@@ -4,11 +4,11 @@ use Rattle.std.specs.Prelude.{◌⊎◌, ◌||◌, slice_get, IsTrue, IsFalse}
 use Rattle.std.proofs.lemmas.Bool.{cases_Bool, cases_eq, cases_lt, or_cases, eqb-true, eq-eqb, and_parts, both_ways, false≢true}
 use Rattle.std.proofs.lemmas.Option.{slice_get-get_or}
 use Rattle.velo_events.specs.declared.event.Event.{Event}
-use Rattle.velo_events.specs.declared.event.Kind.{Kind}
-use Rattle.velo_events.specs.declared.event.Kind.TheVariants.{Read, Write, Acquire, Release, Begin, End, Fork, Join, Exit}
-use Rattle.velo_events.specs.About.{is_about, thread_in, written_in, lock_in, variable_written}
+use Rattle.velo_events.specs.declared.event.Access.{Access}
+use Rattle.velo_events.specs.declared.event.Access.TheVariants.{Shared, Exclusive, Nothing}
+use Rattle.velo_events.specs.About.{is_about, thread_in, written_in, cell_written}
 use Rattle.velo_events.specs.Conflict.{conflict}
-use Rattle.velo_events.specs.Event.{thread_of, are_same, variable_of, is_write, lock_of, handled_by}
+use Rattle.velo_events.specs.Event.{thread_of, are_same, access_of, cell_of, is_exclusive, handled_of}
 use Rattle.velo_events.specs.Block.{owner, passes_at}
 use Rattle.velo_events.specs.Graph.{conflict_at, Edge, Path, Reaches}
 use Rattle.velo_events.proofs.OnGraphs.{Reaches-trans}
@@ -31,9 +31,6 @@ pub record Linked (trace : List Event) (b a : ℕ) : Type 0 where
   pub of_to : owner trace to ≡ a
   pub differ : b ≢ a
 
-turned : (o : Option ℕ) (m : ℕ) → IsTrue (are_same (Some m) o) → IsTrue (are_same o (Some m))
-turned None m h = absurd (false≢true h)
-turned (Some n) m h = eq-eqb n m (sym (eqb-true m n h))
 
 conflict-of : (trace : List Event) (i j : ℕ) (e f : Event) → slice_get trace i ≡ Some e → slice_get trace j ≡ Some f → IsTrue (conflict_at trace i j) → IsTrue (conflict e f)
 unfolding conflict_at
@@ -108,7 +105,7 @@ module _ (trace : List Event) where
         (λ h. subst (Joined i) (let same : i ≡ j = omega (arith, h, l) in same) (inl refl)) (cases_lt i j)
 
     -- to what is about the thing
-    to_user : (i j : ℕ) → i < j → j < length trace → IsTrue (passes_at trace test i) → strong_for (event_at trace j).kind ≡ test → Joined i j
+    to_user : (i j : ℕ) → i < j → j < length trace → IsTrue (passes_at trace test i) → strong_for (access_of (event_at trace j).kind) ≡ test → Joined i j
     to_user i j l within at_i about =
         let w = last-in test i j (j - suc i) (omega (arith, l)) at_i in
         let before = w.2.before in
@@ -116,7 +113,7 @@ module _ (trace : List Event) where
         (back w.0 j within (inr (subst (λ t. IsLast trace t w.0 j) (sym about) w.2)))
 
     -- and from what is about it and does not change it
-    from_user : (i j : ℕ) → i < j → j < length trace → IsTrue (passes_at trace test j) → IsTrue (is_weak (event_at trace i).kind) → strong_for (event_at trace i).kind ≡ test → Joined i j
+    from_user : (i j : ℕ) → i < j → j < length trace → IsTrue (passes_at trace test j) → IsTrue (is_weak (access_of (event_at trace i).kind)) → strong_for (access_of (event_at trace i).kind) ≡ test → Joined i j
     from_user i j l within at_j weak about =
         let w = first-in test i j (j - suc i) (omega (arith, l)) at_j in
         let there : w.0 < length trace = let up = w.1 in omega (arith, up, within) in
@@ -132,53 +129,35 @@ module _ (trace : List Event) where
   of_thread t k j within at_j last =
       inl (subst (λ u. IsLast trace (is_about thread_in u) k j) (sym (eqb-true (thread_of (event_at trace j)) t (sym (passes_here (is_about thread_in t) j within) ∙ at_j))) last)
 
-  of_thing : (test : Event → Bool) → ((e : Event) → IsTrue (test e) → strong_for e.kind ≡ test) → (k j : ℕ) → j < length trace → IsTrue (passes_at trace test j) → IsLast trace test k j → LinksBack trace k j
+  of_thing : (test : Event → Bool) → ((e : Event) → IsTrue (test e) → strong_for (access_of e.kind) ≡ test) → (k j : ℕ) → j < length trace → IsTrue (passes_at trace test j) → IsLast trace test k j → LinksBack trace k j
   of_thing test changes k j within at_j last =
       inr (subst (λ t. IsLast trace t k j) (sym (changes (event_at trace j) (sym (passes_here test j within) ∙ at_j))) last)
 
-written_changes : (x : ℕ) (k : Kind) → IsTrue (are_same (variable_written k) (Some x)) → strong_for k ≡ is_about written_in x
-written_changes x (Write y v) h = ap (λ (n : ℕ). is_about written_in n) (eqb-true y.0 x h)
+written_changes : (x : ℕ) (a : Access) → IsTrue (are_same (cell_written a) (Some x)) → strong_for a ≡ is_about written_in x
+written_changes x (Exclusive c) h = ap (λ (n : ℕ). is_about written_in n) (eqb-true c.0 x h)
 written_changes x _ h = absurd (false≢true h)
 
-lock_changes : (m : ℕ) (k : Kind) → IsTrue (are_same (lock_of k) (Some m)) → strong_for k ≡ is_about lock_in m
-lock_changes m (Acquire n) h = ap (λ (i : ℕ). is_about lock_in i) (eqb-true n.0 m h)
-lock_changes m (Release n) h = ap (λ (i : ℕ). is_about lock_in i) (eqb-true n.0 m h)
-lock_changes m _ h = absurd (false≢true h)
-
-handled_uses : (u : ℕ) (k : Kind) → IsTrue (are_same (handled_by k) (Some u)) → (strong_for k ≡ is_about thread_in u) × IsTrue (is_weak k)
-handled_uses u (Fork n) h = (ap (λ (i : ℕ). is_about thread_in i) (eqb-true n.0 u h), refl)
-handled_uses u (Join n) h = (ap (λ (i : ℕ). is_about thread_in i) (eqb-true n.0 u h), refl)
+handled_uses : (u : ℕ) (a : Access) → IsTrue (are_same (handled_of a) (Some u)) → (strong_for a ≡ is_about thread_in u) × IsTrue (is_weak a)
+handled_uses u (Access.Fork n) h = (ap (λ (i : ℕ). is_about thread_in i) (eqb-true n.0 u h), refl)
+handled_uses u (Access.Join n) h = (ap (λ (i : ℕ). is_about thread_in i) (eqb-true n.0 u h), refl)
 handled_uses u _ h = absurd (false≢true h)
 
--- two operations on a variable, the first or the second of which writes it
-abbrev OnVariable : Kind → Kind → Type 0
-OnVariable k l = (x : ℕ) × ((IsTrue (are_same (variable_written k) (Some x)) × (strong_for l ≡ is_about written_in x)) ⊎ (IsTrue (is_weak k) × (strong_for k ≡ is_about written_in x) × IsTrue (are_same (variable_written l) (Some x))))
+-- two accesses of a cell, the first or the second of which is exclusive
+abbrev OnCell : Access → Access → Type 0
+OnCell k l = (x : ℕ) × ((IsTrue (are_same (cell_written k) (Some x)) × (strong_for l ≡ is_about written_in x)) ⊎ (IsTrue (is_weak k) × (strong_for k ≡ is_about written_in x) × IsTrue (are_same (cell_written l) (Some x))))
 
-on_variable : (k l : Kind) → IsTrue (are_same (variable_of k) (variable_of l)) → IsTrue (is_write k || is_write l) → OnVariable k l
-on_variable (Write x v) (Write y w) h i = (x.0, inl (eq-eqb x.0 x.0 refl, ap (λ (n : ℕ). is_about written_in n) (sym (eqb-true x.0 y.0 h))))
-on_variable (Write x v) (Read y w) h i = (x.0, inl (eq-eqb x.0 x.0 refl, ap (λ (n : ℕ). is_about written_in n) (sym (eqb-true x.0 y.0 h))))
-on_variable (Read x v) (Write y w) h i = (x.0, inr (refl, refl, eq-eqb y.0 x.0 (sym (eqb-true x.0 y.0 h))))
-on_variable (Read x v) (Read y w) h i = absurd (false≢true i)
-on_variable (Write x v) (Acquire m) h i = absurd (false≢true h)
-on_variable (Write x v) (Release m) h i = absurd (false≢true h)
-on_variable (Write x v) (Begin m) h i = absurd (false≢true h)
-on_variable (Write x v) End h i = absurd (false≢true h)
-on_variable (Write x v) (Fork m) h i = absurd (false≢true h)
-on_variable (Write x v) (Join m) h i = absurd (false≢true h)
-on_variable (Write x v) Exit h i = absurd (false≢true h)
-on_variable (Read x v) (Acquire m) h i = absurd (false≢true h)
-on_variable (Read x v) (Release m) h i = absurd (false≢true h)
-on_variable (Read x v) (Begin m) h i = absurd (false≢true h)
-on_variable (Read x v) End h i = absurd (false≢true h)
-on_variable (Read x v) (Fork m) h i = absurd (false≢true h)
-on_variable (Read x v) (Join m) h i = absurd (false≢true h)
-on_variable (Read x v) Exit h i = absurd (false≢true h)
-on_variable _ l h i = absurd (false≢true h)
-
-on_lock : (k l : Kind) → IsTrue (are_same (lock_of k) (lock_of l)) → (m : ℕ) × IsTrue (are_same (lock_of k) (Some m)) × IsTrue (are_same (lock_of l) (Some m))
-on_lock (Acquire m) l h = (m.0, eq-eqb m.0 m.0 refl, turned (lock_of l) m.0 h)
-on_lock (Release m) l h = (m.0, eq-eqb m.0 m.0 refl, turned (lock_of l) m.0 h)
-on_lock _ l h = absurd (false≢true h)
+on_cell : (k l : Access) → IsTrue (are_same (cell_of k) (cell_of l)) → IsTrue (is_exclusive k || is_exclusive l) → OnCell k l
+on_cell (Exclusive c) (Exclusive d) h i = (c.0, inl (eq-eqb c.0 c.0 refl, ap (λ (n : ℕ). is_about written_in n) (sym (eqb-true c.0 d.0 h))))
+on_cell (Exclusive c) (Shared d) h i = (c.0, inl (eq-eqb c.0 c.0 refl, ap (λ (n : ℕ). is_about written_in n) (sym (eqb-true c.0 d.0 h))))
+on_cell (Shared c) (Exclusive d) h i = (c.0, inr (refl, refl, eq-eqb d.0 c.0 (sym (eqb-true c.0 d.0 h))))
+on_cell (Shared c) (Shared d) h i = absurd (false≢true i)
+on_cell (Exclusive c) (Access.Fork u) h i = absurd (false≢true h)
+on_cell (Exclusive c) (Access.Join u) h i = absurd (false≢true h)
+on_cell (Exclusive c) Nothing h i = absurd (false≢true h)
+on_cell (Shared c) (Access.Fork u) h i = absurd (false≢true h)
+on_cell (Shared c) (Access.Join u) h i = absurd (false≢true h)
+on_cell (Shared c) Nothing h i = absurd (false≢true h)
+on_cell _ l h i = absurd (false≢true h)
 
 module _ (trace : List Event) (i j : ℕ) (before : i < j) (within : j < length trace) where
   abbrev e : Event
@@ -197,29 +176,23 @@ module _ (trace : List Event) (i j : ℕ) (before : i < j) (within : j < length 
   joined-conflict : IsTrue (conflict e f) → Joined trace i j
   joined-conflict h = ⊎_elim
       (λ h4. ⊎_elim
-      (λ h3. ⊎_elim
       (λ h2. ⊎_elim
       (λ same.
       chain trace (is_about thread_in (thread_of f)) (of_thread trace (thread_of f)) j i j (omega arith) before within (at_first (is_about thread_in (thread_of f)) same) (at_second (is_about thread_in (thread_of f)) (eq-eqb (thread_of f) (thread_of f) refl)))
-      (λ variable.
-      let p = and_parts _ _ variable in
-      let v = on_variable e.kind f.kind p.0 p.1 in
+      (λ cell.
+      let p = and_parts _ _ cell in
+      let v = on_cell (access_of e.kind) (access_of f.kind) p.0 p.1 in
       let test = is_about written_in v.0 in
-      let things = of_thing trace test (λ g. written_changes v.0 g.kind) in
+      let things = of_thing trace test (λ g. written_changes v.0 (access_of g.kind)) in
       ⊎_elim (λ w. to_user trace test things i j before within (at_first test w.0) w.1) (λ w. from_user trace test things i j before within (at_second test w.2) w.0 w.1) v.1)
       (or_cases _ _ h2))
-      (λ lock.
-      let m = on_lock e.kind f.kind lock in
-      let test = is_about lock_in m.0 in
-      to_user trace test (of_thing trace test (λ g. lock_changes m.0 g.kind)) i j before within (at_first test m.1) (lock_changes m.0 f.kind m.2))
-      (or_cases _ _ h3))
       (λ handles.
-      let u = handled_uses (thread_of f) e.kind handles in
+      let u = handled_uses (thread_of f) (access_of e.kind) handles in
       let test = is_about thread_in (thread_of f) in
       from_user trace test (of_thread trace (thread_of f)) i j before within (at_second test (eq-eqb (thread_of f) (thread_of f) refl)) u.1 u.0)
       (or_cases _ _ h4))
       (λ handled.
-      let u = handled_uses (thread_of e) f.kind handled in
+      let u = handled_uses (thread_of e) (access_of f.kind) handled in
       let test = is_about thread_in (thread_of e) in
       to_user trace test (of_thread trace (thread_of e)) i j before within (at_first test (eq-eqb (thread_of e) (thread_of e) refl)) u.0)
       (or_cases _ _ h)

@@ -4,16 +4,16 @@ use Rattle.std.specs.Prelude.{slice_get, IsTrue, IsFalse}
 use Rattle.std.proofs.lemmas.Bool.{cases_lt, lt-ltb, le-ltb, le-leb, lt-leb, or_left, or_right, both_ways, eqb-true, false≢true}
 use Rattle.std.proofs.lemmas.Option.{slice_get-get_or}
 use Rattle.velo_events.specs.declared.event.Event.{Event}
-use Rattle.velo_events.specs.declared.event.Kind.{Kind}
-use Rattle.velo_events.specs.declared.event.Kind.TheVariants.{Read, Write, Acquire, Release, Fork, Join}
+use Rattle.velo_events.specs.declared.event.Access.{Access}
+use Rattle.velo_events.specs.declared.event.Access.TheVariants.{Shared, Exclusive, Nothing}
 use Rattle.velo_events.specs.About.{is_about, thread_in}
-use Rattle.velo_events.specs.Event.{thread_of}
+use Rattle.velo_events.specs.Event.{thread_of, access_of}
 use Rattle.velo_events.specs.Block.{owner, passes_at}
 use Rattle.velo_events.specs.Conflict.{conflict}
 use Rattle.velo_events.specs.Graph.{conflict_at, Edge}
 use Rattle.velo_events.proofs.OnScans.{passes_at-is, passes_at-event}
 use Rattle.velo_events.proofs.OnOwners.{passes_at-within}
-use Rattle.velo_events.proofs.OnConflicts.{conflict-read, conflict-write, conflict-acquire, conflict-release, conflict-fork, conflict-join}
+use Rattle.velo_events.proofs.OnConflicts.{conflict-read, conflict-write, conflict-fork, conflict-join}
 use Rattle.velo_traces.proofs.Past.{past}
 use Rattle.velo_certify.specs.declared.chains.Links.{Links}
 use Rattle.velo_certify.specs.Links.{is_weak, IsLast, IsFirst, LinksBack, LinksOn, IsInList, IsGrown, IsImplied, IsKept, counted, counted_back, HasRows, HasLinks}
@@ -99,14 +99,12 @@ module _ (trace : List Event) (n : ℕ) (test : Event → Bool) (m : ℕ) (g : I
 
 -- ---- what is linked conflicts
 
-strong-kind : (e f : Event) (k : Kind) → e.kind ≡ k → IsTrue (strong_for k f) → IsTrue (conflict f e)
-strong-kind e f (Read x v) is h = sym (conflict-read f e x.0 v is) ∙ or_right _ _ h
-strong-kind e f (Write x v) is h = sym (conflict-write f e x.0 v is) ∙ or_left _ _ (or_right _ _ h)
-strong-kind e f (Acquire m) is h = sym (conflict-acquire f e m.0 is) ∙ or_right _ _ h
-strong-kind e f (Release m) is h = sym (conflict-release f e m.0 is) ∙ or_right _ _ h
-strong-kind e f (Fork u) is h = sym (conflict-fork f e u.0 is) ∙ or_right _ _ h
-strong-kind e f (Join u) is h = sym (conflict-join f e u.0 is) ∙ or_right _ _ h
-strong-kind e f _ is h = absurd (false≢true h)
+strong-kind : (e f : Event) (a : Access) → access_of e.kind ≡ a → IsTrue (strong_for a f) → IsTrue (conflict f e)
+strong-kind e f (Shared c) is h = sym (conflict-read f e c is) ∙ or_right _ _ h
+strong-kind e f (Exclusive c) is h = sym (conflict-write f e c is) ∙ or_left _ _ (or_right _ _ h)
+strong-kind e f (Access.Fork u) is h = sym (conflict-fork f e u is) ∙ or_right _ _ h
+strong-kind e f (Access.Join u) is h = sym (conflict-join f e u is) ∙ or_right _ _ h
+strong-kind e f Nothing is h = absurd (false≢true h)
 
 conflict-there : (trace : List Event) (i j : ℕ) (e f : Event) → slice_get trace i ≡ Some e → slice_get trace j ≡ Some f → IsTrue (conflict e f) → IsTrue (conflict_at trace i j)
 unfolding conflict_at
@@ -119,16 +117,16 @@ module _ (trace : List Event) (n : ℕ) (within : n < length trace) where
   pub here : slice_get trace n ≡ Some e
   here = slice_get-get_or trace n past within
 
-  pub conflicts-strong : (i : ℕ) → IsTrue (passes_at trace (strong_for e.kind) i) → IsTrue (conflict_at trace i n) × IsTrue (conflict_at trace n i)
+  pub conflicts-strong : (i : ℕ) → IsTrue (passes_at trace (strong_for (access_of e.kind)) i) → IsTrue (conflict_at trace i n) × IsTrue (conflict_at trace n i)
   conflicts-strong i h =
-      let f = passes_at-event trace (strong_for e.kind) i h in
-      let c = strong-kind e f.0 e.kind refl f.2 in
+      let f = passes_at-event trace (strong_for (access_of e.kind)) i h in
+      let c = strong-kind e f.0 (access_of e.kind) refl f.2 in
       (conflict-there trace i n f.0 e f.1 here c, conflict-there trace n i e f.0 here f.1 (sym (conflict-comm f.0 e) ∙ c))
 
   pub conflicts-own : (i : ℕ) → IsTrue (passes_at trace (is_about thread_in (thread_of e)) i) → IsTrue (conflict_at trace i n)
   conflicts-own i h =
       let f = passes_at-event trace (is_about thread_in (thread_of e)) i h in
-      conflict-there trace i n f.0 e f.1 here (or_left _ _ (or_left _ _ (or_left _ _ (or_left _ _ f.2))))
+      conflict-there trace i n f.0 e f.1 here (or_left _ _ (or_left _ _ (or_left _ _ f.2)))
 
   pub edge-into : (i : ℕ) → i < n → IsTrue (conflict_at trace i n) → (a b : ℕ) → b ≡ owner trace i → a ≡ owner trace n → owner trace i ≢ owner trace n → Edge trace b a
   edge-into i before clash a b from to differ = record { from = i; to = n; in_order = before; in_trace = within; in_conflict = clash; of_from = sym from; of_to = sym to; differ = λ same. differ (sym from ∙ (same ∙ to)) }
@@ -185,7 +183,7 @@ HasLinks-start trace l count blank = record {
 own_thread : (trace : List Event) (t i : ℕ) → i < length trace → IsTrue (passes_at trace (is_about thread_in t) i) → thread_at trace i ≡ t
 own_thread trace t i within h = eqb-true (thread_at trace i) t (sym (passes_at-is trace (is_about thread_in t) i (event_at trace i) (slice_get-get_or trace i past within)) ∙ h)
 
-pub HasLinks-back : (trace : List Event) (n m : ℕ) (old new : Links) (other : ℕ) → n < length trace → IsGreatest trace (numbers_before counted n) (strong_for (event_at trace n).kind) other
+pub HasLinks-back : (trace : List Event) (n m : ℕ) (old new : Links) (other : ℕ) → n < length trace → IsGreatest trace (numbers_before counted n) (strong_for (access_of (event_at trace n).kind)) other
     → IsGrown trace old new → ((i : ℕ) → other ≡ i + 1 → IsKept trace new i n) → HasLinks trace n m old → HasLinks trace (n + 1) m new
 HasLinks-back trace n m old new other within strong grown kept w = record {
   rows = HasRows-grown trace old new grown w.rows;
@@ -204,7 +202,7 @@ HasLinks-back trace n m old new other within strong grown kept w = record {
       link;
 }
 
-pub HasLinks-on : (trace : List Event) (n m : ℕ) (old new : Links) (other : ℕ) → n < length trace → IsGreatest trace (numbers_from (counted_back trace) (n + 1)) (strong_for (event_at trace n).kind) other
+pub HasLinks-on : (trace : List Event) (n m : ℕ) (old new : Links) (other : ℕ) → n < length trace → IsGreatest trace (numbers_from (counted_back trace) (n + 1)) (strong_for (access_of (event_at trace n).kind)) other
     → IsGrown trace old new → ((j : ℕ) → j < length trace → other ≡ length trace - j → IsKept trace new n j) → HasLinks trace m (n + 1) old → HasLinks trace m n new
 HasLinks-on trace n m old new other within strong grown kept w = record {
   rows = HasRows-grown trace old new grown w.rows;
@@ -220,14 +218,14 @@ HasLinks-on trace n m old new other within strong grown kept w = record {
       link;
 }
 
-pub HasLinks-not_weak : (trace : List Event) (n m : ℕ) (l : Links) → IsFalse (is_weak (event_at trace n).kind) → HasLinks trace m (n + 1) l → HasLinks trace m n l
+pub HasLinks-not_weak : (trace : List Event) (n m : ℕ) (l : Links) → IsFalse (is_weak (access_of (event_at trace n).kind)) → HasLinks trace m (n + 1) l → HasLinks trace m n l
 HasLinks-not_weak trace n m l strong w = record {
   rows = w.rows;
   linked = λ i j there link. ⊎_elim
       (λ back. w.linked i j there (inl back))
       (λ on. ⊎_elim
       (λ later. w.linked i j there (inr (omega (arith, later), on.1)))
-      (λ h. absurd (let same : i ≡ n = omega (arith, h, on.0) in both_ways _ strong (subst (λ k. IsTrue (is_weak (event_at trace k).kind)) same on.1.0)))
+      (λ h. absurd (let same : i ≡ n = omega (arith, h, on.0) in both_ways _ strong (subst (λ k. IsTrue (is_weak (access_of (event_at trace k).kind))) same on.1.0)))
       (cases_lt n i))
       link;
 }

@@ -5,14 +5,13 @@ use Rattle.std.proofs.lemmas.Bool.{cases_eq, cases_lt, eqb-true, eq-eqb, false�
 use Rattle.std.proofs.lemmas.List.{length-set, get_or-set_same, get_or-set_other, length-replicate, get_or-replicate}
 use Rattle.std.proofs.lemmas.Option.{same_Some, none-some, slice_get-get_or}
 use Rattle.velo_events.specs.declared.event.Event.{Event}
-use Rattle.velo_events.specs.declared.event.Kind.{Kind}
-use Rattle.velo_events.specs.declared.event.Kind.TheVariants.{Read, Write, Acquire, Release, Begin, End, Fork, Join, Exit}
-use Rattle.velo_events.specs.About.{is_about, thread_in, handled_in, written_in, read_in, lock_in, variable_written, variable_read}
+use Rattle.velo_events.specs.declared.event.Access.{Access}
+use Rattle.velo_events.specs.declared.event.Access.TheVariants.{Shared, Exclusive, Nothing}
+use Rattle.velo_events.specs.About.{is_about, thread_in, handled_in, written_in, read_in, cell_written, cell_read}
 use Rattle.velo_events.specs.Block.{passes_at}
-use Rattle.velo_events.specs.Event.{are_same, thread_of, handled_by, lock_of}
+use Rattle.velo_events.specs.Event.{are_same, thread_of, access_of, handled_of}
 use Rattle.velo_events.proofs.OnScans.{passes_at-is}
 use Rattle.velo_events.proofs.OnOwners.{passes_at-within}
-use Rattle.velo_events.proofs.OnConflicts.{IsPlain}
 use Rattle.velo_traces.proofs.Past.{past}
 use Rattle.velo_certify.specs.declared.lists.Lists.{Lists}
 use Rattle.velo_certify.specs.Lists.{IsFirst, IsRising, IsListed, AreListed, list_sizes}
@@ -151,32 +150,27 @@ module _ (trace : List Event) (n : ℕ) (e : Event) (here : slice_get trace n �
 -- ---- all lists
 
 -- what is in the lists of things follows, by the kind
-abbrev pub alike_with : Lists → Kind → ℕ → List ℕ
-alike_with old (Read x v) n = set old.alike.items n (slice_index old.reads.items x.0)
-alike_with old (Write x v) n = set old.alike.items n (slice_index old.writes.items x.0)
-alike_with old (Acquire m) n = set old.alike.items n (slice_index old.locks.items m.0)
-alike_with old (Release m) n = set old.alike.items n (slice_index old.locks.items m.0)
-alike_with old (Fork u) n = set old.alike.items n (slice_index old.handles.items u.0)
-alike_with old (Join u) n = set old.alike.items n (slice_index old.handles.items u.0)
-alike_with old _ n = old.alike.items
+abbrev pub alike_with : Lists → Access → ℕ → List ℕ
+alike_with old (Shared c) n = set old.alike.items n (slice_index old.reads.items c.0)
+alike_with old (Exclusive c) n = set old.alike.items n (slice_index old.writes.items c.0)
+alike_with old (Access.Fork u) n = set old.alike.items n (slice_index old.handles.items u.0)
+alike_with old (Access.Join u) n = set old.alike.items n (slice_index old.handles.items u.0)
+alike_with old Nothing n = old.alike.items
 
 -- the lists with a position of this thread and kind put before their fronts
-pub record ArePut (old : Lists) (t : ℕ) (k : Kind) (n : ℕ) (new : Lists) : Type 0 where
+pub record ArePut (old : Lists) (t : ℕ) (k : Access) (n : ℕ) (new : Lists) : Type 0 where
   pub threads : new.threads.items ≡ set old.threads.items t n
-  pub handles : new.handles.items ≡ with_front old.handles.items (handled_by k) n
-  pub writes : new.writes.items ≡ with_front old.writes.items (variable_written k) n
-  pub reads : new.reads.items ≡ with_front old.reads.items (variable_read k) n
-  pub locks : new.locks.items ≡ with_front old.locks.items (lock_of k) n
+  pub handles : new.handles.items ≡ with_front old.handles.items (handled_of k) n
+  pub writes : new.writes.items ≡ with_front old.writes.items (cell_written k) n
+  pub reads : new.reads.items ≡ with_front old.reads.items (cell_read k) n
   pub following : new.following.items ≡ set old.following.items n (slice_index old.threads.items t)
   pub alike : new.alike.items ≡ alike_with old k n
 
-alike-same : (old : Lists) (k : Kind) (n : ℕ) → AreSameBut n old.alike.items (alike_with old k n)
-alike-same old (Read x v) n = AreSameBut-set old.alike.items n (slice_index old.reads.items x.0)
-alike-same old (Write x v) n = AreSameBut-set old.alike.items n (slice_index old.writes.items x.0)
-alike-same old (Acquire m) n = AreSameBut-set old.alike.items n (slice_index old.locks.items m.0)
-alike-same old (Release m) n = AreSameBut-set old.alike.items n (slice_index old.locks.items m.0)
-alike-same old (Fork u) n = AreSameBut-set old.alike.items n (slice_index old.handles.items u.0)
-alike-same old (Join u) n = AreSameBut-set old.alike.items n (slice_index old.handles.items u.0)
+alike-same : (old : Lists) (k : Access) (n : ℕ) → AreSameBut n old.alike.items (alike_with old k n)
+alike-same old (Shared x) n = AreSameBut-set old.alike.items n (slice_index old.reads.items x.0)
+alike-same old (Exclusive x) n = AreSameBut-set old.alike.items n (slice_index old.writes.items x.0)
+alike-same old (Access.Fork u) n = AreSameBut-set old.alike.items n (slice_index old.handles.items u.0)
+alike-same old (Access.Join u) n = AreSameBut-set old.alike.items n (slice_index old.handles.items u.0)
 alike-same old _ n = AreSameBut-same old.alike.items n
 
 module _ (trace : List Event) (n : ℕ) (old : Lists) (within : n < length trace) (w : AreListed trace (n + 1) old) where
@@ -186,63 +180,52 @@ module _ (trace : List Event) (n : ℕ) (old : Lists) (within : n < length trace
   there : (m : ℕ) → slice_index (set old.alike.items n m) n ≡ m
   there m = get_or-set_same old.alike.items n m 0 alike_long
 
-  handle-next : (k : Kind) (x : ℕ) → handled_by k ≡ Some x → slice_index (alike_with old k n) n ≡ slice_index old.handles.items x
-  handle-next (Fork u) x h = there (slice_index old.handles.items u.0) ∙ ap (slice_index old.handles.items) (same_Some u.0 x h)
-  handle-next (Join u) x h = there (slice_index old.handles.items u.0) ∙ ap (slice_index old.handles.items) (same_Some u.0 x h)
+  handle-next : (k : Access) (x : ℕ) → handled_of k ≡ Some x → slice_index (alike_with old k n) n ≡ slice_index old.handles.items x
+  handle-next (Access.Fork u) x h = there (slice_index old.handles.items u.0) ∙ ap (slice_index old.handles.items) (same_Some u.0 x h)
+  handle-next (Access.Join u) x h = there (slice_index old.handles.items u.0) ∙ ap (slice_index old.handles.items) (same_Some u.0 x h)
   handle-next _ x h = absurd (none-some x h)
 
-  write-next : (k : Kind) (x : ℕ) → variable_written k ≡ Some x → slice_index (alike_with old k n) n ≡ slice_index old.writes.items x
-  write-next (Write y v) x h = there (slice_index old.writes.items y.0) ∙ ap (slice_index old.writes.items) (same_Some y.0 x h)
+  write-next : (k : Access) (x : ℕ) → cell_written k ≡ Some x → slice_index (alike_with old k n) n ≡ slice_index old.writes.items x
+  write-next (Exclusive y) x h = there (slice_index old.writes.items y.0) ∙ ap (slice_index old.writes.items) (same_Some y.0 x h)
   write-next _ x h = absurd (none-some x h)
 
-  read-next : (k : Kind) (x : ℕ) → variable_read k ≡ Some x → slice_index (alike_with old k n) n ≡ slice_index old.reads.items x
-  read-next (Read y v) x h = there (slice_index old.reads.items y.0) ∙ ap (slice_index old.reads.items) (same_Some y.0 x h)
+  read-next : (k : Access) (x : ℕ) → cell_read k ≡ Some x → slice_index (alike_with old k n) n ≡ slice_index old.reads.items x
+  read-next (Shared y) x h = there (slice_index old.reads.items y.0) ∙ ap (slice_index old.reads.items) (same_Some y.0 x h)
   read-next _ x h = absurd (none-some x h)
 
-  lock-next : (k : Kind) (x : ℕ) → lock_of k ≡ Some x → slice_index (alike_with old k n) n ≡ slice_index old.locks.items x
-  lock-next (Acquire m) x h = there (slice_index old.locks.items m.0) ∙ ap (slice_index old.locks.items) (same_Some m.0 x h)
-  lock-next (Release m) x h = there (slice_index old.locks.items m.0) ∙ ap (slice_index old.locks.items) (same_Some m.0 x h)
-  lock-next _ x h = absurd (none-some x h)
 
   after_n : (named : Event → Option ℕ) (fronts following : List ℕ) (x : ℕ) → IsListed trace named (n + 1) fronts following → x < length fronts → n < slice_index fronts x
   after_n named fronts following x v place = let f = (v.first x place).from_n in omega (arith, f)
 
-  alike-rising : (k : Kind) → HasPlaces (list_sizes old) k → IsRising trace (alike_with old k n)
-  alike-rising (Read x v) h = IsRising-set trace old.alike.items n (slice_index old.reads.items x.0) within (after_n read_in old.reads.items old.alike.items x.0 w.reads h.1) w.alike
-  alike-rising (Write x v) h = IsRising-set trace old.alike.items n (slice_index old.writes.items x.0) within (after_n written_in old.writes.items old.alike.items x.0 w.writes h.0) w.alike
-  alike-rising (Acquire m) h = IsRising-set trace old.alike.items n (slice_index old.locks.items m.0) within (after_n lock_in old.locks.items old.alike.items m.0 w.locks h) w.alike
-  alike-rising (Release m) h = IsRising-set trace old.alike.items n (slice_index old.locks.items m.0) within (after_n lock_in old.locks.items old.alike.items m.0 w.locks h) w.alike
-  alike-rising (Fork u) h = IsRising-set trace old.alike.items n (slice_index old.handles.items u.0) within (after_n handled_in old.handles.items old.alike.items u.0 w.handles h.1) w.alike
-  alike-rising (Join u) h = IsRising-set trace old.alike.items n (slice_index old.handles.items u.0) within (after_n handled_in old.handles.items old.alike.items u.0 w.handles h.1) w.alike
+  alike-rising : (k : Access) → HasPlaces (list_sizes old) k → IsRising trace (alike_with old k n)
+  alike-rising (Shared x) h = IsRising-set trace old.alike.items n (slice_index old.reads.items x.0) within (after_n read_in old.reads.items old.alike.items x.0 w.reads h.1) w.alike
+  alike-rising (Exclusive x) h = IsRising-set trace old.alike.items n (slice_index old.writes.items x.0) within (after_n written_in old.writes.items old.alike.items x.0 w.writes h.0) w.alike
+  alike-rising (Access.Fork u) h = IsRising-set trace old.alike.items n (slice_index old.handles.items u.0) within (after_n handled_in old.handles.items old.alike.items u.0 w.handles h.1) w.alike
+  alike-rising (Access.Join u) h = IsRising-set trace old.alike.items n (slice_index old.handles.items u.0) within (after_n handled_in old.handles.items old.alike.items u.0 w.handles h.1) w.alike
   alike-rising _ h = w.alike
 
-placed-handle : (old : Lists) (k : Kind) → HasPlaces (list_sizes old) k → IsPlaced old.handles.items (handled_by k)
-placed-handle old (Fork u) h = h.1
-placed-handle old (Join u) h = h.1
+placed-handle : (old : Lists) (k : Access) → HasPlaces (list_sizes old) k → IsPlaced old.handles.items (handled_of k)
+placed-handle old (Access.Fork u) h = h.1
+placed-handle old (Access.Join u) h = h.1
 placed-handle old _ h = tt
 
-placed-write : (old : Lists) (k : Kind) → HasPlaces (list_sizes old) k → IsPlaced old.writes.items (variable_written k)
-placed-write old (Write x v) h = h.0
+placed-write : (old : Lists) (k : Access) → HasPlaces (list_sizes old) k → IsPlaced old.writes.items (cell_written k)
+placed-write old (Exclusive x) h = h.0
 placed-write old _ h = tt
 
-placed-read : (old : Lists) (k : Kind) → HasPlaces (list_sizes old) k → IsPlaced old.reads.items (variable_read k)
-placed-read old (Read x v) h = h.1
+placed-read : (old : Lists) (k : Access) → HasPlaces (list_sizes old) k → IsPlaced old.reads.items (cell_read k)
+placed-read old (Shared x) h = h.1
 placed-read old _ h = tt
 
-placed-lock : (old : Lists) (k : Kind) → HasPlaces (list_sizes old) k → IsPlaced old.locks.items (lock_of k)
-placed-lock old (Acquire m) h = h
-placed-lock old (Release m) h = h
-placed-lock old _ h = tt
 
-pub AreListed-put : (trace : List Event) (n : ℕ) (e : Event) (old new : Lists) → slice_get trace n ≡ Some e → n < length trace → NamesRows (list_sizes old) e → AreListed trace (n + 1) old → (k : Kind) → e.kind ≡ k → ArePut old (thread_of e) k n new → AreListed trace n new
+pub AreListed-put : (trace : List Event) (n : ℕ) (e : Event) (old new : Lists) → slice_get trace n ≡ Some e → n < length trace → NamesRows (list_sizes old) e → AreListed trace (n + 1) old → (k : Access) → access_of e.kind ≡ k → ArePut old (thread_of e) k n new → AreListed trace n new
 AreListed-put trace n e old new here within names w k kind is = record {
   threads = subst (λ xs. IsListed trace thread_in n xs new.following.items) (sym is.threads) (subst (IsListed trace thread_in n (set old.threads.items (thread_of e) n)) (sym is.following)
       (IsListed-after trace n e here within thread_in old.threads.items old.following.items (set old.following.items n (slice_index old.threads.items (thread_of e))) w.threads (AreSameBut-set old.following.items n (slice_index old.threads.items (thread_of e))) (Some (thread_of e)) refl names.thread
       (λ x h. get_or-set_same old.following.items n (slice_index old.threads.items (thread_of e)) 0 (let c = w.following.count in omega (arith, within, c)) ∙ ap (slice_index old.threads.items) (same_Some (thread_of e) x h))));
-  handles = alike_row handled_in (handled_by k) (ap handled_by kind) old.handles.items new.handles.items w.handles is.handles (placed-handle old k places) (handle-next trace n old within w k);
-  writes = alike_row written_in (variable_written k) (ap variable_written kind) old.writes.items new.writes.items w.writes is.writes (placed-write old k places) (write-next trace n old within w k);
-  reads = alike_row read_in (variable_read k) (ap variable_read kind) old.reads.items new.reads.items w.reads is.reads (placed-read old k places) (read-next trace n old within w k);
-  locks = alike_row lock_in (lock_of k) (ap lock_of kind) old.locks.items new.locks.items w.locks is.locks (placed-lock old k places) (lock-next trace n old within w k);
+  handles = alike_row handled_in (handled_of k) (ap handled_of kind) old.handles.items new.handles.items w.handles is.handles (placed-handle old k places) (handle-next trace n old within w k);
+  writes = alike_row written_in (cell_written k) (ap cell_written kind) old.writes.items new.writes.items w.writes is.writes (placed-write old k places) (write-next trace n old within w k);
+  reads = alike_row read_in (cell_read k) (ap cell_read kind) old.reads.items new.reads.items w.reads is.reads (placed-read old k places) (read-next trace n old within w k);
   following = subst (IsRising trace) (sym is.following) (IsRising-set trace old.following.items n (slice_index old.threads.items (thread_of e)) within (after_n trace n old within w thread_in old.threads.items old.following.items (thread_of e) w.threads names.thread) w.following);
   alike = subst (IsRising trace) (sym is.alike) (alike-rising trace n old within w k places);
 }
@@ -254,20 +237,12 @@ AreListed-put trace n e old new here within names w k kind is = record {
     alike_row named o about fronts after v after_is place next_is = subst (λ xs. IsListed trace named n xs new.alike.items) (sym after_is) (subst (IsListed trace named n (with_front fronts o n)) (sym is.alike)
         (IsListed-after trace n e here within named fronts old.alike.items (alike_with old k n) v (alike-same old k n) o about place next_is))
 
--- a plain kind is in the list of its thread alone
-pub ArePut-plain : (old : Lists) (t : ℕ) (k : Kind) (n : ℕ) (new : Lists) → IsPlain k → new.threads.items ≡ set old.threads.items t n → new.following.items ≡ set old.following.items n (slice_index old.threads.items t) → new.handles.items ≡ old.handles.items → new.writes.items ≡ old.writes.items → new.reads.items ≡ old.reads.items → new.locks.items ≡ old.locks.items → new.alike.items ≡ old.alike.items → ArePut old t k n new
-ArePut-plain old t (Begin l) n new h a b c d f g i = record { threads = a; following = b; handles = c; writes = d; reads = f; locks = g; alike = i }
-ArePut-plain old t End n new h a b c d f g i = record { threads = a; following = b; handles = c; writes = d; reads = f; locks = g; alike = i }
-ArePut-plain old t Exit n new h a b c d f g i = record { threads = a; following = b; handles = c; writes = d; reads = f; locks = g; alike = i }
-ArePut-plain old t _ n new h a b c d f g i = absurd h
-
-pub AreListed-start : (trace : List Event) (threads things locks : ℕ) (lists : Lists) → lists.threads.items ≡ replicate threads (length trace) → lists.handles.items ≡ replicate threads (length trace) → lists.writes.items ≡ replicate things (length trace) → lists.reads.items ≡ replicate things (length trace) → lists.locks.items ≡ replicate locks (length trace) → lists.following.items ≡ replicate (length trace) (length trace) → lists.alike.items ≡ replicate (length trace) (length trace) → AreListed trace (length trace) lists
-AreListed-start trace threads things locks lists a b c d e f g = record {
+pub AreListed-start : (trace : List Event) (threads things : ℕ) (lists : Lists) → lists.threads.items ≡ replicate threads (length trace) → lists.handles.items ≡ replicate threads (length trace) → lists.writes.items ≡ replicate things (length trace) → lists.reads.items ≡ replicate things (length trace) → lists.following.items ≡ replicate (length trace) (length trace) → lists.alike.items ≡ replicate (length trace) (length trace) → AreListed trace (length trace) lists
+AreListed-start trace threads things lists a b c d f g = record {
   threads = IsListed-start trace thread_in threads lists.threads.items lists.following.items a;
   handles = IsListed-start trace handled_in threads lists.handles.items lists.alike.items b;
   writes = IsListed-start trace written_in things lists.writes.items lists.alike.items c;
   reads = IsListed-start trace read_in things lists.reads.items lists.alike.items d;
-  locks = IsListed-start trace lock_in locks lists.locks.items lists.alike.items e;
   following = IsRising-start trace lists.following.items f;
   alike = IsRising-start trace lists.alike.items g;
 }

@@ -5,16 +5,16 @@ use Rattle.std.proofs.lemmas.Bool.{cases_eq, cases_lt, or_cases, or_left, or_rig
 use Rattle.std.proofs.lemmas.List.{length-set, get_or-set_same, get_or-set_other}
 use Rattle.std.proofs.lemmas.Option.{same_Some}
 use Rattle.velo_events.specs.declared.event.Event.{Event}
-use Rattle.velo_events.specs.declared.event.VarId.{VarId}
-use Rattle.velo_events.specs.declared.event.LockId.{LockId}
+use Rattle.velo_events.specs.declared.event.Cell.{Cell}
 use Rattle.velo_events.specs.declared.event.ThreadId.{ThreadId}
-use Rattle.velo_events.specs.declared.event.Kind.TheVariants.{Read, Write, Acquire, Release, Fork, Join}
-use Rattle.velo_events.specs.About.{is_about, thread_in, handled_in, written_in, read_in, lock_in}
+use Rattle.velo_events.specs.About.{is_about, thread_in, handled_in, written_in, read_in}
 use Rattle.velo_events.specs.Conflict.{conflict}
-use Rattle.velo_events.specs.Event.{thread_of}
+use Rattle.velo_events.specs.declared.event.Access.{Access}
+use Rattle.velo_events.specs.declared.event.Access.TheVariants.{Shared, Exclusive, Nothing}
+use Rattle.velo_events.specs.Event.{thread_of, access_of}
 use Rattle.velo_events.specs.Block.{owner, passes_at}
 use Rattle.velo_events.proofs.OnScans.{passes_at-event, passes_at-is}
-use Rattle.velo_events.proofs.OnConflicts.{is_near, IsPlain, conflict-read, conflict-write, conflict-acquire, conflict-release, conflict-fork, conflict-join, conflict-plain}
+use Rattle.velo_events.proofs.OnConflicts.{is_near, conflict-read, conflict-write, conflict-fork, conflict-join, conflict-plain}
 use Rattle.velo_certify.specs.declared.lists.Lists.{Lists}
 use Rattle.velo_certify.specs.declared.reached.Reached.{Reached}
 use Rattle.velo_certify.specs.Lists.{list_sizes}
@@ -111,70 +111,54 @@ module _ (trace : List Event) (owners : List ℕ) (at_hand x : ℕ) (lists : Lis
   grows-row : (named : Event → Option ℕ) (fronts following : List ℕ) → Grows level old new → IsPassed trace named old.far.items fronts following → IsPassed trace named new.far.items fronts following
   grows-row named fronts following grown v = IsPassed-grows trace named level fronts following old new grown v
 
-  pub IsSearching-threads : PassesList trace at_hand x lists.following.items lists.threads.items row.items old new → IsSearching trace owners (record { threads = row; handles = lists.handles; writes = lists.writes; reads = lists.reads; locks = lists.locks; following = lists.following; alike = lists.alike }) new at_hand
-  IsSearching-threads p = IsSearching-by trace owners level at_hand lists (record { threads = row; handles = lists.handles; writes = lists.writes; reads = lists.reads; locks = lists.locks; following = lists.following; alike = lists.alike }) old new w p.grows (record {
+  pub IsSearching-threads : PassesList trace at_hand x lists.following.items lists.threads.items row.items old new → IsSearching trace owners (record { threads = row; handles = lists.handles; writes = lists.writes; reads = lists.reads; following = lists.following; alike = lists.alike }) new at_hand
+  IsSearching-threads p = IsSearching-by trace owners level at_hand lists (record { threads = row; handles = lists.handles; writes = lists.writes; reads = lists.reads; following = lists.following; alike = lists.alike }) old new w p.grows (record {
     threads = p.passed thread_in w.passed.threads;
     handles = grows-row handled_in lists.handles.items lists.alike.items p.grows w.passed.handles;
     writes = grows-row written_in lists.writes.items lists.alike.items p.grows w.passed.writes;
     reads = grows-row read_in lists.reads.items lists.alike.items p.grows w.passed.reads;
-    locks = grows-row lock_in lists.locks.items lists.alike.items p.grows w.passed.locks;
     following = w.passed.following;
     alike = w.passed.alike;
-    names = subst (λ n. AllNameRows (record { threads = n; handles = length lists.handles.items; writes = length lists.writes.items; reads = length lists.reads.items; locks = length lists.locks.items }) trace (length trace)) (sym p.count) w.passed.names;
+    names = subst (λ n. AllNameRows (record { threads = n; handles = length lists.handles.items; writes = length lists.writes.items; reads = length lists.reads.items }) trace (length trace)) (sym p.count) w.passed.names;
     count = p.grows.count ∙ w.passed.count;
   })
 
-  pub IsSearching-handles : PassesList trace at_hand x lists.alike.items lists.handles.items row.items old new → IsSearching trace owners (record { threads = lists.threads; handles = row; writes = lists.writes; reads = lists.reads; locks = lists.locks; following = lists.following; alike = lists.alike }) new at_hand
-  IsSearching-handles p = IsSearching-by trace owners level at_hand lists (record { threads = lists.threads; handles = row; writes = lists.writes; reads = lists.reads; locks = lists.locks; following = lists.following; alike = lists.alike }) old new w p.grows (record {
+  pub IsSearching-handles : PassesList trace at_hand x lists.alike.items lists.handles.items row.items old new → IsSearching trace owners (record { threads = lists.threads; handles = row; writes = lists.writes; reads = lists.reads; following = lists.following; alike = lists.alike }) new at_hand
+  IsSearching-handles p = IsSearching-by trace owners level at_hand lists (record { threads = lists.threads; handles = row; writes = lists.writes; reads = lists.reads; following = lists.following; alike = lists.alike }) old new w p.grows (record {
     threads = grows-row thread_in lists.threads.items lists.following.items p.grows w.passed.threads;
     handles = p.passed handled_in w.passed.handles;
     writes = grows-row written_in lists.writes.items lists.alike.items p.grows w.passed.writes;
     reads = grows-row read_in lists.reads.items lists.alike.items p.grows w.passed.reads;
-    locks = grows-row lock_in lists.locks.items lists.alike.items p.grows w.passed.locks;
     following = w.passed.following;
     alike = w.passed.alike;
-    names = subst (λ n. AllNameRows (record { threads = length lists.threads.items; handles = n; writes = length lists.writes.items; reads = length lists.reads.items; locks = length lists.locks.items }) trace (length trace)) (sym p.count) w.passed.names;
+    names = subst (λ n. AllNameRows (record { threads = length lists.threads.items; handles = n; writes = length lists.writes.items; reads = length lists.reads.items }) trace (length trace)) (sym p.count) w.passed.names;
     count = p.grows.count ∙ w.passed.count;
   })
 
-  pub IsSearching-writes : PassesList trace at_hand x lists.alike.items lists.writes.items row.items old new → IsSearching trace owners (record { threads = lists.threads; handles = lists.handles; writes = row; reads = lists.reads; locks = lists.locks; following = lists.following; alike = lists.alike }) new at_hand
-  IsSearching-writes p = IsSearching-by trace owners level at_hand lists (record { threads = lists.threads; handles = lists.handles; writes = row; reads = lists.reads; locks = lists.locks; following = lists.following; alike = lists.alike }) old new w p.grows (record {
+  pub IsSearching-writes : PassesList trace at_hand x lists.alike.items lists.writes.items row.items old new → IsSearching trace owners (record { threads = lists.threads; handles = lists.handles; writes = row; reads = lists.reads; following = lists.following; alike = lists.alike }) new at_hand
+  IsSearching-writes p = IsSearching-by trace owners level at_hand lists (record { threads = lists.threads; handles = lists.handles; writes = row; reads = lists.reads; following = lists.following; alike = lists.alike }) old new w p.grows (record {
     threads = grows-row thread_in lists.threads.items lists.following.items p.grows w.passed.threads;
     handles = grows-row handled_in lists.handles.items lists.alike.items p.grows w.passed.handles;
     writes = p.passed written_in w.passed.writes;
     reads = grows-row read_in lists.reads.items lists.alike.items p.grows w.passed.reads;
-    locks = grows-row lock_in lists.locks.items lists.alike.items p.grows w.passed.locks;
     following = w.passed.following;
     alike = w.passed.alike;
-    names = subst (λ n. AllNameRows (record { threads = length lists.threads.items; handles = length lists.handles.items; writes = n; reads = length lists.reads.items; locks = length lists.locks.items }) trace (length trace)) (sym p.count) w.passed.names;
+    names = subst (λ n. AllNameRows (record { threads = length lists.threads.items; handles = length lists.handles.items; writes = n; reads = length lists.reads.items }) trace (length trace)) (sym p.count) w.passed.names;
     count = p.grows.count ∙ w.passed.count;
   })
 
-  pub IsSearching-reads : PassesList trace at_hand x lists.alike.items lists.reads.items row.items old new → IsSearching trace owners (record { threads = lists.threads; handles = lists.handles; writes = lists.writes; reads = row; locks = lists.locks; following = lists.following; alike = lists.alike }) new at_hand
-  IsSearching-reads p = IsSearching-by trace owners level at_hand lists (record { threads = lists.threads; handles = lists.handles; writes = lists.writes; reads = row; locks = lists.locks; following = lists.following; alike = lists.alike }) old new w p.grows (record {
+  pub IsSearching-reads : PassesList trace at_hand x lists.alike.items lists.reads.items row.items old new → IsSearching trace owners (record { threads = lists.threads; handles = lists.handles; writes = lists.writes; reads = row; following = lists.following; alike = lists.alike }) new at_hand
+  IsSearching-reads p = IsSearching-by trace owners level at_hand lists (record { threads = lists.threads; handles = lists.handles; writes = lists.writes; reads = row; following = lists.following; alike = lists.alike }) old new w p.grows (record {
     threads = grows-row thread_in lists.threads.items lists.following.items p.grows w.passed.threads;
     handles = grows-row handled_in lists.handles.items lists.alike.items p.grows w.passed.handles;
     writes = grows-row written_in lists.writes.items lists.alike.items p.grows w.passed.writes;
     reads = p.passed read_in w.passed.reads;
-    locks = grows-row lock_in lists.locks.items lists.alike.items p.grows w.passed.locks;
     following = w.passed.following;
     alike = w.passed.alike;
-    names = subst (λ n. AllNameRows (record { threads = length lists.threads.items; handles = length lists.handles.items; writes = length lists.writes.items; reads = n; locks = length lists.locks.items }) trace (length trace)) (sym p.count) w.passed.names;
+    names = subst (λ n. AllNameRows (record { threads = length lists.threads.items; handles = length lists.handles.items; writes = length lists.writes.items; reads = n }) trace (length trace)) (sym p.count) w.passed.names;
     count = p.grows.count ∙ w.passed.count;
   })
 
-  pub IsSearching-locks : PassesList trace at_hand x lists.alike.items lists.locks.items row.items old new → IsSearching trace owners (record { threads = lists.threads; handles = lists.handles; writes = lists.writes; reads = lists.reads; locks = row; following = lists.following; alike = lists.alike }) new at_hand
-  IsSearching-locks p = IsSearching-by trace owners level at_hand lists (record { threads = lists.threads; handles = lists.handles; writes = lists.writes; reads = lists.reads; locks = row; following = lists.following; alike = lists.alike }) old new w p.grows (record {
-    threads = grows-row thread_in lists.threads.items lists.following.items p.grows w.passed.threads;
-    handles = grows-row handled_in lists.handles.items lists.alike.items p.grows w.passed.handles;
-    writes = grows-row written_in lists.writes.items lists.alike.items p.grows w.passed.writes;
-    reads = grows-row read_in lists.reads.items lists.alike.items p.grows w.passed.reads;
-    locks = p.passed lock_in w.passed.locks;
-    following = w.passed.following;
-    alike = w.passed.alike;
-    names = subst (λ n. AllNameRows (record { threads = length lists.threads.items; handles = length lists.handles.items; writes = length lists.writes.items; reads = length lists.reads.items; locks = n }) trace (length trace)) (sym p.count) w.passed.names;
-    count = p.grows.count ∙ w.passed.count;
-  })
 
 -- ---- what conflicts with one event
 
@@ -232,23 +216,20 @@ module _ (trace : List Event) (n : ℕ) (old mid near new : Reached) (within : n
   PassesConflicts-with : (test : Event → Bool) → ((f : Event) → (is_near e f || test f) ≡ conflict f e) → Passes trace n (is_near e) old near → Passes trace n test near new → PassesConflicts trace n old new
   PassesConflicts-with test same v w = PassesConflicts-by (Passes-same trace n (λ f. is_near e f || test f) (λ f. conflict f e) old new same (Passes-or trace n (is_near e) test old near new positive v w))
 
-  pub PassesConflicts-read : (x : VarId) (v : ℕ) → e.kind ≡ Read x v → Passes trace n (is_near e) old near → Passes trace n (is_about written_in x.0) near new → PassesConflicts trace n old new
-  PassesConflicts-read x v kind = PassesConflicts-with (is_about written_in x.0) (λ f. conflict-read f e x.0 v kind)
+  pub PassesConflicts-read : (x : Cell) → access_of e.kind ≡ Shared x → Passes trace n (is_near e) old near → Passes trace n (is_about written_in x.0) near new → PassesConflicts trace n old new
+  PassesConflicts-read x kind = PassesConflicts-with (is_about written_in x.0) (λ f. conflict-read f e x kind)
 
-  pub PassesConflicts-lock : (m : LockId) → (e.kind ≡ Acquire m) ⊎ (e.kind ≡ Release m) → Passes trace n (is_near e) old near → Passes trace n (is_about lock_in m.0) near new → PassesConflicts trace n old new
-  PassesConflicts-lock m kind = PassesConflicts-with (is_about lock_in m.0) (λ f. ⊎_elim (λ k. conflict-acquire f e m.0 k) (λ k. conflict-release f e m.0 k) kind)
-
-  pub PassesConflicts-handled : (u : ThreadId) → (e.kind ≡ Fork u) ⊎ (e.kind ≡ Join u) → Passes trace n (is_near e) old near → Passes trace n (is_about thread_in u.0) near new → PassesConflicts trace n old new
-  PassesConflicts-handled u kind = PassesConflicts-with (is_about thread_in u.0) (λ f. ⊎_elim (λ k. conflict-fork f e u.0 k) (λ k. conflict-join f e u.0 k) kind)
+  pub PassesConflicts-handled : (u : ThreadId) → (access_of e.kind ≡ Access.Fork u) ⊎ (access_of e.kind ≡ Access.Join u) → Passes trace n (is_near e) old near → Passes trace n (is_about thread_in u.0) near new → PassesConflicts trace n old new
+  PassesConflicts-handled u kind = PassesConflicts-with (is_about thread_in u.0) (λ f. ⊎_elim (λ k. conflict-fork f e u k) (λ k. conflict-join f e u k) kind)
 
   -- the writes and then the reads
-  pub PassesConflicts-write : (x : VarId) (v : ℕ) (written : Reached) → e.kind ≡ Write x v → Passes trace n (is_near e) old near → Passes trace n (is_about written_in x.0) near written → Passes trace n (is_about read_in x.0) written new → PassesConflicts trace n old new
-  PassesConflicts-write x v written kind a b c =
-      PassesConflicts-by (Passes-same trace n (λ f. (is_near e f || is_about written_in x.0 f) || is_about read_in x.0 f) (λ f. conflict f e) old new (λ f. conflict-write f e x.0 v kind)
+  pub PassesConflicts-write : (x : Cell) (written : Reached) → access_of e.kind ≡ Exclusive x → Passes trace n (is_near e) old near → Passes trace n (is_about written_in x.0) near written → Passes trace n (is_about read_in x.0) written new → PassesConflicts trace n old new
+  PassesConflicts-write x written kind a b c =
+      PassesConflicts-by (Passes-same trace n (λ f. (is_near e f || is_about written_in x.0 f) || is_about read_in x.0 f) (λ f. conflict f e) old new (λ f. conflict-write f e x kind)
       (Passes-or trace n (λ f. is_near e f || is_about written_in x.0 f) (is_about read_in x.0) old written new positive (Passes-or trace n (is_near e) (is_about written_in x.0) old near written positive a b) c))
 
 -- what is near is all
-pub PassesConflicts-plain : (trace : List Event) (n : ℕ) (old near : Reached) → n < length trace → IsPlain (event_at trace n).kind → Passes trace n (is_near (event_at trace n)) old near → PassesConflicts trace n old near
+pub PassesConflicts-plain : (trace : List Event) (n : ℕ) (old near : Reached) → n < length trace → access_of (event_at trace n).kind ≡ Nothing → Passes trace n (is_near (event_at trace n)) old near → PassesConflicts trace n old near
 PassesConflicts-plain trace n old near within plain w =
     let e = event_at trace n in
     record { each = λ f there. subst (λ g. Passes trace n (λ h. conflict h g) old near) (same_Some e f (sym (event_here trace n within) ∙ there)) (Passes-same trace n (is_near e) (λ f. conflict f e) old near (λ f. conflict-plain f e plain) w) }

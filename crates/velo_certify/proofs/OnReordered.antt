@@ -14,8 +14,8 @@ use Rattle.std.proofs.lemmas.Option.{slice_get-get_or, slice_get_within, same_So
 use Rattle.velo_events.specs.declared.config.Bounds.{Bounds}
 use Rattle.velo_events.specs.declared.event.Event.{Event}
 use Rattle.velo_events.specs.declared.event.Kind.{Kind}
-use Rattle.velo_events.specs.declared.event.Kind.TheVariants.{Read, Write, Acquire, Release, Begin, End, Fork, Join, Exit}
-use Rattle.velo_events.specs.Event.{are_same, thread_of, variable_of, lock_of, forked_by, joined_by, handled_by, value_of, is_write, is_acquire, is_release, is_begin, is_end, is_by, is_begin_by, is_end_by, is_exit_by, is_write_of, is_on_lock, is_fork_of, is_join_of}
+use Rattle.velo_events.specs.declared.event.Kind.TheVariants.{Read, Write, Acquire, Release, AcquireShared, ReleaseShared, Begin, End, Fork, Join, Exit}
+use Rattle.velo_events.specs.Event.{are_same, thread_of, variable_of, forked_by, joined_by, handled_by, value_of, is_write, is_acquire, is_release, is_begin, is_end, is_by, is_begin_by, is_end_by, is_exit_by, is_write_of, is_on_lock, is_fork_of, is_join_of, access_of, cell_of, is_exclusive, locked_by, shared_by, is_on_share, is_acquire_shared, is_release_shared}
 use Rattle.velo_events.specs.Conflict.{conflict}
 use Rattle.velo_events.specs.Graph.{conflict_at}
 use Rattle.velo_events.specs.Heap.{latest, happened, times}
@@ -317,31 +317,41 @@ are_same-join None b x h k = absurd (false≢true h)
 are_same-join (Some a) None x h k = absurd (false≢true k)
 
 clash-thread : (f g : Event) (t : ℕ) → IsTrue (is_by t f) → IsTrue (is_by t g) → IsTrue (conflict f g)
-clash-thread f g t h k = or_left _ _ (or_left _ _ (or_left _ _ (or_left _ _ (eq-eqb (thread_of f) (thread_of g) (eqb-true (thread_of f) t h ∙ sym (eqb-true (thread_of g) t k))))))
+clash-thread f g t h k = or_left _ _ (or_left _ _ (or_left _ _ (eq-eqb (thread_of f) (thread_of g) (eqb-true (thread_of f) t h ∙ sym (eqb-true (thread_of g) t k)))))
 
-clash-variable : (f g : Event) → IsTrue (are_same (variable_of f.kind) (variable_of g.kind)) → IsTrue (is_write f.kind) → IsTrue (conflict f g)
-clash-variable f g h k = or_left _ _ (or_left _ _ (or_left _ _ (or_right (thread_of f == thread_of g) _ (and_from _ _ h (or_left _ _ k)))))
-
-clash-lock : (f g : Event) → IsTrue (are_same (lock_of f.kind) (lock_of g.kind)) → IsTrue (conflict f g)
-clash-lock f g h = or_left _ _ (or_left _ _ (or_right ((thread_of f == thread_of g) || (are_same (variable_of f.kind) (variable_of g.kind) && (is_write f.kind || is_write g.kind))) _ h))
+clash-cell : (f g : Event) (c : ℕ) → IsTrue (are_same (cell_of (access_of f.kind)) (Some c)) → IsTrue (are_same (cell_of (access_of g.kind)) (Some c)) → IsTrue (is_exclusive (access_of f.kind) || is_exclusive (access_of g.kind)) → IsTrue (conflict f g)
+clash-cell f g c h k w = or_left _ _ (or_left _ _ (or_right (thread_of f == thread_of g) _ (and_from _ _ (are_same-join (cell_of (access_of f.kind)) (cell_of (access_of g.kind)) c h k) w)))
 
 clash-handled : (f g : Event) → IsTrue (are_same (handled_by f.kind) (Some (thread_of g))) → IsTrue (conflict f g)
-clash-handled f g h = or_left _ _ (or_right ((thread_of f == thread_of g) || (are_same (variable_of f.kind) (variable_of g.kind) && (is_write f.kind || is_write g.kind)) || are_same (lock_of f.kind) (lock_of g.kind)) _ h)
+clash-handled f g h = or_left _ _ (or_right ((thread_of f == thread_of g) || (are_same (cell_of (access_of f.kind)) (cell_of (access_of g.kind)) && (is_exclusive (access_of f.kind) || is_exclusive (access_of g.kind)))) _ h)
 
 clash-handles : (f g : Event) → IsTrue (are_same (handled_by g.kind) (Some (thread_of f))) → IsTrue (conflict f g)
-clash-handles f g h = or_right ((thread_of f == thread_of g) || (are_same (variable_of f.kind) (variable_of g.kind) && (is_write f.kind || is_write g.kind)) || are_same (lock_of f.kind) (lock_of g.kind) || are_same (handled_by f.kind) (Some (thread_of g))) _ h
+clash-handles f g h = or_right ((thread_of f == thread_of g) || (are_same (cell_of (access_of f.kind)) (cell_of (access_of g.kind)) && (is_exclusive (access_of f.kind) || is_exclusive (access_of g.kind))) || are_same (handled_by f.kind) (Some (thread_of g))) _ h
 
 forked-handled : (k : Kind) (u : ℕ) → IsTrue (are_same (forked_by k) (Some u)) → IsTrue (are_same (handled_by k) (Some u))
 forked-handled (Fork v) u h = h
 forked-handled _ u h = absurd (false≢true h)
 
+-- what writes a variable, and what takes or leaves a lock alone, is an exclusive access of its cell; what does so shared is a shared one
+write-cell : (x : ℕ) (k : Kind) → IsTrue (is_write k && are_same (variable_of k) (Some x)) → IsTrue (are_same (cell_of (access_of k)) (Some (x + x))) × IsTrue (is_exclusive (access_of k))
+write-cell x (Write y v) h = (let same = eqb-true y.0 x h in eq-eqb _ _ (ap (λ n. n + n) same), refl)
+write-cell x _ h = absurd (false≢true h)
+
+lock-cell : (m : ℕ) (k : Kind) → IsTrue (are_same (locked_by k) (Some m)) → IsTrue (are_same (cell_of (access_of k)) (Some (m + m + 1))) × IsTrue (is_exclusive (access_of k))
+lock-cell m (Acquire n) h = (let same = eqb-true n.0 m h in eq-eqb _ _ (ap (λ i. i + i + 1) same), refl)
+lock-cell m (Release n) h = (let same = eqb-true n.0 m h in eq-eqb _ _ (ap (λ i. i + i + 1) same), refl)
+lock-cell m _ h = absurd (false≢true h)
+
+share-cell : (m : ℕ) (k : Kind) → IsTrue (are_same (shared_by k) (Some m)) → IsTrue (are_same (cell_of (access_of k)) (Some (m + m + 1)))
+share-cell m (AcquireShared n) h = let same = eqb-true n.0 m h in eq-eqb _ _ (ap (λ i. i + i + 1) same)
+share-cell m (ReleaseShared n) h = let same = eqb-true n.0 m h in eq-eqb _ _ (ap (λ i. i + i + 1) same)
+share-cell m _ h = absurd (false≢true h)
+
 writes-pair : (x : ℕ) (f g : Event) → IsTrue (is_write_of x f) → IsTrue (is_write_of x g) → IsTrue (conflict f g)
-writes-pair x f g h k =
-    let p = and_parts _ _ h in let q = and_parts _ _ k in
-    clash-variable f g (are_same-join (variable_of f.kind) (variable_of g.kind) x p.1 q.1) p.0
+writes-pair x f g h k = let p = write-cell x f.kind h in let q = write-cell x g.kind k in clash-cell f g (x + x) p.0 q.0 (or_left _ _ p.1)
 
 locks-pair : (m : ℕ) (f g : Event) → IsTrue (is_on_lock m f) → IsTrue (is_on_lock m g) → IsTrue (conflict f g)
-locks-pair m f g h k = clash-lock f g (are_same-join (lock_of f.kind) (lock_of g.kind) m h k)
+locks-pair m f g h k = let p = lock-cell m f.kind h in let q = lock-cell m g.kind k in clash-cell f g (m + m + 1) p.0 q.0 (or_left _ _ p.1)
 
 own-pair : (t : ℕ) (part : Event → Bool) (f g : Event) → IsTrue (is_by t f && part f) → IsTrue (is_by t g && part g) → IsTrue (conflict f g)
 own-pair t part f g h k = clash-thread f g t (and_parts _ _ h).0 (and_parts _ _ k).0
@@ -377,17 +387,37 @@ module _ (bounds : Bounds) (trace : List Event) (well : IsWellFormed bounds trac
         (λ f h. clash-thread f here (thread_of here) (and_parts _ _ h).0 (eq-eqb (thread_of here) (thread_of here) refl))
         (own-pair (thread_of here) part)
 
-    lock_same : (m : ℕ) → IsTrue (are_same (lock_of here.kind) (Some m)) → TellTheSame (is_on_lock m) new_past old_past
-    lock_same m h = same_before trace order r k within (is_on_lock m) (λ f w. clash-lock f here (are_same-join (lock_of f.kind) (lock_of here.kind) m w h)) (locks-pair m)
+    -- the events that take or leave a lock alone, where the event at hand accesses it
+    lock_same : (m : ℕ) → IsTrue (are_same (cell_of (access_of here.kind)) (Some (m + m + 1))) → TellTheSame (is_on_lock m) new_past old_past
+    lock_same m h = same_before trace order r k within (is_on_lock m) (λ f w. let p = lock-cell m f.kind w in clash-cell f here (m + m + 1) p.0 h (or_left _ _ p.1)) (locks-pair m)
+
+    -- the events of a thread's share, where the event at hand takes the lock alone
+    share_same : (m u : ℕ) → IsTrue (are_same (cell_of (access_of here.kind)) (Some (m + m + 1))) → IsTrue (is_exclusive (access_of here.kind)) → TellTheSame (is_on_share m u) new_past old_past
+    share_same m u h x = same_before trace order r k within (is_on_share m u)
+        (λ f w. clash-cell f here (m + m + 1) (share-cell m f.kind (and_parts (is_by u f) _ w).1) h (or_right (is_exclusive (access_of f.kind)) _ x))
+        (own-pair u (λ f. are_same (shared_by f.kind) (Some m)))
+
+    abbrev held : Option Event → Option ℕ
+    held = option_and_then (λ e. if is_acquire e.kind then Some (thread_of e) else None)
+
+    abbrev shared : Option Event → Bool
+    shared o = option_map_or (λ e. is_acquire_shared e.kind) o false
+
+    of_lock : (m : ℕ) (kind : Kind) → here.kind ≡ kind → IsTrue (are_same (cell_of (access_of kind)) (Some (m + m + 1))) → IsTrue (are_same (cell_of (access_of here.kind)) (Some (m + m + 1)))
+    of_lock m kind is h = subst (λ a. IsTrue (are_same (cell_of (access_of a)) (Some (m + m + 1)))) (sym is) h
 
     turn : (kind : Kind) → here.kind ≡ kind → IsInTurn old_past (thread_of here) kind → IsInTurn new_past (thread_of here) kind
     turn (Read x v) is w =
-        let same = same_before trace order r k within (is_write_of x.0)
-        (λ f h. let p = and_parts _ _ h in clash-variable f here (subst (λ a. IsTrue (are_same (variable_of f.kind) (variable_of a))) (sym is) p.1) p.0) (writes-pair x.0) in
+        let cell = subst (λ a. IsTrue (are_same (cell_of (access_of a)) (Some (x.0 + x.0)))) (sym is) (eq-eqb (x.0 + x.0) (x.0 + x.0) refl) in
+        let same = same_before trace order r k within (is_write_of x.0) (λ f h. let p = write-cell x.0 f.kind h in clash-cell f here (x.0 + x.0) p.0 cell (or_left _ _ p.1)) (writes-pair x.0) in
         w ∙ sym (ap (λ o. option_map_or (λ e. value_of e.kind) o 0) same.last)
+    turn (Acquire m) is w =
+        let cell = of_lock m.0 (Acquire m) is (eq-eqb _ _ refl) in
+        (ap held (lock_same m.0 cell).last ∙ w.0, λ u. ap shared (share_same m.0 u cell (subst (λ a. IsTrue (is_exclusive (access_of a))) (sym is) refl)).last ∙ w.1 u)
+    turn (Release m) is w = ap held (lock_same m.0 (of_lock m.0 (Release m) is (eq-eqb _ _ refl))).last ∙ w
+    turn (AcquireShared m) is w = (ap held (lock_same m.0 (of_lock m.0 (AcquireShared m) is (eq-eqb _ _ refl))).last ∙ w.0, ap shared (own_same (λ f. are_same (shared_by f.kind) (Some m.0))).last ∙ w.1)
+    turn (ReleaseShared m) is w = ap shared (own_same (λ f. are_same (shared_by f.kind) (Some m.0))).last ∙ w
     turn (Write x v) is w = tt
-    turn (Acquire m) is w = ap (option_and_then (λ e. if is_acquire e.kind then Some (thread_of e) else None)) (lock_same m.0 (ap (λ a. are_same (lock_of a) (Some m.0)) is ∙ eq-eqb m.0 m.0 refl)).last ∙ w
-    turn (Release m) is w = ap (option_and_then (λ e. if is_acquire e.kind then Some (thread_of e) else None)) (lock_same m.0 (ap (λ a. are_same (lock_of a) (Some m.0)) is ∙ eq-eqb m.0 m.0 refl)).last ∙ w
     turn (Begin l) is w =
         let begins : times (is_begin_by (thread_of here)) new_past ≡ times (is_begin_by (thread_of here)) old_past = (own_same (λ e. is_begin e.kind)).count in
         let ends : times (is_end_by (thread_of here)) new_past ≡ times (is_end_by (thread_of here)) old_past = (own_same (λ e. is_end e.kind)).count in
@@ -412,7 +442,9 @@ module _ (bounds : Bounds) (trace : List Event) (well : IsWellFormed bounds trac
         let ends = (own_same (λ e. is_end e.kind)).count in
         let acquires = (own_same (λ e. is_acquire e.kind)).count in
         let releases = (own_same (λ e. is_release e.kind)).count in
-        (begins ∙ (w.0 ∙ sym ends), acquires ∙ (w.1 ∙ sym releases))
+        let shares = (own_same (λ e. is_acquire_shared e.kind)).count in
+        let unshares = (own_same (λ e. is_release_shared e.kind)).count in
+        (begins ∙ (w.0 ∙ sym ends), acquires ∙ (w.1 ∙ sym releases), shares ∙ (w.2 ∙ sym unshares))
 
     follows : MayFollow bounds new_past here
     follows =
@@ -478,6 +510,7 @@ module _ (trace : List Event) (order : List ℕ) (r : IsReordering trace order) 
   LeavesSameHeap-reordered = record {
     values = λ x. ap (λ o. option_map_or (λ e. value_of e.kind) o 0) (told_whole (is_write_of x) (writes-pair x)).last;
     holders = λ m. ap (option_and_then (λ e. if is_acquire e.kind then Some (thread_of e) else None)) (told_whole (is_on_lock m) (locks-pair m)).last;
+    sharers = λ m t. ap (λ o. option_map_or (λ e. is_acquire_shared e.kind) o false) (told_whole (is_on_share m t) (own-pair t (λ f. are_same (shared_by f.kind) (Some m)))).last;
     statuses = λ t. rw (happened_whole (is_join_of t), happened_whole (is_exit_by t), happened_whole (is_fork_of t)) refl;
     depths = λ t.
         let begins : times (is_begin_by t) (events_in_order trace order) ≡ times (is_begin_by t) trace = (told_whole (is_begin_by t) (own-pair t (λ e. is_begin e.kind))).count in

@@ -5,7 +5,7 @@ use Rattle.std.proofs.lemmas.Bool.{cases_lt}
 use Rattle.std.proofs.lemmas.List.{get_or_past}
 use Rattle.std.proofs.lemmas.Option.{same_Some}
 use Rattle.velo_events.specs.declared.event.Event.{Event}
-use Rattle.velo_events.specs.About.{is_about, thread_in, handled_in, written_in, read_in, lock_in}
+use Rattle.velo_events.specs.About.{is_about, thread_in, handled_in, written_in, read_in}
 use Rattle.velo_events.specs.Block.{owner}
 use Rattle.velo_events.specs.Conflict.{conflict}
 use Rattle.velo_events.specs.Graph.{conflict_at, Edge}
@@ -41,7 +41,6 @@ ArePassed-start trace lists reached w names count = record {
   handles = IsPassed-start trace handled_in reached.far.items lists.handles.items lists.alike.items w.handles;
   writes = IsPassed-start trace written_in reached.far.items lists.writes.items lists.alike.items w.writes;
   reads = IsPassed-start trace read_in reached.far.items lists.reads.items lists.alike.items w.reads;
-  locks = IsPassed-start trace lock_in reached.far.items lists.locks.items lists.alike.items w.locks;
   following = w.following;
   alike = w.alike;
   names = names;

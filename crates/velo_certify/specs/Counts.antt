@@ -4,5 +4,4 @@ use Rattle.velo_certify.specs.declared.counts.Counts.{Counts}
 
 pub record AreAtLeast (new old : Counts) : Type 0 where
   pub threads : old.threads ≤ new.threads
-  pub variables : old.variables ≤ new.variables
-  pub locks : old.locks ≤ new.locks
+  pub cells : old.cells ≤ new.cells

@@ -2,10 +2,10 @@
 -- Private contracts cite these words.
 use Rattle.std.specs.Prelude.{◌≡◌, ◌≢◌, ℕ, ◌+◌, ◌*◌, ◌-◌, ◌<◌, ◌≤◌, ◌⊎◌, Bool, true, false, List, [], length, slice_index, IsTrue, IsFalse}
 use Rattle.velo_events.specs.declared.event.Event.{Event}
-use Rattle.velo_events.specs.declared.event.Kind.{Kind}
-use Rattle.velo_events.specs.declared.event.Kind.TheVariants.{Read, Fork, Join}
+use Rattle.velo_events.specs.declared.event.Access.{Access}
+use Rattle.velo_events.specs.declared.event.Access.TheVariants.{Shared}
 use Rattle.velo_events.specs.About.{is_about, thread_in}
-use Rattle.velo_events.specs.Event.{thread_of}
+use Rattle.velo_events.specs.Event.{thread_of, access_of}
 use Rattle.velo_events.specs.Block.{owner, passes_at}
 use Rattle.velo_events.specs.Graph.{Edge}
 use Rattle.velo_certify.specs.Chains.{IsIn, IsChain}
@@ -18,10 +18,10 @@ use Rattle.velo_certify.specs.Threads.{thread_at}
 -- ---- which positions are linked
 
 -- the operation does not change what it is about
-abbrev pub is_weak : Kind → Bool
-is_weak (Read x v) = true
-is_weak (Fork u) = true
-is_weak (Join u) = true
+abbrev pub is_weak : Access → Bool
+is_weak (Shared c) = true
+is_weak (Access.Fork u) = true
+is_weak (Access.Join u) = true
 is_weak _ = false
 
 -- i is the last position before j whose event passes the test
@@ -38,11 +38,11 @@ pub record IsFirst (trace : List Event) (test : Event → Bool) (i j : ℕ) : Ty
 
 -- the last event of j's thread, or the last strong one of what j is about
 abbrev pub LinksBack : List Event → ℕ → ℕ → Type 0
-LinksBack trace i j = IsLast trace (is_about thread_in (thread_of (event_at trace j))) i j ⊎ IsLast trace (strong_for (event_at trace j).kind) i j
+LinksBack trace i j = IsLast trace (is_about thread_in (thread_of (event_at trace j))) i j ⊎ IsLast trace (strong_for (access_of (event_at trace j).kind)) i j
 
 -- the first strong one after i of what i is weakly about
 abbrev pub LinksOn : List Event → ℕ → ℕ → Type 0
-LinksOn trace i j = IsTrue (is_weak (event_at trace i).kind) × IsFirst trace (strong_for (event_at trace i).kind) i j
+LinksOn trace i j = IsTrue (is_weak (access_of (event_at trace i).kind)) × IsFirst trace (strong_for (access_of (event_at trace i).kind)) i j
 
 -- the links into positions before n, and those from positions from m on
 abbrev pub LinksSoFar : List Event → ℕ → ℕ → ℕ → ℕ → Type 0

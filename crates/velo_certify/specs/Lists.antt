@@ -1,7 +1,7 @@
 -- Positions in rising lists, by what their events are about. Private contracts cite these words.
 use Rattle.std.specs.Prelude.{◌≡◌, ℕ, ◌+◌, ◌<◌, ◌≤◌, Bool, List, length, Option, slice_index, IsTrue}
 use Rattle.velo_events.specs.declared.event.Event.{Event}
-use Rattle.velo_events.specs.About.{is_about, thread_in, handled_in, written_in, read_in, lock_in}
+use Rattle.velo_events.specs.About.{is_about, thread_in, handled_in, written_in, read_in}
 use Rattle.velo_events.specs.Block.{passes_at}
 use Rattle.velo_certify.specs.declared.lists.Lists.{Lists}
 use Rattle.velo_certify.specs.Table.{Sizes}
@@ -34,7 +34,6 @@ list_sizes lists = record {
   handles = length lists.handles.items;
   writes = length lists.writes.items;
   reads = length lists.reads.items;
-  locks = length lists.locks.items;
 }
 
 -- the positions from n on are in the lists
@@ -43,6 +42,5 @@ pub record AreListed (trace : List Event) (n : ℕ) (lists : Lists) : Type 0 whe
   pub handles : IsListed trace handled_in n lists.handles.items lists.alike.items
   pub writes : IsListed trace written_in n lists.writes.items lists.alike.items
   pub reads : IsListed trace read_in n lists.reads.items lists.alike.items
-  pub locks : IsListed trace lock_in n lists.locks.items lists.alike.items
   pub following : IsRising trace lists.following.items
   pub alike : IsRising trace lists.alike.items

@@ -1,7 +1,7 @@
 -- A search backwards along the edges of the graph, which passes rising lists of positions. Private contracts cite these words.
 use Rattle.std.specs.Prelude.{◌≡◌, ℕ, ◌+◌, ◌<◌, ◌≤◌, Bool, List, length, Option, Some, slice_get, slice_index, IsTrue}
 use Rattle.velo_events.specs.declared.event.Event.{Event}
-use Rattle.velo_events.specs.About.{is_about, thread_in, handled_in, written_in, read_in, lock_in}
+use Rattle.velo_events.specs.About.{is_about, thread_in, handled_in, written_in, read_in}
 use Rattle.velo_events.specs.Conflict.{conflict}
 use Rattle.velo_events.specs.Block.{owner, passes_at}
 use Rattle.velo_events.specs.Graph.{conflict_at, Edge}
@@ -59,7 +59,6 @@ pub record ArePassed (trace : List Event) (lists : Lists) (reached : Reached) : 
   pub handles : IsPassed trace handled_in reached.far.items lists.handles.items lists.alike.items
   pub writes : IsPassed trace written_in reached.far.items lists.writes.items lists.alike.items
   pub reads : IsPassed trace read_in reached.far.items lists.reads.items lists.alike.items
-  pub locks : IsPassed trace lock_in reached.far.items lists.locks.items lists.alike.items
   pub following : IsRising trace lists.following.items
   pub alike : IsRising trace lists.alike.items
   pub names : AllNameRows (list_sizes lists) trace (length trace)

@@ -1,10 +1,10 @@
 -- Numbers of positions, and the greatest of those whose events pass a test. Private contracts cite these words.
 use Rattle.std.specs.Prelude.{◌≡◌, ◌≢◌, ℕ, ◌+◌, ◌<◌, ◌≤◌, Bool, false, cond, nat_lt, nat_le, List, length, Option, Some, ⊤, slice_get, slice_index, IsTrue}
 use Rattle.velo_events.specs.declared.event.Event.{Event}
-use Rattle.velo_events.specs.declared.event.Kind.{Kind}
-use Rattle.velo_events.specs.declared.event.Kind.TheVariants.{Read, Write, Acquire, Release, Fork, Join}
-pub use Rattle.velo_events.specs.About.{thread_in, handled_in, written_in, read_in, lock_in, is_about}
-use Rattle.velo_events.specs.Event.{thread_of}
+use Rattle.velo_events.specs.declared.event.Access.{Access}
+use Rattle.velo_events.specs.declared.event.Access.TheVariants.{Shared, Exclusive, Nothing}
+pub use Rattle.velo_events.specs.About.{thread_in, handled_in, written_in, read_in, is_about}
+use Rattle.velo_events.specs.Event.{thread_of, access_of}
 use Rattle.velo_events.specs.Conflict.{conflict}
 use Rattle.velo_events.specs.Block.{passes_at}
 use Rattle.velo_events.specs.Graph.{conflict_at}
@@ -41,14 +41,12 @@ pub record HasNumbers (trace : List Event) (numbers : ℕ → ℕ) (table : Tabl
   pub handles : IsRow trace numbers handled_in table.handles.items
   pub writes : IsRow trace numbers written_in table.writes.items
   pub reads : IsRow trace numbers read_in table.reads.items
-  pub locks : IsRow trace numbers lock_in table.locks.items
 
 pub record AreBlank (table : Table) : Type 0 where
   pub threads : IsBlank table.threads.items
   pub handles : IsBlank table.handles.items
   pub writes : IsBlank table.writes.items
   pub reads : IsBlank table.reads.items
-  pub locks : IsBlank table.locks.items
 
 -- how many things each row has
 pub record Sizes : Type 0 where
@@ -56,7 +54,6 @@ pub record Sizes : Type 0 where
   pub handles : ℕ
   pub writes : ℕ
   pub reads : ℕ
-  pub locks : ℕ
 
 abbrev pub sizes : Table → Sizes
 sizes table = record {
@@ -64,28 +61,25 @@ sizes table = record {
   handles = length table.handles.items;
   writes = length table.writes.items;
   reads = length table.reads.items;
-  locks = length table.locks.items;
 }
 
--- the sizes for so many threads, variables and locks
-abbrev pub sizes_of : ℕ → ℕ → ℕ → Sizes
-sizes_of threads variables locks = record { threads = threads; handles = threads; writes = variables; reads = variables; locks = locks }
+-- the sizes for so many threads and cells
+abbrev pub sizes_of : ℕ → ℕ → Sizes
+sizes_of threads cells = record { threads = threads; handles = threads; writes = cells; reads = cells }
 
 -- what the operation names is in its rows
-abbrev pub HasPlaces : Sizes → Kind → Type 0
-HasPlaces s (Read x v) = (x.0 < s.writes) × (x.0 < s.reads)
-HasPlaces s (Write x v) = (x.0 < s.writes) × (x.0 < s.reads)
-HasPlaces s (Acquire m) = m.0 < s.locks
-HasPlaces s (Release m) = m.0 < s.locks
-HasPlaces s (Fork u) = (u.0 < s.threads) × (u.0 < s.handles)
-HasPlaces s (Join u) = (u.0 < s.threads) × (u.0 < s.handles)
-HasPlaces s _ = ⊤
+abbrev pub HasPlaces : Sizes → Access → Type 0
+HasPlaces s (Shared c) = (c.0 < s.writes) × (c.0 < s.reads)
+HasPlaces s (Exclusive c) = (c.0 < s.writes) × (c.0 < s.reads)
+HasPlaces s (Access.Fork u) = (u.0 < s.threads) × (u.0 < s.handles)
+HasPlaces s (Access.Join u) = (u.0 < s.threads) × (u.0 < s.handles)
+HasPlaces s Nothing = ⊤
 
 -- and so is the event's thread
 pub record NamesRows (s : Sizes) (e : Event) : Type 0 where
   pub thread : thread_of e < s.threads
   pub handle : thread_of e < s.handles
-  pub names : HasPlaces s e.kind
+  pub names : HasPlaces s (access_of e.kind)
 
 -- the same of each of the first n events
 pub record AllNameRows (s : Sizes) (trace : List Event) (n : ℕ) : Type 0 where
@@ -120,13 +114,11 @@ pub record TakesIn (trace : List Event) (at_hand number : ℕ) (old new : Table)
 
 -- ---- what changes a thing
 
--- what an operation is about besides its thread: a variable, a lock, or the thread that it forks or joins. All operations on
--- it that pass this test conflict with one another and with this one
-abbrev pub strong_for : Kind → Event → Bool
-strong_for (Read x v) f = is_about written_in x.0 f
-strong_for (Write x v) f = is_about written_in x.0 f
-strong_for (Acquire m) f = is_about lock_in m.0 f
-strong_for (Release m) f = is_about lock_in m.0 f
-strong_for (Fork u) f = is_about thread_in u.0 f
-strong_for (Join u) f = is_about thread_in u.0 f
-strong_for _ f = false
+-- what an operation is about besides its thread: a cell, or the thread that it forks or joins. All operations on it that pass
+-- this test conflict with one another and with this one
+abbrev pub strong_for : Access → Event → Bool
+strong_for (Shared c) f = is_about written_in c.0 f
+strong_for (Exclusive c) f = is_about written_in c.0 f
+strong_for (Access.Fork u) f = is_about thread_in u.0 f
+strong_for (Access.Join u) f = is_about thread_in u.0 f
+strong_for Nothing f = false

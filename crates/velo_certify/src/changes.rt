@@ -2,23 +2,22 @@
 //! is found at one place.
 ghost use Rattle.std.specs.Prelude.{◌≡◌, ◌<◌, length, max, slice_index, slice_set, IfOk, OnErr};
 ghost use Rattle.velo_events.specs.Refusals.{GrowthRefused};
+ghost use Rattle.velo_events.specs.Event.{access_of};
 ghost use Rattle.velo_certify.specs.Changes.{AreUnchanged, IsSwapped, TakesChanges, change_sizes};
 ghost use Rattle.velo_certify.specs.Table.{NamesRows, AllNameRows, sizes_of};
 
 use crate::counts::Counts;
 use crate::table::blank_row;
 use std::alloc::Global;
-use velo_events::{Event, Kind, Memory};
+use velo_events::{Access, Event, Memory};
 
 /// The greatest numbers of positions, 0 where there is none.
 #[derive(Drop)]
 pub(crate) struct Changes {
     /// Of the events of each thread.
     threads: Vec<usize>,
-    /// Of the writes of each variable.
+    /// Of the writes of each cell.
     writes: Vec<usize>,
-    /// Of the events of each lock.
-    locks: Vec<usize>,
 }
 
 /// Raises the number at a place to at least the given one. The answer is the number before.
@@ -33,36 +32,33 @@ fn raise(row: &mut Vec<usize>, place: usize, number: usize) -> usize
 }
 
 impl Changes {
-    /// For so many threads, variables and locks, without numbers.
+    /// For so many threads and cells, without numbers.
     ///
     /// # Errors
     /// `Memory` where a growth was refused.
     pub fn new(alloc: Global, counts: Counts) -> Result<Changes, Memory>
         ensures blank { IfOk result AreUnchanged }
-        ensures sizes { IfOk result (λ changes. change_sizes changes ≡ sizes_of counts.threads counts.variables counts.locks) }
+        ensures sizes { IfOk result (λ changes. change_sizes changes ≡ sizes_of counts.threads counts.cells) }
         ensures memory { OnErr result GrowthRefused }
     {
         Ok(Changes {
             threads: blank_row(alloc, counts.threads)?,
-            writes: blank_row(alloc, counts.variables)?,
-            locks: blank_row(alloc, counts.locks)?,
+            writes: blank_row(alloc, counts.cells)?,
         })
     }
 
-    /// Gives an event its number at the variable or lock that it changes. The answer is the greatest number of what changes
-    /// the thing that it is about besides its thread: a variable, a lock or another thread.
+    /// Gives an event its number at the cell that it changes. The answer is the greatest number of what changes
+    /// the thing that it is about besides its thread: a cell or another thread.
     fn swap(&mut self, event: Event, number: usize) -> usize
         requires { NamesRows (change_sizes self.old) event }
-        ensures { IsSwapped self.old event.kind number self.new result }
+        ensures { IsSwapped self.old (access_of event.kind) number self.new result }
     {
-        match event.kind {
-            Kind::Read(x, _) => self.writes[x.0 as usize],
-            Kind::Write(x, _) => raise(&mut self.writes, x.0 as usize, number),
-            Kind::Acquire(m) => raise(&mut self.locks, m.0 as usize, number),
-            Kind::Release(m) => raise(&mut self.locks, m.0 as usize, number),
-            Kind::Fork(u) => self.threads[u.0 as usize],
-            Kind::Join(u) => self.threads[u.0 as usize],
-            _ => 0,
+        match event.kind.access() {
+            Access::Shared(c) => self.writes[c.0 as usize],
+            Access::Exclusive(c) => raise(&mut self.writes, c.0 as usize, number),
+            Access::Fork(u) => self.threads[u.0 as usize],
+            Access::Join(u) => self.threads[u.0 as usize],
+            Access::Nothing => 0,
         }
     }
 

@@ -15,18 +15,18 @@ use crate::counts::Counts;
 use crate::owners::owner_of;
 use crate::table::blank_row;
 use std::alloc::Global;
-use velo_events::{Event, Kind, Memory};
+use velo_events::{Access, Event, Memory};
 
 /// How many pairs of thread numbers there are.
 const PAIRS: usize = 65_536;
 
 /// Whether the operation is about something that it does not change itself: a read, a fork or a join.
-fn is_weak(kind: Kind) -> bool
-    ensures { result ≡ is_weak kind }
+fn is_weak(access: Access) -> bool
+    ensures { result ≡ is_weak access }
 {
-    match kind {
-        Kind::Read(..) | Kind::Fork(_) | Kind::Join(_) => true,
-        _ => false,
+    match access {
+        Access::Shared(_) | Access::Fork(_) | Access::Join(_) => true,
+        Access::Exclusive(_) | Access::Nothing => false,
     }
 }
 
@@ -128,7 +128,7 @@ fn link_on(
     if other == 0 {
         return Ok(());
     }
-    if !is_weak(events[at].kind) {
+    if !is_weak(events[at].kind.access()) {
         return Ok(());
     }
     link(
@@ -151,7 +151,7 @@ fn link_all_back(
     links: &mut Links,
 ) -> Result<(), Memory>
     requires owners { AreOwners owners.now events.now }
-    requires names { AllNameRows (sizes_of counts.threads counts.variables counts.locks) events.now (length events.now) }
+    requires names { AllNameRows (sizes_of counts.threads counts.cells) events.now (length events.now) }
     requires links { HasLinks events.now 0 (length events.now) links.old }
     ensures links { OnOk result (HasLinks events.now (length events.now) (length events.now) links.new) }
     ensures memory { OnErr result GrowthRefused }
@@ -173,7 +173,7 @@ fn link_all_on(
     links: &mut Links,
 ) -> Result<(), Memory>
     requires owners { AreOwners owners.now events.now }
-    requires names { AllNameRows (sizes_of counts.threads counts.variables counts.locks) events.now (length events.now) }
+    requires names { AllNameRows (sizes_of counts.threads counts.cells) events.now (length events.now) }
     requires links { HasLinks events.now (length events.now) (length events.now) links.old }
     ensures links { OnOk result (HasLinks events.now (length events.now) 0 links.new) }
     ensures memory { OnErr result GrowthRefused }
@@ -199,7 +199,7 @@ pub(crate) fn links_of(
     counts: Counts,
 ) -> Result<Links, Memory>
     requires owners { AreOwners owners.now events.now }
-    requires names { AllNameRows (sizes_of counts.threads counts.variables counts.locks) events.now (length events.now) }
+    requires names { AllNameRows (sizes_of counts.threads counts.cells) events.now (length events.now) }
     ensures links { IfOk result (HasLinks events.now (length events.now) 0) }
     ensures memory { OnErr result GrowthRefused }
 {

@@ -4,13 +4,13 @@ ghost use Rattle.velo_events.specs.Refusals.{GrowthRefused};
 ghost use Rattle.velo_certify.specs.Lists.{AreListed, IsRising, list_sizes};
 ghost use Rattle.velo_certify.specs.Owners.{AreOwners};
 ghost use Rattle.velo_certify.specs.Search.{ArePassed, IsSearching, Passes, PassesConflicts, PassesList, level_at};
-ghost use Rattle.velo_certify.specs.Table.{AllNameRows, is_about, thread_in, handled_in, written_in, read_in, lock_in};
+ghost use Rattle.velo_certify.specs.Table.{AllNameRows, is_about, thread_in, handled_in, written_in, read_in};
 
 use crate::counts::counts_of;
 use crate::reached::Reached;
 use std::alloc::Global;
 use velo_events::growth::filled;
-use velo_events::{Event, Kind, Memory};
+use velo_events::{Access, Event, Memory};
 
 /// The fronts: for each list its first position that was not passed. What follows: for each position the next one in its
 /// list. A place that is not there is the number of positions.
@@ -20,12 +20,10 @@ pub(crate) struct Lists {
     threads: Vec<usize>,
     /// Of the forks and joins of each thread.
     handles: Vec<usize>,
-    /// Of the writes of each variable.
+    /// Of the writes of each cell.
     writes: Vec<usize>,
     /// Of its reads.
     reads: Vec<usize>,
-    /// Of the events of each lock.
-    locks: Vec<usize>,
     /// What follows each position in the list of its thread.
     pub following: Vec<usize>,
     /// What follows it in its other list, if it is in one.
@@ -84,9 +82,8 @@ impl Lists {
         let mut lists = Lists {
             threads: filled(alloc, none, counts.threads)?,
             handles: filled(alloc, none, counts.threads)?,
-            writes: filled(alloc, none, counts.variables)?,
-            reads: filled(alloc, none, counts.variables)?,
-            locks: filled(alloc, none, counts.locks)?,
+            writes: filled(alloc, none, counts.cells)?,
+            reads: filled(alloc, none, counts.cells)?,
             following: filled(alloc, none, none)?,
             alike: filled(alloc, none, none)?,
         };
@@ -113,22 +110,16 @@ impl Lists {
             event.thread.0 as usize,
             at,
         );
-        match event.kind {
-            Kind::Read(x, _) => put_first(&mut self.reads, &mut self.alike, x.0 as usize, at),
-            Kind::Write(x, _) => put_first(&mut self.writes, &mut self.alike, x.0 as usize, at),
-            Kind::Acquire(m) | Kind::Release(m) => put_first(
-                &mut self.locks,
-                &mut self.alike,
-                m.0 as usize,
-                at,
-            ),
-            Kind::Fork(u) | Kind::Join(u) => put_first(
+        match event.kind.access() {
+            Access::Shared(c) => put_first(&mut self.reads, &mut self.alike, c.0 as usize, at),
+            Access::Exclusive(c) => put_first(&mut self.writes, &mut self.alike, c.0 as usize, at),
+            Access::Fork(u) | Access::Join(u) => put_first(
                 &mut self.handles,
                 &mut self.alike,
                 u.0 as usize,
                 at,
             ),
-            _ => {}
+            Access::Nothing => {}
         }
     }
 
@@ -184,20 +175,20 @@ impl Lists {
         );
     }
 
-    /// Passes the writes of a variable.
+    /// Passes the writes of a cell.
     fn pass_writes(
         &mut self,
         events: &[Event],
         owners: &[usize],
         reached: &mut Reached,
-        variable: usize,
+        cell: usize,
         at: usize,
     )
         requires search { IsSearching events.now owners.now self.old reached.old at }
-        requires thing { variable < length self.old.writes.items }
+        requires thing { cell < length self.old.writes.items }
         ensures search { IsSearching events.now owners.now self.new reached.new at }
         ensures sizes { list_sizes self.new ≡ list_sizes self.old }
-        ensures passes { Passes events.now at (is_about written_in variable) reached.old reached.new }
+        ensures passes { Passes events.now at (is_about written_in cell) reached.old reached.new }
     {
         pass_list(
             events,
@@ -205,7 +196,7 @@ impl Lists {
             reached,
             &mut self.writes,
             &self.alike,
-            variable,
+            cell,
             at,
         );
     }
@@ -216,14 +207,14 @@ impl Lists {
         events: &[Event],
         owners: &[usize],
         reached: &mut Reached,
-        variable: usize,
+        cell: usize,
         at: usize,
     )
         requires search { IsSearching events.now owners.now self.old reached.old at }
-        requires thing { variable < length self.old.reads.items }
+        requires thing { cell < length self.old.reads.items }
         ensures search { IsSearching events.now owners.now self.new reached.new at }
         ensures sizes { list_sizes self.new ≡ list_sizes self.old }
-        ensures passes { Passes events.now at (is_about read_in variable) reached.old reached.new }
+        ensures passes { Passes events.now at (is_about read_in cell) reached.old reached.new }
     {
         pass_list(
             events,
@@ -231,33 +222,7 @@ impl Lists {
             reached,
             &mut self.reads,
             &self.alike,
-            variable,
-            at,
-        );
-    }
-
-    /// Passes the events of a lock.
-    fn pass_lock(
-        &mut self,
-        events: &[Event],
-        owners: &[usize],
-        reached: &mut Reached,
-        lock: usize,
-        at: usize,
-    )
-        requires search { IsSearching events.now owners.now self.old reached.old at }
-        requires thing { lock < length self.old.locks.items }
-        ensures search { IsSearching events.now owners.now self.new reached.new at }
-        ensures sizes { list_sizes self.new ≡ list_sizes self.old }
-        ensures passes { Passes events.now at (is_about lock_in lock) reached.old reached.new }
-    {
-        pass_list(
-            events,
-            owners,
-            reached,
-            &mut self.locks,
-            &self.alike,
-            lock,
+            cell,
             at,
         );
     }
@@ -278,27 +243,20 @@ impl Lists {
         let thread = event.thread.0 as usize;
         self.pass_thread(events, owners, reached, thread, at);
         self.pass_handle(events, owners, reached, thread, at);
-        match event.kind {
-            Kind::Read(x, _) => self.pass_writes(events, owners, reached, x.0 as usize, at),
-            Kind::Write(x, _) => {
-                self.pass_writes(events, owners, reached, x.0 as usize, at);
-                self.pass_reads(events, owners, reached, x.0 as usize, at);
+        match event.kind.access() {
+            Access::Shared(c) => self.pass_writes(events, owners, reached, c.0 as usize, at),
+            Access::Exclusive(c) => {
+                self.pass_writes(events, owners, reached, c.0 as usize, at);
+                self.pass_reads(events, owners, reached, c.0 as usize, at);
             }
-            Kind::Acquire(m) | Kind::Release(m) => self.pass_lock(
-                events,
-                owners,
-                reached,
-                m.0 as usize,
-                at,
-            ),
-            Kind::Fork(u) | Kind::Join(u) => self.pass_thread(
+            Access::Fork(u) | Access::Join(u) => self.pass_thread(
                 events,
                 owners,
                 reached,
                 u.0 as usize,
                 at,
             ),
-            _ => {}
+            Access::Nothing => {}
         }
     }
 }

@@ -137,7 +137,7 @@ fn is_serial(
 /// Whether the list is a serial reordering of the trace: each position once, every conflicting pair in its order, and the
 /// positions of each transaction next to one another. It trusts nobody: any list may be given.
 ///
-/// Its time and memory grow with the numbers of positions, threads, variables and locks.
+/// Its time and memory grow with the numbers of positions, threads and cells.
 ///
 /// # Errors
 /// `Memory` where a growth was refused.

@@ -7,7 +7,7 @@ ghost use Rattle.velo_certify.specs.Table.{IsBlank, AreBlank, sizes, NamesRows, 
 use crate::counts::counts_of;
 use std::alloc::Global;
 use velo_events::growth::filled;
-use velo_events::{Event, Kind, Memory};
+use velo_events::{Access, Event, Memory};
 
 /// The greatest numbers of positions, 0 where there is none.
 #[derive(Drop)]
@@ -16,12 +16,10 @@ pub(crate) struct Table {
     threads: Vec<usize>,
     /// Of the forks and joins of each thread.
     handles: Vec<usize>,
-    /// Of the writes of each variable.
+    /// Of the writes of each cell.
     writes: Vec<usize>,
     /// Of its reads.
     reads: Vec<usize>,
-    /// Of the events of each lock.
-    locks: Vec<usize>,
 }
 
 /// A row without numbers.
@@ -69,9 +67,8 @@ impl Table {
         Ok(Table {
             threads: blank_row(alloc, counts.threads)?,
             handles: blank_row(alloc, counts.threads)?,
-            writes: blank_row(alloc, counts.variables)?,
-            reads: blank_row(alloc, counts.variables)?,
-            locks: blank_row(alloc, counts.locks)?,
+            writes: blank_row(alloc, counts.cells)?,
+            reads: blank_row(alloc, counts.cells)?,
         })
     }
 
@@ -84,7 +81,6 @@ impl Table {
         clear(&mut self.handles);
         clear(&mut self.writes);
         clear(&mut self.reads);
-        clear(&mut self.locks);
     }
 
     /// The greatest number of an event that conflicts with the given one.
@@ -94,14 +90,13 @@ impl Table {
     {
         let thread = event.thread.0 as usize;
         let near = self.threads[thread].max(self.handles[thread]);
-        match event.kind {
-            Kind::Read(x, _) => near.max(self.writes[x.0 as usize]),
-            Kind::Write(x, _) => near
-                .max(self.writes[x.0 as usize])
-                .max(self.reads[x.0 as usize]),
-            Kind::Acquire(m) | Kind::Release(m) => near.max(self.locks[m.0 as usize]),
-            Kind::Fork(u) | Kind::Join(u) => near.max(self.threads[u.0 as usize]),
-            _ => near,
+        match event.kind.access() {
+            Access::Shared(c) => near.max(self.writes[c.0 as usize]),
+            Access::Exclusive(c) => near
+                .max(self.writes[c.0 as usize])
+                .max(self.reads[c.0 as usize]),
+            Access::Fork(u) | Access::Join(u) => near.max(self.threads[u.0 as usize]),
+            Access::Nothing => near,
         }
     }
 
@@ -112,12 +107,11 @@ impl Table {
         ensures sizes { sizes self.new ≡ sizes self.old }
     {
         raise_at(&mut self.threads, event.thread.0 as usize, number);
-        match event.kind {
-            Kind::Read(x, _) => raise_at(&mut self.reads, x.0 as usize, number),
-            Kind::Write(x, _) => raise_at(&mut self.writes, x.0 as usize, number),
-            Kind::Acquire(m) | Kind::Release(m) => raise_at(&mut self.locks, m.0 as usize, number),
-            Kind::Fork(u) | Kind::Join(u) => raise_at(&mut self.handles, u.0 as usize, number),
-            _ => {}
+        match event.kind.access() {
+            Access::Shared(c) => raise_at(&mut self.reads, c.0 as usize, number),
+            Access::Exclusive(c) => raise_at(&mut self.writes, c.0 as usize, number),
+            Access::Fork(u) | Access::Join(u) => raise_at(&mut self.handles, u.0 as usize, number),
+            Access::Nothing => {}
         }
     }
 

@@ -24,7 +24,7 @@ impl Threads {
     /// # Errors
     /// `Memory` where a growth was refused.
     pub fn new(alloc: Global, events: &[Event], counts: Counts) -> Result<Threads, Memory>
-        requires { AllNameRows (sizes_of counts.threads counts.variables counts.locks) events.now (length events.now) }
+        requires { AllNameRows (sizes_of counts.threads counts.cells) events.now (length events.now) }
         ensures names { IfOk result (λ threads. NamesFronts events.now threads.fronts.items) }
         ensures fronts { IfOk result (λ threads. AreFirstFrom events.now 0 threads.fronts.items) }
         ensures following { IfOk result (λ threads. AreFollowing events.now 0 threads.following.items) }

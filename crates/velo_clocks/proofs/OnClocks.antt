@@ -7,9 +7,9 @@ use Rattle.std.proofs.lemmas.Option.{same_Some, slice_get_within}
 use Rattle.std.proofs.lemmas.List.{length_push}
 use Rattle.velo_events.specs.declared.config.Bounds.{Bounds}
 use Rattle.velo_events.specs.declared.event.Event.{Event}
-use Rattle.velo_events.specs.Event.{thread_of, variable_of, lock_of, are_same, is_by, is_write, is_write_of, is_read, is_fork_of, is_join_of}
-use Rattle.velo_events.specs.declared.event.Kind.{Kind}
-use Rattle.velo_events.specs.declared.event.Kind.TheVariants.{Read, Write, Acquire, Release, Begin, End, Fork, Join, Exit}
+use Rattle.velo_events.specs.Event.{thread_of, access_of, cell_of, are_same, is_by, is_exclusive, is_shared, is_writing, is_reading, is_fork_of, is_join_of}
+use Rattle.velo_events.specs.declared.event.Access.{Access}
+use Rattle.velo_events.specs.declared.event.Access.TheVariants.{Shared, Exclusive, Nothing}
 use Rattle.velo_events.specs.Conflict.{conflict}
 use Rattle.velo_events.specs.Block.{passes_at, is_open_at, open_blocks}
 use Rattle.velo_events.specs.Graph.{ConflictsInOrder, HasCycle, both_conflict, conflict_at}
@@ -23,10 +23,10 @@ use Rattle.velo_events.proofs.OnUnfinished.{is_open_at-before}
 use Rattle.velo_events.proofs.OnWellFormed.{IsWellFormed-before, IsWellFormed-last}
 use Rattle.velo_events.proofs.OnHappening.{IsFrom, IsFrom-le, IsFrom-last, IsFrom-next, IsFrom-append, IsFrom-before, IsFrom-same_thread}
 use Rattle.velo_events.proofs.OnBlame.{IsInterruptedAtLast, no_return, blame_law, blame_law-last, AreBlamed-filter}
-use Rattle.velo_events.specs.Place.{Place, LastOf, LastWrite, LastOn, is_read_of, is_recorded, last_at}
+use Rattle.velo_events.specs.Place.{Place, LastOf, LastWrite, is_recorded, last_at}
 use Rattle.velo_events.proofs.OnLast.{last_at-push, last_at-is, last_at-within, last_position-at}
-use Rattle.velo_events.proofs.OnLookUps.{reached-from_conflict, looked_up-is, fork-first, no_join, no_fork, are_same-some, are_same-both, are_same-from, conflict-thread, conflict-variable, conflict-lock, conflict-handled, fork_handles, forks_or_joins, reads_or_writes, conflict_at-events}
-use Rattle.velo_clocks.specs.Clocks.{ClockPlace, OfLast, OfWrite, OfReads, OfLock, ClockState, IsAt, IsUnwrittenSince, IsForeignAt, IsLatestSince, AreClocksSince, IsNoted, KnowsNothing, KnowsTheSame, known_at, foreign_at, beside, greatest_of, clock_of, blame_bound, is_noted, is_cleared, stays}
+use Rattle.velo_events.proofs.OnLookUps.{reached-from_conflict, looked_up-is, fork-first, no_join, no_fork, are_same-some, are_same-both, are_same-from, conflict-thread, conflict-cell, conflict-handled, fork_handles, forks_or_joins, reads_or_writes, conflict_at-events}
+use Rattle.velo_clocks.specs.Clocks.{ClockPlace, OfLast, OfWrite, OfReads, ClockState, IsAt, IsUnwrittenSince, IsForeignAt, IsLatestSince, AreClocksSince, IsNoted, KnowsNothing, KnowsTheSame, known_at, foreign_at, beside, greatest_of, clock_of, blame_bound, is_noted, is_cleared, stays}
 use Rattle.velo_clocks.proofs.OnLatest.{most-at, most-some, latest-same, latest-none, latest-union, latest-append}
 use Rattle.velo_clocks.proofs.OnBeside.{IsBeside, beside-is, beside-has, beside-conflicts, joined-conflicts, joined-at, last-write, read-write}
 
@@ -51,8 +51,7 @@ reserves first old new trace same stands =
 at-within : (trace : List Event) (p : ClockPlace) (i : ℕ) → IsAt trace p i → i < length trace
 at-within trace (OfLast t) i at = last_at-within (LastOf t) trace i at
 at-within trace (OfWrite x) i at = last_at-within (LastWrite x) trace i at
-at-within trace (OfReads x) i at = passes_at-within trace (is_read_of x) i at.0
-at-within trace (OfLock m) i at = last_at-within (LastOn m) trace i at
+at-within trace (OfReads x) i at = passes_at-within trace (is_reading x) i at.0
 
 -- an earlier event that conflicts with the appended one at its position conflicts with it
 conflict-from : (trace : List Event) (e : Event) (j : ℕ) (f : Event) → slice_get trace j ≡ Some f → IsTrue (conflict_at (trace ++ e ∷ []) j (length trace)) → IsTrue (conflict f e)
@@ -62,7 +61,7 @@ conflict-from trace e j f at link =
 
 module _ (first : ℕ) (bounds : Bounds) (s : ClockState) (trace : List Event) (e : Event) (u : ℕ) (few : bounds.threads ≤ 64) (well : IsWellFormed bounds (trace ++ e ∷ [])) (stands : AreClocksSince first s trace) where
   abbrev joined : ℕ
-  joined = greatest_of (map (λ p. known_at s p u) (OfLast (thread_of e) ∷ beside e.kind))
+  joined = greatest_of (map (λ p. known_at s p u) (OfLast (thread_of e) ∷ beside (access_of e.kind)))
 
   -- of its own thread it knows itself
   knows-own : IsTrue (u == thread_of e) → IsLatestSince first (trace ++ e ∷ []) (λ i. i ≡ length trace) u (length trace + 1)
@@ -86,7 +85,7 @@ module _ (first : ℕ) (bounds : Bounds) (s : ClockState) (trace : List Event) (
       let w = reached-from_conflict bounds trace e (IsWellFormed-before bounds trace (e ∷ []) well) (IsWellFormed-last bounds trace e well) few j f.0 f.1 hit in
       let q = joined-at trace e w.place w.at (looked_up-is e w.place w.looked) w.last in
       let below : k < known_at s q.place u = (stands.known q.place u).none_later k q.at since q.there own (Reaches-trans (ConflictsInOrder trace) k w.at q.at (Reaches-trans (ConflictsInOrder trace) k j w.at chain w.after) q.after) in
-      let upto = most-at (λ p. known_at s p u) (OfLast (thread_of e) ∷ beside e.kind) q.place q.among in
+      let upto = most-at (λ p. known_at s p u) (OfLast (thread_of e) ∷ beside (access_of e.kind)) q.place q.among in
       omega (arith, below, upto)
 
   knows-other : IsFalse (u == thread_of e) → IsLatestSince first (trace ++ e ∷ []) (λ i. i ≡ length trace) u joined
@@ -102,7 +101,7 @@ module _ (first : ℕ) (bounds : Bounds) (s : ClockState) (trace : List Event) (
         (subst (λ n. IsTrue (conflict_at (trace ++ e ∷ []) w.0 n)) at w.2.1))
         (IsFrom-last (trace ++ e ∷ []) k i chain);
     latest = λ some.
-        let q = most-some (λ p. known_at s p u) (OfLast (thread_of e) ∷ beside e.kind) (omega (arith, some)) in
+        let q = most-some (λ p. known_at s p u) (OfLast (thread_of e) ∷ beside (access_of e.kind)) (omega (arith, some)) in
         let w = (stands.known q.0 u).latest (omega (arith, some, q.2)) in
         record {
           at = w.at;
@@ -137,13 +136,11 @@ abbrev keeps : ClockPlace → Bool
 keeps (OfLast t) = false
 keeps (OfWrite x) = false
 keeps (OfReads x) = true
-keeps (OfLock m) = false
 
 stays-keeps : (p : ClockPlace) (n : ℕ) → stays p n ≡ (if keeps p then n else 0)
 stays-keeps (OfLast t) n = refl
 stays-keeps (OfWrite x) n = refl
 stays-keeps (OfReads x) n = refl
-stays-keeps (OfLock m) n = refl
 
 -- the last one is the new one, or is as it was
 last-after : (b : Bool) (new old : Option ℕ) (i n : ℕ) → new ≡ (if b then Some n else old) → (new ≡ Some i) ↔ After b false false (old ≡ Some i) (i ≡ n)
@@ -162,59 +159,54 @@ passes-last trace e test i last at = sym (passes_at-push trace e test) ∙ subst
 
 -- a variable that is not written behind a position was not before the last event
 unwritten-before : (trace : List Event) (e : Event) (x i : ℕ) → IsUnwrittenSince (trace ++ e ∷ []) x i → IsUnwrittenSince trace x i
-unwritten-before trace e x i unwritten j after = false_from_ne_true _ (λ writes. both_ways _ (unwritten j after) (passes-before trace e (is_write_of x) j writes))
+unwritten-before trace e x i unwritten j after = false_from_ne_true _ (λ writes. both_ways _ (unwritten j after) (passes-before trace e (is_writing x) j writes))
 
 -- nor is it with the last event, if this does not write it or is at the position
-unwritten-next : (trace : List Event) (e : Event) (x i : ℕ) → (i < length trace → IsFalse (is_write_of x e)) → (i < length trace → IsUnwrittenSince trace x i) → IsUnwrittenSince (trace ++ e ∷ []) x i
+unwritten-next : (trace : List Event) (e : Event) (x i : ℕ) → (i < length trace → IsFalse (is_writing x e)) → (i < length trace → IsUnwrittenSince trace x i) → IsUnwrittenSince (trace ++ e ∷ []) x i
 unwritten-next trace e x i reads unwritten j after = false_from_ne_true _ (λ writes. ⊎_elim
-    (λ before. both_ways _ (unwritten (omega (arith, before, after)) j after) (sym (passes_at-append trace (e ∷ []) (is_write_of x) j before) ∙ writes))
-    (λ past. let last = last-behind trace e (is_write_of x) j past writes in both_ways _ (reads (omega (arith, last, after))) (passes-last trace e (is_write_of x) j last writes))
+    (λ before. both_ways _ (unwritten (omega (arith, before, after)) j after) (sym (passes_at-append trace (e ∷ []) (is_writing x) j before) ∙ writes))
+    (λ past. let last = last-behind trace e (is_writing x) j past writes in both_ways _ (reads (omega (arith, last, after))) (passes-last trace e (is_writing x) j last writes))
     (cases_lt j (length trace)))
 
 -- what reads does not write
-reads-write_not : (k : Kind) → IsTrue (is_read k) → IsFalse (is_write k)
-reads-write_not (Read x v) is = refl
-reads-write_not (Write x v) is = absurd (false≢true is)
-reads-write_not (Acquire m) is = absurd (false≢true is)
-reads-write_not (Release m) is = absurd (false≢true is)
-reads-write_not (Begin l) is = absurd (false≢true is)
-reads-write_not End is = absurd (false≢true is)
-reads-write_not (Fork t) is = absurd (false≢true is)
-reads-write_not (Join t) is = absurd (false≢true is)
-reads-write_not Exit is = absurd (false≢true is)
+reads-write_not : (a : Access) → IsTrue (is_shared a) → IsFalse (is_exclusive a)
+reads-write_not (Shared x) is = refl
+reads-write_not (Exclusive x) is = absurd (false≢true is)
+reads-write_not Nothing is = absurd (false≢true is)
+reads-write_not (Access.Fork t) is = absurd (false≢true is)
+reads-write_not (Access.Join t) is = absurd (false≢true is)
 
 -- the reads of a variable since its last write
-reads-after : (trace : List Event) (e : Event) (x i : ℕ) (b w : Bool) → is_read_of x e ≡ b → is_write_of x e ≡ w → IsAt (trace ++ e ∷ []) (OfReads x) i ↔ After b w true (IsAt trace (OfReads x) i) (i ≡ length trace)
+reads-after : (trace : List Event) (e : Event) (x i : ℕ) (b w : Bool) → is_reading x e ≡ b → is_writing x e ≡ w → IsAt (trace ++ e ∷ []) (OfReads x) i ↔ After b w true (IsAt trace (OfReads x) i) (i ≡ length trace)
 reads-after trace e x i true w reads writes =
-    let no_write : IsFalse (is_write_of x e) = false_from_ne_true _ (λ h. both_ways _ (reads-write_not e.kind (and_parts (is_read e.kind) _ reads).0) (and_parts (is_write e.kind) _ h).0) in (
-      (λ at. ⊎_elim (λ before. inl (sym (passes_at-append trace (e ∷ []) (is_read_of x) i before) ∙ at.0, unwritten-before trace e x i at.1))
-          (λ past. inr (last-behind trace e (is_read_of x) i past at.0))
+    let no_write : IsFalse (is_writing x e) = false_from_ne_true _ (λ h. both_ways _ (reads-write_not (access_of e.kind) (and_parts (is_shared (access_of e.kind)) _ reads).0) (and_parts (is_exclusive (access_of e.kind)) _ h).0) in (
+      (λ at. ⊎_elim (λ before. inl (sym (passes_at-append trace (e ∷ []) (is_reading x) i before) ∙ at.0, unwritten-before trace e x i at.1))
+          (λ past. inr (last-behind trace e (is_reading x) i past at.0))
           (cases_lt i (length trace))),
       (λ these. ⊎_elim
-          (λ old. (passes-before trace e (is_read_of x) i old.0, unwritten-next trace e x i (λ _. no_write) (λ _. old.1)))
-          (λ last. (subst (λ k. IsTrue (passes_at (trace ++ e ∷ []) (is_read_of x) k)) (sym last) (passes_at-push trace e (is_read_of x) ∙ reads), unwritten-next trace e x i (λ _. no_write) (λ before. absurd (omega (arith, before, last)))))
+          (λ old. (passes-before trace e (is_reading x) i old.0, unwritten-next trace e x i (λ _. no_write) (λ _. old.1)))
+          (λ last. (subst (λ k. IsTrue (passes_at (trace ++ e ∷ []) (is_reading x) k)) (sym last) (passes_at-push trace e (is_reading x) ∙ reads), unwritten-next trace e x i (λ _. no_write) (λ before. absurd (omega (arith, before, last)))))
           these),
     )
 reads-after trace e x i false true reads writes = (
   (λ at. ⊎_elim
-      (λ before. both_ways _ (at.1 (length trace) before) (passes_at-push trace e (is_write_of x) ∙ writes))
-      (λ past. both_ways _ reads (passes-last trace e (is_read_of x) i (last-behind trace e (is_read_of x) i past at.0) at.0))
+      (λ before. both_ways _ (at.1 (length trace) before) (passes_at-push trace e (is_writing x) ∙ writes))
+      (λ past. both_ways _ reads (passes-last trace e (is_reading x) i (last-behind trace e (is_reading x) i past at.0) at.0))
       (cases_lt i (length trace))),
   (λ none. absurd none),
 )
 reads-after trace e x i false false reads writes = (
   (λ at. ⊎_elim
-      (λ before. (sym (passes_at-append trace (e ∷ []) (is_read_of x) i before) ∙ at.0, unwritten-before trace e x i at.1))
-      (λ past. absurd (both_ways _ reads (passes-last trace e (is_read_of x) i (last-behind trace e (is_read_of x) i past at.0) at.0)))
+      (λ before. (sym (passes_at-append trace (e ∷ []) (is_reading x) i before) ∙ at.0, unwritten-before trace e x i at.1))
+      (λ past. absurd (both_ways _ reads (passes-last trace e (is_reading x) i (last-behind trace e (is_reading x) i past at.0) at.0)))
       (cases_lt i (length trace))),
-  (λ old. (passes-before trace e (is_read_of x) i old.0, unwritten-next trace e x i (λ _. writes) (λ _. old.1))),
+  (λ old. (passes-before trace e (is_reading x) i old.0, unwritten-next trace e x i (λ _. writes) (λ _. old.1))),
 )
 
 at-after : (trace : List Event) (e : Event) (p : ClockPlace) (i : ℕ) → IsAt (trace ++ e ∷ []) p i ↔ After (is_noted e p) (is_cleared e p) (keeps p) (IsAt trace p i) (i ≡ length trace)
 at-after trace e (OfLast t) i = last-after (is_noted e (OfLast t)) (last_at (LastOf t) (trace ++ e ∷ [])) (last_at (LastOf t) trace) i (length trace) (last_at-push (LastOf t) trace e)
 at-after trace e (OfWrite x) i = last-after (is_noted e (OfWrite x)) (last_at (LastWrite x) (trace ++ e ∷ [])) (last_at (LastWrite x) trace) i (length trace) (last_at-push (LastWrite x) trace e)
-at-after trace e (OfReads x) i = reads-after trace e x i (is_read_of x e) (is_write_of x e) refl refl
-at-after trace e (OfLock m) i = last-after (is_noted e (OfLock m)) (last_at (LastOn m) (trace ++ e ∷ [])) (last_at (LastOn m) trace) i (length trace) (last_at-push (LastOn m) trace e)
+at-after trace e (OfReads x) i = reads-after trace e x i (is_reading x e) (is_writing x e) refl refl
 
 -- the same of those that are not of a thread
 foreign-after : (b clears keeps : Bool) (New Old Next : Type 0) (new old : Bool) → (Old → new ≡ old) → New ↔ After b clears keeps Old Next → (New × IsFalse new) ↔ After b clears keeps (Old × IsFalse old) (Next × IsFalse new)
@@ -277,7 +269,7 @@ notes first bounds old new trace e few well stands state_after = record { known 
 record IsBesideFrom (trace : List Event) (e : Event) (b : ℕ) : Type 0 where
   pub place : ClockPlace
   pub at : ℕ
-  pub aside : IsBeside e.kind place
+  pub aside : IsBeside (access_of e.kind) place
   pub there : IsForeignAt trace place (thread_of e) at
   pub from : IsFrom trace b at
 
@@ -297,19 +289,19 @@ module _ (bounds : Bounds) (trace : List Event) (e : Event) (b : ℕ) (few : bou
         (w.0, w.1, subst (λ k. IsFalse (passes_at trace (is_by (thread_of e)) k)) same other, subst (IsFrom trace b) same from))
         (cases_lt q w.0)
 
-    beside-write : (x : ℕ) → variable_of e.kind ≡ Some x → variable_of f.kind ≡ Some x → IsTrue (is_write f.kind) → IsBesideFrom trace e b
+    beside-write : (x : ℕ) → cell_of (access_of e.kind) ≡ Some x → cell_of (access_of f.kind) ≡ Some x → IsTrue (is_exclusive (access_of f.kind)) → IsBesideFrom trace e b
     beside-write x accesses same writes =
         let w = last-foreign (LastWrite x) (and_from _ _ writes (are_same-from _ _ x same refl))
-        (λ g recorded. conflict-variable f g (are_same-from _ _ x same (are_same-some _ x (and_parts (is_write g.kind) _ recorded).1)) (or_left _ _ writes)) in
+        (λ g recorded. conflict-cell f g (are_same-from _ _ x same (are_same-some _ x (and_parts (is_exclusive (access_of g.kind)) _ recorded).1)) (or_left _ _ writes)) in
         record { place = OfWrite x; at = w.0; aside = accesses; there = (w.1, w.2); from = w.3 }
 
-    beside-read : (x : ℕ) → variable_of e.kind ≡ Some x → variable_of f.kind ≡ Some x → IsTrue (is_write e.kind) → IsTrue (is_read f.kind) → IsBesideFrom trace e b
+    beside-read : (x : ℕ) → cell_of (access_of e.kind) ≡ Some x → cell_of (access_of f.kind) ≡ Some x → IsTrue (is_exclusive (access_of e.kind)) → IsTrue (is_shared (access_of f.kind)) → IsBesideFrom trace e b
     beside-read x accesses same writes reads = ⊎_elim
         (λ unwritten. record {
           place = OfReads x;
           at = q;
           aside = (accesses, writes);
-          there = ((passes_at-is trace (is_read_of x) q f here ∙ and_from _ _ reads (are_same-from _ _ x same refl), unwritten), other);
+          there = ((passes_at-is trace (is_reading x) q f here ∙ and_from _ _ reads (are_same-from _ _ x same refl), unwritten), other);
           from = from;
         })
         (λ written.
@@ -323,17 +315,12 @@ module _ (bounds : Bounds) (trace : List Event) (e : Event) (b : ℕ) (few : bou
         })
         (last-write trace x q)
 
-    beside-on_lock : (m : ℕ) → lock_of e.kind ≡ Some m → lock_of f.kind ≡ Some m → IsBesideFrom trace e b
-    beside-on_lock m operates same =
-        let w = last-foreign (LastOn m) (are_same-from _ _ m same refl) (λ g recorded. conflict-lock f g (are_same-from _ _ m same (are_same-some _ m recorded))) in
-        record { place = OfLock m; at = w.0; aside = operates; there = (w.1, w.2); from = w.3 }
-
     beside-joined : IsTrue (is_join_of (thread_of f) e) → IsBesideFrom trace e b
     beside-joined joins =
         let w = last-foreign (LastOf (thread_of f)) (or_left _ _ (eq-eqb (thread_of f) (thread_of f) refl))
         (λ g recorded. ⊎_elim
         (λ also. conflict-thread f g (sym (eqb-true _ _ also)))
-        (λ forks. conflict-handled f g (fork_handles g.kind (thread_of f) forks))
+        (λ forks. conflict-handled f g (fork_handles (access_of g.kind) (thread_of f) forks))
         (or_cases _ _ recorded)) in
         record { place = OfLast (thread_of f); at = w.0; aside = joins; there = (w.1, w.2); from = w.3 }
 
@@ -350,25 +337,22 @@ module _ (bounds : Bounds) (trace : List Event) (e : Event) (b : ℕ) (few : bou
         let before = IsWellFormed-before bounds trace (e ∷ []) well in
         let follows = IsWellFormed-last bounds trace e well in
         ⊎_elim
-        (λ greatest_of. ⊎_elim
-        (λ more. ⊎_elim
+        (λ most. ⊎_elim
         (λ some. ⊎_elim
         (λ own. absurd (both_ways (passes_at trace (is_by (thread_of e)) q) other (passes_at-is trace (is_by (thread_of e)) q f here ∙ own)))
         (λ access.
-        let parts = and_parts (are_same (variable_of f.kind) (variable_of e.kind)) _ access in
+        let parts = and_parts (are_same (cell_of (access_of f.kind)) (cell_of (access_of e.kind))) _ access in
         let same = are_same-both _ _ parts.0 in
         ⊎_elim (λ writes. beside-write same.0 same.2 same.1 writes)
         (λ reads. ⊎_elim
         (λ writes. beside-write same.0 same.2 same.1 writes)
         (λ writes. beside-read same.0 same.2 same.1 writes reads)
         (or_cases _ _ parts.1))
-        (reads_or_writes f.kind same.0 same.1))
+        (reads_or_writes (access_of f.kind) same.0 same.1))
         (or_cases _ _ some))
-        (λ locks. let same = are_same-both _ _ locks in beside-on_lock same.0 same.2 same.1)
-        (or_cases _ _ more))
-        (λ handles. ⊎_elim (λ forks. absurd (not_forked forks)) (λ joins. absurd (no_join bounds trace e before follows few q f here joins)) (forks_or_joins f.kind (thread_of e) handles))
-        (or_cases _ _ greatest_of))
-        (λ handled. ⊎_elim (λ forks. absurd (no_fork bounds trace e before follows few q f here forks)) (λ joins. beside-joined joins) (forks_or_joins e.kind (thread_of f) handled))
+        (λ handles. ⊎_elim (λ forks. absurd (not_forked forks)) (λ joins. absurd (no_join bounds trace e before follows few q f here joins)) (forks_or_joins (access_of f.kind) (thread_of e) handles))
+        (or_cases _ _ most))
+        (λ handled. ⊎_elim (λ forks. absurd (no_fork bounds trace e before follows few q f here forks)) (λ joins. beside-joined joins) (forks_or_joins (access_of e.kind) (thread_of f) handled))
         (or_cases _ _ h)
 
 pub bounded : (first : ℕ) (bounds : Bounds) (s : ClockState) (trace : List Event) (e : Event) (b : ℕ) → first ≤ b → bounds.threads ≤ 64 → IsWellFormed bounds (trace ++ e ∷ []) → ¬ HasCycle trace → AreClocksSince first s trace
@@ -381,7 +365,7 @@ bounded first bounds s trace e b since few well none stands opened = (below_boun
 
     below_bound : b < blame_bound s e → IsInterruptedAtLast trace e b
     below_bound below =
-        let q = most-some (λ p. foreign_at s p (thread_of e)) (beside e.kind) (omega (arith, below)) in
+        let q = most-some (λ p. foreign_at s p (thread_of e)) (beside (access_of e.kind)) (omega (arith, below)) in
         let w = (stands.foreign q.0 (thread_of e)).latest (omega (arith, since, below, q.2)) in
         let within = passes_at-within trace (is_by (thread_of e)) w.at w.own in
         let upto : b ≤ w.at = omega (arith, below, q.2, w.next) in
@@ -390,7 +374,7 @@ bounded first bounds s trace e b since few well none stands opened = (below_boun
           before = at-within trace q.0 w.by w.among.0;
           of_another = w.among.1;
           from = Reaches-trans (ConflictsInOrder trace) b w.at w.by (IsFrom-same_thread trace (thread_of e) b w.at upto (own (omega (arith, upto, within))) w.own) w.from;
-          in_conflict = beside-conflicts bounds trace e (IsWellFormed-before bounds trace (e ∷ []) well) (IsWellFormed-last bounds trace e well) q.0 w.by (beside-is e.kind q.0 q.1) w.among.0;
+          in_conflict = beside-conflicts bounds trace e (IsWellFormed-before bounds trace (e ∷ []) well) (IsWellFormed-last bounds trace e well) q.0 w.by (beside-is (access_of e.kind) q.0 q.1) w.among.0;
         }
 
     interrupted : IsInterruptedAtLast trace e b → b < blame_bound s e
@@ -400,7 +384,7 @@ bounded first bounds s trace e b since few well none stands opened = (below_boun
         let l : b < length trace = omega (arith, after, i.before) in
         let w = beside-conflicting bounds trace e b few well none (is_open_at-before trace e (thread_of e) b l opened) i.through f.0 f.1 i.of_another i.from (conflict-from trace e i.through f.0 f.1 i.in_conflict) in
         let below = (stands.foreign w.place (thread_of e)).none_later b w.at since w.there (own l) w.from in
-        let upto = most-at (λ p. foreign_at s p (thread_of e)) (beside e.kind) w.place (beside-has e.kind w.place w.aside) in
+        let upto = most-at (λ p. foreign_at s p (thread_of e)) (beside (access_of e.kind)) w.place (beside-has (access_of e.kind) w.place w.aside) in
         omega (arith, below, upto)
 
 -- so the open blocks below the bound are those to blame, where none of them begins before `first`

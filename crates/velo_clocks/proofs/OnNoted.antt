@@ -1,16 +1,16 @@
 -- What the clocks have after an event was noted, place by place.
 use Rattle.std.proofs.Common.{◌≡◌, ℕ, ◌+◌, ◌<◌, max, Bool, true, false, List, ◌∷◌, length, map, get_or, refl, sym, ap, ◌∙◌, arith, ⊎_elim}
-use Rattle.std.specs.Prelude.{◌==◌, ◌||◌, if◌then◌else◌}
+use Rattle.std.specs.Prelude.{Some, ◌==◌, ◌||◌, ◌&&◌, if◌then◌else◌}
 use Rattle.std.proofs.Math.ListN.{set}
 use Rattle.std.proofs.lemmas.Bool.{cases_eq, cases_lt, ne_eqb, eq-eqb}
 use Rattle.std.proofs.lemmas.List.{get_or-set_same, get_or-set_other, length-set, get_or_past, set_past}
 use Rattle.velo_events.specs.declared.event.Event.{Event}
 use Rattle.velo_events.specs.declared.event.ThreadId.{ThreadId}
-use Rattle.velo_events.specs.declared.event.Kind.{Kind}
-use Rattle.velo_events.specs.declared.event.Kind.TheVariants.{Read, Write, Acquire, Release, Begin, End, Fork, Join, Exit}
-use Rattle.velo_events.specs.Event.{thread_of}
+use Rattle.velo_events.specs.declared.event.Access.{Access}
+use Rattle.velo_events.specs.declared.event.Access.TheVariants.{Shared, Exclusive, Nothing}
+use Rattle.velo_events.specs.Event.{are_same, thread_of, access_of, cell_of, forked_of, is_exclusive, is_shared}
 use Rattle.velo_events.proofs.OnLists.{get_or-set}
-use Rattle.velo_clocks.specs.Clocks.{Clock, ClockState, ClockPlace, OfLast, OfWrite, OfReads, OfLock, IsNoted, blank_clock, clock_at, known_at, foreign_at, clock_of, beside, greatest_of, stays, is_noted, is_cleared}
+use Rattle.velo_clocks.specs.Clocks.{Clock, ClockState, ClockPlace, OfLast, OfWrite, OfReads, IsNoted, blank_clock, clock_at, known_at, foreign_at, clock_of, beside, greatest_of, stays, is_noted, is_cleared}
 use Rattle.velo_clocks.specs.Noted.{maxima, cleared_at, alone_at, joint_at, clock_beside, joined_clock, state_after_beside, state_after, with_thread, HasRoomAt, AreWithin, IsSized, HasRoomToNoteBeside, HasRoomToNote}
 use Rattle.velo_clocks.proofs.OnRaised.{get_or-raised, length-raised}
 use Rattle.velo_clocks.proofs.OnCleared.{get_or-nothing}
@@ -21,38 +21,30 @@ module _ (n : ℕ) (s : ClockState) (sized : IsSized n s) where
   raise-by : (clock : List ℕ) (places : List Clock) (i u : ℕ) → length clock ≡ n → AreWithin n places → get_or (maxima clock (get_or places i blank_clock).known) u 0 ≡ max (get_or clock u 0) (get_or (get_or places i blank_clock).known u 0)
   raise-by clock places i u long within = get_or-raised clock (get_or places i blank_clock).known u (omega (arith, long, within.known i))
 
-  pub length-joined : (k : Kind) (clock : List ℕ) → length clock ≡ n → length (clock_beside s k clock) ≡ n
-  length-joined (Read x v) clock h = length-raised clock _ ∙ h
-  length-joined (Write x v) clock h = length-raised (maxima clock (get_or s.writes x.0 blank_clock).known) _ ∙ (length-raised clock _ ∙ h)
-  length-joined (Acquire m) clock h = length-raised clock _ ∙ h
-  length-joined (Release m) clock h = length-raised clock _ ∙ h
-  length-joined (Join u) clock h = length-raised clock _ ∙ h
-  length-joined (Begin l) clock h = h
-  length-joined End clock h = h
-  length-joined (Fork u) clock h = h
-  length-joined Exit clock h = h
+  pub length-joined : (k : Access) (clock : List ℕ) → length clock ≡ n → length (clock_beside s k clock) ≡ n
+  length-joined (Shared x) clock h = length-raised clock _ ∙ h
+  length-joined (Exclusive x) clock h = length-raised (maxima clock (get_or s.writes x.0 blank_clock).known) _ ∙ (length-raised clock _ ∙ h)
+  length-joined (Access.Join u) clock h = length-raised clock _ ∙ h
+  length-joined Nothing clock h = h
+  length-joined (Access.Fork u) clock h = h
 
   -- number by number
-  joined-at : (k : Kind) (clock : List ℕ) (u : ℕ) → length clock ≡ n → get_or (clock_beside s k clock) u 0 ≡ max (get_or clock u 0) (greatest_of (map (λ p. known_at s p u) (beside k)))
-  joined-at (Read x v) clock u h = omega (arith, raise-by clock s.writes x.0 u h sized.writes)
-  joined-at (Write x v) clock u h =
+  joined-at : (k : Access) (clock : List ℕ) (u : ℕ) → length clock ≡ n → get_or (clock_beside s k clock) u 0 ≡ max (get_or clock u 0) (greatest_of (map (λ p. known_at s p u) (beside k)))
+  joined-at (Shared x) clock u h = omega (arith, raise-by clock s.writes x.0 u h sized.writes)
+  joined-at (Exclusive x) clock u h =
       let first = raise-by clock s.writes x.0 u h sized.writes in
       let second = raise-by (maxima clock (get_or s.writes x.0 blank_clock).known) s.reads x.0 u (length-raised clock _ ∙ h) sized.reads in
       omega (arith, first, second)
-  joined-at (Acquire m) clock u h = omega (arith, raise-by clock s.locks m.0 u h sized.locks)
-  joined-at (Release m) clock u h = omega (arith, raise-by clock s.locks m.0 u h sized.locks)
-  joined-at (Join t) clock u h = omega (arith, raise-by clock s.threads t.0 u h sized.threads)
-  joined-at (Begin l) clock u h = omega arith
-  joined-at End clock u h = omega arith
-  joined-at (Fork t) clock u h = omega arith
-  joined-at Exit clock u h = omega arith
+  joined-at (Access.Join t) clock u h = omega (arith, raise-by clock s.threads t.0 u h sized.threads)
+  joined-at Nothing clock u h = omega arith
+  joined-at (Access.Fork t) clock u h = omega arith
 
   module _ (e : Event) (own : thread_of e < n) where
     abbrev before : List ℕ
-    before = clock_beside s e.kind (get_or s.threads (thread_of e) blank_clock).known
+    before = clock_beside s (access_of e.kind) (get_or s.threads (thread_of e) blank_clock).known
 
     length-before : length before ≡ n
-    length-before = length-joined e.kind (get_or s.threads (thread_of e) blank_clock).known (sized.each (thread_of e) own).known
+    length-before = length-joined (access_of e.kind) (get_or s.threads (thread_of e) blank_clock).known (sized.each (thread_of e) own).known
 
     -- it has a number for each thread
     pub length-joined_clock : (position : ℕ) → length (joined_clock s position e) ≡ n
@@ -64,13 +56,33 @@ module _ (n : ℕ) (s : ClockState) (sized : IsSized n s) where
     joined_clock-at position u = ⊎_elim
         (λ own_u. ap (λ k. get_or (set before (thread_of e) (position + 1)) k 0) own_u
         ∙ (get_or-set_same before (thread_of e) (position + 1) 0 (omega (arith, own, length-before))
-        ∙ ap (λ b. if b then position + 1 else greatest_of (map (λ p. known_at s p u) (OfLast (thread_of e) ∷ beside e.kind))) (sym (eq-eqb u (thread_of e) own_u))))
+        ∙ ap (λ b. if b then position + 1 else greatest_of (map (λ p. known_at s p u) (OfLast (thread_of e) ∷ beside (access_of e.kind)))) (sym (eq-eqb u (thread_of e) own_u))))
         (λ other. get_or-set_other before (thread_of e) u (position + 1) 0 other
-        ∙ (joined-at e.kind (get_or s.threads (thread_of e) blank_clock).known u (sized.each (thread_of e) own).known
-        ∙ ap (λ b. if b then position + 1 else greatest_of (map (λ p. known_at s p u) (OfLast (thread_of e) ∷ beside e.kind))) (sym (ne_eqb u (thread_of e) other))))
+        ∙ (joined-at (access_of e.kind) (get_or s.threads (thread_of e) blank_clock).known u (sized.each (thread_of e) own).known
+        ∙ ap (λ b. if b then position + 1 else greatest_of (map (λ p. known_at s p u) (OfLast (thread_of e) ∷ beside (access_of e.kind)))) (sym (ne_eqb u (thread_of e) other))))
         (cases_eq u (thread_of e))
 
 -- ---- the places
+
+-- what `is_noted` and `is_cleared` say, by the access
+abbrev is_noted_by : ℕ → Access → ClockPlace → Bool
+is_noted_by by a (OfLast t) = (by == t) || are_same (forked_of a) (Some t)
+is_noted_by by a (OfWrite c) = is_exclusive a && are_same (cell_of a) (Some c)
+is_noted_by by a (OfReads c) = is_shared a && are_same (cell_of a) (Some c)
+
+abbrev is_cleared_by : Access → ClockPlace → Bool
+is_cleared_by a (OfReads c) = is_exclusive a && are_same (cell_of a) (Some c)
+is_cleared_by a _ = false
+
+noted-by : (e : Event) (p : ClockPlace) → is_noted_by (thread_of e) (access_of e.kind) p ≡ is_noted e p
+noted-by e (OfLast t) = refl
+noted-by e (OfWrite c) = refl
+noted-by e (OfReads c) = refl
+
+cleared-by : (e : Event) (p : ClockPlace) → is_cleared_by (access_of e.kind) p ≡ is_cleared e p
+cleared-by e (OfLast t) = refl
+cleared-by e (OfWrite c) = refl
+cleared-by e (OfReads c) = refl
 
 -- a number of each place, after one place was replaced
 number-set : (f : Clock → ℕ) (xs : List Clock) (j i : ℕ) (c : Clock) → j < length xs → f (get_or (set xs j c) i blank_clock) ≡ (if j == i then f c else f (get_or xs i blank_clock))
@@ -131,49 +143,28 @@ module _ (n : ℕ) (s : ClockState) (by : ThreadId) (clock : List ℕ) (sized : 
       (cases_eq y x))
       (cases_lt y (length s.reads))
 
-  -- the places after an event of the kind
-  abbrev After : Kind → ClockPlace → Type 0
-  After k p =
-      f (clock_at (state_after_beside (with_thread s by.0 (alone_at clock by.0)) by.0 k clock) p)
-      ≡ (if is_noted (record { thread = by; kind = k }) p then max (stays p (f (clock_at s p))) v else (if is_cleared (record { thread = by; kind = k }) p then 0 else f (clock_at s p)))
+  -- the places after an event of this access
+  abbrev After : Access → ClockPlace → Type 0
+  After a p =
+      f (clock_at (state_after_beside (with_thread s by.0 (alone_at clock by.0)) by.0 a clock) p)
+      ≡ (if is_noted_by by.0 a p then max (stays p (f (clock_at s p))) v else (if is_cleared_by a p then 0 else f (clock_at s p)))
 
-  number-after : (k : Kind) → HasRoomToNoteBeside n s k → (p : ClockPlace) → After k p
-  number-after (Read y w) room (OfLast t) = after_own t
-  number-after (Read y w) room (OfWrite x) = refl
-  number-after (Read y w) room (OfReads x) = after_read y.0 x room
-  number-after (Read y w) room (OfLock m) = refl
-  number-after (Write y w) room (OfLast t) = after_own t
-  number-after (Write y w) room (OfWrite x) = after_alone s.writes y.0 x room
-  number-after (Write y w) room (OfReads x) = after_write y.0 x
-  number-after (Write y w) room (OfLock m) = refl
-  number-after (Acquire l) room (OfLast t) = after_own t
-  number-after (Acquire l) room (OfWrite x) = refl
-  number-after (Acquire l) room (OfReads x) = refl
-  number-after (Acquire l) room (OfLock m) = after_alone s.locks l.0 m room
-  number-after (Release l) room (OfLast t) = after_own t
-  number-after (Release l) room (OfWrite x) = refl
-  number-after (Release l) room (OfReads x) = refl
-  number-after (Release l) room (OfLock m) = after_alone s.locks l.0 m room
-  number-after (Fork u) room (OfLast t) = after_fork u.0 t room
-  number-after (Fork u) room (OfWrite x) = refl
-  number-after (Fork u) room (OfReads x) = refl
-  number-after (Fork u) room (OfLock m) = refl
-  number-after (Begin l) room (OfLast t) = after_own t
-  number-after (Begin l) room (OfWrite x) = refl
-  number-after (Begin l) room (OfReads x) = refl
-  number-after (Begin l) room (OfLock m) = refl
-  number-after End room (OfLast t) = after_own t
-  number-after End room (OfWrite x) = refl
-  number-after End room (OfReads x) = refl
-  number-after End room (OfLock m) = refl
-  number-after (Join u) room (OfLast t) = after_own t
-  number-after (Join u) room (OfWrite x) = refl
-  number-after (Join u) room (OfReads x) = refl
-  number-after (Join u) room (OfLock m) = refl
-  number-after Exit room (OfLast t) = after_own t
-  number-after Exit room (OfWrite x) = refl
-  number-after Exit room (OfReads x) = refl
-  number-after Exit room (OfLock m) = refl
+  number-after : (k : Access) → HasRoomToNoteBeside n s k → (p : ClockPlace) → After k p
+  number-after (Shared y) room (OfLast t) = after_own t
+  number-after (Shared y) room (OfWrite x) = refl
+  number-after (Shared y) room (OfReads x) = after_read y.0 x room
+  number-after (Exclusive y) room (OfLast t) = after_own t
+  number-after (Exclusive y) room (OfWrite x) = after_alone s.writes y.0 x room
+  number-after (Exclusive y) room (OfReads x) = after_write y.0 x
+  number-after (Access.Fork u) room (OfLast t) = after_fork u.0 t room
+  number-after (Access.Fork u) room (OfWrite x) = refl
+  number-after (Access.Fork u) room (OfReads x) = refl
+  number-after Nothing room (OfLast t) = after_own t
+  number-after Nothing room (OfWrite x) = refl
+  number-after Nothing room (OfReads x) = refl
+  number-after (Access.Join u) room (OfLast t) = after_own t
+  number-after (Access.Join u) room (OfWrite x) = refl
+  number-after (Access.Join u) room (OfReads x) = refl
 
 -- what the lists have after an event was noted is what the places have after it
 module _ (n : ℕ) (s : ClockState) (position : ℕ) (e : Event) (sized : IsSized n s) (room : HasRoomToNote n s e) where
@@ -189,7 +180,9 @@ module _ (n : ℕ) (s : ClockState) (position : ℕ) (e : Event) (sized : IsSize
       number-after n s e.thread clock sized room.own (λ c. get_or c.known u 0) (clock_of s position e u) (joined_clock-at n s sized e room.own position u)
       (λ c known foreign. get_or-raised c.known clock u (omega (arith, known, long)) ∙ ap (λ m. max (get_or c.known u 0) m) (joined_clock-at n s sized e room.own position u))
       (λ c. get_or-nothing c.known u)
-      e.kind room.beside p
+      (access_of e.kind) room.beside p
+      ∙ (ap (λ b. if b then max (stays p (known_at s p u)) (clock_of s position e u) else (if is_cleared_by (access_of e.kind) p then 0 else known_at s p u)) (noted-by e p)
+      ∙ ap (λ b. if is_noted e p then max (stays p (known_at s p u)) (clock_of s position e u) else (if b then 0 else known_at s p u)) (cleared-by e p))
 
   foreign-alone : (u : ℕ) → get_or (set clock (thread_of e) 0) u 0 ≡ (if u == thread_of e then 0 else clock_of s position e u)
   foreign-alone u = ⊎_elim
@@ -212,20 +205,18 @@ module _ (n : ℕ) (s : ClockState) (position : ℕ) (e : Event) (sized : IsSize
   unfolding state_after
   foreign-after p u =
       number-after n s e.thread clock sized room.own (λ c. get_or c.foreign u 0) (if u == thread_of e then 0 else clock_of s position e u) (foreign-alone u)
-      (λ c known foreign. foreign-added u c foreign) (λ c. get_or-nothing c.known u) e.kind room.beside p
+      (λ c known foreign. foreign-added u c foreign) (λ c. get_or-nothing c.known u) (access_of e.kind) room.beside p
+      ∙ (ap (λ b. if b then max (stays p (foreign_at s p u)) (if u == thread_of e then 0 else clock_of s position e u) else (if is_cleared_by (access_of e.kind) p then 0 else foreign_at s p u)) (noted-by e p)
+      ∙ ap (λ b. if is_noted e p then max (stays p (foreign_at s p u)) (if u == thread_of e then 0 else clock_of s position e u) else (if b then 0 else foreign_at s p u)) (cleared-by e p))
 
   pub IsNoted-noted : IsNoted s position e (state_after s clock e)
   IsNoted-noted = record { known = known-after; foreign = foreign-after }
 
 -- ---- room
 
-pub room-kept : (n : ℕ) (s : ClockState) (t : ℕ) (c : Clock) (k : Kind) → HasRoomToNoteBeside n s k → HasRoomToNoteBeside n (with_thread s t c) k
-room-kept n s t c (Read x v) room = room
-room-kept n s t c (Write x v) room = room
-room-kept n s t c (Acquire m) room = room
-room-kept n s t c (Release m) room = room
-room-kept n s t c (Fork u) room = room
-room-kept n s t c (Begin l) room = room
-room-kept n s t c End room = room
-room-kept n s t c (Join u) room = room
-room-kept n s t c Exit room = room
+pub room-kept : (n : ℕ) (s : ClockState) (t : ℕ) (c : Clock) (k : Access) → HasRoomToNoteBeside n s k → HasRoomToNoteBeside n (with_thread s t c) k
+room-kept n s t c (Shared x) room = room
+room-kept n s t c (Exclusive x) room = room
+room-kept n s t c (Access.Fork u) room = room
+room-kept n s t c Nothing room = room
+room-kept n s t c (Access.Join u) room = room

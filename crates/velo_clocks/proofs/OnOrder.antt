@@ -3,10 +3,10 @@ use Rattle.std.proofs.Common.{◌≡◌, ℕ, ◌+◌, ◌<◌, ◌≤◌, max, 
 use Rattle.std.specs.Prelude.{◌⊎◌, ◌==◌, ◌||◌, IsTrue, if◌then◌else◌}
 use Rattle.std.proofs.lemmas.Bool.{false≢true, cases_eq, cases_lt, ne_eqb, eq-eqb, eqb-true}
 use Rattle.velo_events.specs.declared.event.Event.{Event}
-use Rattle.velo_events.specs.declared.event.Kind.{Kind}
-use Rattle.velo_events.specs.declared.event.Kind.TheVariants.{Read, Write, Acquire, Release, Begin, End, Fork, Join, Exit}
-use Rattle.velo_events.specs.Event.{thread_of, is_fork_of, are_same, forked_by}
-use Rattle.velo_clocks.specs.Clocks.{ClockState, ClockPlace, OfLast, OfWrite, OfReads, OfLock, IsNoted, KnowsNothing, KnowsTheSame, known_at, foreign_at, clock_of, beside, greatest_of, stays, is_noted, is_cleared}
+use Rattle.velo_events.specs.declared.event.Access.{Access}
+use Rattle.velo_events.specs.declared.event.Access.TheVariants.{Shared, Exclusive, Nothing}
+use Rattle.velo_events.specs.Event.{thread_of, access_of, forked_of, is_fork_of, are_same}
+use Rattle.velo_clocks.specs.Clocks.{ClockState, ClockPlace, OfLast, OfWrite, OfReads, IsNoted, KnowsNothing, KnowsTheSame, known_at, foreign_at, clock_of, beside, greatest_of, stays, is_noted, is_cleared}
 use Rattle.velo_clocks.specs.Order.{IsLed, IsInOrder, ForksUnknown, KeepsOrder}
 use Rattle.velo_clocks.proofs.OnLatest.{Among, most-at, most-some}
 
@@ -27,23 +27,19 @@ follows-gathered s clock p v led gathered upto =
 
 -- ---- the next event
 
-forked-unknown : (s : ClockState) (u : ℕ) (k : Kind) → ForksUnknown s k → IsTrue (are_same (forked_by k) (Some u)) → known_at s (OfLast u) u ≡ 0
-forked-unknown s u (Fork w) none is = subst (λ n. known_at s (OfLast n) n ≡ 0) (eqb-true w.0 u is) none
-forked-unknown s u (Read x v) none is = absurd (false≢true is)
-forked-unknown s u (Write x v) none is = absurd (false≢true is)
-forked-unknown s u (Acquire m) none is = absurd (false≢true is)
-forked-unknown s u (Release m) none is = absurd (false≢true is)
-forked-unknown s u (Begin l) none is = absurd (false≢true is)
-forked-unknown s u End none is = absurd (false≢true is)
-forked-unknown s u (Join w) none is = absurd (false≢true is)
-forked-unknown s u Exit none is = absurd (false≢true is)
+forked-unknown : (s : ClockState) (u : ℕ) (k : Access) → ForksUnknown s k → IsTrue (are_same (forked_of k) (Some u)) → known_at s (OfLast u) u ≡ 0
+forked-unknown s u (Access.Fork w) none is = subst (λ n. known_at s (OfLast n) n ≡ 0) (eqb-true w.0 u is) none
+forked-unknown s u (Shared x) none is = absurd (false≢true is)
+forked-unknown s u (Exclusive x) none is = absurd (false≢true is)
+forked-unknown s u Nothing none is = absurd (false≢true is)
+forked-unknown s u (Access.Join w) none is = absurd (false≢true is)
 
 module _ (s : ClockState) (latest position : ℕ) (e : Event) (order : IsInOrder latest s) (keeps : KeepsOrder s latest position e) where
   abbrev t : ℕ
   t = thread_of e
 
   abbrev places : List ClockPlace
-  places = OfLast t ∷ beside e.kind
+  places = OfLast t ∷ beside (access_of e.kind)
 
   abbrev clock : ℕ → ℕ
   clock u = clock_of s position e u
@@ -154,14 +150,12 @@ module _ (s : ClockState) (latest position : ℕ) (e : Event) (order : IsInOrder
     stays-most (OfReads x) n = omega arith
     stays-most (OfLast u) n = omega arith
     stays-most (OfWrite x) n = omega arith
-    stays-most (OfLock m) n = omega arith
 
     -- what stays of one number stays of the place
     stays-all : (p : ClockPlace) (m n k : ℕ) → 0 < m → m ≤ stays p k → stays p n ≡ n
     stays-all (OfReads x) m n k some upto = refl
     stays-all (OfLast u) m n k some upto = absurd (omega (arith, some, upto))
     stays-all (OfWrite x) m n k some upto = absurd (omega (arith, some, upto))
-    stays-all (OfLock l) m n k some upto = absurd (omega (arith, some, upto))
 
     own-here : IsHere (OfLast t)
     own-here = is_here (OfLast t) (ap (λ b. b || is_fork_of t e) (eq-eqb t t refl))
@@ -209,7 +203,7 @@ module _ (s : ClockState) (latest position : ℕ) (e : Event) (order : IsInOrder
     -- a thread that is forked was unknown
     last-kept : (u : ℕ) → ¬ (u ≡ t) → known_at s (OfLast u) u ≤ known_at new (OfLast u) u
     last-kept u off = elim (is_fork_of u e) as (λ b. is_fork_of u e ≡ b → known_at s (OfLast u) u ≤ known_at new (OfLast u) u) [
-      | true ↦ λ is. let none = forked-unknown s u e.kind keeps.forked is in omega (arith, none)
+      | true ↦ λ is. let none = forked-unknown s u (access_of e.kind) keeps.forked is in omega (arith, none)
       | false ↦ λ is. let same = (is_elsewhere (OfLast u) (ap (λ b. b || is_fork_of u e) (ne_eqb t u (λ at. off (sym at))) ∙ is) refl).known u in omega (arith, same)
     ] refl
 

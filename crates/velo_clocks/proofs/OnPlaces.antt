@@ -1,14 +1,13 @@
 -- Places over rows that they share.
 use Rattle.std.proofs.Common.{◌≡◌, ℕ, Bool, false, zero, suc, ◌+◌, ◌<◌, ◌≤◌, max, List, [], ◌∷◌, length, map, get_or, refl, sym, ap, ◌∙◌, subst, arith, ⊎_elim, Result, true}
-use Rattle.std.specs.Prelude.{replicate, ◌⊎◌, if◌then◌else◌, OnOk, OnErr, ◌&&◌}
+use Rattle.std.specs.Prelude.{replicate, if◌then◌else◌, OnOk, OnErr, ◌&&◌}
 use Rattle.std.proofs.Math.ListN.{set}
 use Rattle.std.proofs.lemmas.Bool.{false≢true, cases_eq, cases_lt, ne_eqb, eq-eqb}
 use Rattle.std.proofs.lemmas.List.{get_or-map, length-map, get_or-set_same, get_or-set_other, get_or_past, length-set}
 use Rattle.velo_events.specs.declared.event.Event.{Event}
-use Rattle.velo_events.specs.declared.event.Kind.{Kind}
-use Rattle.velo_events.specs.declared.event.Kind.TheVariants.{Read, Write, Acquire, Release, Begin, End, Fork, Join, Exit}
-use Rattle.velo_events.specs.declared.event.LockId.{LockId}
-use Rattle.velo_events.specs.Event.{thread_of}
+use Rattle.velo_events.specs.declared.event.Access.{Access}
+use Rattle.velo_events.specs.declared.event.Access.TheVariants.{Shared, Exclusive, Nothing}
+use Rattle.velo_events.specs.Event.{thread_of, access_of}
 use Rattle.velo_clocks.specs.declared.epochs.Epoch.{Epoch}
 use Rattle.velo_clocks.specs.declared.shared_rows.SharedRows.{SharedRows}
 use Rattle.velo_clocks.specs.declared.read_clocks.ReadBy.{ReadBy}
@@ -17,7 +16,7 @@ use Rattle.velo_clocks.specs.declared.read_clocks.Reads.{Reads}
 use Rattle.velo_clocks.specs.declared.clock_places.PlaceClocks.{PlaceClocks}
 use Rattle.velo_events.specs.Growth.{filled_up}
 use Rattle.velo_events.proofs.OnFilling.{get_or-blanks, get_or-filled_up, length-filled_up}
-use Rattle.velo_clocks.specs.Clocks.{Clock, ClockState, ClockPlace, OfLast, OfWrite, OfReads, OfLock, KnowsTheSame, KnowsNothing, IsNoted, blank_clock, clock_at, known_at, foreign_at, beside, greatest_of}
+use Rattle.velo_clocks.specs.Clocks.{Clock, ClockState, ClockPlace, OfLast, OfWrite, OfReads, KnowsTheSame, KnowsNothing, IsNoted, blank_clock, clock_at, known_at, foreign_at, beside, greatest_of}
 use Rattle.velo_clocks.specs.Noted.{maxima, alone_at, clock_beside, joined_clock, state_after_beside, state_after, with_spare, with_thread, HasRoomToNote, HasRoomToNoteBeside, HasRoomAt, AreWithin, KeepNumbers, IsSized}
 use Rattle.velo_clocks.specs.Order.{IsLed, IsAhead}
 use Rattle.velo_clocks.specs.Epochs.{blank_epoch, clock_in, alone_in, alones_in, IsInUse, AreRows, RefersTo}
@@ -61,8 +60,8 @@ reads-kept old new own foreign [] first same = refl
 reads-kept old new own foreign (r ∷ rs) first same =
     ap (λ c. c ∷ reads_of new own foreign rs) (clock-kept old new own foreign r.by r.lists first (same 0)) ∙ ap (λ cs. read_clock old own foreign r ∷ cs) (reads-kept old new own foreign rs first (λ i. same (suc i)))
 
-abbrev pub state : List Clock → List Clock → List Clock → List Clock → Bool → ClockState
-state threads writes reads locks spare = record { threads = threads; writes = writes; reads = reads; locks = locks; has_spare = spare }
+abbrev pub state : List Clock → List Clock → List Clock → Bool → ClockState
+state threads writes reads spare = record { threads = threads; writes = writes; reads = reads; has_spare = spare }
 
 module _ (n : ℕ) (old new : PlaceClocks) (are : ArePlaces n old) (kept : KeepsPlaces old new) where
   abbrev kept_reads : List Clock
@@ -70,14 +69,12 @@ module _ (n : ℕ) (old new : PlaceClocks) (are : ArePlaces n old) (kept : Keeps
 
   pub state-kept : state_of new ≡ with_spare (is_ready new) (state_of old)
   state-kept =
-      ap (λ ms. state (alones_in new.rows.rows ms) (alones_in new.rows.rows new.writes.items) (reads_in new.rows new.reads) (alones_in new.rows.rows new.locks.items) (is_ready new)) kept.threads
-      ∙ (ap (λ ms. state (alones_in new.rows.rows old.threads.items) (alones_in new.rows.rows ms) (reads_in new.rows new.reads) (alones_in new.rows.rows new.locks.items) (is_ready new)) kept.writes
-      ∙ (ap (λ rs. state (alones_in new.rows.rows old.threads.items) (alones_in new.rows.rows old.writes.items) (reads_in new.rows rs) (alones_in new.rows.rows new.locks.items) (is_ready new)) kept.reads
-      ∙ (ap (λ ms. state (alones_in new.rows.rows old.threads.items) (alones_in new.rows.rows old.writes.items) kept_reads (alones_in new.rows.rows ms) (is_ready new)) kept.locks
-      ∙ (ap (λ cs. state cs (alones_in new.rows.rows old.writes.items) kept_reads (alones_in new.rows.rows old.locks.items) (is_ready new)) (alones-kept old.rows.rows new.rows.rows old.threads.items (λ i. kept.same _ (are.threads i)))
-      ∙ (ap (λ cs. state (alones_in old.rows.rows old.threads.items) cs kept_reads (alones_in new.rows.rows old.locks.items) (is_ready new)) (alones-kept old.rows.rows new.rows.rows old.writes.items (λ i. kept.same _ (are.writes i)))
-      ∙ (ap (λ cs. state (alones_in old.rows.rows old.threads.items) (alones_in old.rows.rows old.writes.items) cs (alones_in new.rows.rows old.locks.items) (is_ready new)) (reads-kept old.rows.rows new.rows.rows old.reads.own old.reads.foreign old.reads.places.items (kept.same 0 are.rows.opened) (λ i. kept.same _ (are.reads.refers i)))
-      ∙ ap (λ cs. state (alones_in old.rows.rows old.threads.items) (alones_in old.rows.rows old.writes.items) (reads_in old.rows old.reads) cs (is_ready new)) (alones-kept old.rows.rows new.rows.rows old.locks.items (λ i. kept.same _ (are.locks i)))))))))
+      ap (λ ms. state (alones_in new.rows.rows ms) (alones_in new.rows.rows new.writes.items) (reads_in new.rows new.reads) (is_ready new)) kept.threads
+      ∙ (ap (λ ms. state (alones_in new.rows.rows old.threads.items) (alones_in new.rows.rows ms) (reads_in new.rows new.reads) (is_ready new)) kept.writes
+      ∙ (ap (λ rs. state (alones_in new.rows.rows old.threads.items) (alones_in new.rows.rows old.writes.items) (reads_in new.rows rs) (is_ready new)) kept.reads
+      ∙ (ap (λ cs. state cs (alones_in new.rows.rows old.writes.items) kept_reads (is_ready new)) (alones-kept old.rows.rows new.rows.rows old.threads.items (λ i. kept.same _ (are.threads i)))
+      ∙ (ap (λ cs. state (alones_in old.rows.rows old.threads.items) cs kept_reads (is_ready new)) (alones-kept old.rows.rows new.rows.rows old.writes.items (λ i. kept.same _ (are.writes i)))
+      ∙ ap (λ cs. state (alones_in old.rows.rows old.threads.items) (alones_in old.rows.rows old.writes.items) cs (is_ready new)) (reads-kept old.rows.rows new.rows.rows old.reads.own old.reads.foreign old.reads.places.items (kept.same 0 are.rows.opened) (λ i. kept.same _ (are.reads.refers i)))))))
 
 -- ---- what the rows hold
 
@@ -169,50 +166,40 @@ module _ (n : ℕ) (rows : SharedRows) (are : AreRows n rows) where
 pub numbers-keep : (xs : List Clock) → KeepNumbers xs xs
 numbers-keep xs = record { known = λ i u. refl; foreign = λ i u. refl }
 
-pub all-keep : (s t : ClockState) → KeepNumbers s.threads t.threads → KeepNumbers s.writes t.writes → KeepNumbers s.reads t.reads → KeepNumbers s.locks t.locks → KnowsTheSame s t
-all-keep s t threads writes reads locks = record { known = keep-known; foreign = keep-foreign }
+pub all-keep : (s t : ClockState) → KeepNumbers s.threads t.threads → KeepNumbers s.writes t.writes → KeepNumbers s.reads t.reads → KnowsTheSame s t
+all-keep s t threads writes reads = record { known = keep-known; foreign = keep-foreign }
   where
     keep-known : (p : ClockPlace) (u : ℕ) → known_at t p u ≡ known_at s p u
     keep-known (OfLast i) u = threads.known i u
     keep-known (OfWrite x) u = writes.known x u
     keep-known (OfReads x) u = reads.known x u
-    keep-known (OfLock m) u = locks.known m u
 
     keep-foreign : (p : ClockPlace) (u : ℕ) → foreign_at t p u ≡ foreign_at s p u
     keep-foreign (OfLast i) u = threads.foreign i u
     keep-foreign (OfWrite x) u = writes.foreign x u
     keep-foreign (OfReads x) u = reads.foreign x u
-    keep-foreign (OfLock m) u = locks.foreign m u
 
 pub same-spare : (s : ClockState) (b : Bool) → KnowsTheSame s (with_spare b s)
-same-spare s b = all-keep s (with_spare b s) (numbers-keep s.threads) (numbers-keep s.writes) (numbers-keep s.reads) (numbers-keep s.locks)
+same-spare s b = all-keep s (with_spare b s) (numbers-keep s.threads) (numbers-keep s.writes) (numbers-keep s.reads)
 
-spare-beside : (b : Bool) (s : ClockState) (t : ℕ) (k : Kind) (clock : List ℕ) → state_after_beside (with_spare b s) t k clock ≡ with_spare b (state_after_beside s t k clock)
-spare-beside b s t (Read x v) clock = refl
-spare-beside b s t (Write x v) clock = refl
-spare-beside b s t (Acquire m) clock = refl
-spare-beside b s t (Release m) clock = refl
-spare-beside b s t (Begin l) clock = refl
-spare-beside b s t End clock = refl
-spare-beside b s t (Fork u) clock = refl
-spare-beside b s t (Join u) clock = refl
-spare-beside b s t Exit clock = refl
+spare-beside : (b : Bool) (s : ClockState) (t : ℕ) (k : Access) (clock : List ℕ) → state_after_beside (with_spare b s) t k clock ≡ with_spare b (state_after_beside s t k clock)
+spare-beside b s t (Shared x) clock = refl
+spare-beside b s t (Exclusive x) clock = refl
+spare-beside b s t Nothing clock = refl
+spare-beside b s t (Access.Fork u) clock = refl
+spare-beside b s t (Access.Join u) clock = refl
 
 -- whether there is room for the next event changes nothing else
-pub after-spare : (s : ClockState) (b : Bool) (clock : List ℕ) (e : Event) → state_after_beside (with_thread (with_spare b s) (thread_of e) (alone_at clock (thread_of e))) (thread_of e) e.kind clock ≡ with_spare b (state_after s clock e)
+pub after-spare : (s : ClockState) (b : Bool) (clock : List ℕ) (e : Event) → state_after_beside (with_thread (with_spare b s) (thread_of e) (alone_at clock (thread_of e))) (thread_of e) (access_of e.kind) clock ≡ with_spare b (state_after s clock e)
 unfolding state_after
-after-spare s b clock e = spare-beside b (with_thread s (thread_of e) (alone_at clock (thread_of e))) (thread_of e) e.kind clock
+after-spare s b clock e = spare-beside b (with_thread s (thread_of e) (alone_at clock (thread_of e))) (thread_of e) (access_of e.kind) clock
 
-pub room-spare : (n : ℕ) (s : ClockState) (b : Bool) (k : Kind) → HasRoomToNoteBeside n s k → HasRoomToNoteBeside n (with_spare b s) k
-room-spare n s b (Read x v) room = room
-room-spare n s b (Write x v) room = room
-room-spare n s b (Acquire m) room = room
-room-spare n s b (Release m) room = room
-room-spare n s b (Fork u) room = room
-room-spare n s b (Begin l) room = room
-room-spare n s b End room = room
-room-spare n s b (Join u) room = room
-room-spare n s b Exit room = room
+pub room-spare : (n : ℕ) (s : ClockState) (b : Bool) (k : Access) → HasRoomToNoteBeside n s k → HasRoomToNoteBeside n (with_spare b s) k
+room-spare n s b (Shared x) room = room
+room-spare n s b (Exclusive x) room = room
+room-spare n s b (Access.Fork u) room = room
+room-spare n s b Nothing room = room
+room-spare n s b (Access.Join u) room = room
 
 pub same-twice : (s t u : ClockState) → KnowsTheSame s t → KnowsTheSame t u → KnowsTheSame s u
 same-twice s t u first second = record { known = λ p v. second.known p v ∙ first.known p v; foreign = λ p v. second.foreign p v ∙ first.foreign p v }
@@ -221,10 +208,6 @@ pub noted-spare : (s t : ClockState) (position : ℕ) (e : Event) (b : Bool) →
 noted-spare s t position e b noted = record { known = λ p u. (same-spare t b).known p u ∙ noted.known p u; foreign = λ p u. (same-spare t b).foreign p u ∙ noted.foreign p u }
 
 -- ---- one step
-
--- a place of an operation on a lock
-pub by-lock : (P : Kind → Type 0) (k : Kind) (m : LockId) → (k ≡ Acquire m) ⊎ (k ≡ Release m) → P (Acquire m) → P (Release m) → P k
-by-lock P k m is acquired released = ⊎_elim (λ e. subst P (sym e) acquired) (λ e. subst P (sym e) released) is
 
 module _ (n : ℕ) (rows : SharedRows) (are : AreRows n rows) (ms : List Epoch) (refers : RefersTo rows ms) where
   -- room is made for one more place, or refused
@@ -252,15 +235,14 @@ module _ (n : ℕ) (rows : SharedRows) (are : AreRows n rows) (ms : List Epoch) 
 
 -- ---- the first state
 
-module _ (n : ℕ) (rows : SharedRows) (are : AreRows n rows) (threads writes locks : List Epoch) (own foreign : List (List ℕ)) (rs : List Reads) (spare : Bool) (blanks : threads ≡ replicate n blank_epoch) (no_writes : writes ≡ []) (no_reads : rs ≡ []) (no_locks : locks ≡ []) where
+module _ (n : ℕ) (rows : SharedRows) (are : AreRows n rows) (threads writes : List Epoch) (own foreign : List (List ℕ)) (rs : List Reads) (spare : Bool) (blanks : threads ≡ replicate n blank_epoch) (no_writes : writes ≡ []) (no_reads : rs ≡ []) where
   none-at : (f : Clock → ℕ) → f blank_clock ≡ 0 → f (alone_in rows.rows blank_epoch) ≡ 0 → (q : ClockPlace)
-      → f (clock_at (state (alones_in rows.rows threads) (alones_in rows.rows writes) (reads_of rows.rows own foreign rs) (alones_in rows.rows locks) spare) q) ≡ 0
+      → f (clock_at (state (alones_in rows.rows threads) (alones_in rows.rows writes) (reads_of rows.rows own foreign rs) spare) q) ≡ 0
   none-at f none blank (OfLast t) = number-there n rows are f none blank threads t ∙ (ap (λ ms. f (alone_in rows.rows (get_or ms t blank_epoch))) blanks ∙ (ap (λ m. f (alone_in rows.rows m)) (get_or-blanks blank_epoch n t) ∙ blank))
   none-at f none blank (OfWrite x) = ap (λ ms. f (get_or (alones_in rows.rows ms) x blank_clock)) no_writes ∙ none
   none-at f none blank (OfReads x) = ap (λ xs. f (get_or (reads_of rows.rows own foreign xs) x blank_clock)) no_reads ∙ none
-  none-at f none blank (OfLock m) = ap (λ ms. f (get_or (alones_in rows.rows ms) m blank_clock)) no_locks ∙ none
 
-  pub nothing-opened : KnowsNothing (state (alones_in rows.rows threads) (alones_in rows.rows writes) (reads_of rows.rows own foreign rs) (alones_in rows.rows locks) spare)
+  pub nothing-opened : KnowsNothing (state (alones_in rows.rows threads) (alones_in rows.rows writes) (reads_of rows.rows own foreign rs) spare)
   nothing-opened = record {
     known = λ q u. none-at (λ c. get_or c.known u 0) refl (blank-known n rows are u) q;
     foreign = λ q u. none-at (λ c. get_or c.foreign u 0) refl (blank-foreign n rows are u) q;
@@ -299,10 +281,10 @@ module _ (s : ClockState) (position : ℕ) (ahead : IsAhead s position) (p : Clo
     where
       less : (v : ℕ) → get_or known v 0 ≤ get_or (joined_clock s position e) v 0
       less v = ⊎_elim
-          (λ at. omega (arith, here v, ahead.later p v, joined_clock-at n s sized e there position v, ap (λ b. if b then position + 1 else greatest_of (map (λ q. known_at s q v) (OfLast (thread_of e) ∷ beside e.kind))) (eq-eqb v (thread_of e) at)))
+          (λ at. omega (arith, here v, ahead.later p v, joined_clock-at n s sized e there position v, ap (λ b. if b then position + 1 else greatest_of (map (λ q. known_at s q v) (OfLast (thread_of e) ∷ beside (access_of e.kind)))) (eq-eqb v (thread_of e) at)))
           (λ off.
           let follows = subst (λ u. known_at s p v ≤ known_at s (OfLast u) v) (sym own) (alone-follows v) in
-          omega (arith, here v, follows, joined_clock-at n s sized e there position v, ap (λ b. if b then position + 1 else greatest_of (map (λ q. known_at s q v) (OfLast (thread_of e) ∷ beside e.kind))) (ne_eqb v (thread_of e) off)))
+          omega (arith, here v, follows, joined_clock-at n s sized e there position v, ap (λ b. if b then position + 1 else greatest_of (map (λ q. known_at s q v) (OfLast (thread_of e) ∷ beside (access_of e.kind)))) (ne_eqb v (thread_of e) off)))
           (cases_eq v (thread_of e))
         where
           here : (v : ℕ) → get_or known v 0 ≡ known_at s p v
@@ -317,7 +299,6 @@ sized-places n p are reads = record {
   threads = alones-within n p.rows are.rows p.threads.items are.threads;
   writes = alones-within n p.rows are.rows p.writes.items are.writes;
   reads = reads;
-  locks = alones-within n p.rows are.rows p.locks.items are.locks;
 }
 
 -- what follows where each list is as it is to be
@@ -330,7 +311,7 @@ noted-places n m p now after b position e is_after is_now are same room =
     (noted-spare (state_of p) (state_after (state_of p) (joined_clock (state_of p) position e) e) position e b (IsNoted-noted n (state_of p) position e sized roomy)))
 
 module _ (n : ℕ) (old mid : PlaceClocks) (are : ArePlaces n old) (kept : KeepsPlaces old mid) (position row : ℕ) (e : Event)
-    (is_row : (x : ℕ) → set (get_or mid.rows.rows row []) (thread_of e) x ≡ set (clock_beside (state_of old) e.kind (clock_at (state_of old) (OfLast (thread_of e))).known) (thread_of e) x) where
+    (is_row : (x : ℕ) → set (get_or mid.rows.rows row []) (thread_of e) x ≡ set (clock_beside (state_of old) (access_of e.kind) (clock_at (state_of old) (OfLast (thread_of e))).known) (thread_of e) x) where
   abbrev pub noted_epoch : Epoch
   noted_epoch = record { by = e.thread; number = position + 1; row = row }
 
@@ -342,10 +323,10 @@ module _ (n : ℕ) (old mid : PlaceClocks) (are : ArePlaces n old) (kept : Keeps
   clock-noted = is_row (position + 1)
 
   -- the thread of the event knows it
-  pub thread-noted : state (alones_in mid.rows.rows (set mid.threads.items (thread_of e) noted_epoch)) (alones_in mid.rows.rows mid.writes.items) (reads_in mid.rows mid.reads) (alones_in mid.rows.rows mid.locks.items) (is_ready mid)
+  pub thread-noted : state (alones_in mid.rows.rows (set mid.threads.items (thread_of e) noted_epoch)) (alones_in mid.rows.rows mid.writes.items) (reads_in mid.rows mid.reads) (is_ready mid)
       ≡ with_thread (with_spare (is_ready mid) (state_of old)) (thread_of e) (alone_at noted_clock (thread_of e))
   thread-noted =
-      ap (λ cs. state cs (alones_in mid.rows.rows mid.writes.items) (reads_in mid.rows mid.reads) (alones_in mid.rows.rows mid.locks.items) (is_ready mid))
+      ap (λ cs. state cs (alones_in mid.rows.rows mid.writes.items) (reads_in mid.rows mid.reads) (is_ready mid))
       (alones-set mid.rows.rows mid.threads.items (thread_of e) noted_epoch ∙ ap (λ xs. set (alones_in mid.rows.rows mid.threads.items) (thread_of e) (alone_at xs (thread_of e))) clock-noted)
       ∙ ap (λ s. with_thread s (thread_of e) (alone_at noted_clock (thread_of e))) (state-kept n old mid are kept)
 

@@ -5,9 +5,9 @@ use Rattle.std.proofs.lemmas.Bool.{cases_eq, cases_lt}
 use Rattle.std.proofs.lemmas.Option.{none-some}
 use Rattle.std.proofs.lemmas.List.{get_or_default, get_or-set_same, get_or-set_other}
 use Rattle.velo_events.specs.declared.event.Event.{Event}
-use Rattle.velo_events.specs.declared.event.Kind.{Kind}
-use Rattle.velo_events.specs.declared.event.Kind.TheVariants.{Read, Write, Acquire, Release, Begin, End, Fork, Join, Exit}
-use Rattle.velo_events.specs.Event.{thread_of, forked_by}
+use Rattle.velo_events.specs.declared.event.Access.{Access}
+use Rattle.velo_events.specs.declared.event.Access.TheVariants.{Shared, Exclusive, Nothing}
+use Rattle.velo_events.specs.Event.{thread_of, access_of, forked_by, forked_of}
 use Rattle.velo_clocks.specs.declared.epochs.Epoch.{Epoch}
 use Rattle.velo_clocks.specs.declared.shared_rows.SharedRows.{SharedRows}
 use Rattle.velo_clocks.specs.declared.clock_places.PlaceClocks.{PlaceClocks}
@@ -25,29 +25,21 @@ use Rattle.velo_clocks.proofs.OnPlaces.{alones-at, alones-past, raised-into, alo
 
 -- ---- an event that forks no thread
 
-pub forks-nobody : (s : ClockState) (k : Kind) → forked_by k ≡ None → ForksUnknown s k
-forks-nobody s (Fork u) none = absurd (none-some u.0 (sym none))
-forks-nobody s (Read x v) none = cc
-forks-nobody s (Write x v) none = cc
-forks-nobody s (Acquire m) none = cc
-forks-nobody s (Release m) none = cc
-forks-nobody s (Begin l) none = cc
-forks-nobody s End none = cc
-forks-nobody s (Join u) none = cc
-forks-nobody s Exit none = cc
+pub forks-nobody : (s : ClockState) (k : Access) → forked_of k ≡ None → ForksUnknown s k
+forks-nobody s (Access.Fork u) none = absurd (none-some u.0 (sym none))
+forks-nobody s (Shared x) none = cc
+forks-nobody s (Exclusive x) none = cc
+forks-nobody s Nothing none = cc
+forks-nobody s (Access.Join u) none = cc
 
 -- what its own thread has stays apart from what stands beside
-beside-apart : (s : ClockState) (b : Bool) (t : ℕ) (c : Clock) (k : Kind) (clock : List ℕ) → forked_by k ≡ None
+beside-apart : (s : ClockState) (b : Bool) (t : ℕ) (c : Clock) (k : Access) (clock : List ℕ) → forked_of k ≡ None
     → with_thread (with_spare b (state_after_beside s t k clock)) t c ≡ with_spare b (state_after_beside (with_thread s t c) t k clock)
-beside-apart s b t c (Fork u) clock none = absurd (none-some u.0 (sym none))
-beside-apart s b t c (Read x v) clock none = refl
-beside-apart s b t c (Write x v) clock none = refl
-beside-apart s b t c (Acquire m) clock none = refl
-beside-apart s b t c (Release m) clock none = refl
-beside-apart s b t c (Begin l) clock none = refl
-beside-apart s b t c End clock none = refl
-beside-apart s b t c (Join u) clock none = refl
-beside-apart s b t c Exit clock none = refl
+beside-apart s b t c (Access.Fork u) clock none = absurd (none-some u.0 (sym none))
+beside-apart s b t c (Shared x) clock none = refl
+beside-apart s b t c (Exclusive x) clock none = refl
+beside-apart s b t c Nothing clock none = refl
+beside-apart s b t c (Access.Join u) clock none = refl
 
 -- ---- what stands at a place
 
@@ -139,9 +131,9 @@ module _ (n : ℕ) (p : PlaceClocks) (are : ArePlaces n p) (position : ℕ) (e :
           omega (arith, here v, follows, next-other v off))
           (cases_eq v own.by.0)
 
-  module _ (knows : KnowsBeside s e.kind (clock_in p.rows.rows own)) where
-    learns-nothing : clock_beside s e.kind (clock_at s (OfLast t)).known ≡ (clock_at s (OfLast t)).known
-    learns-nothing = beside-known s ahead.closed n (sized-places n p are (reads-within n p.rows p.reads are.rows are.reads)) t within e.kind (subst (KnowsBeside s e.kind) (sym own-known) knows)
+  module _ (knows : KnowsBeside s (access_of e.kind) (clock_in p.rows.rows own)) where
+    learns-nothing : clock_beside s (access_of e.kind) (clock_at s (OfLast t)).known ≡ (clock_at s (OfLast t)).known
+    learns-nothing = beside-known s ahead.closed n (sized-places n p are (reads-within n p.rows p.reads are.rows are.reads)) t within (access_of e.kind) (subst (KnowsBeside s (access_of e.kind)) (sym own-known) knows)
 
     clock-shared : clock_in p.rows.rows shared_epoch ≡ joined_clock s position e
     unfolding joined_clock
@@ -152,11 +144,11 @@ module _ (n : ℕ) (p : PlaceClocks) (are : ArePlaces n p) (position : ℕ) (e :
         ∙ ap (λ xs. set xs t (position + 1)) (sym (learns-nothing ∙ own-known))))
 
     -- the event is noted once the places beside know it, and its thread
-    pub event-shared : (b : Bool) (mid : ClockState) → mid ≡ with_spare b (state_after_beside s own.by.0 e.kind (clock_in p.rows.rows shared_epoch)) → forked_by e.kind ≡ None
+    pub event-shared : (b : Bool) (mid : ClockState) → mid ≡ with_spare b (state_after_beside s own.by.0 (access_of e.kind) (clock_in p.rows.rows shared_epoch)) → forked_by e.kind ≡ None
         → with_thread mid t (alone_in p.rows.rows shared_epoch) ≡ with_spare b (state_after s (joined_clock s position e) e)
     unfolding state_after
     event-shared b mid is_mid none =
         ap (λ m. with_thread m t (alone_in p.rows.rows shared_epoch)) is_mid
-        ∙ (ap (λ u. with_thread (with_spare b (state_after_beside s u e.kind (clock_in p.rows.rows shared_epoch))) t (alone_at (clock_in p.rows.rows shared_epoch) u)) by
-        ∙ (ap (λ xs. with_thread (with_spare b (state_after_beside s t e.kind xs)) t (alone_at xs t)) clock-shared
-        ∙ beside-apart s b t (alone_at (joined_clock s position e) t) e.kind (joined_clock s position e) none))
+        ∙ (ap (λ u. with_thread (with_spare b (state_after_beside s u (access_of e.kind) (clock_in p.rows.rows shared_epoch))) t (alone_at (clock_in p.rows.rows shared_epoch) u)) by
+        ∙ (ap (λ xs. with_thread (with_spare b (state_after_beside s t (access_of e.kind) xs)) t (alone_at xs t)) clock-shared
+        ∙ beside-apart s b t (alone_at (joined_clock s position e) t) (access_of e.kind) (joined_clock s position e) none))

@@ -1,10 +1,10 @@
 -- A clock that knows the events of a place that no other there knows.
 use Rattle.std.proofs.Common.{◌≡◌, ℕ, ◌<◌, ◌≤◌, List, length, get_or, refl, sym, ap, ◌∙◌, subst, arith, ⊎_elim}
-use Rattle.velo_events.specs.declared.event.Kind.{Kind}
-use Rattle.velo_events.specs.declared.event.Kind.TheVariants.{Read, Write, Acquire, Release, Begin, End, Fork, Join, Exit}
+use Rattle.velo_events.specs.declared.event.Access.{Access}
+use Rattle.velo_events.specs.declared.event.Access.TheVariants.{Shared, Exclusive, Nothing}
 use Rattle.std.proofs.lemmas.Bool.{cases_eq, cases_lt}
 use Rattle.std.proofs.lemmas.List.{get_or-set_other}
-use Rattle.velo_clocks.specs.Clocks.{ClockState, ClockPlace, OfLast, OfWrite, OfReads, OfLock, clock_at, known_at}
+use Rattle.velo_clocks.specs.Clocks.{ClockState, ClockPlace, OfLast, OfWrite, OfReads, clock_at, known_at}
 use Rattle.velo_clocks.specs.Noted.{maxima, alone_at, clock_beside, IsSized}
 use Rattle.velo_clocks.specs.Order.{KnowsTops, KnowsBeside, TopsTell, IsClosed}
 use Rattle.velo_clocks.proofs.OnRaised.{raised-same}
@@ -44,15 +44,11 @@ module _ (s : ClockState) (closed : IsClosed s) where
     tell-own p short = tell-gathered p (clock_at s (OfLast t)).known (omega (arith, short, long)) (gathered-own (OfLast t))
 
     -- who knows what stands beside learns nothing
-    pub beside-known : (k : Kind) → KnowsBeside s k (clock_at s (OfLast t)).known → clock_beside s k (clock_at s (OfLast t)).known ≡ (clock_at s (OfLast t)).known
-    beside-known (Read x v) knows = tell-own (OfWrite x.0) (sized.writes.known x.0) knows
-    beside-known (Write x v) knows =
+    pub beside-known : (k : Access) → KnowsBeside s k (clock_at s (OfLast t)).known → clock_beside s k (clock_at s (OfLast t)).known ≡ (clock_at s (OfLast t)).known
+    beside-known (Shared x) knows = tell-own (OfWrite x.0) (sized.writes.known x.0) knows
+    beside-known (Exclusive x) knows =
         let write = tell-own (OfWrite x.0) (sized.writes.known x.0) knows.0 in
         ap (λ clock. maxima clock (clock_at s (OfReads x.0)).known) write ∙ tell-own (OfReads x.0) (sized.reads.known x.0) knows.1
-    beside-known (Acquire m) knows = tell-own (OfLock m.0) (sized.locks.known m.0) knows
-    beside-known (Release m) knows = tell-own (OfLock m.0) (sized.locks.known m.0) knows
-    beside-known (Join u) knows = tell-own (OfLast u.0) (sized.threads.known u.0) knows
-    beside-known (Begin l) knows = refl
-    beside-known End knows = refl
-    beside-known (Fork u) knows = refl
-    beside-known Exit knows = refl
+    beside-known (Access.Join u) knows = tell-own (OfLast u.0) (sized.threads.known u.0) knows
+    beside-known Nothing knows = refl
+    beside-known (Access.Fork u) knows = refl

@@ -1,12 +1,12 @@
 -- What clocks remember of a trace: how far the events at each place know each thread.
 use Rattle.std.specs.Prelude.{◌≡◌, ℕ, ◌+◌, ◌<◌, ◌≤◌, ◌||◌, ◌==◌, max, Bool, false, List, [], ◌∷◌, map, Some, IsTrue, IsFalse, slice_index_or, if◌then◌else◌}
 use Rattle.velo_events.specs.declared.event.Event.{Event}
-use Rattle.velo_events.specs.declared.event.Kind.{Kind}
-use Rattle.velo_events.specs.declared.event.Kind.TheVariants.{Read, Write, Acquire, Release, Join}
-use Rattle.velo_events.specs.Event.{thread_of, is_by, is_write_of, is_on_lock, is_fork_of}
+use Rattle.velo_events.specs.declared.event.Access.{Access}
+use Rattle.velo_events.specs.declared.event.Access.TheVariants.{Shared, Exclusive}
+use Rattle.velo_events.specs.Event.{thread_of, access_of, is_by, is_writing, is_reading, is_fork_of}
 use Rattle.velo_events.specs.Block.{passes_at}
 use Rattle.velo_events.specs.Graph.{Reaches, ConflictsInOrder}
-use Rattle.velo_events.specs.Place.{LastOf, LastWrite, LastOn, is_read_of, last_at}
+use Rattle.velo_events.specs.Place.{LastOf, LastWrite, last_at}
 
 -- i is b, or happens after it: a chain of conflicts leads from b to i along rising positions
 abbrev pub IsFrom : List Event → ℕ → ℕ → Type 0
@@ -14,27 +14,24 @@ IsFrom trace b i = Reaches (ConflictsInOrder trace) b i
 
 -- ---- places
 
--- The reads of a variable since its last write are one place: a write conflicts with all of them, and those before the last write lead to it. The others have one event, the last.
+-- The reads of a cell since its last write are one place: a write conflicts with all of them, and those before the last write lead to it. The others have one event, the last.
 pub data ClockPlace : Type 0 where
   -- the last event of thread t, or its fork while it has none
   OfLast : (t : ℕ) → ClockPlace
-  -- the last write of variable x
+  -- the last write of a cell: of a variable, or the last event that took or left a lock alone
   OfWrite : (x : ℕ) → ClockPlace
-  -- the reads of variable x since its last write
+  -- the reads of a cell since its last write: of a variable, or the events of the sharers of a lock
   OfReads : (x : ℕ) → ClockPlace
-  -- the last event of lock m
-  OfLock : (m : ℕ) → ClockPlace
 
--- no event behind position i writes variable x
+-- no event behind position i writes cell x
 abbrev pub IsUnwrittenSince : List Event → ℕ → ℕ → Type 0
-IsUnwrittenSince trace x i = (j : ℕ) → i < j → IsFalse (passes_at trace (is_write_of x) j)
+IsUnwrittenSince trace x i = (j : ℕ) → i < j → IsFalse (passes_at trace (is_writing x) j)
 
 -- the event at position i is one of the place
 abbrev pub IsAt : List Event → ClockPlace → ℕ → Type 0
 IsAt trace (OfLast t) i = last_at (LastOf t) trace ≡ Some i
 IsAt trace (OfWrite x) i = last_at (LastWrite x) trace ≡ Some i
-IsAt trace (OfReads x) i = IsTrue (passes_at trace (is_read_of x) i) × IsUnwrittenSince trace x i
-IsAt trace (OfLock m) i = last_at (LastOn m) trace ≡ Some i
+IsAt trace (OfReads x) i = IsTrue (passes_at trace (is_reading x) i) × IsUnwrittenSince trace x i
 
 -- and is not of thread u
 abbrev pub IsForeignAt : List Event → ClockPlace → ℕ → ℕ → Type 0
@@ -66,12 +63,11 @@ pub record Clock : Type 0 where
 abbrev pub blank_clock : Clock
 blank_clock = record { known = []; foreign = [] }
 
--- by number: what is kept of each thread, and of each variable and lock for which there is room; and whether there is room for the next event
+-- by number: what is kept of each thread, and of each cell for which there is room; and whether there is room for the next event
 pub record ClockState : Type 0 where
   pub threads : List Clock
   pub writes : List Clock
   pub reads : List Clock
-  pub locks : List Clock
   -- there is room for what one more event knows of the threads
   pub has_spare : Bool
 
@@ -79,7 +75,6 @@ abbrev pub clock_at : ClockState → ClockPlace → Clock
 clock_at s (OfLast t) = slice_index_or s.threads t blank_clock
 clock_at s (OfWrite x) = slice_index_or s.writes x blank_clock
 clock_at s (OfReads x) = slice_index_or s.reads x blank_clock
-clock_at s (OfLock m) = slice_index_or s.locks m blank_clock
 
 abbrev pub known_at : ClockState → ClockPlace → ℕ → ℕ
 known_at s p u = slice_index_or (clock_at s p).known u 0
@@ -103,33 +98,30 @@ greatest_of [] = 0
 greatest_of (n ∷ ns) = max n (greatest_of ns)
 
 -- the places whose events conflict with an operation, beside the last of the own thread
-abbrev pub beside : Kind → List ClockPlace
-beside (Read x v) = OfWrite x.0 ∷ []
-beside (Write x v) = OfWrite x.0 ∷ OfReads x.0 ∷ []
-beside (Acquire m) = OfLock m.0 ∷ []
-beside (Release m) = OfLock m.0 ∷ []
-beside (Join u) = OfLast u.0 ∷ []
+abbrev pub beside : Access → List ClockPlace
+beside (Shared c) = OfWrite c.0 ∷ []
+beside (Exclusive c) = OfWrite c.0 ∷ OfReads c.0 ∷ []
+beside (Access.Join u) = OfLast u.0 ∷ []
 beside _ = []
 
 -- what the event at the position knows of thread u
 abbrev pub clock_of : ClockState → ℕ → Event → ℕ → ℕ
 clock_of s position e u =
-    if u == thread_of e then position + 1 else greatest_of (map (λ p. known_at s p u) (OfLast (thread_of e) ∷ beside e.kind))
+    if u == thread_of e then position + 1 else greatest_of (map (λ p. known_at s p u) (OfLast (thread_of e) ∷ beside (access_of e.kind)))
 
 -- the block of the event's thread that begins at b is blamed where b is below
 abbrev pub blame_bound : ClockState → Event → ℕ
-blame_bound s e = greatest_of (map (λ p. foreign_at s p (thread_of e)) (beside e.kind))
+blame_bound s e = greatest_of (map (λ p. foreign_at s p (thread_of e)) (beside (access_of e.kind)))
 
 -- the event is one of the place's
 abbrev pub is_noted : Event → ClockPlace → Bool
 is_noted e (OfLast t) = (thread_of e == t) || is_fork_of t e
-is_noted e (OfWrite x) = is_write_of x e
-is_noted e (OfReads x) = is_read_of x e
-is_noted e (OfLock m) = is_on_lock m e
+is_noted e (OfWrite x) = is_writing x e
+is_noted e (OfReads x) = is_reading x e
 
 -- a write takes the place of the reads before it
 abbrev pub is_cleared : Event → ClockPlace → Bool
-is_cleared e (OfReads x) = is_write_of x e
+is_cleared e (OfReads x) = is_writing x e
 is_cleared e _ = false
 
 -- reads add up, and the events of other places replace one another

@@ -1,5 +1,5 @@
 -- Events at places as epochs over rows of numbers that they share. Private contracts cite these words.
-use Rattle.std.specs.Prelude.{◌≡◌, ℕ, Bool, true, false, not, ◌<◌, ◌≤◌, List, [], length, map, replicate, slice_index_or, slice_set, IsTrue}
+use Rattle.std.specs.Prelude.{◌≡◌, ℕ, Bool, true, false, not, ◌<◌, List, [], length, map, replicate, slice_index_or, slice_set, IsTrue}
 use Rattle.velo_clocks.specs.declared.epochs.Epoch.{Epoch}
 use Rattle.velo_clocks.specs.declared.shared_rows.SharedRows.{SharedRows}
 use Rattle.velo_clocks.specs.Clocks.{Clock}

@@ -1,10 +1,10 @@
 -- What the clocks have after an event was noted, list by list. Private contracts cite these words, and public ones those of room; else public ones say it place by place.
 use Rattle.std.specs.Prelude.{◌≡◌, ℕ, Bool, ◌+◌, ◌<◌, ◌≤◌, max, List, [], ◌∷◌, length, replicate, slice_index_or, slice_set, IsTrue, ⊤}
 use Rattle.velo_events.specs.declared.event.Event.{Event}
-use Rattle.velo_events.specs.declared.event.Kind.{Kind}
-use Rattle.velo_events.specs.declared.event.Kind.TheVariants.{Read, Write, Acquire, Release, Fork, Join}
-use Rattle.velo_events.specs.Event.{thread_of}
-use Rattle.velo_clocks.specs.Clocks.{Clock, ClockState, OfLast, OfWrite, OfReads, OfLock, blank_clock, clock_at}
+use Rattle.velo_events.specs.declared.event.Access.{Access}
+use Rattle.velo_events.specs.declared.event.Access.TheVariants.{Shared, Exclusive}
+use Rattle.velo_events.specs.Event.{thread_of, access_of}
+use Rattle.velo_clocks.specs.Clocks.{Clock, ClockState, OfLast, OfWrite, OfReads, blank_clock, clock_at}
 
 -- ---- lists of numbers
 
@@ -58,70 +58,60 @@ pub record IsSized (n : ℕ) (s : ClockState) : Type 0 where
   pub threads : AreWithin n s.threads
   pub writes : AreWithin n s.writes
   pub reads : AreWithin n s.reads
-  pub locks : AreWithin n s.locks
 
 -- a thread that the operation forks is one of the n
-abbrev pub ForksOneOf : ℕ → Kind → Type 0
-ForksOneOf n (Fork u) = u.0 < n
+abbrev pub ForksOneOf : ℕ → Access → Type 0
+ForksOneOf n (Access.Fork u) = u.0 < n
 ForksOneOf n _ = ⊤
 
 -- the thread of the event, and one that it forks, are among the n
 pub record IsOfThreads (n : ℕ) (e : Event) : Type 0 where
   pub own : thread_of e < n
-  pub forked : ForksOneOf n e.kind
+  pub forked : ForksOneOf n (access_of e.kind)
 
 -- there is room for what the operation notes beside the last of its own thread
-abbrev pub HasRoomToNoteBeside : ℕ → ClockState → Kind → Type 0
-HasRoomToNoteBeside n s (Read x v) = HasRoomAt n s.reads x.0
-HasRoomToNoteBeside n s (Write x v) = HasRoomAt n s.writes x.0
-HasRoomToNoteBeside n s (Acquire m) = HasRoomAt n s.locks m.0
-HasRoomToNoteBeside n s (Release m) = HasRoomAt n s.locks m.0
-HasRoomToNoteBeside n s (Fork u) = u.0 < n
+abbrev pub HasRoomToNoteBeside : ℕ → ClockState → Access → Type 0
+HasRoomToNoteBeside n s (Shared c) = HasRoomAt n s.reads c.0
+HasRoomToNoteBeside n s (Exclusive c) = HasRoomAt n s.writes c.0
+HasRoomToNoteBeside n s (Access.Fork u) = u.0 < n
 HasRoomToNoteBeside n s _ = ⊤
 
 -- there is room for all that the event notes
 pub record HasRoomToNote (n : ℕ) (s : ClockState) (e : Event) : Type 0 where
   pub own : thread_of e < n
-  pub beside : HasRoomToNoteBeside n s e.kind
+  pub beside : HasRoomToNoteBeside n s (access_of e.kind)
   pub spare : IsTrue s.has_spare
 
 -- what an operation joins to the clock of its thread's last event
-abbrev pub clock_beside : ClockState → Kind → List ℕ → List ℕ
-clock_beside s (Read x v) clock = maxima clock (clock_at s (OfWrite x.0)).known
-clock_beside s (Write x v) clock = maxima (maxima clock (clock_at s (OfWrite x.0)).known) (clock_at s (OfReads x.0)).known
-clock_beside s (Acquire m) clock = maxima clock (clock_at s (OfLock m.0)).known
-clock_beside s (Release m) clock = maxima clock (clock_at s (OfLock m.0)).known
-clock_beside s (Join u) clock = maxima clock (clock_at s (OfLast u.0)).known
+abbrev pub clock_beside : ClockState → Access → List ℕ → List ℕ
+clock_beside s (Shared c) clock = maxima clock (clock_at s (OfWrite c.0)).known
+clock_beside s (Exclusive c) clock = maxima (maxima clock (clock_at s (OfWrite c.0)).known) (clock_at s (OfReads c.0)).known
+clock_beside s (Access.Join u) clock = maxima clock (clock_at s (OfLast u.0)).known
 clock_beside s _ clock = clock
 
 -- the clock of the event at the position
 unfoldable pub joined_clock : ClockState → ℕ → Event → List ℕ
-joined_clock s position e = slice_set (clock_beside s e.kind (clock_at s (OfLast (thread_of e))).known) (thread_of e) (position + 1)
+joined_clock s position e = slice_set (clock_beside s (access_of e.kind) (clock_at s (OfLast (thread_of e))).known) (thread_of e) (position + 1)
 
 abbrev pub with_thread : ClockState → ℕ → Clock → ClockState
-with_thread s t c = record { threads = slice_set s.threads t c; writes = s.writes; reads = s.reads; locks = s.locks; has_spare = s.has_spare }
+with_thread s t c = record { threads = slice_set s.threads t c; writes = s.writes; reads = s.reads; has_spare = s.has_spare }
 
 abbrev pub with_write : ClockState → ℕ → Clock → ClockState
-with_write s x c = record { threads = s.threads; writes = slice_set s.writes x c; reads = s.reads; locks = s.locks; has_spare = s.has_spare }
+with_write s x c = record { threads = s.threads; writes = slice_set s.writes x c; reads = s.reads; has_spare = s.has_spare }
 
 abbrev pub with_reads : ClockState → ℕ → Clock → ClockState
-with_reads s x c = record { threads = s.threads; writes = s.writes; reads = slice_set s.reads x c; locks = s.locks; has_spare = s.has_spare }
-
-abbrev pub with_lock : ClockState → ℕ → Clock → ClockState
-with_lock s m c = record { threads = s.threads; writes = s.writes; reads = s.reads; locks = slice_set s.locks m c; has_spare = s.has_spare }
+with_reads s x c = record { threads = s.threads; writes = s.writes; reads = slice_set s.reads x c; has_spare = s.has_spare }
 
 -- after what the operation of thread t with this clock notes beside the last of t
-abbrev pub state_after_beside : ClockState → ℕ → Kind → List ℕ → ClockState
-state_after_beside s t (Read x v) clock = with_reads s x.0 (joint_at (clock_at s (OfReads x.0)) clock t)
-state_after_beside s t (Write x v) clock = with_reads (with_write s x.0 (alone_at clock t)) x.0 (cleared_at (clock_at s (OfReads x.0)))
-state_after_beside s t (Acquire m) clock = with_lock s m.0 (alone_at clock t)
-state_after_beside s t (Release m) clock = with_lock s m.0 (alone_at clock t)
-state_after_beside s t (Fork u) clock = with_thread s u.0 (alone_at clock t)
+abbrev pub state_after_beside : ClockState → ℕ → Access → List ℕ → ClockState
+state_after_beside s t (Shared c) clock = with_reads s c.0 (joint_at (clock_at s (OfReads c.0)) clock t)
+state_after_beside s t (Exclusive c) clock = with_reads (with_write s c.0 (alone_at clock t)) c.0 (cleared_at (clock_at s (OfReads c.0)))
+state_after_beside s t (Access.Fork u) clock = with_thread s u.0 (alone_at clock t)
 state_after_beside s t _ clock = s
 
 unfoldable pub state_after : ClockState → List ℕ → Event → ClockState
-state_after s clock e = state_after_beside (with_thread s (thread_of e) (alone_at clock (thread_of e))) (thread_of e) e.kind clock
+state_after s clock e = state_after_beside (with_thread s (thread_of e) (alone_at clock (thread_of e))) (thread_of e) (access_of e.kind) clock
 
 -- whether there is room for the next event is another matter
 abbrev pub with_spare : Bool → ClockState → ClockState
-with_spare b s = record { threads = s.threads; writes = s.writes; reads = s.reads; locks = s.locks; has_spare = b }
+with_spare b s = record { threads = s.threads; writes = s.writes; reads = s.reads; has_spare = b }

@@ -2,9 +2,10 @@
 -- Private contracts cite these words.
 use Rattle.std.specs.Prelude.{◌≡◌, ℕ, ◌<◌, ◌≤◌, List, slice_index_or, ⊤}
 use Rattle.velo_events.specs.declared.event.Event.{Event}
-use Rattle.velo_events.specs.declared.event.Kind.{Kind}
-use Rattle.velo_events.specs.declared.event.Kind.TheVariants.{Read, Write, Acquire, Release, Fork, Join}
-use Rattle.velo_clocks.specs.Clocks.{Clock, ClockState, ClockPlace, OfLast, OfWrite, OfReads, OfLock, clock_at, known_at}
+use Rattle.velo_events.specs.declared.event.Access.{Access}
+use Rattle.velo_events.specs.declared.event.Access.TheVariants.{Shared, Exclusive}
+use Rattle.velo_events.specs.Event.{access_of}
+use Rattle.velo_clocks.specs.Clocks.{Clock, ClockState, ClockPlace, OfLast, OfWrite, OfReads, clock_at, known_at}
 use Rattle.velo_clocks.specs.Noted.{maxima}
 
 -- ---- one place
@@ -28,12 +29,10 @@ KnowsOwn c t clock = slice_index_or c.known t 0 ≤ slice_index_or clock t 0
 -- ---- the places beside
 
 -- the clock knows what the events of each place do whose events conflict with the operation
-abbrev pub KnowsBeside : ClockState → Kind → List ℕ → Type 0
-KnowsBeside s (Read x v) clock = KnowsTops (clock_at s (OfWrite x.0)) clock
-KnowsBeside s (Write x v) clock = KnowsTops (clock_at s (OfWrite x.0)) clock × KnowsTops (clock_at s (OfReads x.0)) clock
-KnowsBeside s (Acquire m) clock = KnowsTops (clock_at s (OfLock m.0)) clock
-KnowsBeside s (Release m) clock = KnowsTops (clock_at s (OfLock m.0)) clock
-KnowsBeside s (Join u) clock = KnowsTops (clock_at s (OfLast u.0)) clock
+abbrev pub KnowsBeside : ClockState → Access → List ℕ → Type 0
+KnowsBeside s (Shared c) clock = KnowsTops (clock_at s (OfWrite c.0)) clock
+KnowsBeside s (Exclusive c) clock = KnowsTops (clock_at s (OfWrite c.0)) clock × KnowsTops (clock_at s (OfReads c.0)) clock
+KnowsBeside s (Access.Join u) clock = KnowsTops (clock_at s (OfLast u.0)) clock
 KnowsBeside s _ clock = ⊤
 
 -- ---- all places
@@ -58,14 +57,14 @@ pub record IsInOrder (latest : ℕ) (s : ClockState) : Type 0 where
 -- ---- the next event
 
 -- a thread that the operation forks has no event
-abbrev pub ForksUnknown : ClockState → Kind → Type 0
-ForksUnknown s (Fork u) = known_at s (OfLast u.0) u.0 ≡ 0
+abbrev pub ForksUnknown : ClockState → Access → Type 0
+ForksUnknown s (Access.Fork u) = known_at s (OfLast u.0) u.0 ≡ 0
 ForksUnknown s _ = ⊤
 
 -- the event at the position keeps the order
 pub record KeepsOrder (s : ClockState) (latest position : ℕ) (e : Event) : Type 0 where
   pub later : latest ≤ position
-  pub forked : ForksUnknown s e.kind
+  pub forked : ForksUnknown s (access_of e.kind)
 
 -- the event at the position comes after all that is known
 pub record IsAhead (s : ClockState) (position : ℕ) : Type 0 where

@@ -16,7 +16,6 @@ state_of p = record {
   threads = alones_in p.rows.rows p.threads.items;
   writes = alones_in p.rows.rows p.writes.items;
   reads = reads_in p.rows p.reads;
-  locks = alones_in p.rows.rows p.locks.items;
   has_spare = is_ready p;
 }
 
@@ -27,14 +26,12 @@ pub record ArePlaces (n : ℕ) (p : PlaceClocks) : Type 0 where
   pub threads : RefersTo p.rows p.threads.items
   pub writes : RefersTo p.rows p.writes.items
   pub reads : AreReads n p.rows p.reads
-  pub locks : RefersTo p.rows p.locks.items
 
 -- The same events stand at all places, and know the same.
 pub record KeepsPlaces (old new : PlaceClocks) : Type 0 where
   pub threads : new.threads.items ≡ old.threads.items
   pub writes : new.writes.items ≡ old.writes.items
   pub reads : new.reads ≡ old.reads
-  pub locks : new.locks.items ≡ old.locks.items
   pub same : (r : ℕ) → IsInUse old.rows r → slice_index_or new.rows.rows r [] ≡ slice_index_or old.rows.rows r []
 
 -- And they are in order where this is said.

@@ -1,6 +1,6 @@
 ghost use Rattle.velo_events.specs.Refusals.{GrowthRefused};
 ghost use Rattle.std.specs.Prelude.{◌≡◌, ◌<◌, ◌≤◌, ◌+◌, ◌^◌, ℕ, true, false, [], length, slice_index_or, slice_set, None, IsTrue, IsFalse, IfOk, OnOk, OnErr};
-ghost use Rattle.velo_events.specs.Event.{thread_of, forked_by};
+ghost use Rattle.velo_events.specs.Event.{thread_of, access_of, forked_by};
 ghost use Rattle.velo_clocks.specs.Clocks.{ClockPlace, blank_clock, clock_at, OfLast, blame_bound, KnowsNothing, KnowsTheSame};
 ghost use Rattle.velo_clocks.specs.Noted.{clock_beside, joined_clock, state_after_beside, state_after, with_spare, HasRoomToNoteBeside, HasRoomToNote, IsOfThreads};
 ghost use Rattle.velo_clocks.specs.Order.{KnowsOwn, KeepsOrder, KnowsBeside, IsAhead};
@@ -13,10 +13,11 @@ use crate::read_clocks::ReadClocks;
 use crate::shared_rows::SharedRows;
 use std::alloc::Global;
 use velo_events::growth::{fill_up_to, filled};
-use velo_events::{Event, Kind, Memory, ThreadId};
+use velo_events::{Access, Event, Memory, ThreadId};
 
-/// What is known at the places of a run, by number: by the last event of each thread and lock and the last write of each
-/// variable, and by the reads since then.
+/// What is known at the places of a run, by number: by the last event of each thread and the last write of each cell, and by
+/// the reads since then. A variable is written and read; a lock is written by who takes or leaves it alone, and read by who
+/// does so beside others.
 ///
 /// An event that learns nothing shares the row of its thread's last event, so that what it knows is written down by one epoch.
 #[derive(Debug, Drop)]
@@ -25,12 +26,10 @@ pub(crate) struct PlaceClocks {
     pub rows: SharedRows,
     /// The last event of each thread.
     pub threads: Vec<Epoch>,
-    /// The last write of each variable.
+    /// The last write of each cell.
     pub writes: Vec<Epoch>,
-    /// The reads of each variable since then.
+    /// The reads of each cell since then.
     pub reads: ReadClocks,
-    /// The last event of each lock.
-    pub locks: Vec<Epoch>,
 }
 
 impl PlaceClocks {
@@ -50,7 +49,6 @@ impl PlaceClocks {
             threads: blanks,
             writes: Vec::new(alloc),
             reads: ReadClocks::new(alloc),
-            locks: Vec::new(alloc),
         })
     }
 
@@ -65,12 +63,11 @@ impl PlaceClocks {
     /// Whether there is at the places beside the last of the event's thread.
     #[inline(always)]
     fn has_room_beside(&self, event: &Event) -> bool
-        ensures { (threads : ℕ) → ArePlaces threads self.now → IsTrue result → IsOfThreads threads event.now → HasRoomToNoteBeside threads (state_of self.now) event.now.kind }
+        ensures { (threads : ℕ) → ArePlaces threads self.now → IsTrue result → IsOfThreads threads event.now → HasRoomToNoteBeside threads (state_of self.now) (access_of event.now.kind) }
     {
-        match event.kind {
-            Kind::Read(x, _) => (x.0 as usize) < self.reads.count(),
-            Kind::Write(x, _) => (x.0 as usize) < self.writes.len(),
-            Kind::Acquire(m) | Kind::Release(m) => (m.0 as usize) < self.locks.len(),
+        match event.kind.access() {
+            Access::Shared(c) => (c.0 as usize) < self.reads.count(),
+            Access::Exclusive(c) => (c.0 as usize) < self.writes.len(),
             _ => true,
         }
     }
@@ -100,16 +97,13 @@ impl PlaceClocks {
         ensures unchanged { KnowsTheSame (state_of self.old) (state_of self.new) }
         ensures rows { self.new.rows ≡ self.old.rows }
         ensures lists { has_lists self.new.reads ≡ has_lists self.old.reads }
-        ensures ok { OnOk result (IsOfThreads threads event.now → HasRoomToNoteBeside threads (state_of self.new) event.now.kind) }
-        ensures err { OnErr result (0 < threads → ¬ HasRoomToNoteBeside threads (state_of self.old) event.now.kind) }
+        ensures ok { OnOk result (IsOfThreads threads event.now → HasRoomToNoteBeside threads (state_of self.new) (access_of event.now.kind)) }
+        ensures err { OnErr result (0 < threads → ¬ HasRoomToNoteBeside threads (state_of self.old) (access_of event.now.kind)) }
         ensures memory { OnErr result GrowthRefused }
     {
-        match event.kind {
-            Kind::Read(x, _) => self.reads.reserve(x.0 as usize),
-            Kind::Write(x, _) => fill_up_to(&mut self.writes, x.0 as usize, Epoch::blank()),
-            Kind::Acquire(m) | Kind::Release(m) => {
-                fill_up_to(&mut self.locks, m.0 as usize, Epoch::blank())
-            }
+        match event.kind.access() {
+            Access::Shared(c) => self.reads.reserve(c.0 as usize),
+            Access::Exclusive(c) => fill_up_to(&mut self.writes, c.0 as usize, Epoch::blank()),
             _ => Ok(()),
         }
     }
@@ -178,7 +172,6 @@ impl PlaceClocks {
             .len()
             .saturating_add(self.writes.len())
             .saturating_add(self.reads.count())
-            .saturating_add(self.locks.len())
     }
 
     /// Only the rows of epochs that stand at places are in use.
@@ -191,7 +184,6 @@ impl PlaceClocks {
         self.rows.release(threads);
         self.rows.keep_epochs(&self.threads);
         self.rows.keep_epochs(&self.writes);
-        self.rows.keep_epochs(&self.locks);
         self.reads.keep_rows(&mut self.rows);
     }
 
@@ -205,8 +197,8 @@ impl PlaceClocks {
         if !in_order || position < latest {
             return false;
         }
-        match event.kind {
-            Kind::Fork(u) => self.rows.known(Epoch::at(&self.threads, u.0 as usize), u) == 0,
+        match event.kind.access() {
+            Access::Fork(u) => self.rows.known(Epoch::at(&self.threads, u.0 as usize), u) == 0,
             _ => true,
         }
     }
@@ -240,7 +232,7 @@ impl PlaceClocks {
     #[inline(always)]
     fn share_beside(&mut self, event: &Event, own: Epoch, number: u32, threads: usize) -> bool
         requires places { ArePlaces threads self.old }
-        requires beside { HasRoomToNoteBeside threads (state_of self.old) event.now.kind }
+        requires beside { HasRoomToNoteBeside threads (state_of self.old) (access_of event.now.kind) }
         requires by { own.by.0 < threads }
         requires in_use { IsInUse self.old.rows own.row }
         requires lists { has_lists self.old.reads ≡ true }
@@ -249,10 +241,10 @@ impl PlaceClocks {
         ensures places { ArePlaces threads self.new }
         ensures rows { self.new.rows ≡ self.old.rows }
         ensures threads { self.new.threads ≡ self.old.threads }
-        ensures known { IsTrue result → KnowsBeside (state_of self.old) event.now.kind (clock_in self.old.rows.rows own) }
+        ensures known { IsTrue result → KnowsBeside (state_of self.old) (access_of event.now.kind) (clock_in self.old.rows.rows own) }
         ensures forks_none { IsTrue result → forked_by event.now.kind ≡ None }
         ensures noted { IsTrue result → state_of self.new
-            ≡ with_spare (is_ready self.new) (state_after_beside (state_of self.old) own.by.0 event.now.kind (clock_in self.old.rows.rows (record { by = own.by; number = number; row = own.row }))) }
+            ≡ with_spare (is_ready self.new) (state_after_beside (state_of self.old) own.by.0 (access_of event.now.kind) (clock_in self.old.rows.rows (record { by = own.by; number = number; row = own.row }))) }
         ensures same { IsFalse result → self.new ≡ self.old }
     {
         let epoch = Epoch {
@@ -260,16 +252,16 @@ impl PlaceClocks {
             number,
             row: own.row,
         };
-        match event.kind {
-            Kind::Read(x, _) => {
-                let x = x.0 as usize;
+        match event.kind.access() {
+            Access::Shared(c) => {
+                let x = c.0 as usize;
                 if x < self.writes.len() && !self.rows.knows(own, self.writes[x]) {
                     return false;
                 }
                 self.reads.add(&self.rows, x, epoch, threads, true);
             }
-            Kind::Write(x, _) => {
-                let x = x.0 as usize;
+            Access::Exclusive(c) => {
+                let x = c.0 as usize;
                 if !self.rows.knows(own, self.writes[x]) {
                     return false;
                 }
@@ -279,15 +271,8 @@ impl PlaceClocks {
                 self.reads.clear(x);
                 self.writes[x] = epoch;
             }
-            Kind::Acquire(m) | Kind::Release(m) => {
-                let m = m.0 as usize;
-                if !self.rows.knows(own, self.locks[m]) {
-                    return false;
-                }
-                self.locks[m] = epoch;
-            }
-            Kind::Fork(_) | Kind::Join(_) => return false,
-            Kind::Begin(_) | Kind::End | Kind::Exit => {}
+            Access::Fork(_) | Access::Join(_) => return false,
+            Access::Nothing => {}
         }
         true
     }
@@ -320,7 +305,7 @@ impl PlaceClocks {
         ensures kept { KeepsPlaces self.old self.new }
         ensures in_use { IsInUse self.new.rows result }
         ensures row { (x : ℕ) → slice_set (slice_index_or self.new.rows.rows result []) (thread_of event.now) x
-            ≡ slice_set (clock_beside (state_of self.old) event.now.kind (clock_at (state_of self.old) (OfLast (thread_of event.now))).known) (thread_of event.now) x }
+            ≡ slice_set (clock_beside (state_of self.old) (access_of event.now.kind) (clock_at (state_of self.old) (OfLast (thread_of event.now))).known) (thread_of event.now) x }
     {
         let own = self.threads[event.thread.0 as usize];
         self.learn_beside(clock, own, event);
@@ -331,23 +316,19 @@ impl PlaceClocks {
     fn learn_beside(&self, clock: &mut [u32], own: Epoch, event: &Event)
         requires places { ArePlaces (length clock.old) self.now }
         requires in_use { IsInUse self.now.rows own.row }
-        ensures { clock.new ≡ clock_beside (state_of self.now) event.now.kind (clock_in self.now.rows.rows own) }
+        ensures { clock.new ≡ clock_beside (state_of self.now) (access_of event.now.kind) (clock_in self.now.rows.rows own) }
     {
         self.rows.copy_clock(own, clock);
-        match event.kind {
-            Kind::Read(x, _) => self
+        match event.kind.access() {
+            Access::Shared(c) => self
                 .rows
-                .raise_clock(Epoch::at(&self.writes, x.0 as usize), clock),
-            Kind::Write(x, _) => {
+                .raise_clock(Epoch::at(&self.writes, c.0 as usize), clock),
+            Access::Exclusive(c) => {
                 self.rows
-                    .raise_clock(Epoch::at(&self.writes, x.0 as usize), clock);
-                self.reads.raise_clock(&self.rows, x.0 as usize, clock);
+                    .raise_clock(Epoch::at(&self.writes, c.0 as usize), clock);
+                self.reads.raise_clock(&self.rows, c.0 as usize, clock);
             }
-            Kind::Acquire(m) | Kind::Release(m) => {
-                self.rows
-                    .raise_clock(Epoch::at(&self.locks, m.0 as usize), clock);
-            }
-            Kind::Join(u) => self
+            Access::Join(u) => self
                 .rows
                 .raise_clock(Epoch::at(&self.threads, u.0 as usize), clock),
             _ => {}
@@ -358,25 +339,24 @@ impl PlaceClocks {
     #[inline]
     fn spread(&mut self, event: &Event, epoch: Epoch, threads: usize, in_order: bool)
         requires places { ArePlaces threads self.old }
-        requires beside { HasRoomToNoteBeside threads (state_of self.old) event.now.kind }
+        requires beside { HasRoomToNoteBeside threads (state_of self.old) (access_of event.now.kind) }
         requires by { epoch.by.0 < threads }
         requires in_use { IsInUse self.old.rows epoch.row }
         requires lists { has_lists self.old.reads ≡ true }
         requires follows { IsTrue in_order → FollowsOwn self.old.rows self.old.reads epoch }
         ensures places { ArePlaces threads self.new }
         ensures rows { self.new.rows ≡ self.old.rows }
-        ensures noted { state_of self.new ≡ with_spare (is_ready self.new) (state_after_beside (state_of self.old) epoch.by.0 event.now.kind (clock_in self.old.rows.rows epoch)) }
+        ensures noted { state_of self.new ≡ with_spare (is_ready self.new) (state_after_beside (state_of self.old) epoch.by.0 (access_of event.now.kind) (clock_in self.old.rows.rows epoch)) }
     {
-        match event.kind {
-            Kind::Read(x, _) => self
+        match event.kind.access() {
+            Access::Shared(c) => self
                 .reads
-                .add(&self.rows, x.0 as usize, epoch, threads, in_order),
-            Kind::Write(x, _) => {
-                self.writes[x.0 as usize] = epoch;
-                self.reads.clear(x.0 as usize);
+                .add(&self.rows, c.0 as usize, epoch, threads, in_order),
+            Access::Exclusive(c) => {
+                self.writes[c.0 as usize] = epoch;
+                self.reads.clear(c.0 as usize);
             }
-            Kind::Acquire(m) | Kind::Release(m) => self.locks[m.0 as usize] = epoch,
-            Kind::Fork(u) => self.threads[u.0 as usize] = epoch,
+            Access::Fork(u) => self.threads[u.0 as usize] = epoch,
             _ => {}
         }
     }
@@ -386,15 +366,14 @@ impl PlaceClocks {
         ensures { (threads : ℕ) → ArePlaces threads self.now → result ≡ blame_bound (state_of self.now) event.now }
     {
         let t = event.thread;
-        match event.kind {
-            Kind::Read(x, _) => self.foreign_in(&self.writes, x.0 as usize, t),
-            Kind::Write(x, _) => {
-                let writes = self.foreign_in(&self.writes, x.0 as usize, t);
-                let reads = self.reads.foreign(&self.rows, x.0 as usize, t);
+        match event.kind.access() {
+            Access::Shared(c) => self.foreign_in(&self.writes, c.0 as usize, t),
+            Access::Exclusive(c) => {
+                let writes = self.foreign_in(&self.writes, c.0 as usize, t);
+                let reads = self.reads.foreign(&self.rows, c.0 as usize, t);
                 writes.max(reads as usize)
             }
-            Kind::Acquire(m) | Kind::Release(m) => self.foreign_in(&self.locks, m.0 as usize, t),
-            Kind::Join(u) => self.foreign_in(&self.threads, u.0 as usize, t),
+            Access::Join(u) => self.foreign_in(&self.threads, u.0 as usize, t),
             _ => 0,
         }
     }

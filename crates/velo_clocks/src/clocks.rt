@@ -9,8 +9,8 @@ use std::marker::Model;
 use velo_events::growth::filled;
 use velo_events::{Config, Event, Memory};
 
-/// How far the events at each place know each thread: the last event of each thread, the last write of each variable, its
-/// reads since then, and the last event of each lock.
+/// How far the events at each place know each thread: the last event of each thread, the last write of each variable or lock,
+/// and its reads since then. To take or leave a lock alone is to write it, to do so beside others to read it.
 #[derive(Debug, Drop)]
 pub struct ClockTables {
     places: PlaceClocks,

@@ -111,7 +111,7 @@ ConflictsInOrder-same_thread trace t i j l own_i own_j =
     let e = passes_at-event trace (is_by t) i own_i in
     let f = passes_at-event trace (is_by t) j own_j in
     let same : IsTrue (thread_of e.0 == thread_of f.0) = eq-eqb _ _ (eqb-true _ _ e.2 ∙ sym (eqb-true _ _ f.2)) in
-    (l, rw (e.1, f.1) (or_left _ _ (or_left _ _ (or_left _ _ (or_left _ _ same)))))
+    (l, rw (e.1, f.1) (or_left _ _ (or_left _ _ (or_left _ _ same))))
 
 -- what happens after a position leads, in the graph, from its transaction to the other's
 pub ConflictsInOrder-reaches : (trace : List Event) (i j : ℕ) → ConflictsInOrder trace i j → Reaches (Edge trace) (owner trace i) (owner trace j)

@@ -10,14 +10,16 @@ use Rattle.std.proofs.lemmas.List.FromFn.{get_or-map-range_with_len, length-map-
 use Rattle.velo_events.specs.declared.config.Bounds.{Bounds}
 use Rattle.velo_events.specs.declared.event.Event.{Event}
 use Rattle.velo_events.specs.declared.event.Kind.{Kind}
-use Rattle.velo_events.specs.declared.event.Kind.TheVariants.{Read, Write, Acquire, Release, Begin, End, Fork, Join, Exit}
-use Rattle.velo_events.specs.Event.{are_same, thread_of, variable_of, lock_of, forked_by, joined_by, handled_by, is_read, is_write, is_exit_by, is_fork_of, is_join_of, is_write_of, is_on_lock}
+use Rattle.velo_events.specs.declared.event.Kind.TheVariants.{Fork, Join}
+use Rattle.velo_events.specs.declared.event.Access.{Access}
+use Rattle.velo_events.specs.declared.event.Access.TheVariants.{Shared, Exclusive}
+use Rattle.velo_events.specs.Event.{are_same, thread_of, access_of, cell_of, forked_by, joined_by, forked_of, joined_of, handled_by, handled_of, is_shared, is_exclusive, is_exit_by, is_fork_of, is_join_of, is_writing}
 use Rattle.velo_events.specs.Conflict.{conflict}
 use Rattle.velo_events.specs.Heap.{happened, was_born}
 use Rattle.velo_events.specs.WellFormed.{IsWellFormed, MayFollow, IsInTurn}
 use Rattle.velo_events.specs.Graph.{Reaches, ConflictsInOrder, conflict_at}
 use Rattle.velo_events.proofs.OnTraces.{slice_get-append, slice_get-push, slice_get-take}
-use Rattle.velo_events.specs.Place.{Place, LastOf, LastWrite, LastRead, LastOn, thread_numbers, looked_up, also_looked_up, is_recorded, last_at}
+use Rattle.velo_events.specs.Place.{Place, LastOf, LastWrite, LastRead, thread_numbers, looked_up, also_looked_up, is_recorded, last_at}
 use Rattle.velo_events.proofs.OnLast.{IsLast, last_at-is, last_at-within, last_position-at}
 
 -- ---- numbers that are the same
@@ -39,13 +41,10 @@ are_same-from o p n at also = ap (λ q. are_same q p) at ∙ (ap (are_same (Some
 
 module _ (a b : Event) where
   pub conflict-thread : thread_of a ≡ thread_of b → IsTrue (conflict a b)
-  conflict-thread h = or_left _ _ (or_left _ _ (or_left _ _ (or_left _ _ (eq-eqb _ _ h))))
+  conflict-thread h = or_left _ _ (or_left _ _ (or_left _ _ (eq-eqb _ _ h)))
 
-  pub conflict-variable : IsTrue (are_same (variable_of a.kind) (variable_of b.kind)) → IsTrue (is_write a.kind || is_write b.kind) → IsTrue (conflict a b)
-  conflict-variable same writes = or_left _ _ (or_left _ _ (or_left _ _ (or_right (thread_of a == thread_of b) _ (and_from _ _ same writes))))
-
-  pub conflict-lock : IsTrue (are_same (lock_of a.kind) (lock_of b.kind)) → IsTrue (conflict a b)
-  conflict-lock h = or_left _ _ (or_left _ _ (or_right _ _ h))
+  pub conflict-cell : IsTrue (are_same (cell_of (access_of a.kind)) (cell_of (access_of b.kind))) → IsTrue (is_exclusive (access_of a.kind) || is_exclusive (access_of b.kind)) → IsTrue (conflict a b)
+  conflict-cell same writes = or_left _ _ (or_left _ _ (or_right (thread_of a == thread_of b) _ (and_from _ _ same writes)))
 
   conflict-handles : handled_by a.kind ≡ Some (thread_of b) → IsTrue (conflict a b)
   conflict-handles h = or_left _ _ (or_right _ _ (are_same-from _ _ (thread_of b) h refl))
@@ -58,76 +57,36 @@ pub conflict_at-events : (trace : List Event) (i j : ℕ) (f g : Event) → slic
 unfolding conflict_at
 conflict_at-events trace i j f g at also h = rw (at, also) h
 
--- ---- kinds
+-- ---- accesses
 
-pub fork_handles : (k : Kind) (t : ℕ) → IsTrue (are_same (forked_by k) (Some t)) → handled_by k ≡ Some t
-fork_handles (Fork u) t h = ap (λ n. Some n) (eqb-true u.0 t h)
-fork_handles (Read x v) t h = absurd (false≢true h)
-fork_handles (Write x v) t h = absurd (false≢true h)
-fork_handles (Acquire m) t h = absurd (false≢true h)
-fork_handles (Release m) t h = absurd (false≢true h)
-fork_handles (Begin l) t h = absurd (false≢true h)
-fork_handles End t h = absurd (false≢true h)
-fork_handles (Join u) t h = absurd (false≢true h)
-fork_handles Exit t h = absurd (false≢true h)
+pub fork_handles : (a : Access) (t : ℕ) → IsTrue (are_same (forked_of a) (Some t)) → handled_of a ≡ Some t
+fork_handles (Access.Fork u) t h = ap (λ n. Some n) (eqb-true u.0 t h)
+fork_handles _ t h = absurd (false≢true h)
 
-join_handles : (k : Kind) (t : ℕ) → IsTrue (are_same (joined_by k) (Some t)) → handled_by k ≡ Some t
-join_handles (Join u) t h = ap (λ n. Some n) (eqb-true u.0 t h)
-join_handles (Read x v) t h = absurd (false≢true h)
-join_handles (Write x v) t h = absurd (false≢true h)
-join_handles (Acquire m) t h = absurd (false≢true h)
-join_handles (Release m) t h = absurd (false≢true h)
-join_handles (Begin l) t h = absurd (false≢true h)
-join_handles End t h = absurd (false≢true h)
-join_handles (Fork u) t h = absurd (false≢true h)
-join_handles Exit t h = absurd (false≢true h)
+join_handles : (a : Access) (t : ℕ) → IsTrue (are_same (joined_of a) (Some t)) → handled_of a ≡ Some t
+join_handles (Access.Join u) t h = ap (λ n. Some n) (eqb-true u.0 t h)
+join_handles _ t h = absurd (false≢true h)
 
-pub forks_or_joins : (k : Kind) (t : ℕ) → IsTrue (are_same (handled_by k) (Some t)) → IsTrue (are_same (forked_by k) (Some t)) ⊎ IsTrue (are_same (joined_by k) (Some t))
-forks_or_joins (Fork u) t h = inl h
-forks_or_joins (Join u) t h = inr h
-forks_or_joins (Read x v) t h = absurd (false≢true h)
-forks_or_joins (Write x v) t h = absurd (false≢true h)
-forks_or_joins (Acquire m) t h = absurd (false≢true h)
-forks_or_joins (Release m) t h = absurd (false≢true h)
-forks_or_joins (Begin l) t h = absurd (false≢true h)
-forks_or_joins End t h = absurd (false≢true h)
-forks_or_joins Exit t h = absurd (false≢true h)
+pub forks_or_joins : (a : Access) (t : ℕ) → IsTrue (are_same (handled_of a) (Some t)) → IsTrue (are_same (forked_of a) (Some t)) ⊎ IsTrue (are_same (joined_of a) (Some t))
+forks_or_joins (Access.Fork u) t h = inl h
+forks_or_joins (Access.Join u) t h = inr h
+forks_or_joins _ t h = absurd (false≢true h)
 
--- an access is a read or a write
-pub reads_or_writes : (k : Kind) (x : ℕ) → variable_of k ≡ Some x → IsTrue (is_write k) ⊎ IsTrue (is_read k)
-reads_or_writes (Read y v) x h = inr refl
-reads_or_writes (Write y v) x h = inl refl
-reads_or_writes (Acquire m) x h = absurd (none-some x h)
-reads_or_writes (Release m) x h = absurd (none-some x h)
-reads_or_writes (Begin l) x h = absurd (none-some x h)
-reads_or_writes End x h = absurd (none-some x h)
-reads_or_writes (Fork u) x h = absurd (none-some x h)
-reads_or_writes (Join u) x h = absurd (none-some x h)
-reads_or_writes Exit x h = absurd (none-some x h)
+-- an access of a cell is a read or a write
+pub reads_or_writes : (a : Access) (c : ℕ) → cell_of a ≡ Some c → IsTrue (is_exclusive a) ⊎ IsTrue (is_shared a)
+reads_or_writes (Shared d) c h = inr refl
+reads_or_writes (Exclusive d) c h = inl refl
+reads_or_writes _ c h = absurd (none-some c h)
 
 -- a thread is forked once, and thread 0 never
 fork_turn : (earlier : List Event) (by : ℕ) (k : Kind) (t : ℕ) → IsTrue (are_same (forked_by k) (Some t)) → IsInTurn earlier by k → (t ≢ 0) × IsFalse (happened (is_fork_of t) earlier)
 fork_turn earlier by (Fork u) t h turn = subst (λ n. (n ≢ 0) × IsFalse (happened (is_fork_of n) earlier)) (eqb-true u.0 t h) turn
-fork_turn earlier by (Read x v) t h turn = absurd (false≢true h)
-fork_turn earlier by (Write x v) t h turn = absurd (false≢true h)
-fork_turn earlier by (Acquire m) t h turn = absurd (false≢true h)
-fork_turn earlier by (Release m) t h turn = absurd (false≢true h)
-fork_turn earlier by (Begin l) t h turn = absurd (false≢true h)
-fork_turn earlier by End t h turn = absurd (false≢true h)
-fork_turn earlier by (Join u) t h turn = absurd (false≢true h)
-fork_turn earlier by Exit t h turn = absurd (false≢true h)
+fork_turn earlier by _ t h turn = absurd (false≢true h)
 
 -- a thread is joined after its exit
 join_turn : (earlier : List Event) (by : ℕ) (k : Kind) (t : ℕ) → IsTrue (are_same (joined_by k) (Some t)) → IsInTurn earlier by k → IsTrue (happened (is_exit_by t) earlier)
 join_turn earlier by (Join u) t h turn = subst (λ n. IsTrue (happened (is_exit_by n) earlier)) (eqb-true u.0 t h) turn.0
-join_turn earlier by (Read x v) t h turn = absurd (false≢true h)
-join_turn earlier by (Write x v) t h turn = absurd (false≢true h)
-join_turn earlier by (Acquire m) t h turn = absurd (false≢true h)
-join_turn earlier by (Release m) t h turn = absurd (false≢true h)
-join_turn earlier by (Begin l) t h turn = absurd (false≢true h)
-join_turn earlier by End t h turn = absurd (false≢true h)
-join_turn earlier by (Fork u) t h turn = absurd (false≢true h)
-join_turn earlier by Exit t h turn = absurd (false≢true h)
+join_turn earlier by _ t h turn = absurd (false≢true h)
 
 -- ---- what has happened stands at some position
 
@@ -163,80 +122,43 @@ further q xs p w = (suc w.0, omega (arith, w.1), w.2)
 pub looked_up-own : (e : Event) → Contains (looked_up e) (LastOf (thread_of e))
 looked_up-own e = (0, omega arith, refl)
 
-pub also-join : (k : Kind) (u : ℕ) → IsTrue (are_same (joined_by k) (Some u)) → Contains (also_looked_up k) (LastOf u)
-also-join (Join t) u h = (0, omega arith, ap (λ n. LastOf n) (eqb-true t.0 u h))
-also-join (Read x v) u h = absurd (false≢true h)
-also-join (Write x v) u h = absurd (false≢true h)
-also-join (Acquire m) u h = absurd (false≢true h)
-also-join (Release m) u h = absurd (false≢true h)
-also-join (Begin l) u h = absurd (false≢true h)
-also-join End u h = absurd (false≢true h)
-also-join (Fork t) u h = absurd (false≢true h)
-also-join Exit u h = absurd (false≢true h)
+pub also-join : (a : Access) (u : ℕ) → IsTrue (are_same (joined_of a) (Some u)) → Contains (also_looked_up a) (LastOf u)
+also-join (Access.Join t) u h = (0, omega arith, ap (λ n. LastOf n) (eqb-true t.0 u h))
+also-join _ u h = absurd (false≢true h)
 
-pub also-access : (k : Kind) (x : ℕ) → variable_of k ≡ Some x → Contains (also_looked_up k) (LastWrite x)
-also-access (Read y v) x h = (0, omega arith, ap (λ n. LastWrite n) (same_Some y.0 x h))
-also-access (Write y v) x h = (0, omega arith, ap (λ n. LastWrite n) (same_Some y.0 x h))
-also-access (Acquire m) x h = absurd (none-some x h)
-also-access (Release m) x h = absurd (none-some x h)
-also-access (Begin l) x h = absurd (none-some x h)
-also-access End x h = absurd (none-some x h)
-also-access (Fork t) x h = absurd (none-some x h)
-also-access (Join t) x h = absurd (none-some x h)
-also-access Exit x h = absurd (none-some x h)
+pub also-access : (a : Access) (c : ℕ) → cell_of a ≡ Some c → Contains (also_looked_up a) (LastWrite c)
+also-access (Shared d) c h = (0, omega arith, ap (λ n. LastWrite n) (same_Some d.0 c h))
+also-access (Exclusive d) c h = (0, omega arith, ap (λ n. LastWrite n) (same_Some d.0 c h))
+also-access _ c h = absurd (none-some c h)
 
 each_reader : (x t : ℕ) → t < 64 → Contains (map (LastRead x) thread_numbers) (LastRead x t)
 unfolding thread_numbers
 each_reader x t h = (t, omega (arith, h, length-map-range_with_len (LastRead x) 0 64), get_or-map-range_with_len (LastRead x) 0 64 t t (LastRead x t) h (omega arith))
 
-also-write : (k : Kind) (x t : ℕ) → variable_of k ≡ Some x → IsTrue (is_write k) → t < 64 → Contains (also_looked_up k) (LastRead x t)
-also-write (Write y v) x t h w few = subst (λ n. Contains (LastWrite y.0 ∷ map (LastRead y.0) thread_numbers) (LastRead n t)) (same_Some y.0 x h) (further (LastWrite y.0) (map (LastRead y.0) thread_numbers) (LastRead y.0 t) (each_reader y.0 t few))
-also-write (Read y v) x t h w few = absurd (false≢true w)
-also-write (Acquire m) x t h w few = absurd (false≢true w)
-also-write (Release m) x t h w few = absurd (false≢true w)
-also-write (Begin l) x t h w few = absurd (false≢true w)
-also-write End x t h w few = absurd (false≢true w)
-also-write (Fork u) x t h w few = absurd (false≢true w)
-also-write (Join u) x t h w few = absurd (false≢true w)
-also-write Exit x t h w few = absurd (false≢true w)
-
-pub also-lock : (k : Kind) (m : ℕ) → lock_of k ≡ Some m → Contains (also_looked_up k) (LastOn m)
-also-lock (Acquire n) m h = (0, omega arith, ap (λ i. LastOn i) (same_Some n.0 m h))
-also-lock (Release n) m h = (0, omega arith, ap (λ i. LastOn i) (same_Some n.0 m h))
-also-lock (Read x v) m h = absurd (none-some m h)
-also-lock (Write x v) m h = absurd (none-some m h)
-also-lock (Begin l) m h = absurd (none-some m h)
-also-lock End m h = absurd (none-some m h)
-also-lock (Fork u) m h = absurd (none-some m h)
-also-lock (Join u) m h = absurd (none-some m h)
-also-lock Exit m h = absurd (none-some m h)
+also-write : (a : Access) (c t : ℕ) → cell_of a ≡ Some c → IsTrue (is_exclusive a) → t < 64 → Contains (also_looked_up a) (LastRead c t)
+also-write (Exclusive d) c t h w few = subst (λ n. Contains (LastWrite d.0 ∷ map (LastRead d.0) thread_numbers) (LastRead n t)) (same_Some d.0 c h) (further (LastWrite d.0) (map (LastRead d.0) thread_numbers) (LastRead d.0 t) (each_reader d.0 t few))
+also-write _ c t h w few = absurd (false≢true w)
 
 -- the event looks up the place
 abbrev pub is_looked_up : Event → Place → Bool
 is_looked_up e (LastOf t) = (thread_of e == t) || is_join_of t e
-is_looked_up e (LastWrite x) = are_same (variable_of e.kind) (Some x)
-is_looked_up e (LastRead x t) = is_write_of x e
-is_looked_up e (LastOn m) = is_on_lock m e
+is_looked_up e (LastWrite c) = are_same (cell_of (access_of e.kind)) (Some c)
+is_looked_up e (LastRead c t) = is_writing c e
 
 module _ (e : Event) where
   abbrev LooksUp : Place → Type 0
   LooksUp p = IsTrue (is_looked_up e p)
 
-  all_also : (k : Kind) → e.kind ≡ k → All LooksUp (also_looked_up k)
-  all_also (Read x v) h = All-cons LooksUp (LastWrite x.0) [] (ap (λ k. are_same (variable_of k) (Some x.0)) h ∙ eq-eqb x.0 x.0 refl) (All-nil LooksUp)
-  all_also (Write x v) h = All-cons LooksUp (LastWrite x.0) (map (LastRead x.0) thread_numbers) (ap (λ k. are_same (variable_of k) (Some x.0)) h ∙ eq-eqb x.0 x.0 refl)
-      (All-map LooksUp (LastRead x.0) thread_numbers (λ k d l. ap (λ kind. is_write kind && are_same (variable_of kind) (Some x.0)) h ∙ eq-eqb x.0 x.0 refl))
-  all_also (Acquire m) h = All-cons LooksUp (LastOn m.0) [] (ap (λ k. are_same (lock_of k) (Some m.0)) h ∙ eq-eqb m.0 m.0 refl) (All-nil LooksUp)
-  all_also (Release m) h = All-cons LooksUp (LastOn m.0) [] (ap (λ k. are_same (lock_of k) (Some m.0)) h ∙ eq-eqb m.0 m.0 refl) (All-nil LooksUp)
-  all_also (Join u) h = All-cons LooksUp (LastOf u.0) [] (or_right (thread_of e == u.0) _ (ap (λ k. are_same (joined_by k) (Some u.0)) h ∙ eq-eqb u.0 u.0 refl)) (All-nil LooksUp)
-  all_also (Begin l) h = All-nil LooksUp
-  all_also End h = All-nil LooksUp
-  all_also (Fork u) h = All-nil LooksUp
-  all_also Exit h = All-nil LooksUp
+  all_also : (a : Access) → access_of e.kind ≡ a → All LooksUp (also_looked_up a)
+  all_also (Shared c) h = All-cons LooksUp (LastWrite c.0) [] (ap (λ a. are_same (cell_of a) (Some c.0)) h ∙ eq-eqb c.0 c.0 refl) (All-nil LooksUp)
+  all_also (Exclusive c) h = All-cons LooksUp (LastWrite c.0) (map (LastRead c.0) thread_numbers) (ap (λ a. are_same (cell_of a) (Some c.0)) h ∙ eq-eqb c.0 c.0 refl)
+      (All-map LooksUp (LastRead c.0) thread_numbers (λ k d l. ap (λ a. is_exclusive a && are_same (cell_of a) (Some c.0)) h ∙ eq-eqb c.0 c.0 refl))
+  all_also (Access.Join u) h = All-cons LooksUp (LastOf u.0) [] (or_right (thread_of e == u.0) _ (ap (λ a. are_same (joined_of a) (Some u.0)) h ∙ eq-eqb u.0 u.0 refl)) (All-nil LooksUp)
+  all_also _ h = All-nil LooksUp
 
   -- what is in the list is looked up
   pub looked_up-is : (p : Place) → Contains (looked_up e) p → IsTrue (is_looked_up e p)
-  looked_up-is p w = All-contains LooksUp (looked_up e) p (All-cons LooksUp (LastOf (thread_of e)) (also_looked_up e.kind) (or_left (thread_of e == thread_of e) (is_join_of (thread_of e) e) (eq-eqb (thread_of e) (thread_of e) refl)) (all_also e.kind refl)) w
+  looked_up-is p w = All-contains LooksUp (looked_up e) p (All-cons LooksUp (LastOf (thread_of e)) (also_looked_up (access_of e.kind)) (or_left (thread_of e == thread_of e) (is_join_of (thread_of e) e) (eq-eqb (thread_of e) (thread_of e) refl)) (all_also (access_of e.kind) refl)) w
 
 -- ---- in a well-formed trace
 
@@ -282,21 +204,20 @@ module _ (bounds : Bounds) (trace : List Event) (e : Event) (well : IsWellFormed
       ⊎_elim
       (λ own. ⊎_elim
       (λ also. conflict-thread last.event e (eqb-true _ _ also ∙ sym (eqb-true _ _ own)))
-      (λ forks. conflict-handles last.event e (fork_handles last.event.kind t forks ∙ ap (λ n. Some n) (sym (eqb-true _ _ own))))
+      (λ forks. conflict-handles last.event e (fork_handles (access_of last.event.kind) t forks ∙ ap (λ n. Some n) (sym (eqb-true _ _ own))))
       (or_cases _ _ last.passes))
       (λ joins. ⊎_elim
-      (λ also. conflict-handled last.event e (join_handles e.kind t joins ∙ ap (λ n. Some n) (sym (eqb-true _ _ also))))
+      (λ also. conflict-handled last.event e (join_handles (access_of e.kind) t joins ∙ ap (λ n. Some n) (sym (eqb-true _ _ also))))
       (λ forks. absurd (after_join t joins k last.event last.here forks last.none_after))
       (or_cases _ _ last.passes))
       (or_cases _ _ looks)
   conflicts-at (LastWrite x) looks k last =
-      let w = and_parts (is_write last.event.kind) _ last.passes in
-      conflict-variable last.event e (are_same-from _ _ x (are_same-some _ x w.1) (are_same-some _ x looks)) (or_left _ _ w.0)
+      let w = and_parts (is_exclusive (access_of last.event.kind)) _ last.passes in
+      conflict-cell last.event e (are_same-from _ _ x (are_same-some _ x w.1) (are_same-some _ x looks)) (or_left _ _ w.0)
   conflicts-at (LastRead x t) looks k last =
-      let w = and_parts (is_write e.kind) _ looks in
+      let w = and_parts (is_exclusive (access_of e.kind)) _ looks in
       let r = and_parts _ (thread_of last.event == t) last.passes in
-      conflict-variable last.event e (are_same-from _ _ x (are_same-some _ x (and_parts (is_read last.event.kind) _ r.0).1) (are_same-some _ x w.1)) (or_right _ _ w.0)
-  conflicts-at (LastOn m) looks k last = conflict-lock last.event e (are_same-from _ _ m (are_same-some _ m last.passes) (are_same-some _ m looks))
+      conflict-cell last.event e (are_same-from _ _ x (are_same-some _ x (and_parts (is_shared (access_of last.event.kind)) _ r.0).1) (are_same-some _ x w.1)) (or_right _ _ w.0)
 
   -- the last event of a place that the event looks up conflicts with it
   pub looked_up-conflicts : (p : Place) (k : ℕ) → Contains (looked_up e) p → last_at p trace ≡ Some k → IsTrue (conflict_at (trace ++ e ∷ []) k (length trace))
@@ -337,7 +258,7 @@ module _ (bounds : Bounds) (trace : List Event) (e : Event) (well : IsWellFormed
       reached-by (LastOf u) looks (or_left _ _ (eq-eqb _ _ own))
       (λ k g before at recorded. ⊎_elim
       (λ also. conflict-thread f g (own ∙ sym (eqb-true _ _ also)))
-      (λ forks. conflict-handled f g (fork_handles g.kind u forks ∙ ap (λ n. Some n) (sym own)))
+      (λ forks. conflict-handled f g (fork_handles (access_of g.kind) u forks ∙ ap (λ n. Some n) (sym own)))
       (or_cases _ _ recorded))
 
   -- the fork of the own thread
@@ -345,27 +266,22 @@ module _ (bounds : Bounds) (trace : List Event) (e : Event) (well : IsWellFormed
   reached-fork forks =
       reached-by (LastOf (thread_of e)) (looked_up-own e) (or_right _ _ forks)
       (λ k g before at recorded. ⊎_elim
-      (λ also. conflict-handles f g (fork_handles f.kind (thread_of e) forks ∙ ap (λ n. Some n) (sym (eqb-true _ _ also))))
+      (λ also. conflict-handles f g (fork_handles (access_of f.kind) (thread_of e) forks ∙ ap (λ n. Some n) (sym (eqb-true _ _ also))))
       (λ again. absurd (fork-once bounds trace (thread_of e) k i g f well at again here forks before))
       (or_cases _ _ recorded))
 
   -- a write of a variable that is accessed
-  reached-write : (x : ℕ) → variable_of e.kind ≡ Some x → variable_of f.kind ≡ Some x → IsTrue (is_write f.kind) → IsReached trace e i
+  reached-write : (x : ℕ) → cell_of (access_of e.kind) ≡ Some x → cell_of (access_of f.kind) ≡ Some x → IsTrue (is_exclusive (access_of f.kind)) → IsReached trace e i
   reached-write x accesses same writes =
-      reached-by (LastWrite x) (further _ _ _ (also-access e.kind x accesses)) (and_from _ _ writes (are_same-from _ _ x same refl))
-      (λ k g before at recorded. conflict-variable f g (are_same-from _ _ x same (are_same-some _ x (and_parts (is_write g.kind) _ recorded).1)) (or_left _ _ writes))
+      reached-by (LastWrite x) (further _ _ _ (also-access (access_of e.kind) x accesses)) (and_from _ _ writes (are_same-from _ _ x same refl))
+      (λ k g before at recorded. conflict-cell f g (are_same-from _ _ x same (are_same-some _ x (and_parts (is_exclusive (access_of g.kind)) _ recorded).1)) (or_left _ _ writes))
 
   -- a read of a variable that is written
-  reached-read : (x : ℕ) → variable_of e.kind ≡ Some x → variable_of f.kind ≡ Some x → IsTrue (is_write e.kind) → IsTrue (is_read f.kind) → IsReached trace e i
+  reached-read : (x : ℕ) → cell_of (access_of e.kind) ≡ Some x → cell_of (access_of f.kind) ≡ Some x → IsTrue (is_exclusive (access_of e.kind)) → IsTrue (is_shared (access_of f.kind)) → IsReached trace e i
   reached-read x accesses same writes reads =
-      reached-by (LastRead x (thread_of f)) (further _ _ _ (also-write e.kind x (thread_of f) accesses writes (let known = (well.each i f here).known_thread in omega (arith, known, few))))
+      reached-by (LastRead x (thread_of f)) (further _ _ _ (also-write (access_of e.kind) x (thread_of f) accesses writes (let known = (well.each i f here).known_thread in omega (arith, known, few))))
       (and_from _ _ (and_from _ _ reads (are_same-from _ _ x same refl)) (eq-eqb _ _ refl))
       (λ k g before at recorded. conflict-thread f g (sym (eqb-true _ _ (and_parts _ (thread_of g == thread_of f) recorded).1)))
-
-  reached-lock : (m : ℕ) → lock_of e.kind ≡ Some m → lock_of f.kind ≡ Some m → IsReached trace e i
-  reached-lock m operates same =
-      reached-by (LastOn m) (further _ _ _ (also-lock e.kind m operates)) (are_same-from _ _ m same refl)
-      (λ k g before at recorded. conflict-lock f g (are_same-from _ _ m same (are_same-some _ m recorded)))
 
   -- nothing of a thread follows its join
   pub no_join : IsTrue (is_join_of (thread_of e) f) → ⊥
@@ -384,22 +300,19 @@ module _ (bounds : Bounds) (trace : List Event) (e : Event) (well : IsWellFormed
   pub reached-from_conflict : IsTrue (conflict f e) → IsReached trace e i
   reached-from_conflict h = ⊎_elim
       (λ most. ⊎_elim
-      (λ more. ⊎_elim
       (λ some. ⊎_elim
       (λ own. reached-thread (thread_of e) (looked_up-own e) (eqb-true _ _ own))
       (λ access.
-      let parts = and_parts (are_same (variable_of f.kind) (variable_of e.kind)) _ access in
+      let parts = and_parts (are_same (cell_of (access_of f.kind)) (cell_of (access_of e.kind))) _ access in
       let same = are_same-both _ _ parts.0 in
       ⊎_elim (λ writes. reached-write same.0 same.2 same.1 writes)
       (λ reads. ⊎_elim
       (λ writes. reached-write same.0 same.2 same.1 writes)
       (λ writes. reached-read same.0 same.2 same.1 writes reads)
       (or_cases _ _ parts.1))
-      (reads_or_writes f.kind same.0 same.1))
+      (reads_or_writes (access_of f.kind) same.0 same.1))
       (or_cases _ _ some))
-      (λ locks. let same = are_same-both _ _ locks in reached-lock same.0 same.2 same.1)
-      (or_cases _ _ more))
-      (λ handles. ⊎_elim (λ forks. reached-fork forks) (λ joins. absurd (no_join joins)) (forks_or_joins f.kind (thread_of e) handles))
+      (λ handles. ⊎_elim (λ forks. reached-fork forks) (λ joins. absurd (no_join joins)) (forks_or_joins (access_of f.kind) (thread_of e) handles))
       (or_cases _ _ most))
-      (λ handled. ⊎_elim (λ forks. absurd (no_fork forks)) (λ joins. reached-thread (thread_of f) (further _ _ _ (also-join e.kind (thread_of f) joins)) refl) (forks_or_joins e.kind (thread_of f) handled))
+      (λ handled. ⊎_elim (λ forks. absurd (no_fork forks)) (λ joins. reached-thread (thread_of f) (further _ _ _ (also-join (access_of e.kind) (thread_of f) joins)) refl) (forks_or_joins (access_of e.kind) (thread_of f) handled))
       (or_cases _ _ h)

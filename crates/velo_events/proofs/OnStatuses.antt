@@ -5,7 +5,7 @@ use Rattle.std.proofs.lemmas.Bool.{or_parts, or_from, and_left, eq-eqb, eqb-true
 use Rattle.velo_events.specs.declared.config.Bounds.{Bounds}
 use Rattle.velo_events.specs.declared.event.Event.{Event}
 use Rattle.velo_events.specs.declared.event.Kind.{Kind}
-use Rattle.velo_events.specs.declared.event.Kind.TheVariants.{Read, Write, Acquire, Release, Begin, End, Fork, Join, Exit}
+use Rattle.velo_events.specs.declared.event.Kind.TheVariants.{Fork, Join}
 use Rattle.velo_events.specs.declared.event.Status.{Status}
 use Rattle.velo_events.specs.declared.event.Status.TheVariants.{Unborn, Live, Exited, Joined}
 use Rattle.velo_events.specs.Event.{thread_of, is_by, is_exit, is_fork_of, is_join_of, is_exit_by, joined_by, forked_by, are_same}
@@ -108,15 +108,8 @@ pub actor-born : (bounds : Bounds) (log : List Event) (e : Event) → MayFollow 
 actor-born bounds log e f = false_from_ne_true _ (λ h. let parts = unborn_parts _ _ _ h in false≢true (sym parts.2 ∙ f.born))
 
 no_join : (k : Kind) (log : List Event) (s t : ℕ) → IsInTurn log s k → IsFalse (happened (is_exit_by t) log) → IsFalse (are_same (joined_by k) (Some t))
-no_join (Read x v) log s t turn h = refl
-no_join (Write x v) log s t turn h = refl
-no_join (Acquire m) log s t turn h = refl
-no_join (Release m) log s t turn h = refl
-no_join (Begin l) log s t turn h = refl
-no_join End log s t turn h = refl
-no_join (Fork u) log s t turn h = refl
 no_join (Join u) log s t turn h = ne_eqb u.0 t (λ is. false≢true (sym (subst (λ n. IsFalse (happened (is_exit_by n) log)) (sym is) h) ∙ turn.0))
-no_join Exit log s t turn h = refl
+no_join _ log s t turn h = refl
 
 -- a thread that it does not fork is unborn after it exactly where it was
 pub unborn-same : (bounds : Bounds) (log : List Event) (e : Event) (t : ℕ) → MayFollow bounds log e → IsFalse (is_fork_of t e) → is_unborn (status_in (log ++ e ∷ []) t) ≡ is_unborn (status_in log t)
@@ -141,17 +134,10 @@ pub forked-after : (log : List Event) (e : Event) (t : ℕ) → IsTrue (is_fork_
 forked-after log e t fork = false_from_ne_true _ (λ h. false≢true (sym (unborn-before log e t h).1 ∙ fork))
 
 forked_in : (k : Kind) (log : List Event) (s t : ℕ) → IsInTurn log s k → IsTrue (are_same (forked_by k) (Some t)) → IsFalse (was_born log t)
-forked_in (Read x v) log s t turn h = absurd (false≢true h)
-forked_in (Write x v) log s t turn h = absurd (false≢true h)
-forked_in (Acquire m) log s t turn h = absurd (false≢true h)
-forked_in (Release m) log s t turn h = absurd (false≢true h)
-forked_in (Begin l) log s t turn h = absurd (false≢true h)
-forked_in End log s t turn h = absurd (false≢true h)
 forked_in (Fork u) log s t turn h =
     let is : u.0 ≡ t = eqb-true u.0 t h in
     subst (λ n. IsFalse (was_born log n)) is (or_from (u.0 == 0) (happened (is_fork_of u.0) log) (ne_eqb u.0 0 turn.0) turn.1)
-forked_in (Join u) log s t turn h = absurd (false≢true h)
-forked_in Exit log s t turn h = absurd (false≢true h)
+forked_in _ log s t turn h = absurd (false≢true h)
 
 pub forked-before : (bounds : Bounds) (log : List Event) (e : Event) (t : ℕ) → IsWellFormed bounds log → MayFollow bounds log e → IsTrue (is_fork_of t e) → IsTrue (is_unborn (status_in log t))
 forked-before bounds log e t well f fork =

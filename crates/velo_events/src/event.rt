@@ -1,4 +1,5 @@
-ghost use Rattle.std.specs.Prelude.{◌≡◌};
+ghost use Rattle.std.specs.Prelude.{◌≡◌, ◌+◌};
+ghost use Rattle.velo_events.specs.Event.{access_of};
 ghost use Rattle.velo_events.specs.Conflict.{conflict};
 
 /// The number of a thread. A run has at most [`MOST_THREADS`](crate::MOST_THREADS); thread 0 is there from the start.
@@ -29,6 +30,10 @@ pub enum Kind {
     Acquire(LockId),
     /// It released the lock.
     Release(LockId),
+    /// It acquired the lock beside others that share it.
+    AcquireShared(LockId),
+    /// It released its share of the lock.
+    ReleaseShared(LockId),
     /// It began an atomic block, within those that it has open.
     Begin(Label),
     /// It ended its innermost open block.
@@ -61,6 +66,10 @@ pub enum Action {
     Acquire(LockId),
     /// To release the lock.
     Release(LockId),
+    /// To acquire the lock beside others that share it.
+    AcquireShared(LockId),
+    /// To release its share of the lock.
+    ReleaseShared(LockId),
     /// To begin an atomic block, within those that it has open.
     Begin(Label),
     /// To end its innermost open block.
@@ -73,23 +82,80 @@ pub enum Action {
     Exit,
 }
 
+/// A variable or a lock: what operations of several threads access. The variables have the even numbers, the locks the odd ones.
+#[derive(Clone, Copy, Debug, PartialEq, Eq, PartialOrd, Ord, Hash)]
+pub struct Cell(pub u32);
+
+impl VarId {
+    /// The cell of the variable.
+    #[inline(always)]
+    pub fn cell(self) -> Cell
+        ensures { result.0 ≡ self.0 + self.0 }
+    {
+        Cell(u32::from(self.0) + u32::from(self.0))
+    }
+}
+
+impl LockId {
+    /// The cell of the lock.
+    #[inline(always)]
+    pub fn cell(self) -> Cell
+        ensures { result.0 ≡ self.0 + self.0 + 1 }
+    {
+        Cell(u32::from(self.0) + u32::from(self.0) + 1)
+    }
+}
+
+/// What an operation bears on beside its own thread.
+#[derive(Clone, Copy, Debug, PartialEq, Eq)]
+pub enum Access {
+    /// A cell, as a read of a variable or a share of a lock: it does not conflict with others of this kind.
+    Shared(Cell),
+    /// A cell, as a write of a variable or a lock taken or given up alone: it conflicts with all accesses of the cell.
+    Exclusive(Cell),
+    /// A thread that it forks.
+    Fork(ThreadId),
+    /// A thread that it joins.
+    Join(ThreadId),
+    /// Nothing else.
+    Nothing,
+}
+
+impl Kind {
+    /// What the operation bears on beside its own thread.
+    #[inline(always)]
+    pub fn access(self) -> Access
+        ensures { result ≡ access_of self }
+    {
+        match self {
+            Kind::Read(x, _) => Access::Shared(x.cell()),
+            Kind::Write(x, _) => Access::Exclusive(x.cell()),
+            Kind::Acquire(m) | Kind::Release(m) => Access::Exclusive(m.cell()),
+            Kind::AcquireShared(m) | Kind::ReleaseShared(m) => Access::Shared(m.cell()),
+            Kind::Fork(u) => Access::Fork(u),
+            Kind::Join(u) => Access::Join(u),
+            Kind::Begin(_) | Kind::End | Kind::Exit => Access::Nothing,
+        }
+    }
+}
+
 /// Whether two events of one trace conflict, so that no equivalent trace exchanges them.
 ///
 /// They do where one thread did both, where both access one variable and one of them writes it, where both operate on one
-/// lock (these are the rules of Flanagan, Freund and Yi, *Velodrome*, PLDI 2008), and where one of them forks or joins the
-/// other's thread. Two forks or joins of one thread by two others do not conflict by themselves.
+/// lock and one of them not as a sharer of it (but for the sharers these are the rules of Flanagan, Freund and Yi, *Velodrome*,
+/// PLDI 2008), and where one of them forks or joins the other's thread. Two forks or joins of one thread by two others do not
+/// conflict by themselves.
 pub fn conflicts(earlier: &Event, later: &Event) -> bool
     ensures { result ≡ conflict earlier.now later.now }
 {
     if earlier.thread == later.thread {
         return true;
     }
-    match (earlier.kind, later.kind) {
-        (Kind::Read(x, _), Kind::Write(y, _)) => x == y,
-        (Kind::Write(x, _), Kind::Read(y, _) | Kind::Write(y, _)) => x == y,
-        (Kind::Acquire(m) | Kind::Release(m), Kind::Acquire(n) | Kind::Release(n)) => m == n,
-        (Kind::Fork(u) | Kind::Join(u), _) if u == later.thread => true,
-        (_, Kind::Fork(u) | Kind::Join(u)) => u == earlier.thread,
+    match (earlier.kind.access(), later.kind.access()) {
+        (Access::Shared(c), Access::Exclusive(d)) => c == d,
+        (Access::Exclusive(c), Access::Shared(d) | Access::Exclusive(d)) => c == d,
+        (Access::Fork(u) | Access::Join(u), _) if u == later.thread => true,
+        (_, Access::Fork(u) | Access::Join(u)) => u == earlier.thread,
         _ => false,
     }
 }

@@ -13,7 +13,9 @@ mod memory;
 mod refusal;
 
 pub use config::{BadConfig, Bounds, Config};
-pub use event::{Action, Event, Kind, Label, LockId, Status, ThreadId, VarId, conflicts};
+pub use event::{
+    Access, Action, Cell, Event, Kind, Label, LockId, Status, ThreadId, VarId, conflicts,
+};
 pub use limits::{MOST_EVENTS, MOST_LOCKS, MOST_NODES, MOST_OPEN_BLOCKS, MOST_THREADS};
 pub use memory::Memory;
 pub use refusal::Refusal;

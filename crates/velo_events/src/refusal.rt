@@ -15,19 +15,19 @@ pub enum Refusal {
     /// A read or write beyond the variables.
     #[error("no such variable")]
     NoSuchVariable = 3,
-    /// An acquire or release beyond the locks.
+    /// An operation on a lock beyond the locks.
     #[error("no such lock")]
     NoSuchLock = 4,
     /// A fork or join beyond the threads.
     #[error("no such thread")]
     NoSuchThread = 5,
-    /// An acquire of a lock that another thread holds.
+    /// An acquire of a lock that another thread holds, or a shared one where that holds it alone.
     #[error("lock busy")]
     Busy = 6,
-    /// An acquire of a lock that the thread holds already: locks are not re-entrant.
+    /// An acquire, also a shared one, of a lock that the thread holds already, alone or with others: locks are not re-entrant.
     #[error("lock already held")]
     AlreadyHeld = 7,
-    /// A release of a lock that the thread does not hold.
+    /// A release of a lock that the thread does not hold alone, or a shared one where it does not share it.
     #[error("not the holder")]
     NotHolder = 8,
     /// An end where the thread has no open block.
@@ -51,7 +51,7 @@ pub enum Refusal {
     /// An exit with an open block.
     #[error("block open")]
     BlockOpen = 15,
-    /// An exit with a held lock.
+    /// An exit with a lock held, alone or with others.
     #[error("lock held")]
     LockHeld = 16,
     /// The log has as many events as it may take.

@@ -1,4 +1,6 @@
 pub mod OnTables
+pub mod OnMasks
+pub mod OnLocks
 pub mod OnAdmission
 pub mod OnStandings
 pub mod OnChanges

@@ -1,14 +1,14 @@
 -- What a heap admits is what its trace admits.
-use Rattle.std.proofs.Common.{◌≡◌, ℕ, Bool, true, false, not, List, length, Option, Some, None, Ok, Err, refl, sym, ap, ◌∙◌, subst, arith, ⊎_elim}
-use Rattle.std.specs.Prelude.{◌&&◌, ◌==◌, nat_lt, nat_le, if◌then◌else◌, IsTrue, IsFalse, Result, option_map, slice_get}
-use Rattle.std.proofs.lemmas.Bool.{cases_Bool, cases_lt, lt-ltb, le-ltb, lt-leb, le-leb, eq-eqb, eqb-true, false_from_ne_true, false≢true}
+use Rattle.std.proofs.Common.{◌≡◌, ℕ, ◌<◌, Bool, true, false, not, List, length, Option, Some, None, Ok, Err, refl, sym, ap, ◌∙◌, subst, arith, ⊎_elim}
+use Rattle.std.specs.Prelude.{◌&&◌, ◌||◌, is_some, ◌==◌, nat_lt, nat_le, if◌then◌else◌, IsTrue, IsFalse, Result, option_map, slice_get}
+use Rattle.std.proofs.lemmas.Bool.{or_parts, or_from, cases_Bool, cases_lt, lt-ltb, le-ltb, lt-leb, le-leb, eq-eqb, eqb-true, false_from_ne_true, false≢true}
 use Rattle.std.proofs.lemmas.Option.{slice_get_past, same_Some}
 use Rattle.velo_events.specs.declared.limits.TheConstants.{MOST_OPEN_BLOCKS}
 use Rattle.velo_events.specs.declared.config.Bounds.{Bounds}
 use Rattle.velo_events.specs.declared.event.ThreadId.{ThreadId}
 use Rattle.velo_events.specs.declared.event.LockId.{LockId}
 use Rattle.velo_events.specs.declared.event.Action.{Action}
-use Rattle.velo_events.specs.declared.event.Action.TheVariants.{Read, Write, Acquire, Release, Begin, End, Fork, Join, Exit}
+use Rattle.velo_events.specs.declared.event.Action.TheVariants.{Read, Write, Acquire, Release, AcquireShared, ReleaseShared, Begin, End, Fork, Join, Exit}
 use Rattle.velo_events.specs.declared.event.Event.{Event}
 use Rattle.velo_events.specs.declared.event.Kind.{Kind}
 use Rattle.velo_events.specs.declared.event.Kind.TheVariants as kind
@@ -17,14 +17,16 @@ use Rattle.velo_events.specs.declared.event.Status.TheVariants.{Unborn, Live, Ex
 use Rattle.velo_events.specs.declared.refusal.Refusal.{Refusal}
 use Rattle.velo_events.specs.declared.refusal.Refusal.TheVariants.{NotLive, NoSuchVariable, NoSuchLock, NoSuchThread, Busy, AlreadyHeld, NotHolder, NoOpenBlock, TooDeep, AlreadyForked, NotForked, NotExited, AlreadyJoined, BlockOpen, LockHeld}
 use Rattle.velo_events.specs.Event.{are_same}
-use Rattle.velo_events.specs.Heap.{value_in, holder_in, status_in, depth_in}
+use Rattle.velo_events.specs.Heap.{value_in, holder_in, shares_in, status_in, depth_in}
 use Rattle.velo_events.specs.WellFormed.{MayFollow, IsWellFormed}
 use Rattle.velo_events.specs.Block.{any_below}
-use Rattle.velo_events.specs.Meaning.{refusal_of, holds_a_lock, kind_for, event_for, action_of, HasItsValue, is_another, is_live, is_unborn, is_joined}
-use Rattle.velo_events.proofs.OnWellFormed.{Facts-from, count_below-zero, count_below-none, count_below, is_held_by}
+use Rattle.velo_events.specs.Meaning.{refusal_of, holds, holds_a_lock, is_busy, kind_for, event_for, action_of, HasItsValue, is_another, is_live, is_unborn, is_joined}
+use Rattle.velo_events.proofs.OnWellFormed.{Facts, Facts-from, any_below-never, count_below-zero, count_below-none, count_below, is_held_by}
+use Rattle.velo_events.proofs.OnBlocks.{any_below-none}
 use Rattle.velo_events.proofs.OnMeaning.{MayFollow-refusal_of, HasItsValue-kind_for}
-use Rattle.velo_heap.specs.Contents.{Contents, bounds_of, Tabulates, thread_named, locks_in, standing_in, IsHeapOf, unless_refused, admission, IsAdmitted}
-use Rattle.velo_heap.specs.Steps.{refusal_in, read_at, write_at, acquire_at, release_at, fork_by, fork_at, join_by, join_at, live_kind, kind_in}
+use Rattle.velo_heap.specs.Contents.{Contents, bounds_of, Tabulates, lock_in, locks_in, standing_in, IsHeapOf, unless_refused, admission, IsAdmitted}
+use Rattle.velo_heap.proofs.OnLocks.{is_holder-in, is_sharer-in, is_held_by-in, is_taken-in, is_shared-in}
+use Rattle.velo_heap.specs.Steps.{refusal_in, read_at, write_at, acquire_in, acquire_shared_in, release_in, release_shared_in, acquire_at, acquire_shared_at, release_at, release_shared_at, fork_by, fork_at, join_by, join_at, live_kind, kind_in}
 
 -- the refusal if there is one, or else the operation
 abbrev kind_or : Kind → Option Refusal → Result Kind Refusal
@@ -37,13 +39,15 @@ refused_if : (b : Bool) (r : Refusal) (k : Kind) → (if b then Err r else Ok k)
 refused_if true r k = refl
 refused_if false r k = refl
 
-acquire_of : (t : ThreadId) (m : LockId) (o : Option ℕ) → acquire_at t m (Some (option_map thread_named o)) ≡ kind_or (kind.Acquire m) (if is_another o t.0 then Some Busy else (if are_same o (Some t.0) then Some AlreadyHeld else None))
-acquire_of t m None = refl
-acquire_of t m (Some h) = elim (h == t.0) as (λ b. (if b then Err AlreadyHeld else Err Busy) ≡ kind_or (kind.Acquire m) (if not b then Some Busy else (if b then Some AlreadyHeld else None))) [ true ↦ refl | false ↦ refl ]
+-- the thread holds the lock, or others do
+acquired : (held taken taken' : Bool) (k : Kind) → (IsFalse held → taken ≡ taken') →
+    (if held then Err AlreadyHeld else (if taken then Err Busy else Ok k)) ≡ kind_or k (if not held && taken' then Some Busy else (if held then Some AlreadyHeld else None))
+acquired true taken taken' k h = refl
+acquired false taken taken' k h = refused_if taken Busy k ∙ ap (λ b. kind_or k (if b then Some Busy else None)) (h refl)
 
-release_of : (t : ThreadId) (m : LockId) (o : Option ℕ) → release_at t m (Some (option_map thread_named o)) ≡ kind_or (kind.Release m) (if not (are_same o (Some t.0)) then Some NotHolder else None)
-release_of t m None = refl
-release_of t m (Some h) = elim (h == t.0) as (λ b. (if b then Ok (kind.Release m) else Err NotHolder) ≡ kind_or (kind.Release m) (if not b then Some NotHolder else None)) [ true ↦ refl | false ↦ refl ]
+released : (held : Bool) (k : Kind) → (if held then Ok k else Err NotHolder) ≡ kind_or k (if not held then Some NotHolder else None)
+released true k = refl
+released false k = refl
 
 fork_of : (u : ThreadId) (s : Status) → fork_by u s ≡ kind_or (kind.Fork u) (if not (is_unborn s) then Some AlreadyForked else None)
 fork_of u Unborn = refl
@@ -62,23 +66,30 @@ exit_of true held = refl
 exit_of false true = refl
 exit_of false false = refl
 
--- a thread that has acquired as often as it has released holds no lock, and the other way round
+-- a thread that has acquired as often as it has released, in both ways, holds no lock, and the other way round
 holds_a_lock-locks_in : (bounds : Bounds) (trace : List Event) (t : ℕ) → IsWellFormed bounds trace → holds_a_lock bounds trace t ≡ not (locks_in trace t == 0)
 unfolding holds_a_lock
 holds_a_lock-locks_in bounds trace t well =
-    let held = (Facts-from bounds trace well).held t in
+    let facts = Facts-from bounds trace well in
+    let held = facts.held t in
+    let shared = facts.shared t in
     ⊎_elim
-    (λ (some : IsTrue (any_below bounds.locks (is_held_by trace t))).
+    (λ (some : IsTrue (any_below bounds.locks (holds trace t))).
     let more : IsFalse (locks_in trace t == 0) = false_from_ne_true _ (λ e.
     let none : locks_in trace t ≡ 0 = eqb-true _ _ e in
-    let free : count_below bounds.locks (is_held_by trace t) ≡ 0 = omega (arith, none, held) in
-    false≢true (sym (count_below-none bounds.locks (is_held_by trace t) free) ∙ some)) in
+    let free : count_below bounds.locks (is_held_by trace t) ≡ 0 = omega (arith, none, held, shared) in
+    let unshared : count_below bounds.locks (λ m. shares_in trace m t) ≡ 0 = omega (arith, none, held, shared) in
+    false≢true (sym (any_below-never bounds.locks (holds trace t) (λ m l. or_from _ _
+        (any_below-none bounds.locks _ (count_below-none bounds.locks (is_held_by trace t) free) m l)
+        (any_below-none bounds.locks _ (count_below-none bounds.locks _ unshared) m l))) ∙ some)) in
     some ∙ sym (ap not more))
-    (λ (none : IsFalse (any_below bounds.locks (is_held_by trace t))).
-    let free : count_below bounds.locks (is_held_by trace t) ≡ 0 = count_below-zero bounds.locks (is_held_by trace t) none in
-    let equal : locks_in trace t ≡ 0 = omega (arith, free, held) in
+    (λ (none : IsFalse (any_below bounds.locks (holds trace t))).
+    let apart : (m : ℕ) → m < bounds.locks → IsFalse (holds trace t m) = any_below-none bounds.locks (holds trace t) none in
+    let free : count_below bounds.locks (is_held_by trace t) ≡ 0 = count_below-zero bounds.locks (is_held_by trace t) (any_below-never bounds.locks _ (λ m l. (or_parts _ _ (apart m l)).0)) in
+    let unshared : count_below bounds.locks (λ m. shares_in trace m t) ≡ 0 = count_below-zero bounds.locks _ (any_below-never bounds.locks _ (λ m l. (or_parts _ _ (apart m l)).1)) in
+    let equal : locks_in trace t ≡ 0 = omega (arith, free, unshared, held, shared) in
     none ∙ sym (ap not (eq-eqb _ _ equal)))
-    (cases_Bool (any_below bounds.locks (is_held_by trace t)))
+    (cases_Bool (any_below bounds.locks (holds trace t)))
 
 module _ (heap : Contents) (trace : List Event) (stands : IsHeapOf heap trace) where
   -- the item at a place that may not be there
@@ -104,6 +115,28 @@ module _ (heap : Contents) (trace : List Event) (stands : IsHeapOf heap trace) w
       acts true = h
       acts false = refl
 
+  facts : Facts (bounds_of heap) trace
+  facts = Facts-from (bounds_of heap) trace stands.well_formed
+
+  at_acquire : (t : ThreadId) (m : LockId) → acquire_in t m (lock_in (length heap.threads) trace m.0) ≡ kind_or (kind.Acquire m) (if is_busy (bounds_of heap) trace t.0 (kind.Acquire m) then Some Busy else (if holds trace t.0 m.0 then Some AlreadyHeld else None))
+  at_acquire t m =
+      let lock = lock_in (length heap.threads) trace m.0 in
+      ap (λ b. if b then Err AlreadyHeld else (if is_some lock.holder || not (lock.sharers == 0) then Err Busy else Ok (kind.Acquire m))) (is_held_by-in (bounds_of heap) trace facts t m.0)
+      ∙ acquired (holds trace t.0 m.0) (is_some lock.holder || not (lock.sharers == 0)) _ (kind.Acquire m)
+      (λ free. ap (λ b. b || not (lock.sharers == 0)) (is_taken-in (bounds_of heap) trace facts t m.0 free) ∙ ap (λ b. is_another (holder_in trace m.0) t.0 || b) (is_shared-in (bounds_of heap) trace facts t m.0 free))
+
+  at_acquire_shared : (t : ThreadId) (m : LockId) → acquire_shared_in t m (lock_in (length heap.threads) trace m.0) ≡ kind_or (kind.AcquireShared m) (if is_busy (bounds_of heap) trace t.0 (kind.AcquireShared m) then Some Busy else (if holds trace t.0 m.0 then Some AlreadyHeld else None))
+  at_acquire_shared t m =
+      let lock = lock_in (length heap.threads) trace m.0 in
+      ap (λ b. if b then Err AlreadyHeld else (if is_some lock.holder then Err Busy else Ok (kind.AcquireShared m))) (is_held_by-in (bounds_of heap) trace facts t m.0)
+      ∙ acquired (holds trace t.0 m.0) (is_some lock.holder) _ (kind.AcquireShared m) (λ free. is_taken-in (bounds_of heap) trace facts t m.0 free)
+
+  at_release : (t : ThreadId) (m : LockId) → release_in t m (lock_in (length heap.threads) trace m.0) ≡ kind_or (kind.Release m) (if not (are_same (holder_in trace m.0) (Some t.0)) then Some NotHolder else None)
+  at_release t m = ap (λ b. if b then Ok (kind.Release m) else Err NotHolder) (is_holder-in (bounds_of heap) trace facts t m.0) ∙ released _ (kind.Release m)
+
+  at_release_shared : (t : ThreadId) (m : LockId) → release_shared_in t m (lock_in (length heap.threads) trace m.0) ≡ kind_or (kind.ReleaseShared m) (if not (shares_in trace m.0 t.0) then Some NotHolder else None)
+  at_release_shared t m = ap (λ b. if b then Ok (kind.ReleaseShared m) else Err NotHolder) (is_sharer-in (bounds_of heap) trace facts t m.0) ∙ released _ (kind.ReleaseShared m)
+
   kind_in-refusal_of : (t : ThreadId) (action : Action) → kind_in heap t action ≡ kind_or (kind_for trace action) (refusal_of (bounds_of heap) trace t.0 (kind_for trace action))
   unfolding refusal_of
   kind_in-refusal_of t (Read x) = when_live t (Read x) _ _
@@ -113,11 +146,17 @@ module _ (heap : Contents) (trace : List Event) (stands : IsHeapOf heap trace) w
       (tabulated heap.values (value_in trace) x.0 (write_at x v) (Err NoSuchVariable) (Ok (kind.Write x v)) stands.values refl refl
       ∙ refused_if (nat_le (length heap.values) x.0) NoSuchVariable _)
   kind_in-refusal_of t (Acquire m) = when_live t (Acquire m) _ _
-      (tabulated heap.holders (λ n. option_map thread_named (holder_in trace n)) m.0 (acquire_at t m) (Err NoSuchLock) _ stands.holders refl (acquire_of t m (holder_in trace m.0))
-      ∙ sym (kind_or-if (nat_le (length heap.holders) m.0) NoSuchLock _ _))
+      (tabulated heap.locks (lock_in (length heap.threads) trace) m.0 (acquire_at t m) (Err NoSuchLock) _ stands.locks refl (at_acquire t m)
+      ∙ sym (kind_or-if (nat_le (length heap.locks) m.0) NoSuchLock _ _))
   kind_in-refusal_of t (Release m) = when_live t (Release m) _ _
-      (tabulated heap.holders (λ n. option_map thread_named (holder_in trace n)) m.0 (release_at t m) (Err NoSuchLock) _ stands.holders refl (release_of t m (holder_in trace m.0))
-      ∙ sym (kind_or-if (nat_le (length heap.holders) m.0) NoSuchLock _ _))
+      (tabulated heap.locks (lock_in (length heap.threads) trace) m.0 (release_at t m) (Err NoSuchLock) _ stands.locks refl (at_release t m)
+      ∙ sym (kind_or-if (nat_le (length heap.locks) m.0) NoSuchLock _ _))
+  kind_in-refusal_of t (AcquireShared m) = when_live t (AcquireShared m) _ _
+      (tabulated heap.locks (lock_in (length heap.threads) trace) m.0 (acquire_shared_at t m) (Err NoSuchLock) _ stands.locks refl (at_acquire_shared t m)
+      ∙ sym (kind_or-if (nat_le (length heap.locks) m.0) NoSuchLock _ _))
+  kind_in-refusal_of t (ReleaseShared m) = when_live t (ReleaseShared m) _ _
+      (tabulated heap.locks (lock_in (length heap.threads) trace) m.0 (release_shared_at t m) (Err NoSuchLock) _ stands.locks refl (at_release_shared t m)
+      ∙ sym (kind_or-if (nat_le (length heap.locks) m.0) NoSuchLock _ _))
   kind_in-refusal_of t (Begin label) = when_live t (Begin label) _ _ (refused_if (nat_le MOST_OPEN_BLOCKS (depth_in trace t.0)) TooDeep (kind.Begin label))
   kind_in-refusal_of t End = when_live t End _ _ (refused_if (depth_in trace t.0 == 0) NoOpenBlock kind.End)
   kind_in-refusal_of t (Fork u) = when_live t (Fork u) _ _
@@ -149,14 +188,7 @@ admission-kind_in heap trace t action stands = ap (event_by t) (kind_in-refusal_
 refusal_of-asked : (bounds : Bounds) (trace : List Event) (t : ℕ) (k : Kind) → refusal_of bounds trace t (kind_for trace (action_of k)) ≡ refusal_of bounds trace t k
 unfolding refusal_of
 refusal_of-asked bounds trace t (kind.Read x v) = refl
-refusal_of-asked bounds trace t (kind.Write x v) = refl
-refusal_of-asked bounds trace t (kind.Acquire m) = refl
-refusal_of-asked bounds trace t (kind.Release m) = refl
-refusal_of-asked bounds trace t (kind.Begin l) = refl
-refusal_of-asked bounds trace t kind.End = refl
-refusal_of-asked bounds trace t (kind.Fork u) = refl
-refusal_of-asked bounds trace t (kind.Join u) = refl
-refusal_of-asked bounds trace t kind.Exit = refl
+refusal_of-asked bounds trace t _ = refl
 
 pub refusal_in-kind_in : (heap : Contents) (trace : List Event) (e : Event) → IsHeapOf heap trace → refusal_in (kind_in heap e.thread (action_of e.kind)) ≡ refusal_of (bounds_of heap) trace e.thread.0 e.kind
 refusal_in-kind_in heap trace e stands =
@@ -188,14 +220,7 @@ IsAdmitted-from heap trace t action e stands h = record { trace = trace; stands 
 kind_for-known : (heap : Contents) (one other : List Event) (t : ThreadId) (k : Kind) → IsHeapOf heap one → IsHeapOf heap other → MayFollow (bounds_of heap) one (record { thread = t; kind = k }) → kind_for other (action_of k) ≡ k
 kind_for-known heap one other t (kind.Read x v) s s' f =
     ap (kind.Read x) (sym (f.in_turn ∙ same_Some _ _ (sym (s.values.each x.0 f.known_names) ∙ s'.values.each x.0 f.known_names)))
-kind_for-known heap one other t (kind.Write x v) s s' f = refl
-kind_for-known heap one other t (kind.Acquire m) s s' f = refl
-kind_for-known heap one other t (kind.Release m) s s' f = refl
-kind_for-known heap one other t (kind.Begin label) s s' f = refl
-kind_for-known heap one other t kind.End s s' f = refl
-kind_for-known heap one other t (kind.Fork u) s s' f = refl
-kind_for-known heap one other t (kind.Join u) s s' f = refl
-kind_for-known heap one other t kind.Exit s s' f = refl
+kind_for-known heap one other t _ s s' f = refl
 
 pub MayFollow-each : (heap : Contents) (one other : List Event) (e : Event) → IsHeapOf heap one → IsHeapOf heap other → MayFollow (bounds_of heap) one e → MayFollow (bounds_of heap) other e
 MayFollow-each heap one other e s s' f =

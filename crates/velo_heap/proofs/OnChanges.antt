@@ -1,78 +1,66 @@
 -- The heap of a trace, changed by an event that may follow, is the heap of the trace with that event.
-use Rattle.std.proofs.Common.{◌≡◌, ℕ, ◌<◌, Bool, true, cond, List, [], ◌∷◌, ◌++◌, length, set, replicate, Option, Some, None, refl, sym, ap, ◌∙◌, subst, arith}
+use Rattle.std.proofs.Common.{◌≡◌, ℕ, ◌<◌, ◌≤◌, Bool, true, cond, List, [], ◌∷◌, ◌++◌, length, set, replicate, Option, Some, None, refl, sym, ap, ◌∙◌, subst, arith}
 use Rattle.std.specs.Prelude.{if◌then◌else◌, option_map, IsFalse}
 use Rattle.std.proofs.lemmas.Bool.{eq-eqb, ne_eqb}
 use Rattle.std.proofs.lemmas.List.{length-set, length-replicate, set-get_or}
+use Rattle.velo_events.specs.declared.config.Bounds.{Bounds}
 use Rattle.velo_events.specs.declared.event.ThreadId.{ThreadId}
 use Rattle.velo_events.specs.declared.event.Event.{Event}
 use Rattle.velo_events.specs.declared.event.Kind.{Kind}
-use Rattle.velo_events.specs.declared.event.Kind.TheVariants.{Read, Write, Acquire, Release, Begin, End, Fork, Join, Exit}
+use Rattle.velo_events.specs.declared.event.Kind.TheVariants.{Read, Write, Acquire, Release, AcquireShared, ReleaseShared, Begin, End, Fork, Join, Exit}
 use Rattle.velo_events.specs.declared.event.Status.{Status}
 use Rattle.velo_events.specs.declared.event.Status.TheVariants.{Unborn, Live, Joined}
 use Rattle.velo_events.specs.Event.{are_same, handled_by, forked_by, joined_by}
 use Rattle.velo_events.specs.Heap.{latest, value_in, holder_in, depth_in}
 use Rattle.velo_events.specs.WellFormed.{MayFollow, IsWellFormed}
 use Rattle.velo_events.proofs.OnTraces.{value_in-push}
-use Rattle.velo_events.proofs.OnWellFormed.{Facts, Facts-from, IsWellFormed-nil, IsWellFormed-push, holder_in-push}
+use Rattle.velo_events.proofs.OnWellFormed.{Facts, Facts-from, IsWellFormed-nil, IsWellFormed-push}
+use Rattle.velo_heap.specs.declared.lock.Lock.{Lock}
 use Rattle.velo_heap.specs.declared.standing.Standing.{Standing}
-use Rattle.velo_heap.specs.Contents.{Contents, bounds_of, Tabulates, thread_named, locks_in, standing_in, IsHeapOf, IsAdmitted}
-use Rattle.velo_heap.specs.Steps.{CountsFit, CanChange, contents_after, standing_after, standing_at, with_status, unborn}
+use Rattle.velo_heap.specs.Contents.{Contents, bounds_of, Tabulates, mask_below, lock_in, locks_in, standing_in, IsHeapOf, IsAdmitted}
+use Rattle.velo_heap.specs.Steps.{CountsFit, CanChange, contents_after, standing_after, standing_at, with_status, unborn, free, with_holder, with_sharer, without_sharer}
 use Rattle.velo_heap.proofs.OnAdmission.{MayFollow-each}
+use Rattle.velo_heap.proofs.OnMasks.{mask_below-none}
+use Rattle.velo_heap.proofs.OnLocks.{same_lock, lock-no_lock, lock-elsewhere, lock-elsewhere-shared, lock-held, lock-shared, lock-unshared}
 use Rattle.velo_heap.proofs.OnTables.{get_or-tabulated, Tabulates-same, Tabulates-set, Tabulates-replicate}
 use Rattle.velo_heap.proofs.OnStandings.{standing-elsewhere, standing-own, standing-forked, standing-joined, standing-not_forked, standing-not_joined, standing-nil, CountsFit-admitted}
 
 not_handled : (k : Kind) (i : ℕ) → handled_by k ≡ None → IsFalse (are_same (forked_by k) (Some i)) × IsFalse (are_same (joined_by k) (Some i))
 not_handled (Fork u) i h = cc
 not_handled (Join u) i h = cc
-not_handled (Read x v) i h = (refl, refl)
-not_handled (Write x v) i h = (refl, refl)
-not_handled (Acquire m) i h = (refl, refl)
-not_handled (Release m) i h = (refl, refl)
-not_handled (Begin label) i h = (refl, refl)
-not_handled End i h = (refl, refl)
-not_handled Exit i h = (refl, refl)
+not_handled _ i h = (refl, refl)
 
 module _ (heap : Contents) (trace : List Event) (stands : IsHeapOf heap trace) (by : ThreadId) where
   values-after : (k : Kind) → MayFollow (bounds_of heap) trace (record { thread = by; kind = k }) → Tabulates (contents_after heap (record { thread = by; kind = k })).values (value_in (trace ++ record { thread = by; kind = k } ∷ []))
-  values-after (Read x v) f = Tabulates-same _ _ _ stands.values (value_in-push trace (record { thread = by; kind = Read x v }))
   values-after (Write x v) f =
       let e : Event = record { thread = by; kind = Write x v } in
       Tabulates-set heap.values (value_in trace) _ x.0 v stands.values f.known_names
       (value_in-push trace e x.0 ∙ ap (λ b. cond b v (value_in trace x.0)) (eq-eqb x.0 x.0 refl))
       (λ i differ. value_in-push trace e i ∙ ap (λ b. cond b v (value_in trace i)) (ne_eqb x.0 i (λ s. differ (sym s))))
-  values-after (Acquire m) f = Tabulates-same _ _ _ stands.values (value_in-push trace (record { thread = by; kind = Acquire m }))
-  values-after (Release m) f = Tabulates-same _ _ _ stands.values (value_in-push trace (record { thread = by; kind = Release m }))
-  values-after (Begin label) f = Tabulates-same _ _ _ stands.values (value_in-push trace (record { thread = by; kind = Begin label }))
-  values-after End f = Tabulates-same _ _ _ stands.values (value_in-push trace (record { thread = by; kind = End }))
-  values-after (Fork u) f = Tabulates-same _ _ _ stands.values (value_in-push trace (record { thread = by; kind = Fork u }))
-  values-after (Join u) f = Tabulates-same _ _ _ stands.values (value_in-push trace (record { thread = by; kind = Join u }))
-  values-after Exit f = Tabulates-same _ _ _ stands.values (value_in-push trace (record { thread = by; kind = Exit }))
+  values-after k f = Tabulates-same _ _ _ stands.values (value_in-push trace (record { thread = by; kind = k }))
 
-  holder : List Event → ℕ → Option ThreadId
-  holder events m = option_map thread_named (holder_in events m)
-
-  -- the holder of a lock after one more event
-  holder-push : (e : Event) (m : ℕ) (now : Option ℕ) → holder_in (trace ++ e ∷ []) m ≡ now → option_map thread_named (holder_in (trace ++ e ∷ []) m) ≡ option_map thread_named now
-  holder-push e m now h = ap (option_map thread_named) h
-
-  holders-after : (k : Kind) → MayFollow (bounds_of heap) trace (record { thread = by; kind = k }) → Tabulates (contents_after heap (record { thread = by; kind = k })).holders (λ m. option_map thread_named (holder_in (trace ++ record { thread = by; kind = k } ∷ []) m))
-  holders-after (Acquire m) f =
-      let e : Event = record { thread = by; kind = Acquire m } in
-      Tabulates-set heap.holders (λ n. option_map thread_named (holder_in trace n)) _ m.0 (Some by) stands.holders f.known_names
-      (holder-push e m.0 (Some by.0) (holder_in-push trace e m.0 ∙ ap (λ b. cond b (Some by.0) (holder_in trace m.0)) (eq-eqb m.0 m.0 refl)))
-      (λ i differ. holder-push e i (holder_in trace i) (holder_in-push trace e i ∙ ap (λ b. cond b (Some by.0) (holder_in trace i)) (ne_eqb m.0 i (λ s. differ (sym s)))))
-  holders-after (Release m) f =
-      let e : Event = record { thread = by; kind = Release m } in
-      Tabulates-set heap.holders (λ n. option_map thread_named (holder_in trace n)) _ m.0 None stands.holders f.known_names
-      (holder-push e m.0 None (holder_in-push trace e m.0 ∙ ap (λ b. cond b None (holder_in trace m.0)) (eq-eqb m.0 m.0 refl)))
-      (λ i differ. holder-push e i (holder_in trace i) (holder_in-push trace e i ∙ ap (λ b. cond b None (holder_in trace i)) (ne_eqb m.0 i (λ s. differ (sym s)))))
-  holders-after (Read x v) f = Tabulates-same _ _ _ stands.holders (λ i. holder-push _ i _ (holder_in-push trace (record { thread = by; kind = Read x v }) i))
-  holders-after (Write x v) f = Tabulates-same _ _ _ stands.holders (λ i. holder-push _ i _ (holder_in-push trace (record { thread = by; kind = Write x v }) i))
-  holders-after (Begin label) f = Tabulates-same _ _ _ stands.holders (λ i. holder-push _ i _ (holder_in-push trace (record { thread = by; kind = Begin label }) i))
-  holders-after End f = Tabulates-same _ _ _ stands.holders (λ i. holder-push _ i _ (holder_in-push trace (record { thread = by; kind = End }) i))
-  holders-after (Fork u) f = Tabulates-same _ _ _ stands.holders (λ i. holder-push _ i _ (holder_in-push trace (record { thread = by; kind = Fork u }) i))
-  holders-after (Join u) f = Tabulates-same _ _ _ stands.holders (λ i. holder-push _ i _ (holder_in-push trace (record { thread = by; kind = Join u }) i))
-  holders-after Exit f = Tabulates-same _ _ _ stands.holders (λ i. holder-push _ i _ (holder_in-push trace (record { thread = by; kind = Exit }) i))
+  locks-after : (few : length heap.threads ≤ 64) (k : Kind) → MayFollow (bounds_of heap) trace (record { thread = by; kind = k }) → Tabulates (contents_after heap (record { thread = by; kind = k })).locks (lock_in (length heap.threads) (trace ++ record { thread = by; kind = k } ∷ []))
+  locks-after few (Acquire m) f =
+      let now = get_or-tabulated heap.locks (lock_in (length heap.threads) trace) free m.0 stands.locks f.known_names in
+      Tabulates-set heap.locks (lock_in (length heap.threads) trace) _ m.0 _ stands.locks f.known_names
+      (lock-held (length heap.threads) trace by (Acquire m) m refl refl ∙ ap (with_holder (Some by)) (sym now))
+      (λ i differ. lock-elsewhere (length heap.threads) trace by (Acquire m) m i (refl, refl) differ)
+  locks-after few (Release m) f =
+      let now = get_or-tabulated heap.locks (lock_in (length heap.threads) trace) free m.0 stands.locks f.known_names in
+      Tabulates-set heap.locks (lock_in (length heap.threads) trace) _ m.0 _ stands.locks f.known_names
+      (lock-held (length heap.threads) trace by (Release m) m refl refl ∙ ap (with_holder None) (sym now))
+      (λ i differ. lock-elsewhere (length heap.threads) trace by (Release m) m i (refl, refl) differ)
+  locks-after few (AcquireShared m) f =
+      let now = get_or-tabulated heap.locks (lock_in (length heap.threads) trace) free m.0 stands.locks f.known_names in
+      Tabulates-set heap.locks (lock_in (length heap.threads) trace) _ m.0 _ stands.locks f.known_names
+      (lock-shared (length heap.threads) trace by few f.known_thread m ∙ ap (with_sharer by) (sym now))
+      (λ i differ. lock-elsewhere-shared (length heap.threads) trace by (AcquireShared m) m i (refl, refl) differ)
+  locks-after few (ReleaseShared m) f =
+      let now = get_or-tabulated heap.locks (lock_in (length heap.threads) trace) free m.0 stands.locks f.known_names in
+      Tabulates-set heap.locks (lock_in (length heap.threads) trace) _ m.0 _ stands.locks f.known_names
+      (lock-unshared (length heap.threads) trace by few f.known_thread m ∙ ap (without_sharer by) (sym now))
+      (λ i differ. lock-elsewhere-shared (length heap.threads) trace by (ReleaseShared m) m i (refl, refl) differ)
+  locks-after few k f = Tabulates-same _ _ _ stands.locks (λ i. lock-no_lock (length heap.threads) trace by k i refl refl)
 
   facts : Facts (bounds_of heap) trace
   facts = Facts-from (bounds_of heap) trace stands.well_formed
@@ -107,6 +95,8 @@ module _ (heap : Contents) (trace : List Event) (stands : IsHeapOf heap trace) (
   threads-after (Write x v) f = places-kept (Write x v) f refl (λ s. refl)
   threads-after (Acquire m) f = own_place-after (Acquire m) f refl
   threads-after (Release m) f = own_place-after (Release m) f refl
+  threads-after (AcquireShared m) f = own_place-after (AcquireShared m) f refl
+  threads-after (ReleaseShared m) f = own_place-after (ReleaseShared m) f refl
   threads-after (Begin label) f = own_place-after (Begin label) f refl
   threads-after End f = own_place-after End f refl
   threads-after Exit f = own_place-after Exit f refl
@@ -115,14 +105,16 @@ module _ (heap : Contents) (trace : List Event) (stands : IsHeapOf heap trace) (
 
 -- ---- the bounds stay
 
-as_many : (heap : Contents) (values : List ℕ) (holders : List (Option ThreadId)) (threads : List Standing) → length values ≡ length heap.values → length holders ≡ length heap.holders → length threads ≡ length heap.threads → bounds_of (record { values = values; holders = holders; threads = threads }) ≡ bounds_of heap
-as_many heap values holders threads hv hh ht = rw (hv, hh, ht) refl
+as_many : (heap : Contents) (values : List ℕ) (locks : List Lock) (threads : List Standing) → length values ≡ length heap.values → length locks ≡ length heap.locks → length threads ≡ length heap.threads → bounds_of (record { values = values; locks = locks; threads = threads }) ≡ bounds_of heap
+as_many heap values locks threads hv hl ht = rw (hv, hl, ht) refl
 
 pub bounds_of-contents_after : (heap : Contents) (by : ThreadId) (k : Kind) → bounds_of (contents_after heap (record { thread = by; kind = k })) ≡ bounds_of heap
 bounds_of-contents_after heap by (Read x v) = refl
 bounds_of-contents_after heap by (Write x v) = as_many heap _ _ _ (length-set _ _ _) refl refl
 bounds_of-contents_after heap by (Acquire m) = as_many heap _ _ _ refl (length-set _ _ _) (length-set _ _ _)
 bounds_of-contents_after heap by (Release m) = as_many heap _ _ _ refl (length-set _ _ _) (length-set _ _ _)
+bounds_of-contents_after heap by (AcquireShared m) = as_many heap _ _ _ refl (length-set _ _ _) (length-set _ _ _)
+bounds_of-contents_after heap by (ReleaseShared m) = as_many heap _ _ _ refl (length-set _ _ _) (length-set _ _ _)
 bounds_of-contents_after heap by (Begin label) = as_many heap _ _ _ refl refl (length-set _ _ _)
 bounds_of-contents_after heap by End = as_many heap _ _ _ refl refl (length-set _ _ _)
 bounds_of-contents_after heap by (Fork u) = as_many heap _ _ _ refl refl (length-set _ _ _)
@@ -131,11 +123,11 @@ bounds_of-contents_after heap by Exit = as_many heap _ _ _ refl refl (length-set
 
 -- ---- the whole
 
-pub IsHeapOf-after : (heap : Contents) (trace : List Event) (e : Event) → IsHeapOf heap trace → MayFollow (bounds_of heap) trace e → IsHeapOf (contents_after heap e) (trace ++ e ∷ [])
-IsHeapOf-after heap trace e stands f = record {
+pub IsHeapOf-after : (heap : Contents) (trace : List Event) (e : Event) → length heap.threads ≤ 64 → IsHeapOf heap trace → MayFollow (bounds_of heap) trace e → IsHeapOf (contents_after heap e) (trace ++ e ∷ [])
+IsHeapOf-after heap trace e few stands f = record {
   well_formed = subst (λ bounds. IsWellFormed bounds (trace ++ e ∷ [])) (sym (bounds_of-contents_after heap e.thread e.kind)) (IsWellFormed-push (bounds_of heap) trace e stands.well_formed f);
   values = values-after heap trace stands e.thread e.kind f;
-  holders = holders-after heap trace stands e.thread e.kind f;
+  locks = subst (λ n. Tabulates (contents_after heap e).locks (lock_in n (trace ++ e ∷ []))) (sym (ap (λ (b : Bounds). b.threads) (bounds_of-contents_after heap e.thread e.kind))) (locks-after heap trace stands e.thread few e.kind f);
   threads = threads-after heap trace stands e.thread e.kind f;
 }
 
@@ -150,24 +142,24 @@ CanChange-admitted heap e admitted =
     record {
       thread = f.known_thread;
       names = f.known_names;
-      room = subst (λ s. CountsFit (length heap.holders) s e.kind) (sym now) (CountsFit-admitted (bounds_of heap) trace e.thread e.kind (Facts-from (bounds_of heap) (trace ++ e ∷ []) longer) f);
+      room = subst (λ s. CountsFit (length heap.locks) s e.kind) (sym now) (CountsFit-admitted (bounds_of heap) trace e.thread e.kind (Facts-from (bounds_of heap) (trace ++ e ∷ []) longer) f);
     }
 
 -- whichever trace the heap stands for
-pub IsHeapOf-apply : (heap : Contents) (e : Event) → IsAdmitted heap e → (trace : List Event) → IsHeapOf heap trace → IsHeapOf (contents_after heap e) (trace ++ e ∷ [])
-IsHeapOf-apply heap e admitted trace stands = IsHeapOf-after heap trace e stands (MayFollow-each heap admitted.trace trace e admitted.stands stands admitted.follows)
+pub IsHeapOf-apply : (heap : Contents) (e : Event) → length heap.threads ≤ 64 → IsAdmitted heap e → (trace : List Event) → IsHeapOf heap trace → IsHeapOf (contents_after heap e) (trace ++ e ∷ [])
+IsHeapOf-apply heap e few admitted trace stands = IsHeapOf-after heap trace e few stands (MayFollow-each heap admitted.trace trace e admitted.stands stands admitted.follows)
 
 -- ---- the start
 
 abbrev pub start_by : Bool → Standing
 start_by b = record { status = (if b then Live else Unborn); depth = 0; locks = 0 }
 
-pub IsHeapOf-start : (threads variables locks : ℕ) → 0 < threads → IsHeapOf (record { values = replicate variables 0; holders = replicate locks None; threads = set (replicate threads unborn) 0 (start_by true) }) []
+pub IsHeapOf-start : (threads variables locks : ℕ) → 0 < threads → IsHeapOf (record { values = replicate variables 0; locks = replicate locks free; threads = set (replicate threads unborn) 0 (start_by true) }) []
 unfolding latest
 IsHeapOf-start threads variables locks some = record {
   well_formed = IsWellFormed-nil _;
   values = Tabulates-replicate variables 0 (value_in []) (λ i. refl);
-  holders = Tabulates-replicate locks None _ (λ i. refl);
+  locks = Tabulates-replicate locks free _ (λ i. same_lock None None _ 0 refl (mask_below-none _));
   threads = Tabulates-set (replicate threads unborn) (λ i. unborn) (standing_in []) 0 (start_by true)
       (Tabulates-replicate threads unborn (λ i. unborn) (λ i. refl))
       (omega (arith, some, length-replicate threads unborn))
@@ -175,7 +167,7 @@ IsHeapOf-start threads variables locks some = record {
       (λ i differ. standing-nil i ∙ ap start_by (ne_eqb i 0 differ));
 }
 
-pub IsHeapOf-made : (threads variables locks : ℕ) (values : List ℕ) (holders : List (Option ThreadId)) (standings : List Standing) (first : Standing) → 0 < threads →
-    values ≡ replicate variables 0 → holders ≡ replicate locks None → standings ≡ replicate threads unborn → first ≡ start_by true →
-    IsHeapOf (record { values = values; holders = holders; threads = set standings 0 first }) []
-IsHeapOf-made threads variables locks values holders standings first some hv hh ht hf = rw (hv, hh, ht, hf) (IsHeapOf-start threads variables locks some)
+pub IsHeapOf-made : (threads variables locks : ℕ) (values : List ℕ) (holding : List Lock) (standings : List Standing) (first : Standing) → 0 < threads →
+    values ≡ replicate variables 0 → holding ≡ replicate locks free → standings ≡ replicate threads unborn → first ≡ start_by true →
+    IsHeapOf (record { values = values; locks = holding; threads = set standings 0 first }) []
+IsHeapOf-made threads variables locks values holding standings first some hv hh ht hf = rw (hv, hh, ht, hf) (IsHeapOf-start threads variables locks some)

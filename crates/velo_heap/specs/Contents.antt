@@ -1,25 +1,26 @@
 -- What a heap holds, the traces that it stands for, and what it answers by them.
-use Rattle.std.specs.Prelude.{◌≡◌, ℕ, ◌-◌, ◌<◌, List, length, slice_get, Option, Some, None, option_map, Result, Ok, Err}
+use Rattle.std.specs.Prelude.{◌≡◌, ℕ, zero, suc, ◌+◌, ◌-◌, ◌*◌, ◌^◌, ◌<◌, Bool, if◌then◌else◌, List, length, slice_get, Option, Some, None, option_map, Result, Ok, Err}
 use Rattle.velo_events.specs.declared.config.Bounds.{Bounds}
 use Rattle.velo_events.specs.declared.event.ThreadId.{ThreadId}
 use Rattle.velo_events.specs.declared.event.Action.{Action}
 use Rattle.velo_events.specs.declared.event.Event.{Event}
 use Rattle.velo_events.specs.declared.refusal.Refusal.{Refusal}
-use Rattle.velo_events.specs.Event.{is_acquire_by, is_release_by}
-use Rattle.velo_events.specs.Heap.{times, value_in, holder_in, status_in, depth_in}
+use Rattle.velo_events.specs.Event.{is_acquire_by, is_release_by, is_acquire_shared_by, is_release_shared_by}
+use Rattle.velo_events.specs.Heap.{times, value_in, holder_in, shares_in, status_in, depth_in}
 use Rattle.velo_events.specs.WellFormed.{MayFollow, IsWellFormed}
 use Rattle.velo_events.specs.Meaning.{refusal_of, kind_for, event_for}
+use Rattle.velo_heap.specs.declared.lock.Lock.{Lock}
 use Rattle.velo_heap.specs.declared.standing.Standing.{Standing}
 
--- the value of each variable, the holder of each lock, and how each thread stands
+-- the value of each variable, who holds each lock, and how each thread stands
 pub record Contents : Type 0 where
   pub values : List ℕ
-  pub holders : List (Option ThreadId)
+  pub locks : List Lock
   pub threads : List Standing
 
 -- as many threads, variables and locks as the heap has
 abbrev pub bounds_of : Contents → Bounds
-bounds_of heap = record { threads = length heap.threads; variables = length heap.values; locks = length heap.holders }
+bounds_of heap = record { threads = length heap.threads; variables = length heap.values; locks = length heap.locks }
 
 -- ---- the heap of a trace
 
@@ -30,9 +31,18 @@ pub record Tabulates {X : Type 0} (items : List X) (f : ℕ → X) : Type 0 wher
 abbrev pub thread_named : ℕ → ThreadId
 thread_named t = record { 0 = t }
 
--- how many locks the thread holds: its acquires minus its releases
+-- a number with a bit for each number below n that passes the test
+unfoldable pub mask_below : ℕ → (ℕ → Bool) → ℕ
+mask_below zero test = 0
+mask_below (suc n) test = (if test n then 1 else 0) * 2 ^ n + mask_below n test
+
+-- who holds the lock: the thread that does so alone, and which of the n threads share it
+abbrev pub lock_in : ℕ → List Event → ℕ → Lock
+lock_in n trace m = record { holder = option_map thread_named (holder_in trace m); sharers = mask_below n (shares_in trace m) }
+
+-- how many locks the thread holds, alone or with others: its acquires of both kinds minus its releases
 abbrev pub locks_in : List Event → ℕ → ℕ
-locks_in trace t = times (is_acquire_by t) trace - times (is_release_by t) trace
+locks_in trace t = (times (is_acquire_by t) trace - times (is_release_by t) trace) + (times (is_acquire_shared_by t) trace - times (is_release_shared_by t) trace)
 
 -- how the thread stands: its status, how many blocks it has open, how many locks it holds
 abbrev pub standing_in : List Event → ℕ → Standing
@@ -42,7 +52,7 @@ standing_in trace t = record { status = status_in trace t; depth = depth_in trac
 pub record IsHeapOf (heap : Contents) (trace : List Event) : Type 0 where
   pub well_formed : IsWellFormed (bounds_of heap) trace
   pub values : Tabulates heap.values (value_in trace)
-  pub holders : Tabulates heap.holders (λ m. option_map thread_named (holder_in trace m))
+  pub locks : Tabulates heap.locks (lock_in (length heap.threads) trace)
   pub threads : Tabulates heap.threads (standing_in trace)
 
 -- ---- what the heap answers and takes

@@ -1,5 +1,5 @@
 -- Which operations a heap's contents admit, and how these change. Words of private contracts.
-use Rattle.std.specs.Prelude.{ℕ, ◌+◌, ◌-◌, ◌<◌, ◌==◌, nat_le, not, if◌then◌else◌, List, length, get_or, slice_get, slice_set, Option, Some, None, Result, Ok, Err, ⊤}
+use Rattle.std.specs.Prelude.{ℕ, ◌+◌, ◌-◌, ◌*◌, ◌%◌, ◌^◌, ◌<◌, Bool, ◌||◌, ◌==◌, nat_le, not, is_some, option_map, if◌then◌else◌, List, length, get_or, slice_get, slice_set, Option, Some, None, Result, Ok, Err, ⊤}
 use Rattle.velo_events.specs.declared.event.ThreadId.{ThreadId}
 use Rattle.velo_events.specs.declared.event.VarId.{VarId}
 use Rattle.velo_events.specs.declared.event.LockId.{LockId}
@@ -7,14 +7,20 @@ use Rattle.velo_events.specs.declared.event.Label.{Label}
 use Rattle.velo_events.specs.declared.event.Action.{Action}
 use Rattle.velo_events.specs.declared.event.Event.{Event}
 use Rattle.velo_events.specs.declared.event.Kind.{Kind}
-use Rattle.velo_events.specs.declared.event.Kind.TheVariants.{Read, Write, Acquire, Release, Begin, End, Fork, Join, Exit}
+use Rattle.velo_events.specs.declared.event.Kind.TheVariants.{Read, Write, Acquire, Release, AcquireShared, ReleaseShared, Begin, End, Fork, Join, Exit}
 use Rattle.velo_events.specs.declared.event.Status.{Status}
 use Rattle.velo_events.specs.declared.event.Status.TheVariants.{Unborn, Live, Exited, Joined}
 use Rattle.velo_events.specs.declared.refusal.Refusal.{Refusal}
 use Rattle.velo_events.specs.declared.refusal.Refusal.TheVariants.{NotLive, NoSuchVariable, NoSuchLock, NoSuchThread, Busy, AlreadyHeld, NotHolder, NoOpenBlock, TooDeep, AlreadyForked, NotForked, NotExited, AlreadyJoined, BlockOpen, LockHeld}
+use Rattle.std.specs.Int.{bit_at, bit_not}
+use Rattle.std.specs.Int.RustNames.{bit_or}
+use Rattle.std.specs.Int.Bits.{bit_and}
+use mir.Syntax.{w64}
+use Rattle.velo_events.specs.Event.{are_same}
 use Rattle.velo_events.specs.Meaning.{is_live}
 use Rattle.velo_events.specs.declared.limits.TheConstants.{MOST_OPEN_BLOCKS}
 use Rattle.velo_events.specs.WellFormed.{NamesKnown}
+use Rattle.velo_heap.specs.declared.lock.Lock.{Lock}
 use Rattle.velo_heap.specs.declared.standing.Standing.{Standing}
 use Rattle.velo_heap.specs.Contents.{Contents, bounds_of}
 
@@ -28,15 +34,40 @@ abbrev pub write_at : VarId → ℕ → Option ℕ → Result Kind Refusal
 write_at x v (Some old) = Ok (Write x v)
 write_at x v None = Err NoSuchVariable
 
-abbrev pub acquire_at : ThreadId → LockId → Option (Option ThreadId) → Result Kind Refusal
-acquire_at t m (Some (Some holder)) = if holder.0 == t.0 then Err AlreadyHeld else Err Busy
-acquire_at t m (Some None) = Ok (Acquire m)
+-- the thread holds the lock alone; it holds it, alone or with others
+abbrev pub is_holder : Lock → ThreadId → Bool
+is_holder lock t = are_same (option_map (λ h. h.0) lock.holder) (Some t.0)
+
+abbrev pub is_held_by : Lock → ThreadId → Bool
+is_held_by lock t = is_holder lock t || (bit_at lock.sharers t.0 == 1)
+
+abbrev pub acquire_in : ThreadId → LockId → Lock → Result Kind Refusal
+acquire_in t m lock = if is_held_by lock t then Err AlreadyHeld else (if is_some lock.holder || not (lock.sharers == 0) then Err Busy else Ok (Acquire m))
+
+abbrev pub acquire_shared_in : ThreadId → LockId → Lock → Result Kind Refusal
+acquire_shared_in t m lock = if is_held_by lock t then Err AlreadyHeld else (if is_some lock.holder then Err Busy else Ok (AcquireShared m))
+
+abbrev pub release_in : ThreadId → LockId → Lock → Result Kind Refusal
+release_in t m lock = if is_holder lock t then Ok (Release m) else Err NotHolder
+
+abbrev pub release_shared_in : ThreadId → LockId → Lock → Result Kind Refusal
+release_shared_in t m lock = if bit_at lock.sharers t.0 == 1 then Ok (ReleaseShared m) else Err NotHolder
+
+abbrev pub acquire_at : ThreadId → LockId → Option Lock → Result Kind Refusal
+acquire_at t m (Some lock) = acquire_in t m lock
 acquire_at t m None = Err NoSuchLock
 
-abbrev pub release_at : ThreadId → LockId → Option (Option ThreadId) → Result Kind Refusal
-release_at t m (Some (Some holder)) = if holder.0 == t.0 then Ok (Release m) else Err NotHolder
-release_at t m (Some None) = Err NotHolder
+abbrev pub acquire_shared_at : ThreadId → LockId → Option Lock → Result Kind Refusal
+acquire_shared_at t m (Some lock) = acquire_shared_in t m lock
+acquire_shared_at t m None = Err NoSuchLock
+
+abbrev pub release_at : ThreadId → LockId → Option Lock → Result Kind Refusal
+release_at t m (Some lock) = release_in t m lock
 release_at t m None = Err NoSuchLock
+
+abbrev pub release_shared_at : ThreadId → LockId → Option Lock → Result Kind Refusal
+release_shared_at t m (Some lock) = release_shared_in t m lock
+release_shared_at t m None = Err NoSuchLock
 
 abbrev pub fork_by : ThreadId → Status → Result Kind Refusal
 fork_by u Unborn = Ok (Fork u)
@@ -69,8 +100,10 @@ exit_in own = if not (own.depth == 0) then Err BlockOpen else (if not (own.locks
 abbrev pub live_kind : Contents → ThreadId → Standing → Action → Result Kind Refusal
 live_kind heap t own (Action.Read x) = read_at x (slice_get heap.values x.0)
 live_kind heap t own (Action.Write x v) = write_at x v (slice_get heap.values x.0)
-live_kind heap t own (Action.Acquire m) = acquire_at t m (slice_get heap.holders m.0)
-live_kind heap t own (Action.Release m) = release_at t m (slice_get heap.holders m.0)
+live_kind heap t own (Action.Acquire m) = acquire_at t m (slice_get heap.locks m.0)
+live_kind heap t own (Action.Release m) = release_at t m (slice_get heap.locks m.0)
+live_kind heap t own (Action.AcquireShared m) = acquire_shared_at t m (slice_get heap.locks m.0)
+live_kind heap t own (Action.ReleaseShared m) = release_shared_at t m (slice_get heap.locks m.0)
 live_kind heap t own (Action.Begin label) = begin_in own label
 live_kind heap t own Action.End = end_in own
 live_kind heap t own (Action.Fork u) = fork_at u (slice_get heap.threads u.0)
@@ -92,10 +125,12 @@ refusal_in (Err refusal) = Some refusal
 
 -- ---- how an operation changes the contents
 
--- the operation makes no count of the thread wrap, where a thread may hold so many locks
+-- the operation makes no count of the thread wrap, where a thread may hold so many locks in each of two ways
 abbrev pub CountsFit : ℕ → Standing → Kind → Type 0
-CountsFit most own (Acquire m) = own.locks < most
+CountsFit most own (Acquire m) = own.locks < most + most
 CountsFit most own (Release m) = 0 < own.locks
+CountsFit most own (AcquireShared m) = own.locks < most + most
+CountsFit most own (ReleaseShared m) = 0 < own.locks
 CountsFit most own (Begin label) = own.depth < MOST_OPEN_BLOCKS
 CountsFit most own End = 0 < own.depth
 CountsFit most own _ = ⊤
@@ -104,6 +139,8 @@ CountsFit most own _ = ⊤
 abbrev pub standing_after : Standing → Kind → Standing
 standing_after own (Acquire m) = record own { locks = own.locks + 1 }
 standing_after own (Release m) = record own { locks = own.locks - 1 }
+standing_after own (AcquireShared m) = record own { locks = own.locks + 1 }
+standing_after own (ReleaseShared m) = record own { locks = own.locks - 1 }
 standing_after own (Begin label) = record own { depth = own.depth + 1 }
 standing_after own End = record own { depth = own.depth - 1 }
 standing_after own Exit = record own { status = Exited }
@@ -114,6 +151,22 @@ unborn = record { status = Unborn; depth = 0; locks = 0 }
 
 abbrev pub standing_at : List Standing → ℕ → Standing
 standing_at threads t = get_or threads t unborn
+
+abbrev pub free : Lock
+free = record { holder = None; sharers = 0 }
+
+abbrev pub with_holder : Option ThreadId → Lock → Lock
+with_holder holder lock = record lock { holder = holder }
+
+-- the lock with the thread's bit, or without it
+abbrev pub with_sharer : ThreadId → Lock → Lock
+with_sharer t lock = record lock { sharers = bit_or lock.sharers (1 * 2 ^ t.0 % 2 ^ 64) }
+
+abbrev pub without_sharer : ThreadId → Lock → Lock
+without_sharer t lock = record lock { sharers = bit_and lock.sharers (bit_not w64 (1 * 2 ^ t.0 % 2 ^ 64)) }
+
+abbrev pub with_lock : List Lock → ℕ → (Lock → Lock) → List Lock
+with_lock locks m change = slice_set locks m (change (get_or locks m free))
 
 abbrev pub with_status : List Standing → ℕ → Status → List Standing
 with_status threads t status = slice_set threads t (record (standing_at threads t) { status = status })
@@ -126,8 +179,10 @@ own_after threads t kind = slice_set threads t (standing_after (standing_at thre
 abbrev pub after_kind : Contents → ThreadId → Kind → Contents
 after_kind heap t (Read x v) = heap
 after_kind heap t (Write x v) = record heap { values = slice_set heap.values x.0 v }
-after_kind heap t (Acquire m) = record heap { holders = slice_set heap.holders m.0 (Some t); threads = own_after heap.threads t.0 (Acquire m) }
-after_kind heap t (Release m) = record heap { holders = slice_set heap.holders m.0 None; threads = own_after heap.threads t.0 (Release m) }
+after_kind heap t (Acquire m) = record heap { locks = with_lock heap.locks m.0 (with_holder (Some t)); threads = own_after heap.threads t.0 (Acquire m) }
+after_kind heap t (Release m) = record heap { locks = with_lock heap.locks m.0 (with_holder None); threads = own_after heap.threads t.0 (Release m) }
+after_kind heap t (AcquireShared m) = record heap { locks = with_lock heap.locks m.0 (with_sharer t); threads = own_after heap.threads t.0 (AcquireShared m) }
+after_kind heap t (ReleaseShared m) = record heap { locks = with_lock heap.locks m.0 (without_sharer t); threads = own_after heap.threads t.0 (ReleaseShared m) }
 after_kind heap t (Begin label) = record heap { threads = own_after heap.threads t.0 (Begin label) }
 after_kind heap t End = record heap { threads = own_after heap.threads t.0 End }
 after_kind heap t (Fork u) = record heap { threads = with_status heap.threads u.0 Live }
@@ -141,4 +196,4 @@ contents_after heap event = after_kind heap event.thread event.kind
 pub record CanChange (heap : Contents) (event : Event) : Type 0 where
   pub thread : event.thread.0 < length heap.threads
   pub names : NamesKnown (bounds_of heap) event.kind
-  pub room : CountsFit (length heap.holders) (standing_at heap.threads event.thread.0) event.kind
+  pub room : CountsFit (length heap.locks) (standing_at heap.threads event.thread.0) event.kind

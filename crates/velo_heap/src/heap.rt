@@ -1,12 +1,14 @@
 ghost use Rattle.velo_events.specs.Refusals.{GrowthRefused};
-ghost use Rattle.std.specs.Prelude.{◌≡◌, ◌<◌, [], ◌∷◌, ◌++◌, List, IfOk, option_map, length, slice_get, OnErr};
+ghost use Rattle.std.specs.Prelude.{◌≡◌, ◌<◌, ◌≤◌, [], ◌∷◌, ◌++◌, List, IfOk, option_map, length, slice_get, OnErr};
 ghost use Rattle.velo_events.specs.declared.event.Event.{Event};
-ghost use Rattle.velo_events.specs.Heap.{value_in, holder_in, status_in, depth_in};
-ghost use Rattle.velo_heap.specs.Contents.{bounds_of, IsHeapOf, admission, IsAdmitted};
+ghost use Rattle.velo_events.specs.Heap.{value_in, holder_in, shares_in, status_in, depth_in};
+ghost use Rattle.velo_events.specs.declared.limits.TheConstants.{MOST_THREADS};
+ghost use Rattle.velo_heap.specs.Contents.{bounds_of, mask_below, IsHeapOf, admission, IsAdmitted};
 ghost use Rattle.velo_events.specs.Meaning.{refusal_of, action_of, has_its_value};
 ghost use Rattle.velo_events.specs.WellFormed.{NamesKnown};
-ghost use Rattle.velo_heap.specs.Steps.{refusal_in, read_at, write_at, acquire_at, release_at, fork_at, join_at, kind_in, live_kind, contents_after, CanChange};
+ghost use Rattle.velo_heap.specs.Steps.{refusal_in, read_at, write_at, acquire_at, acquire_shared_at, release_at, release_shared_at, fork_at, join_at, kind_in, live_kind, contents_after, CanChange};
 
+use crate::lock::Lock;
 use crate::standing::Standing;
 use std::alloc::Global;
 use std::marker::Model;
@@ -19,21 +21,21 @@ use velo_events::{Action, Config, Event, Kind, LockId, Memory, Refusal, Status, 
 #[derive(Debug, Drop)]
 pub struct Heap {
     values: Vec<u64>,
-    holders: Vec<Option<ThreadId>>,
+    locks: Vec<Lock>,
     threads: Vec<Standing>,
 }
 
 impl Model for Heap {
     ghost use Rattle.std.specs.Prelude.{◌≤◌, length};
-    ghost use Rattle.velo_events.specs.declared.limits.TheConstants.{MOST_LOCKS};
+    ghost use Rattle.velo_events.specs.declared.limits.TheConstants.{MOST_LOCKS, MOST_THREADS};
     ghost use Rattle.velo_heap.specs.Contents.{Contents};
 
     ghost Value = { Contents };
 
-    ghost view = { λ h. record { values = h.values.items; holders = h.holders.items; threads = h.threads.items } };
+    ghost view = { λ h. record { values = h.values.items; locks = h.locks.items; threads = h.threads.items } };
 
-    // so few locks that the count of those that a thread holds never wraps
-    ghost invariant = { λ h. length h.holders.items ≤ MOST_LOCKS };
+    // so few locks that the count of those that a thread holds never wraps, and a bit for each thread
+    ghost invariant = { λ h. (length h.locks.items ≤ MOST_LOCKS) × (length h.threads.items ≤ MOST_THREADS) };
 }
 
 impl Heap {
@@ -48,12 +50,12 @@ impl Heap {
     {
         let bounds = config.bounds;
         let values = filled(alloc, 0, usize::from(bounds.variables))?;
-        let holders = filled(alloc, None, usize::from(bounds.locks))?;
+        let locks = filled(alloc, Lock::free(), usize::from(bounds.locks))?;
         let mut threads = filled(alloc, Standing::unborn(), usize::from(bounds.threads))?;
         threads[0].status = Status::Live;
         Ok(Heap {
             values,
-            holders,
+            locks,
             threads,
         })
     }
@@ -112,14 +114,33 @@ impl Heap {
         self.values[at]
     }
 
-    /// The thread that holds a lock, or `None` where it is free.
+    /// The thread that holds a lock alone, or `None` where none does.
     pub fn holder(&self, m: LockId) -> Option<ThreadId>
         requires { m.0 < (bounds_of self.now).locks }
         ensures { (trace : List Event) → IsHeapOf self.now trace →
             option_map (λ t. t.0) result ≡ holder_in trace m.0 }
     {
         let at = usize::from(m.0);
-        self.holders[at]
+        self.locks[at].holder
+    }
+
+    /// A bit for each thread that shares a lock.
+    pub fn sharers(&self, m: LockId) -> u64
+        requires { m.0 < (bounds_of self.now).locks }
+        ensures { (trace : List Event) → IsHeapOf self.now trace →
+            result ≡ mask_below (bounds_of self.now).threads (shares_in trace m.0) }
+    {
+        let at = usize::from(m.0);
+        self.locks[at].sharers
+    }
+
+    /// Whether a thread shares a lock.
+    pub fn shares(&self, m: LockId, t: ThreadId) -> bool
+        requires { m.0 < (bounds_of self.now).locks }
+        ensures { (trace : List Event) → IsHeapOf self.now trace → result ≡ shares_in trace m.0 t.0 }
+    {
+        let at = usize::from(m.0);
+        self.locks[at].is_shared_by(t)
     }
 
     /// How far a thread has come.
@@ -164,6 +185,8 @@ impl Heap {
             Action::Write(x, value) => self.admit_write(x, value),
             Action::Acquire(m) => self.admit_acquire(thread, m),
             Action::Release(m) => self.admit_release(thread, m),
+            Action::AcquireShared(m) => self.admit_acquire_shared(thread, m),
+            Action::ReleaseShared(m) => self.admit_release_shared(thread, m),
             Action::Begin(label) => own.admit_begin(label),
             Action::End => own.admit_end(),
             Action::Fork(u) => self.admit_fork(u),
@@ -197,6 +220,8 @@ impl Heap {
             Kind::Write(x, value) => self.admit_write(x, value).err(),
             Kind::Acquire(m) => self.admit_acquire(event.thread, m).err(),
             Kind::Release(m) => self.admit_release(event.thread, m).err(),
+            Kind::AcquireShared(m) => self.admit_acquire_shared(event.thread, m).err(),
+            Kind::ReleaseShared(m) => self.admit_release_shared(event.thread, m).err(),
             Kind::Begin(label) => own.admit_begin(label).err(),
             Kind::End => own.admit_end().err(),
             Kind::Fork(u) => self.admit_fork(u).err(),
@@ -227,32 +252,40 @@ impl Heap {
 
     #[inline]
     fn admit_acquire(&self, thread: ThreadId, m: LockId) -> Result<Kind, Refusal>
-        ensures { result ≡ acquire_at thread m (slice_get self.now.holders m.0) }
+        ensures { result ≡ acquire_at thread m (slice_get self.now.locks m.0) }
     {
-        match self.holders.get(usize::from(m.0)).copied() {
-            Some(None) => Ok(Kind::Acquire(m)),
-            Some(Some(holder)) => Err(if holder == thread {
-                Refusal::AlreadyHeld
-            } else {
-                Refusal::Busy
-            }),
+        match self.locks.get(usize::from(m.0)).copied() {
+            Some(lock) => lock.admit_acquire(thread, m),
             None => Err(Refusal::NoSuchLock),
         }
     }
 
     #[inline]
     fn admit_release(&self, thread: ThreadId, m: LockId) -> Result<Kind, Refusal>
-        ensures { result ≡ release_at thread m (slice_get self.now.holders m.0) }
+        ensures { result ≡ release_at thread m (slice_get self.now.locks m.0) }
     {
-        match self.holders.get(usize::from(m.0)).copied() {
-            Some(Some(holder)) => {
-                if holder == thread {
-                    Ok(Kind::Release(m))
-                } else {
-                    Err(Refusal::NotHolder)
-                }
-            }
-            Some(None) => Err(Refusal::NotHolder),
+        match self.locks.get(usize::from(m.0)).copied() {
+            Some(lock) => lock.admit_release(thread, m),
+            None => Err(Refusal::NoSuchLock),
+        }
+    }
+
+    #[inline]
+    fn admit_acquire_shared(&self, thread: ThreadId, m: LockId) -> Result<Kind, Refusal>
+        ensures { result ≡ acquire_shared_at thread m (slice_get self.now.locks m.0) }
+    {
+        match self.locks.get(usize::from(m.0)).copied() {
+            Some(lock) => lock.admit_acquire_shared(thread, m),
+            None => Err(Refusal::NoSuchLock),
+        }
+    }
+
+    #[inline]
+    fn admit_release_shared(&self, thread: ThreadId, m: LockId) -> Result<Kind, Refusal>
+        ensures { result ≡ release_shared_at thread m (slice_get self.now.locks m.0) }
+    {
+        match self.locks.get(usize::from(m.0)).copied() {
+            Some(lock) => lock.admit_release_shared(thread, m),
             None => Err(Refusal::NoSuchLock),
         }
     }
@@ -280,18 +313,31 @@ impl Heap {
     /// Changes what the event names, and its thread where that stands otherwise then.
     fn change(&mut self, event: &Event)
         requires { CanChange self.old event.now }
-        ensures { self.new ≡ contents_after self.old event.now }
+        ensures changed { self.new ≡ contents_after self.old event.now }
+        ensures few { length self.old.threads ≤ MOST_THREADS }
     {
         let own = usize::from(event.thread.0);
         match event.kind {
             Kind::Read(..) => {}
             Kind::Write(x, value) => self.values[usize::from(x.0)] = value,
             Kind::Acquire(m) => {
-                self.holders[usize::from(m.0)] = Some(event.thread);
+                let lock = &mut self.locks[usize::from(m.0)];
+                *lock = lock.with_holder(Some(event.thread));
                 self.threads[own].locks += 1;
             }
             Kind::Release(m) => {
-                self.holders[usize::from(m.0)] = None;
+                let lock = &mut self.locks[usize::from(m.0)];
+                *lock = lock.with_holder(None);
+                self.threads[own].locks -= 1;
+            }
+            Kind::AcquireShared(m) => {
+                let lock = &mut self.locks[usize::from(m.0)];
+                *lock = lock.with_sharer(event.thread);
+                self.threads[own].locks += 1;
+            }
+            Kind::ReleaseShared(m) => {
+                let lock = &mut self.locks[usize::from(m.0)];
+                *lock = lock.without_sharer(event.thread);
                 self.threads[own].locks -= 1;
             }
             Kind::Begin(_) => self.threads[own].depth += 1,

@@ -2,6 +2,7 @@
 #![tactic(auto)]
 
 mod heap;
+mod lock;
 mod standing;
 
 pub use heap::Heap;

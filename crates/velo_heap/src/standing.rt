@@ -11,7 +11,7 @@ pub struct Standing {
     pub status: Status,
     /// How many blocks it has open.
     pub depth: u8,
-    /// How many locks it holds.
+    /// How many locks it holds, alone or with others.
     pub locks: u16,
 }
 

@@ -7,7 +7,7 @@ use Rattle.std.proofs.lemmas.List.Sums.{sum_by_push, sum_by-cons, sum_by_more}
 use Rattle.std.proofs.lemmas.Option.{slice_get_within, get_or_from_slice_get, same_Some}
 use Rattle.velo_events.specs.declared.event.Event.{Event}
 use Rattle.velo_events.specs.declared.event.Kind.{Kind}
-use Rattle.velo_events.specs.declared.event.Kind.TheVariants.{Read, Write, Acquire, Release, Begin, End, Fork, Join, Exit}
+use Rattle.velo_events.specs.declared.event.Kind.TheVariants.{Read, Write, Acquire, Release, AcquireShared, ReleaseShared, Begin, End, Fork, Join, Exit}
 use Rattle.velo_events.specs.Event.{thread_of, is_by, is_read, is_write, value_of}
 use Rattle.velo_events.specs.Heap.{times}
 use Rattle.velo_events.specs.Tally.{end_of_last, events_of, next_of, last_of, read_total_of, written_total_of}
@@ -48,6 +48,8 @@ read_part (Read x v) = refl
 read_part (Write x v) = refl
 read_part (Acquire m) = refl
 read_part (Release m) = refl
+read_part (AcquireShared m) = refl
+read_part (ReleaseShared m) = refl
 read_part (Begin l) = refl
 read_part End = refl
 read_part (Fork u) = refl
@@ -59,6 +61,8 @@ written_part (Read x v) = refl
 written_part (Write x v) = refl
 written_part (Acquire m) = refl
 written_part (Release m) = refl
+written_part (AcquireShared m) = refl
+written_part (ReleaseShared m) = refl
 written_part (Begin l) = refl
 written_part End = refl
 written_part (Fork u) = refl

@@ -42,6 +42,13 @@ const FIRST_FAULTS: &[(&str, Option<WorkFault>)] = &[
     ("thread main\nread x", Some(WorkFault::Unknown(2))),
     ("thread main\nread x\nlock m", Some(WorkFault::BadLine(3))),
     ("lock x\nthread main\nread x", Some(WorkFault::Unknown(3))),
+    ("lock m\nthread main\nshare m\nunshare m", None),
+    ("var x\nthread main\nshare x", Some(WorkFault::Unknown(3))),
+    (
+        "lock m\nthread main\nunshare n",
+        Some(WorkFault::Unknown(3)),
+    ),
+    ("lock m\nthread main\nshare", Some(WorkFault::BadLine(3))),
     (
         "thread a\nfork b\n\nthread b\njoin c",
         Some(WorkFault::Unknown(5)),
@@ -156,7 +163,7 @@ fn threads(rt: HostRuntime) {
 const PROGRAM: &str =
     "var y\nvar x\nlock end # a lock\nthread main\nfork b\nbegin inc\nread x\nwrite y\n\
         set 5\nadd 6\nbegin dec\nend\nend\njoin b\n\nthread b\nrepeat 2\nacquire end\nbegin inc\n\
-        release end\ndone";
+        release end\nshare end\nunshare end\ndone";
 
 const PROGRAM_BOUNDS: Bounds = Bounds {
     threads: 2,
@@ -182,6 +189,8 @@ const OTHER_BODY: &[Statement] = &[
     Statement::Acquire(LockId(0)),
     Statement::Begin(Label(0)),
     Statement::Release(LockId(0)),
+    Statement::Share(LockId(0)),
+    Statement::Unshare(LockId(0)),
     Statement::Done,
 ];
 

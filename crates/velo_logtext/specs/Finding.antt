@@ -1,5 +1,5 @@
 -- What stands in the bytes of an input: the text of a log, or a first line that is wrong.
-use Rattle.std.specs.Prelude.{◌≡◌, ℕ, ◌+◌, ◌<◌, ◌≤◌, List, ◌++◌, length, Contains, ◌⊎◌, Result, Ok, Err}
+use Rattle.std.specs.Prelude.{◌≡◌, ℕ, Bool, ◌+◌, ◌<◌, ◌≤◌, List, ◌++◌, length, Contains, ◌⊎◌, Result, Ok, Err}
 use Rattle.velo_events.specs.declared.config.Bounds.{Bounds}
 use Rattle.velo_events.specs.declared.event.Event.{Event}
 use Rattle.velo_events.specs.Refusals.{GrowthRefused}
@@ -7,19 +7,19 @@ use Rattle.velo_traces.specs.declared.trace.Trace.{Trace}
 use Rattle.velo_logtext.specs.declared.fault.LogFault.{LogFault}
 use Rattle.velo_logtext.specs.declared.fault.LogFault.TheVariants.{BadHeader, BadLine, Truncated, TooLong, Read, Memory}
 use Rattle.velo_logtext.specs.Device.{one_more}
-use Rattle.velo_logtext.specs.Text.{AreBounds, IsEvent, header_line, event_line, Begins, IsLogText}
+use Rattle.velo_logtext.specs.Text.{AreBounds, IsEventIn, Head, header_line, event_line, Begins, IsLogText}
 
 -- no header with its newline stands at the front
 pub record HasNoHeader (bytes : List ℕ) : Type 0 where
-  pub none : (bounds : Bounds) (rest : List ℕ) → AreBounds bounds → ¬ (bytes ≡ header_line bounds ++ rest)
+  pub none : (head : Head) (rest : List ℕ) → AreBounds head.1 → ¬ (bytes ≡ header_line head ++ rest)
 
--- no event's line with its newline stands at the front
-pub record HasNoEvent (bytes : List ℕ) : Type 0 where
-  pub none : (e : Event) (rest : List ℕ) → IsEvent e → ¬ (bytes ≡ event_line e ++ rest)
+-- no event's line of a version stands at the front, with its newline
+pub record HasNoEvent (shares : Bool) (bytes : List ℕ) : Type 0 where
+  pub none : (e : Event) (rest : List ℕ) → IsEventIn shares e → ¬ (bytes ≡ event_line e ++ rest)
 
 -- no event's line, though a newline or more than 64 bytes are there
-pub record IsBadLine (bytes : List ℕ) : Type 0 where
-  pub no_event : HasNoEvent bytes
+pub record IsBadLine (shares : Bool) (bytes : List ℕ) : Type 0 where
+  pub no_event : HasNoEvent shares bytes
   pub ended : Contains bytes 10 ⊎ (64 < length bytes)
 
 -- 1 to 64 bytes, and then the end with no newline
@@ -29,21 +29,23 @@ pub record IsCutLine (bytes : List ℕ) : Type 0 where
   pub no_newline : ¬ Contains bytes 10
 
 -- the header and the lines before line n are right, and fewer than limit; line n is wrong in this way
-pub record IsFirstWrongLine (limit : ℕ) (bytes : List ℕ) (n : ℕ) (IsWrong : List ℕ → Type 0) : Type 0 where
+pub record IsFirstWrongLine (limit : ℕ) (bytes : List ℕ) (n : ℕ) (IsWrong : Bool → List ℕ → Type 0) : Type 0 where
+  pub shares : Bool
   pub bounds : Bounds
   pub events : List Event
   pub rest : List ℕ
-  pub begins : Begins bytes bounds events rest
+  pub begins : Begins bytes shares bounds events rest
   pub room : length events < limit
   pub line : n ≡ length events + 2
-  pub wrong : IsWrong rest
+  pub wrong : IsWrong shares rest
 
 -- a byte stands after as many lines of events as there may be
 pub record IsTooLong (limit : ℕ) (bytes : List ℕ) : Type 0 where
+  pub shares : Bool
   pub bounds : Bounds
   pub events : List Event
   pub rest : List ℕ
-  pub begins : Begins bytes bounds events rest
+  pub begins : Begins bytes shares bounds events rest
   pub full : length events ≡ limit
   pub more : 0 < length rest
 
@@ -56,7 +58,7 @@ abbrev pub Stands : ℕ → List ℕ → Finding → Type 0
 Stands limit bytes (Ok log) = IsLogText bytes log.0 log.1 × (length log.1 ≤ limit)
 Stands limit bytes (Err BadHeader) = HasNoHeader bytes
 Stands limit bytes (Err (BadLine n)) = IsFirstWrongLine limit bytes n IsBadLine
-Stands limit bytes (Err (Truncated n)) = IsFirstWrongLine limit bytes n IsCutLine
+Stands limit bytes (Err (Truncated n)) = IsFirstWrongLine limit bytes n (λ shares. IsCutLine)
 Stands limit bytes (Err TooLong) = IsTooLong limit bytes
 Stands limit bytes (Err Read) = ⊥
 Stands limit bytes (Err Memory) = ⊥

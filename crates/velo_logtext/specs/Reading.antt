@@ -1,11 +1,12 @@
 -- What the readers of numbers, words and lines take from the front of bytes. Private contracts cite these words.
-use Rattle.std.specs.Prelude.{ℕ, ◌+◌, ◌-◌, ◌*◌, ◌^◌, ◌==◌, nat_le, List, [], ◌∷◌, codes, Option, Some, None, option_and_then, if◌then◌else◌}
+use Rattle.std.specs.Prelude.{ℕ, Bool, true, false, ◌+◌, ◌-◌, ◌*◌, ◌^◌, ◌==◌, nat_le, List, [], ◌∷◌, codes, Option, Some, None, option_and_then, if◌then◌else◌}
 use Rattle.std.specs.Char.{is_ascii_digit}
 use Rattle.velo_events.specs.declared.config.Bounds.{Bounds}
 use Rattle.velo_events.specs.declared.event.Event.{Event}
 use Rattle.velo_events.specs.declared.limits.TheConstants.{MOST_LOCKS, MOST_THREADS}
 use Rattle.velo_events.specs.declared.event.Kind.{Kind}
-use Rattle.velo_events.specs.declared.event.Kind.TheVariants.{Read, Write, Acquire, Release, Begin, End, Fork, Join, Exit}
+use Rattle.velo_logtext.specs.Text.{Head, has_kind}
+use Rattle.velo_events.specs.declared.event.Kind.TheVariants.{Read, Write, Acquire, Release, AcquireShared, ReleaseShared, Begin, End, Fork, Join, Exit}
 
 infixl 10 ◌>>=◌
 abbrev pub ◌>>=◌ : {A B : Type 0} → Option A → (A → Option B) → Option B
@@ -68,12 +69,19 @@ block_kind_at bytes =
     (by_word (after_word (codes "end") bytes) (λ rest. Some (End, rest))
     (thread_kind_at bytes))
 
+-- shared acquires and releases, or the above
+unfoldable pub share_kind_at : List ℕ → Taken Kind
+share_kind_at bytes =
+    by_word (after_word (codes "acqs ") bytes) (of_number 65535 (λ m. AcquireShared (record { 0 = m })))
+    (by_word (after_word (codes "rels ") bytes) (of_number 65535 (λ m. ReleaseShared (record { 0 = m })))
+    (block_kind_at bytes))
+
 -- acquires and releases, or the above
 unfoldable pub lock_kind_at : List ℕ → Taken Kind
 lock_kind_at bytes =
     by_word (after_word (codes "acq ") bytes) (of_number 65535 (λ m. Acquire (record { 0 = m })))
     (by_word (after_word (codes "rel ") bytes) (of_number 65535 (λ m. Release (record { 0 = m })))
-    (block_kind_at bytes))
+    (share_kind_at bytes))
 
 -- any operation
 unfoldable pub kind_at : List ℕ → Taken Kind
@@ -91,6 +99,10 @@ event_at bytes = do
   rest ← after_word (codes "\n") kind.1
   Some (record { thread = record { 0 = t.0 }; kind = kind.0 }, rest)
 
+-- the same in a version, which has shared operations or not
+unfoldable pub event_in : Bool → List ℕ → Taken Event
+event_in shares bytes = event_at bytes >>= λ e. if has_kind shares e.0.kind then Some e else None
+
 -- a number and the space behind it
 abbrev pub spaced_number_at : ℕ → List ℕ → Taken ℕ
 spaced_number_at most bytes = do
@@ -98,12 +110,18 @@ spaced_number_at most bytes = do
   rest ← after_word (codes " ") n.1
   Some (n.0, rest)
 
--- the first line with its newline
-unfoldable pub header_at : List ℕ → Taken Bounds
-header_at bytes = do
-  words ← after_word (codes "vlog 1 ") bytes
+-- the bounds and the newline
+unfoldable pub bounds_at : Bool → List ℕ → Taken Head
+bounds_at shares words = do
   t ← spaced_number_at MOST_THREADS words
   v ← spaced_number_at 65535 t.1
   m ← number_at MOST_LOCKS v.1
   rest ← after_word (codes "\n") m.1
-  if t.0 == 0 then None else Some (record { threads = t.0; variables = v.0; locks = m.0 }, rest)
+  if t.0 == 0 then None else Some ((shares, record { threads = t.0; variables = v.0; locks = m.0 }), rest)
+
+-- the first line with its newline
+unfoldable pub header_at : List ℕ → Taken Head
+header_at bytes =
+    by_word (after_word (codes "vlog 2 ") bytes) (bounds_at true)
+    (by_word (after_word (codes "vlog 1 ") bytes) (bounds_at false)
+    None)

@@ -9,18 +9,18 @@ use Rattle.velo_logtext.specs.declared.fault.LogFault.{LogFault}
 use Rattle.velo_logtext.specs.declared.fault.LogFault.TheVariants.{BadHeader, BadLine, Truncated, TooLong, Read, Memory}
 use Rattle.velo_logtext.specs.Text.{event_lines}
 use Rattle.velo_logtext.specs.Finding.{IsBadLine, IsCutLine}
-use Rattle.velo_logtext.specs.Reading.{event_at}
+use Rattle.velo_logtext.specs.Reading.{event_in}
 
 -- how many bytes are left alone until more have come
 abbrev pub margin : Bool → ℕ
 margin last = if last then 0 else 64
 
 -- why no more lines are taken, of so many events and the bytes that are left
-abbrev pub IsReason : ℕ → Bool → ℕ → List ℕ → Stop → Type 0
-IsReason limit last count rest Short = length rest ≤ margin last
-IsReason limit last count rest NoEvent = (margin last < length rest) × (count < limit) × (event_at rest ≡ None)
-IsReason limit last count rest Full = (margin last < length rest) × (count ≡ limit)
-IsReason limit last count rest NoRoom = GrowthRefused
+abbrev pub IsReason : Bool → ℕ → Bool → ℕ → List ℕ → Stop → Type 0
+IsReason shares limit last count rest Short = length rest ≤ margin last
+IsReason shares limit last count rest NoEvent = (margin last < length rest) × (count < limit) × (event_in shares rest ≡ None)
+IsReason shares limit last count rest Full = (margin last < length rest) × (count ≡ limit)
+IsReason shares limit last count rest NoRoom = GrowthRefused
 
 -- what is said of the line at the front of the bytes that are left
 abbrev pub judged : Stop → List ℕ → ℕ → Result (Unit {0}) LogFault
@@ -36,11 +36,11 @@ pub record Leaves (bytes : List ℕ) (events : List Event) (IsLeft : List ℕ �
   pub left : IsLeft rest
 
 -- what the reader of the lines of events answers, with the events that it has then
-abbrev pub LinesGive : ℕ → List ℕ → List Event → Result (Unit {0}) LogFault → Type 0
-LinesGive limit bytes events (Ok _) = bytes ≡ event_lines events
-LinesGive limit bytes events (Err BadHeader) = ⊥
-LinesGive limit bytes events (Err (BadLine n)) = (length events < limit) × (n ≡ length events + 2) × Leaves bytes events IsBadLine
-LinesGive limit bytes events (Err (Truncated n)) = (length events < limit) × (n ≡ length events + 2) × Leaves bytes events IsCutLine
-LinesGive limit bytes events (Err TooLong) = (length events ≡ limit) × Leaves bytes events (λ rest. 0 < length rest)
-LinesGive limit bytes events (Err Read) = Unit {0}
-LinesGive limit bytes events (Err Memory) = GrowthRefused
+abbrev pub LinesGive : Bool → ℕ → List ℕ → List Event → Result (Unit {0}) LogFault → Type 0
+LinesGive shares limit bytes events (Ok _) = bytes ≡ event_lines events
+LinesGive shares limit bytes events (Err BadHeader) = ⊥
+LinesGive shares limit bytes events (Err (BadLine n)) = (length events < limit) × (n ≡ length events + 2) × Leaves bytes events (IsBadLine shares)
+LinesGive shares limit bytes events (Err (Truncated n)) = (length events < limit) × (n ≡ length events + 2) × Leaves bytes events IsCutLine
+LinesGive shares limit bytes events (Err TooLong) = (length events ≡ limit) × Leaves bytes events (λ rest. 0 < length rest)
+LinesGive shares limit bytes events (Err Read) = Unit {0}
+LinesGive shares limit bytes events (Err Memory) = GrowthRefused

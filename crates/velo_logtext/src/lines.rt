@@ -1,6 +1,7 @@
 //! The lines of a log, read from the front of bytes.
-ghost use Rattle.std.specs.Prelude.{◌≡◌, option_map};
-ghost use Rattle.velo_logtext.specs.Reading.{access_at, thread_kind_at, block_kind_at, lock_kind_at, kind_at, event_at, header_at};
+ghost use Rattle.std.specs.Prelude.{◌≡◌, false, not, option_map};
+ghost use Rattle.velo_logtext.specs.Text.{has_kind};
+ghost use Rattle.velo_logtext.specs.Reading.{access_at, thread_kind_at, block_kind_at, share_kind_at, lock_kind_at, kind_at, event_at, event_in, bounds_at, header_at};
 
 use crate::numbers::{number, spaced_number};
 use crate::words::after;
@@ -52,6 +53,23 @@ fn block_kind(bytes: &[u8]) -> Option<(Kind, &[u8])>
     thread_kind(bytes)
 }
 
+/// A shared acquire or a shared release, or one of the above.
+#[inline(always)]
+#[tactic(auto, unfolding(crate::specs::Reading::share_kind_at))]
+fn share_kind(bytes: &[u8]) -> Option<(Kind, &[u8])>
+    ensures { option_map (λ r. (r.0, r.1.now)) result ≡ share_kind_at bytes.now }
+{
+    if let Some(rest) = after(bytes, b"acqs ") {
+        let (m, rest) = number(rest, 65_535)?;
+        return Some((Kind::AcquireShared(LockId(m as u16)), rest));
+    }
+    if let Some(rest) = after(bytes, b"rels ") {
+        let (m, rest) = number(rest, 65_535)?;
+        return Some((Kind::ReleaseShared(LockId(m as u16)), rest));
+    }
+    block_kind(bytes)
+}
+
 /// An acquire or a release, or one of the above.
 #[inline(always)]
 #[tactic(auto, unfolding(crate::specs::Reading::lock_kind_at))]
@@ -66,7 +84,7 @@ fn lock_kind(bytes: &[u8]) -> Option<(Kind, &[u8])>
         let (m, rest) = number(rest, 65_535)?;
         return Some((Kind::Release(LockId(m as u16)), rest));
     }
-    block_kind(bytes)
+    share_kind(bytes)
 }
 
 /// Any operation.
@@ -89,7 +107,7 @@ fn kind(bytes: &[u8]) -> Option<(Kind, &[u8])>
 /// The event whose line stands at the front, and the bytes after its newline.
 #[inline(always)]
 #[tactic(auto, unfolding(crate::specs::Reading::event_at))]
-pub fn event(bytes: &[u8]) -> Option<(Event, &[u8])>
+fn any_event(bytes: &[u8]) -> Option<(Event, &[u8])>
     ensures { option_map (λ r. (r.0, r.1.now)) result ≡ event_at bytes.now }
 {
     let (t, rest) = number(bytes, 255)?;
@@ -100,13 +118,31 @@ pub fn event(bytes: &[u8]) -> Option<(Event, &[u8])>
     Some((Event { thread, kind }, next))
 }
 
-/// The bounds whose header stands at the front, and the bytes after its newline.
-#[tactic(auto, unfolding(crate::specs::Reading::header_at))]
-pub fn header(bytes: &[u8]) -> Option<(Bounds, &[u8])>
-    ensures { option_map (λ r. (r.0, r.1.now)) result ≡ header_at bytes.now }
+/// Whether the operation is a shared one.
+fn is_shared(kind: Kind) -> bool
+    ensures { has_kind false kind ≡ not result }
 {
-    let rest = after(bytes, b"vlog 1 ")?;
-    let (threads, rest) = spaced_number(rest, u64::from(MOST_THREADS))?;
+    matches!(kind, Kind::AcquireShared(_) | Kind::ReleaseShared(_))
+}
+
+/// The event of a version, which has shared operations or not.
+#[tactic(auto, unfolding(crate::specs::Reading::event_in))]
+pub fn event(bytes: &[u8], shares: bool) -> Option<(Event, &[u8])>
+    ensures { option_map (λ r. (r.0, r.1.now)) result ≡ event_in shares bytes.now }
+{
+    let (event, rest) = any_event(bytes)?;
+    if !shares && is_shared(event.kind) {
+        return None;
+    }
+    Some((event, rest))
+}
+
+/// What follows the version in a header, and the bytes after its newline.
+#[tactic(auto, unfolding(crate::specs::Reading::bounds_at))]
+fn bounds(bytes: &[u8], shares: bool) -> Option<(bool, Bounds, &[u8])>
+    ensures { option_map (λ r. ((r.0, r.1), r.2.now)) result ≡ bounds_at shares bytes.now }
+{
+    let (threads, rest) = spaced_number(bytes, u64::from(MOST_THREADS))?;
     let (variables, rest) = spaced_number(rest, 65_535)?;
     let (locks, rest) = number(rest, u64::from(MOST_LOCKS))?;
     let rest = after(rest, b"\n")?;
@@ -118,5 +154,17 @@ pub fn header(bytes: &[u8]) -> Option<(Bounds, &[u8])>
         variables: variables as u16,
         locks: locks as u16,
     };
-    Some((bounds, rest))
+    Some((shares, bounds, rest))
+}
+
+/// Whether the header at the front is of a version with shared operations, its bounds, and the bytes after its newline.
+#[tactic(auto, unfolding(crate::specs::Reading::header_at))]
+pub fn header(bytes: &[u8]) -> Option<(bool, Bounds, &[u8])>
+    ensures { option_map (λ r. ((r.0, r.1), r.2.now)) result ≡ header_at bytes.now }
+{
+    if let Some(rest) = after(bytes, b"vlog 2 ") {
+        return bounds(rest, true);
+    }
+    let rest = after(bytes, b"vlog 1 ")?;
+    bounds(rest, false)
 }

@@ -5,7 +5,7 @@ ghost use Rattle.velo_events.specs.Refusals.{GrowthRefused};
 ghost use Rattle.velo_events.specs.declared.limits.TheConstants.{MOST_EVENTS};
 ghost use Rattle.velo_logtext.specs.declared.fault.LogFault.TheVariants as log_fault;
 ghost use Rattle.velo_logtext.specs.Device.{one_more};
-ghost use Rattle.velo_logtext.specs.Text.{AreBounds, AreEvents, event_lines};
+ghost use Rattle.velo_logtext.specs.Text.{AreBounds, AreEvents, AreEventsIn, event_lines};
 ghost use Rattle.velo_logtext.specs.Finding.{Finding, Stands, Answers, IsFindingOrFailure, finding_of, failures_after};
 ghost use Rattle.velo_logtext.specs.Window.{margin, IsReason, judged, LinesGive};
 
@@ -37,13 +37,19 @@ pub enum Stop {
 
 /// Takes the events whose lines stand at the front. Where more bytes may come, a rest that could be
 /// less than a line is left alone.
-fn take_events<'a>(bytes: &'a [u8], last: bool, limit: usize, trace: &mut Trace) -> (&'a [u8], Stop)
+fn take_events<'a>(
+    bytes: &'a [u8],
+    shares: bool,
+    last: bool,
+    limit: usize,
+    trace: &mut Trace,
+) -> (&'a [u8], Stop)
     requires { length trace.old.events ≤ limit }
     ensures stream { event_lines trace.new.events ++ result.0.now ≡ event_lines trace.old.events ++ bytes.now }
-    ensures fit { AreEvents trace.old.events → AreEvents trace.new.events }
+    ensures fit { AreEventsIn shares trace.old.events → AreEventsIn shares trace.new.events }
     ensures few { length trace.new.events ≤ limit }
     ensures shorter { length result.0.now ≤ length bytes.now }
-    ensures stop { IsReason limit last (length trace.new.events) result.0.now result.1 }
+    ensures stop { IsReason shares limit last (length trace.new.events) result.0.now result.1 }
     ensures progress { margin last < length bytes.now → result.1 ≡ Stop.Short → length trace.old.events < length trace.new.events }
 {
     let kept = if last { 0 } else { LONGEST_LINE };
@@ -52,7 +58,7 @@ fn take_events<'a>(bytes: &'a [u8], last: bool, limit: usize, trace: &mut Trace)
         if trace.len() == limit {
             return (rest, Stop::Full);
         }
-        let Some((event, after)) = event(rest) else {
+        let Some((event, after)) = event(rest, shares) else {
             return (rest, Stop::NoEvent);
         };
         if trace.reserve_one().is_err() {
@@ -126,6 +132,7 @@ fn read_events<S: Source>(
     source: &mut S,
     buffer: &mut [u8],
     filled: Filled,
+    shares: bool,
     limit: usize,
     trace: &mut Trace,
 ) -> Result<(), LogFault>
@@ -134,8 +141,8 @@ fn read_events<S: Source>(
     requires known_end { IsTrue filled.last → IsAtEnd (S.remaining source.old) }
     requires few { length trace.old.events ≤ limit }
     requires small { limit ≤ MOST_EVENTS }
-    ensures found { IfSome (prepend_known (event_lines trace.old.events ++ take filled.end buffer.old) (S.remaining source.old)) (λ bytes. LinesGive limit bytes trace.new.events result) }
-    ensures fit { AreEvents trace.old.events → AreEvents trace.new.events }
+    ensures found { IfSome (prepend_known (event_lines trace.old.events ++ take filled.end buffer.old) (S.remaining source.old)) (λ bytes. LinesGive shares limit bytes trace.new.events result) }
+    ensures fit { AreEventsIn shares trace.old.events → AreEventsIn shares trace.new.events }
     ensures few { length trace.new.events ≤ limit }
     ensures end { OnOk result (IsAtEnd (S.remaining source.new)) }
     ensures failures { S.failures source.new ≡ failures_after result (S.failures source.old) }
@@ -144,7 +151,7 @@ fn read_events<S: Source>(
     let mut filled = filled;
     loop {
         filled = fill(source, buffer, filled)?;
-        let (rest, stop) = take_events(&buffer[..filled.end], filled.last, limit, trace);
+        let (rest, stop) = take_events(&buffer[..filled.end], shares, filled.last, limit, trace);
         let left = rest.len();
         judge(stop, rest, trace.len() + 2)?;
         if filled.last {
@@ -178,7 +185,7 @@ fn read_up_to<S: Source>(
         last: false,
     };
     let filled = fill(source, buffer, nothing)?;
-    let Some((bounds, rest)) = header(&buffer[..filled.end]) else {
+    let Some((shares, bounds, rest)) = header(&buffer[..filled.end]) else {
         return Err(LogFault::BadHeader);
     };
     let left = rest.len();
@@ -188,7 +195,7 @@ fn read_up_to<S: Source>(
         end: left,
         last: filled.last,
     };
-    read_events(source, buffer, filled, limit, &mut trace)?;
+    read_events(source, buffer, filled, shares, limit, &mut trace)?;
     Ok((bounds, trace))
 }
 

@@ -1,5 +1,5 @@
 //! Writing a log to a sink.
-ghost use Rattle.std.specs.Prelude.{◌≡◌, ◌≤◌, ◌+◌, ◌++◌, length, take, decimal, OnOk, OnErr};
+ghost use Rattle.std.specs.Prelude.{◌≡◌, ◌≤◌, ◌+◌, ◌++◌, true, length, take, decimal, OnOk, OnErr};
 ghost use Rattle.std.specs.Io.KnownBytes.{Appends};
 ghost use Rattle.velo_events.specs.declared.limits.TheConstants.{MOST_EVENTS};
 ghost use Rattle.velo_logtext.specs.Device.{one_more, AppendsBeginning};
@@ -45,6 +45,8 @@ pub fn put_kind(buffer: &mut [u8], at: usize, kind: Kind) -> usize
         }
         Kind::Acquire(m) => put_word(buffer, at, b"acq ", u64::from(m.0)),
         Kind::Release(m) => put_word(buffer, at, b"rel ", u64::from(m.0)),
+        Kind::AcquireShared(m) => put_word(buffer, at, b"acqs ", u64::from(m.0)),
+        Kind::ReleaseShared(m) => put_word(buffer, at, b"rels ", u64::from(m.0)),
         Kind::Begin(label) => put_word(buffer, at, b"begin ", u64::from(label.0)),
         Kind::End => put_bytes(buffer, at, b"end"),
         Kind::Fork(u) => put_word(buffer, at, b"fork ", u64::from(u.0)),
@@ -71,10 +73,10 @@ fn put_event(buffer: &mut [u8], at: usize, event: Event) -> usize
 #[tactic(auto, unfolding(crate::specs::Text::header_line))]
 fn put_header(buffer: &mut [u8], bounds: Bounds) -> usize
     requires { 90 ≤ length buffer.old }
-    ensures text { take result buffer.new ≡ header_line bounds }
+    ensures text { take result buffer.new ≡ header_line (true, bounds) }
     ensures end { result ≤ 90 }
 {
-    let at = put_bytes(buffer, 0, b"vlog 1 ");
+    let at = put_bytes(buffer, 0, b"vlog 2 ");
     let at = put_number(buffer, at, u64::from(bounds.threads));
     let at = put_word(buffer, at, b" ", u64::from(bounds.variables));
     let at = put_word(buffer, at, b" ", u64::from(bounds.locks));

@@ -7,7 +7,7 @@ use Rattle.velo_monitor.specs.declared.monitor.Seen.TheVariants.{Quiet, Closes}
 use Rattle.velo_events.specs.declared.config.Bounds.{Bounds}
 use Rattle.velo_events.specs.declared.event.Event.{Event}
 use Rattle.velo_events.specs.declared.event.Kind.{Kind}
-use Rattle.velo_events.specs.declared.event.Kind.TheVariants.{Read, Write, Acquire, Release, Begin, End, Fork, Join, Exit}
+use Rattle.velo_events.specs.declared.event.Kind.TheVariants.{Begin, End}
 use Rattle.velo_events.specs.Event.{thread_of, is_begin, is_end}
 use Rattle.velo_events.specs.Heap.{depth_in}
 use Rattle.velo_events.specs.WellFormed.{IsWellFormed, MayFollow}
@@ -124,13 +124,7 @@ module _ (bounds : Bounds) (w : Watched) (trace : List Event) (e : Event) (stand
         goes-on (slice_set w.depths (thread_of e) (depth_of extended (thread_of e) + 1)) same.0 same.1 (depths-begun bounds trace e stands.well_formed follows w.depths stands.depths begun)
         (let after = depth-begun bounds trace e stands.well_formed follows begun in omega (arith, after))
     counted End is inner = ending (ap is_end is) inner
-    counted (Read x v) is same = other (ap is_begin is) (ap is_end is) same
-    counted (Write x v) is same = other (ap is_begin is) (ap is_end is) same
-    counted (Acquire m) is same = other (ap is_begin is) (ap is_end is) same
-    counted (Release m) is same = other (ap is_begin is) (ap is_end is) same
-    counted (Fork u) is same = other (ap is_begin is) (ap is_end is) same
-    counted (Join u) is same = other (ap is_begin is) (ap is_end is) same
-    counted Exit is same = other (ap is_begin is) (ap is_end is) same
+    counted k is same = other (ap is_begin is) (ap is_end is) same
 
     seen-extending : IsSeen bounds w trace e Quiet new
     seen-extending = (acyclic, counted e.kind refl extends.blocks)

@@ -4,10 +4,10 @@ use Rattle.std.specs.Prelude.{IsTrue, ◌↔◌, ◌&&◌, ◌||◌, not, ◌==�
 use Rattle.std.specs.List.{cons_option, filter_map, list_any}
 use Rattle.std.proofs.lemmas.Bool.{eqb-true}
 use Rattle.velo_events.specs.declared.event.Event.{Event}
-use Rattle.velo_events.specs.declared.event.Kind.{Kind}
-use Rattle.velo_events.specs.declared.event.Kind.TheVariants.{Write}
-use Rattle.velo_events.specs.declared.event.VarId.{VarId}
-use Rattle.velo_events.specs.Event.{thread_of}
+use Rattle.velo_events.specs.declared.event.Access.{Access}
+use Rattle.velo_events.specs.declared.event.Access.TheVariants.{Exclusive}
+use Rattle.velo_events.specs.declared.event.Cell.{Cell}
+use Rattle.velo_events.specs.Event.{access_of, thread_of}
 use Rattle.velo_arena.specs.declared.step.Step.{Step}
 use Rattle.velo_arena.specs.Slots.{bears}
 use Rattle.velo_graph.specs.Nodes.{Nodes, is_ancestor, reaches, leads_on, AddsEdges}
@@ -93,23 +93,23 @@ module _ {X : Type 0} (nodes : Nodes) (slot : ℕ) (f : X → Option Step) where
 
 -- ---- a write
 
-module _ (nodes : Nodes) (kept : Kept) (e : Event) (own : Step) (x : VarId) (v : ℕ) (writes : e.kind ≡ Write x v) (current : entry kept (LastOf (thread_of e)) ≡ Some own) where
+module _ (nodes : Nodes) (kept : Kept) (e : Event) (own : Step) (c : Cell) (writes : access_of e.kind ≡ Exclusive c) (current : entry kept (LastOf (thread_of e)) ≡ Some own) where
   abbrev looked : List Step
-  looked = filter_map (entry kept) (LastWrite x.0 ∷ map (LastRead x.0) thread_numbers)
+  looked = filter_map (entry kept) (LastWrite c.0 ∷ map (LastRead c.0) thread_numbers)
 
   looked-up : steps_looked_up kept e ≡ own ∷ looked
   unfolding steps_looked_up
   looked-up =
-      ap (λ (k : Kind). filter_map (entry kept) (LastOf (thread_of e) ∷ also_looked_up k)) writes
+      ap (λ (a : Access). filter_map (entry kept) (LastOf (thread_of e) ∷ also_looked_up a)) writes
       ∙ ap (λ o. cons_option o looked) current
 
-  pub closes-write : (b : Bool) → IsTrue b ↔ ReachesSome nodes own.slot (accesses_but_for kept x.0 own.slot) → IsTrue b ↔ ReachesSome nodes own.slot (steps_looked_up kept e)
+  pub closes-write : (b : Bool) → IsTrue b ↔ ReachesSome nodes own.slot (accesses_but_for kept c.0 own.slot) → IsTrue b ↔ ReachesSome nodes own.slot (steps_looked_up kept e)
   unfolding accesses_but_for
   closes-write b closes =
-      let others = reaches-others nodes own.slot (entry kept) (LastWrite x.0 ∷ map (LastRead x.0) thread_numbers) in
+      let others = reaches-others nodes own.slot (entry kept) (LastWrite c.0 ∷ map (LastRead c.0) thread_numbers) in
       closes-all nodes own looked (steps_looked_up kept e) b looked-up ((λ yes. others.0 (closes.0 yes)), (λ some. closes.1 (others.1 some)))
 
-  pub adds-write : (new : Nodes) → Bears nodes own.slot own.stamp → AddsEdges nodes new (live_slots nodes (accesses_but_for kept x.0 own.slot)) own.slot → AddsEdges nodes new (live_slots nodes (steps_looked_up kept e)) own.slot
+  pub adds-write : (new : Nodes) → Bears nodes own.slot own.stamp → AddsEdges nodes new (live_slots nodes (accesses_but_for kept c.0 own.slot)) own.slot → AddsEdges nodes new (live_slots nodes (steps_looked_up kept e)) own.slot
   unfolding accesses_but_for
   adds-write new borne adds =
-      adds-all nodes own looked new (steps_looked_up kept e) looked-up borne (adds-others nodes own.slot (entry kept) new (LastWrite x.0 ∷ map (LastRead x.0) thread_numbers) adds)
+      adds-all nodes own looked new (steps_looked_up kept e) looked-up borne (adds-others nodes own.slot (entry kept) new (LastWrite c.0 ∷ map (LastRead c.0) thread_numbers) adds)

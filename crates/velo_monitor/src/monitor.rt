@@ -30,7 +30,7 @@ use std::marker::Model;
 use velo_arena::Step;
 use velo_collect::{Freed, collect};
 use velo_events::growth::filled;
-use velo_events::{Config, Event, Kind, Memory, ThreadId, VarId};
+use velo_events::{Access, Cell, Config, Event, Kind, Memory, ThreadId};
 use velo_graph::Graph;
 use velo_merge::{Placed, place};
 use velo_rows::BitRow;
@@ -214,40 +214,40 @@ impl Monitor {
         }
     }
 
-    /// Forgets what a write need not look up: the last reads of its variable whose nodes are gone.
+    /// Forgets what a write need not look up: the last reads of its cell whose nodes are gone.
     fn forget_dead(&mut self, event: &Event)
         ensures forgets { ForgetsDead self.old.nodes self.old.kept self.new.kept }
         ensures nodes { self.new.nodes ≡ self.old.nodes }
         ensures depths { self.new.depths ≡ self.old.depths }
     {
-        if let Kind::Write(x, _) = event.kind {
-            self.forget_dead_reads(x);
+        if let Access::Exclusive(cell) = event.kind.access() {
+            self.forget_dead_reads(cell);
         }
     }
 
-    /// Forgets those last reads of a variable whose nodes are gone, so that no later write looks them up.
-    fn forget_dead_reads(&mut self, x: VarId)
+    /// Forgets those last reads of a cell whose nodes are gone, so that no later write looks them up.
+    fn forget_dead_reads(&mut self, cell: Cell)
         ensures forgets { ForgetsDead self.old.nodes self.old.kept self.new.kept }
         ensures nodes { self.new.nodes ≡ self.old.nodes }
         ensures depths { self.new.depths ≡ self.old.depths }
     {
-        let mut rest = self.tables.readers(x);
+        let mut rest = self.tables.readers(cell);
         while rest != 0 {
-            self.forget_dead_read(x, ThreadId(rest.trailing_zeros() as u8));
+            self.forget_dead_read(cell, ThreadId(rest.trailing_zeros() as u8));
             rest &= rest - 1;
         }
     }
 
-    /// Forgets the last read of a variable by the thread, if its node is gone.
-    fn forget_dead_read(&mut self, x: VarId, t: ThreadId)
+    /// Forgets the last read of a cell by the thread, if its node is gone.
+    fn forget_dead_read(&mut self, cell: Cell, t: ThreadId)
         ensures forgets { ForgetsDead self.old.nodes self.old.kept self.new.kept }
         ensures nodes { self.new.nodes ≡ self.old.nodes }
         ensures depths { self.new.depths ≡ self.old.depths }
     {
-        if let Some(step) = self.tables.last_read(x, t)
+        if let Some(step) = self.tables.last_read(cell, t)
             && self.graph.resolve(step).is_none()
         {
-            self.tables.forget_read(x, t);
+            self.tables.forget_read(cell, t);
         }
     }
 
@@ -303,8 +303,8 @@ impl Monitor {
         ensures depths { self.new.depths ≡ self.old.depths }
         ensures sound { IsSound self.new.nodes }
     {
-        match event.kind {
-            Kind::Write(x, _) => self.closes_or_follows(x, own),
+        match event.kind.access() {
+            Access::Exclusive(cell) => self.closes_or_follows(cell, own),
             _ => match self.tables.step_beside(event) {
                 Some(step) => closes_or_adds(&mut self.graph, step, own.slot),
                 None => false,
@@ -312,19 +312,19 @@ impl Monitor {
         }
     }
 
-    /// Adds the edges from the nodes of the variable's last accesses but the own one into this, unless one of them closes a
+    /// Adds the edges from the nodes of the cell's last accesses but the own one into this, unless one of them closes a
     /// cycle.
-    fn closes_or_follows(&mut self, x: VarId, own: Step) -> bool
+    fn closes_or_follows(&mut self, cell: Cell, own: Step) -> bool
         requires borne { Bears self.old.nodes own.slot own.stamp }
         requires sound { IsSound self.old.nodes }
-        ensures closes { IsTrue result ↔ ReachesSome self.old.nodes own.slot (accesses_but_for self.old.kept x.0 own.slot) }
+        ensures closes { IsTrue result ↔ ReachesSome self.old.nodes own.slot (accesses_but_for self.old.kept cell.0 own.slot) }
         ensures same { IsTrue result → self.new ≡ self.old }
-        ensures adds { IsFalse result → AddsEdges self.old.nodes self.new.nodes (live_slots self.old.nodes (accesses_but_for self.old.kept x.0 own.slot)) own.slot }
+        ensures adds { IsFalse result → AddsEdges self.old.nodes self.new.nodes (live_slots self.old.nodes (accesses_but_for self.old.kept cell.0 own.slot)) own.slot }
         ensures kept { self.new.kept ≡ self.old.kept }
         ensures depths { self.new.depths ≡ self.old.depths }
         ensures sound { IsSound self.new.nodes }
     {
-        self.tables.accesses_into(x, own.slot, &mut self.steps);
+        self.tables.accesses_into(cell, own.slot, &mut self.steps);
         if reaches_some(&self.graph, own.slot, &self.steps) {
             return true;
         }
@@ -400,7 +400,7 @@ impl Monitor {
         ensures outside { AfterOutside self.old position event.now self.new }
         ensures limit { limit_of self.new.nodes.slots ≡ limit_of self.old.nodes.slots }
     {
-        let step = if let Kind::Write(..) = event.kind {
+        let step = if let Access::Exclusive(_) = event.kind.access() {
             self.tables.predecessors_into(event, &mut self.steps);
             place_operation(&mut self.graph, &self.steps, position)
         } else {

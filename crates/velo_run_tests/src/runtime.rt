@@ -24,6 +24,8 @@ const MAIN: ThreadId = ThreadId(0);
 
 const OTHER: ThreadId = ThreadId(1);
 
+const THIRD: ThreadId = ThreadId(2);
+
 /// So many threads, a variable more than threads, and a lock more than variables.
 fn config(run: u64, threads: u8, events: u32, stop: bool) -> Result<Config, BadConfig> {
     let variables = u16::from(threads) + 1;
@@ -192,6 +194,40 @@ const RELEASE_AND_EXIT: Case = Case {
     alarm: None,
 };
 
+/// Two threads share a lock. The release of a share wakes a thread that waits for the lock alone, and a release one that waits
+/// for a share.
+const SHARES: Case = Case {
+    stop: false,
+    first: &[
+        Step::Do(Action::AcquireShared(LOCK), DONE),
+        Step::At(4),
+        Step::IsAwaited,
+        Step::Do(Action::ReleaseShared(LOCK), DONE),
+        Step::At(6),
+        Step::Do(Action::AcquireShared(LOCK), DONE),
+    ],
+    second: &[
+        Step::At(2),
+        Step::Do(Action::AcquireShared(LOCK), DONE),
+        Step::Do(Action::ReleaseShared(LOCK), DONE),
+        Step::Do(Action::Acquire(LOCK), DONE),
+        Step::IsAwaited,
+        Step::Do(Action::Release(LOCK), DONE),
+        Step::At(8),
+    ],
+    log: &[
+        (MAIN, Kind::Fork(OTHER)),
+        (MAIN, Kind::AcquireShared(LOCK)),
+        (OTHER, Kind::AcquireShared(LOCK)),
+        (OTHER, Kind::ReleaseShared(LOCK)),
+        (MAIN, Kind::ReleaseShared(LOCK)),
+        (OTHER, Kind::Acquire(LOCK)),
+        (OTHER, Kind::Release(LOCK)),
+        (MAIN, Kind::AcquireShared(LOCK)),
+    ],
+    alarm: None,
+};
+
 /// A halt wakes a thread that waits.
 const HALT: Case = Case {
     stop: false,
@@ -245,6 +281,8 @@ fn call<R: Wait>(rt: &R, shared: &Shared, seat: &mut Seat, action: Action) -> Ou
         Action::Write(x, value) => seat.write(rt, shared, x, value)?,
         Action::Acquire(lock) => seat.acquire(rt, shared, lock)?,
         Action::Release(lock) => seat.release(rt, shared, lock)?,
+        Action::AcquireShared(lock) => seat.acquire_shared(rt, shared, lock)?,
+        Action::ReleaseShared(lock) => seat.release_shared(rt, shared, lock)?,
         Action::Begin(label) => seat.begin(rt, shared, label)?,
         Action::End => seat.end(rt, shared)?,
         Action::Fork(_) => return Err(Refusal::AlreadyForked),
@@ -379,7 +417,7 @@ fn close_both(
 
 #[test]
 fn two_threads(rt: HostRuntime) {
-    for case in [LOST_UPDATE, RELEASE_AND_EXIT, HALT, HALT_AT_ALARM] {
+    for case in [LOST_UPDATE, RELEASE_AND_EXIT, SHARES, HALT, HALT_AT_ALARM] {
         let outcome = play(&rt, rt.alloc(), &case).ok();
         assert_eq!(rt; outcome, Some(((None, None), true)));
     }
@@ -537,10 +575,11 @@ type Answer = Result<Option<usize>, Refusal>;
 
 const WAITS: Answer = Ok(None);
 
-/// A run of two threads, the actions of its seats in one hold, and what the room tells at the end. The first seat is there
-/// from the start, the second is that of another run, and a fork gives the third.
+/// A run, the actions of its seats in one hold, and what the room tells at the end. The first seat is there from the start, the
+/// second is that of another run, and a fork gives each that follows.
 #[derive(Clone, Copy)]
 struct Hold<'a> {
+    threads: u8,
     events: u32,
     stop: bool,
     steps: &'a [(usize, Action, Answer)],
@@ -549,6 +588,7 @@ struct Hold<'a> {
 }
 
 const CONFIGURED: Hold = Hold {
+    threads: 2,
     events: 5,
     stop: false,
     steps: &[
@@ -570,6 +610,7 @@ const CONFIGURED: Hold = Hold {
 
 /// The world stops at its alarm, and halted goes before all but foreign.
 const HALTED: Hold = Hold {
+    threads: 2,
     events: 100,
     stop: true,
     steps: &[
@@ -590,6 +631,7 @@ const HALTED: Hold = Hold {
 
 /// Nobody waits for a thread that waits for it, and who has acquired a lock waits no more.
 const TURNS: Hold = Hold {
+    threads: 2,
     events: 100,
     stop: false,
     steps: &[
@@ -606,11 +648,46 @@ const TURNS: Hold = Hold {
     end: (4, false, false),
 };
 
+/// Two threads share a lock, and a third waits for both: neither may wait for it then, and it goes on only once neither shares the
+/// lock. Then both wait for it, and it may not wait for them.
+const SHARERS: Hold = Hold {
+    threads: 3,
+    events: 100,
+    stop: false,
+    steps: &[
+        (0, Action::Fork(OTHER), Ok(Some(0))),
+        (0, Action::Fork(THIRD), Ok(Some(1))),
+        (0, Action::AcquireShared(LOCK), Ok(Some(2))),
+        (2, Action::AcquireShared(LOCK), Ok(Some(3))),
+        (3, Action::Acquire(LOCK), WAITS),
+        (2, Action::Join(THIRD), Err(Refusal::WouldDeadlock)),
+        (0, Action::Join(THIRD), Err(Refusal::WouldDeadlock)),
+        (0, Action::Acquire(LOCK), Err(Refusal::AlreadyHeld)),
+        (0, Action::ReleaseShared(LOCK), Ok(Some(4))),
+        (3, Action::Acquire(LOCK), WAITS),
+        (2, Action::Join(THIRD), Err(Refusal::WouldDeadlock)),
+        (0, Action::Join(THIRD), WAITS),
+        (2, Action::Join(MAIN), Err(Refusal::WouldDeadlock)),
+        (2, Action::ReleaseShared(LOCK), Ok(Some(5))),
+        (3, Action::Acquire(LOCK), Ok(Some(6))),
+        (0, Action::AcquireShared(LOCK), WAITS),
+        (2, Action::AcquireShared(LOCK), WAITS),
+        (3, Action::Join(OTHER), Err(Refusal::WouldDeadlock)),
+        (3, Action::Release(LOCK), Ok(Some(7))),
+        (0, Action::AcquireShared(LOCK), Ok(Some(8))),
+        (2, Action::AcquireShared(LOCK), Ok(Some(9))),
+        (3, Action::Join(OTHER), WAITS),
+    ],
+    end: (10, false, false),
+};
+
 /// An action that is no fork, by the call that is for it.
 fn step_or_turn(room: &mut Room, seat: &mut Seat, action: Action) -> Answer {
     let turn = match action {
         Action::Fork(_) => return Err(Refusal::AlreadyForked),
-        Action::Acquire(_) | Action::Join(_) => turn_in(room, seat, action),
+        Action::Acquire(_) | Action::AcquireShared(_) | Action::Join(_) => {
+            turn_in(room, seat, action)
+        }
         _ => return Ok(Some(step_in(room, seat, action)?.position)),
     };
     match turn {
@@ -665,10 +742,22 @@ fn act_in_hold(
     (other, (room.count_events(), room.is_halted(), has_alarm))
 }
 
+/// Opens a run of so many threads.
+fn open_of(
+    rt: &impl Abort,
+    alloc: Global,
+    run: u64,
+    threads: u8,
+    events: u32,
+    stop: bool,
+) -> (Shared, Seat) {
+    let config = config(run, threads, events, stop).expect(rt, "in range");
+    Shared::open(alloc, config).expect(rt, "memory")
+}
+
 /// Opens a run of two threads.
 fn open(rt: &impl Abort, alloc: Global, run: u64, events: u32, stop: bool) -> (Shared, Seat) {
-    let config = config(run, 2, events, stop).expect(rt, "in range");
-    Shared::open(alloc, config).expect(rt, "memory")
+    open_of(rt, alloc, run, 2, events, stop)
 }
 
 /// Does the actions of a hold in a run of its own, with the seat of another run as the second one.
@@ -679,7 +768,7 @@ fn held(
 ) -> (Option<usize>, (usize, bool, bool)) {
     let (foreign_shared, foreign) = open(rt, alloc, 2, 100, false);
     drop(foreign_shared);
-    let (shared, first) = open(rt, alloc, 1, hold.events, hold.stop);
+    let (shared, first) = open_of(rt, alloc, 1, hold.threads, hold.events, hold.stop);
     let mut seats = vec![in alloc; first, foreign].expect(rt, "memory");
     let answered = act_in_hold(rt, &shared, &mut seats, hold);
     drop((shared, seats));
@@ -688,7 +777,7 @@ fn held(
 
 #[test]
 fn one_hold_of_a_room(rt: HostRuntime) {
-    for hold in [CONFIGURED, HALTED, TURNS] {
+    for hold in [CONFIGURED, HALTED, TURNS, SHARERS] {
         assert_eq!(rt; held(&rt, rt.alloc(), &hold), (None, hold.end));
     }
 }

@@ -98,6 +98,33 @@ const WAITS_LOG: [Event; 7] = [
     by!(OTHER, Kind::Exit),
 ];
 
+/// Two threads share a lock at the same time.
+const SHARE: &str =
+    "var x\nlock m\nthread main\nfork a\nshare m\nread x\nunshare m\njoin a\nthread a\nshare m\nread x\nunshare m";
+
+const SHARE_LOG: [Event; 10] = [
+    by!(MAIN, Kind::Fork(OTHER)),
+    by!(OTHER, Kind::AcquireShared(M)),
+    by!(MAIN, Kind::AcquireShared(M)),
+    by!(OTHER, Kind::Read(X, 0)),
+    by!(MAIN, Kind::Read(X, 0)),
+    by!(OTHER, Kind::ReleaseShared(M)),
+    by!(MAIN, Kind::ReleaseShared(M)),
+    by!(OTHER, Kind::Exit),
+    by!(MAIN, Kind::Join(OTHER)),
+    by!(MAIN, Kind::Exit),
+];
+
+/// A lock that is shared, and one that is not, taken in opposite orders.
+const OPPOSITE_SHARE: &str =
+    "lock m\nlock n\nthread main\nfork a\nshare m\nacquire n\nrelease n\nunshare m\nthread a\nacquire n\nacquire m\nrelease m\nrelease n";
+
+const OPPOSITE_SHARE_LOG: [Event; 3] = [
+    by!(MAIN, Kind::Fork(OTHER)),
+    by!(MAIN, Kind::AcquireShared(M)),
+    by!(OTHER, Kind::Acquire(N)),
+];
+
 /// Repeats in a repeat, one of them done no time.
 const NESTED: &str =
     "var x\nthread main\nrepeat 2\nadd 1\nrepeat 0\nwrite x\ndone\nrepeat 3\nadd 10\ndone\nwrite x\ndone";
@@ -166,6 +193,22 @@ fn workloads_run_by_their_schedules(rt: HostRuntime) -> Result<(), Fail> {
             OPPOSITE_SCHEDULE.as_slice(),
             false,
             OPPOSITE_LOG.as_slice(),
+            [(0, 0), (0, 0)].as_slice(),
+            Ending::Stuck,
+        ),
+        (
+            SHARE,
+            [].as_slice(),
+            false,
+            SHARE_LOG.as_slice(),
+            [(0, 0), (0, 0)].as_slice(),
+            Ending::Done,
+        ),
+        (
+            OPPOSITE_SHARE,
+            OPPOSITE_SCHEDULE.as_slice(),
+            false,
+            OPPOSITE_SHARE_LOG.as_slice(),
             [(0, 0), (0, 0)].as_slice(),
             Ending::Stuck,
         ),

@@ -1,171 +1,119 @@
--- Chains of waits: how they go on, and that a short one is enough.
-use Rattle.std.proofs.Common.{◌≡◌, ◌≢◌, ℕ, ◌+◌, ◌<◌, ◌≤◌, ◌⊎◌, inl, inr, ⊎_elim, refl, ap, ◌∙◌, sym, subst, Bool, true, false, List, [], ◌∷◌, length, set, get_or, arith, cond}
-use Rattle.std.specs.Prelude.{⊤, Option, Some, None, slice_get, count_by, ◌↔◌}
-use Rattle.std.proofs.lemmas.Bool.{cases_eq}
-use Rattle.std.proofs.lemmas.List.Sums.{sum_by-set, count_by-le-length}
-use Rattle.std.proofs.lemmas.Option.{slice_get_within, get_or_from_slice_get, same_Some}
+-- Chains of waits, and the search for all threads that they lead to.
+use Rattle.std.proofs.Common.{◌≡◌, ℕ, ◌+◌, ◌*◌, ◌%◌, ◌^◌, ◌<◌, ◌≤◌, sym, ap, ◌∙◌, subst, Bool, List, [], ◌∷◌, ◌++◌, arith, ⊎_elim}
+use Rattle.std.specs.Prelude.{◌==◌, Option, Some, IsTrue, ◌↔◌}
+use Rattle.std.specs.Int.{bit_at, bit_not, trailing_zeros}
+use Rattle.std.specs.Int.RustNames.{bit_or}
+use Rattle.std.specs.Int.Bits.{bit_and}
+use mir.Syntax.{w64}
+use Rattle.std.proofs.lemmas.Bool.{cases_eq, cases_lt, eqb-true, eq-eqb}
+use Rattle.std.proofs.lemmas.Nat.{le_or_l, and_le_l}
+use Rattle.std.proofs.lemmas.Nat.Bits.{bit_at-zero, bit_at-lt, bit_at_above, bit_at_and, bit_at_not, bit_at_set_same, bit_at_set_other, bit_at-trailing_zeros}
 use Rattle.velo_events.specs.declared.event.Event.{Event}
 use Rattle.velo_events.specs.Waits.{ChainToCaller, ComesBack}
-use Rattle.velo_ledger.proofs.Places.{slice_get-set_other}
 use Rattle.velo_runtime.specs.declared.wait.Wanted.{Wanted}
-use Rattle.velo_runtime.specs.Waits.{leads_to, wait_of, stands_at}
+use Rattle.velo_runtime.specs.Waits.{Leads, wait_of}
+use Rattle.velo_runtime.specs.Masks.{AreLeads, AreNextLeads}
+use Rattle.velo_runtime.proofs.OnMasks.{is_in_one, is_in_left, is_in_right}
 
--- ---- lists of threads without repetition
+-- ---- bits of what is left
 
-abbrev IsIn : ℕ → List ℕ → Type 0
-IsIn t [] = ⊥
-IsIn t (u ∷ us) = (t ≡ u) ⊎ IsIn t us
+-- a thread of those that are left
+is_left : (reached done t : ℕ) → done < 2 ^ 64 → t < 64 → bit_at (bit_and reached (bit_not w64 done)) t ≡ 1 → (bit_at reached t ≡ 1) × (bit_at done t ≡ 0)
+is_left reached done t small within is =
+    let both = bit_at_and reached (bit_not w64 done) t in
+    let off = bit_at_not w64 done t small within in
+    let one = bit_at-lt reached t in
+    (omega (arith, is, both, off, one), omega (arith, is, both, off))
 
-abbrev AreApart : List ℕ → Type 0
-AreApart [] = ⊤
-AreApart (t ∷ ts) = (IsIn t ts → ⊥) × AreApart ts
+-- the least of them
+pub least_left : (reached done t : ℕ) → reached < 2 ^ 64 → done < 2 ^ 64 → 0 < bit_and reached (bit_not w64 done) → t ≡ trailing_zeros w64 (bit_and reached (bit_not w64 done)) → (t < 64) × (bit_at reached t ≡ 1) × (bit_at done t ≡ 0)
+least_left reached done t few small some is =
+    let rest : bit_and reached (bit_not w64 done) < 2 ^ 64 = omega (arith, and_le_l reached (bit_not w64 done), few) in
+    let found = bit_at-trailing_zeros w64 (bit_and reached (bit_not w64 done)) some rest in
+    let within : t < 64 = subst (λ k. k < 64) (sym is) found.0 in
+    let both = is_left reached done t small within (ap (bit_at (bit_and reached (bit_not w64 done))) is ∙ found.1) in
+    (within, both.0, both.1)
 
-abbrev is_wait : Option Wanted → Bool
-is_wait None = false
-is_wait (Some w) = true
+-- nothing is left
+pub none_left : (reached done t : ℕ) → reached < 2 ^ 64 → done < 2 ^ 64 → bit_and reached (bit_not w64 done) ≡ 0 → bit_at reached t ≡ 1 → bit_at done t ≡ 1
+none_left reached done t few small none is =
+    ⊎_elim
+    (λ (within : t < 64).
+    let both = bit_at_and reached (bit_not w64 done) t in
+    let off = bit_at_not w64 done t small within in
+    let clear : bit_at (bit_and reached (bit_not w64 done)) t ≡ 0 = ap (λ n. bit_at n t) none ∙ bit_at-zero t in
+    let one = bit_at-lt done t in
+    omega (arith, is, both, off, clear, one))
+    (λ (above : 64 ≤ t). absurd (let clear = bit_at_above reached 64 t few above in omega (arith, is, clear)))
+    (cases_lt t 64)
 
-abbrev AllWait : List (Option Wanted) → List ℕ → Type 0
-AllWait waits [] = ⊤
-AllWait waits (t ∷ ts) = ((w : Wanted) × (wait_of waits t ≡ Some w)) × AllWait waits ts
-
-still_wait : (waits : List (Option Wanted)) (t : ℕ) (ts : List ℕ) → (IsIn t ts → ⊥) → AllWait waits ts → AllWait (set waits t None) ts
-still_wait waits t [] apart wait = tt
-still_wait waits t (u ∷ us) apart wait =
-    let same : slice_get (set waits t None) u ≡ slice_get waits u = slice_get-set_other waits t u None (λ e. apart (inl e)) in
-    ((wait.0.0, ap stands_at same ∙ wait.0.1), still_wait waits t us (λ h. apart (inr h)) wait.1)
-
-at_place : (o : Option (Option Wanted)) (w : Wanted) → stands_at o ≡ Some w → o ≡ Some (Some w)
-at_place None w h = cc
-at_place (Some wait) w h = ap Some h
-
-one_less : (waits : List (Option Wanted)) (t : ℕ) (w : Wanted) → wait_of waits t ≡ Some w → count_by is_wait (set waits t None) + 1 ≡ count_by is_wait waits
-one_less waits t w waiting =
-    let there : slice_get waits t ≡ Some (Some w) = at_place (slice_get waits t) w waiting in
-    let one : cond {A = ℕ} (is_wait (get_or waits t None)) 1 0 ≡ 1 = ap (λ wait. cond {A = ℕ} (is_wait wait) 1 0) (get_or_from_slice_get waits t (Some w) None there) in
-    let changed = sum_by-set (λ wait. cond {A = ℕ} (is_wait wait) 1 0) waits t None None (slice_get_within waits t (Some w) there) in
-    omega (arith, one, changed)
-
--- there are no more of them than places
-count_apart : (ts : List ℕ) (waits : List (Option Wanted)) → AreApart ts → AllWait waits ts → length ts ≤ count_by is_wait waits
-count_apart [] waits apart wait = omega arith
-count_apart (t ∷ ts) waits apart wait =
-    let less = one_less waits t wait.0.0 wait.0.1 in
-    let rest = count_apart ts (set waits t None) apart.1 (still_wait waits t ts apart.0 wait.1) in
-    omega (arith, less, rest)
+-- a further bit makes a number greater
+pub more_done : (done t : ℕ) → t < 64 → bit_at done t ≡ 0 → done < bit_or done (1 * 2 ^ t % 2 ^ 64)
+more_done done t within clear =
+    ⊎_elim
+    (λ (more : done < bit_or done (1 * 2 ^ t % 2 ^ 64)). more)
+    (λ (less : bit_or done (1 * 2 ^ t % 2 ^ 64) ≤ done).
+    let same : bit_or done (1 * 2 ^ t % 2 ^ 64) ≡ done = omega (arith, less, le_or_l done (1 * 2 ^ t % 2 ^ 64)) in
+    let one : bit_at done t ≡ 1 = sym (ap (λ n. bit_at n t) same) ∙ bit_at_set_same w64 done t within in
+    absurd (omega (arith, one, clear)))
+    (cases_lt done (bit_or done (1 * 2 ^ t % 2 ^ 64)))
 
 -- ---- chains
 
-module _ (log : List Event) (waits : List (Option Wanted)) (caller : ℕ) where
-  abbrev Leads : Wanted → ℕ → Type 0
-  Leads w t = leads_to log w ≡ Some t
+module _ (log : List Event) (waits : List (Option Wanted)) where
+  abbrev Chain : ℕ → Wanted → List ℕ → Type 0
+  Chain caller wanted ts = ChainToCaller (Leads log) (wait_of waits) caller wanted ts
 
-  abbrev Chain : Wanted → List ℕ → Type 0
-  Chain wanted ts = ChainToCaller Leads (wait_of waits) caller wanted ts
+  -- one lead more at its end
+  longer : (wanted : Wanted) (ts : List ℕ) (t u : ℕ) (next : Wanted) → Chain t wanted ts → wait_of waits t ≡ Some next → Leads log next u → Chain u wanted (ts ++ t ∷ [])
+  longer wanted [] t u next chain waiting lead = (chain, (next, waiting, lead))
+  longer wanted (v ∷ vs) t u next chain waiting lead = (chain.0, (chain.1.0, chain.1.1, longer chain.1.0 vs t u next chain.1.2 waiting lead))
 
-  all_wait : (wanted : Wanted) (ts : List ℕ) → Chain wanted ts → AllWait waits ts
-  all_wait wanted [] chain = tt
-  all_wait wanted (t ∷ ts) chain = ((chain.1.0, chain.1.1), all_wait chain.1.0 ts chain.1.2)
+  -- ---- the search
 
-  -- what follows the thread in the chain
-  record After (t : ℕ) : Type 0 where
-    rest : List ℕ
-    next : Wanted
-    waiting : wait_of waits t ≡ Some next
-    chain : Chain next rest
-    fresh : IsIn t rest → ⊥
-    apart : AreApart rest
+  -- chains lead from what is wanted to each thread that is reached; what is wanted leads to threads that are reached, and so does what
+  -- a thread whose wait was followed waits for
+  pub record IsSearch (wanted : Wanted) (reached done : ℕ) : Type 0 where
+    pub sound : (t : ℕ) → bit_at reached t ≡ 1 → ComesBack (Leads log) (wait_of waits) t wanted
+    pub first : (t : ℕ) → Leads log wanted t → bit_at reached t ≡ 1
+    pub next : (t u : ℕ) (w : Wanted) → bit_at done t ≡ 1 → wait_of waits t ≡ Some w → Leads log w u → bit_at reached u ≡ 1
 
-  cut : (t : ℕ) (wanted : Wanted) (ts : List ℕ) → Chain wanted ts → AreApart ts → (IsIn t ts → ⊥) ⊎ After t
-  cut t wanted [] chain apart = inl (λ h. h)
-  cut t wanted (u ∷ us) chain apart = ⊎_elim here (further (cut t chain.1.0 us chain.1.2 apart.1)) (cases_eq t u)
-    where
-      here : t ≡ u → (IsIn t (u ∷ us) → ⊥) ⊎ After t
-      here is = inr (record {
-        rest = us;
-        next = chain.1.0;
-        waiting = subst (λ k. wait_of waits k ≡ Some chain.1.0) (sym is) chain.1.1;
-        chain = chain.1.2;
-        fresh = subst (λ k. IsIn k us → ⊥) (sym is) apart.0;
-        apart = apart.1;
-      })
+  pub IsSearch-start : (wanted : Wanted) (mask : ℕ) → AreLeads log wanted mask → IsSearch wanted mask 0
+  IsSearch-start wanted mask leads = record {
+    sound = λ t is. record { threads = []; chain = leads.each t is };
+    first = leads.every;
+    next = λ t u w is waiting lead. absurd (omega (arith, is, bit_at-zero t));
+  }
 
-      further : (IsIn t us → ⊥) ⊎ After t → (t ≡ u → ⊥) → (IsIn t (u ∷ us) → ⊥) ⊎ After t
-      further rest other = ⊎_elim (λ none. inl (λ h. ⊎_elim other none h)) (λ after. inr after) rest
+  -- the wait of one more thread is followed
+  pub IsSearch-next : (wanted : Wanted) (reached done more t : ℕ) → IsSearch wanted reached done → t < 64 → bit_at reached t ≡ 1 → AreNextLeads log (wait_of waits t) more → IsSearch wanted (bit_or reached more) (bit_or done (1 * 2 ^ t % 2 ^ 64))
+  IsSearch-next wanted reached done more t search within there leads = record {
+    sound = λ u is. ⊎_elim
+        (λ before. search.sound u before)
+        (λ new.
+        let lead = leads.each u new in
+        let chain = search.sound t there in
+        record { threads = chain.threads ++ t ∷ []; chain = longer wanted chain.threads t u lead.0 chain.chain lead.1 lead.2 })
+        (is_in_one reached more u is);
+    first = λ u lead. is_in_left reached more u (search.first u lead);
+    next = λ v u w is waiting lead. ⊎_elim
+        (λ same. is_in_right reached more u (leads.every w u (subst (λ k. wait_of waits k ≡ Some w) same waiting) lead))
+        (λ other. is_in_left reached more u (search.next v u w (sym (bit_at_set_other w64 done t within v other) ∙ is) waiting lead))
+        (cases_eq v t);
+  }
 
-  record Short (wanted : Wanted) : Type 0 where
-    threads : List ℕ
-    chain : Chain wanted threads
-    apart : AreApart threads
+  -- a chain stays among the threads that are reached
+  along : (reached : ℕ) → ((t u : ℕ) (w : Wanted) → bit_at reached t ≡ 1 → wait_of waits t ≡ Some w → Leads log w u → bit_at reached u ≡ 1) → (caller : ℕ) (wanted : Wanted) (ts : List ℕ) → ((t : ℕ) → Leads log wanted t → bit_at reached t ≡ 1) → Chain caller wanted ts → bit_at reached caller ≡ 1
+  along reached closed caller wanted [] first chain = first caller chain
+  along reached closed caller wanted (t ∷ ts) first chain =
+      along reached closed caller chain.1.0 ts (λ u lead. closed t u chain.1.0 (first t chain.0) chain.1.1 lead) chain.1.2
 
-  -- a chain in which no thread stands twice
-  shorten : (wanted : Wanted) (ts : List ℕ) → Chain wanted ts → Short wanted
-  shorten wanted [] chain = record { threads = []; chain = chain; apart = tt }
-  shorten wanted (t ∷ ts) chain = joined (shorten chain.1.0 ts chain.1.2)
-    where
-      joined : Short chain.1.0 → Short wanted
-      joined short = ⊎_elim
-          (λ fresh. record { threads = t ∷ short.threads; chain = (chain.0, (chain.1.0, chain.1.1, short.chain)); apart = (fresh, short.apart) })
-          (λ after. record { threads = t ∷ after.rest; chain = (chain.0, (after.next, after.waiting, after.chain)); apart = (after.fresh, after.apart) })
-          (cut t chain.1.0 short.threads short.chain short.apart)
+  -- where nothing is left, chains lead exactly to the threads that are reached
+  pub IsSearch-whole : (wanted : Wanted) (reached done : ℕ) → IsSearch wanted reached done → reached < 2 ^ 64 → done < 2 ^ 64 → bit_and reached (bit_not w64 done) ≡ 0 → (t : ℕ) → (bit_at reached t ≡ 1) ↔ ComesBack (Leads log) (wait_of waits) t wanted
+  IsSearch-whole wanted reached done search few small none t = (
+    search.sound t,
+    λ back. along reached (λ v u w is waiting lead. search.next v u w (none_left reached done v few small none is) waiting lead) t wanted back.threads search.first back.chain,
+  )
 
-  -- ---- chains of fewer than n threads before the caller
-
-  pub record ChainWithin (n : ℕ) (wanted : Option Wanted) : Type 0 where
-    pub from : Wanted
-    pub wants : wanted ≡ Some from
-    pub threads : List ℕ
-    pub short : length threads < n
-    pub chain : Chain from threads
-
-  pub within-start : (n : ℕ) (wanted : Wanted) → n ≡ length waits + 1 → ComesBack Leads (wait_of waits) caller wanted ↔ ChainWithin n (Some wanted)
-  within-start n wanted all = (λ back. short_of (shorten wanted back.threads back.chain), λ within. all_of within.from within.threads (same_Some wanted within.from within.wants) within.chain)
-    where
-      short_of : Short wanted → ChainWithin n (Some wanted)
-      short_of found =
-          let few = count_apart found.threads waits found.apart (all_wait wanted found.threads found.chain) in
-          let most = count_by-le-length is_wait waits in
-          record { from = wanted; wants = refl; threads = found.threads; short = omega (arith, few, most, all); chain = found.chain }
-
-      all_of : (from : Wanted) (ts : List ℕ) → wanted ≡ from → Chain from ts → ComesBack Leads (wait_of waits) caller wanted
-      all_of from ts is chain = record { threads = ts; chain = subst (λ w. Chain w ts) (sym is) chain }
-
-  pub within-none : (n : ℕ) → ChainWithin n None → ⊥
-  within-none n within = let is = within.wants in cc
-
-  pub within-zero : (wanted : Option Wanted) → ChainWithin 0 wanted → ⊥
-  within-zero wanted within = let short = within.short in absurd (omega arith)
-
-  no_lead : (from : Wanted) (ts : List ℕ) → leads_to log from ≡ None → Chain from ts → ⊥
-  no_lead from [] none chain = cc
-  no_lead from (t ∷ ts) none chain = let lead = chain.0 in cc
-
-  pub within-no_lead : (n : ℕ) (wanted : Wanted) → leads_to log wanted ≡ None → ChainWithin n (Some wanted) → ⊥
-  within-no_lead n wanted none within =
-      no_lead within.from within.threads (subst (λ w. leads_to log w ≡ None) (same_Some wanted within.from within.wants) none) within.chain
-
-  pub within-caller : (n : ℕ) (wanted : Wanted) (t : ℕ) → 0 < n → leads_to log wanted ≡ Some t → t ≡ caller → ChainWithin n (Some wanted)
-  within-caller n wanted t some lead is = record { from = wanted; wants = refl; threads = []; short = omega arith; chain = lead ∙ ap Some is }
-
-  onward : (n m : ℕ) (wanted : Wanted) (t : ℕ) → m + 1 ≡ n → leads_to log wanted ≡ Some t → t ≢ caller → (from : Wanted) (ts : List ℕ) → wanted ≡ from → length ts < n → Chain from ts → ChainWithin m (wait_of waits t)
-  onward n m wanted t one lead other from [] is short chain =
-      let to : leads_to log wanted ≡ Some caller = subst (λ w. leads_to log w ≡ Some caller) (sym is) chain in
-      let same : t ≡ caller = cc in
-      absurd (other same)
-  onward n m wanted t one lead other from (u ∷ us) is short chain =
-      let to : leads_to log wanted ≡ Some u = subst (λ w. leads_to log w ≡ Some u) (sym is) chain.0 in
-      let same : u ≡ t = cc in
-      record { from = chain.1.0; wants = subst (λ k. wait_of waits k ≡ Some chain.1.0) same chain.1.1; threads = us; short = omega arith; chain = chain.1.2 }
-
-  back_by : (n m : ℕ) (wanted : Wanted) (t : ℕ) → m + 1 ≡ n → leads_to log wanted ≡ Some t → (from : Wanted) → wait_of waits t ≡ Some from → (ts : List ℕ) → length ts < m → Chain from ts → ChainWithin n (Some wanted)
-  back_by n m wanted t one lead from waiting ts short chain = record { from = wanted; wants = refl; threads = t ∷ ts; short = omega arith; chain = (lead, (from, waiting, chain)) }
-
-  -- one lead more: what is wanted next leads back as what was wanted before
-  pub within-next : (n m : ℕ) (wanted : Wanted) (t : ℕ) (now next : Option Wanted) (Back : Type 0) → m + 1 ≡ n → now ≡ Some wanted → leads_to log wanted ≡ Some t → t ≢ caller → next ≡ wait_of waits t → Back ↔ ChainWithin n now → Back ↔ ChainWithin m next
-  within-next n m wanted t now next Back one is lead other waiting same =
-      (λ back. forward (rw is at (same.0 back)), λ within. same.1 (rw is (backward within)))
-    where
-      forward : ChainWithin n (Some wanted) → ChainWithin m next
-      forward within = rw waiting (onward n m wanted t one lead other within.from within.threads (same_Some wanted within.from within.wants) within.short within.chain)
-
-      backward : ChainWithin m next → ChainWithin n (Some wanted)
-      backward within = back_by n m wanted t one lead within.from (sym waiting ∙ within.wants) within.threads within.short within.chain
+pub told : (result : Bool) (n : ℕ) (P : Type 0) → result ≡ (n == 1) → (n ≡ 1) ↔ P → IsTrue result ↔ P
+told result n P is same = (λ yes. same.0 (eqb-true _ _ (sym is ∙ yes)), λ p. is ∙ eq-eqb _ _ (same.1 p))

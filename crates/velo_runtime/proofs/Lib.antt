@@ -1,3 +1,4 @@
+pub mod OnMasks
 pub mod Chains
 pub mod OnRefusals
 pub mod OnSeats

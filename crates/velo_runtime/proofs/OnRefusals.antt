@@ -4,7 +4,7 @@ use Rattle.std.specs.Prelude.{⊤, Result, Option, Some, None, Bool, true, false
 use Rattle.std.proofs.lemmas.Bool.{false≢true, leb-false}
 use Rattle.velo_events.specs.declared.config.Bounds.{Bounds}
 use Rattle.velo_events.specs.declared.event.Action.{Action}
-use Rattle.velo_events.specs.declared.event.Action.TheVariants.{Acquire, Fork, Join}
+use Rattle.velo_events.specs.declared.event.Action.TheVariants.{Acquire, AcquireShared, Fork, Join}
 use Rattle.velo_events.specs.declared.event.Event.{Event}
 use Rattle.velo_events.specs.declared.event.Kind.{Kind}
 use Rattle.velo_events.specs.declared.event.Kind.TheVariants as kind
@@ -153,12 +153,17 @@ lock_there : (bounds : Bounds) (log : List Event) (t : ℕ) (m : LockId) → ref
 unfolding refusal_of
 lock_there bounds log t m h = leb-false bounds.locks m.0 (no_lock _ _ _ h)
 
+share_there : (bounds : Bounds) (log : List Event) (t : ℕ) (m : LockId) → refusal_of bounds log t (kind.AcquireShared m) ≡ Some Busy → m.0 < bounds.locks
+unfolding refusal_of
+share_there bounds log t m h = leb-false bounds.locks m.0 (no_lock _ _ _ h)
+
 thread_there : (bounds : Bounds) (log : List Event) (t : ℕ) (u : ThreadId) → refusal_of bounds log t (kind.Join u) ≡ Some NotExited → u.0 < bounds.threads
 unfolding refusal_of
 thread_there bounds log t u h = leb-false bounds.threads u.0 (no_thread _ _ _ h)
 
 busy_there : (w : WorldState) (t : ThreadId) (action : Action) → meaning w t action ≡ Err Busy → IfSome (lock_wanted action) (IsThere w.config.bounds)
 busy_there w t (Acquire m) h = lock_there w.config.bounds w.log t.0 m (meaning-reason w t (Acquire m) Busy (λ is. cc) (λ is. cc) h)
+busy_there w t (AcquireShared m) h = share_there w.config.bounds w.log t.0 m (meaning-reason w t (AcquireShared m) Busy (λ is. cc) (λ is. cc) h)
 busy_there w t _ h = tt
 
 early_there : (w : WorldState) (t : ThreadId) (action : Action) → meaning w t action ≡ Err NotExited → IfSome (thread_wanted action) (IsThere w.config.bounds)

@@ -4,7 +4,7 @@ use Rattle.velo_events.specs.declared.config.Bounds.{Bounds}
 use Rattle.velo_events.specs.declared.config.Config.{Config}
 use Rattle.velo_world.specs.World.{WorldState, opening}
 use Rattle.velo_runtime.specs.declared.wait.Wanted.{Wanted}
-use Rattle.velo_runtime.specs.declared.wait.Wanted.TheVariants.{Lock, Thread}
+use Rattle.velo_runtime.specs.declared.wait.Wanted.TheVariants.{Lock, LockShared, Thread}
 
 pub record RoomState : Type 0 where
   pub world : WorldState
@@ -18,6 +18,7 @@ opening_room config = record { world = opening config; waits = replicate config.
 -- the lock or thread is there
 abbrev pub IsThere : Bounds → Wanted → Type 0
 IsThere bounds (Lock m) = m.0 < bounds.locks
+IsThere bounds (LockShared m) = m.0 < bounds.locks
 IsThere bounds (Thread u) = u.0 < bounds.threads
 
 -- there is a place for each thread, and what is waited for is there

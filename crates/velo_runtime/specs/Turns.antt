@@ -1,7 +1,7 @@
 -- What a turn of a thread comes to, by a caller that has the room.
 use Rattle.std.specs.Prelude.{◌≡◌, ◌⊎◌, Option, Some, None, Result, Ok, Err, slice_set}
 use Rattle.velo_events.specs.declared.event.Action.{Action}
-use Rattle.velo_events.specs.declared.event.Action.TheVariants.{Acquire, Join}
+use Rattle.velo_events.specs.declared.event.Action.TheVariants.{Acquire, AcquireShared, Join}
 use Rattle.velo_events.specs.declared.event.ThreadId.{ThreadId}
 use Rattle.velo_events.specs.declared.refusal.Refusal.{Refusal}
 use Rattle.velo_events.specs.declared.refusal.Refusal.TheVariants.{Busy, NotExited, WouldDeadlock, Foreign}
@@ -10,7 +10,7 @@ use Rattle.velo_world.specs.World.{FitsLog}
 use Rattle.velo_world.specs.World.{Acts}
 use Rattle.velo_world.specs.declared.run.Reply.{Reply}
 use Rattle.velo_runtime.specs.declared.wait.Wanted.{Wanted}
-use Rattle.velo_runtime.specs.declared.wait.Wanted.TheVariants.{Lock, Thread}
+use Rattle.velo_runtime.specs.declared.wait.Wanted.TheVariants.{Lock, LockShared, Thread}
 use Rattle.velo_runtime.specs.declared.wait.Turn.{Turn}
 use Rattle.velo_runtime.specs.declared.wait.Turn.TheVariants.{Done, Refused, Wait}
 use Rattle.velo_runtime.specs.Rooms.{RoomState}
@@ -19,6 +19,7 @@ use Rattle.velo_runtime.specs.Waits.{ComesBackIn}
 
 abbrev pub lock_wanted : Action → Option Wanted
 lock_wanted (Acquire m) = Some (Lock m)
+lock_wanted (AcquireShared m) = Some (LockShared m)
 lock_wanted _ = None
 
 abbrev pub thread_wanted : Action → Option Wanted

@@ -1,13 +1,13 @@
 -- Whom a wanted thing leads to, and when a chain of waits comes back.
-use Rattle.std.specs.Prelude.{◌≡◌, ℕ, Bool, true, false, List, Option, Some, None, slice_get, if◌then◌else◌}
+use Rattle.std.specs.Prelude.{◌≡◌, ◌⊎◌, ℕ, Bool, true, false, List, Option, Some, None, IsTrue, IsFalse, slice_get}
 use Rattle.velo_events.specs.declared.event.Event.{Event}
 use Rattle.velo_events.specs.declared.event.ThreadId.{ThreadId}
 use Rattle.velo_events.specs.declared.event.Status.{Status}
 use Rattle.velo_events.specs.declared.event.Status.TheVariants.{Unborn, Live, Exited, Joined}
-use Rattle.velo_events.specs.Heap.{holder_in, status_in}
+use Rattle.velo_events.specs.Heap.{holder_in, shares_in, status_in}
 use Rattle.velo_events.specs.Waits.{ComesBack}
 use Rattle.velo_runtime.specs.declared.wait.Wanted.{Wanted}
-use Rattle.velo_runtime.specs.declared.wait.Wanted.TheVariants.{Lock, Thread}
+use Rattle.velo_runtime.specs.declared.wait.Wanted.TheVariants.{Lock, LockShared, Thread}
 use Rattle.velo_runtime.specs.Rooms.{RoomState}
 
 abbrev pub has_exited : Status → Bool
@@ -16,10 +16,12 @@ has_exited Live = false
 has_exited Exited = true
 has_exited Joined = true
 
--- a wanted lock leads to its holder, a wanted thread to itself unless it has exited
-abbrev pub leads_to : List Event → Wanted → Option ℕ
-leads_to log (Lock m) = holder_in log m.0
-leads_to log (Thread u) = if has_exited (status_in log u.0) then None else Some u.0
+-- a lock that is wanted alone leads to the thread that holds it alone and to each that shares it, one that is wanted shared to
+-- the first of these only, and a wanted thread to itself unless it has exited
+abbrev pub Leads : List Event → Wanted → ℕ → Type 0
+Leads log (Lock m) t = (holder_in log m.0 ≡ Some t) ⊎ IsTrue (shares_in log m.0 t)
+Leads log (LockShared m) t = holder_in log m.0 ≡ Some t
+Leads log (Thread u) t = (t ≡ u.0) × IsFalse (has_exited (status_in log u.0))
 
 -- what stands at a place, if the place is there
 abbrev pub stands_at : Option (Option Wanted) → Option Wanted
@@ -32,5 +34,4 @@ wait_of waits t = stands_at (slice_get waits t)
 
 -- some chain of waits leads from what is wanted to the caller
 abbrev pub ComesBackIn : RoomState → ThreadId → Wanted → Type 0
-ComesBackIn room caller wanted =
-    ComesBack (λ w t. leads_to room.world.log w ≡ Some t) (wait_of room.waits) caller.0 wanted
+ComesBackIn room caller wanted = ComesBack (Leads room.world.log) (wait_of room.waits) caller.0 wanted

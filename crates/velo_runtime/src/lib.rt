@@ -2,6 +2,7 @@
 #![tactic(auto)]
 
 mod error;
+mod masks;
 mod room;
 mod seat;
 mod shared;

@@ -1,5 +1,5 @@
 ghost use Rattle.velo_events.specs.Refusals.{GrowthRefused};
-ghost use Rattle.std.specs.Prelude.{◌≡◌, ◌≢◌, ◌+◌, ◌↔◌, None, Err, IfOk, IfErr, IfSome, IfNone, IsFalse, IsTrue, option_map, sum_by, length, replicate, OnErr};
+ghost use Rattle.std.specs.Prelude.{◌≡◌, ◌≢◌, ◌+◌, ◌↔◌, None, Err, IfOk, IfErr, IfSome, IfNone, IsFalse, IsTrue, sum_by, length, replicate, OnErr};
 ghost use Rattle.velo_events.specs.declared.refusal.Refusal.TheVariants as refusal;
 ghost use Rattle.velo_events.specs.Graph.{HasCycle};
 ghost use Rattle.velo_events.specs.Reordering.{IsSerializable};
@@ -12,10 +12,12 @@ ghost use Rattle.velo_runtime.specs.declared.wait.Turn.TheVariants as turn;
 ghost use Rattle.velo_runtime.specs.Rooms.{IsThere, opening_room};
 ghost use Rattle.velo_runtime.specs.Steps.{ActsIn, ForksIn, StepsIn, StepsForking};
 ghost use Rattle.velo_runtime.specs.Turns.{TakesTurn, IsTurnAfter, TurnsIn, wanted_by};
-ghost use Rattle.velo_runtime.specs.Waits.{ComesBackIn, leads_to, wait_of};
+ghost use Rattle.velo_runtime.specs.Waits.{ComesBackIn, wait_of};
+ghost use Rattle.velo_runtime.specs.Masks.{AreLeads, AreNextLeads};
 ghost use Rattle.velo_runtime.specs.Seats.{AreSeatsOf};
 ghost use Rattle.velo_runtime.specs.Places.{AreTogether, events_of_all};
 
+use crate::masks::{bit_of, has_bit};
 use crate::seat::Seat;
 use crate::wait::{Turn, Wanted};
 use std::alloc::Global;
@@ -208,17 +210,29 @@ impl Room {
         (Turn::Wait, Some(wanted))
     }
 
-    /// The thread that a wanted thing leads to.
-    fn leads_to(&self, wanted: Wanted) -> Option<ThreadId>
+    /// A bit for each thread that a wanted thing leads to.
+    fn leads(&self, wanted: Wanted) -> u64
         requires { IsThere self.now.world.config.bounds wanted }
-        ensures { option_map (λ t. t.0) result ≡ leads_to self.now.world.log wanted }
+        ensures { AreLeads self.now.world.log wanted result }
     {
+        let heap = self.world.heap();
         match wanted {
-            Wanted::Lock(m) => self.world.heap().holder(m),
-            Wanted::Thread(u) => match self.world.heap().status(u) {
-                Status::Unborn | Status::Live => Some(u),
-                Status::Exited | Status::Joined => None,
+            Wanted::Lock(m) => bit_of(heap.holder(m)) | heap.sharers(m),
+            Wanted::LockShared(m) => bit_of(heap.holder(m)),
+            Wanted::Thread(u) => match heap.status(u) {
+                Status::Unborn | Status::Live => bit_of(Some(u)),
+                Status::Exited | Status::Joined => 0,
             },
+        }
+    }
+
+    /// A bit for each thread that what a thread waits for leads to, if it waits.
+    fn next_leads(&self, thread: ThreadId) -> u64
+        ensures { AreNextLeads self.now.world.log (wait_of self.now.waits thread.0) result }
+    {
+        match self.wait_of(thread) {
+            Some(wanted) => self.leads(wanted),
+            None => 0,
         }
     }
 
@@ -309,8 +323,8 @@ pub fn fork_in(room: &mut Room, seat: &mut Seat, child: ThreadId) -> Result<(Rep
 /// Does one action of the seat's thread, where it is not a fork, or has the thread wait. The caller has the room, so this
 /// call itself waits for nobody: where it answers `Wait`, the same call is to be made again after another thread has acted.
 ///
-/// In place of `Busy` (6) of an acquire and `NotExited` (13) of a join the thread waits, and the refusal is
-/// `WouldDeadlock` (20) where the chain of waits comes back to it. Every other refusal is that of `step_in`.
+/// In place of `Busy` (6) of an acquire of either kind and `NotExited` (13) of a join the thread waits, and the refusal is
+/// `WouldDeadlock` (20) where a chain of waits comes back to it. Every other refusal is that of `step_in`.
 pub fn turn_in(room: &mut Room, seat: &mut Seat, action: Action) -> Turn
     requires { IsNoFork action }
     ensures turn { TurnsIn room.old seat.old action result room.new seat.new }
@@ -324,27 +338,22 @@ pub fn turn_in(room: &mut Room, seat: &mut Seat, action: Action) -> Turn
     room.turn(seat, action)
 }
 
-/// Whether the chain of waits leads from what the caller wants back to the caller: a wanted lock leads to its holder, a
-/// wanted thread to itself unless it has exited, and a thread to what it waits for.
+/// Whether some chain of waits leads from what the caller wants back to the caller: a lock that is wanted alone leads to each
+/// thread that holds it, alone or with others, one that is wanted shared to the thread that holds it alone, a wanted thread to
+/// itself unless it has exited, and a thread to what it waits for.
 pub fn comes_back(room: &Room, caller: ThreadId, wanted: Wanted) -> bool
     requires { IsThere room.now.world.config.bounds wanted }
     ensures { IsTrue result ↔ ComesBackIn room.now caller wanted }
 {
-    let mut next = Some(wanted);
-    // a chain in which no thread stands twice has at most one lead more than there are threads
-    for _ in 0..room.waits.len() + 1 {
-        let Some(wanted) = next else {
-            return false;
-        };
-        let Some(thread) = room.leads_to(wanted) else {
-            return false;
-        };
-        if thread.0 == caller.0 {
-            return true;
-        }
-        next = room.wait_of(thread);
+    // a bit for each thread that chains are known to lead to, and for each of them whose wait was followed
+    let mut reached = room.leads(wanted);
+    let mut done: u64 = 0;
+    while reached & !done != 0 {
+        let thread = ThreadId((reached & !done).trailing_zeros() as u8);
+        done |= 1 << thread.0;
+        reached |= room.next_leads(thread);
     }
-    false
+    has_bit(reached, caller)
 }
 
 /// What the action waits for, where the refusal may pass.
@@ -353,6 +362,7 @@ fn wanted_by(action: Action, refusal: Refusal) -> Option<Wanted>
 {
     match (refusal, action) {
         (Refusal::Busy, Action::Acquire(m)) => Some(Wanted::Lock(m)),
+        (Refusal::Busy, Action::AcquireShared(m)) => Some(Wanted::LockShared(m)),
         (Refusal::NotExited, Action::Join(u)) => Some(Wanted::Thread(u)),
         _ => None,
     }

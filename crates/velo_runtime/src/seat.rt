@@ -79,7 +79,7 @@ impl Seat {
         self.turn(rt, shared, Action::Write(x, value))
     }
 
-    /// Acquires a lock. While another thread holds it, the call waits; it never answers `Busy` (6).
+    /// Acquires a lock. While another thread holds it, alone or with others, the call waits; it never answers `Busy` (6).
     ///
     /// # Errors
     /// The refusal of [`turn_in`]. The seat is as it was then.
@@ -114,6 +114,43 @@ impl Seat {
         ensures runtime { result ≢ Err refusal.RuntimeMemory }
     {
         self.turn(rt, shared, Action::Release(lock))
+    }
+
+    /// Acquires a share of a lock. While another thread holds it alone, the call waits; it never answers `Busy` (6).
+    ///
+    /// # Errors
+    /// The refusal of [`turn_in`]. The seat is as it was then.
+    pub fn acquire_shared<R: Wait>(
+        &mut self,
+        rt: &R,
+        shared: &Shared,
+        lock: LockId,
+    ) -> Result<Reply, Refusal>
+        ensures acquired { IfOk result (λ reply. GainsEventOf self.old self.new reply (kind.AcquireShared lock)) }
+        ensures waits { result ≢ Err refusal.Busy }
+        ensures unchanged { OnErr result (self.new ≡ self.old) }
+        ensures memory { result ≡ Err refusal.Memory → GrowthRefused }
+        ensures runtime { result ≢ Err refusal.RuntimeMemory }
+    {
+        self.turn(rt, shared, Action::AcquireShared(lock))
+    }
+
+    /// Releases a share of a lock, and notifies the threads that wait.
+    ///
+    /// # Errors
+    /// The refusal of [`turn_in`]. The seat is as it was then.
+    pub fn release_shared<R: Wait>(
+        &mut self,
+        rt: &R,
+        shared: &Shared,
+        lock: LockId,
+    ) -> Result<Reply, Refusal>
+        ensures released { IfOk result (λ reply. GainsEventOf self.old self.new reply (kind.ReleaseShared lock)) }
+        ensures unchanged { OnErr result (self.new ≡ self.old) }
+        ensures memory { result ≡ Err refusal.Memory → GrowthRefused }
+        ensures runtime { result ≢ Err refusal.RuntimeMemory }
+    {
+        self.turn(rt, shared, Action::ReleaseShared(lock))
     }
 
     /// Begins an atomic block.
@@ -229,5 +266,8 @@ impl Seat {
 
 /// Whether a waiting thread may go on after the action.
 fn lets_go(action: Action) -> bool {
-    matches!(action, Action::Release(_) | Action::Exit)
+    matches!(
+        action,
+        Action::Release(_) | Action::ReleaseShared(_) | Action::Exit
+    )
 }

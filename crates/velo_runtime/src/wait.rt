@@ -4,8 +4,10 @@ use velo_world::Reply;
 /// What a thread waits for.
 #[derive(Clone, Copy, Debug, PartialEq, Eq)]
 pub enum Wanted {
-    /// That its holder releases the lock.
+    /// That each thread that holds the lock, alone or with others, releases it.
     Lock(LockId),
+    /// That the thread that holds the lock alone releases it.
+    LockShared(LockId),
     /// That the thread exits.
     Thread(ThreadId),
 }

@@ -1,7 +1,7 @@
 pub mod OnReaders
 pub mod OnKept
 pub mod OnOthers
-pub mod OnVariables
+pub mod OnCells
 pub mod OnForgotten
 pub mod OnLast
 pub mod OnSteps

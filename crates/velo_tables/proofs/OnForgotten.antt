@@ -4,9 +4,9 @@ use Rattle.std.specs.Prelude.{◌==◌, ◌&&◌, if◌then◌else◌}
 use Rattle.std.proofs.Math.ListN.{set}
 use Rattle.std.proofs.lemmas.Bool.{cases_eq, cases_lt, ne_eqb, eq-eqb}
 use Rattle.std.proofs.lemmas.List.{get_or-set_other, get_or-set_same, length-set, get_or_past, set_past}
-use Rattle.velo_events.specs.Place.{Place, LastOf, LastWrite, LastRead, LastOn}
+use Rattle.velo_events.specs.Place.{Place, LastOf, LastWrite, LastRead}
 use Rattle.velo_tables.specs.Kept.{Kept, Accesses, no_accesses, accesses_of, entry, is_last_read, IsReadForgotten}
-use Rattle.velo_tables.specs.Recorded.{with_read, with_variable}
+use Rattle.velo_tables.specs.Recorded.{with_read, with_cell}
 use Rattle.velo_events.proofs.OnLists.{get_or-set}
 use Rattle.velo_tables.proofs.OnKept.{IsRoomier, HasRoomFor-kept}
 
@@ -26,19 +26,19 @@ module _ (kept : Kept) (x t : ℕ) where
   read = with_read (accesses_of kept x) t None
 
   abbrev after : Kept
-  after = with_variable kept x read
+  after = with_cell kept x read
 
   here : accesses_of after x ≡ read
   here =
-      ⊎_elim (λ (within : x < length kept.variables). get_or-set_same kept.variables x read no_accesses within)
-      (λ (past : length kept.variables ≤ x).
-      ap (λ vs. get_or vs x no_accesses) (set_past kept.variables x read past)
-      ∙ (get_or_past kept.variables x no_accesses past
-      ∙ ap (λ (a : Accesses). with_read a t None) (sym (get_or_past kept.variables x no_accesses past))))
-      (cases_lt x (length kept.variables))
+      ⊎_elim (λ (within : x < length kept.cells). get_or-set_same kept.cells x read no_accesses within)
+      (λ (past : length kept.cells ≤ x).
+      ap (λ vs. get_or vs x no_accesses) (set_past kept.cells x read past)
+      ∙ (get_or_past kept.cells x no_accesses past
+      ∙ ap (λ (a : Accesses). with_read a t None) (sym (get_or_past kept.cells x no_accesses past))))
+      (cases_lt x (length kept.cells))
 
   others : (y : ℕ) → (x ≡ y → ⊥) → accesses_of after y ≡ accesses_of kept y
-  others y off = get_or-set_other kept.variables x y read no_accesses (λ e. off (sym e))
+  others y off = get_or-set_other kept.cells x y read no_accesses (λ e. off (sym e))
 
   writes : (y : ℕ) → (accesses_of after y).write ≡ (accesses_of kept y).write
   writes y =
@@ -67,10 +67,9 @@ module _ (kept : Kept) (x t : ℕ) where
   entry-forgotten (LastOf u) = refl
   entry-forgotten (LastWrite y) = writes y
   entry-forgotten (LastRead y u) = reads y u
-  entry-forgotten (LastOn m) = refl
 
   roomier : IsRoomier kept after
-  roomier = record { threads = omega arith; variables = omega (arith, length-set kept.variables x read); reads = lengths; locks = omega arith }
+  roomier = record { threads = omega arith; cells = omega (arith, length-set kept.cells x read); reads = lengths }
 
   pub IsReadForgotten-after : IsReadForgotten kept x t after
   IsReadForgotten-after = record { each = entry-forgotten; room = λ e room. HasRoomFor-kept kept after e roomier room }

@@ -27,7 +27,7 @@ filter_map-none : {X Y : Type 0} (f : X → Option Y) (xs : List X) → ((x : X)
 filter_map-none f [] none = refl
 filter_map-none f (x ∷ xs) none = ap (λ o. cons_option o (filter_map f xs)) (none x) ∙ filter_map-none f xs none
 
--- the steps of one variable's accesses
+-- the steps of one cell's accesses
 abbrev pub accesses_of_places : Option ℕ → Kept → ℕ → List Step
 accesses_of_places slot kept x = filter_map (λ p. but_for slot (entry kept p)) (LastWrite x ∷ map (LastRead x) thread_numbers)
 
@@ -36,10 +36,10 @@ steps_of_accesses slot kept x =
     filter_map-cons (λ p. but_for slot (entry kept p)) (LastWrite x) (map (LastRead x) thread_numbers)
     ∙ ap (λ ys. option_to_list (but_for slot (accesses_of kept x).write) ++ ys) (filter_map-map (λ p. but_for slot (entry kept p)) (LastRead x) thread_numbers)
 
--- a variable beyond the room has none
-pub no_steps_past : (slot : Option ℕ) (kept : Kept) (x : ℕ) → length kept.variables ≤ x → accesses_of_places slot kept x ≡ []
+-- a cell beyond the room has none
+pub no_steps_past : (slot : Option ℕ) (kept : Kept) (x : ℕ) → length kept.cells ≤ x → accesses_of_places slot kept x ≡ []
 no_steps_past slot kept x past =
     steps_of_accesses slot kept x
-    ∙ (ap (steps_of slot) (get_or_past kept.variables x no_accesses past)
+    ∙ (ap (steps_of slot) (get_or_past kept.cells x no_accesses past)
     ∙ (ap (λ o. option_to_list o ++ filter_map (λ t. but_for slot None) thread_numbers) (but_for-none slot)
     ∙ filter_map-none (λ t. but_for slot None) thread_numbers (λ t. but_for-none slot)))

@@ -6,7 +6,8 @@ use Rattle.velo_arena.specs.declared.step.Step.{Step}
 use Rattle.velo_events.specs.declared.config.Bounds.{Bounds}
 use Rattle.velo_events.specs.declared.event.Event.{Event}
 use Rattle.velo_events.specs.declared.event.Kind.{Kind}
-use Rattle.velo_events.specs.declared.event.Kind.TheVariants.{Read, Write, Acquire, Release, Begin, End, Fork, Join, Exit}
+use Rattle.velo_events.specs.declared.event.Kind.TheVariants.{Fork}
+use Rattle.velo_events.specs.Event.{access_of}
 use Rattle.velo_events.specs.WellFormed.{NamesKnown, MayFollow}
 use Rattle.velo_events.specs.Place.{Place, looked_up, last_at}
 use Rattle.velo_tables.specs.Kept.{Kept, entry, steps_looked_up, OthersKnown, HasItsThreads}
@@ -71,16 +72,9 @@ steps_looked_up-are kept trace steps e step stands = (
 
 -- ---- the threads of an event that may follow
 
-others_known : (bounds : Bounds) (kept : Kept) (k : Kind) → length kept.threads ≡ bounds.threads → NamesKnown bounds k → OthersKnown kept k
+others_known : (bounds : Bounds) (kept : Kept) (k : Kind) → length kept.threads ≡ bounds.threads → NamesKnown bounds k → OthersKnown kept (access_of k)
 others_known bounds kept (Fork u) same known = omega (arith, same, known)
-others_known bounds kept (Read x v) same known = tt
-others_known bounds kept (Write x v) same known = tt
-others_known bounds kept (Acquire m) same known = tt
-others_known bounds kept (Release m) same known = tt
-others_known bounds kept (Begin l) same known = tt
-others_known bounds kept End same known = tt
-others_known bounds kept (Join u) same known = tt
-others_known bounds kept Exit same known = tt
+others_known bounds kept _ same known = tt
 
 -- are those of the tables
 pub HasItsThreads-follows : (bounds : Bounds) (kept : Kept) (trace : List Event) (e : Event) → length kept.threads ≡ bounds.threads → MayFollow bounds trace e → HasItsThreads kept e

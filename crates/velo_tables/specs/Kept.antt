@@ -4,68 +4,64 @@ use Rattle.std.specs.List.{filter_map}
 use Rattle.std.specs.Int.{bit_at}
 use Rattle.velo_arena.specs.declared.step.Step.{Step}
 use Rattle.velo_events.specs.declared.event.Event.{Event}
-use Rattle.velo_events.specs.declared.event.Kind.{Kind}
-use Rattle.velo_events.specs.declared.event.Kind.TheVariants.{Read, Write, Acquire, Release, Fork}
-use Rattle.velo_events.specs.Event.{thread_of}
-use Rattle.velo_events.specs.Place.{Place, LastOf, LastWrite, LastRead, LastOn, looked_up, is_recorded}
+use Rattle.velo_events.specs.declared.event.Access.{Access}
+use Rattle.velo_events.specs.declared.event.Access.TheVariants.{Shared, Exclusive}
+use Rattle.velo_events.specs.Event.{thread_of, access_of}
+use Rattle.velo_events.specs.Place.{Place, LastOf, LastWrite, LastRead, looked_up, is_recorded}
 
--- what is kept of one variable: its last write, and its last read by each thread for which there is room
+-- what is kept of one cell: its last write, and its last read by each thread for which there is room
 pub record Accesses : Type 0 where
   pub write : Option Step
   pub reads : List (Option Step)
 
--- by number: what is kept of each thread, and of each variable and lock for which there is room
+-- by number: what is kept of each thread, and of each cell for which there is room
 pub record Kept : Type 0 where
   pub threads : List (Option Step)
-  pub variables : List Accesses
-  pub locks : List (Option Step)
+  pub cells : List Accesses
 
 abbrev pub no_accesses : Accesses
 no_accesses = record { write = None; reads = [] }
 
 abbrev pub accesses_of : Kept → ℕ → Accesses
-accesses_of kept x = slice_index_or kept.variables x no_accesses
+accesses_of kept x = slice_index_or kept.cells x no_accesses
 
 -- the step that is kept at a place
 abbrev pub entry : Kept → Place → Option Step
 entry kept (LastOf t) = slice_index_or kept.threads t None
 entry kept (LastWrite x) = (accesses_of kept x).write
 entry kept (LastRead x t) = slice_index_or (accesses_of kept x).reads t None
-entry kept (LastOn m) = slice_index_or kept.locks m None
 
 -- the steps at the places that the event looks up, where there is one
 unfoldable pub steps_looked_up : Kept → Event → List Step
 steps_looked_up kept e = filter_map (entry kept) (looked_up e)
 
 -- a thread that the operation forks is one of the tables
-abbrev pub OthersKnown : Kept → Kind → Type 0
-OthersKnown kept (Fork u) = u.0 < length kept.threads
+abbrev pub OthersKnown : Kept → Access → Type 0
+OthersKnown kept (Access.Fork u) = u.0 < length kept.threads
 OthersKnown kept _ = ⊤
 
 -- the thread of the event, and one that it forks, are threads of the tables
 pub record HasItsThreads (kept : Kept) (e : Event) : Type 0 where
   pub own : thread_of e < length kept.threads
-  pub forked : OthersKnown kept e.kind
+  pub forked : OthersKnown kept (access_of e.kind)
 
 -- there is room for what the operation of thread t records beside the last event of t
-abbrev pub HasRoomBeside : Kept → ℕ → Kind → Type 0
-HasRoomBeside kept t (Read x v) = (x.0 < length kept.variables) × (t < length (accesses_of kept x.0).reads)
-HasRoomBeside kept t (Write x v) = x.0 < length kept.variables
-HasRoomBeside kept t (Acquire m) = m.0 < length kept.locks
-HasRoomBeside kept t (Release m) = m.0 < length kept.locks
-HasRoomBeside kept t (Fork u) = u.0 < length kept.threads
+abbrev pub HasRoomBeside : Kept → ℕ → Access → Type 0
+HasRoomBeside kept t (Shared c) = (c.0 < length kept.cells) × (t < length (accesses_of kept c.0).reads)
+HasRoomBeside kept t (Exclusive c) = c.0 < length kept.cells
+HasRoomBeside kept t (Access.Fork u) = u.0 < length kept.threads
 HasRoomBeside kept t _ = ⊤
 
--- there is room for a read of the variable by each of so many threads
+-- there is room for a read of the cell by each of so many threads
 abbrev pub HasRoomToRead : ℕ → Kept → ℕ → Type 0
-HasRoomToRead threads kept x = (x < length kept.variables) × (threads ≤ length (accesses_of kept x).reads)
+HasRoomToRead threads kept x = (x < length kept.cells) × (threads ≤ length (accesses_of kept x).reads)
 
 -- there is room for all that the event records
 pub record HasRoomFor (kept : Kept) (e : Event) : Type 0 where
   pub own : thread_of e < length kept.threads
-  pub beside : HasRoomBeside kept (thread_of e) e.kind
+  pub beside : HasRoomBeside kept (thread_of e) (access_of e.kind)
 
--- every thread whose last read of the variable has a step has its bit
+-- every thread whose last read of the cell has a step has its bit
 pub record CoverReaders (kept : Kept) (x : ℕ) (readers : ℕ) : Type 0 where
   pub each : (t : ℕ) → bit_at readers t ≡ 0 → entry kept (LastRead x t) ≡ None
 
@@ -83,12 +79,12 @@ pub record IsRecorded (old : Kept) (e : Event) (step : Option Step) (new : Kept)
   pub each : (p : Place) → entry new p ≡ (if is_recorded e p then step else entry old p)
   pub room : (f : Event) → HasRoomFor old f → HasRoomFor new f
 
--- the last read of variable x by thread t
+-- the last read of cell x by thread t
 abbrev pub is_last_read : ℕ → ℕ → Place → Bool
 is_last_read x t (LastRead y u) = (x == y) && (t == u)
 is_last_read x t _ = false
 
--- the last read of the variable by the thread has no step, and every other place keeps what it has; no room is lost
+-- the last read of the cell by the thread has no step, and every other place keeps what it has; no room is lost
 pub record IsReadForgotten (old : Kept) (x t : ℕ) (new : Kept) : Type 0 where
   pub each : (p : Place) → entry new p ≡ (if is_last_read x t p then None else entry old p)
   pub room : (e : Event) → HasRoomFor old e → HasRoomFor new e

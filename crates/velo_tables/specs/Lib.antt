@@ -2,6 +2,6 @@ pub mod Entry
 pub mod Readers
 pub mod Kept
 pub mod Others
-pub mod Variables
+pub mod Cells
 pub mod Recorded
 pub mod Last

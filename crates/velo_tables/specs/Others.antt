@@ -12,10 +12,10 @@ but_for None step = step
 but_for (Some slot) None = None
 but_for (Some slot) (Some step) = if step.slot == slot then None else Some step
 
--- the steps of the last accesses of variable x, but for those of the slot
+-- the steps of the last accesses of cell x, but for those of the slot
 unfoldable pub accesses_but_for : Kept → ℕ → ℕ → List Step
 accesses_but_for kept x slot = filter_map (λ p. but_for (Some slot) (entry kept p)) (LastWrite x ∷ map (LastRead x) thread_numbers)
 
--- the same of one variable's accesses
+-- the same of one cell's accesses
 abbrev pub steps_of : Option ℕ → Accesses → List Step
 steps_of slot accesses = option_to_list (but_for slot accesses.write) ++ filter_map (λ t. but_for slot (slice_index_or accesses.reads t None)) thread_numbers

@@ -1,4 +1,4 @@
--- Which threads have a read of a variable: one bit of a number for each. Private contracts cite these words.
+-- Which threads have a read of a cell: one bit of a number for each. Private contracts cite these words.
 use Rattle.std.specs.Prelude.{◌≡◌, ℕ, ◌≤◌, List, Option, None, length, slice_index_or}
 use Rattle.std.specs.Int.{bit_at}
 use Rattle.velo_events.specs.declared.limits.TheConstants.{MOST_THREADS}

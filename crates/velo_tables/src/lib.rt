@@ -2,9 +2,9 @@
 //! passed on from `velo_clocks`, how far they know each thread.
 #![tactic(auto)]
 
+mod cells;
 mod entry;
 mod tables;
-mod variables;
 
 pub use tables::{MOST_PREDECESSORS, Tables};
 pub use velo_clocks::ClockTables;

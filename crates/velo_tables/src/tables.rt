@@ -5,32 +5,31 @@ ghost use Rattle.std.specs.Option.{option_to_list};
 ghost use Rattle.smallvec.specs.SmallVec.{HasRoomFor as HasSpace};
 ghost use Rattle.velo_events.specs.declared.limits.TheConstants.{MOST_THREADS};
 ghost use Rattle.velo_tables.specs.declared.tables.TheConstants.{MOST_PREDECESSORS};
-ghost use Rattle.velo_events.specs.Place.{LastOf, LastWrite, LastRead, LastOn, thread_numbers};
-ghost use Rattle.velo_events.specs.Growth.{filled_up};
+ghost use Rattle.velo_events.specs.Place.{LastOf, LastWrite, LastRead, thread_numbers};
 ghost use Rattle.velo_tables.specs.Kept.{entry, no_accesses, steps_looked_up, HasItsThreads, HasRoomFor, HasRoomToRead, HasRoomBeside, CoverReaders, IsBlank, IsUnchanged, IsRecorded, IsReadForgotten, accesses_of};
 ghost use Rattle.velo_tables.specs.Others.{but_for, accesses_but_for};
-ghost use Rattle.velo_events.specs.Event.{thread_of, is_write};
-ghost use Rattle.velo_tables.specs.Recorded.{kept_after, kept_after_beside, with_variable, with_read, with_reads_of};
+ghost use Rattle.velo_events.specs.Event.{thread_of, access_of, is_exclusive};
+ghost use Rattle.velo_tables.specs.Recorded.{kept_after, kept_after_beside, with_cell, with_read};
 
+use crate::cells::{Cells, push_step};
 use crate::entry::{Entry, entry_at};
-use crate::variables::{Variables, push_step};
 use smallvec::SmallVec;
 use std::alloc::Global;
 use std::marker::Model;
 use velo_arena::Step;
-use velo_events::growth::{fill_up_to, resize};
-use velo_events::{Config, Event, Kind, LockId, MOST_THREADS, Memory, ThreadId, VarId};
+use velo_events::growth::resize;
+use velo_events::{Access, Cell, Config, Event, MOST_THREADS, Memory, ThreadId};
 
 /// The most steps that an event looks up: of its thread, of the last write, and of a read by each thread.
 pub const MOST_PREDECESSORS: usize = MOST_THREADS as usize + 2;
 
-/// The step of the last event at each place: of each thread, of each lock, the last write of each variable, and its last
-/// read by each thread. There is room for what was accessed, and for the threads.
+/// The step of the last event at each place: of each thread, the last write of each cell, and its last read by each thread.
+/// A variable is written and read; a lock is written by who takes or leaves it alone, and read by who does so beside others.
+/// There is room for what was accessed, and for the threads.
 #[derive(Debug, Drop)]
 pub struct Tables {
     threads: Vec<Entry>,
-    variables: Variables,
-    locks: Vec<Entry>,
+    cells: Cells,
 }
 
 impl Model for Tables {
@@ -40,20 +39,9 @@ impl Model for Tables {
 
     ghost Value = { Kept };
 
-    ghost view = { λ s. record { threads = s.threads.items; variables = s.variables; locks = s.locks.items } };
+    ghost view = { λ s. record { threads = s.threads.items; cells = s.cells } };
 
     ghost invariant = { λ s. length s.threads.items ≤ MOST_THREADS };
-}
-
-/// Makes room for the entry with this number.
-fn grow_entries(entries: &mut Vec<Entry>, number: usize) -> Result<(), Memory>
-    requires { number < 2 ^ 32 }
-    ensures ok { OnOk result (entries.new.items ≡ filled_up None (number + 1) entries.old.items) }
-    ensures err { OnErr result (entries.new.items ≡ entries.old.items) }
-    ensures refused { OnErr result (length entries.old.items ≤ number) }
-    ensures memory { OnErr result GrowthRefused }
-{
-    fill_up_to(entries, number, Entry::new(None))
 }
 
 /// Puts the step, or none, in the place of the entry with this number.
@@ -82,8 +70,7 @@ impl Tables {
         )?;
         Ok(Tables {
             threads,
-            variables: Variables::new(alloc),
-            locks: Vec::new(alloc),
+            cells: Cells::new(alloc),
         })
     }
 
@@ -94,33 +81,26 @@ impl Tables {
         entry_at(&self.threads, t.0 as usize)
     }
 
-    /// The step of the variable's last write.
-    pub fn last_write(&self, x: VarId) -> Option<Step>
-        ensures { result ≡ entry self.now (LastWrite x.0) }
+    /// The step of the cell's last write.
+    pub fn last_write(&self, c: Cell) -> Option<Step>
+        ensures { result ≡ entry self.now (LastWrite c.0) }
     {
-        self.variables.last_write(x)
+        self.cells.last_write(c)
     }
 
-    /// The step of the variable's last read by the thread.
-    pub fn last_read(&self, x: VarId, t: ThreadId) -> Option<Step>
-        ensures { result ≡ entry self.now (LastRead x.0 t.0) }
+    /// The step of the cell's last read by the thread.
+    pub fn last_read(&self, c: Cell, t: ThreadId) -> Option<Step>
+        ensures { result ≡ entry self.now (LastRead c.0 t.0) }
     {
-        self.variables.last_read(x, t)
+        self.cells.last_read(c, t)
     }
 
-    /// A bit for each thread whose last read of the variable has a step, and perhaps for others that read it: no other
+    /// A bit for each thread whose last read of the cell has a step, and perhaps for others that read it: no other
     /// thread's read has to be looked up.
-    pub fn readers(&self, x: VarId) -> u64
-        ensures { CoverReaders self.now x.0 result }
+    pub fn readers(&self, c: Cell) -> u64
+        ensures { CoverReaders self.now c.0 result }
     {
-        self.variables.readers(x)
-    }
-
-    /// The step of the lock's last event.
-    pub fn last_on(&self, m: LockId) -> Option<Step>
-        ensures { result ≡ entry self.now (LastOn m.0) }
-    {
-        entry_at(&self.locks, m.0 as usize)
+        self.cells.readers(c)
     }
 }
 
@@ -146,13 +126,12 @@ impl Tables {
     /// Whether there is room for what the event records. For the last event of a thread of the tables there always is.
     #[inline(always)]
     pub fn has_room_for(&self, event: &Event) -> bool
-        ensures { IsTrue result ↔ HasRoomBeside self.now (thread_of event.now) event.now.kind }
+        ensures { IsTrue result ↔ HasRoomBeside self.now (thread_of event.now) (access_of event.now.kind) }
     {
-        match event.kind {
-            Kind::Read(x, _) => self.variables.has_room_to_read(x, event.thread),
-            Kind::Write(x, _) => self.variables.has_room_to_write(x),
-            Kind::Acquire(m) | Kind::Release(m) => (m.0 as usize) < self.locks.len(),
-            Kind::Fork(u) => (u.0 as usize) < self.threads.len(),
+        match event.kind.access() {
+            Access::Shared(c) => self.cells.has_room_to_read(c, event.thread),
+            Access::Exclusive(c) => self.cells.has_room_to_write(c),
+            Access::Fork(u) => (u.0 as usize) < self.threads.len(),
             _ => true,
         }
     }
@@ -160,51 +139,39 @@ impl Tables {
     /// Makes room for what the event records, where there was none.
     #[inline(never)]
     fn grow_for(&mut self, event: &Event) -> Result<(), Memory>
-        requires { ¬ HasRoomBeside self.old (thread_of event.now) event.now.kind }
+        requires { ¬ HasRoomBeside self.old (thread_of event.now) (access_of event.now.kind) }
         ensures unchanged { IsUnchanged self.old self.new }
         ensures threads { length self.new.threads ≡ length self.old.threads }
         ensures ok { OnOk result (HasItsThreads self.old event.now → HasRoomFor self.new event.now) }
         ensures memory { OnErr result GrowthRefused }
     {
-        match event.kind {
-            Kind::Read(x, _) => self.reserve_reads(x),
-            Kind::Write(x, _) => self.reserve_variable(x),
-            Kind::Acquire(m) | Kind::Release(m) => self.reserve_lock(m),
+        match event.kind.access() {
+            Access::Shared(c) => self.reserve_reads(c),
+            Access::Exclusive(c) => self.reserve_cell(c),
             _ => Ok(()),
         }
     }
 
-    /// Makes room for a write of the variable.
-    fn reserve_variable(&mut self, x: VarId) -> Result<(), Memory>
+    /// Makes room for a write of the cell.
+    fn reserve_cell(&mut self, c: Cell) -> Result<(), Memory>
         ensures same { IsUnchanged self.old self.new }
         ensures threads { length self.new.threads ≡ length self.old.threads }
-        ensures ok { OnOk result (x.0 < length self.new.variables) }
-        ensures err { OnErr result (length self.old.variables ≤ x.0) }
+        ensures ok { OnOk result (c.0 < length self.new.cells) }
+        ensures err { OnErr result (length self.old.cells ≤ c.0) }
         ensures memory { OnErr result GrowthRefused }
     {
-        self.variables.reserve(x)
+        self.cells.reserve(c)
     }
 
-    /// Makes room for a read of the variable by each thread.
-    fn reserve_reads(&mut self, x: VarId) -> Result<(), Memory>
+    /// Makes room for a read of the cell by each thread.
+    fn reserve_reads(&mut self, c: Cell) -> Result<(), Memory>
         ensures same { IsUnchanged self.old self.new }
         ensures threads { length self.new.threads ≡ length self.old.threads }
-        ensures ok { OnOk result (HasRoomToRead (length self.old.threads) self.new x.0) }
+        ensures ok { OnOk result (HasRoomToRead (length self.old.threads) self.new c.0) }
         ensures memory { OnErr result GrowthRefused }
     {
-        self.reserve_variable(x)?;
-        self.variables.reserve_reads(x, self.threads.len())
-    }
-
-    /// Makes room for an event of the lock.
-    fn reserve_lock(&mut self, m: LockId) -> Result<(), Memory>
-        ensures same { IsUnchanged self.old self.new }
-        ensures threads { length self.new.threads ≡ length self.old.threads }
-        ensures ok { OnOk result (m.0 < length self.new.locks) }
-        ensures err { OnErr result (length self.old.locks ≤ m.0) }
-        ensures memory { OnErr result GrowthRefused }
-    {
-        grow_entries(&mut self.locks, m.0 as usize)
+        self.reserve_cell(c)?;
+        self.cells.reserve_reads(c, self.threads.len())
     }
 
     /// Keeps the step, or none, as that of the last event at each place that the event records. There has to be room
@@ -241,30 +208,29 @@ impl Tables {
     /// Keeps the step at the places that the event records beside the last event of its thread.
     #[inline(always)]
     fn record_beside(&mut self, event: &Event, step: Option<Step>)
-        requires { HasRoomBeside self.old (thread_of event.now) event.now.kind }
-        ensures { self.new ≡ kept_after_beside self.old (thread_of event.now) event.now.kind step }
+        requires { HasRoomBeside self.old (thread_of event.now) (access_of event.now.kind) }
+        ensures { self.new ≡ kept_after_beside self.old (thread_of event.now) (access_of event.now.kind) step }
     {
-        match event.kind {
-            Kind::Read(x, _) => self.variables.record_read(x, event.thread, step),
-            Kind::Write(x, _) => self.variables.record_write(x, step),
-            Kind::Acquire(m) | Kind::Release(m) => put_entry(&mut self.locks, m.0 as usize, step),
-            Kind::Fork(u) => put_entry(&mut self.threads, u.0 as usize, step),
+        match event.kind.access() {
+            Access::Shared(c) => self.cells.record_read(c, event.thread, step),
+            Access::Exclusive(c) => self.cells.record_write(c, step),
+            Access::Fork(u) => put_entry(&mut self.threads, u.0 as usize, step),
             _ => {}
         }
     }
 
-    /// Forgets the step of the variable's last read by the thread.
-    pub fn forget_read(&mut self, x: VarId, t: ThreadId)
-        ensures forgotten { IsReadForgotten self.old x.0 t.0 self.new }
+    /// Forgets the step of the cell's last read by the thread.
+    pub fn forget_read(&mut self, c: Cell, t: ThreadId)
+        ensures forgotten { IsReadForgotten self.old c.0 t.0 self.new }
         ensures threads { length self.new.threads ≡ length self.old.threads }
     {
-        self.forget_in_place(x, t);
+        self.forget_in_place(c, t);
     }
 
-    fn forget_in_place(&mut self, x: VarId, t: ThreadId)
-        ensures { self.new ≡ with_variable self.old x.0 (with_read (accesses_of self.old x.0) t.0 None) }
+    fn forget_in_place(&mut self, c: Cell, t: ThreadId)
+        ensures { self.new ≡ with_cell self.old c.0 (with_read (accesses_of self.old c.0) t.0 None) }
     {
-        self.variables.forget_read(x, t);
+        self.cells.forget_read(c, t);
     }
 
     /// Puts the steps that the event looks up into the list, in place of what it had: first that of the thread's last
@@ -277,8 +243,8 @@ impl Tables {
     {
         list.clear();
         push_step(list, self.last_of(event.thread));
-        match event.kind {
-            Kind::Write(x, _) => self.push_accesses(x, None, list),
+        match event.kind.access() {
+            Access::Exclusive(c) => self.push_accesses(c, None, list),
             _ => push_step(list, self.step_beside(event)),
         }
     }
@@ -286,42 +252,41 @@ impl Tables {
     /// The one step that an event but a write looks up beside that of its thread's last event, if there is one.
     #[tactic(auto, unfolding(crate::specs::Kept::steps_looked_up))]
     pub fn step_beside(&self, event: &Event) -> Option<Step>
-        requires { IsFalse (is_write event.now.kind) }
+        requires { IsFalse (is_exclusive (access_of event.now.kind)) }
         ensures { steps_looked_up self.now event.now ≡ option_to_list (entry self.now (LastOf (thread_of event.now))) ++ option_to_list result }
     {
-        match event.kind {
-            Kind::Read(x, _) => self.last_write(x),
-            Kind::Acquire(m) | Kind::Release(m) => self.last_on(m),
-            Kind::Join(u) => self.last_of(u),
+        match event.kind.access() {
+            Access::Shared(c) => self.last_write(c),
+            Access::Join(u) => self.last_of(u),
             _ => None,
         }
     }
 
-    /// Puts the steps that a write of the variable looks up beside that of its thread into the list, in place of what it
+    /// Puts the steps that a write of the cell looks up beside that of its thread into the list, in place of what it
     /// had, but for those of the slot.
     #[tactic(auto, unfolding(crate::specs::Others::accesses_but_for))]
-    pub fn accesses_into(&self, x: VarId, slot: u16, list: &mut SmallVec<Step, MOST_PREDECESSORS>)
+    pub fn accesses_into(&self, c: Cell, slot: u16, list: &mut SmallVec<Step, MOST_PREDECESSORS>)
         requires { MOST_PREDECESSORS ≤ list.old.capacity }
-        ensures items { list.new.items ≡ accesses_but_for self.now x.0 slot }
+        ensures items { list.new.items ≡ accesses_but_for self.now c.0 slot }
         ensures capacity { list.new.capacity ≡ list.old.capacity }
     {
         list.clear();
-        self.push_accesses(x, Some(slot), list);
+        self.push_accesses(c, Some(slot), list);
     }
 
-    /// Appends the steps of the variable's last write and reads, but for those of the slot.
+    /// Appends the steps of the cell's last write and reads, but for those of the slot.
     #[inline]
     fn push_accesses(
         &self,
-        x: VarId,
+        c: Cell,
         slot: Option<u16>,
         list: &mut SmallVec<Step, MOST_PREDECESSORS>,
     )
         requires { HasSpace list.old (1 + MOST_THREADS) }
-        ensures items { list.new.items ≡ list.old.items ++ filter_map (λ p. but_for slot (entry self.now p)) (LastWrite x.0 ∷ map (LastRead x.0) thread_numbers) }
+        ensures items { list.new.items ≡ list.old.items ++ filter_map (λ p. but_for slot (entry self.now p)) (LastWrite c.0 ∷ map (LastRead c.0) thread_numbers) }
         ensures capacity { list.new.capacity ≡ list.old.capacity }
     {
-        self.variables.push_accesses(x, slot, list);
+        self.cells.push_accesses(c, slot, list);
     }
 
     /// The steps that the event looks up: first that of the thread's last event, and a write's reads in the order of their

@@ -1,8 +1,8 @@
 //! Whether a trace can come about, judged position by position with no memory of its own.
-ghost use Rattle.std.specs.Prelude.{◌≡◌, ◌≤◌, ◌+◌, ℕ, length, take, Some, None, Option, option_map, if◌then◌else◌, IsTrue, IfErr, OnOk, ◌||◌};
-ghost use Rattle.velo_events.specs.Event.{are_same, thread_of, value_of, is_acquire, is_write_of, is_on_lock, is_begin_by, is_end_by, is_fork_of, is_join_of, is_exit_by};
-ghost use Rattle.velo_events.specs.Heap.{value_in, holder_in, happened, times, was_born, status_in, depth_in};
-ghost use Rattle.velo_events.specs.Meaning.{refusal_of, holds_a_lock, is_another, is_unborn, is_live, is_joined};
+ghost use Rattle.std.specs.Prelude.{◌≡◌, ◌≤◌, ◌+◌, ℕ, length, take, Some, None, Option, option_map, if◌then◌else◌, IsTrue, IfErr, OnOk, ◌||◌, ◌&&◌, ◌==◌, not};
+ghost use Rattle.velo_events.specs.Event.{are_same, thread_of, value_of, is_acquire, is_acquire_shared, is_write_of, is_on_lock, is_on_share, is_begin_by, is_end_by, is_fork_of, is_join_of, is_exit_by};
+ghost use Rattle.velo_events.specs.Heap.{value_in, holder_in, shares_in, happened, times, was_born, status_in, depth_in};
+ghost use Rattle.velo_events.specs.Meaning.{refusal_of, holds, holds_a_lock, is_shared_beside, is_another, is_unborn, is_live, is_joined};
 ghost use Rattle.velo_events.specs.WellFormed.{IsWellFormed};
 ghost use Rattle.velo_traces.specs.Flaws.{flaw_of, IsFirstFlaw};
 
@@ -61,6 +61,31 @@ fn holder_in(events: &[Event], m: LockId) -> Option<ThreadId>
         holder = holder_after(*event, m, holder);
     }
     holder
+}
+
+/// Whether a thread shares the lock after one more event.
+fn share_after(event: Event, m: LockId, t: ThreadId, before: bool) -> bool
+    ensures { result ≡ (if is_on_share m.0 t.0 event then is_acquire_shared event.kind else before) }
+{
+    if event.thread != t {
+        return before;
+    }
+    match event.kind {
+        Kind::AcquireShared(n) if n == m => true,
+        Kind::ReleaseShared(n) if n == m => false,
+        _ => before,
+    }
+}
+
+/// Whether a thread shares the lock after the events.
+fn shares_in(events: &[Event], m: LockId, t: ThreadId) -> bool
+    ensures { result ≡ shares_in events.now m.0 t.0 }
+{
+    let mut share = false;
+    for event in events {
+        share = share_after(*event, m, t, share);
+    }
+    share
 }
 
 /// Whether a thread was forked, has exited and was joined.
@@ -158,26 +183,62 @@ fn is_holder(holder: Option<ThreadId>, t: ThreadId) -> bool
     }
 }
 
+/// Whether a thread holds the lock after the events, alone or with others.
+fn holds(events: &[Event], t: ThreadId, m: LockId) -> bool
+    ensures { result ≡ holds events.now t.0 m.0 }
+{
+    is_holder(holder_in(events, m), t) || shares_in(events, m, t)
+}
+
 /// Whether a thread holds one of the locks after the events.
 fn holds_a_lock(events: &[Event], bounds: Bounds, t: ThreadId) -> bool
     ensures { result ≡ holds_a_lock bounds events.now t.0 }
 {
     for m in 0..bounds.locks {
-        if is_holder(holder_in(events, LockId(m)), t) {
+        if holds(events, t, LockId(m)) {
             return true;
         }
     }
     false
 }
 
-/// Why the thread may not acquire the lock.
-fn acquire_refusal(holder: Option<ThreadId>, t: ThreadId) -> Option<Refusal>
-    ensures { result ≡ (if is_another (option_map (λ h. h.0) holder) t.0 then Some Refusal.Busy else (if are_same (option_map (λ h. h.0) holder) (Some t.0) then Some Refusal.AlreadyHeld else None)) }
+/// Whether the thread is another than this and shares the lock after the events.
+fn is_sharer_beside(events: &[Event], u: ThreadId, t: ThreadId, m: LockId) -> bool
+    ensures { result ≡ (not (u.0 == t.0) && shares_in events.now m.0 u.0) }
+{
+    u != t && shares_in(events, m, u)
+}
+
+/// Whether another thread than this shares the lock after the events.
+fn is_shared_beside(events: &[Event], bounds: Bounds, t: ThreadId, m: LockId) -> bool
+    ensures { result ≡ is_shared_beside bounds events.now t.0 m.0 }
+{
+    for u in 0..bounds.threads {
+        if is_sharer_beside(events, ThreadId(u), t, m) {
+            return true;
+        }
+    }
+    false
+}
+
+/// Whether another thread than this is the holder.
+fn is_another(holder: Option<ThreadId>, t: ThreadId) -> bool
+    ensures { result ≡ is_another (option_map (λ h. h.0) holder) t.0 }
 {
     match holder {
-        Some(h) if h == t => Some(Refusal::AlreadyHeld),
-        Some(_) => Some(Refusal::Busy),
-        None => None,
+        Some(h) => h != t,
+        None => false,
+    }
+}
+
+/// Why the thread may not acquire the lock, which may be shared or not.
+fn acquire_refusal(holds: bool, held: bool) -> Option<Refusal>
+    ensures { result ≡ (if not holds && held then Some Refusal.Busy else (if holds then Some Refusal.AlreadyHeld else None)) }
+{
+    if holds {
+        Some(Refusal::AlreadyHeld)
+    } else {
+        held.then_some(Refusal::Busy)
     }
 }
 
@@ -223,13 +284,28 @@ fn refusal(events: &[Event], bounds: Bounds, t: ThreadId, kind: Kind) -> Option<
             if m.0 >= bounds.locks {
                 return Some(Refusal::NoSuchLock);
             }
-            acquire_refusal(holder_in(events, m), t)
+            let held =
+                is_another(holder_in(events, m), t) || is_shared_beside(events, bounds, t, m);
+            acquire_refusal(holds(events, t, m), held)
         }
         Kind::Release(m) => {
             if m.0 >= bounds.locks {
                 return Some(Refusal::NoSuchLock);
             }
             (!is_holder(holder_in(events, m), t)).then_some(Refusal::NotHolder)
+        }
+        Kind::AcquireShared(m) => {
+            if m.0 >= bounds.locks {
+                return Some(Refusal::NoSuchLock);
+            }
+            let held = is_another(holder_in(events, m), t);
+            acquire_refusal(holds(events, t, m), held)
+        }
+        Kind::ReleaseShared(m) => {
+            if m.0 >= bounds.locks {
+                return Some(Refusal::NoSuchLock);
+            }
+            (!shares_in(events, m, t)).then_some(Refusal::NotHolder)
         }
         Kind::Begin(_) => (depth_in(events, t) >= MOST_OPEN_BLOCKS).then_some(Refusal::TooDeep),
         Kind::End => (depth_in(events, t) == 0).then_some(Refusal::NoOpenBlock),

@@ -3,7 +3,7 @@ use Rattle.std.specs.Prelude.{ℕ, ◌+◌, ◌%◌, ◌^◌, Bool, true, false,
 use Rattle.velo_events.specs.declared.event.Action.{Action}
 use Rattle.velo_events.specs.declared.event.Action.TheVariants as action
 use Rattle.velo_workload.specs.declared.statement.Statement.{Statement}
-use Rattle.velo_workload.specs.declared.statement.Statement.TheVariants.{Read, Write, Set, Add, Acquire, Release, Begin, End, Fork, Join, Repeat, Done}
+use Rattle.velo_workload.specs.declared.statement.Statement.TheVariants.{Read, Write, Set, Add, Acquire, Release, Share, Unshare, Begin, End, Fork, Join, Repeat, Done}
 use Rattle.velo_worker.specs.declared.progress.Progress.{Progress}
 use Rattle.velo_worker.specs.Walk.{walk_of}
 
@@ -41,6 +41,8 @@ action_for register (Some (Read x)) = action.Read x
 action_for register (Some (Write x)) = action.Write x register
 action_for register (Some (Acquire m)) = action.Acquire m
 action_for register (Some (Release m)) = action.Release m
+action_for register (Some (Share m)) = action.AcquireShared m
+action_for register (Some (Unshare m)) = action.ReleaseShared m
 action_for register (Some (Begin label)) = action.Begin label
 action_for register (Some End) = action.End
 action_for register (Some (Fork t)) = action.Fork t

@@ -103,6 +103,8 @@ fn action_for(register: u64, statement: Option<Statement>) -> Action
         Some(Statement::Write(x)) => Action::Write(x, register),
         Some(Statement::Acquire(m)) => Action::Acquire(m),
         Some(Statement::Release(m)) => Action::Release(m),
+        Some(Statement::Share(m)) => Action::AcquireShared(m),
+        Some(Statement::Unshare(m)) => Action::ReleaseShared(m),
         Some(Statement::Begin(label)) => Action::Begin(label),
         Some(Statement::End) => Action::End,
         Some(Statement::Fork(t)) => Action::Fork(t),

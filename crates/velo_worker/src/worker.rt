@@ -120,6 +120,8 @@ fn act<G: Gate, R: Wait>(
         Action::Write(x, value) => seat.write(rt, shared, x, value)?,
         Action::Acquire(lock) => seat.acquire(rt, shared, lock)?,
         Action::Release(lock) => seat.release(rt, shared, lock)?,
+        Action::AcquireShared(lock) => seat.acquire_shared(rt, shared, lock)?,
+        Action::ReleaseShared(lock) => seat.release_shared(rt, shared, lock)?,
         Action::Begin(label) => seat.begin(rt, shared, label)?,
         Action::End => seat.end(rt, shared)?,
         Action::Fork(child) => {

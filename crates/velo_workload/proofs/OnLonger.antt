@@ -10,7 +10,7 @@ use Rattle.indexmap.specs.IndexSet.{insert_all, insert_key}
 use Rattle.velo_workload.specs.declared.statement.Statement.{Statement}
 use Rattle.velo_workload.specs.declared.statement.Statement.TheVariants as of_statement
 use Rattle.velo_workload.specs.Words.{Word}
-use Rattle.velo_workload.specs.Phrase.{Spoken, Read, Write, Set, Add, Acquire, Release, Begin, End, Fork, Join, Repeat, Done, Phrase}
+use Rattle.velo_workload.specs.Phrase.{Spoken, Read, Write, Set, Add, Acquire, Release, Share, Unshare, Begin, End, Fork, Join, Repeat, Done, Phrase}
 use Rattle.velo_workload.specs.Outline.{Names, names_in, known, is_among, variable_in, lock_in, thread_in, label_in}
 use Rattle.velo_workload.specs.Program.{number_of, statement_of}
 
@@ -71,6 +71,8 @@ statement_longer some all (Set n) x longer e = e
 statement_longer some all (Add n) x longer e = e
 statement_longer some all (Acquire w) x longer e = named_longer some.locks all.locks w (λ i. of_statement.Acquire (record { 0 = i })) x longer.locks e
 statement_longer some all (Release w) x longer e = named_longer some.locks all.locks w (λ i. of_statement.Release (record { 0 = i })) x longer.locks e
+statement_longer some all (Share w) x longer e = named_longer some.locks all.locks w (λ i. of_statement.Share (record { 0 = i })) x longer.locks e
+statement_longer some all (Unshare w) x longer e = named_longer some.locks all.locks w (λ i. of_statement.Unshare (record { 0 = i })) x longer.locks e
 statement_longer some all (Begin w) x longer e = named_longer some.labels all.labels w (λ i. of_statement.Begin (record { 0 = i })) x longer.labels e
 statement_longer some all End x longer e = e
 statement_longer some all (Fork w) x longer e = named_longer some.threads all.threads w (λ i. of_statement.Fork (record { 0 = i })) x longer.threads e

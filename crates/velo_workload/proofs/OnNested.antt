@@ -11,7 +11,7 @@ use Rattle.velo_workload.specs.declared.limits.TheConstants.{MOST_OPEN_REPEATS}
 use Rattle.velo_workload.specs.declared.statement.Statement.{Statement}
 use Rattle.velo_workload.specs.declared.statement.Statement.TheVariants as of_statement
 use Rattle.velo_workload.specs.Bodies.{is_nested, IsBody, AreBodies}
-use Rattle.velo_workload.specs.Phrase.{Spoken, Read, Write, Set, Add, Acquire, Release, Begin, End, Fork, Join, Repeat, Done, Phrase, Thread, Body}
+use Rattle.velo_workload.specs.Phrase.{Spoken, Read, Write, Set, Add, Acquire, Release, Share, Unshare, Begin, End, Fork, Join, Repeat, Done, Phrase, Thread, Body}
 use Rattle.velo_workload.specs.Outline.{Names, Reading, Known, new_body, known, reading, read_from, line_read, opened, end_fault, statement_fault, fault_of_line, fault_from, first_of_two, first_fault}
 use Rattle.velo_workload.specs.Program.{statement_of, number_of, body_from, bodies}
 
@@ -78,6 +78,8 @@ nested_statement names k repeats (Set x) m n rest e f h = h
 nested_statement names k repeats (Add x) m n rest e f h = h
 nested_statement names k repeats (Acquire x) m n rest e f h = named (length repeats) rest (λ i. of_statement.Acquire (record { 0 = i })) (number_of names.locks x) (λ i. refl) h
 nested_statement names k repeats (Release x) m n rest e f h = named (length repeats) rest (λ i. of_statement.Release (record { 0 = i })) (number_of names.locks x) (λ i. refl) h
+nested_statement names k repeats (Share x) m n rest e f h = named (length repeats) rest (λ i. of_statement.Share (record { 0 = i })) (number_of names.locks x) (λ i. refl) h
+nested_statement names k repeats (Unshare x) m n rest e f h = named (length repeats) rest (λ i. of_statement.Unshare (record { 0 = i })) (number_of names.locks x) (λ i. refl) h
 nested_statement names k repeats (Begin x) m n rest e f h = named (length repeats) rest (λ i. of_statement.Begin (record { 0 = i })) (number_of names.labels x) (λ i. refl) h
 nested_statement names k repeats End m n rest e f h = h
 nested_statement names k repeats (Fork x) m n rest e f h = named (length repeats) rest (λ i. of_statement.Fork (record { 0 = i })) (number_of names.threads x) (λ i. refl) h

@@ -19,6 +19,8 @@ pub data Spoken : Type 0 where
   Add : (n : ℕ) → Spoken
   Acquire : (name : Word) → Spoken
   Release : (name : Word) → Spoken
+  Share : (name : Word) → Spoken
+  Unshare : (name : Word) → Spoken
   Begin : (name : Word) → Spoken
   End : Spoken
   Fork : (name : Word) → Spoken
@@ -48,13 +50,19 @@ declaring_verb w =
     else (if bytes_eq w (codes "thread") then verb.Thread
     else verb.Unknown))
 
+unfoldable pub sharing_verb : Word → Verb
+sharing_verb w =
+    if bytes_eq w (codes "share") then verb.Share
+    else (if bytes_eq w (codes "unshare") then verb.Unshare
+    else declaring_verb w)
+
 unfoldable pub order_verb : Word → Verb
 order_verb w =
     if bytes_eq w (codes "fork") then verb.Fork
     else (if bytes_eq w (codes "join") then verb.Join
     else (if bytes_eq w (codes "repeat") then verb.Repeat
     else (if bytes_eq w (codes "done") then verb.Done
-    else declaring_verb w)))
+    else sharing_verb w)))
 
 unfoldable pub block_verb : Word → Verb
 block_verb w =
@@ -102,6 +110,8 @@ phrase_with_name verb.Read name = Body (Read name)
 phrase_with_name verb.Write name = Body (Write name)
 phrase_with_name verb.Acquire name = Body (Acquire name)
 phrase_with_name verb.Release name = Body (Release name)
+phrase_with_name verb.Share name = Body (Share name)
+phrase_with_name verb.Unshare name = Body (Unshare name)
 phrase_with_name verb.Begin name = Body (Begin name)
 phrase_with_name verb.Fork name = Body (Fork name)
 phrase_with_name verb.Join name = Body (Join name)
@@ -152,6 +162,8 @@ spoken (of_spoken.Set n) = Set n
 spoken (of_spoken.Add n) = Add n
 spoken (of_spoken.Acquire name) = Acquire name.now
 spoken (of_spoken.Release name) = Release name.now
+spoken (of_spoken.Share name) = Share name.now
+spoken (of_spoken.Unshare name) = Unshare name.now
 spoken (of_spoken.Begin name) = Begin name.now
 spoken of_spoken.End = End
 spoken (of_spoken.Fork name) = Fork name.now

@@ -9,7 +9,7 @@ use Rattle.velo_workload.specs.declared.fault.WorkFault.TheVariants.{Unknown, Me
 use Rattle.velo_workload.specs.declared.statement.Statement.{Statement}
 use Rattle.velo_workload.specs.declared.statement.Statement.TheVariants as of_statement
 use Rattle.velo_workload.specs.Words.{Word}
-use Rattle.velo_workload.specs.Phrase.{phrases, Spoken, Read, Write, Set, Add, Acquire, Release, Begin, End, Fork, Join, Repeat, Done, Phrase, Thread, Body}
+use Rattle.velo_workload.specs.Phrase.{phrases, Spoken, Read, Write, Set, Add, Acquire, Release, Share, Unshare, Begin, End, Fork, Join, Repeat, Done, Phrase, Thread, Body}
 use Rattle.velo_workload.specs.Outline.{Names, names_in, known, first_fault, first_of_two}
 
 -- the number of a name, where it is among the names
@@ -24,6 +24,8 @@ statement_of names (Set n) = Some (of_statement.Set n)
 statement_of names (Add n) = Some (of_statement.Add n)
 statement_of names (Acquire m) = option_map (λ i. of_statement.Acquire (record { 0 = i })) (number_of names.locks m)
 statement_of names (Release m) = option_map (λ i. of_statement.Release (record { 0 = i })) (number_of names.locks m)
+statement_of names (Share m) = option_map (λ i. of_statement.Share (record { 0 = i })) (number_of names.locks m)
+statement_of names (Unshare m) = option_map (λ i. of_statement.Unshare (record { 0 = i })) (number_of names.locks m)
 statement_of names (Begin l) = option_map (λ i. of_statement.Begin (record { 0 = i })) (number_of names.labels l)
 statement_of names End = Some of_statement.End
 statement_of names (Fork t) = option_map (λ i. of_statement.Fork (record { 0 = i })) (number_of names.threads t)

@@ -2,7 +2,7 @@
 ghost use Rattle.std.specs.Prelude.{◌≡◌, ◌<◌, ◌∷◌, length, IfSome, option_copied};
 ghost use Rattle.std.specs.List.{before_first};
 ghost use Rattle.std.specs.Str.{bytes_eq};
-ghost use Rattle.velo_workload.specs.Phrase.{said, verb_of, block_verb, order_verb, declaring_verb, argument_of, bad_phrase, phrase_of_one_word, phrase_with_name, phrase_with_number, phrase_with_argument, phrase_by, phrase_of};
+ghost use Rattle.velo_workload.specs.Phrase.{said, verb_of, block_verb, order_verb, sharing_verb, declaring_verb, argument_of, bad_phrase, phrase_of_one_word, phrase_with_name, phrase_with_number, phrase_with_argument, phrase_by, phrase_of};
 ghost use Rattle.velo_workload.specs.Known.{lines_left};
 ghost use Rattle.velo_workload.specs.Words.{lines, is_newline};
 
@@ -31,6 +31,10 @@ pub enum Verb {
     Acquire,
     /// `release`.
     Release,
+    /// `share`.
+    Share,
+    /// `unshare`.
+    Unshare,
     /// `begin`.
     Begin,
     /// `end`.
@@ -73,6 +77,10 @@ pub enum Spoken<'a> {
     Acquire(&'a str),
     /// `release` of a lock.
     Release(&'a str),
+    /// `share` of a lock.
+    Share(&'a str),
+    /// `unshare` of a lock.
+    Unshare(&'a str),
     /// `begin` with a label.
     Begin(&'a str),
     /// `end`.
@@ -132,6 +140,21 @@ fn declaring_verb(word: &[u8]) -> Verb
     Verb::Unknown
 }
 
+/// What is done to a share of a lock, or one of the above.
+#[inline(always)]
+#[tactic(auto, unfolding(crate::specs::Phrase::sharing_verb))]
+fn sharing_verb(word: &[u8]) -> Verb
+    ensures { result ≡ sharing_verb word.now }
+{
+    if is_same_word(word, b"share") {
+        return Verb::Share;
+    }
+    if is_same_word(word, b"unshare") {
+        return Verb::Unshare;
+    }
+    declaring_verb(word)
+}
+
 /// A fork, a join or a repeat's end, or one of the above.
 #[inline(always)]
 #[tactic(auto, unfolding(crate::specs::Phrase::order_verb))]
@@ -150,7 +173,7 @@ fn order_verb(word: &[u8]) -> Verb
     if is_same_word(word, b"done") {
         return Verb::Done;
     }
-    declaring_verb(word)
+    sharing_verb(word)
 }
 
 /// A change of the register or a block's end, or one of the above.
@@ -238,6 +261,8 @@ fn phrase_with_name<'a>(verb: Verb, name: &'a str) -> Phrase<'a>
         Verb::Write => Phrase::Body(Spoken::Write(name)),
         Verb::Acquire => Phrase::Body(Spoken::Acquire(name)),
         Verb::Release => Phrase::Body(Spoken::Release(name)),
+        Verb::Share => Phrase::Body(Spoken::Share(name)),
+        Verb::Unshare => Phrase::Body(Spoken::Unshare(name)),
         Verb::Begin => Phrase::Body(Spoken::Begin(name)),
         Verb::Fork => Phrase::Body(Spoken::Fork(name)),
         Verb::Join => Phrase::Body(Spoken::Join(name)),

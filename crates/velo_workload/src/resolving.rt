@@ -57,6 +57,8 @@ pub fn statement(outline: &Outline, said: Spoken) -> Option<Statement>
         Spoken::Add(n) => Some(Statement::Add(n)),
         Spoken::Acquire(name) => Some(Statement::Acquire(lock(&outline.locks, name)?)),
         Spoken::Release(name) => Some(Statement::Release(lock(&outline.locks, name)?)),
+        Spoken::Share(name) => Some(Statement::Share(lock(&outline.locks, name)?)),
+        Spoken::Unshare(name) => Some(Statement::Unshare(lock(&outline.locks, name)?)),
         Spoken::Begin(name) => Some(Statement::Begin(label(&outline.labels, name)?)),
         Spoken::End => Some(Statement::End),
         Spoken::Fork(name) => Some(Statement::Fork(thread(&outline.threads, name)?)),

@@ -17,6 +17,10 @@ pub enum Statement {
     Acquire(LockId),
     /// An event; the thread releases the lock.
     Release(LockId),
+    /// An event; the thread acquires a share of the lock.
+    Share(LockId),
+    /// An event; the thread releases its share of the lock.
+    Unshare(LockId),
     /// An event; the thread begins a block with the label.
     Begin(Label),
     /// An event; the thread ends its innermost open block.

@@ -7,7 +7,7 @@ use Rattle.velo_events.specs.declared.config.Bounds.{Bounds}
 use Rattle.velo_events.specs.declared.config.Config.{Config}
 use Rattle.velo_events.specs.declared.event.Event.{Event}
 use Rattle.velo_events.specs.declared.event.Kind.{Kind}
-use Rattle.velo_events.specs.declared.event.Kind.TheVariants.{Read, Write, Acquire, Release, Begin, End, Fork, Join, Exit}
+use Rattle.velo_events.specs.declared.event.Kind.TheVariants.{Read, Write, Acquire, Release, AcquireShared, ReleaseShared, Begin, End, Fork, Join, Exit}
 use Rattle.velo_events.specs.declared.event.ThreadId.{ThreadId}
 use Rattle.velo_events.specs.declared.refusal.Refusal.{Refusal}
 use Rattle.velo_events.specs.declared.refusal.Refusal.TheVariants.{LogFull, GraphFull}
@@ -37,6 +37,8 @@ refusal_of-asked bounds log t (Read x v) = refl
 refusal_of-asked bounds log t (Write x v) = refl
 refusal_of-asked bounds log t (Acquire m) = refl
 refusal_of-asked bounds log t (Release m) = refl
+refusal_of-asked bounds log t (AcquireShared m) = refl
+refusal_of-asked bounds log t (ReleaseShared m) = refl
 refusal_of-asked bounds log t (Begin l) = refl
 refusal_of-asked bounds log t End = refl
 refusal_of-asked bounds log t (Fork u) = refl
@@ -49,6 +51,8 @@ own_event log t (Read x v) h = ap (λ n. Read x n) (sym (eqb-true v _ h))
 own_event log t (Write x v) h = refl
 own_event log t (Acquire m) h = refl
 own_event log t (Release m) h = refl
+own_event log t (AcquireShared m) h = refl
+own_event log t (ReleaseShared m) h = refl
 own_event log t (Begin l) h = refl
 own_event log t End h = refl
 own_event log t (Fork u) h = refl
@@ -61,6 +65,8 @@ names_asked bounds log (Read x v) h = h
 names_asked bounds log (Write x v) h = h
 names_asked bounds log (Acquire m) h = h
 names_asked bounds log (Release m) h = h
+names_asked bounds log (AcquireShared m) h = h
+names_asked bounds log (ReleaseShared m) h = h
 names_asked bounds log (Begin l) h = h
 names_asked bounds log End h = h
 names_asked bounds log (Fork u) h = h

@@ -9,7 +9,7 @@ use Rattle.velo_events.specs.declared.event.Event.{Event}
 use Rattle.velo_events.specs.declared.event.Action.{Action}
 use Rattle.velo_events.specs.declared.event.ThreadId.{ThreadId}
 use Rattle.velo_events.specs.declared.event.Kind.{Kind}
-use Rattle.velo_events.specs.declared.event.Kind.TheVariants.{Read, Write, Acquire, Release, Begin, End, Fork, Join, Exit}
+use Rattle.velo_events.specs.declared.event.Kind.TheVariants.{Read, Write, Acquire, Release, AcquireShared, ReleaseShared, Begin, End, Fork, Join, Exit}
 use Rattle.velo_events.specs.declared.event.Status.{Status}
 use Rattle.velo_events.specs.declared.event.Status.TheVariants.{Unborn, Live}
 use Rattle.velo_events.specs.declared.refusal.Refusal.{Refusal}
@@ -43,6 +43,8 @@ forked-known bounds (Read x v) u known fork = absurd (false≢true fork)
 forked-known bounds (Write x v) u known fork = absurd (false≢true fork)
 forked-known bounds (Acquire m) u known fork = absurd (false≢true fork)
 forked-known bounds (Release m) u known fork = absurd (false≢true fork)
+forked-known bounds (AcquireShared m) u known fork = absurd (false≢true fork)
+forked-known bounds (ReleaseShared m) u known fork = absurd (false≢true fork)
 forked-known bounds (Begin l) u known fork = absurd (false≢true fork)
 forked-known bounds End u known fork = absurd (false≢true fork)
 forked-known bounds (Fork v) u known fork = subst (λ n. n < bounds.threads) (eqb-true v.0 u fork) known
@@ -54,6 +56,8 @@ at-forked run (Action.Read x) places log t u room fork = absurd (false≢true fo
 at-forked run (Action.Write x v) places log t u room fork = absurd (false≢true fork)
 at-forked run (Action.Acquire m) places log t u room fork = absurd (false≢true fork)
 at-forked run (Action.Release m) places log t u room fork = absurd (false≢true fork)
+at-forked run (Action.AcquireShared m) places log t u room fork = absurd (false≢true fork)
+at-forked run (Action.ReleaseShared m) places log t u room fork = absurd (false≢true fork)
 at-forked run (Action.Begin l) places log t u room fork = absurd (false≢true fork)
 at-forked run Action.End places log t u room fork = absurd (false≢true fork)
 at-forked run (Action.Fork v) places log t u room fork =
@@ -66,6 +70,8 @@ at-unforked run (Action.Read x) places log t u no_fork = refl
 at-unforked run (Action.Write x v) places log t u no_fork = refl
 at-unforked run (Action.Acquire m) places log t u no_fork = refl
 at-unforked run (Action.Release m) places log t u no_fork = refl
+at-unforked run (Action.AcquireShared m) places log t u no_fork = refl
+at-unforked run (Action.ReleaseShared m) places log t u no_fork = refl
 at-unforked run (Action.Begin l) places log t u no_fork = refl
 at-unforked run Action.End places log t u no_fork = refl
 at-unforked run (Action.Fork v) places log t u no_fork = slice_get-set_other places v.0 u (Some (opening_share run v.0)) (eqb-false v.0 u no_fork)
@@ -189,6 +195,8 @@ with_share-born run kept (Action.Read x) places born = refl
 with_share-born run kept (Action.Write x v) places born = refl
 with_share-born run kept (Action.Acquire m) places born = refl
 with_share-born run kept (Action.Release m) places born = refl
+with_share-born run kept (Action.AcquireShared m) places born = refl
+with_share-born run kept (Action.ReleaseShared m) places born = refl
 with_share-born run kept (Action.Begin l) places born = refl
 with_share-born run kept Action.End places born = refl
 with_share-born run kept (Action.Fork u) places born = rw (born u refl) refl
@@ -279,6 +287,8 @@ module _ (w w' : WorldState) (places kept : List (Option Holding)) (t : ThreadId
       by_action (Action.Write x v) is = tt
       by_action (Action.Acquire m) is = tt
       by_action (Action.Release m) is = tt
+      by_action (Action.AcquireShared m) is = tt
+      by_action (Action.ReleaseShared m) is = tt
       by_action (Action.Begin l) is = tt
       by_action Action.End is = tt
       by_action (Action.Fork u) is = rw (kept_share u is) (fork u is)

@@ -21,6 +21,14 @@ const LOST_UPDATE: &str =
 const OPPOSITE: &str =
     "lock m\nlock n\nthread main\nfork a\nacquire m\nacquire n\nrelease n\nrelease m\nthread a\nacquire n\nacquire m\nrelease m\nrelease n";
 
+/// Two threads share a lock, at the same time if the gate has it so.
+const SHARE: &str =
+    "var x\nlock m\nthread main\nfork a\nshare m\nread x\nunshare m\njoin a\nthread a\nshare m\nread x\nunshare m";
+
+/// A lock that is shared, and one that is not, taken in opposite orders.
+const OPPOSITE_SHARE: &str =
+    "lock m\nlock n\nthread main\nfork a\nshare m\nacquire n\nrelease n\nunshare m\nthread a\nacquire n\nacquire m\nrelease m\nrelease n";
+
 /// A thread may pass a step only once the other thread has asked for a step of its own.
 #[derive(Clone, Copy)]
 struct Turn {
@@ -43,6 +51,9 @@ const LOST_ORDER: [Turn; 3] = [turn!(1, 0, 3), turn!(0, 3, 1), turn!(1, 1, 4)];
 
 /// Each thread tries its second lock only once both hold their first.
 const BOTH_HOLD: [Turn; 3] = [turn!(0, 2, 1), turn!(1, 1, 2), turn!(1, 1, 2)];
+
+/// The second thread shares the lock while the first does, and the first lets go of it only after that.
+const BOTH_SHARE: [Turn; 3] = [turn!(1, 0, 3), turn!(0, 3, 1), turn!(0, 3, 1)];
 
 /// A gate that has two threads take turns.
 #[derive(Drop)]
@@ -130,6 +141,14 @@ const LOST: Shown = Shown {
     blamed: &[(1, "inc")],
     counts: &[7, 2],
     first: Some(1),
+};
+
+const SHARED: Shown = Shown {
+    ending: Ending::Done,
+    alarm: None,
+    blamed: &[],
+    counts: &[6, 4],
+    first: Some(0),
 };
 
 const STUCK: Shown = Shown {
@@ -228,6 +247,8 @@ fn live_runs_end_as_they_should(rt: HostRuntime) {
     for (text, turns, shown) in [
         (LOST_UPDATE, LOST_ORDER, LOST),
         (OPPOSITE, BOTH_HOLD, STUCK),
+        (SHARE, BOTH_SHARE, SHARED),
+        (OPPOSITE_SHARE, BOTH_HOLD, STUCK),
     ] {
         assert_eq!(rt;
             shows(&rt, alloc, text, &Order::of(turns), &shown),

@@ -1,6 +1,6 @@
-use Rattle.std.proofs.Common.{◌≡◌, ◌-◌, refl, sym, subst, ◌∙◌, arith, length}
+use Rattle.std.proofs.Common.{◌≡◌, ◌-◌, refl, sym, ap, subst, ◌∙◌, arith, length}
 use Rattle.std.proofs.lemmas.Result.{on_ok_weaker}
-use Rattle.velo_certify.specs.Links.{counted_back, IsKept}
+use Rattle.velo_certify.specs.Links.{counted_back, is_weak, IsKept}
 use Rattle.velo_certify.proofs.OnLinks.{first-small, first-found, conflicts-strong, IsGrown-same, HasLinks-on, HasLinks-not_weak}
 use Rattle.velo_certify.proofs.links.link_on.Goals as goal
 
@@ -21,7 +21,7 @@ unfolding counted_back
 returns-then-not-is_weak-clause-numbers c = (c.take-other.ensures.taken.backward (counted_back c.args.events.now) refl c.requires.numbers).0
 
 pub returns-then-not-is_weak-clause-links : goal.returns-then-not-is_weak-clause-links
-returns-then-not-is_weak-clause-links c = HasLinks-not_weak c.args.events.now c.args.at _ c.args.links.now (sym c.is_weak.ensures ∙ c.if-not-is_weak.true) c.requires.links
+returns-then-not-is_weak-clause-links c = HasLinks-not_weak c.args.events.now c.args.at _ c.args.links.now (ap is_weak (sym c.access.ensures) ∙ (sym c.is_weak.ensures ∙ c.if-not-is_weak.true)) c.requires.links
 
 pub overflow_sub-events-2 : goal.overflow_sub-events-2
 unfolding counted_back

@@ -15,7 +15,7 @@ returns-in_err-judge-clause-found g c =
     let events = c.take_events-stop.new.trace.events in
     let kept = stream_kept _ _ _ (event_lines c.loop-filled.trace.events) (take c.loop-filled.filled.end c.loop-filled.buffer) (take c.in_ok-filled.filled.end c.fill.new.buffer) (event_lines events) rest c.loop-filled.invariant.bytes c.in_ok-filled.ensures.bytes c.take_events-stop.ensures.stream in
     let is = ap (λ n. judged c.take_events-stop.result.1 rest (n + 2)) (sym c.len.ensures) ∙ (sym c.judge.ensures ∙ c.in_err-judge.was) in
-    rw (p.1, p.2) (judged_fault c.args.limit c.in_ok-filled.filled.last events rest c.take_events-stop.result.1 _ _ _ c.take_events-stop.ensures.stop is kept c.in_ok-filled.ensures.known_end)
+    rw (p.1, p.2) (judged_fault c.args.shares c.args.limit c.in_ok-filled.filled.last events rest c.take_events-stop.result.1 _ _ _ c.take_events-stop.ensures.stop is kept c.in_ok-filled.ensures.known_end)
 
 pub loop-filled-preserved : goal.loop-filled-preserved
 loop-filled-preserved g c =

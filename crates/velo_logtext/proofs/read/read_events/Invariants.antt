@@ -1,7 +1,7 @@
 use Rattle.std.proofs.Common.{◌≡◌, ◌≤◌, ◌-◌, ◌++◌, length, take}
 use Rattle.std.specs.Prelude.{IsTrue}
 use Rattle.std.specs.Io.KnownBytes.{Keeps, prepend_known, IsAtEnd}
-use Rattle.velo_logtext.specs.Text.{AreEvents, event_lines}
+use Rattle.velo_logtext.specs.Text.{AreEventsIn, event_lines}
 use Rattle.velo_logtext.proofs.read.read_events.Given as goal
 
 abbrev pub invariant-loop-filled : goal.invariant-loop-filled
@@ -11,7 +11,7 @@ invariant-loop-filled g l =
       within : l.filled.end ≤ length l.buffer;
       bytes : Keeps (prepend_known (event_lines l.fn.trace.events ++ take l.fn.filled.end l.fn.buffer) (remaining l.fn.source)) (prepend_known (event_lines l.trace.events ++ take l.filled.end l.buffer) (remaining l.source));
       known_end : IsTrue l.filled.last → IsAtEnd (remaining l.source);
-      fit : AreEvents l.fn.trace.events → AreEvents l.trace.events;
+      fit : AreEventsIn l.shares l.fn.trace.events → AreEventsIn l.shares l.trace.events;
       few : length l.trace.events ≤ l.limit;
       failures : g.S.Source.failures l.source ≡ g.S.Source.failures l.fn.source;
     }

@@ -1,28 +1,29 @@
-use Rattle.std.proofs.Common.{◌≡◌, sym, arith, ap, length, rules}
-use Rattle.std.proofs.lemmas.Bool.{false≢true}
-use Rattle.velo_runtime.specs.Rooms.{RoomState}
-use Rattle.velo_runtime.proofs.Chains.{within-start, within-no_lead, within-next}
+use Rattle.std.proofs.Common.{◌<◌, ◌^◌, refl, arith}
+use Rattle.std.proofs.Math.Facts.{Fits-lt-pow}
+use Rattle.std.specs.Int.{bit_not}
+use Rattle.std.specs.Int.Bits.{bit_and}
+use mir.Syntax.{w64}
+use Rattle.velo_runtime.proofs.Chains.{IsSearch-next, IsSearch-whole, least_left, more_done, told}
 use Rattle.velo_runtime.proofs.room.comes_back.Goals as goal
 
-pub loop-init : goal.loop-init
-loop-init c = record {
-  there = c.requires;
-  same = within-start c.args.room.now.world.log c.args.room.now.waits c.args.caller.0 _ c.args.wanted (omega arith);
-}
+pub loop-reached-smaller : goal.loop-reached-smaller
+loop-reached-smaller c =
+    let at = c.loop-reached in
+    let small : at.done < 2 ^ 64 = Fits-lt-pow at.auto.done-fits in
+    let some : 0 < bit_and at.reached (bit_not w64 at.done) = omega (arith, c.loop-reached-test.true) in
+    let left = least_left at.reached at.done _ (Fits-lt-pow at.auto.reached-fits) small some refl in
+    let more = more_done at.done _ left.0 left.2 in
+    omega (arith, more, small)
 
-pub returns-in_default-leads_to : goal.returns-in_default-leads_to
-returns-in_default-leads_to c = (
-  λ impossible. absurd (false≢true impossible),
-  λ back. absurd (within-no_lead c.args.room.now.world.log c.args.room.now.waits c.args.caller.0 _ c.in-Some.wanted (sym c.in_default-leads_to.ensures) (rw c.in-Some.is at (c.loop.invariant.same.0 back))),
-)
-
-pub loop-preserved : goal.loop-preserved
-loop-preserved c =
-    let all : length c.args.room.now.waits ≡ length c.room.inside.waits.items = sym (ap (λ (room : RoomState). length room.waits) c.room.view_is) in
-    record {
-      there = c.wait_of-next.ensures.there;
-      same = within-next c.args.room.now.world.log c.args.room.now.waits c.args.caller.0 _ _ c.in-Some.wanted c.in-Some-leads_to.thread.0 c.loop.next c.wait_of-next.result _ (omega (arith, all)) c.in-Some.is (sym c.in-Some-leads_to.ensures) c.if-thread-caller.false c.wait_of-next.ensures.wait c.loop.invariant.same;
-    }
+pub loop-reached-preserved : goal.loop-reached-preserved
+loop-reached-preserved c =
+    let at = c.loop-reached in
+    let some : 0 < bit_and at.reached (bit_not w64 at.done) = omega (arith, c.loop-reached-test.true) in
+    let left = least_left at.reached at.done _ (Fits-lt-pow at.auto.reached-fits) (Fits-lt-pow at.auto.done-fits) some refl in
+    IsSearch-next c.args.room.now.world.log c.args.room.now.waits c.args.wanted at.reached at.done _ _ at.invariant left.0 left.1 c.next_leads-reached.ensures
 
 pub returns : goal.returns
-returns c = search rules
+returns c =
+    let at = c.loop-reached in
+    told c.has_bit.result _ _ c.has_bit.ensures
+    (IsSearch-whole c.args.room.now.world.log c.args.room.now.waits c.args.wanted at.reached at.done at.invariant (Fits-lt-pow at.auto.reached-fits) (Fits-lt-pow at.auto.done-fits) c.loop-reached-test.false c.args.caller.0)

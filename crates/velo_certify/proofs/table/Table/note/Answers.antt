@@ -1,55 +1,46 @@
-use Rattle.std.proofs.Common.{refl, ⊎_elim}
-use Rattle.velo_events.specs.declared.event.Kind.TheVariants.{Read, Write, Acquire, Release, Fork, Join}
+use Rattle.std.proofs.Common.{refl, sym, ◌∙◌, ⊎_elim}
+use Rattle.velo_events.specs.declared.event.Access.{Access}
+use Rattle.velo_events.specs.declared.event.Access.TheVariants.{Shared, Exclusive, Nothing}
 use Rattle.velo_certify.specs.declared.table.Table.{Table}
-use Rattle.velo_certify.proofs.OnRows.{plain_kind, IsNoted-after, AreAfter-plain}
+use Rattle.velo_certify.proofs.OnRows.{IsNoted-after}
 use Rattle.velo_certify.proofs.table.Table.note.Goals as goal
 
-pub returns-in-Read-clause-noted : goal.returns-in-Read-clause-noted
-returns-in-Read-clause-noted c =
-    let new : Table = record { threads = c.raise_at.new.row; handles = c.args.self.now.handles; writes = c.args.self.now.writes; reads = c.raise_at-in-Read.new.row; locks = c.args.self.now.locks } in
-    IsNoted-after c.args.self.now c.args.event c.args.number new c.requires (Read c.in-Read.x c.in-Read.field-1) c.in-Read.is (record {
+pub returns-in-Shared-clause-noted : goal.returns-in-Shared-clause-noted
+returns-in-Shared-clause-noted c =
+    let new : Table = record { threads = c.raise_at.new.row; handles = c.args.self.now.handles; writes = c.args.self.now.writes; reads = c.raise_at-in-Shared.new.row } in
+    IsNoted-after c.args.self.now c.args.event c.args.number new c.requires (Shared c.in-Shared.c) (sym c.access.ensures ∙ c.in-Shared.is) (record {
       threads = c.raise_at.ensures;
       handles = refl;
       writes = refl;
-      reads = c.raise_at-in-Read.ensures;
-      locks = refl;
+      reads = c.raise_at-in-Shared.ensures;
     })
 
-pub returns-in-Write-clause-noted : goal.returns-in-Write-clause-noted
-returns-in-Write-clause-noted c =
-    let new : Table = record { threads = c.raise_at.new.row; handles = c.args.self.now.handles; writes = c.raise_at-in-Write.new.row; reads = c.args.self.now.reads; locks = c.args.self.now.locks } in
-    IsNoted-after c.args.self.now c.args.event c.args.number new c.requires (Write c.in-Write.x c.in-Write.field-1) c.in-Write.is (record {
+pub returns-in-Exclusive-clause-noted : goal.returns-in-Exclusive-clause-noted
+returns-in-Exclusive-clause-noted c =
+    let new : Table = record { threads = c.raise_at.new.row; handles = c.args.self.now.handles; writes = c.raise_at-in-Exclusive.new.row; reads = c.args.self.now.reads } in
+    IsNoted-after c.args.self.now c.args.event c.args.number new c.requires (Exclusive c.in-Exclusive.c) (sym c.access.ensures ∙ c.in-Exclusive.is) (record {
       threads = c.raise_at.ensures;
       handles = refl;
-      writes = c.raise_at-in-Write.ensures;
+      writes = c.raise_at-in-Exclusive.ensures;
       reads = refl;
-      locks = refl;
     })
-
-pub returns-in-Acquire-clause-noted : goal.returns-in-Acquire-clause-noted
-returns-in-Acquire-clause-noted c =
-    let new : Table = record { threads = c.raise_at.new.row; handles = c.args.self.now.handles; writes = c.args.self.now.writes; reads = c.args.self.now.reads; locks = c.raise_at-in-Acquire.new.row } in
-    let threads = c.raise_at.ensures in
-    let locks = c.raise_at-in-Acquire.ensures in
-    ⊎_elim
-    (λ is. IsNoted-after c.args.self.now c.args.event c.args.number new c.requires (Acquire c.in-Acquire.m) is (record { threads = threads; handles = refl; writes = refl; reads = refl; locks = locks }))
-    (λ is. IsNoted-after c.args.self.now c.args.event c.args.number new c.requires (Release c.in-Acquire.m) is (record { threads = threads; handles = refl; writes = refl; reads = refl; locks = locks }))
-    c.in-Acquire.is
 
 pub returns-in-Fork-clause-noted : goal.returns-in-Fork-clause-noted
 returns-in-Fork-clause-noted c =
-    let new : Table = record { threads = c.raise_at.new.row; handles = c.raise_at-in-Fork.new.row; writes = c.args.self.now.writes; reads = c.args.self.now.reads; locks = c.args.self.now.locks } in
+    let new : Table = record { threads = c.raise_at.new.row; handles = c.raise_at-in-Fork.new.row; writes = c.args.self.now.writes; reads = c.args.self.now.reads } in
     let threads = c.raise_at.ensures in
     let handles = c.raise_at-in-Fork.ensures in
     ⊎_elim
-    (λ is. IsNoted-after c.args.self.now c.args.event c.args.number new c.requires (Fork c.in-Fork.u) is (record { threads = threads; handles = handles; writes = refl; reads = refl; locks = refl }))
-    (λ is. IsNoted-after c.args.self.now c.args.event c.args.number new c.requires (Join c.in-Fork.u) is (record { threads = threads; handles = handles; writes = refl; reads = refl; locks = refl }))
+    (λ is. IsNoted-after c.args.self.now c.args.event c.args.number new c.requires (Access.Fork c.in-Fork.u) (sym c.access.ensures ∙ is) (record { threads = threads; handles = handles; writes = refl; reads = refl }))
+    (λ is. IsNoted-after c.args.self.now c.args.event c.args.number new c.requires (Access.Join c.in-Fork.u) (sym c.access.ensures ∙ is) (record { threads = threads; handles = handles; writes = refl; reads = refl }))
     c.in-Fork.is
 
-pub returns-in_default-clause-noted : goal.returns-in_default-clause-noted
-returns-in_default-clause-noted c =
-    let new : Table = record { threads = c.raise_at.new.row; handles = c.args.self.now.handles; writes = c.args.self.now.writes; reads = c.args.self.now.reads; locks = c.args.self.now.locks } in
-    IsNoted-after c.args.self.now c.args.event c.args.number new c.requires c.args.event.kind refl
-    (AreAfter-plain c.args.self.now c.args.event.thread.0 c.args.event.kind c.args.number new
-    (plain_kind c.args.event.kind c.in_default.not-Read c.in_default.not-Write c.in_default.not-Acquire c.in_default.not-Release c.in_default.not-Fork c.in_default.not-Join)
-    c.raise_at.ensures refl refl refl refl)
+pub returns-in-Nothing-clause-noted : goal.returns-in-Nothing-clause-noted
+returns-in-Nothing-clause-noted c =
+    let new : Table = record { threads = c.raise_at.new.row; handles = c.args.self.now.handles; writes = c.args.self.now.writes; reads = c.args.self.now.reads } in
+    IsNoted-after c.args.self.now c.args.event c.args.number new c.requires Nothing (sym c.access.ensures ∙ c.in-Nothing.is) (record {
+      threads = c.raise_at.ensures;
+      handles = refl;
+      writes = refl;
+      reads = refl;
+    })

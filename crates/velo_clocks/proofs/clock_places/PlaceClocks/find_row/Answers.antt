@@ -11,7 +11,6 @@ returns-clause-kept c =
       threads = c.release_rows.ensures.kept.threads;
       writes = c.release_rows.ensures.kept.writes;
       reads = c.release_rows.ensures.kept.reads;
-      locks = c.release_rows.ensures.kept.locks;
       same = λ r used.
           let there = used-there old.rows.in_use.items r used in
           c.append-2.ensures.same r (omega (arith, there, c.requires.rows.flags, ap length rows)) ∙ ap (λ (rs : List (List ℕ)). get_or rs r []) rows;

@@ -1,6 +1,6 @@
 use Rattle.std.proofs.Common.{◌≡◌, ◌+◌, length, get_or, sym, ap, ◌∙◌, subst}
 use Rattle.std.proofs.Math.ListN.{set}
-use Rattle.velo_events.specs.Event.{thread_of}
+use Rattle.velo_events.specs.Event.{thread_of, access_of}
 use Rattle.velo_clocks.specs.declared.epochs.Epoch.{Epoch}
 use Rattle.velo_clocks.specs.declared.read_clocks.ReadBy.TheVariants.{One}
 use Rattle.velo_clocks.specs.declared.read_clocks.ReadClocks.{ReadClocks}
@@ -22,9 +22,9 @@ spread-requires-clause-beside c =
     let e = c.args.event.now in
     let clock = joined_clock (state_of old) c.args.position e in
     let epoch : Epoch = record { by = e.thread; number = c.args.position + 1; row = c.row_of-row.result } in
-    subst (λ m. HasRoomToNoteBeside m (state (alones_in mid.rows.rows (set mid.threads.items (thread_of e) epoch)) (alones_in mid.rows.rows mid.writes.items) (reads_in mid.rows mid.reads) (alones_in mid.rows.rows mid.locks.items) (is_ready mid)) e.kind) (sym c.row_of-row.auto.clock)
-    (subst (λ s. HasRoomToNoteBeside n s e.kind) (sym (thread-noted n old mid c.requires.places c.row_of-row.ensures.kept c.args.position c.row_of-row.result e c.row_of-row.ensures.row))
-    (room-kept n (with_spare (is_ready mid) (state_of old)) (thread_of e) (alone_at clock (thread_of e)) e.kind (room-spare n (state_of old) (is_ready mid) e.kind c.requires.room.beside)))
+    subst (λ m. HasRoomToNoteBeside m (state (alones_in mid.rows.rows (set mid.threads.items (thread_of e) epoch)) (alones_in mid.rows.rows mid.writes.items) (reads_in mid.rows mid.reads) (is_ready mid)) (access_of e.kind)) (sym c.row_of-row.auto.clock)
+    (subst (λ s. HasRoomToNoteBeside n s (access_of e.kind)) (sym (thread-noted n old mid c.requires.places c.row_of-row.ensures.kept c.args.position c.row_of-row.result e c.row_of-row.ensures.row))
+    (room-kept n (with_spare (is_ready mid) (state_of old)) (thread_of e) (alone_at clock (thread_of e)) (access_of e.kind) (room-spare n (state_of old) (is_ready mid) (access_of e.kind) c.requires.room.beside)))
 
 pub spread-requires-clause-follows : goal.spread-requires-clause-follows
 spread-requires-clause-follows c = λ said i one is own.
@@ -47,8 +47,8 @@ returns-clause-noted c =
     let row = c.row_of-row.result in
     let spare = is_ready c.spread.new.self in
     c.spread.ensures.noted
-    ∙ (ap (λ s. with_spare spare (state_after_beside s t e.kind (clock_in mid.rows.rows (record { by = e.thread; number = c.args.position + 1; row = row })))) (thread-noted n old mid c.requires.places c.row_of-row.ensures.kept c.args.position row e c.row_of-row.ensures.row)
-    ∙ (ap (λ xs. with_spare spare (state_after_beside (with_thread (with_spare (is_ready mid) (state_of old)) t (alone_at clock t)) t e.kind xs)) (clock-noted n old mid c.requires.places c.row_of-row.ensures.kept c.args.position row e c.row_of-row.ensures.row)
+    ∙ (ap (λ s. with_spare spare (state_after_beside s t (access_of e.kind) (clock_in mid.rows.rows (record { by = e.thread; number = c.args.position + 1; row = row })))) (thread-noted n old mid c.requires.places c.row_of-row.ensures.kept c.args.position row e c.row_of-row.ensures.row)
+    ∙ (ap (λ xs. with_spare spare (state_after_beside (with_thread (with_spare (is_ready mid) (state_of old)) t (alone_at clock t)) t (access_of e.kind) xs)) (clock-noted n old mid c.requires.places c.row_of-row.ensures.kept c.args.position row e c.row_of-row.ensures.row)
     ∙ ap (with_spare spare) (after-spare (state_of old) (is_ready mid) clock e)))
 
 pub spread-requires-clause-lists : goal.spread-requires-clause-lists

@@ -1,4 +1,5 @@
 use Rattle.std.proofs.Common.{sym, subst, ap, ◌∙◌}
+use Rattle.velo_events.specs.Event.{access_of}
 use Rattle.velo_clocks.specs.Clocks.{KnowsTheSame}
 use Rattle.velo_clocks.specs.Noted.{HasRoomToNoteBeside}
 use Rattle.velo_clocks.specs.Epochs.{has_spare}
@@ -23,7 +24,7 @@ returns-clause-ok c =
     let first = c.reserve_beside.new.self in
     let mid = c.reserve_lists.new.self in
     let new = c.reserve_row.new.self in
-    let k = c.args.event.now.kind in
+    let k = access_of c.args.event.now.kind in
     OnOk-weaker c.reserve_row.result _ _ c.reserve_row.ensures.ok
     (λ spare of. record {
       own = of.own;

@@ -29,7 +29,7 @@ returns-clause-noted c = λ said.
     let was = c.index_mut.result.now in
     let same = own-same n now c.requires.places c.args.position e c.requires.ahead c.requires.room.own own c.index-own.ensures c.if-own-event.false was
     (c.index_mut.ensures.value ∙ ap (λ (v : Vec Epoch Global). get_or v.items t was) c.share_beside.ensures.threads) in
-    ap (λ cs. state cs (alones_in mid.rows.rows mid.writes.items) (reads_in mid.rows mid.reads) (alones_in mid.rows.rows mid.locks.items) (is_ready mid))
+    ap (λ cs. state cs (alones_in mid.rows.rows mid.writes.items) (reads_in mid.rows mid.reads) (is_ready mid))
     (alones-set mid.rows.rows mid.threads.items t (record { by = was.by; number = c.args.position + 1; row = was.row }))
     ∙ (ap (λ (rows : SharedRows). with_thread (state_of mid) t (alone_in rows.rows (record { by = was.by; number = c.args.position + 1; row = was.row }))) c.share_beside.ensures.rows
     ∙ (ap (λ (m : Epoch). with_thread (state_of mid) t (alone_in now.rows.rows (record { by = m.by; number = c.args.position + 1; row = m.row }))) same

@@ -1,14 +1,14 @@
-use Rattle.std.proofs.Common.{◌≡◌, sym, ap, ◌∙◌, subst, arith}
+use Rattle.std.proofs.Common.{sym, ap, ◌∙◌, subst, arith}
 use Rattle.std.specs.Prelude.{◌&&◌}
 use Rattle.std.proofs.Math.ListN.{set}
 use Rattle.velo_clocks.specs.declared.epochs.Epoch.{Epoch}
-use Rattle.velo_clocks.specs.Clocks.{OfWrite, OfReads, OfLock}
-use Rattle.velo_clocks.specs.Noted.{state_after_beside, with_spare, HasRoomToNoteBeside, HasRoomAt}
+use Rattle.velo_clocks.specs.Clocks.{OfWrite, OfReads}
+use Rattle.velo_clocks.specs.Noted.{state_after_beside, with_spare, HasRoomToNoteBeside}
 use Rattle.velo_clocks.specs.Order.{KnowsBeside}
 use Rattle.velo_clocks.specs.Epochs.{clock_in, alone_in, alones_in, has_spare}
 use Rattle.velo_clocks.specs.Reads.{reads_in, has_lists}
-use Rattle.velo_clocks.specs.Places.{state_of, is_ready}
-use Rattle.velo_clocks.proofs.OnPlaces.{state, alones-set, refers-set, by-lock}
+use Rattle.velo_clocks.specs.Places.{state_of}
+use Rattle.velo_clocks.proofs.OnPlaces.{state, alones-set, refers-set}
 use Rattle.velo_clocks.proofs.OnShared.{knows-place, knows-past, place-there}
 use Rattle.velo_clocks.proofs.clock_places.PlaceClocks.share_beside.Goals.{else-x-len-via-then-x-len+else-not-knows, else-x-len-via-else-x-len}
 use Rattle.velo_clocks.proofs.clock_places.PlaceClocks.share_beside.Goals as goal
@@ -19,8 +19,8 @@ returns-else-x-len-clause-known c = λ said.
     let are = c.requires.places in
     let own = c.args.own in
     let clock = clock_in now.rows.rows own in
-    let x = c.in-Read.x.0 in
-    subst (λ k. KnowsBeside (state_of now) k clock) (sym c.in-Read.is)
+    let x = c.in-Shared.c.0 in
+    subst (λ k. KnowsBeside (state_of now) k clock) (sym c.in-Shared.is ∙ c.access.ensures)
     (elim c.else-x-len.branch [
       | else-x-len-via-then-x-len+else-not-knows w ↦
           knows-place now.rows now.writes.items x (omega (arith, w.if-x-len.true, c.len.ensures, now.writes.ok.0)) w.index.result.now w.index.ensures own.by.0 clock (c.requires.own (OfWrite x))
@@ -37,9 +37,8 @@ returns-else-not-are_known-clause-places c =
       count = are.count;
       rows = are.rows;
       threads = are.threads;
-      writes = refers-set c.args.threads now.rows are.rows now.writes.items are.writes c.in-Write.x.0 epoch c.requires.in_use;
+      writes = refers-set c.args.threads now.rows are.rows now.writes.items are.writes c.in-Exclusive.c.0 epoch c.requires.in_use;
       reads = c.clear.ensures.reads c.args.threads now.rows are.rows are.reads;
-      locks = are.locks;
     }
 
 pub returns-else-not-are_known-clause-known : goal.returns-else-not-are_known-clause-known
@@ -48,10 +47,10 @@ returns-else-not-are_known-clause-known c = λ said.
     let are = c.requires.places in
     let own = c.args.own in
     let clock = clock_in now.rows.rows own in
-    let x = c.in-Write.x.0 in
-    subst (λ k. KnowsBeside (state_of now) k clock) (sym c.in-Write.is) (
-      knows-place now.rows now.writes.items x (place-there c.args.threads now.rows.rows now.writes.items x (omega (arith, c.requires.by)) (subst (HasRoomToNoteBeside c.args.threads (state_of now)) c.in-Write.is c.requires.beside)) c.index-in-Write.result.now c.index-in-Write.ensures own.by.0 clock (c.requires.own (OfWrite x))
-          (λ known. c.knows-in-Write.ensures c.args.threads are.rows c.requires.in_use known c.if-not-knows-2.false),
+    let x = c.in-Exclusive.c.0 in
+    subst (λ k. KnowsBeside (state_of now) k clock) (sym c.in-Exclusive.is ∙ c.access.ensures) (
+      knows-place now.rows now.writes.items x (place-there c.args.threads now.rows.rows now.writes.items x (omega (arith, c.requires.by)) (subst (HasRoomToNoteBeside c.args.threads (state_of now)) (sym c.access.ensures ∙ c.in-Exclusive.is) c.requires.beside)) c.index-in-Exclusive.result.now c.index-in-Exclusive.ensures own.by.0 clock (c.requires.own (OfWrite x))
+          (λ known. c.knows-in-Exclusive.ensures c.args.threads are.rows c.requires.in_use known c.if-not-knows-2.false),
       c.are_known.ensures c.args.threads are.rows are.reads c.requires.in_use (c.requires.own (OfReads x)) c.if-not-are_known.false,
     )
 
@@ -62,29 +61,7 @@ returns-else-not-are_known-clause-noted c = λ said.
     let epoch : Epoch = record { by = c.args.own.by; number = c.args.number; row = c.args.own.row } in
     let clock = clock_in rows epoch in
     let threads = alones_in rows now.threads.items in
-    let locks = alones_in rows now.locks.items in
     let spare = has_spare now.rows && has_lists c.clear.new.self in
-    ap (λ cs. state threads cs (reads_in now.rows c.clear.new.self) locks spare) (alones-set rows now.writes.items c.in-Write.x.0 epoch)
-    ∙ (ap (λ cs. state threads (set (alones_in rows now.writes.items) c.in-Write.x.0 (alone_in rows epoch)) cs locks spare) (c.clear.ensures.cleared c.args.threads now.rows c.requires.places.rows c.requires.places.reads)
-    ∙ ap (λ k. with_spare spare (state_after_beside (state_of now) epoch.by.0 k clock)) (sym c.in-Write.is))
-
-pub returns-else-not-knows-3-clause-known : goal.returns-else-not-knows-3-clause-known
-returns-else-not-knows-3-clause-known c = λ said.
-    let now = c.args.self.now in
-    let own = c.args.own in
-    let clock = clock_in now.rows.rows own in
-    let m = c.in-Acquire.m.0 in
-    let room = by-lock (λ k. HasRoomToNoteBeside c.args.threads (state_of now) k → HasRoomAt c.args.threads (alones_in now.rows.rows now.locks.items) m) c.args.event.now.kind c.in-Acquire.m c.in-Acquire.is (λ r. r) (λ r. r) c.requires.beside in
-    let knows = knows-place now.rows now.locks.items m (place-there c.args.threads now.rows.rows now.locks.items m (omega (arith, c.requires.by)) room) c.index-in-Acquire.result.now c.index-in-Acquire.ensures own.by.0 clock (c.requires.own (OfLock m))
-    (λ known. c.knows-in-Acquire.ensures c.args.threads c.requires.places.rows c.requires.in_use known c.if-not-knows-3.false) in
-    by-lock (λ k. KnowsBeside (state_of now) k clock) c.args.event.now.kind c.in-Acquire.m c.in-Acquire.is knows knows
-
-pub returns-else-not-knows-3-clause-noted : goal.returns-else-not-knows-3-clause-noted
-returns-else-not-knows-3-clause-noted c = λ said.
-    let now = c.args.self.now in
-    let rows = now.rows.rows in
-    let epoch : Epoch = record { by = c.args.own.by; number = c.args.number; row = c.args.own.row } in
-    let clock = clock_in rows epoch in
-    let spare = is_ready now in
-    let noted = ap (λ cs. state (alones_in rows now.threads.items) (alones_in rows now.writes.items) (reads_in now.rows now.reads) cs spare) (alones-set rows now.locks.items c.in-Acquire.m.0 epoch) in
-    by-lock (λ k. state (alones_in rows now.threads.items) (alones_in rows now.writes.items) (reads_in now.rows now.reads) (alones_in rows (set now.locks.items c.in-Acquire.m.0 epoch)) spare ≡ with_spare spare (state_after_beside (state_of now) epoch.by.0 k clock)) c.args.event.now.kind c.in-Acquire.m c.in-Acquire.is noted noted
+    ap (λ cs. state threads cs (reads_in now.rows c.clear.new.self) spare) (alones-set rows now.writes.items c.in-Exclusive.c.0 epoch)
+    ∙ (ap (λ cs. state threads (set (alones_in rows now.writes.items) c.in-Exclusive.c.0 (alone_in rows epoch)) cs spare) (c.clear.ensures.cleared c.args.threads now.rows c.requires.places.rows c.requires.places.reads)
+    ∙ ap (λ k. with_spare spare (state_after_beside (state_of now) epoch.by.0 k clock)) (sym c.in-Exclusive.is ∙ c.access.ensures))

@@ -1,5 +1,6 @@
 use Rattle.std.proofs.Common.{◌≡◌, length, sym, ap, ◌∙◌, subst, arith}
 use Rattle.std.proofs.lemmas.List.{length-map}
+use Rattle.velo_events.specs.Event.{access_of}
 use Rattle.velo_clocks.specs.Clocks.{ClockState, IsNoted}
 use Rattle.velo_clocks.specs.Epochs.{alone_in}
 use Rattle.velo_clocks.specs.Places.{state_of, ArePlaces}
@@ -24,7 +25,7 @@ invariant_of-self-2 c =
       places = subst (λ n. ArePlaces n c.share.new.self) same c.share.ensures.places;
       order = λ said.
           order-noted (state_of inside.places) inside.latest c.args.position c.args.event.now (c.self.invariant.order said)
-          (record { later = omega (arith, c.if-position-self.false); forked = forks-nobody (state_of inside.places) c.args.event.now.kind (c.share.ensures.forks_none c.if-not-share.false) })
+          (record { later = omega (arith, c.if-position-self.false); forked = forks-nobody (state_of inside.places) (access_of c.args.event.now.kind) (c.share.ensures.forks_none c.if-not-share.false) })
           (state_of c.share.new.self)
           (subst (λ (s : ClockState). IsNoted s c.args.position c.args.event.now (state_of c.share.new.self)) (sym c.self.view_is) is_noted);
     }

@@ -8,5 +8,5 @@ change-requires c = CanChange-admitted c.args.self.now c.args.event.now c.requir
 
 pub returns-clause-next : goal.returns-clause-next
 returns-clause-next c = λ trace stands.
-    subst (λ heap. IsHeapOf heap (trace ++ c.args.event.now ∷ [])) (sym c.change.ensures)
-    (IsHeapOf-apply c.args.self.now c.args.event.now c.requires trace stands)
+    subst (λ heap. IsHeapOf heap (trace ++ c.args.event.now ∷ [])) (sym c.change.ensures.changed)
+    (IsHeapOf-apply c.args.self.now c.args.event.now c.change.ensures.few c.requires trace stands)

@@ -1,4 +1,4 @@
-use Rattle.std.proofs.Common.{◌≡◌, [], ◌∷◌, ◌++◌, IsTrue, ◌↔◌, false, ap, ◌∙◌, subst}
+use Rattle.std.proofs.Common.{◌≡◌, sym, [], ◌∷◌, ◌++◌, IsTrue, ◌↔◌, false, ap, ◌∙◌, subst}
 use Rattle.std.specs.Option.{option_to_list}
 use Rattle.velo_events.specs.Event.{thread_of}
 use Rattle.velo_events.specs.Place.{LastOf}
@@ -10,15 +10,15 @@ use Rattle.velo_monitor.proofs.OnOwn.{closes-all, adds-all, adds-nothing, reache
 use Rattle.velo_monitor.proofs.OnOthers.{closes-write, adds-write}
 use Rattle.velo_monitor.proofs.monitor.Monitor.closes_or_extends.Goals as goal
 
-pub returns-in-Write-clause-closes : goal.returns-in-Write-clause-closes
-returns-in-Write-clause-closes c =
+pub returns-in-Exclusive-clause-closes : goal.returns-in-Exclusive-clause-closes
+returns-in-Exclusive-clause-closes c =
     let w = c.args.self.now in
-    closes-write w.nodes w.kept c.args.event.now c.args.own c.in-Write.x _ c.in-Write.is c.requires.current c.closes_or_follows.result c.closes_or_follows.ensures.closes
+    closes-write w.nodes w.kept c.args.event.now c.args.own c.in-Exclusive.cell (sym c.access.ensures ∙ c.in-Exclusive.is) c.requires.current c.closes_or_follows.result c.closes_or_follows.ensures.closes
 
-pub returns-in-Write-clause-adds : goal.returns-in-Write-clause-adds
-returns-in-Write-clause-adds c going =
+pub returns-in-Exclusive-clause-adds : goal.returns-in-Exclusive-clause-adds
+returns-in-Exclusive-clause-adds c going =
     let w = c.args.self.now in
-    adds-write w.nodes w.kept c.args.event.now c.args.own c.in-Write.x _ c.in-Write.is c.requires.current c.closes_or_follows.new.self.nodes c.requires.borne (c.closes_or_follows.ensures.adds going)
+    adds-write w.nodes w.kept c.args.event.now c.args.own c.in-Exclusive.cell (sym c.access.ensures ∙ c.in-Exclusive.is) c.requires.current c.closes_or_follows.new.self.nodes c.requires.borne (c.closes_or_follows.ensures.adds going)
 
 pub returns-in-Some-clause-closes : goal.returns-in-Some-clause-closes
 returns-in-Some-clause-closes c =

@@ -6,4 +6,4 @@ use Rattle.velo_tables.proofs.tables.Tables.forget_read.Goals as goal
 pub returns-clause-forgotten : goal.returns-clause-forgotten
 returns-clause-forgotten c =
     let before = c.args.self.now in
-    subst (IsReadForgotten before c.args.x.0 c.args.t.0) (sym c.forget_in_place.ensures) (IsReadForgotten-after before c.args.x.0 c.args.t.0)
+    subst (IsReadForgotten before c.args.c.0 c.args.t.0) (sym c.forget_in_place.ensures) (IsReadForgotten-after before c.args.c.0 c.args.t.0)

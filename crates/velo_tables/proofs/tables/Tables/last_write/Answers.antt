@@ -4,4 +4,4 @@ use Rattle.velo_tables.specs.Kept.{entry}
 use Rattle.velo_tables.proofs.tables.Tables.last_write.Goals as goal
 
 pub returns : goal.returns
-returns c = c.last_write.ensures ∙ ap (λ kept. entry kept (LastWrite c.args.x.0)) c.self.view_is
+returns c = c.last_write.ensures ∙ ap (λ kept. entry kept (LastWrite c.args.c.0)) c.self.view_is

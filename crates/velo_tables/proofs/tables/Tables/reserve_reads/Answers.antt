@@ -6,18 +6,18 @@ use Rattle.velo_tables.proofs.tables.Tables.reserve_reads.Goals as goal
 
 pub returns-clause-same : goal.returns-clause-same
 returns-clause-same c =
-    let kept : Kept = record { threads = c.self.inside.threads.items; variables = c.self.inside.variables; locks = c.self.inside.locks.items } in
-    let after : Kept = record { threads = c.self.inside.threads.items; variables = c.reserve_reads.new.self; locks = c.self.inside.locks.items } in
-    let there : c.args.x.0 < length kept.variables = subst (λ (k : Kept). c.args.x.0 < length k.variables) (sym c.self.view_is) c.in_ok-reserve_variable.ensures.ok in
-    IsUnchanged-trans c.args.self.now c.reserve_variable.new.self after c.reserve_variable.ensures.same
-    (subst (λ old. IsUnchanged old after) c.self.view_is (reads_grown c.reserve_reads.result kept c.args.x.0 c.len.result c.reserve_reads.new.self there c.reserve_reads.ensures.ok c.reserve_reads.ensures.err))
+    let kept : Kept = record { threads = c.self.inside.threads.items; cells = c.self.inside.cells } in
+    let after : Kept = record { threads = c.self.inside.threads.items; cells = c.reserve_reads.new.self } in
+    let there : c.args.c.0 < length kept.cells = subst (λ (k : Kept). c.args.c.0 < length k.cells) (sym c.self.view_is) c.in_ok-reserve_cell.ensures.ok in
+    IsUnchanged-trans c.args.self.now c.reserve_cell.new.self after c.reserve_cell.ensures.same
+    (subst (λ old. IsUnchanged old after) c.self.view_is (reads_grown c.reserve_reads.result kept c.args.c.0 c.len.result c.reserve_reads.new.self there c.reserve_reads.ensures.ok c.reserve_reads.ensures.err))
 
 pub returns-clause-ok : goal.returns-clause-ok
 returns-clause-ok c =
-    let kept : Kept = record { threads = c.self.inside.threads.items; variables = c.self.inside.variables; locks = c.self.inside.locks.items } in
-    let after : Kept = record { threads = c.self.inside.threads.items; variables = c.reserve_reads.new.self; locks = c.self.inside.locks.items } in
-    let there : c.args.x.0 < length kept.variables = subst (λ (k : Kept). c.args.x.0 < length k.variables) (sym c.self.view_is) c.in_ok-reserve_variable.ensures.ok in
+    let kept : Kept = record { threads = c.self.inside.threads.items; cells = c.self.inside.cells } in
+    let after : Kept = record { threads = c.self.inside.threads.items; cells = c.reserve_reads.new.self } in
+    let there : c.args.c.0 < length kept.cells = subst (λ (k : Kept). c.args.c.0 < length k.cells) (sym c.self.view_is) c.in_ok-reserve_cell.ensures.ok in
     let threads : c.len.result ≡ length c.args.self.now.threads =
-    (c.len.ensures ∙ c.self.inside.threads.ok.0) ∙ (ap (λ (k : Kept). length k.threads) c.self.view_is ∙ c.reserve_variable.ensures.threads) in
-    subst (λ n. OnOk c.reserve_reads.result (HasRoomToRead n after c.args.x.0)) threads
-    (reads_room c.reserve_reads.result kept c.args.x.0 c.len.result c.reserve_reads.new.self there c.reserve_reads.ensures.ok)
+    (c.len.ensures ∙ c.self.inside.threads.ok.0) ∙ (ap (λ (k : Kept). length k.threads) c.self.view_is ∙ c.reserve_cell.ensures.threads) in
+    subst (λ n. OnOk c.reserve_reads.result (HasRoomToRead n after c.args.c.0)) threads
+    (reads_room c.reserve_reads.result kept c.args.c.0 c.len.result c.reserve_reads.new.self there c.reserve_reads.ensures.ok)
