@@ -6,13 +6,14 @@ use Rattle.std.specs.Str.{bytes_eq}
 use Rattle.std.specs.Str.Parse.{digits_value, without_leading_plus}
 use Rattle.clap.specs.Words.{Row, Text, first_of, one_of}
 use Rattle.velo_program.specs.declared.request.Limits.{Limits}
+use Rattle.velo_program.specs.declared.request.CarryOptions.{CarryOptions}
 use Rattle.velo_program.specs.declared.request.CheckOptions.{CheckOptions}
 use Rattle.velo_program.specs.declared.request.RunOptions.{RunOptions}
 use Rattle.velo_program.specs.declared.request.ReplayOptions.{ReplayOptions}
 use Rattle.velo_program.specs.declared.request.ExplainOptions.{ExplainOptions}
 use Rattle.velo_program.specs.declared.request.Request.{Request}
-use Rattle.velo_program.specs.declared.request.Request.TheVariants.{Check, Replay, Run, Explain}
-use Rattle.velo_command.specs.Asked.{AreLimits, AsksFor, AsksForNothing, IsCheck, IsExplanation, IsFlag, IsReplay, IsRun, WritesNumber}
+use Rattle.velo_program.specs.declared.request.Request.TheVariants.{Carry, Check, Replay, Run, Explain}
+use Rattle.velo_command.specs.Asked.{AreLimits, AsksFor, AsksForNothing, IsCarrying, IsCheck, IsExplanation, IsFlag, IsReplay, IsRun, WritesNumber}
 use Rattle.velo_command.specs.CommandLine.{asked_by, faults_of}
 use Rattle.velo_command.proofs.OnLimits.{HasWord}
 use Rattle.velo_command.proofs.OnRight.{HasLimits, IsRight, faultless_is_right}
@@ -92,6 +93,10 @@ unfolding a_path
 an_explanation rows word =
     (record { log = a_path word.0; dot = a_path_if (first_of (codes "dot") rows) }, (word.1, path_of (first_of (codes "dot") rows)))
 
+a_carrying : (rows : List Row) → HasWord (codes "LOG") rows → HasWord (codes "log") rows → (options : CarryOptions) × IsCarrying rows options
+unfolding a_path
+a_carrying rows word out = (record { log = a_path word.0; out = a_path out.0 }, (word.1, out.1))
+
 right_asks : (found : Text × List Row) → IsRight found → (request : Request) × AsksFor (Some found) request
 right_asks found (inl is) =
     let options = a_check found.1 is.1 is.2 in
@@ -102,9 +107,12 @@ right_asks found (inr (inl is)) =
 right_asks found (inr (inr (inl is))) =
     let options = a_run found.1 is.1 is.2 in
     (Run options.0, (is.0, options.1))
-right_asks found (inr (inr (inr is))) =
+right_asks found (inr (inr (inr (inl is)))) =
     let options = an_explanation found.1 is.1 in
     (Explain options.0, (is.0, options.1))
+right_asks found (inr (inr (inr (inr is)))) =
+    let options = a_carrying found.1 is.1 is.2 in
+    (Carry options.0, (is.0, options.1))
 
 -- words without a fault ask for a request
 pub faultless_asks : (words : List Text) → faults_of words ≡ [] → ¬ AsksForNothing (asked_by words)

@@ -11,7 +11,7 @@ use Rattle.clap.specs.Takes.{is_given}
 use Rattle.clap.specs.Faults.{built_fault, defaults_fault, entered_fault, fault_of, level_fault, settle_fault, values_fault, walk_fault}
 use Rattle.clap.specs.declared.parser.matches.ValueSource.{ValueSource}
 use Rattle.velo_events.specs.declared.limits.TheConstants.{MOST_EVENTS, MOST_NODES}
-use Rattle.velo_command.specs.CommandLine.{check, command_line, events, explain, flag, nodes, replay, run, valued, word}
+use Rattle.velo_command.specs.CommandLine.{carry, check, command_line, events, explain, flag, needed, nodes, replay, run, valued, word}
 use Rattle.velo_command.proofs.OnWalk.{Each, found_has, level_keeps, neither}
 use Rattle.velo_command.proofs.OnStop.{StopsNotAtHelp, walk_stops}
 use Rattle.velo_command.proofs.OnRows.{IsFilled, MakesRows, default_keeps, defaults_have, is_plain, new_row, required_given, row_given, row_there, subcommand_there, used_keeps}
@@ -107,6 +107,9 @@ makes_word name events_apart nodes_apart = makes limits (with_index 1 (filled (w
 makes_valued : (name : Text) → bytes_eq name (codes "events") ≡ false → bytes_eq name (codes "nodes") ≡ false → MakesRows (Passes limits) (filled (valued name))
 makes_valued name events_apart nodes_apart = makes limits (filled (valued name)) refl (inl events_apart, (inl nodes_apart, tt))
 
+makes_needed : (name : Text) → bytes_eq name (codes "events") ≡ false → bytes_eq name (codes "nodes") ≡ false → MakesRows (Passes limits) (filled (needed name))
+makes_needed name events_apart nodes_apart = makes limits (filled (needed name)) refl (inl events_apart, (inl nodes_apart, tt))
+
 makes_flag : (name : Text) → bytes_eq name (codes "events") ≡ false → bytes_eq name (codes "nodes") ≡ false → MakesRows (Passes limits) (filled (flag name))
 makes_flag name events_apart nodes_apart = makes limits (filled (flag name)) refl (inl events_apart, (inl nodes_apart, tt))
 
@@ -151,6 +154,11 @@ explain_right words e =
     let level = level_has limits (leaf explain) words refl (makes_word (codes "LOG") refl refl, (makes_valued (codes "dot") refl refl, (makes_help, tt))) e in
     word_there (codes "LOG") (rows_of_leaf explain words) level.passes (level.given.0 refl)
 
+carry_right : (words : List Text) → level_fault (leaf carry) [] nothing_held words false [] ≡ [] → HasWord (codes "LOG") (rows_of_leaf carry words) × HasWord (codes "log") (rows_of_leaf carry words)
+carry_right words e =
+    let level = level_has limits (leaf carry) words refl (makes_word (codes "LOG") refl refl, (makes_needed (codes "log") refl refl, (makes_help, tt))) e in
+    (word_there (codes "LOG") (rows_of_leaf carry words) level.passes (level.given.0 refl), word_there (codes "log") (rows_of_leaf carry words) level.passes (level.given.1.0 refl))
+
 -- ---- the words
 
 -- the subcommand is one of the program's, its word is there, and its limits are numbers in their ranges
@@ -158,7 +166,8 @@ abbrev pub IsRight : Text × List Row → Type 0
 IsRight found = ((found.0 ≡ codes "check") × HasWord (codes "LOG") found.1 × HasLimits found.1)
     ⊎ (((found.0 ≡ codes "replay") × HasWord (codes "FILE") found.1 × HasLimits found.1)
     ⊎ (((found.0 ≡ codes "run") × HasWord (codes "FILE") found.1 × HasLimits found.1)
-    ⊎ ((found.0 ≡ codes "explain") × HasWord (codes "LOG") found.1)))
+    ⊎ (((found.0 ≡ codes "explain") × HasWord (codes "LOG") found.1)
+    ⊎ ((found.0 ≡ codes "carry") × HasWord (codes "LOG") found.1 × HasWord (codes "log") found.1))))
 
 -- the subcommand is right where its level has no fault and it is not entered as `help`
 abbrev IsRightAt : Text → List Text → Shape → Type 0
@@ -178,7 +187,10 @@ each_right name words apart = (
     λ hit e. inr (inl (refl, (replay_right words e).0, (replay_right words e).1)),
     (
       λ hit e. inr (inr (inl (refl, (run_right words e).0, (run_right words e).1))),
-      (λ hit e. inr (inr (inr (refl, explain_right words e))), (λ hit e. absurd (not_help name apart hit), tt)),
+      (
+        λ hit e. inr (inr (inr (inl (refl, explain_right words e)))),
+        (λ hit e. inr (inr (inr (inr (refl, (carry_right words e).0, (carry_right words e).1)))), (λ hit e. absurd (not_help name apart hit), tt)),
+      ),
     ),
   ),
 )

@@ -5,11 +5,12 @@ use Rattle.clap.specs.Faults.{defaults_fault, walk_fault}
 use Rattle.clap.specs.Walk.{walked}
 use Rattle.clap.specs.Words.{Text}
 use Rattle.clap.specs.declared.error.kind.ErrorKind.TheVariants.{DisplayHelp, DisplayVersion, InvalidSubcommand, MissingRequiredArgument, MissingSubcommand, UnknownArgument, ValueValidation}
+use Rattle.velo_program.specs.declared.request.CarryOptions.{CarryOptions}
 use Rattle.velo_program.specs.declared.request.CheckOptions.{CheckOptions}
 use Rattle.velo_program.specs.declared.request.ExplainOptions.{ExplainOptions}
 use Rattle.velo_program.specs.declared.request.ReplayOptions.{ReplayOptions}
 use Rattle.velo_program.specs.declared.request.RunOptions.{RunOptions}
-use Rattle.velo_program.specs.declared.request.Request.TheVariants.{Check, Explain, Replay, Run}
+use Rattle.velo_program.specs.declared.request.Request.TheVariants.{Carry, Check, Explain, Replay, Run}
 use Rattle.velo_command.specs.Asked.{AsksFor}
 use Rattle.velo_command.specs.CommandLine.{asked_by, faults_of}
 
@@ -71,7 +72,23 @@ explain_asks : (options : ExplainOptions) → options.log.now ≡ codes "a" → 
 unfolding asked_by walked
 explain_asks options log dot = (refl, (ap Some (sym log), sym dot))
 
+-- a log, and the file for it
+abbrev carry_words : List Text
+carry_words = codes "velodrome" ∷ codes "carry" ∷ codes "a" ∷ codes "--log" ∷ codes "b" ∷ []
+
+carry_is_right : faults_of carry_words ≡ []
+unfolding faults_of walk_fault walked defaults_fault
+carry_is_right = refl
+
+carry_asks : (options : CarryOptions) → options.log.now ≡ codes "a" → options.out.now ≡ codes "b" → AsksFor (asked_by carry_words) (Carry options)
+unfolding asked_by walked
+carry_asks options log out = (refl, (ap Some (sym log), ap Some (sym out)))
+
 -- ---- wrong words, and words that ask for help
+
+no_file_to_carry_to : faults_of (codes "velodrome" ∷ codes "carry" ∷ codes "a" ∷ []) ≡ MissingRequiredArgument ∷ []
+unfolding faults_of walk_fault walked defaults_fault
+no_file_to_carry_to = refl
 
 no_subcommand : faults_of (codes "velodrome" ∷ []) ≡ MissingSubcommand ∷ []
 unfolding faults_of walk_fault walked defaults_fault

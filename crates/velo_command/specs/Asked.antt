@@ -3,12 +3,13 @@ use Rattle.std.specs.Prelude.{◌≡◌, ◌<◌, ◌^◌, ℕ, Bool, true, fals
 use Rattle.std.specs.Str.Parse.{IsNumeral, digits_value, without_leading_plus}
 use Rattle.clap.specs.Words.{Row, Text, first_of, one_of}
 use Rattle.velo_program.specs.declared.request.Limits.{Limits}
+use Rattle.velo_program.specs.declared.request.CarryOptions.{CarryOptions}
 use Rattle.velo_program.specs.declared.request.CheckOptions.{CheckOptions}
 use Rattle.velo_program.specs.declared.request.RunOptions.{RunOptions}
 use Rattle.velo_program.specs.declared.request.ReplayOptions.{ReplayOptions}
 use Rattle.velo_program.specs.declared.request.ExplainOptions.{ExplainOptions}
 use Rattle.velo_program.specs.declared.request.Request.{Request}
-use Rattle.velo_program.specs.declared.request.Request.TheVariants.{Check, Replay, Run, Explain}
+use Rattle.velo_program.specs.declared.request.Request.TheVariants.{Carry, Check, Replay, Run, Explain}
 
 -- the text writes this number, which an unsigned type of so many bits holds; a plus may stand before it
 abbrev pub WritesNumber : ℕ → Option Text → ℕ → Type 0
@@ -50,14 +51,23 @@ IsExplanation rows options =
     (first_of (codes "LOG") rows ≡ Some options.log.now)
     × (first_of (codes "dot") rows ≡ option_map (λ path. path.now) options.dot)
 
+abbrev pub IsCarrying : List Row → CarryOptions → Type 0
+IsCarrying rows options =
+    (first_of (codes "LOG") rows ≡ Some options.log.now) × (first_of (codes "log") rows ≡ Some options.out.now)
+
+-- a subcommand by its name, with the values of its arguments
+abbrev pub Asked : Type 0
+Asked = Option (Text × List Row)
+
 -- the subcommand of this name, with these values, asks for the request
-abbrev pub AsksFor : Option (Text × List Row) → Request → Type 0
+abbrev pub AsksFor : Asked → Request → Type 0
 AsksFor None request = ⊥
 AsksFor (Some found) (Check options) = (found.0 ≡ codes "check") × IsCheck found.1 options
 AsksFor (Some found) (Replay options) = (found.0 ≡ codes "replay") × IsReplay found.1 options
 AsksFor (Some found) (Run options) = (found.0 ≡ codes "run") × IsRun found.1 options
 AsksFor (Some found) (Explain options) = (found.0 ≡ codes "explain") × IsExplanation found.1 options
+AsksFor (Some found) (Carry options) = (found.0 ≡ codes "carry") × IsCarrying found.1 options
 
 -- no request is asked for
-abbrev pub AsksForNothing : Option (Text × List Row) → Type 0
+abbrev pub AsksForNothing : Asked → Type 0
 AsksForNothing asked = (request : Request) → ¬ AsksFor asked request

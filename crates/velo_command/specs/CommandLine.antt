@@ -19,6 +19,10 @@ word name = record (new_rule name) { action = Some Set; required = true }
 abbrev pub valued : Text → Rule
 valued name = record (new_rule name) { long = Some name; value_names = 1 }
 
+-- an option with a value that has to be there
+abbrev pub needed : Text → Rule
+needed name = record (valued name) { required = true }
+
 -- an option without a value, under its name
 abbrev pub flag : Text → Rule
 flag name = record (new_rule name) { long = Some name; action = Some SetTrue }
@@ -62,6 +66,9 @@ run = subcommand (codes "run") (word (codes "FILE") ∷ run_options)
 abbrev pub explain : Shape
 explain = subcommand (codes "explain") (word (codes "LOG") ∷ valued (codes "dot") ∷ [])
 
+abbrev pub carry : Shape
+carry = subcommand (codes "carry") (word (codes "LOG") ∷ needed (codes "log") ∷ [])
+
 -- the program: one of its subcommands has to be named, and it has a version
 abbrev pub command_line : App
 command_line = record {
@@ -70,7 +77,7 @@ command_line = record {
     has_version = true;
     subcommand_required = true;
   };
-  subs = check ∷ replay ∷ run ∷ explain ∷ [];
+  subs = check ∷ replay ∷ run ∷ explain ∷ carry ∷ [];
 }
 
 -- ---- what it makes of words

@@ -1,28 +1,36 @@
 -- What the program does with the words of its command line.
-use Rattle.std.specs.Prelude.{◌≡◌, ◌⊎◌, ℕ, List, [], Option}
-use Rattle.clap.specs.Words.{IsAmong, Kinds, Row, Text}
+use Rattle.std.specs.Prelude.{◌≡◌, ◌⊎◌, ℕ, List, []}
+use Rattle.clap.specs.Words.{IsAmong, Text}
 use Rattle.clap.specs.declared.error.kind.ErrorKind.{ErrorKind}
-use Rattle.velo_program.specs.Fate.{line_of, status_of}
+use Rattle.velo_program.specs.Causes.{AnswersWithCause}
+use Rattle.velo_program.specs.Disk.{Disk}
+use Rattle.velo_program.specs.Fate.{Ends}
+use Rattle.velo_program.specs.Program.{Does}
 use Rattle.velo_program.specs.declared.fate.Fate.{Fate}
 use Rattle.velo_program.specs.declared.request.Request.{Request}
-use Rattle.velo_command.specs.Asked.{AsksFor}
-use Rattle.velo_command.specs.Usage.{IsTold, LacksMemory}
+use Rattle.velo_command.specs.Asked.{AsksFor, Asked}
+use Rattle.velo_command.specs.CommandLine.{asked_by, faults_of}
+use Rattle.velo_command.specs.Usage.{Console, LacksMemory, TellsError}
 
 -- a request that was asked for was done, and the end is that of what it came to
-pub record DoesRequest (asked : Option (Text × List Row)) (Done : Request → Fate → Type 0) (Ended : ℕ → List ℕ → Type 0) : Type 0 where
+pub record DoesRequest (asked : Asked) (disk : Disk) (console : Console) : Type 0 where
   pub request : Request
   pub fate : Fate
   pub asks : AsksFor asked request
-  pub done : Done request fate
-  pub ended : Ended (status_of fate) (line_of fate)
+  pub done : Does disk request console.out fate
+  pub cause : AnswersWithCause request fate
+  pub ended : Ends fate console.err console.status
 
--- one of these faults was told; help and the version are among them
-pub record TellsFault (faults : Kinds) (Shown : List ℕ → (ℕ → List ℕ → Type 0) → Type 0) (Kept : Type 0) (Ended : ℕ → List ℕ → Type 0) : Type 0 where
+-- one of the faults of the words was told, by some text; help and the version are among them
+pub record TellsFault (words : List Text) (console : Console) : Type 0 where
   pub kind : ErrorKind
-  pub among : IsAmong kind faults
-  pub told : IsTold kind Shown Kept Ended
+  pub among : IsAmong kind (faults_of words)
+  pub text : List ℕ
+  pub told : TellsError kind text console
 
--- the words have no fault, and what they ask for was done; or one of their faults was told; or memory ran out before
-abbrev pub Runs : Kinds → Option (Text × List Row) → (Request → Fate → Type 0) → (List ℕ → (ℕ → List ℕ → Type 0) → Type 0) → Type 0 → (ℕ → List ℕ → Type 0) → Type 0
-Runs faults asked Done Shown Kept Ended = ((faults ≡ []) × DoesRequest asked Done Ended)
-    ⊎ (TellsFault faults Shown Kept Ended ⊎ LacksMemory Kept Ended)
+-- The words have no fault, and what they ask for was done; or the files are as they were, and one of the faults was told, or
+-- memory ran out before.
+abbrev pub Runs : List Text → Disk → Type 0 → Console → Type 0
+Runs words disk AreKept console =
+    ((faults_of words ≡ []) × DoesRequest (asked_by words) disk console)
+    ⊎ (AreKept × (TellsFault words console ⊎ LacksMemory console))

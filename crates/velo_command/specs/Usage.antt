@@ -3,9 +3,8 @@ use Rattle.std.specs.Prelude.{◌⊎◌, ℕ, List, [], codes}
 use Rattle.clap.specs.declared.error.kind.ErrorKind.{ErrorKind}
 use Rattle.clap.specs.declared.error.kind.ErrorKind.TheVariants.{DisplayHelp, DisplayVersion, OutOfMemory}
 use Rattle.velo_events.specs.Refusals.{GrowthRefused}
-use Rattle.velo_program.specs.Fate.{line_of, status_of}
-use Rattle.velo_program.specs.declared.fate.Fate.TheVariants.{WriteFailed}
-use Rattle.velo_program.specs.declared.fate.Fate.TheVariants as fate
+use Rattle.velo_program.specs.Fate.{Closes, Ends}
+use Rattle.velo_program.specs.declared.fate.Fate.TheVariants.{Memory, WriteFailed}
 use Rattle.velo_program.specs.Writing.{BreaksOff, Writes, Writing}
 
 -- the status where the words are at fault
@@ -16,27 +15,38 @@ bad_usage = 2
 abbrev pub not_utf8 : List ℕ
 not_utf8 = codes "error: a word of the command line is not UTF-8\n"
 
+-- Standard output and standard error, before and after a run of the program; whether the first is as it was; and the status that
+-- the program ends with.
+pub record Console : Type 1 where
+  pub out : Writing
+  pub is_kept : Type 0
+  pub err : Writing
+  pub status : ℕ
+
+abbrev pub console_of : Type 0 → Writing → Writing → ℕ → Console
+console_of is_kept out err status = record { out = out; is_kept = is_kept; err = err; status = status }
+
 -- the text went to standard output, and the end is a good one without a line; or it broke off, and the end is that of a
 -- failed write
-abbrev pub ShowsHelp : Writing → List ℕ → (ℕ → List ℕ → Type 0) → Type 0
-ShowsHelp out text Ended =
-    (Writes out text × Ended 0 []) ⊎ (BreaksOff out text × Ended (status_of WriteFailed) (line_of WriteFailed))
+abbrev pub ShowsHelp : Console → List ℕ → Type 0
+ShowsHelp console text =
+    (Writes console.out text × Closes 0 [] console.err console.status)
+    ⊎ (BreaksOff console.out text × Ends WriteFailed console.err console.status)
 
--- an error of this kind was told by this text: help and the version were shown; behind any other one all else is kept as it
+-- an error of this kind was told by this text: help and the version were shown; behind any other one standard output is as it
 -- was, and the text is the line that the program ends with. Want of memory is told otherwise
-abbrev pub TellsError : ErrorKind → (List ℕ → (ℕ → List ℕ → Type 0) → Type 0) → Type 0 → (ℕ → List ℕ → Type 0) → List ℕ → Type 0
-TellsError DisplayHelp Shown Kept Ended text = Shown text Ended
-TellsError DisplayVersion Shown Kept Ended text = Shown text Ended
-TellsError OutOfMemory Shown Kept Ended text = ⊥
-TellsError kind Shown Kept Ended text = Kept × Ended bad_usage text
+abbrev pub TellsError : ErrorKind → List ℕ → Console → Type 0
+TellsError DisplayHelp text console = ShowsHelp console text
+TellsError DisplayVersion text console = ShowsHelp console text
+TellsError OutOfMemory text console = ⊥
+TellsError kind text console = console.is_kept × Closes bad_usage text console.err console.status
 
--- an error of this kind was told, by some text
-pub record IsTold (kind : ErrorKind) (Shown : List ℕ → (ℕ → List ℕ → Type 0) → Type 0) (Kept : Type 0) (Ended : ℕ → List ℕ → Type 0) : Type 0 where
-  pub text : List ℕ
-  pub told : TellsError kind Shown Kept Ended text
-
--- a growth was refused, all is kept as it was, and the end is that of want of memory
-pub record LacksMemory (Kept : Type 0) (Ended : ℕ → List ℕ → Type 0) : Type 0 where
+-- a growth was refused, standard output is as it was, and the end is that of want of memory
+pub record LacksMemory (console : Console) : Type 0 where
   pub refused : GrowthRefused
-  pub kept : Kept
-  pub ended : Ended (status_of fate.Memory) (line_of fate.Memory)
+  pub kept : console.is_kept
+  pub ended : Ends Memory console.err console.status
+
+-- an error of this kind was told, by some text; or memory ran out before
+abbrev pub Tells : ErrorKind → Console → Type 0
+Tells kind console = ((text : List ℕ) × TellsError kind text console) ⊎ LacksMemory console

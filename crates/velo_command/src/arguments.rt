@@ -2,7 +2,7 @@
 ghost use Rattle.std.specs.Prelude.{◌≡◌, IfOk, OnErr, codes};
 ghost use Rattle.clap.specs.Words.{app_of};
 ghost use Rattle.velo_events.specs.Refusals.{GrowthRefused};
-ghost use Rattle.velo_command.specs.CommandLine.{AddsRules, IsArgument, IsSubcommand, check, command_line, events, explain, flag, graph_options, nodes, replay, run, run_options, valued, word};
+ghost use Rattle.velo_command.specs.CommandLine.{AddsRules, IsArgument, IsSubcommand, carry, check, command_line, events, explain, flag, graph_options, needed, nodes, replay, run, run_options, valued, word};
 
 use crate::growth::{with_argument, with_subcommand};
 use crate::help;
@@ -26,7 +26,8 @@ pub fn command<'a>(alloc: Global) -> Result<Command<'a>, Memory>
     let program = with_subcommand(program, check(alloc)?)?;
     let program = with_subcommand(program, replay(alloc)?)?;
     let program = with_subcommand(program, run(alloc)?)?;
-    with_subcommand(program, explain(alloc)?)
+    let program = with_subcommand(program, explain(alloc)?)?;
+    with_subcommand(program, carry(alloc)?)
 }
 
 fn check<'a>(alloc: Global) -> Result<Command<'a>, Memory>
@@ -72,6 +73,17 @@ fn explain<'a>(alloc: Global) -> Result<Command<'a>, Memory>
         .after_help(help::OF_EXPLAIN);
     let command = with_argument(command, log(alloc))?;
     with_argument(command, dot(alloc))
+}
+
+fn carry<'a>(alloc: Global) -> Result<Command<'a>, Memory>
+    ensures reads { IfOk result (IsSubcommand carry) }
+    ensures memory { OnErr result GrowthRefused }
+{
+    let command = Command::new(alloc, "carry")
+        .about("Reads a recorded log and writes it in the newest version of its text")
+        .after_help(help::OF_CARRY);
+    let command = with_argument(command, log(alloc))?;
+    with_argument(command, carried(alloc))
 }
 
 /// The command with the options of each command that runs a workload.
@@ -136,6 +148,18 @@ fn out<'a>(alloc: Global) -> Arg<'a>
         "OUT",
         "Write the log of the run to this path, before the report",
     )
+}
+
+fn carried<'a>(alloc: Global) -> Arg<'a>
+    ensures { IsArgument (needed (codes "log")) result }
+{
+    valued(
+        alloc,
+        "log",
+        "OUT",
+        "Write the log to this path, which is another file than LOG",
+    )
+    .required(true)
 }
 
 fn dot<'a>(alloc: Global) -> Arg<'a>

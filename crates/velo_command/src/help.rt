@@ -122,3 +122,18 @@ transactions a serial order has; there is no picture then, and OUT is not opened
 
 The log, the statuses and what their numbers mean are those of 'velodrome check --help'. A log has as many events and
 nodes as any check may have.";
+
+/// Behind the help of `carry`.
+pub const OF_CARRY: &str = "\
+Example:
+  printf 'vlog 1 1 0 0\\n0 begin 7\\n0 end\\n' | velodrome carry - --log new.log
+It writes the same log to new.log, with 'vlog 2' in its first line. A log of either version is read; whether its events can
+come about is not judged. OUT is another file than LOG: it is emptied before the log is read, and stays empty where the
+text is no log.
+
+Statuses, each with the lines on standard error:
+  0  done, or help
+  2  usage; the text is no log: 'log fault K', 'log fault K line N'
+  5  memory or a device failed: 'out of memory', 'read failed', 'write failed', 'cannot open'
+
+Log faults: see 'velodrome check --help'.";

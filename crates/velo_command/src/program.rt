@@ -2,16 +2,12 @@
 ghost use Rattle.std.specs.Prelude.{◌≡◌, map};
 ghost use Rattle.std.specs.declared.io.ErrorKind.TheVariants.{InvalidData};
 ghost use Rattle.clap.specs.Words.{subcommand_rows_of};
-ghost use Rattle.velo_program.specs.Causes.{AnswersWithCause};
-ghost use Rattle.velo_program.specs.Fate.{Ends, line_of};
-ghost use Rattle.velo_program.specs.Paths.{ReadsAt, WritesAt};
-ghost use Rattle.velo_program.specs.Program.{Does};
+ghost use Rattle.velo_program.specs.Fate.{Closes, Ends};
 ghost use Rattle.velo_program.specs.Writing.{writing};
 ghost use Rattle.velo_program.specs.declared.fate.Fate.TheVariants as fate;
 ghost use Rattle.velo_command.specs.Asked.{AsksForNothing};
-ghost use Rattle.velo_command.specs.CommandLine.{asked_by, faults_of};
 ghost use Rattle.velo_command.specs.Running.{DoesRequest, Runs};
-ghost use Rattle.velo_command.specs.Usage.{ShowsHelp, bad_usage, not_utf8};
+ghost use Rattle.velo_command.specs.Usage.{bad_usage, console_of, not_utf8};
 
 use crate::arguments::command;
 use crate::growth::matches_of;
@@ -37,15 +33,10 @@ pub fn run<R: Threads + Wait + Sync, F: Files, W: AsStr, O: Sink, E: Sink>(
     out: &mut O,
     err: &mut E,
 ) -> u8
-    ensures { Runs (faults_of (map W.text words.now)) (asked_by (map W.text words.now))
-        (λ request came_to. AnswersWithCause request came_to
-        × Does (ReadsAt (F.gives_at files.old) F.Input.remaining F.Input.failures (F.gives files.old) F.StandardInput.remaining F.StandardInput.failures)
-        (F.fails_at files.old) (WritesAt (F.takes_at files.old) F.Output.contents F.Output.failures)
-        request (writing O.contents O.failures out.old out.new) came_to)
-        (λ text Ended. (files.new ≡ files.old)
-        × ShowsHelp (writing O.contents O.failures out.old out.new) text Ended)
-        ((files.new ≡ files.old) × (out.new ≡ out.old))
-        (λ status text. Ends status text (E.contents err.old) (E.contents err.new) (E.failures err.old) (E.failures err.new) result) }
+    ensures { Runs (map W.text words.now) (F.disk files.old) (files.new ≡ files.old)
+        (console_of (out.new ≡ out.old)
+        (writing O.contents O.failures out.old out.new)
+        (writing E.contents E.failures err.old err.new) result) }
 {
     let command = match command(alloc) {
         Ok(command) => command,
@@ -75,12 +66,10 @@ fn do_asked<R: Threads + Wait + Sync, F: Files, O: Sink, E: Sink>(
     err: &mut E,
 ) -> u8
     requires { ¬ AsksForNothing (subcommand_rows_of matches.now) }
-    ensures { DoesRequest (subcommand_rows_of matches.now)
-        (λ request came_to. AnswersWithCause request came_to
-        × Does (ReadsAt (F.gives_at files.old) F.Input.remaining F.Input.failures (F.gives files.old) F.StandardInput.remaining F.StandardInput.failures)
-        (F.fails_at files.old) (WritesAt (F.takes_at files.old) F.Output.contents F.Output.failures)
-        request (writing O.contents O.failures out.old out.new) came_to)
-        (λ status text. Ends status text (E.contents err.old) (E.contents err.new) (E.failures err.old) (E.failures err.new) result) }
+    ensures { DoesRequest (subcommand_rows_of matches.now) (F.disk files.old)
+        (console_of (out.new ≡ out.old)
+        (writing O.contents O.failures out.old out.new)
+        (writing E.contents E.failures err.old err.new) result) }
 {
     match request_of(matches) {
         Some(request) => end_with(&do_request(rt, alloc, &request, files, out), err),
@@ -90,11 +79,10 @@ fn do_asked<R: Threads + Wait + Sync, F: Files, O: Sink, E: Sink>(
 
 /// Tells why the words of the command line could not be had, and answers the status to end with.
 pub fn end_without_words<E: Sink>(kind: io::ErrorKind, err: &mut E) -> u8
-    ensures not_utf8 { kind ≡ InvalidData →
-        Ends bad_usage not_utf8 (E.contents err.old) (E.contents err.new) (E.failures err.old) (E.failures err.new) result }
-    ensures memory { ¬ (kind ≡ InvalidData) →
-        Ends 5 (line_of fate.Memory) (E.contents err.old) (E.contents err.new) (E.failures err.old)
-        (E.failures err.new) result }
+    ensures not_utf8 { kind ≡ InvalidData → Closes bad_usage not_utf8
+        (writing E.contents E.failures err.old err.new) result }
+    ensures memory { ¬ (kind ≡ InvalidData) → Ends fate.Memory
+        (writing E.contents E.failures err.old err.new) result }
 {
     if kind != io::ErrorKind::InvalidData {
         return end_with(&Fate::Memory, err);

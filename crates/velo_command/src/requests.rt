@@ -2,20 +2,24 @@
 ghost use Rattle.std.specs.Prelude.{IfNone, IfSome};
 ghost use Rattle.clap.specs.Words.{found_of, rows_of, subcommand_rows_of};
 ghost use Rattle.velo_program.specs.declared.request.Limits.{Limits};
+ghost use Rattle.velo_program.specs.declared.request.CarryOptions.{CarryOptions};
 ghost use Rattle.velo_program.specs.declared.request.CheckOptions.{CheckOptions};
 ghost use Rattle.velo_program.specs.declared.request.ExplainOptions.{ExplainOptions};
 ghost use Rattle.velo_program.specs.declared.request.ReplayOptions.{ReplayOptions};
 ghost use Rattle.velo_program.specs.declared.request.RunOptions.{RunOptions};
-ghost use Rattle.velo_command.specs.Asked.{AreLimits, AsksFor, AsksForNothing, IsCheck, IsExplanation, IsReplay, IsRun};
+ghost use Rattle.velo_command.specs.Asked.{AreLimits, AsksFor, AsksForNothing, IsCarrying, IsCheck, IsExplanation, IsReplay, IsRun};
 
 use clap::ArgMatches;
 use velo_events::{MOST_EVENTS, MOST_NODES};
-use velo_program::{CheckOptions, ExplainOptions, Limits, ReplayOptions, Request, RunOptions};
+use velo_program::{
+    CarryOptions, CheckOptions, ExplainOptions, Limits, ReplayOptions, Request, RunOptions,
+};
 
 /// Reads the limits from the matches of a subcommand; none where one is out of its range.
 fn limits_of<'a>(found: &ArgMatches<'a>) -> Option<Limits>
     ensures some { IfSome result (AreLimits (rows_of (found_of found.now))) }
-    ensures none { IfNone result ((limits : Limits) → ¬ AreLimits (rows_of (found_of found.now)) limits) }
+    ensures none { IfNone result ((limits : Limits)
+        → ¬ AreLimits (rows_of (found_of found.now)) limits) }
 {
     let events = found.get_one::<u32>("events")?;
     let nodes = found.get_one::<u16>("nodes")?;
@@ -27,7 +31,8 @@ fn limits_of<'a>(found: &ArgMatches<'a>) -> Option<Limits>
 
 fn check_options<'a>(found: &ArgMatches<'a>) -> Option<CheckOptions<'a>>
     ensures some { IfSome result (IsCheck (rows_of (found_of found.now))) }
-    ensures none { IfNone result ((options : CheckOptions) → ¬ IsCheck (rows_of (found_of found.now)) options) }
+    ensures none { IfNone result ((options : CheckOptions)
+        → ¬ IsCheck (rows_of (found_of found.now)) options) }
 {
     Some(CheckOptions {
         log: found.get_str("LOG")?,
@@ -38,7 +43,8 @@ fn check_options<'a>(found: &ArgMatches<'a>) -> Option<CheckOptions<'a>>
 
 fn replay_options<'a>(found: &ArgMatches<'a>) -> Option<ReplayOptions<'a>>
     ensures some { IfSome result (IsReplay (rows_of (found_of found.now))) }
-    ensures none { IfNone result ((options : ReplayOptions) → ¬ IsReplay (rows_of (found_of found.now)) options) }
+    ensures none { IfNone result ((options : ReplayOptions)
+        → ¬ IsReplay (rows_of (found_of found.now)) options) }
 {
     Some(ReplayOptions {
         schedule: found.get_str("schedule").unwrap_or(""),
@@ -48,7 +54,8 @@ fn replay_options<'a>(found: &ArgMatches<'a>) -> Option<ReplayOptions<'a>>
 
 fn run_options<'a>(found: &ArgMatches<'a>) -> Option<RunOptions<'a>>
     ensures some { IfSome result (IsRun (rows_of (found_of found.now))) }
-    ensures none { IfNone result ((options : RunOptions) → ¬ IsRun (rows_of (found_of found.now)) options) }
+    ensures none { IfNone result ((options : RunOptions)
+        → ¬ IsRun (rows_of (found_of found.now)) options) }
 {
     Some(RunOptions {
         file: found.get_str("FILE")?,
@@ -61,11 +68,23 @@ fn run_options<'a>(found: &ArgMatches<'a>) -> Option<RunOptions<'a>>
 
 fn explain_options<'a>(found: &ArgMatches<'a>) -> Option<ExplainOptions<'a>>
     ensures some { IfSome result (IsExplanation (rows_of (found_of found.now))) }
-    ensures none { IfNone result ((options : ExplainOptions) → ¬ IsExplanation (rows_of (found_of found.now)) options) }
+    ensures none { IfNone result ((options : ExplainOptions)
+        → ¬ IsExplanation (rows_of (found_of found.now)) options) }
 {
     Some(ExplainOptions {
         log: found.get_str("LOG")?,
         dot: found.get_str("dot"),
+    })
+}
+
+fn carry_options<'a>(found: &ArgMatches<'a>) -> Option<CarryOptions<'a>>
+    ensures some { IfSome result (IsCarrying (rows_of (found_of found.now))) }
+    ensures none { IfNone result ((options : CarryOptions)
+        → ¬ IsCarrying (rows_of (found_of found.now)) options) }
+{
+    Some(CarryOptions {
+        log: found.get_str("LOG")?,
+        out: found.get_str("log")?,
     })
 }
 
@@ -81,6 +100,7 @@ pub fn request_of<'a>(matches: &ArgMatches<'a>) -> Option<Request<'a>>
         "replay" => Some(Request::Replay(replay_options(found)?)),
         "run" => Some(Request::Run(run_options(found)?)),
         "explain" => Some(Request::Explain(explain_options(found)?)),
+        "carry" => Some(Request::Carry(carry_options(found)?)),
         _ => None,
     }
 }

@@ -1,11 +1,11 @@
 //! What the program tells where the words of its command line ask for nothing to be done.
-ghost use Rattle.std.specs.Prelude.{◌≡◌, ◌≢◌, ◌⊎◌};
+ghost use Rattle.std.specs.Prelude.{◌≡◌, ◌≢◌};
 ghost use Rattle.clap.specs.Words.{kind_of};
 ghost use Rattle.clap.specs.declared.error.kind.ErrorKind.TheVariants.{OutOfMemory};
 ghost use Rattle.velo_events.specs.Refusals.{GrowthRefused};
-ghost use Rattle.velo_program.specs.Fate.{Ends};
+ghost use Rattle.velo_program.specs.Fate.{Closes};
 ghost use Rattle.velo_program.specs.Writing.{writing};
-ghost use Rattle.velo_command.specs.Usage.{IsTold, LacksMemory, ShowsHelp, TellsError, bad_usage};
+ghost use Rattle.velo_command.specs.Usage.{ShowsHelp, Tells, TellsError, bad_usage, console_of};
 
 use crate::growth::text_of;
 use clap::Error;
@@ -22,12 +22,9 @@ const BAD_USAGE: u8 = 2;
 /// Tells an error of the words: help on the one sink, a fault of usage on the other. Answers the status to end with.
 pub fn tell_error<O: Sink, E: Sink>(alloc: Global, error: &Error, out: &mut O, err: &mut E) -> u8
     requires { kind_of error.now ≡ OutOfMemory → GrowthRefused }
-    ensures { IsTold (kind_of error.now)
-        (ShowsHelp (writing O.contents O.failures out.old out.new))
-        (out.new ≡ out.old)
-        (λ status text. Ends status text (E.contents err.old) (E.contents err.new) (E.failures err.old) (E.failures err.new) result)
-        ⊎ LacksMemory (out.new ≡ out.old)
-        (λ status text. Ends status text (E.contents err.old) (E.contents err.new) (E.failures err.old) (E.failures err.new) result) }
+    ensures { Tells (kind_of error.now) (console_of (out.new ≡ out.old)
+        (writing O.contents O.failures out.old out.new)
+        (writing E.contents E.failures err.old err.new) result) }
 {
     if error.kind() == ErrorKind::OutOfMemory {
         return end_with(&Fate::Memory, err);
@@ -43,11 +40,9 @@ pub fn tell_error<O: Sink, E: Sink>(alloc: Global, error: &Error, out: &mut O, e
 
 /// Tells an error of this kind by its text.
 fn tell_text<O: Sink, E: Sink>(kind: ErrorKind, text: &[u8], out: &mut O, err: &mut E) -> u8
-    ensures { kind ≢ OutOfMemory → TellsError kind
-        (ShowsHelp (writing O.contents O.failures out.old out.new))
-        (out.new ≡ out.old)
-        (λ status text. Ends status text (E.contents err.old) (E.contents err.new) (E.failures err.old) (E.failures err.new) result)
-        text.now }
+    ensures { kind ≢ OutOfMemory → TellsError kind text.now (console_of (out.new ≡ out.old)
+        (writing O.contents O.failures out.old out.new)
+        (writing E.contents E.failures err.old err.new) result) }
 {
     match kind {
         ErrorKind::DisplayHelp | ErrorKind::DisplayVersion => show_help(text, out, err),
@@ -57,8 +52,9 @@ fn tell_text<O: Sink, E: Sink>(kind: ErrorKind, text: &[u8], out: &mut O, err: &
 
 /// Shows help, or tells that it could not be written.
 fn show_help<O: Sink, E: Sink>(text: &[u8], out: &mut O, err: &mut E) -> u8
-    ensures { ShowsHelp (writing O.contents O.failures out.old out.new) text.now
-        (λ status text. Ends status text (E.contents err.old) (E.contents err.new) (E.failures err.old) (E.failures err.new) result) }
+    ensures { ShowsHelp (console_of (out.new ≡ out.old)
+        (writing O.contents O.failures out.old out.new)
+        (writing E.contents E.failures err.old err.new) result) text.now }
 {
     match write_all(out, text) {
         Ok(()) => DONE,
@@ -68,7 +64,7 @@ fn show_help<O: Sink, E: Sink>(text: &[u8], out: &mut O, err: &mut E) -> u8
 
 /// Tells a fault of usage. Where this fails there is no other place to tell it.
 pub fn tell_fault<E: Sink>(text: &[u8], err: &mut E) -> u8
-    ensures { Ends bad_usage text.now (E.contents err.old) (E.contents err.new) (E.failures err.old) (E.failures err.new) result }
+    ensures { Closes bad_usage text.now (writing E.contents E.failures err.old err.new) result }
 {
     match write_all(err, text) {
         Ok(()) => BAD_USAGE,

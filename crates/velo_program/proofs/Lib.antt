@@ -1,7 +1,7 @@
 pub mod OnCauses
 pub mod OnVerdicts
+mod OnDelivery
 mod OnExplaining
-mod OnPaths
 mod OnPlaying
 mod OnSchedules
 mod OnReading

@@ -1,8 +1,8 @@
 -- Why the program comes to want of memory.
-use Rattle.std.proofs.Common.{◌≡◌, ⊎_elim, refl}
-use Rattle.std.specs.Prelude.{ℕ, Bool, true, false, List, Option, Some, None, IfSome, Result, Ok, Err, if◌then◌else◌}
+use Rattle.std.proofs.Common.{◌≡◌, ⊎_elim, inl, inr, refl, subst, sym}
+use Rattle.std.specs.Prelude.{ℕ, Bool, true, false, List, Option, Some, None, IfSome, if◌then◌else◌}
+use Rattle.std.specs.Borrow.{Bor}
 use Rattle.velo_events.specs.declared.config.Bounds.{Bounds}
-use Rattle.velo_events.specs.declared.config.Config.{Config}
 use Rattle.velo_events.specs.declared.event.Event.{Event}
 use Rattle.velo_events.specs.declared.event.Kind.{Kind}
 use Rattle.velo_events.specs.declared.refusal.Refusal.{Refusal}
@@ -15,18 +15,31 @@ use Rattle.velo_logtext.specs.declared.fault.LogFault.TheVariants as log_fault
 use Rattle.velo_traces.specs.declared.judge.Flaw.TheVariants as flaw
 use Rattle.velo_traces.specs.Flaws.{flaw_of, flaw_by}
 use Rattle.velo_world.specs.Faults.{IsRefusedAt}
-use Rattle.velo_program.specs.declared.check.Verdict.{Verdict}
-use Rattle.velo_program.specs.declared.check.Verdict.TheVariants as verdict
 use Rattle.velo_program.specs.declared.check.CheckFault.{CheckFault}
 use Rattle.velo_program.specs.declared.check.CheckFault.TheVariants as check_fault
 use Rattle.velo_program.specs.declared.fate.Fate.{Fate}
-use Rattle.velo_worker.specs.Causes.{RefusedByGrowth}
-use Rattle.velo_program.specs.Causes.{LogByGrowth, CheckByGrowth, ComesByGrowth}
-use Rattle.velo_program.specs.Check.{Checks}
-use Rattle.velo_program.specs.Fate.{fate_of}
-use Rattle.velo_program.specs.Faults.{IsFaultOfLog}
-use Rattle.velo_program.specs.Program.{IsChecked}
-use Rattle.velo_program.specs.Reading.{Reading}
+use Rattle.velo_program.specs.declared.fate.Fate.TheVariants as fate
+use Rattle.velo_program.specs.declared.request.ReplayOptions.{ReplayOptions}
+use Rattle.velo_program.specs.declared.request.RunOptions.{RunOptions}
+use Rattle.velo_program.specs.declared.request.Request.{Request}
+use Rattle.velo_program.specs.declared.request.Request.TheVariants as request
+use Rattle.velo_program.specs.declared.schedule.ScheduleFault.{ScheduleFault}
+use Rattle.velo_program.specs.declared.schedule.ScheduleFault.TheVariants as schedule_fault
+use Rattle.velo_worker.specs.declared.ending.Ending.{Ending}
+use Rattle.velo_worker.specs.declared.ending.Ending.TheVariants as ending
+use Rattle.velo_worker.specs.Causes.{EndsByGrowth, EndsWithCause, RefusedByGrowth}
+use Rattle.velo_workload.specs.Program.{Program}
+use Rattle.velo_workload.specs.declared.fault.WorkFault.TheVariants as work_fault
+use Rattle.velo_world.specs.World.{WorldState}
+use Rattle.velo_program.specs.Causes.{AnswersWithCause, CheckByGrowth, ComesByGrowth, ComesTo, LogByGrowth, ScheduleByGrowth}
+use Rattle.velo_program.specs.Carrying.{IsCarryAnswer}
+use Rattle.velo_program.specs.Check.{IsCheckAnswer, IsFaultOfInput}
+use Rattle.velo_program.specs.Delivery.{Answer, IsDelivered, IsTold, LacksMemory, silent}
+use Rattle.velo_program.specs.Disk.{Disk}
+use Rattle.velo_program.specs.Explaining.{ComesOut, IsExplanation}
+use Rattle.velo_program.specs.Playing.{ByThreads, ByTurns, IsEndAnswer, IsPlayAnswer, IsRunOf, IsUnread, Play, is_unreported}
+use Rattle.velo_program.specs.Program.{Does}
+use Rattle.velo_program.specs.Schedule.{IsFaultOfSchedule}
 use Rattle.velo_program.specs.Writing.{Writing}
 
 -- ---- by what it means no event is refused for want of memory
@@ -64,23 +77,96 @@ pub of_log : (f : LogFault) → (f ≡ log_fault.Memory → GrowthRefused) → L
 of_log log_fault.Memory cause = cause refl
 of_log _ cause = tt
 
--- ---- of a check
+-- ---- by what each command has to say
 
-pub of_fault : (config : Config) (log : List Event) (f : CheckFault) → IsFaultOfLog config log f → CheckByGrowth f
-of_fault config log (check_fault.Refused p r) fault = of_refused config.events config.nodes config.bounds log p r fault
-of_fault config log check_fault.Memory fault = fault
-of_fault config log (check_fault.Log f) fault = absurd fault
-of_fault config log _ fault = tt
+of_fault : (limit nodes : ℕ) (read : Option (List ℕ)) (f : CheckFault) → IsFaultOfInput limit nodes read f → CheckByGrowth f
+of_fault limit nodes read (check_fault.Log f) fault = of_log f fault.1
+of_fault limit nodes read (check_fault.Refused p r) fault = of_refused limit nodes fault.bounds fault.trace p r fault.reason
+of_fault limit nodes read check_fault.Memory fault = fault
+of_fault limit nodes read _ fault = tt
 
-of_checks : (limit nodes : ℕ) (certificate : Bool) (read old new : Option (List ℕ)) (answer : Result Verdict CheckFault) → Checks limit nodes certificate read old new answer → ComesByGrowth (fate_of answer)
-of_checks limit nodes certificate read old new (Ok verdict.Alarm) checks = tt
-of_checks limit nodes certificate read old new (Ok verdict.Clean) checks = tt
-of_checks limit nodes certificate read old new (Err (check_fault.Log f)) checks = of_log f checks.1
-of_checks limit nodes certificate read old new (Err (check_fault.Refused p r)) checks =
-    of_refused limit nodes checks.0.bounds checks.0.trace p r checks.0.reason
-of_checks limit nodes certificate read old new (Err check_fault.Memory) checks = checks.0
-of_checks limit nodes certificate read old new (Err _) checks = tt
+module _ (EndsSo : Ending → Type 0) where
+  abbrev EndsSoIn : Answer → Type 0
+  EndsSoIn answer = ComesTo EndsSo answer.end
 
-pub of_checked : (limit nodes : ℕ) (certificate : Bool) (read : Reading) (out : Writing) (f : Fate) → IsChecked limit nodes certificate read out f → ComesByGrowth f
-of_checked limit nodes certificate read out f checked =
-    rw checked.told (of_checks limit nodes certificate read.bytes out.old out.new checked.answer checked.checks)
+  -- an end that is said so has its cause
+  said : (answer there : Answer) → answer ≡ there → EndsSoIn there → EndsSoIn answer
+  said answer there is cause = subst EndsSoIn (sym is) cause
+
+  of_lack : (answer : Answer) → LacksMemory answer → EndsSoIn answer
+  of_lack answer lacks = said answer (silent fate.Memory) lacks.1 lacks.0
+
+  of_check : (limit nodes : ℕ) (certificate : Bool) (read : Option (List ℕ)) (answer : Answer) → EndsSo ending.Done → IsCheckAnswer limit nodes certificate read answer → EndsSoIn answer
+  of_check limit nodes certificate read answer done (inl c) = said answer _ c.said done
+  of_check limit nodes certificate read answer done (inr f) = said answer (silent (fate.Check f.0)) f.2 (of_fault limit nodes read f.0 f.1)
+
+  of_explanation : (read : Option (List ℕ)) (answer : Answer) → EndsSo ending.Done → IsExplanation read answer → EndsSoIn answer
+  of_explanation read answer done (inl e) = ⊎_elim (λ alarm. said answer _ alarm.said done) (λ clean. said answer _ clean.1 done) e.verdict
+  of_explanation read answer done (inr (inl f)) = said answer (silent (fate.Check f.0)) f.2 (of_fault _ _ read f.0 f.1)
+  of_explanation read answer done (inr (inr lacks)) = of_lack answer lacks
+
+  of_carry : (read : Option (List ℕ)) (answer : Answer) → EndsSo ending.Done → IsCarryAnswer read answer → EndsSoIn answer
+  of_carry read answer done (inl c) = said answer _ c.3 done
+  of_carry read answer done (inr f) = said answer (silent (fate.Check (check_fault.Log f.0))) f.2 (of_log f.0 f.1.1)
+
+  of_unread : (read : Option (List ℕ)) (f : Fate) → IsUnread read f → ComesTo EndsSo f
+  of_unread read (fate.Work work_fault.Memory) h = h
+  of_unread read (fate.Work (work_fault.BadLine n)) h = tt
+  of_unread read (fate.Work (work_fault.Unknown n)) h = tt
+  of_unread read (fate.Work (work_fault.Twice n)) h = tt
+  of_unread read (fate.Work (work_fault.Unmatched n)) h = tt
+  of_unread read (fate.Work (work_fault.TooMany n)) h = tt
+  of_unread read fate.ReadFailed h = tt
+  of_unread read fate.Memory h = h
+  of_unread read _ h = absurd h
+
+  of_end : (b : Bool) (program : Program) (certificate : Bool) (ended : Ending) (w : WorldState) (answer : Answer) → IsEndAnswer b program certificate ended w answer → EndsSo ended → EndsSoIn answer
+  of_end true program certificate ended w answer is cause = said answer _ is cause
+  of_end false program certificate ended w answer is cause = said answer _ is.2.said cause
+
+  of_play : (play : Play) (options : RunOptions) (read : Option (List ℕ)) (answer : Answer) → ((program : Program) (ended : Ending) (w : WorldState) → IsRunOf play options program ended w → EndsSo ended)
+      → IsPlayAnswer play options read answer → EndsSoIn answer
+  of_play play options read answer so (inl (program, text, inl played)) =
+      of_end (is_unreported played.ended) program options.certificate played.ended played.world answer played.says (so program played.ended played.world played.is_run)
+  of_play (ByTurns schedule) options read answer so (inl (program, text, inr (inl lost))) = absurd lost
+  of_play ByThreads options read answer so (inl (program, text, inr (inl lost))) = said answer (silent fate.Lost) lost tt
+  of_play play options read answer so (inl (program, text, inr (inr lacks))) = of_lack answer lacks
+  of_play play options read answer so (inr (f, unread, is)) = said answer (silent f) is (of_unread read f unread)
+
+  -- what became of the answer has its cause
+  of_delivered : (disk : Disk) (path : Option (Bor (List ℕ))) (out : Writing) (answer : Answer) (f : Fate) → EndsSoIn answer → IsDelivered disk path out answer f → ComesTo EndsSo f
+  of_delivered disk path out answer fate.CannotOpen cause put = tt
+  of_delivered disk path out answer fate.WriteFailed cause put = tt
+  of_delivered disk path out answer f cause put = subst (ComesTo EndsSo) (sym put.0) cause
+
+  of_explained : (disk : Disk) (path : Option (Bor (List ℕ))) (out : Writing) (answer : Answer) (f : Fate) → EndsSoIn answer → ComesOut disk path out answer f → ComesTo EndsSo f
+  of_explained disk path out answer fate.Memory cause put = put.0
+  of_explained disk path out answer f cause put = of_delivered disk path out answer f cause put
+
+  of_told : (out : Writing) (answer : Answer) (f : Fate) → EndsSoIn answer → IsTold out answer f → ComesTo EndsSo f
+  of_told out answer fate.WriteFailed cause told = tt
+  of_told out answer f cause told = subst (ComesTo EndsSo) (sym told.0) cause
+
+-- ---- by what was done
+
+of_schedule : (options : ReplayOptions) (fault : ScheduleFault) → IsFaultOfSchedule options.schedule.now fault → ScheduleByGrowth fault
+of_schedule options schedule_fault.Bad is = tt
+of_schedule options schedule_fault.Memory is = is
+
+unopened : (EndsSo : Ending → Type 0) (f : Fate) → f ≡ fate.CannotOpen → ComesTo EndsSo f
+unopened EndsSo f is = subst (ComesTo EndsSo) (sym is) tt
+
+pub of_done : (disk : Disk) (asked : Request) (out : Writing) (f : Fate) → Does disk asked out f → AnswersWithCause asked f
+of_done disk (request.Check options) out f (inl h) = of_delivered EndsByGrowth disk None out h.2.answer f (of_check EndsByGrowth _ _ _ h.0.bytes h.2.answer tt h.2.is_answer) h.2.put
+of_done disk (request.Check options) out f (inr h) = unopened EndsByGrowth f h.0
+of_done disk (request.Replay options) out f (inl bad) = subst ComesByGrowth (sym bad.told) (of_schedule options bad.fault bad.is_fault)
+of_done disk (request.Replay options) out f (inr (schedule, inl h)) =
+    of_delivered EndsByGrowth disk options.run.log out h.2.answer f (of_play EndsByGrowth (ByTurns h.2.is_answer.0) options.run h.0.bytes h.2.answer (λ program ended w run. run.cause) h.2.is_answer.2) h.2.put
+of_done disk (request.Replay options) out f (inr (schedule, inr h)) = unopened EndsByGrowth f h.0
+of_done disk (request.Run options) out f (inl h) =
+    of_delivered EndsWithCause disk options.log out h.2.answer f (of_play EndsWithCause ByThreads options h.0.bytes h.2.answer (λ program ended w run. run.cause) h.2.is_answer) h.2.put
+of_done disk (request.Run options) out f (inr h) = unopened EndsWithCause f h.0
+of_done disk (request.Explain options) out f (inl h) = of_explained EndsByGrowth disk options.dot out h.2.answer f (of_explanation EndsByGrowth h.0.bytes h.2.answer tt h.2.is_answer) h.2.put
+of_done disk (request.Explain options) out f (inr h) = unopened EndsByGrowth f h.0
+of_done disk (request.Carry options) out f (inl h) = of_told EndsByGrowth h.2.put.0.0 h.2.answer f (of_carry EndsByGrowth h.0.bytes h.2.answer tt h.2.is_answer) h.2.put.0.2
+of_done disk (request.Carry options) out f (inr h) = unopened EndsByGrowth f h.0

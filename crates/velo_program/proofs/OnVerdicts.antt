@@ -1,10 +1,10 @@
 -- The verdict of a log that was done to its end.
-use Rattle.std.proofs.Common.{◌≡◌, ℕ, zero, suc, ◌+◌, ◌≤◌, Bool, true, false, List, [], ◌∷◌, ◌++◌, length, take, drop, Option, Some, None, Ok, Err, refl, sym, ap, ◌∙◌, subst, arith, inl, inr, ⊎_elim, length-take}
+use Rattle.std.proofs.Common.{◌≡◌, ℕ, zero, suc, ◌+◌, Bool, true, false, List, [], ◌∷◌, ◌++◌, length, take, drop, Option, Some, None, Ok, Err, refl, sym, ap, ◌∙◌, subst, arith, inl, inr, ⊎_elim, length-take}
 use Rattle.std.proofs.lemmas.List.{append-nil, take-append-drop}
-use Rattle.std.specs.Prelude.{IfSome, Result, ◌⊎◌, codes, slice_get, Contains}
+use Rattle.std.specs.Prelude.{IfSome, OnOk, OnErr, Result, ◌⊎◌, codes, is_some, slice_get, Contains}
+use Rattle.std.specs.Borrow.{Bor}
 use Rattle.velo_events.specs.declared.config.Bounds.{Bounds}
 use Rattle.velo_events.specs.declared.event.Event.{Event}
-use Rattle.velo_events.specs.WellFormed.{IsWellFormed}
 use Rattle.velo_events.specs.Block.{owner}
 use Rattle.velo_events.specs.Graph.{HasCycle, IsClosing, IsCycle, Edge, Leads, Reaches}
 use Rattle.velo_events.specs.Reordering.{IsSerializable}
@@ -14,18 +14,30 @@ use Rattle.velo_events.proofs.OnReaching.{IsCycle-by}
 use Rattle.velo_events.proofs.OnScans.{event_at, take-next}
 use Rattle.velo_logtext.proofs.OnDevices.{appends_then, appends_nothing, beginning_then}
 use Rattle.velo_certify.specs.Cycle.{HasNoCycleAt}
+use Rattle.velo_logtext.specs.Device.{one_more}
 use Rattle.velo_logtext.specs.Finding.{Answers}
+use Rattle.velo_logtext.specs.Finding as reader
+use Rattle.velo_logtext.specs.declared.fault.LogFault.{LogFault}
+use Rattle.velo_logtext.specs.declared.fault.LogFault.TheVariants as log_fault
+use Rattle.velo_events.specs.declared.config.Config.{Config}
 use Rattle.velo_world.specs.World.{WorldState}
 use Rattle.velo_program.specs.declared.check.Verdict.{Verdict}
 use Rattle.velo_program.specs.declared.check.Verdict.TheVariants as verdict
 use Rattle.velo_program.specs.declared.check.CheckFault.{CheckFault}
 use Rattle.velo_program.specs.declared.check.CheckFault.TheVariants.{Log, Refused, WrongValue, Write, Memory}
-use Rattle.velo_program.specs.Check.{IsInput, IsReported, IsVerdict, IsOrderOrCycle, IsOutput, AppendsOutput, AppendsPartOfOutput, Checks, Reports, Shows, read_failures}
+use Rattle.velo_program.specs.declared.fate.Fate.TheVariants.{Check, Finished}
+use Rattle.velo_program.specs.Check.{Checks, ComesAbout, IsFaultOfInput, IsInput, IsOrderOrCycle, IsOutput, IsVerdict, WritesOutput}
+use Rattle.velo_program.specs.Delivery.{failures_after, saying, silent}
+use Rattle.velo_program.specs.Fate.{fate_of, is_alarm}
+use Rattle.velo_program.specs.Faults.{IsFaultOfLog}
+use Rattle.velo_program.specs.Writing.{BreaksOff, Writes, Writing, WritesNothing}
+use Rattle.velo_program.specs.Steps.{HasAlarm, Shows}
+use Rattle.velo_worker.specs.declared.ending.Ending.TheVariants.{Done}
+use Rattle.velo_world.specs.Faults.{IsRefusedAt, IsWrongValueAt}
 use Rattle.velo_report.specs.declared.names.Names.{Names}
-use Rattle.velo_report.specs.declared.names.Names.TheVariants.{Numbers}
 use Rattle.velo_report.specs.Lines.{numbers_line}
 use Rattle.velo_report.specs.Certificate.{Certifies, IsCertificate, AppendsCertificate, AppendsPartOfCertificate, serial_lines}
-use Rattle.velo_report.specs.Report.{IsReport, AppendsReport, AppendsPartOfReport}
+use Rattle.velo_report.specs.Report.{IsReport, AppendsReport, AppendsPartOfReport, report_lines}
 use Rattle.velo_report.proofs.OnCertificates.{IsCertificate-order, IsCertificate-cycle}
 
 no_alarm : verdict.Clean ≡ verdict.Alarm → ⊥
@@ -57,56 +69,7 @@ pub input_found : (read : Option (List ℕ)) (limit : ℕ) (bounds : Bounds) (lo
 input_found (Some bytes) limit bounds log found = found.0
 input_found None limit bounds log found = tt
 
-abbrev reported_log : (limit : ℕ) (certificate : Bool) (read : Option (List ℕ)) (w : WorldState) (text : List ℕ)
-    → w.config.events ≡ limit → IsInput read w.config.bounds w.log → IsWellFormed w.config.bounds w.log → length w.log ≤ w.config.events
-    → IsOutput Numbers certificate w.config.bounds.threads w.log text → IsReported limit certificate read text
-reported_log limit certificate read w text is input well short output =
-    record {
-      bounds = w.config.bounds;
-      trace = w.log;
-      input = input;
-      well_formed = well;
-      room = subst (λ n. length w.log ≤ n) is short;
-      output = output;
-    }
-
--- a check answers what is shown of the world of its log
-pub checked_by : (limit nodes : ℕ) (certificate : Bool) (read : Option (List ℕ)) (w : WorldState) (old new : Option (List ℕ)) (result : Result Verdict CheckFault)
-    → w.config.events ≡ limit → IsInput read w.config.bounds w.log → IsWellFormed w.config.bounds w.log → length w.log ≤ w.config.events
-    → Shows Numbers certificate w old new result → Checks limit nodes certificate read old new result
-checked_by limit nodes certificate read w old new (Ok answer) is input well short shows =
-    (shows.1.text, (reported_log limit certificate read w shows.1.text is input well short shows.1.is_output, shows.0), shows.1.appends)
-checked_by limit nodes certificate read w old new (Err Write) is input well short shows =
-    (shows.text, reported_log limit certificate read w shows.text is input well short shows.is_output, shows.appends)
-checked_by limit nodes certificate read w old new (Err Memory) is input well short shows = shows
-checked_by limit nodes certificate read w old new (Err (Log fault)) is input well short shows = absurd shows
-checked_by limit nodes certificate read w old new (Err (Refused p refusal)) is input well short shows = absurd shows
-checked_by limit nodes certificate read w old new (Err (WrongValue p)) is input well short shows = absurd shows
-
--- what is shown reads nothing
-pub reads_nothing : (certificate : Bool) (w : WorldState) (old new : Option (List ℕ)) (result : Result Verdict CheckFault) (n : ℕ) → Shows Numbers certificate w old new result → read_failures result n ≡ n
-reads_nothing certificate w old new (Ok answer) n shows = refl
-reads_nothing certificate w old new (Err Write) n shows = refl
-reads_nothing certificate w old new (Err Memory) n shows = refl
-reads_nothing certificate w old new (Err (Log fault)) n shows = absurd shows
-reads_nothing certificate w old new (Err (Refused p refusal)) n shows = refl
-reads_nothing certificate w old new (Err (WrongValue p)) n shows = refl
-
 -- ---- the report, and behind it the certificate
-
--- without a certificate the report is all
-abbrev report_alone : (names : Names) (threads : ℕ) (log : List Event) (text : List ℕ) → IsReport names threads log text → IsOutput names false threads log text
-report_alone names threads log text is = record { report = text; is_report = is; lines = []; certified = refl; whole = sym (append-nil text) }
-
-pub Shows-report : (names : Names) (w : WorldState) (old new : Option (List ℕ)) (result : Result Verdict CheckFault) → Reports names w old new result → Shows names false w old new result
-Shows-report names w old new (Ok answer) reports =
-    (reports.0, record { text = reports.1.text; is_output = report_alone names w.config.bounds.threads w.log reports.1.text reports.1.is_report; appends = reports.1.appends })
-Shows-report names w old new (Err Write) reports =
-    record { text = reports.text; is_output = report_alone names w.config.bounds.threads w.log reports.text reports.is_report; appends = reports.appends }
-Shows-report names w old new (Err Memory) reports = absurd reports
-Shows-report names w old new (Err (Log fault)) reports = absurd reports
-Shows-report names w old new (Err (Refused p refusal)) reports = absurd reports
-Shows-report names w old new (Err (WrongValue p)) reports = absurd reports
 
 -- an order or a cycle has lines
 lines_exist : (log : List Event) (list : List ℕ) → IsOrderOrCycle log list → (lines : List ℕ) × IsCertificate log list lines
@@ -118,41 +81,115 @@ pub Certifies-order_or_cycle : (log : List Event) (list : List ℕ) → IsOrderO
 Certifies-order_or_cycle log list (inl w) = inl (record { no_cycle = w.no_cycle; reorders = w.serial.reorders; serial = w.serial.serial })
 Certifies-order_or_cycle log list (inr w) = inr (record { position = w.position; closing = w.closing; is_cycle = w.shortest.is_cycle })
 
-module _ (names : Names) (w : WorldState) (list : List ℕ) (certifies : IsOrderOrCycle w.log list) where
+abbrev MayCertify : List Event → Option (Bor (List ℕ)) → Type 0
+MayCertify log list = IfSome list (λ list. IsOrderOrCycle log list.now)
+
+-- behind a report stands the certificate, if there is an order or a cycle
+output_of : (names : Names) (threads : ℕ) (log : List Event) (list : Option (Bor (List ℕ))) → MayCertify log list
+    → (report : List ℕ) → IsReport names threads log report → (lines : List ℕ) × IsOutput names (is_some list) threads log (report ++ lines)
+output_of names threads log None certifies report is =
+    ([], record { report = report; is_report = is; lines = []; certified = refl; whole = refl })
+output_of names threads log (Some list) certifies report is =
+    let lines = lines_exist log list.now certifies in
+    (lines.0, record { report = report; is_report = is; lines = lines.0; certified = (list.now, certifies, lines.1); whole = refl })
+
+-- a log whose alarm is known has an output
+pub output_exists : (names : Names) (threads : ℕ) (log : List Event) (list : Option (Bor (List ℕ))) → MayCertify log list → HasAlarm log
+    → (text : List ℕ) × IsOutput names (is_some list) threads log text
+output_exists names threads log list certifies alarm =
+    let report = report_lines names threads log alarm.0 in
+    let output = output_of names threads log list certifies report (record { alarm = alarm.0; exact = alarm.1; lines = refl }) in
+    (report ++ output.0, output.1)
+
+module _ (names : Names) (w : WorldState) where
   abbrev threads : ℕ
   threads = w.config.bounds.threads
 
-  output : (report lines : List ℕ) → IsReport names threads w.log report → IsCertificate w.log list lines → IsOutput names true threads w.log (report ++ lines)
-  output report lines is certified = record { report = report; is_report = is; lines = lines; certified = (list, certifies, certified); whole = refl }
+  -- the report broke off
+  pub report_breaks : (list : Option (Bor (List ℕ))) → MayCertify w.log list → (out : Writing)
+      → AppendsPartOfReport out.old out.new names threads w.log → out.after ≡ one_more out.before
+      → (text : List ℕ) × IsOutput names (is_some list) threads w.log text × BreaksOff out text
+  report_breaks list certifies out part failed =
+      let output = output_of names threads w.log list certifies part.text part.is_report in
+      (part.text ++ output.0, output.1, (beginning_then out.old out.old out.new [] part.text output.0 (part.text ++ output.0) (appends_nothing out.old) part.appends refl, failed))
 
-  -- both went out
-  pub certified_whole : (a b c : Option (List ℕ)) → AppendsReport a b names threads w.log → AppendsCertificate b c w.log list → AppendsOutput a c names true threads w.log
-  certified_whole a b c r l = record { text = r.text ++ l.text; is_output = output r.text l.text r.is_report l.is_certificate; appends = appends_then a b c r.text l.text r.appends l.appends }
+  -- the report is all
+  pub report_alone : (out : Writing) → AppendsReport out.old out.new names threads w.log → out.after ≡ out.before
+      → (text : List ℕ) × IsOutput names false threads w.log text × Writes out text
+  report_alone out whole kept =
+      (whole.text, record { report = whole.text; is_report = whole.is_report; lines = []; certified = refl; whole = sym (append-nil whole.text) }, (whole.appends, kept))
 
-  -- the report did, and a beginning of the certificate
-  pub certified_part : (a b c : Option (List ℕ)) → AppendsReport a b names threads w.log → AppendsPartOfCertificate b c w.log list → AppendsPartOfOutput a c names true threads w.log
-  certified_part a b c r l = record {
-    text = r.text ++ l.text;
-    is_output = output r.text l.text r.is_report l.is_certificate;
-    appends = beginning_then a b c r.text l.text [] (r.text ++ l.text) r.appends l.appends (sym (append-nil (r.text ++ l.text)));
-  }
+  -- the certificate went out behind the report, or a beginning of it
+  pub behind_report : {X F : Type 0} (list : List ℕ) → IsOrderOrCycle w.log list → (out : Writing) (middle : Option (List ℕ)) (count : ℕ)
+      → AppendsReport out.old middle names threads w.log → count ≡ out.before → (result : Result X F)
+      → OnOk result (AppendsCertificate middle out.new w.log list) → OnErr result (AppendsPartOfCertificate middle out.new w.log list)
+      → OnOk result (out.after ≡ count) → OnErr result (out.after ≡ one_more count) → WritesOutput names true w out result
+  behind_report list certifies out middle count report kept (Ok x) whole part ok err =
+      (report.text ++ whole.text, output whole.text whole.is_certificate, (appends_then out.old middle out.new report.text whole.text report.appends whole.appends, ok ∙ kept))
+    where
+      output : (lines : List ℕ) → IsCertificate w.log list lines → IsOutput names true threads w.log (report.text ++ lines)
+      output lines is = record { report = report.text; is_report = report.is_report; lines = lines; certified = (list, certifies, is); whole = refl }
+  behind_report list certifies out middle count report kept (Err f) whole part ok err = (
+    report.text ++ part.text,
+    record { report = report.text; is_report = report.is_report; lines = part.text; certified = (list, certifies, part.is_certificate); whole = refl },
+    (beginning_then out.old middle out.new report.text part.text [] (report.text ++ part.text) report.appends part.appends (sym (append-nil (report.text ++ part.text))), err ∙ ap one_more kept),
+  )
 
-  -- a beginning of the report did
-  report_part : (a b : Option (List ℕ)) → AppendsPartOfReport a b names threads w.log → AppendsPartOfOutput a b names true threads w.log
-  report_part a b r =
-      let l = lines_exist w.log list certifies in
-      record {
-        text = r.text ++ l.0;
-        is_output = output r.text l.0 r.is_report l.1;
-        appends = beginning_then a a b [] r.text l.0 (r.text ++ l.0) (appends_nothing a) r.appends refl;
-      }
+-- ---- the answer of a check
 
-  pub Shows-failed : (a b : Option (List ℕ)) (fault : CheckFault) → Reports names w a b (Err fault) → Shows names true w a b (Err fault)
-  Shows-failed a b Write reports = report_part a b reports
-  Shows-failed a b Memory reports = absurd reports
-  Shows-failed a b (Log fault) reports = reports
-  Shows-failed a b (Refused p refusal) reports = reports
-  Shows-failed a b (WrongValue p) reports = reports
+-- what is shown of the world of a log that came about is the answer to the input
+pub checked_by : (limit nodes : ℕ) (certificate : Bool) (read : Option (List ℕ)) (w : WorldState) (out : Writing) (result : Result Verdict CheckFault)
+    → ComesAbout limit read w.config.bounds w.log → Shows certificate w out result → Checks limit nodes certificate read out (fate_of result)
+checked_by limit nodes certificate read w out (Ok answer) log shows = (
+  saying shows.1.0 (Finished Done (is_alarm answer)),
+  inl (record { bounds = w.config.bounds; trace = w.log; log = log; text = shows.1.0; output = shows.1.1; verdict = answer; is_verdict = shows.0; said = refl }),
+  (refl, shows.1.2),
+)
+checked_by limit nodes certificate read w out (Err Write) log shows = (
+  saying shows.1.0 (Finished Done (is_alarm shows.0.0)),
+  inl (record { bounds = w.config.bounds; trace = w.log; log = log; text = shows.1.0; output = shows.1.1; verdict = shows.0.0; is_verdict = shows.0.1; said = refl }),
+  shows.1.2,
+)
+checked_by limit nodes certificate read w out (Err Memory) log shows = (silent (Check Memory), inr (Memory, shows.0, refl), (refl, shows.1))
+checked_by limit nodes certificate read w out (Err fault) log shows = absurd shows
+
+-- writing it reads nothing
+pub reads_nothing : (certificate : Bool) (w : WorldState) (out : Writing) (result : Result Verdict CheckFault) (n : ℕ) → Shows certificate w out result → failures_after (fate_of result) n ≡ n
+reads_nothing certificate w out (Err (Log fault)) n shows = absurd shows
+reads_nothing certificate w out result n shows = refl
+
+-- a fault of the input is told, with nothing written
+pub faulty : (limit nodes : ℕ) (certificate : Bool) (read : Option (List ℕ)) (out : Writing) (fault : CheckFault) → IsFaultOfInput limit nodes read fault
+    → WritesNothing out → Checks limit nodes certificate read out (fate_of (Err fault))
+faulty limit nodes certificate read out Write is nothing = absurd is
+faulty limit nodes certificate read out fault is nothing = (silent (Check fault), inr (fault, is, refl), (refl, nothing))
+
+-- the source's failures behind a fault
+pub failures_so : (limit nodes : ℕ) (read : Option (List ℕ)) (fault : CheckFault) (after before : ℕ) → IsFaultOfInput limit nodes read fault
+    → after ≡ failures_after (Check fault) before → after ≡ failures_after (fate_of (Err fault)) before
+failures_so limit nodes read Write after before is h = h
+failures_so limit nodes read fault after before is h = h
+
+-- ---- the log of an input
+
+-- what the reader says of its failures
+pub read_failed : (fault : LogFault) (after before : ℕ) → after ≡ reader.failures_after {X = ℕ} (Err fault) before → after ≡ failures_after (Check (Log fault)) before
+read_failed log_fault.Read after before h = h
+read_failed fault after before h = h
+
+-- a log that can't be done is a fault of the input, and the source has not failed
+pub undone : (limit nodes : ℕ) (read : Option (List ℕ)) (config : Config) (log : List Event) → config.events ≡ limit → config.nodes ≡ nodes → IsInput read config.bounds log
+    → (fault : CheckFault) → IsFaultOfLog config log fault → IsFaultOfInput limit nodes read fault
+undone limit nodes read config log events few input (Refused p r) is =
+    record { bounds = config.bounds; trace = log; input = input; reason = subst (λ n. IsRefusedAt n nodes config.bounds log p r) events (subst (λ n. IsRefusedAt config.events n config.bounds log p r) few is) }
+undone limit nodes read config log events few input (WrongValue p) is =
+    record { bounds = config.bounds; trace = log; input = input; reason = subst (λ n. IsWrongValueAt n config.bounds log p) events is }
+undone limit nodes read config log events few input Memory is = is
+undone limit nodes read config log events few input fault is = absurd is
+
+pub undone_reads_nothing : (config : Config) (log : List Event) (fault : CheckFault) (n : ℕ) → IsFaultOfLog config log fault → failures_after (Check fault) n ≡ n
+undone_reads_nothing config log (Log fault) n is = absurd is
+undone_reads_nothing config log fault n is = refl
 
 -- ---- the order or the cycle
 

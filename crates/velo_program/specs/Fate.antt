@@ -1,6 +1,5 @@
 -- How the program ends: its status, and the line on standard error, if there is one.
 use Rattle.std.specs.Prelude.{◌≡◌, ◌⊎◌, Bool, Some, None, ℕ, ◌++◌, [], List, decimal, codes, true, false, if◌then◌else◌, nat_le, Option, Result, Ok, Err}
-use Rattle.std.specs.Io.KnownBytes.{Appends}
 use Rattle.velo_events.specs.declared.refusal.Refusal.{Refusal}
 use Rattle.velo_events.specs.declared.refusal.Refusal.TheVariants.{Halted, NotLive, NoSuchVariable, NoSuchLock, NoSuchThread, Busy, AlreadyHeld, NotHolder, NoOpenBlock, TooDeep, AlreadyForked, NotForked, NotExited, AlreadyJoined, BlockOpen, LockHeld, LogFull, GraphFull, WouldDeadlock, RuntimeMemory, Foreign}
 use Rattle.velo_events.specs.declared.refusal.Refusal.TheVariants as refusal
@@ -13,6 +12,7 @@ use Rattle.velo_worker.specs.declared.ending.Ending.{Ending}
 use Rattle.velo_worker.specs.declared.ending.Ending.TheVariants as ending
 use Rattle.velo_workload.specs.declared.fault.WorkFault.{WorkFault}
 use Rattle.velo_workload.specs.declared.fault.WorkFault.TheVariants as work_fault
+use Rattle.velo_program.specs.Writing.{Writing, Writes}
 use Rattle.velo_program.specs.declared.schedule.ScheduleFault.{ScheduleFault}
 use Rattle.velo_program.specs.declared.schedule.ScheduleFault.TheVariants as schedule_fault
 use Rattle.velo_program.specs.declared.check.Verdict.{Verdict}
@@ -142,13 +142,21 @@ line_of Lost = codes "seat lost\n"
 line_of WriteFailed = codes "write failed\n"
 line_of fate.Memory = codes "out of memory\n"
 
+-- whether a verdict is an alarm
+abbrev pub is_alarm : Verdict → Bool
+is_alarm verdict.Alarm = true
+is_alarm verdict.Clean = false
+
 -- what a check came to
 abbrev pub fate_of : Result Verdict CheckFault → Fate
-fate_of (Ok verdict.Alarm) = Finished ending.Done true
-fate_of (Ok verdict.Clean) = Finished ending.Done false
+fate_of (Ok answer) = Finished ending.Done (is_alarm answer)
+fate_of (Err Write) = WriteFailed
 fate_of (Err fault) = Check fault
 
--- the text went out and this is the status, or the device failed once and the status is 5
-abbrev pub Ends : ℕ → List ℕ → Option (List ℕ) → Option (List ℕ) → ℕ → ℕ → ℕ → Type 0
-Ends status text old new before after result =
-    ((result ≡ status) × Appends old new text × (after ≡ before)) ⊎ ((result ≡ 5) × (after ≡ one_more before))
+-- the line went out and this is the status, or the device failed once and the status is 5
+abbrev pub Closes : ℕ → List ℕ → Writing → ℕ → Type 0
+Closes status line err result = ((result ≡ status) × Writes err line) ⊎ ((result ≡ 5) × (err.after ≡ one_more err.before))
+
+-- the end is that of what the program came to
+abbrev pub Ends : Fate → Writing → ℕ → Type 0
+Ends fate err result = Closes (status_of fate) (line_of fate) err result

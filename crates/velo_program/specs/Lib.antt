@@ -1,11 +1,14 @@
+pub mod Carrying
 pub mod Causes
 pub mod Check
+pub mod Delivery
+pub mod Disk
 pub mod Explaining
 pub mod Fate
 pub mod Faults
-pub mod Paths
 pub mod Playing
 pub mod Program
 pub mod Reading
 pub mod Schedule
+pub mod Steps
 pub mod Writing

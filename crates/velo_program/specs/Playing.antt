@@ -1,6 +1,5 @@
--- What replaying or running a workload comes to, by the bytes of its text and by the definitions.
-use Rattle.std.specs.Prelude.{◌≡◌, ◌⊎◌, ◌≤◌, ◌<◌, ℕ, Bool, true, false, List, length, map, string_bytes, Option, IfSome, Result, Ok, Err}
-use Rattle.std.specs.Borrow.{Bor}
+-- What a run of a workload has to say, by the bytes of its text and by the definitions.
+use Rattle.std.specs.Prelude.{◌≡◌, ◌⊎◌, ◌≤◌, ◌<◌, ⊤, ℕ, Bool, true, false, List, length, map, string_bytes, Option, Some, IfSome, Ok, Err}
 use Rattle.std.specs.Str.{IsUtf8}
 use Rattle.velo_events.specs.declared.config.Config.{Config}
 use Rattle.velo_events.specs.declared.event.ThreadId.{ThreadId}
@@ -20,16 +19,12 @@ use Rattle.velo_workload.specs.declared.limits.TheConstants.{MOST_WORKLOAD_BYTES
 use Rattle.velo_workload.specs.Program.{Program, Answers, meaning_of}
 use Rattle.velo_world.specs.World.{WorldState}
 use Rattle.velo_program.specs.declared.check.Verdict.{Verdict}
-use Rattle.velo_program.specs.declared.check.Verdict.TheVariants as verdict
-use Rattle.velo_program.specs.declared.check.CheckFault.{CheckFault}
-use Rattle.velo_program.specs.declared.check.CheckFault.TheVariants.{Memory}
 use Rattle.velo_program.specs.declared.fate.Fate.{Fate}
-use Rattle.velo_program.specs.declared.fate.Fate.TheVariants.{Finished, CannotOpen, WriteFailed, Lost}
-use Rattle.velo_program.specs.declared.fate.Fate.TheVariants as fate
+use Rattle.velo_program.specs.declared.fate.Fate.TheVariants.{Finished, Lost, Memory, ReadFailed, Work}
 use Rattle.velo_program.specs.declared.request.RunOptions.{RunOptions}
 use Rattle.velo_program.specs.Check.{IsOutput, IsVerdict}
-use Rattle.velo_program.specs.Paths.{FailsAt, Saves, BreaksOffAt}
-use Rattle.velo_program.specs.Writing.{Writing, Writes, BreaksOff, WritesNothing}
+use Rattle.velo_program.specs.Delivery.{Answer, LacksMemory, silent}
+use Rattle.velo_program.specs.Fate.{is_alarm}
 
 -- ---- the workload of an input
 
@@ -47,88 +42,19 @@ abbrev pub IsFaultOfWork : Option (List ℕ) → WorkFault → Type 0
 IsFaultOfWork read work_fault.Memory = GrowthRefused
 IsFaultOfWork read fault = IfSome read (λ bytes. IsFaultOfText bytes fault)
 
--- ---- what a run shows
+-- why there is no workload: the bytes are the text of none, or the source failed, or a growth was refused
+abbrev pub IsUnread : Option (List ℕ) → Fate → Type 0
+IsUnread read (Work fault) = IsFaultOfWork read fault
+IsUnread read ReadFailed = ⊤
+IsUnread read Memory = GrowthRefused
+IsUnread read f = ⊥
 
--- a run that ends so has no report: a growth was refused
-abbrev pub is_unreported : Ending → Bool
-is_unreported (ending.Refused t refusal.Memory) = true
-is_unreported (ending.Refused t refusal.RuntimeMemory) = true
-is_unreported _ = false
+-- ---- its runs
 
--- the names of threads and labels are the program's
-abbrev pub AreNamesOf : Program → Names → Type 0
-AreNamesOf program Numbers = ⊥
-AreNamesOf program (Words threads labels) =
-    (map string_bytes threads.now ≡ program.thread_names) × (map string_bytes labels.now ≡ program.label_names)
-
--- whether a verdict is an alarm
-abbrev pub is_alarm : Verdict → Bool
-is_alarm verdict.Alarm = true
-is_alarm verdict.Clean = false
-
--- the text is the report of the world's log by the program's names, with its certificate if that is asked for
-pub record IsReportOf (program : Program) (certificate : Bool) (w : WorldState) (text : List ℕ) : Type 0 where
-  pub names : Names
-  pub own : AreNamesOf program names
-  pub output : IsOutput names certificate w.config.bounds.threads w.log text
-
--- the verdict on the log is an alarm, or it is not
-pub record IsVerdictOf (w : WorldState) (alarm : Bool) : Type 0 where
-  pub answer : Verdict
-  pub verdict : IsVerdict w.log answer
-  pub told : alarm ≡ is_alarm answer
-
--- the text of the world's log
-abbrev pub text_of_log : WorldState → List ℕ
-text_of_log w = log_text w.config.bounds w.log
-
--- what was written of a run that came to an end: nothing, or its log to the path, if there is one, and the report
-abbrev pub ShowsEnd : Bool → Program → Bool → (List ℕ → Writing → Type 0) → Option (Bor (List ℕ)) → Writing → WorldState → Bool → Type 0
-ShowsEnd true program certificate writes_at path out w alarm = (alarm ≡ false) × WritesNothing out
-ShowsEnd false program certificate writes_at path out w alarm =
-    IsVerdictOf w alarm × Saves writes_at path (text_of_log w) × ((text : List ℕ) × IsReportOf program certificate w text × Writes out text)
-
--- a beginning of the log was written to the path, and nothing of the report
-pub record SavesPart (IsRun : Ending → WorldState → Type 0) (writes_at : List ℕ → Writing → Type 0) (path : Option (Bor (List ℕ))) (out : Writing) : Type 0 where
-  pub ended : Ending
-  pub world : WorldState
-  pub is_run : IsRun ended world
-  pub breaks_off : BreaksOffAt writes_at path (text_of_log world)
-  pub no_report : WritesNothing out
-
--- the log was written, and a beginning of the report
-pub record ShowsPart (IsRun : Ending → WorldState → Type 0) (program : Program) (certificate : Bool) (writes_at : List ℕ → Writing → Type 0) (path : Option (Bor (List ℕ))) (out : Writing) : Type 0 where
-  pub ended : Ending
-  pub world : WorldState
-  pub is_run : IsRun ended world
-  pub saved : Saves writes_at path (text_of_log world)
-  pub text : List ℕ
-  pub is_report : IsReportOf program certificate world text
-  pub breaks_off : BreaksOff out text
-
--- the file of the log failed, which goes out first: its path did not open, or what stands there took a beginning of the text
-abbrev pub FailsToSave : (List ℕ → Type 0) → (List ℕ → Writing → Type 0) → Option (Bor (List ℕ)) → List ℕ → Fate → Type 0
-FailsToSave fails_at writes_at path text CannotOpen = FailsAt fails_at path
-FailsToSave fails_at writes_at path text WriteFailed = BreaksOffAt writes_at path text
-FailsToSave fails_at writes_at path text f = ⊥
-
--- what was written of a run that ended so, by the endings and worlds that it may have: its log and its report, or a beginning of
--- that where the file of the log or the sink failed
-abbrev pub ShowsRun : (Ending → WorldState → Type 0) → Program → Bool → (List ℕ → Type 0) → (List ℕ → Writing → Type 0) → Option (Bor (List ℕ)) → Writing → Fate → Type 0
-ShowsRun IsRun program certificate fails_at writes_at path out (Finished ended alarm) =
-    (w : WorldState) × IsRun ended w × ShowsEnd (is_unreported ended) program certificate writes_at path out w alarm
-ShowsRun IsRun program certificate fails_at writes_at path out WriteFailed =
-    SavesPart IsRun writes_at path out ⊎ ShowsPart IsRun program certificate writes_at path out
-ShowsRun IsRun program certificate fails_at writes_at path out CannotOpen = FailsAt fails_at path × WritesNothing out
-ShowsRun IsRun program certificate fails_at writes_at path out fate.Memory = GrowthRefused × WritesNothing out
-ShowsRun IsRun program certificate fails_at writes_at path out f = ⊥
-
--- a run by threads may lose a seat
-abbrev pub ShowsLiveRun : (Ending → WorldState → Type 0) → Program → Bool → (List ℕ → Type 0) → (List ℕ → Writing → Type 0) → Option (Bor (List ℕ)) → Writing → Fate → Type 0
-ShowsLiveRun IsRun program certificate fails_at writes_at path out Lost = WritesNothing out
-ShowsLiveRun IsRun program certificate fails_at writes_at path out f = ShowsRun IsRun program certificate fails_at writes_at path out f
-
--- ---- the runs of a workload
+-- how a workload is played: by the turns of a schedule, or by threads of its own
+pub data Play : Type 0 where
+  ByTurns : (schedule : List ThreadId) → Play
+  ByThreads : Play
 
 -- the run has the bounds of the workload, and the limits and the stop that were asked for
 pub record IsConfigOf (program : Program) (options : RunOptions) (config : Config) : Type 0 where
@@ -149,27 +75,65 @@ pub record IsLiveRunOf (program : Program) (ended : Ending) (w : WorldState) : T
   pub done : ended ≡ ending.Done → AllDone program w
   pub cause : EndsWithCause ended
 
--- ---- the steps
+abbrev pub IsRunOf : Play → RunOptions → Program → Ending → WorldState → Type 0
+IsRunOf (ByTurns schedule) options program ended w = IsReplayOf schedule options program ended w
+IsRunOf ByThreads options program ended w = IsLiveRunOf program ended w
 
--- what writing what a run shows came to
-abbrev pub fate_of_showing : Result Verdict CheckFault → Ending → Fate
-fate_of_showing (Ok answer) ended = Finished ended (is_alarm answer)
-fate_of_showing (Err Memory) ended = fate.Memory
-fate_of_showing (Err fault) ended = WriteFailed
+-- ---- what a run has to say
 
--- the ending and the world of this run
-abbrev pub IsEnded : WorldState → Ending → Ending → WorldState → Type 0
-IsEnded closed ending ended w = (ended ≡ ending) × (w ≡ closed)
+-- a run that ends so has no report: a growth was refused
+abbrev pub is_unreported : Ending → Bool
+is_unreported (ending.Refused t refusal.Memory) = true
+is_unreported (ending.Refused t refusal.RuntimeMemory) = true
+is_unreported _ = false
 
--- what is written of a closed world by these names
-abbrev pub ShowsBy : Names → Bool → WorldState → Ending → (List ℕ → Type 0) → (List ℕ → Writing → Type 0) → Option (Bor (List ℕ)) → Writing → Fate → Type 0
-ShowsBy names certificate w ending fails_at writes_at path out (Finished ended alarm) =
-    (ended ≡ ending) × IsVerdictOf w alarm × Saves writes_at path (text_of_log w)
-    × ((text : List ℕ) × IsOutput names certificate w.config.bounds.threads w.log text × Writes out text)
-ShowsBy names certificate w ending fails_at writes_at path out WriteFailed =
-    (BreaksOffAt writes_at path (text_of_log w) × WritesNothing out)
-    ⊎ (Saves writes_at path (text_of_log w)
-    × ((text : List ℕ) × IsOutput names certificate w.config.bounds.threads w.log text × BreaksOff out text))
-ShowsBy names certificate w ending fails_at writes_at path out CannotOpen = FailsAt fails_at path × WritesNothing out
-ShowsBy names certificate w ending fails_at writes_at path out fate.Memory = GrowthRefused × WritesNothing out
-ShowsBy names certificate w ending fails_at writes_at path out f = ⊥
+-- the names of threads and labels are the program's
+abbrev pub AreNamesOf : Program → Names → Type 0
+AreNamesOf program Numbers = ⊥
+AreNamesOf program (Words threads labels) =
+    (map string_bytes threads.now ≡ program.thread_names) × (map string_bytes labels.now ≡ program.label_names)
+
+-- the text of the world's log
+abbrev pub text_of_log : WorldState → List ℕ
+text_of_log w = log_text w.config.bounds w.log
+
+-- what is said of the log of a world by this text and this verdict: its own text for the file, and the ending
+abbrev pub reported : Ending → WorldState → List ℕ → Verdict → Answer
+reported ended w text verdict =
+    record { file = Some (text_of_log w); text = Some text; end = Finished ended (is_alarm verdict) }
+
+-- the text is the report by these names, with its certificate if that is asked for, and the verdict is that of the log
+pub record IsReported (names : Names) (certificate : Bool) (ended : Ending) (w : WorldState) (answer : Answer) : Type 0 where
+  pub text : List ℕ
+  pub output : IsOutput names certificate w.config.bounds.threads w.log text
+  pub verdict : Verdict
+  pub is_verdict : IsVerdict w.log verdict
+  pub said : answer ≡ reported ended w text verdict
+
+-- without a report only the ending is said; else the names are the program's
+abbrev pub IsEndAnswer : Bool → Program → Bool → Ending → WorldState → Answer → Type 0
+IsEndAnswer true program certificate ended w answer = answer ≡ silent (Finished ended false)
+IsEndAnswer false program certificate ended w answer =
+    (names : Names) × AreNamesOf program names × IsReported names certificate ended w answer
+
+-- a run that came to an end, and what is said of it
+pub record IsPlayed (play : Play) (options : RunOptions) (program : Program) (answer : Answer) : Type 0 where
+  pub ended : Ending
+  pub world : WorldState
+  pub is_run : IsRunOf play options program ended world
+  pub says : IsEndAnswer (is_unreported ended) program options.certificate ended world answer
+
+-- a run by threads may lose a seat
+abbrev pub LosesSeat : Play → Answer → Type 0
+LosesSeat (ByTurns schedule) answer = ⊥
+LosesSeat ByThreads answer = answer ≡ silent Lost
+
+abbrev pub IsRunAnswer : Play → RunOptions → Program → Answer → Type 0
+IsRunAnswer play options program answer =
+    IsPlayed play options program answer ⊎ (LosesSeat play answer ⊎ LacksMemory answer)
+
+-- What a run of the workload that was read has to say; or nothing, for the reason that there is none.
+abbrev pub IsPlayAnswer : Play → RunOptions → Option (List ℕ) → Answer → Type 0
+IsPlayAnswer play options read answer =
+    ((program : Program) × IsTextOf read program × IsRunAnswer play options program answer)
+    ⊎ ((f : Fate) × IsUnread read f × (answer ≡ silent f))

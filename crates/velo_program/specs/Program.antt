@@ -1,112 +1,91 @@
 -- What the program does with what it is asked for.
-use Rattle.std.specs.Prelude.{◌≡◌, ◌⊎◌, ℕ, Bool, List, Result}
+use Rattle.std.specs.Prelude.{◌≡◌, ◌⊎◌, ℕ, List, Option, Some, None}
+use Rattle.std.specs.Borrow.{Bor}
 use Rattle.velo_events.specs.declared.event.ThreadId.{ThreadId}
-use Rattle.velo_events.specs.Refusals.{GrowthRefused}
-use Rattle.velo_logtext.specs.Device.{one_more}
-use Rattle.velo_workload.specs.Program.{Program}
-use Rattle.velo_program.specs.declared.check.Verdict.{Verdict}
-use Rattle.velo_program.specs.declared.check.CheckFault.{CheckFault}
 use Rattle.velo_program.specs.declared.fate.Fate.{Fate}
-use Rattle.velo_program.specs.declared.fate.Fate.TheVariants.{CannotOpen}
-use Rattle.velo_program.specs.declared.fate.Fate.TheVariants as fate
-use Rattle.velo_program.specs.declared.request.CheckOptions.{CheckOptions}
-use Rattle.velo_program.specs.declared.request.ExplainOptions.{ExplainOptions}
+use Rattle.velo_program.specs.declared.fate.Fate.TheVariants.{CannotOpen, Schedule}
 use Rattle.velo_program.specs.declared.request.ReplayOptions.{ReplayOptions}
-use Rattle.velo_program.specs.declared.request.RunOptions.{RunOptions}
 use Rattle.velo_program.specs.declared.request.Request.{Request}
-use Rattle.velo_program.specs.declared.request.Request.TheVariants as request
-use Rattle.velo_program.specs.Check.{Checks, read_failures, write_failures}
-use Rattle.velo_program.specs.Explaining.{Explains}
-use Rattle.velo_program.specs.Fate.{fate_of}
-use Rattle.velo_program.specs.Paths.{FailsToRead}
-use Rattle.velo_program.specs.Playing.{IsFaultOfWork, IsLiveRunOf, IsReplayOf, IsTextOf, ShowsLiveRun, ShowsRun}
+use Rattle.velo_program.specs.declared.request.Request.TheVariants.{Carry, Check, Explain, Replay, Run}
+use Rattle.velo_program.specs.declared.schedule.ScheduleFault.{ScheduleFault}
+use Rattle.velo_program.specs.Carrying.{IsCarryAnswer}
+use Rattle.velo_program.specs.Check.{IsCheckAnswer}
+use Rattle.velo_program.specs.Delivery.{Answer, IsDelivered, IsTold, failures_after}
+use Rattle.velo_program.specs.Disk.{Disk, FailsToOpen}
+use Rattle.velo_program.specs.Explaining.{ComesOut, IsExplanation}
+use Rattle.velo_program.specs.Playing.{ByThreads, ByTurns, IsPlayAnswer}
 use Rattle.velo_program.specs.Reading.{Reading}
 use Rattle.velo_program.specs.Schedule.{IsFaultOfSchedule, IsSchedule}
 use Rattle.velo_program.specs.Writing.{Writing, WritesNothing}
 
--- a check was done within the limits, with or without a certificate, and the fate is what it came to
-pub record IsChecked (limit nodes : ℕ) (certificate : Bool) (read : Reading) (out : Writing) (fate : Fate) : Type 0 where
-  pub answer : Result Verdict CheckFault
-  pub checks : Checks limit nodes certificate read.bytes out.old out.new answer
-  pub failures : read.after ≡ read_failures answer read.before
-  pub written : out.after ≡ write_failures answer out.before
-  pub told : fate ≡ fate_of answer
+-- ---- a request
 
--- why what was to be read is no workload: its bytes are none, or the source failed, or a growth was refused
-abbrev pub FailsToParse : Reading → Fate → Type 0
-FailsToParse read (fate.Work fault) = IsFaultOfWork read.bytes fault
-FailsToParse read fate.ReadFailed = read.after ≡ one_more read.before
-FailsToParse read fate.Memory = GrowthRefused
-FailsToParse read f = ⊥
+-- the path of its input, and that of the file that it wants written
+abbrev pub input_of : Request → List ℕ
+input_of (Check options) = options.log.now
+input_of (Replay options) = options.run.file.now
+input_of (Run options) = options.file.now
+input_of (Explain options) = options.log.now
+input_of (Carry options) = options.log.now
 
--- ---- by what is said of the files
+abbrev pub file_of : Request → Option (Bor (List ℕ))
+file_of (Check options) = None
+file_of (Replay options) = options.run.log
+file_of (Run options) = options.log
+file_of (Explain options) = options.dot
+file_of (Carry options) = Some options.out
 
-module _ (reads_at : List ℕ → Reading → Type 0) (fails_at : List ℕ → Type 0) (writes_at : List ℕ → Writing → Type 0) where
-  -- there is no file to be read at the path, and nothing was written
-  abbrev pub IsUnopened : List ℕ → Writing → Fate → Type 0
-  IsUnopened path out f = (f ≡ CannotOpen) × FailsToRead fails_at path × WritesNothing out
+-- the text of the schedule is that of this one
+abbrev pub IsScheduleOf : ReplayOptions → List ThreadId → Type 0
+IsScheduleOf options schedule = IsSchedule options.schedule.now schedule
 
-  -- ---- logs
+-- what it has to say of the bytes that were read, where they are known
+abbrev pub IsAnswer : Request → Option (List ℕ) → Answer → Type 0
+IsAnswer (Check options) read answer =
+    IsCheckAnswer options.limits.events options.limits.nodes options.certificate read answer
+IsAnswer (Replay options) read answer =
+    (schedule : List ThreadId) × IsScheduleOf options schedule × IsPlayAnswer (ByTurns schedule) options.run read answer
+IsAnswer (Run options) read answer = IsPlayAnswer ByThreads options read answer
+IsAnswer (Explain options) read answer = IsExplanation read answer
+IsAnswer (Carry options) read answer = IsCarryAnswer read answer
 
-  -- the log at the path was checked, as was asked for
-  pub record IsCheckedAt (options : CheckOptions) (out : Writing) (fate : Fate) : Type 0 where
-    pub read : Reading
-    pub reads : reads_at options.log.now read
-    pub checked : IsChecked options.limits.events options.limits.nodes options.certificate read out fate
+-- ---- what was done
 
-  abbrev pub DoesCheck : CheckOptions → Writing → Fate → Type 0
-  DoesCheck options out f = IsCheckedAt options out f ⊎ IsUnopened options.log.now out f
+-- what became of the answer: that of carrying over goes to the file alone, which is opened before the input is read
+abbrev pub IsPut : Request → Disk → Writing → Answer → Fate → Type 0
+IsPut (Explain options) disk out answer f = ComesOut disk options.dot out answer f
+IsPut (Carry options) disk out answer f =
+    ((file : Writing) × disk.takes options.out.now file × IsTold file answer f) × WritesNothing out
+IsPut request disk out answer f = IsDelivered disk (file_of request) out answer f
 
-  -- the log at the path was explained
-  pub record IsExplainedAt (options : ExplainOptions) (out : Writing) (fate : Fate) : Type 0 where
-    pub read : Reading
-    pub reads : reads_at options.log.now read
-    pub explains : Explains read fails_at writes_at options.dot out fate
+-- an answer to what was read was delivered; and the source failed where this is told, and only there
+pub record IsAnswered (disk : Disk) (request : Request) (read : Reading) (out : Writing) (fate : Fate) : Type 0 where
+  pub answer : Answer
+  pub is_answer : IsAnswer request read.bytes answer
+  pub put : IsPut request disk out answer fate
+  pub failures : read.after ≡ failures_after fate read.before
 
-  abbrev pub DoesExplain : ExplainOptions → Writing → Fate → Type 0
-  DoesExplain options out f = IsExplainedAt options out f ⊎ IsUnopened options.log.now out f
+-- a file does not open without which nothing is read
+abbrev pub IsUnopened : Disk → Request → Type 0
+IsUnopened disk (Carry options) = FailsToOpen disk options.log.now ⊎ disk.fails options.out.now
+IsUnopened disk request = FailsToOpen disk (input_of request)
 
-  -- ---- workloads
+-- what stands at the path of the input was read and answered; or a file did not open, and nothing was written
+abbrev pub Responds : Disk → Request → Writing → Fate → Type 0
+Responds disk request out f =
+    ((read : Reading) × disk.gives (input_of request) read × IsAnswered disk request read out f)
+    ⊎ ((f ≡ CannotOpen) × IsUnopened disk request × WritesNothing out)
 
-  -- the text at the path is that of this program
-  pub record OpensProgram (path : List ℕ) (program : Program) : Type 0 where
-    pub read : Reading
-    pub reads : reads_at path read
-    pub is_text : IsTextOf read.bytes program
+-- the text of the schedule is none, which is told before any file is opened
+pub record HasBadSchedule (options : ReplayOptions) (out : Writing) (f : Fate) : Type 0 where
+  pub fault : ScheduleFault
+  pub is_fault : IsFaultOfSchedule options.schedule.now fault
+  pub told : f ≡ Schedule fault
+  pub nothing : WritesNothing out
 
-  -- why none was opened
-  pub record IsUnread (path : List ℕ) (fate : Fate) : Type 0 where
-    pub read : Reading
-    pub reads : reads_at path read
-    pub fault : FailsToParse read fate
-
-  abbrev pub OpensNoProgram : List ℕ → Fate → Type 0
-  OpensNoProgram path f = IsUnread path f ⊎ ((f ≡ CannotOpen) × FailsToRead fails_at path)
-
-  -- the workload at the path was played, and this is what was shown of it; or none was opened, and nothing was written
-  abbrev pub PlaysAt : (Program → Type 0) → List ℕ → Writing → Fate → Type 0
-  PlaysAt IsShown path out f =
-      ((program : Program) × OpensProgram path program × IsShown program) ⊎ (OpensNoProgram path f × WritesNothing out)
-
-  abbrev pub DoesRun : RunOptions → Writing → Fate → Type 0
-  DoesRun options out f =
-      PlaysAt (λ program. ShowsLiveRun (IsLiveRunOf program) program options.certificate fails_at writes_at options.log out f) options.file.now out f
-
-  abbrev pub DoesReplayBy : List ThreadId → RunOptions → Writing → Fate → Type 0
-  DoesReplayBy schedule options out f =
-      PlaysAt (λ program. ShowsRun (IsReplayOf schedule options program) program options.certificate fails_at writes_at options.log out f) options.file.now out f
-
-  -- a schedule that is none is told before any file is opened
-  abbrev pub DoesReplay : ReplayOptions → Writing → Fate → Type 0
-  DoesReplay options out (fate.Schedule fault) = IsFaultOfSchedule options.schedule.now fault × WritesNothing out
-  DoesReplay options out f =
-      (schedule : List ThreadId) × IsSchedule options.schedule.now schedule × DoesReplayBy schedule options.run out f
-
-  -- ---- all that can be asked for
-
-  -- what was asked for was done
-  abbrev pub Does : Request → Writing → Fate → Type 0
-  Does (request.Check options) out f = DoesCheck options out f
-  Does (request.Replay options) out f = DoesReplay options out f
-  Does (request.Run options) out f = DoesRun options out f
-  Does (request.Explain options) out f = DoesExplain options out f
+-- What was asked for was done.
+abbrev pub Does : Disk → Request → Writing → Fate → Type 0
+Does disk (Replay options) out f =
+    HasBadSchedule options out f
+    ⊎ (((schedule : List ThreadId) × IsScheduleOf options schedule) × Responds disk (Replay options) out f)
+Does disk request out f = Responds disk request out f

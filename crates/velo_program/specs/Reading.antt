@@ -1,6 +1,5 @@
 -- What a command does to the source of its input, and what reading all of it gives.
-use Rattle.std.specs.Prelude.{◌≡◌, ◌≤◌, ◌++◌, [], ⊤, ℕ, List, length, Option, Some, None}
-use Rattle.std.specs.Io.KnownBytes.{Consumes, IsAtEnd}
+use Rattle.std.specs.Prelude.{ℕ, List, Option}
 
 -- the bytes that a source still gives, where they are known, and how often it has failed, before and after
 pub record Reading : Type 0 where
@@ -10,15 +9,3 @@ pub record Reading : Type 0 where
 
 abbrev pub reading : {S : Type 0} → (S → Option (List ℕ)) → (S → ℕ) → S → S → Reading
 reading remaining failures old new = record { bytes = remaining old; before = failures old; after = failures new }
-
--- the bytes are all that the source gives, where they are known; or they are more than the most that are wanted, and a beginning
-abbrev pub IsReadOf : ℕ → Option (List ℕ) → List ℕ → Type 0
-IsReadOf most None bytes = ⊤
-IsReadOf most (Some all) bytes = (rest : List ℕ) × (all ≡ bytes ++ rest) × (length bytes ≤ most → rest ≡ [])
-
--- the bytes grew by a piece of what the source gives, of so many bytes, and of none only at its end
-pub record GrowsByPiece (before after : Option (List ℕ)) (old new : List ℕ) (count : ℕ) : Type 0 where
-  pub piece : List ℕ
-  pub grown : new ≡ old ++ piece
-  pub given : Consumes before after piece
-  pub last : count ≡ 0 → IsAtEnd after

@@ -1,5 +1,5 @@
 -- What a command does to the sink of its output.
-use Rattle.std.specs.Prelude.{◌≡◌, ℕ, List, Option}
+use Rattle.std.specs.Prelude.{◌≡◌, ℕ, List, Option, Result, Ok, Err}
 use Rattle.std.specs.Io.KnownBytes.{Appends}
 use Rattle.velo_logtext.specs.Device.{AppendsBeginning, one_more}
 
@@ -23,3 +23,8 @@ BreaksOff out text = AppendsBeginning out.old out.new text × (out.after ≡ one
 
 abbrev pub WritesNothing : Writing → Type 0
 WritesNothing out = (out.new ≡ out.old) × (out.after ≡ out.before)
+
+-- what a writer of a text answers
+abbrev pub Delivers : {X F : Type 0} → Writing → List ℕ → Result X F → Type 0
+Delivers out text (Ok x) = Writes out text
+Delivers out text (Err f) = BreaksOff out text

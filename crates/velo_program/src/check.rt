@@ -1,15 +1,19 @@
 //! Checking a recorded log.
-ghost use Rattle.std.specs.Prelude.{◌≡◌, ◌≤◌, true, false, IfOk, IfErr, OnErr, length};
+ghost use Rattle.std.specs.Prelude.{◌≡◌, ◌≤◌, false, IfOk, IfErr, IfSome, OnOk, OnErr, is_some, length};
 ghost use Rattle.velo_events.specs.Certificate.{IsSerialOrder, IsShortestCycleAt};
 ghost use Rattle.velo_events.specs.Graph.{HasCycle, IsClosing};
 ghost use Rattle.velo_events.specs.WellFormed.{IsWellFormed};
 ghost use Rattle.velo_events.specs.Refusals.{GrowthRefused};
 ghost use Rattle.velo_events.specs.declared.limits.TheConstants.{MOST_EVENTS, MOST_NODES};
 ghost use Rattle.velo_logtext.specs.Text.{AreBounds};
-ghost use Rattle.velo_report.specs.declared.names.Names.TheVariants.{Numbers};
 ghost use Rattle.velo_world.specs.Faults.{world_of};
-ghost use Rattle.velo_program.specs.Check.{Checks, IsOrderOrCycle, IsVerdict, Reports, Shows, read_failures, write_failures};
+ghost use Rattle.velo_program.specs.Check.{Checks, ComesAbout, IsFaultOfInput, IsOrderOrCycle, IsVerdict, WritesOutput};
+ghost use Rattle.velo_program.specs.Delivery.{failures_after};
+ghost use Rattle.velo_program.specs.Fate.{fate_of, is_alarm};
 ghost use Rattle.velo_program.specs.Faults.{check_fault_of, IsFaultOfLog};
+ghost use Rattle.velo_program.specs.Writing.{writing};
+ghost use Rattle.velo_program.specs.declared.fate.Fate.TheVariants.{Check};
+ghost use Rattle.velo_program.specs.Steps.{HasAlarm, Shows};
 
 use std::alloc::Global;
 use velo_certify::{CertFault, cycle_of, serial_order};
@@ -26,6 +30,13 @@ pub enum Verdict {
     Clean,
     /// They can't be.
     Alarm,
+}
+
+/// Whether a verdict is an alarm.
+pub fn is_alarm(verdict: Verdict) -> bool
+    ensures { result ≡ is_alarm verdict }
+{
+    verdict == Verdict::Alarm
 }
 
 /// Why a log has no verdict. Positions count the events from 0.
@@ -99,31 +110,13 @@ pub fn config_of(bounds: Bounds, events: u32, nodes: u16) -> Config
 }
 
 /// What the log of a closed world shows.
-fn verdict_of(closed: &Closed) -> Verdict
-    ensures { IsVerdict closed.now.log result }
+pub fn verdict_of(closed: &Closed) -> Verdict
+    ensures verdict { IsVerdict closed.now.log result }
+    ensures alarm { HasAlarm closed.now.log }
 {
     match closed.alarm() {
         Some(_) => Verdict::Alarm,
         None => Verdict::Clean,
-    }
-}
-
-/// Writes the report of a closed world.
-///
-/// # Errors
-/// `Write` where the sink failed. A beginning of the report was written then.
-pub fn write_report<O: Sink>(
-    closed: &Closed,
-    names: &Names,
-    sink: &mut O,
-) -> Result<Verdict, CheckFault>
-    ensures answer { Reports names.now closed.now (O.contents sink.old) (O.contents sink.new) result }
-    ensures written { O.failures sink.new ≡ write_failures result (O.failures sink.old) }
-{
-    let verdict = verdict_of(closed);
-    match report(closed, names, sink) {
-        Ok(()) => Ok(verdict),
-        Err(WriteFault) => Err(CheckFault::Write),
     }
 }
 
@@ -168,27 +161,45 @@ pub fn order_or_cycle_of(alloc: Global, closed: &Closed) -> Result<Vec<usize>, M
     }
 }
 
-/// Writes the report of a closed world, and then the certificate of its verdict, whose order or cycle has to be that of
-/// the world's log.
+/// Writes the report of a closed world, and behind it the certificate of its verdict, if there is an order or a cycle, which
+/// has to be that of the world's log.
 ///
 /// # Errors
-/// `Write` where the sink failed; a beginning of the report, or of the certificate behind it, was written.
-pub fn write_certified<O: Sink>(
+/// `WriteFault` where the sink failed; a beginning of the report, or of the certificate behind it, was written.
+pub fn write_output<O: Sink>(
     closed: &Closed,
     names: &Names,
-    list: &[usize],
+    list: Option<&[usize]>,
+    sink: &mut O,
+) -> Result<(), WriteFault>
+    requires { IfSome list (λ list. IsOrderOrCycle closed.now.log list.now) }
+    ensures { WritesOutput names.now (is_some list.entry) closed.now
+        (writing O.contents O.failures sink.old sink.new) result }
+{
+    match report(closed, names, sink) {
+        Ok(()) => {}
+        Err(fault) => return Err(fault),
+    }
+    match list {
+        Some(list) => certificate_lines(closed, list, sink),
+        None => Ok(()),
+    }
+}
+
+/// Writes what a closed world shows by numbers, and answers its verdict.
+fn show<O: Sink>(
+    closed: &Closed,
+    list: Option<&[usize]>,
     sink: &mut O,
 ) -> Result<Verdict, CheckFault>
-    requires { IsOrderOrCycle closed.now.log list.now }
-    ensures answer { Shows names.now true closed.now (O.contents sink.old) (O.contents sink.new) result }
-    ensures written { O.failures sink.new ≡ write_failures result (O.failures sink.old) }
+    requires { IfSome list (λ list. IsOrderOrCycle closed.now.log list.now) }
+    ensures { Shows (is_some list.entry) closed.now
+        (writing O.contents O.failures sink.old sink.new) result }
 {
-    match write_report(closed, names, sink) {
-        Ok(verdict) => match certificate_lines(closed, list, sink) {
-            Ok(()) => Ok(verdict),
-            Err(WriteFault) => Err(CheckFault::Write),
-        },
-        Err(fault) => Err(fault),
+    let verdict = verdict_of(closed);
+    match write_output(closed, &Names::Numbers, list, sink) {
+        Ok(()) => Ok(verdict),
+        Err(WriteFault) => Err(CheckFault::Write),
     }
 }
 
@@ -199,14 +210,14 @@ fn write_answer<O: Sink>(
     certificate: bool,
     sink: &mut O,
 ) -> Result<Verdict, CheckFault>
-    ensures answer { Shows Numbers certificate closed.now (O.contents sink.old) (O.contents sink.new) result }
-    ensures written { O.failures sink.new ≡ write_failures result (O.failures sink.old) }
+    ensures { Shows certificate closed.now
+        (writing O.contents O.failures sink.old sink.new) result }
 {
     if !certificate {
-        return write_report(closed, &Names::Numbers, sink);
+        return show(closed, None, sink);
     }
     match order_or_cycle_of(alloc, closed) {
-        Ok(list) => write_certified(closed, &Names::Numbers, &list, sink),
+        Ok(list) => show(closed, Some(list.as_slice()), sink),
         Err(Memory) => Err(CheckFault::Memory),
     }
 }
@@ -218,12 +229,40 @@ fn finish<O: Sink>(
     certificate: bool,
     sink: &mut O,
 ) -> Result<Verdict, CheckFault>
-    ensures answer { Shows Numbers certificate closed (O.contents sink.old) (O.contents sink.new) result }
-    ensures written { O.failures sink.new ≡ write_failures result (O.failures sink.old) }
+    ensures { Shows certificate closed (writing O.contents O.failures sink.old sink.new) result }
 {
     let answer = write_answer(alloc, &closed, certificate, sink);
     drop(closed);
     answer
+}
+
+/// The world of the log that a source gives, all of whose events came about again in it, after its end.
+///
+/// # Errors
+/// As `check_run`, but for `Write`.
+pub fn relive<I: Source>(
+    alloc: Global,
+    source: &mut I,
+    events: u32,
+    nodes: u16,
+) -> Result<Closed, CheckFault>
+    requires events { (1 ≤ events) × (events ≤ MOST_EVENTS) }
+    requires nodes { (1 ≤ nodes) × (nodes ≤ MOST_NODES) }
+    ensures ok { IfOk result (λ closed. ComesAbout events (I.remaining source.old)
+        closed.config.bounds closed.log) }
+    ensures err { IfErr result (IsFaultOfInput events nodes (I.remaining source.old)) }
+    ensures read { OnOk result (I.failures source.new ≡ I.failures source.old) }
+    ensures failure { IfErr result (λ fault. I.failures source.new ≡ failures_after (Check fault)
+        (I.failures source.old)) }
+{
+    let (bounds, log) = match read_log(alloc, source) {
+        Ok(read) => read,
+        Err(fault) => return Err(CheckFault::Log(fault)),
+    };
+    match do_log(alloc, config_of(bounds, events, nodes), log) {
+        Ok(closed) => Ok(closed),
+        Err(fault) => Err(fault),
+    }
 }
 
 /// Reads a whole log, does its events one after another, and writes the report, and behind it, if it is asked for, the
@@ -246,14 +285,12 @@ pub fn check_run<I: Source, O: Sink>(
 ) -> Result<Verdict, CheckFault>
     requires events { (1 ≤ events) × (events ≤ MOST_EVENTS) }
     requires nodes { (1 ≤ nodes) × (nodes ≤ MOST_NODES) }
-    ensures answer { Checks events nodes certificate (I.remaining source.old) (O.contents sink.old) (O.contents sink.new) result }
-    ensures read { I.failures source.new ≡ read_failures result (I.failures source.old) }
-    ensures written { O.failures sink.new ≡ write_failures result (O.failures sink.old) }
+    ensures answer { Checks events nodes certificate (I.remaining source.old)
+        (writing O.contents O.failures sink.old sink.new) (fate_of result) }
+    ensures read { I.failures source.new ≡ failures_after (fate_of result) (I.failures source.old) }
 {
-    let (bounds, log) = match read_log(alloc, source) {
-        Ok(read) => read,
-        Err(fault) => return Err(CheckFault::Log(fault)),
-    };
-    let closed = do_log(alloc, config_of(bounds, events, nodes), log)?;
-    finish(alloc, closed, certificate, sink)
+    match relive(alloc, source, events, nodes) {
+        Ok(closed) => finish(alloc, closed, certificate, sink),
+        Err(fault) => Err(fault),
+    }
 }

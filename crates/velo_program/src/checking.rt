@@ -1,13 +1,13 @@
 //! `velodrome check`.
 ghost use Rattle.std.specs.Prelude.{◌≡◌};
-ghost use Rattle.velo_program.specs.Causes.{ComesByGrowth};
+ghost use Rattle.velo_program.specs.Delivery.{failures_after};
 ghost use Rattle.velo_program.specs.Fate.{fate_of};
-ghost use Rattle.velo_program.specs.Paths.{ReadsAt, WritesAt};
-ghost use Rattle.velo_program.specs.Program.{DoesCheck, IsChecked};
-ghost use Rattle.velo_program.specs.Reading.{reading};
+ghost use Rattle.velo_program.specs.Program.{Responds};
 ghost use Rattle.velo_program.specs.Writing.{writing};
+ghost use Rattle.velo_program.specs.declared.request.Request.TheVariants.{Check};
+ghost use Rattle.velo_program.specs.Steps.{Tells};
 
-use crate::check::{CheckFault, Verdict, check_run};
+use crate::check::{CheckFault, Verdict, check_run, is_alarm};
 use crate::fate::Fate;
 use crate::files::{Files, is_standard_input};
 use crate::request::CheckOptions;
@@ -22,8 +22,9 @@ pub fn fate_of(answer: Result<Verdict, CheckFault>) -> Fate
     match answer {
         Ok(verdict) => Fate::Finished {
             ending: Ending::Done,
-            alarm: verdict == Verdict::Alarm,
+            alarm: is_alarm(verdict),
         },
+        Err(CheckFault::Write) => Fate::WriteFailed,
         Err(fault) => Fate::Check(fault),
     }
 }
@@ -35,8 +36,9 @@ fn check_log<I: Source, O: Sink>(
     log: &mut I,
     out: &mut O,
 ) -> Fate
-    ensures checked { IsChecked options.now.limits.events options.now.limits.nodes options.now.certificate (reading I.remaining I.failures log.old log.new) (writing O.contents O.failures out.old out.new) result }
-    ensures memory { ComesByGrowth result }
+    ensures told { Tells (Check options.now) (I.remaining log.old)
+        (writing O.contents O.failures out.old out.new) result }
+    ensures failures { I.failures log.new ≡ failures_after result (I.failures log.old) }
 {
     let answer = check_run(
         alloc,
@@ -56,11 +58,8 @@ pub fn check_file<F: Files, O: Sink>(
     files: &F,
     out: &mut O,
 ) -> Fate
-    ensures done { DoesCheck
-        (ReadsAt (F.gives_at files.now) F.Input.remaining F.Input.failures (F.gives files.now) F.StandardInput.remaining F.StandardInput.failures)
-        (F.fails_at files.now) (WritesAt (F.takes_at files.now) F.Output.contents F.Output.failures)
-        options.now (writing O.contents O.failures out.old out.new) result }
-    ensures memory { ComesByGrowth result }
+    ensures { Responds (F.disk files.now) (Check options.now)
+        (writing O.contents O.failures out.old out.new) result }
 {
     if is_standard_input(options.log) {
         return check_log(alloc, options, &mut files.standard_input(), out);

@@ -1,10 +1,9 @@
 //! Each command is done, whatever the files and the output are.
-ghost use Rattle.std.specs.Prelude.{◌≡◌};
 ghost use Rattle.velo_program.specs.Causes.{AnswersWithCause};
-ghost use Rattle.velo_program.specs.Paths.{ReadsAt, WritesAt};
 ghost use Rattle.velo_program.specs.Program.{Does};
 ghost use Rattle.velo_program.specs.Writing.{writing};
 
+use crate::carrying::carry_file;
 use crate::checking::check_file;
 use crate::explaining::explain_file;
 use crate::fate::Fate;
@@ -26,10 +25,8 @@ pub fn do_request<R: Threads + Wait + Sync, F: Files, O: Sink>(
     files: &mut F,
     out: &mut O,
 ) -> Fate
-    ensures done { Does
-        (ReadsAt (F.gives_at files.old) F.Input.remaining F.Input.failures (F.gives files.old) F.StandardInput.remaining F.StandardInput.failures)
-        (F.fails_at files.old) (WritesAt (F.takes_at files.old) F.Output.contents F.Output.failures)
-        request.now (writing O.contents O.failures out.old out.new) result }
+    ensures done { Does (F.disk files.old) request.now
+        (writing O.contents O.failures out.old out.new) result }
     ensures memory { AnswersWithCause request.now result }
 {
     match request {
@@ -37,5 +34,6 @@ pub fn do_request<R: Threads + Wait + Sync, F: Files, O: Sink>(
         Request::Replay(options) => replay_file(alloc, options, files, out),
         Request::Run(options) => run_file(rt, alloc, options, files, out),
         Request::Explain(options) => explain_file(alloc, options, files, out),
+        Request::Carry(options) => carry_file(alloc, options, files),
     }
 }

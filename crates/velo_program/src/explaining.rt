@@ -1,16 +1,18 @@
 //! `velodrome explain`.
-ghost use Rattle.std.specs.Prelude.{◌≡◌, ◌≤◌, length, IfErr, OnOk};
+ghost use Rattle.std.specs.Prelude.{◌≡◌, ◌≤◌, length};
 ghost use Rattle.velo_events.specs.declared.limits.TheConstants.{MOST_EVENTS};
 ghost use Rattle.velo_explain.specs.Evidence.{IsEvidenceAt};
 ghost use Rattle.velo_explain.specs.Picture.{picture_text};
-ghost use Rattle.velo_program.specs.Causes.{ComesByGrowth};
-ghost use Rattle.velo_program.specs.Explaining.{Explains, FailsToDraw, Tells, TellsAt, TellsVerdict, fate_of_telling};
-ghost use Rattle.velo_program.specs.Paths.{ReadsAt, Saves, WritesAt};
-ghost use Rattle.velo_program.specs.Program.{DoesExplain};
+ghost use Rattle.velo_worker.specs.declared.ending.Ending.TheVariants.{Done};
+ghost use Rattle.velo_program.specs.Explaining.{ComesOut, explained};
+ghost use Rattle.velo_program.specs.Program.{IsAnswered, Responds};
 ghost use Rattle.velo_program.specs.Reading.{reading};
 ghost use Rattle.velo_program.specs.Writing.{writing};
+ghost use Rattle.velo_program.specs.declared.fate.Fate.TheVariants.{Finished};
+ghost use Rattle.velo_program.specs.declared.request.Request.TheVariants.{Explain};
+ghost use Rattle.velo_program.specs.Steps.{Explains, IsDrawn, fate_of_telling};
 
-use crate::check::{CheckFault, config_of, do_log};
+use crate::check::relive;
 use crate::fate::Fate;
 use crate::files::{Files, is_standard_input};
 use crate::request::ExplainOptions;
@@ -18,14 +20,14 @@ use std::alloc::Global;
 use velo_certify::CertFault;
 use velo_events::{MOST_EVENTS, MOST_NODES};
 use velo_explain::{Evidence, ExplainFault, evidence_of, explain, explain_clean, picture};
-use velo_logtext::{Sink, Source, read_log};
+use velo_logtext::{Sink, Source};
 use velo_traces::Trace;
 use velo_worker::Ending;
 use velo_world::Closed;
 
 /// What an explanation came to.
 fn fate_of_telling(answer: Result<(), ExplainFault>, alarm: bool) -> Fate
-    ensures { result ≡ fate_of_telling answer alarm }
+    ensures { result ≡ fate_of_telling answer (Finished Done alarm) }
 {
     match answer {
         Ok(()) => Fate::Finished {
@@ -48,9 +50,8 @@ fn draw<F: Files>(
 ) -> Result<(), Fate>
     requires few { length log.now.events ≤ MOST_EVENTS }
     requires evidence { IsEvidenceAt log.now.events position evidence.now }
-    ensures drawn { OnOk result (Saves (WritesAt (F.takes_at files.old) F.Output.contents F.Output.failures) path.entry (picture_text log.now.events evidence.now)) }
-    ensures failed { IfErr result (FailsToDraw
-        (F.fails_at files.old) (WritesAt (F.takes_at files.old) F.Output.contents F.Output.failures) path.entry (picture_text log.now.events evidence.now)) }
+    ensures { IsDrawn (F.disk files.old) path.entry
+        (picture_text log.now.events evidence.now) result }
 {
     let Some(path) = path else {
         return Ok(());
@@ -77,9 +78,8 @@ fn explain_by<F: Files, O: Sink>(
 ) -> Fate
     requires few { length log.now.events ≤ MOST_EVENTS }
     requires evidence { IsEvidenceAt log.now.events position evidence.now }
-    ensures { Tells (TellsAt log.now.events position evidence.now)
-        (F.fails_at files.old) (WritesAt (F.takes_at files.old) F.Output.contents F.Output.failures) path.entry
-        (writing O.contents O.failures out.old out.new) result }
+    ensures { ComesOut (F.disk files.old) path.entry (writing O.contents O.failures out.old out.new)
+        (explained log.now.events position evidence.now) result }
 {
     match draw(alloc, log, position, evidence, path, files) {
         Ok(()) => fate_of_telling(explain(alloc, log, position, evidence, out), true),
@@ -96,8 +96,7 @@ fn explain_closed<F: Files, O: Sink>(
     out: &mut O,
 ) -> Fate
     requires { length closed.now.log ≤ MOST_EVENTS }
-    ensures { Tells (TellsVerdict closed.now.log)
-        (F.fails_at files.old) (WritesAt (F.takes_at files.old) F.Output.contents F.Output.failures) path.entry
+    ensures { Explains closed.now.log (F.disk files.old) path.entry
         (writing O.contents O.failures out.old out.new) result }
 {
     let log = closed.log();
@@ -120,22 +119,18 @@ fn explain_closed<F: Files, O: Sink>(
 /// Reads a whole log, does its events, and explains what they show.
 fn explain_log<I: Source, F: Files, O: Sink>(
     alloc: Global,
-    path: Option<&str>,
+    options: &ExplainOptions,
     source: &mut I,
     files: &mut F,
     out: &mut O,
 ) -> Fate
-    ensures { Explains (reading I.remaining I.failures source.old source.new)
-        (F.fails_at files.old) (WritesAt (F.takes_at files.old) F.Output.contents F.Output.failures) path.entry
+    ensures { IsAnswered (F.disk files.old) (Explain options.now)
+        (reading I.remaining I.failures source.old source.new)
         (writing O.contents O.failures out.old out.new) result }
 {
-    let (bounds, log) = match read_log(alloc, source) {
-        Ok(read) => read,
-        Err(fault) => return Fate::Check(CheckFault::Log(fault)),
-    };
-    match do_log(alloc, config_of(bounds, MOST_EVENTS, MOST_NODES), log) {
+    match relive(alloc, source, MOST_EVENTS, MOST_NODES) {
         Ok(closed) => {
-            let fate = explain_closed(alloc, &closed, path, files, out);
+            let fate = explain_closed(alloc, &closed, options.dot, files, out);
             drop(closed);
             fate
         }
@@ -150,18 +145,15 @@ pub fn explain_file<F: Files, O: Sink>(
     files: &mut F,
     out: &mut O,
 ) -> Fate
-    ensures done { DoesExplain
-        (ReadsAt (F.gives_at files.old) F.Input.remaining F.Input.failures (F.gives files.old) F.StandardInput.remaining F.StandardInput.failures)
-        (F.fails_at files.old) (WritesAt (F.takes_at files.old) F.Output.contents F.Output.failures)
-        options.now (writing O.contents O.failures out.old out.new) result }
-    ensures memory { ComesByGrowth result }
+    ensures { Responds (F.disk files.old) (Explain options.now)
+        (writing O.contents O.failures out.old out.new) result }
 {
     if is_standard_input(options.log) {
         let mut log = files.standard_input();
-        return explain_log(alloc, options.dot, &mut log, files, out);
+        return explain_log(alloc, options, &mut log, files, out);
     }
     match files.open(options.log) {
-        Some(mut log) => explain_log(alloc, options.dot, &mut log, files, out),
+        Some(mut log) => explain_log(alloc, options, &mut log, files, out),
         None => Fate::CannotOpen,
     }
 }

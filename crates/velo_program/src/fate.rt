@@ -1,7 +1,7 @@
 //! How the program ends: its status, and the line on standard error.
 ghost use Rattle.std.specs.Prelude.{◌≡◌, ◌≤◌, ◌++◌, [], codes, decimal, length, take, IfOk, OnOk, OnErr};
-ghost use Rattle.std.specs.Io.KnownBytes.{Appends};
 ghost use Rattle.velo_logtext.specs.Device.{one_more};
+ghost use Rattle.velo_program.specs.Writing.{Writes, writing};
 ghost use Rattle.velo_program.specs.Fate.{Ends, number_of, status_of, status_of_check, status_of_log, status_of_end, status_of_schedule, status_of_work, place_of_work, line_of, line_of_check, line_of_log, line_of_end, line_of_refused, line_of_schedule, line_of_work};
 
 use crate::check::CheckFault;
@@ -257,8 +257,8 @@ fn put_line(buffer: &mut [u8], fate: Fate) -> usize
 /// `WriteFault` where the sink failed; the status is then [`FAILED`].
 pub fn end_line<S: Sink>(fate: &Fate, sink: &mut S) -> Result<u8, WriteFault>
     ensures status { IfOk result (λ status. status ≡ status_of fate.now) }
-    ensures text { OnOk result (Appends (S.contents sink.old) (S.contents sink.new) (line_of fate.now)) }
-    ensures ok { OnOk result (S.failures sink.new ≡ S.failures sink.old) }
+    ensures text { OnOk result (Writes
+        (writing S.contents S.failures sink.old sink.new) (line_of fate.now)) }
     ensures err { OnErr result (S.failures sink.new ≡ one_more (S.failures sink.old)) }
 {
     let mut buffer = [0u8; LINE_ROOM];
@@ -269,7 +269,7 @@ pub fn end_line<S: Sink>(fate: &Fate, sink: &mut S) -> Result<u8, WriteFault>
 
 /// Tells how a run ended, and answers the status to end with.
 pub fn end_with<S: Sink>(fate: &Fate, sink: &mut S) -> u8
-    ensures { Ends (status_of fate.now) (line_of fate.now) (S.contents sink.old) (S.contents sink.new) (S.failures sink.old) (S.failures sink.new) result }
+    ensures { Ends fate.now (writing S.contents S.failures sink.old sink.new) result }
 {
     match end_line(fate, sink) {
         Ok(status) => status,

@@ -1,5 +1,6 @@
 //! Files of the program.
-ghost use Rattle.std.specs.Prelude.{◌≡◌, ◌↔◌, ⊤, ℕ, List, Option, codes, IfSome, IsNone, IsTrue};
+ghost use Rattle.std.specs.Prelude.{◌≡◌, ◌≢◌, ◌↔◌, codes, IfSome, IsNone, IsTrue};
+ghost use Rattle.velo_program.specs.Disk.{Disk, IsGiven, IsTaken, untold};
 
 use velo_logtext::{Sink, Source};
 
@@ -12,32 +13,26 @@ pub trait Files {
     /// A file that was opened to be written.
     type Output: Sink;
 
-    /// What is said of the bytes of a file that opens at a path, where they are known: nothing, unless an implementation says
-    /// more.
-    ghost gives_at: { Self → List ℕ → Option (List ℕ) → Type 0 } = { λ _ _ _. ⊤ };
+    /// What is said of the files: nothing, unless an implementation says more.
+    ghost disk: { Self → Disk } = { λ _. untold };
 
-    /// What is said of a path where no file opens.
-    ghost fails_at: { Self → List ℕ → Type 0 } = { λ _ _. ⊤ };
-
-    /// What is said of the bytes of standard input, where they are known.
-    ghost gives: { Self → Option (List ℕ) → Type 0 } = { λ _ _. ⊤ };
-
-    /// What is said of the bytes of a file that opens at a path to be written, as it opens.
-    ghost takes_at: { Self → List ℕ → Option (List ℕ) → Type 0 } = { λ _ _ _. ⊤ };
-
-    /// Opens the file at a path to be read; none where this fails.
+    /// Opens the file at a path to be read; none where this fails. The path `-` is that of standard input, and of no file.
     fn open(&self, path: &str) -> Option<Self::Input>
-        ensures some { IfSome result (λ input. gives_at self.now path.now (Self.Input.remaining input)) }
-        ensures none { IsNone result → fails_at self.now path.now };
+        requires { path.now ≢ codes "-" }
+        ensures some { IfSome result (IsGiven (disk self.now) path.now
+            Self.Input.remaining Self.Input.failures) }
+        ensures none { IsNone result → (disk self.now).fails path.now };
 
     /// Standard input.
     fn standard_input(&self) -> Self::StandardInput
-        ensures { gives self.now (Self.StandardInput.remaining result) };
+        ensures { IsGiven (disk self.now) (codes "-")
+            Self.StandardInput.remaining Self.StandardInput.failures result };
 
     /// Opens the file at a path to be written, and empties it; none where this fails.
     fn create(&mut self, path: &str) -> Option<&mut Self::Output>
-        ensures some { IfSome result (λ file. takes_at self.old path.now (Self.Output.contents file.now)) }
-        ensures none { IsNone result → fails_at self.old path.now };
+        ensures some { IfSome result (λ file. IsTaken (disk self.old) path.now
+            Self.Output.contents Self.Output.failures file.now) }
+        ensures none { IsNone result → (disk self.old).fails path.now };
 }
 
 /// Whether the path stands for standard input.

@@ -1,6 +1,7 @@
 //! What the program does, whatever its command line, its files and its outputs are.
 #![tactic(auto)]
 
+mod carrying;
 mod check;
 mod checking;
 mod doing;
@@ -15,11 +16,14 @@ mod schedule;
 pub mod status;
 mod work;
 
+pub use carrying::{CarryFault, carry_run};
 pub use check::{
-    CheckFault, Verdict, check_run, config_of, do_log, order_or_cycle_of, write_certified,
+    CheckFault, Verdict, check_run, config_of, do_log, order_or_cycle_of, write_output,
 };
 pub use doing::do_request;
 pub use fate::{Fate, end_with};
 pub use files::Files;
-pub use request::{CheckOptions, ExplainOptions, Limits, ReplayOptions, Request, RunOptions};
+pub use request::{
+    CarryOptions, CheckOptions, ExplainOptions, Limits, ReplayOptions, Request, RunOptions,
+};
 pub use schedule::{MOST_TURNS, ScheduleFault, schedule_of};

@@ -1,9 +1,8 @@
 //! Reading a whole file.
-ghost use Rattle.std.specs.Prelude.{◌≡◌, ◌+◌, Err, IfOk, OnOk, vec_len};
+ghost use Rattle.std.specs.Prelude.{◌≡◌, ◌+◌, Err, IfOk, vec_len};
 ghost use Rattle.velo_events.specs.Refusals.{GrowthRefused};
-ghost use Rattle.velo_logtext.specs.Device.{one_more};
 ghost use Rattle.velo_program.specs.declared.reading.ReadFault.TheVariants as read_fault;
-ghost use Rattle.velo_program.specs.Reading.{GrowsByPiece, IsReadOf};
+ghost use Rattle.velo_program.specs.Steps.{GrowsByPiece, IsReadOf, failures_by};
 
 use std::alloc::Global;
 use velo_events::Memory;
@@ -25,9 +24,9 @@ pub enum ReadFault {
 /// Reads the next bytes to the end of those that are there, and answers how many.
 fn read_more<I: Source>(source: &mut I, bytes: &mut Vec<u8>) -> Result<usize, ReadFault>
     ensures grows { IfOk result (λ count. vec_len bytes.new ≡ vec_len bytes.old + count) }
-    ensures bytes { IfOk result (GrowsByPiece (I.remaining source.old) (I.remaining source.new) bytes.old.items bytes.new.items) }
-    ensures no_failure { OnOk result (I.failures source.new ≡ I.failures source.old) }
-    ensures failure { result ≡ Err read_fault.Failed → I.failures source.new ≡ one_more (I.failures source.old) }
+    ensures bytes { IfOk result (GrowsByPiece (I.remaining source.old) (I.remaining source.new)
+        bytes.old.items bytes.new.items) }
+    ensures failures { I.failures source.new ≡ failures_by result (I.failures source.old) }
     ensures memory { result ≡ Err read_fault.Memory → GrowthRefused }
 {
     let done = bytes.len();
@@ -51,7 +50,7 @@ pub fn read_whole<I: Source>(
     most: usize,
 ) -> Result<Vec<u8>, ReadFault>
     ensures bytes { IfOk result (λ bytes. IsReadOf most (I.remaining source.old) bytes.items) }
-    ensures failure { result ≡ Err read_fault.Failed → I.failures source.new ≡ one_more (I.failures source.old) }
+    ensures failures { I.failures source.new ≡ failures_by result (I.failures source.old) }
     ensures memory { result ≡ Err read_fault.Memory → GrowthRefused }
 {
     let mut bytes = Vec::new(alloc);

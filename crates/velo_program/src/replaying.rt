@@ -1,10 +1,9 @@
 //! `velodrome replay`.
-ghost use Rattle.std.specs.Prelude.{◌≡◌};
-ghost use Rattle.velo_program.specs.Causes.{ComesByGrowth};
-ghost use Rattle.velo_program.specs.Paths.{ReadsAt, WritesAt};
-ghost use Rattle.velo_program.specs.Playing.{IsReplayOf, ShowsRun};
-ghost use Rattle.velo_program.specs.Program.{DoesReplay, DoesReplayBy};
+ghost use Rattle.velo_program.specs.Playing.{ByTurns};
+ghost use Rattle.velo_program.specs.Program.{Does, IsScheduleOf, Responds};
 ghost use Rattle.velo_program.specs.Writing.{writing};
+ghost use Rattle.velo_program.specs.declared.request.Request.TheVariants.{Replay};
+ghost use Rattle.velo_program.specs.Steps.{Plays};
 
 use crate::fate::Fate;
 use crate::files::Files;
@@ -26,8 +25,7 @@ fn replay_workload<F: Files, O: Sink>(
     files: &mut F,
     out: &mut O,
 ) -> Fate
-    ensures { ShowsRun (IsReplayOf schedule.now options.now workload.now) workload.now options.now.certificate
-        (F.fails_at files.old) (WritesAt (F.takes_at files.old) F.Output.contents F.Output.failures) options.now.log
+    ensures { Plays (ByTurns schedule.now) options.now workload.now (F.disk files.old)
         (writing O.contents O.failures out.old out.new) result }
 {
     let config = config_of_run(workload, options);
@@ -37,22 +35,21 @@ fn replay_workload<F: Files, O: Sink>(
     }
 }
 
-/// Replays the workload that was asked for by a schedule, and writes what it shows.
+/// Replays the workload that was asked for by its schedule, and writes what it shows.
 fn replay_by<F: Files, O: Sink>(
     alloc: Global,
     schedule: &[ThreadId],
-    options: &RunOptions,
+    options: &ReplayOptions,
     files: &mut F,
     out: &mut O,
 ) -> Fate
-    ensures { DoesReplayBy
-        (ReadsAt (F.gives_at files.old) F.Input.remaining F.Input.failures (F.gives files.old) F.StandardInput.remaining F.StandardInput.failures)
-        (F.fails_at files.old) (WritesAt (F.takes_at files.old) F.Output.contents F.Output.failures)
-        schedule.now options.now (writing O.contents O.failures out.old out.new) result }
+    requires { IsScheduleOf options.now schedule.now }
+    ensures { Responds (F.disk files.old) (Replay options.now)
+        (writing O.contents O.failures out.old out.new) result }
 {
-    match open_workload(alloc, options.file, files) {
+    match open_workload(alloc, options.run.file, files) {
         Ok(workload) => {
-            let fate = replay_workload(alloc, &workload, schedule, options, files, out);
+            let fate = replay_workload(alloc, &workload, schedule, &options.run, files, out);
             drop(workload);
             fate
         }
@@ -68,15 +65,12 @@ pub fn replay_file<F: Files, O: Sink>(
     files: &mut F,
     out: &mut O,
 ) -> Fate
-    ensures done { DoesReplay
-        (ReadsAt (F.gives_at files.old) F.Input.remaining F.Input.failures (F.gives files.old) F.StandardInput.remaining F.StandardInput.failures)
-        (F.fails_at files.old) (WritesAt (F.takes_at files.old) F.Output.contents F.Output.failures)
-        options.now (writing O.contents O.failures out.old out.new) result }
-    ensures memory { ComesByGrowth result }
+    ensures { Does (F.disk files.old) (Replay options.now)
+        (writing O.contents O.failures out.old out.new) result }
 {
     match schedule_of(alloc, options.schedule) {
         Ok(schedule) => {
-            let fate = replay_by(alloc, &schedule, &options.run, files, out);
+            let fate = replay_by(alloc, &schedule, options, files, out);
             drop(schedule);
             fate
         }

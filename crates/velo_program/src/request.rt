@@ -59,6 +59,15 @@ pub struct ExplainOptions<'a> {
     pub dot: Option<&'a str>,
 }
 
+/// What `velodrome carry` was asked for.
+#[derive(Clone, Copy, Debug)]
+pub struct CarryOptions<'a> {
+    /// The path of the log, or `-`.
+    pub log: &'a str,
+    /// The path where it is written.
+    pub out: &'a str,
+}
+
 /// What the program was asked for.
 #[derive(Clone, Copy, Debug)]
 pub enum Request<'a> {
@@ -70,4 +79,6 @@ pub enum Request<'a> {
     Run(RunOptions<'a>),
     /// To explain the verdict of a recorded log.
     Explain(ExplainOptions<'a>),
+    /// To carry a recorded log over to the newest version of its text.
+    Carry(CarryOptions<'a>),
 }

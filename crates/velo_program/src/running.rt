@@ -1,10 +1,9 @@
 //! `velodrome run`.
-ghost use Rattle.std.specs.Prelude.{◌≡◌};
-ghost use Rattle.velo_program.specs.Causes.{ComesWithCause};
-ghost use Rattle.velo_program.specs.Paths.{ReadsAt, WritesAt};
-ghost use Rattle.velo_program.specs.Playing.{IsLiveRunOf, ShowsLiveRun};
-ghost use Rattle.velo_program.specs.Program.{DoesRun};
+ghost use Rattle.velo_program.specs.Playing.{ByThreads};
+ghost use Rattle.velo_program.specs.Program.{Responds};
 ghost use Rattle.velo_program.specs.Writing.{writing};
+ghost use Rattle.velo_program.specs.declared.request.Request.TheVariants.{Run};
+ghost use Rattle.velo_program.specs.Steps.{Plays};
 
 use crate::fate::Fate;
 use crate::files::Files;
@@ -26,8 +25,7 @@ fn run_workload<R: Threads + Wait + Sync, F: Files, O: Sink>(
     files: &mut F,
     out: &mut O,
 ) -> Fate
-    ensures { ShowsLiveRun (IsLiveRunOf workload.now) workload.now options.now.certificate
-        (F.fails_at files.old) (WritesAt (F.takes_at files.old) F.Output.contents F.Output.failures) options.now.log
+    ensures { Plays ByThreads options.now workload.now (F.disk files.old)
         (writing O.contents O.failures out.old out.new) result }
 {
     let config = config_of_run(workload, options);
@@ -46,11 +44,8 @@ pub fn run_file<R: Threads + Wait + Sync, F: Files, O: Sink>(
     files: &mut F,
     out: &mut O,
 ) -> Fate
-    ensures done { DoesRun
-        (ReadsAt (F.gives_at files.old) F.Input.remaining F.Input.failures (F.gives files.old) F.StandardInput.remaining F.StandardInput.failures)
-        (F.fails_at files.old) (WritesAt (F.takes_at files.old) F.Output.contents F.Output.failures)
-        options.now (writing O.contents O.failures out.old out.new) result }
-    ensures memory { ComesWithCause result }
+    ensures { Responds (F.disk files.old) (Run options.now)
+        (writing O.contents O.failures out.old out.new) result }
 {
     match open_workload(alloc, options.file, files) {
         Ok(workload) => {

@@ -1,13 +1,12 @@
 //! Workloads that run: where they are read, and what their runs show.
-ghost use Rattle.std.specs.Prelude.{◌≡◌, true, false, Some, IfOk, IfErr, OnOk};
+ghost use Rattle.std.specs.Prelude.{◌≡◌, Some, IfOk, IfErr, IfSome, OnOk, is_some};
 ghost use Rattle.velo_program.specs.Check.{IsOrderOrCycle};
-ghost use Rattle.velo_program.specs.Paths.{ReadsAt, Saves, WritesAt};
-ghost use Rattle.velo_program.specs.Playing.{FailsToSave, IsConfigOf, IsEnded, IsFaultOfWork, IsTextOf, ShowsBy, ShowsRun, fate_of_showing, is_unreported, text_of_log};
-ghost use Rattle.velo_program.specs.Program.{FailsToParse, OpensNoProgram, OpensProgram};
-ghost use Rattle.velo_program.specs.Reading.{reading};
+ghost use Rattle.velo_program.specs.Delivery.{IsSaved, failures_after};
+ghost use Rattle.velo_program.specs.Playing.{IsConfigOf, IsFaultOfWork, IsTextOf, IsUnread, is_unreported, text_of_log};
 ghost use Rattle.velo_program.specs.Writing.{writing};
+ghost use Rattle.velo_program.specs.Steps.{OpensNoProgram, OpensProgram, Reports, TellsEnd};
 
-use crate::check::{CheckFault, Verdict, order_or_cycle_of, write_certified, write_report};
+use crate::check::{is_alarm, order_or_cycle_of, verdict_of, write_output};
 use crate::fate::Fate;
 use crate::files::{Files, is_standard_input};
 use crate::reading::{ReadFault, read_whole};
@@ -23,7 +22,10 @@ use velo_world::Closed;
 /// Reads a workload from a source.
 fn read_workload<I: Source>(alloc: Global, source: &mut I) -> Result<Workload, Fate>
     ensures some { IfOk result (IsTextOf (I.remaining source.old)) }
-    ensures none { IfErr result (FailsToParse (reading I.remaining I.failures source.old source.new)) }
+    ensures none { IfErr result (IsUnread (I.remaining source.old)) }
+    ensures read { OnOk result (I.failures source.new ≡ I.failures source.old) }
+    ensures failure { IfErr result (λ fate. I.failures source.new ≡ failures_after fate
+        (I.failures source.old)) }
 {
     match read_whole(alloc, source, MOST_WORKLOAD_BYTES) {
         Ok(bytes) => {
@@ -52,14 +54,8 @@ fn workload_of(alloc: Global, bytes: &[u8]) -> Result<Workload, WorkFault>
 
 /// Reads the workload that was asked for.
 pub fn open_workload<F: Files>(alloc: Global, path: &str, files: &F) -> Result<Workload, Fate>
-    ensures some { IfOk result (OpensProgram
-        (ReadsAt (F.gives_at files.now) F.Input.remaining F.Input.failures (F.gives files.now) F.StandardInput.remaining F.StandardInput.failures)
-        (F.fails_at files.now) (WritesAt (F.takes_at files.now) F.Output.contents F.Output.failures)
-        path.now) }
-    ensures none { IfErr result (OpensNoProgram
-        (ReadsAt (F.gives_at files.now) F.Input.remaining F.Input.failures (F.gives files.now) F.StandardInput.remaining F.StandardInput.failures)
-        (F.fails_at files.now) (WritesAt (F.takes_at files.now) F.Output.contents F.Output.failures)
-        path.now) }
+    ensures some { IfOk result (OpensProgram (F.disk files.now) path.now) }
+    ensures none { IfErr result (OpensNoProgram (F.disk files.now) path.now) }
 {
     if is_standard_input(path) {
         return read_workload(alloc, &mut files.standard_input());
@@ -98,10 +94,8 @@ fn is_unreported(ending: Ending) -> bool
 }
 
 /// Writes the log of a run to the path, if there is one.
-fn write_out<F: Files>(closed: &Closed, path: Option<&str>, files: &mut F) -> Result<(), Fate>
-    ensures saved { OnOk result (Saves (WritesAt (F.takes_at files.old) F.Output.contents F.Output.failures) path.entry (text_of_log closed.now)) }
-    ensures failed { IfErr result (FailsToSave
-        (F.fails_at files.old) (WritesAt (F.takes_at files.old) F.Output.contents F.Output.failures) path.entry (text_of_log closed.now)) }
+fn save_log<F: Files>(closed: &Closed, path: Option<&str>, files: &mut F) -> Result<(), Fate>
+    ensures { IsSaved (F.disk files.old) path.entry (text_of_log closed.now) result }
 {
     let Some(path) = path else {
         return Ok(());
@@ -115,57 +109,32 @@ fn write_out<F: Files>(closed: &Closed, path: Option<&str>, files: &mut F) -> Re
     }
 }
 
-/// What the verdict of a run came to, by what writing it answered.
-fn fate_of_showing(answer: Result<Verdict, CheckFault>, ending: Ending) -> Fate
-    ensures { result ≡ fate_of_showing answer ending }
+/// Writes the log of a run to the path, if there is one, then the report, and then the certificate, if there is an order or a
+/// cycle.
+fn report_by<F: Files, O: Sink>(
+    closed: &Closed,
+    ending: Ending,
+    names: &Names,
+    list: Option<&[usize]>,
+    path: Option<&str>,
+    files: &mut F,
+    out: &mut O,
+) -> Fate
+    requires { IfSome list (λ list. IsOrderOrCycle closed.now.log list.now) }
+    ensures { Reports names.now (is_some list.entry) ending closed.now (F.disk files.old) path.entry
+        (writing O.contents O.failures out.old out.new) result }
 {
-    match answer {
-        Ok(verdict) => Fate::Finished {
+    let verdict = verdict_of(closed);
+    match save_log(closed, path, files) {
+        Ok(()) => {}
+        Err(fate) => return fate,
+    }
+    match write_output(closed, names, list, out) {
+        Ok(()) => Fate::Finished {
             ending,
-            alarm: verdict == Verdict::Alarm,
+            alarm: is_alarm(verdict),
         },
-        Err(CheckFault::Memory) => Fate::Memory,
-        Err(_) => Fate::WriteFailed,
-    }
-}
-
-/// Writes the log of a run to the path, if there is one, and then the report.
-fn tell_plain<F: Files, O: Sink>(
-    closed: &Closed,
-    ending: Ending,
-    names: &Names,
-    path: Option<&str>,
-    files: &mut F,
-    out: &mut O,
-) -> Fate
-    ensures { ShowsBy names.now false closed.now ending
-        (F.fails_at files.old) (WritesAt (F.takes_at files.old) F.Output.contents F.Output.failures) path.entry
-        (writing O.contents O.failures out.old out.new) result }
-{
-    match write_out(closed, path, files) {
-        Ok(()) => fate_of_showing(write_report(closed, names, out), ending),
-        Err(fate) => fate,
-    }
-}
-
-/// Writes the log of a run to the path, if there is one, then the report, and then the certificate.
-fn tell_certified<F: Files, O: Sink>(
-    closed: &Closed,
-    ending: Ending,
-    names: &Names,
-    list: &[usize],
-    path: Option<&str>,
-    files: &mut F,
-    out: &mut O,
-) -> Fate
-    requires { IsOrderOrCycle closed.now.log list.now }
-    ensures { ShowsBy names.now true closed.now ending
-        (F.fails_at files.old) (WritesAt (F.takes_at files.old) F.Output.contents F.Output.failures) path.entry
-        (writing O.contents O.failures out.old out.new) result }
-{
-    match write_out(closed, path, files) {
-        Ok(()) => fate_of_showing(write_certified(closed, names, list, out), ending),
-        Err(fate) => fate,
+        Err(WriteFault) => Fate::WriteFailed,
     }
 }
 
@@ -180,16 +149,24 @@ fn tell<F: Files, O: Sink>(
     files: &mut F,
     out: &mut O,
 ) -> Fate
-    ensures { ShowsBy names.now options.now.certificate closed.now ending
-        (F.fails_at files.old) (WritesAt (F.takes_at files.old) F.Output.contents F.Output.failures) options.now.log
+    ensures { Reports names.now options.now.certificate ending closed.now (F.disk files.old)
+        options.now.log
         (writing O.contents O.failures out.old out.new) result }
 {
     if !options.certificate {
-        return tell_plain(closed, ending, names, options.log, files, out);
+        return report_by(closed, ending, names, None, options.log, files, out);
     }
     match order_or_cycle_of(alloc, closed) {
         Ok(list) => {
-            let fate = tell_certified(closed, ending, names, &list, options.log, files, out);
+            let fate = report_by(
+                closed,
+                ending,
+                names,
+                Some(list.as_slice()),
+                options.log,
+                files,
+                out,
+            );
             drop(list);
             fate
         }
@@ -206,8 +183,8 @@ pub fn finish_run<F: Files, O: Sink>(
     files: &mut F,
     out: &mut O,
 ) -> Fate
-    ensures { ShowsRun (IsEnded ended.0 ended.1) workload.now options.now.certificate
-        (F.fails_at files.old) (WritesAt (F.takes_at files.old) F.Output.contents F.Output.failures) options.now.log
+    ensures { TellsEnd workload.now options.now.certificate ended.1 ended.0 (F.disk files.old)
+        options.now.log
         (writing O.contents O.failures out.old out.new) result }
 {
     let (closed, ending) = ended;
@@ -226,8 +203,8 @@ fn show_run<F: Files, O: Sink>(
     files: &mut F,
     out: &mut O,
 ) -> Fate
-    ensures { ShowsRun (IsEnded closed.now ending) workload.now options.now.certificate
-        (F.fails_at files.old) (WritesAt (F.takes_at files.old) F.Output.contents F.Output.failures) options.now.log
+    ensures { TellsEnd workload.now options.now.certificate ending closed.now (F.disk files.old)
+        options.now.log
         (writing O.contents O.failures out.old out.new) result }
 {
     if is_unreported(ending) {

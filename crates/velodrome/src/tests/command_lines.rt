@@ -47,7 +47,7 @@ const RIGHT_WORDS: [(&[&str], u8, &str); 9] = [
     (&["velodrome", "--help"], 0, ""),
 ];
 
-const WRONG_WORDS: [&[&str]; 10] = [
+const WRONG_WORDS: [&[&str]; 12] = [
     &["velodrome"],
     &["velodrome", "check"],
     &["velodrome", "race", "a.log"],
@@ -56,6 +56,8 @@ const WRONG_WORDS: [&[&str]; 10] = [
     &["velodrome", "check", "a.log", "--events", "16777217"],
     &["velodrome", "check", "a.log", "--nodes", "0"],
     &["velodrome", "check", "a.log", "--nodes", "4097"],
+    &["velodrome", "carry", "a.log"],
+    &["velodrome", "carry", "a.log", "--log", "o.log", "--stop"],
     &["velodrome", "run"],
     &["velodrome", "run", "w", "--schedule", "0"],
 ];
@@ -100,10 +102,11 @@ fn wrong_command_lines(rt: HostRuntime) {
 }
 
 /// Words that ask for help, and what stands at its end.
-const HELP: [(&[&str], &str); 9] = [
+const HELP: [(&[&str], &str); 10] = [
     (&["velodrome", "replay", "--help"], help::OF_REPLAY),
     (&["velodrome", "run", "--help"], help::OF_RUN),
     (&["velodrome", "explain", "--help"], help::OF_EXPLAIN),
+    (&["velodrome", "carry", "--help"], help::OF_CARRY),
     (&["velodrome", "--help"], help::OF_PROGRAM),
     (&["velodrome", "help"], help::OF_PROGRAM),
     (&["velodrome", "check", "--help"], help::OF_CHECK),

@@ -18,5 +18,6 @@ returns-clause-reads c =
     let with_check = adds_subcommand _ _ _ _ _ is_program c.in_ok-check.ensures.reads c.in_ok-program.ensures.adds in
     let with_replay = adds_subcommand _ _ _ _ _ with_check c.in_ok-replay.ensures.reads c.in_ok-program-2.ensures.adds in
     let with_run = adds_subcommand _ _ _ _ _ with_replay c.in_ok-run.ensures.reads c.in_ok-program-3.ensures.adds in
-    IfOk-weaker c.with_subcommand-4.result _ _
-    (λ command adds. adds_subcommand _ _ _ _ _ with_run c.in_ok-explain.ensures.reads adds) c.with_subcommand-4.ensures.adds
+    let with_explain = adds_subcommand _ _ _ _ _ with_run c.in_ok-explain.ensures.reads c.in_ok-program-4.ensures.adds in
+    IfOk-weaker c.with_subcommand-5.result _ _
+    (λ command adds. adds_subcommand _ _ _ _ _ with_explain c.in_ok-carry.ensures.reads adds) c.with_subcommand-5.ensures.adds

@@ -1,21 +1,19 @@
-use Rattle.std.proofs.Common.{◌∙◌, ap, sym, subst}
-use Rattle.velo_world.specs.World.{WorldState}
-use Rattle.velo_program.specs.Check.{IsInput}
-use Rattle.velo_program.proofs.OnVerdicts.{input_found, checked_by, reads_nothing}
+use Rattle.std.proofs.Common.{◌∙◌, refl, sym}
+use Rattle.velo_program.specs.Writing.{writing}
+use Rattle.velo_program.proofs.OnVerdicts.{checked_by, failures_so, faulty, reads_nothing}
 use Rattle.velo_program.proofs.check.check_run.Goals as goal
 
-pub returns-clause-answer : goal.returns-clause-answer
-returns-clause-answer g c =
-    let known = g.I.Source.remaining c.args.source.now in
-    let world = c.in_ok-closed.ensures.ok in
-    let input : IsInput known c.in-Ok.read.0 c.in-Ok.read.1.events = input_found known _ _ _ c.in-Ok.ensures.found in
-    let configured : IsInput known c.config_of.result.bounds c.in-Ok.read.1.events =
-    subst (λ b. IsInput known b c.in-Ok.read.1.events) (sym c.config_of.ensures.bounds) input in
-    checked_by c.args.events c.args.nodes c.args.certificate known c.in_ok-closed.closed _ _ c.finish.result
-    (ap (λ w. w.config.events) world ∙ c.config_of.ensures.events)
-    (subst (λ (w : WorldState). IsInput known w.config.bounds w.log) (sym world) configured)
-    c.in_ok-closed.ensures.well_formed c.in_ok-closed.ensures.short c.finish.ensures.answer
+pub returns-in-Ok-clause-answer : goal.returns-in-Ok-clause-answer
+returns-in-Ok-clause-answer g c =
+    checked_by c.args.events c.args.nodes c.args.certificate _ c.in-Ok.closed (writing g.O.Sink.contents g.O.Sink.failures c.args.sink.now c.finish.new.sink) c.finish.result c.in-Ok.ensures.ok c.finish.ensures
 
-pub returns-clause-read : goal.returns-clause-read
-returns-clause-read g c =
-    c.in-Ok.ensures.failures ∙ sym (reads_nothing c.args.certificate c.in_ok-closed.closed _ _ c.finish.result _ c.finish.ensures.answer)
+pub returns-in-Ok-clause-read : goal.returns-in-Ok-clause-read
+returns-in-Ok-clause-read g c =
+    c.in-Ok.ensures.read ∙ sym (reads_nothing c.args.certificate c.in-Ok.closed (writing g.O.Sink.contents g.O.Sink.failures c.args.sink.now c.finish.new.sink) c.finish.result _ c.finish.ensures)
+
+pub returns-in-Err-clause-answer : goal.returns-in-Err-clause-answer
+returns-in-Err-clause-answer g c =
+    faulty c.args.events c.args.nodes c.args.certificate _ (writing g.O.Sink.contents g.O.Sink.failures c.args.sink.now c.args.sink.now) c.in-Err.fault c.in-Err.ensures.err (refl, refl)
+
+pub returns-in-Err-clause-read : goal.returns-in-Err-clause-read
+returns-in-Err-clause-read g c = failures_so c.args.events c.args.nodes _ c.in-Err.fault _ _ c.in-Err.ensures.err c.in-Err.ensures.failure

@@ -1,19 +1,28 @@
-use Rattle.std.proofs.Common.{sym, subst}
-use Rattle.velo_world.specs.World.{WorldState}
-use Rattle.velo_program.specs.Check.{IsInput}
-use Rattle.velo_program.specs.Reading.{reading}
+use Rattle.std.proofs.Common.{◌∙◌, inl, inr, refl, sym, ⊎_elim}
+use Rattle.velo_program.specs.declared.fate.Fate.TheVariants.{Check}
+use Rattle.velo_program.specs.Delivery.{silent}
 use Rattle.velo_program.specs.Writing.{writing}
-use Rattle.velo_program.proofs.OnExplaining.{of_input}
-use Rattle.velo_program.proofs.OnVerdicts.{input_found}
+use Rattle.velo_program.proofs.OnExplaining.{explains_reads}
 use Rattle.velo_program.proofs.explaining.explain_log.Goals as goal
 
-pub returns-in-Ok-do_log : goal.returns-in-Ok-do_log
-returns-in-Ok-do_log g c =
-    let known = g.I.Source.remaining c.args.source.now in
-    let world = c.in-Ok-do_log.ensures.ok in
-    let input : IsInput known c.in-Ok.read.0 c.in-Ok.read.1.events = input_found known _ _ _ c.in-Ok.ensures.found in
-    let configured : IsInput known c.config_of.result.bounds c.in-Ok.read.1.events =
-    subst (λ b. IsInput known b c.in-Ok.read.1.events) (sym c.config_of.ensures.bounds) input in
-    of_input (g.F.Files.fails_at c.args.files.now) _ c.args.path (writing g.O.Sink.contents g.O.Sink.failures c.args.out.now c.explain_closed-fate.new.out) (reading g.I.Source.remaining g.I.Source.failures c.args.source.now c.read_log.new.source) c.in-Ok-do_log.closed.config.bounds c.in-Ok-do_log.closed.log
-    (subst (λ (w : WorldState). IsInput known w.config.bounds w.log) (sym world) configured)
-    c.in-Ok-do_log.ensures.well_formed _ c.explain_closed-fate.ensures
+pub returns-in-Ok : goal.returns-in-Ok
+returns-in-Ok g c =
+    let told = c.explain_closed-fate.ensures in
+    record {
+      answer = told.0;
+      is_answer = ⊎_elim
+          (λ verdict. inl (record { bounds = c.in-Ok.closed.config.bounds; trace = c.in-Ok.closed.log; log = c.in-Ok.ensures.ok; verdict = verdict }))
+          (λ lacks. inr (inr lacks))
+          told.1;
+      put = told.2;
+      failures = c.in-Ok.ensures.read
+          ∙ sym (explains_reads (g.F.Files.disk c.args.files.now) c.args.options.now.dot (writing g.O.Sink.contents g.O.Sink.failures c.args.out.now c.explain_closed-fate.new.out) c.in-Ok.closed.log told.0 _ told.1 c.explain_closed-fate.result told.2);
+    }
+
+pub returns-in-Err : goal.returns-in-Err
+returns-in-Err g c = record {
+  answer = silent (Check c.in-Err.fault);
+  is_answer = inr (inl (c.in-Err.fault, c.in-Err.ensures.err, refl));
+  put = (refl, tt, (refl, refl));
+  failures = c.in-Err.ensures.failure;
+}

@@ -1,17 +1,12 @@
-use Rattle.velo_program.proofs.OnPlaying.{by_schedule, of_replay, schedule_read}
-use Rattle.std.proofs.Common.{rules}
+use Rattle.std.proofs.Common.{inl, inr, refl}
+use Rattle.velo_program.proofs.OnPlaying.{schedule_read}
 use Rattle.velo_program.proofs.replaying.replay_file.Goals as goal
 
-pub returns-in-Ok-clause-done : goal.returns-in-Ok-clause-done
-returns-in-Ok-clause-done g c = by_schedule _ _ _ _ c.args.options.now c.deref.result.now (schedule_read _ _ _ c.deref.ensures.value c.in-Ok.ensures.schedule) _ c.replay_by-fate.ensures
+pub replay_by-fate-requires : goal.replay_by-fate-requires
+replay_by-fate-requires g c = schedule_read _ _ _ c.deref.ensures.value c.in-Ok.ensures.schedule
 
-pub returns-in-Ok-clause-memory : goal.returns-in-Ok-clause-memory
-returns-in-Ok-clause-memory g c =
-    of_replay _ _ _ _ c.args.options.now _
-    (by_schedule _ _ _ _ c.args.options.now c.deref.result.now (schedule_read _ _ _ c.deref.ensures.value c.in-Ok.ensures.schedule) _ c.replay_by-fate.ensures)
+pub returns-in-Ok : goal.returns-in-Ok
+returns-in-Ok g c = inr ((c.deref.result.now, schedule_read _ _ _ c.deref.ensures.value c.in-Ok.ensures.schedule), c.replay_by-fate.ensures)
 
-pub returns-in-Err-clause-done : goal.returns-in-Err-clause-done
-returns-in-Err-clause-done g c = search rules
-
-pub returns-in-Err-clause-memory : goal.returns-in-Err-clause-memory
-returns-in-Err-clause-memory g c = search rules
+pub returns-in-Err : goal.returns-in-Err
+returns-in-Err g c = inl (record { fault = c.in-Err.fault; is_fault = c.in-Err.ensures.fault; told = refl; nothing = (refl, refl) })

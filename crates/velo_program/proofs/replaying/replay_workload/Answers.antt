@@ -1,14 +1,23 @@
-use Rattle.velo_program.specs.Playing.{IsReplayOf}
-use Rattle.velo_program.specs.Writing.{writing}
-use Rattle.velo_program.proofs.OnPlaying.{ShowsRun-map, of_ended}
+use Rattle.std.proofs.Common.{inl, inr, refl, ⊎_elim}
+use Rattle.velo_program.specs.declared.fate.Fate.TheVariants.{Memory}
+use Rattle.velo_program.specs.Delivery.{silent}
 use Rattle.velo_program.proofs.replaying.replay_workload.Goals as goal
 
 pub returns-in-Ok : goal.returns-in-Ok
 returns-in-Ok g c =
-    ShowsRun-map (g.F.Files.fails_at c.args.files.now) _ c.args.options.now.log (writing g.O.Sink.contents g.O.Sink.failures c.args.out.now c.finish_run.new.out) c.args.workload.now c.args.options.now.certificate
-    (of_ended (IsReplayOf c.args.schedule.now c.args.options.now c.args.workload.now) c.in-Ok.ended.0 c.in-Ok.ended.1 (record {
-      config = c.config_of_run-config.result;
-      configured = c.config_of_run-config.ensures;
-      replays = c.in-Ok.ensures.replays;
-      cause = c.in-Ok.ensures.cause;
-    })) _ c.finish_run.ensures
+    let told = c.finish_run.ensures in (
+      told.0,
+      ⊎_elim
+          (λ says. inl (record {
+            ended = c.in-Ok.ended.1;
+            world = c.in-Ok.ended.0;
+            is_run = record { config = c.config_of_run-config.result; configured = c.config_of_run-config.ensures; replays = c.in-Ok.ensures.replays; cause = c.in-Ok.ensures.cause };
+            says = says;
+          }))
+          (λ lacks. inr (inr lacks))
+          told.1,
+      told.2,
+    )
+
+pub returns-in-Err : goal.returns-in-Err
+returns-in-Err g c = (silent Memory, inr (inr (c.in-Err.ensures.memory, refl)), (refl, tt, (refl, refl)))

@@ -1,13 +1,25 @@
-use Rattle.std.proofs.Common.{◌∙◌, refl, sym}
-use Rattle.velo_program.specs.Writing.{writing}
-use Rattle.velo_program.proofs.OnPlaying.{shown, shows_nothing}
+use Rattle.std.proofs.Common.{◌∙◌, Bool, false, inl, inr, refl, subst, sym, ⊎_elim}
+use Rattle.velo_program.specs.declared.fate.Fate.TheVariants.{Finished}
+use Rattle.velo_program.specs.Delivery.{silent}
+use Rattle.velo_program.specs.Playing.{IsEndAnswer}
 use Rattle.velo_program.proofs.work.show_run.Goals as goal
 
 pub returns-then-is_unreported : goal.returns-then-is_unreported
-returns-then-is_unreported g c =
-    shows_nothing (g.F.Files.fails_at c.args.files.now) _ c.args.options.now.log (writing g.O.Sink.contents g.O.Sink.failures c.args.out.now c.args.out.now) c.args.workload.now c.args.options.now.certificate c.args.closed.now c.args.ending (sym c.is_unreported.ensures ∙ c.if-is_unreported.true) (refl, refl)
+returns-then-is_unreported g c = (
+  silent (Finished c.args.ending false),
+  inl (subst (λ (b : Bool). IsEndAnswer b c.args.workload.now c.args.options.now.certificate c.args.ending c.args.closed.now (silent (Finished c.args.ending false)))
+      (sym (sym c.is_unreported.ensures ∙ c.if-is_unreported.true)) refl),
+  (refl, tt, (refl, refl)),
+)
 
 pub returns : goal.returns
 returns g c =
-    shown (g.F.Files.fails_at c.args.files.now) _ c.args.options.now.log (writing g.O.Sink.contents g.O.Sink.failures c.args.out.now c.tell.new.out) c.args.workload.now c.args.options.now.certificate _ (c.thread_names.ensures, c.label_names.ensures) c.args.closed.now c.args.ending
-    (sym c.is_unreported.ensures ∙ c.if-is_unreported.false) _ c.tell.ensures
+    let told = c.tell.ensures in (
+      told.0,
+      ⊎_elim
+          (λ reported. inl (subst (λ (b : Bool). IsEndAnswer b c.args.workload.now c.args.options.now.certificate c.args.ending c.args.closed.now told.0)
+          (sym (sym c.is_unreported.ensures ∙ c.if-is_unreported.false)) (_, (c.thread_names.ensures, c.label_names.ensures), reported)))
+          (λ lacks. inr lacks)
+          told.1,
+      told.2,
+    )

@@ -1,0 +1,42 @@
+use Rattle.std.proofs.Common.{◌≡◌, inl, inr, refl, rules, subst, sym, codes, ⊎_elim}
+use Rattle.std.specs.Prelude.{ℕ, List}
+use Rattle.velo_program.specs.Reading.{reading}
+use Rattle.velo_program.proofs.carrying.carry_file.Goals as goal
+
+pub returns-then-is_standard_input : goal.returns-then-is_standard_input
+returns-then-is_standard_input g c out nothing =
+    let is : c.args.options.now.log.now ≡ codes "-" = search rules in
+    let disk = g.F.Files.disk c.args.files.now in
+    let read = reading g.F.StandardInput.Source.remaining g.F.StandardInput.Source.failures c.standard_input-log.result c.carry_log.new.source in
+    ⊎_elim
+    (λ fails. inr (fails.0, inr fails.1, nothing))
+    (λ carried. inl (
+      read,
+      subst (λ (path : List ℕ). disk.gives path read) (sym is) (c.standard_input-log.ensures c.carry_log.new.source),
+      record {
+        answer = carried.2.0;
+        is_answer = carried.2.1;
+        put = ((carried.0, carried.1, carried.2.2), nothing);
+        failures = carried.3;
+      },
+    ))
+    c.carry_log.ensures
+
+pub returns-in-Some : goal.returns-in-Some
+returns-in-Some g c out nothing =
+    ⊎_elim
+    (λ fails. inr (fails.0, inr fails.1, nothing))
+    (λ carried. inl (
+      _,
+      c.in-Some.ensures.some c.carry_log-in-Some.new.source,
+      record {
+        answer = carried.2.0;
+        is_answer = carried.2.1;
+        put = ((carried.0, carried.1, carried.2.2), nothing);
+        failures = carried.3;
+      },
+    ))
+    c.carry_log-in-Some.ensures
+
+pub returns-in-None : goal.returns-in-None
+returns-in-None g c out nothing = inr (refl, inl (search rules, search rules), nothing)

@@ -1,0 +1,34 @@
+-- What carrying a log over has to say, by the bytes of its input.
+use Rattle.std.specs.Prelude.{◌≡◌, ◌⊎◌, ℕ, false, List, Option, Result, Ok, Err}
+use Rattle.velo_events.specs.declared.config.Bounds.{Bounds}
+use Rattle.velo_events.specs.declared.event.Event.{Event}
+use Rattle.velo_logtext.specs.declared.fault.LogFault.{LogFault}
+use Rattle.velo_logtext.specs.Text.{log_text}
+use Rattle.velo_worker.specs.declared.ending.Ending.TheVariants.{Done}
+use Rattle.velo_program.specs.declared.carrying.CarryFault.{CarryFault}
+use Rattle.velo_program.specs.declared.carrying.CarryFault.TheVariants.{Log, Write}
+use Rattle.velo_program.specs.declared.check.CheckFault.TheVariants as check_fault
+use Rattle.velo_program.specs.declared.fate.Fate.{Fate}
+use Rattle.velo_program.specs.declared.fate.Fate.TheVariants.{Check, Finished, WriteFailed}
+use Rattle.velo_program.specs.Check.{IsFaultOfLogText, IsInput}
+use Rattle.velo_program.specs.Delivery.{Answer, IsTold, saying, silent}
+use Rattle.velo_program.specs.Writing.{Writing}
+
+abbrev pub carried : Bounds → List Event → Answer
+carried bounds trace = saying (log_text bounds trace) (Finished Done false)
+
+-- What is said of a log: its text of version 2; or nothing, because it could not be read.
+abbrev pub IsCarryAnswer : Option (List ℕ) → Answer → Type 0
+IsCarryAnswer read answer =
+    ((bounds : Bounds) × (trace : List Event) × IsInput read bounds trace × (answer ≡ carried bounds trace))
+    ⊎ ((fault : LogFault) × IsFaultOfLogText read fault × (answer ≡ silent (Check (check_fault.Log fault))))
+
+-- an answer to what was read was told on the output
+abbrev pub Carries : Option (List ℕ) → Writing → Fate → Type 0
+Carries read out f = (answer : Answer) × IsCarryAnswer read answer × IsTold out answer f
+
+-- what carrying over came to
+abbrev pub fate_of_carrying : {X : Type 0} → Result X CarryFault → Fate
+fate_of_carrying (Ok carried) = Finished Done false
+fate_of_carrying (Err (Log fault)) = Check (check_fault.Log fault)
+fate_of_carrying (Err Write) = WriteFailed

@@ -1,0 +1,87 @@
+-- An answer, and what becomes of it on the way out.
+use Rattle.std.specs.Prelude.{◌≡◌, ◌⊎◌, ⊤, ℕ, List, Option, Some, None, Result, Ok, Err}
+use Rattle.std.specs.Borrow.{Bor}
+use Rattle.velo_events.specs.Refusals.{GrowthRefused}
+use Rattle.velo_logtext.specs.declared.fault.LogFault.TheVariants.{Read}
+use Rattle.velo_logtext.specs.Device.{one_more}
+use Rattle.velo_program.specs.declared.check.CheckFault.TheVariants.{Log}
+use Rattle.velo_program.specs.Disk.{Disk}
+use Rattle.velo_program.specs.Writing.{Writing, Writes, BreaksOff, WritesNothing}
+use Rattle.velo_program.specs.declared.fate.Fate.{Fate}
+use Rattle.velo_program.specs.declared.fate.Fate.TheVariants.{CannotOpen, Check, Memory, ReadFailed, WriteFailed}
+
+-- What a command has to say: a text for the file that was asked for, if it has one; a text for the output, if it has one; and
+-- how it ends.
+pub record Answer : Type 0 where
+  pub file : Option (List ℕ)
+  pub text : Option (List ℕ)
+  pub end : Fate
+
+-- it ends so, and says nothing
+abbrev pub silent : Fate → Answer
+silent end = record { file = None; text = None; end = end }
+
+-- it says this, has nothing for a file, and ends so
+abbrev pub saying : List ℕ → Fate → Answer
+saying text end = record { file = None; text = Some text; end = end }
+
+-- a growth was refused, and nothing is said
+abbrev pub LacksMemory : Answer → Type 0
+LacksMemory answer = GrowthRefused × (answer ≡ silent Memory)
+
+-- the count of failures of a source behind this end: once more where it is a failed read, and only there
+abbrev pub failures_after : Fate → ℕ → ℕ
+failures_after (Check (Log Read)) failures = one_more failures
+failures_after ReadFailed failures = one_more failures
+failures_after end failures = failures
+
+-- ---- on the output
+
+-- it took the text whole; where there is none, nothing was written
+abbrev pub Takes : Writing → Option (List ℕ) → Type 0
+Takes out None = WritesNothing out
+Takes out (Some text) = Writes out text
+
+-- there is a text, and the output took a beginning of it, up to its failure
+abbrev pub TakesPart : Writing → Option (List ℕ) → Type 0
+TakesPart out None = ⊥
+TakesPart out (Some text) = BreaksOff out text
+
+-- what became of an answer that has nothing for a file
+abbrev pub IsTold : Writing → Answer → Fate → Type 0
+IsTold out answer WriteFailed = TakesPart out answer.text
+IsTold out answer end = (end ≡ answer.end) × Takes out answer.text
+
+-- ---- in the file that was asked for
+
+-- it took the text, if there is one
+abbrev pub Saves : Disk → Option (Bor (List ℕ)) → Option (List ℕ) → Type 0
+Saves disk path None = ⊤
+Saves disk None (Some text) = ⊤
+Saves disk (Some path) (Some text) = (file : Writing) × disk.takes path.now file × Writes file text
+
+-- it took a beginning of the text
+abbrev pub BreaksOffAt : Disk → Option (Bor (List ℕ)) → Option (List ℕ) → Type 0
+BreaksOffAt disk (Some path) (Some text) = (file : Writing) × disk.takes path.now file × BreaksOff file text
+BreaksOffAt disk path text = ⊥
+
+-- it does not open
+abbrev pub FailsAt : Disk → Option (Bor (List ℕ)) → Option (List ℕ) → Type 0
+FailsAt disk (Some path) (Some text) = disk.fails path.now
+FailsAt disk path text = ⊥
+
+-- what writing the file came to
+abbrev pub IsSaved : {X : Type 0} → Disk → Option (Bor (List ℕ)) → List ℕ → Result X Fate → Type 0
+IsSaved disk path text (Ok x) = Saves disk path (Some text)
+IsSaved disk path text (Err CannotOpen) = FailsAt disk path (Some text)
+IsSaved disk path text (Err WriteFailed) = BreaksOffAt disk path (Some text)
+IsSaved disk path text (Err end) = ⊥
+
+-- ---- in both
+
+-- What became of an answer. The file is written first: where it fails, nothing goes to the output.
+abbrev pub IsDelivered : Disk → Option (Bor (List ℕ)) → Writing → Answer → Fate → Type 0
+IsDelivered disk path out answer CannotOpen = FailsAt disk path answer.file × WritesNothing out
+IsDelivered disk path out answer WriteFailed =
+    (BreaksOffAt disk path answer.file × WritesNothing out) ⊎ (Saves disk path answer.file × TakesPart out answer.text)
+IsDelivered disk path out answer end = (end ≡ answer.end) × Saves disk path answer.file × Takes out answer.text

@@ -1,0 +1,136 @@
+-- Words of the contracts within the crate: how far each step has come. What the program does is said without them.
+use Rattle.std.specs.Borrow.{Bor}
+use Rattle.std.specs.Io.KnownBytes.{Consumes, IsAtEnd}
+use Rattle.std.specs.Prelude.{◌≡◌, ◌≤◌, ◌⊎◌, ◌++◌, [], ⊤, ℕ, Bool, List, length, Option, Some, None, Result, Ok, Err}
+use Rattle.velo_events.specs.Refusals.{GrowthRefused}
+use Rattle.velo_events.specs.declared.event.Event.{Event}
+use Rattle.velo_explain.specs.declared.fault.ExplainFault.{ExplainFault}
+use Rattle.velo_explain.specs.declared.fault.ExplainFault.TheVariants as explain_fault
+use Rattle.velo_logtext.specs.Device.{one_more}
+use Rattle.velo_report.specs.declared.names.Names.{Names}
+use Rattle.velo_report.specs.declared.names.Names.TheVariants.{Numbers}
+use Rattle.velo_worker.specs.declared.ending.Ending.{Ending}
+use Rattle.velo_workload.specs.Program.{Program}
+use Rattle.velo_world.specs.World.{AlarmOf, WorldState}
+use Rattle.velo_world.specs.declared.run.Alarm.{Alarm}
+use Rattle.velo_program.specs.declared.check.CheckFault.{CheckFault}
+use Rattle.velo_program.specs.declared.check.CheckFault.TheVariants as check_fault
+use Rattle.velo_program.specs.declared.check.Verdict.{Verdict}
+use Rattle.velo_program.specs.declared.fate.Fate.{Fate}
+use Rattle.velo_program.specs.declared.fate.Fate.TheVariants.{CannotOpen, Memory, WriteFailed}
+use Rattle.velo_program.specs.declared.reading.ReadFault.{ReadFault}
+use Rattle.velo_program.specs.declared.reading.ReadFault.TheVariants as read_fault
+use Rattle.velo_program.specs.declared.request.Request.{Request}
+use Rattle.velo_program.specs.declared.request.RunOptions.{RunOptions}
+use Rattle.velo_program.specs.Carrying.{Carries}
+use Rattle.velo_program.specs.Check.{IsOutputOf, IsVerdict}
+use Rattle.velo_program.specs.Delivery.{Answer, IsDelivered, IsSaved, IsTold, LacksMemory, failures_after}
+use Rattle.velo_program.specs.Disk.{Disk, FailsToOpen}
+use Rattle.velo_program.specs.Explaining.{ComesOut, ExplainsVerdict}
+use Rattle.velo_program.specs.Playing.{IsEndAnswer, IsReported, IsRunAnswer, IsTextOf, IsUnread, Play, is_unreported}
+use Rattle.velo_program.specs.Program.{IsAnswer}
+use Rattle.velo_program.specs.Reading.{Reading}
+use Rattle.velo_program.specs.Writing.{BreaksOff, Writes, WritesNothing, Writing}
+
+-- ---- reading a whole source
+
+-- the bytes are all that the source gives, where they are known; or they are more than the most that are wanted, and a beginning
+abbrev pub IsReadOf : ℕ → Option (List ℕ) → List ℕ → Type 0
+IsReadOf most None bytes = ⊤
+IsReadOf most (Some all) bytes = (rest : List ℕ) × (all ≡ bytes ++ rest) × (length bytes ≤ most → rest ≡ [])
+
+-- the bytes grew by a piece of what the source gives, of so many bytes, and of none only at its end
+pub record GrowsByPiece (before after : Option (List ℕ)) (old new : List ℕ) (count : ℕ) : Type 0 where
+  pub piece : List ℕ
+  pub grown : new ≡ old ++ piece
+  pub given : Consumes before after piece
+  pub last : count ≡ 0 → IsAtEnd after
+
+-- the count of failures of the source behind a read
+abbrev pub failures_by : {X : Type 0} → Result X ReadFault → ℕ → ℕ
+failures_by (Ok x) failures = failures
+failures_by (Err read_fault.Failed) failures = one_more failures
+failures_by (Err read_fault.Memory) failures = failures
+
+-- ---- a check
+
+-- the alarm of a log is known: one, or none
+abbrev pub HasAlarm : List Event → Type 0
+HasAlarm log = (alarm : Option Alarm) × AlarmOf log alarm
+
+-- what a world shows by numbers, and its verdict; or a growth was refused
+abbrev pub Shows : Bool → WorldState → Writing → Result Verdict CheckFault → Type 0
+Shows certificate w out (Ok answer) =
+    IsVerdict w.log answer × ((text : List ℕ) × IsOutputOf Numbers certificate w text × Writes out text)
+Shows certificate w out (Err check_fault.Write) =
+    ((answer : Verdict) × IsVerdict w.log answer)
+    × ((text : List ℕ) × IsOutputOf Numbers certificate w text × BreaksOff out text)
+Shows certificate w out (Err check_fault.Memory) = GrowthRefused × WritesNothing out
+Shows certificate w out (Err fault) = ⊥
+
+-- ---- an explanation
+
+-- what drawing the picture came to
+abbrev pub IsDrawn : {X : Type 0} → Disk → Option (Bor (List ℕ)) → List ℕ → Result X Fate → Type 0
+IsDrawn disk path picture (Err Memory) = GrowthRefused
+IsDrawn disk path picture result = IsSaved disk path picture result
+
+-- the verdict of a log was explained, or memory was wanting
+abbrev pub Explains : List Event → Disk → Option (Bor (List ℕ)) → Writing → Fate → Type 0
+Explains log disk path out f =
+    (answer : Answer) × (ExplainsVerdict log answer ⊎ LacksMemory answer) × ComesOut disk path out answer f
+
+-- what writing an explanation comes to
+abbrev pub fate_of_telling : {X : Type 0} → Result X ExplainFault → Fate → Fate
+fate_of_telling (Ok told) end = end
+fate_of_telling (Err explain_fault.Memory) end = Memory
+fate_of_telling (Err explain_fault.Write) end = WriteFailed
+
+-- ---- a run
+
+-- what writing a report came to, whose log was written before
+abbrev pub Reports : Names → Bool → Ending → WorldState → Disk → Option (Bor (List ℕ)) → Writing → Fate → Type 0
+Reports names certificate ended w disk path out f =
+    (answer : Answer) × (IsReported names certificate ended w answer ⊎ LacksMemory answer) × IsDelivered disk path out answer f
+
+-- what telling how a run ended came to
+abbrev pub TellsEnd : Program → Bool → Ending → WorldState → Disk → Option (Bor (List ℕ)) → Writing → Fate → Type 0
+TellsEnd program certificate ended w disk path out f =
+    (answer : Answer) × (IsEndAnswer (is_unreported ended) program certificate ended w answer ⊎ LacksMemory answer)
+    × IsDelivered disk path out answer f
+
+-- what playing a workload came to
+abbrev pub Plays : Play → RunOptions → Program → Disk → Writing → Fate → Type 0
+Plays play options program disk out f =
+    (answer : Answer) × IsRunAnswer play options program answer × IsDelivered disk options.log out answer f
+
+-- ---- carrying over
+
+-- the file at the path does not open; or what was read was carried over to it
+abbrev pub CarriesTo : Disk → List ℕ → Reading → Fate → Type 0
+CarriesTo disk path read f =
+    ((f ≡ CannotOpen) × disk.fails path)
+    ⊎ ((file : Writing) × disk.takes path file × Carries read.bytes file f × (read.after ≡ failures_after f read.before))
+
+-- ---- a request
+
+-- an answer to what was read, which has nothing for a file, was told on the output
+abbrev pub Tells : Request → Option (List ℕ) → Writing → Fate → Type 0
+Tells request read out f = (answer : Answer) × IsAnswer request read answer × IsTold out answer f
+
+-- the workload that was opened at the path
+pub record OpensProgram (disk : Disk) (path : List ℕ) (program : Program) : Type 0 where
+  pub read : Reading
+  pub given : disk.gives path read
+  pub is_text : IsTextOf read.bytes program
+  pub no_failure : read.after ≡ read.before
+
+-- why there is none
+pub record IsNoWorkload (disk : Disk) (path : List ℕ) (fate : Fate) : Type 0 where
+  pub read : Reading
+  pub given : disk.gives path read
+  pub unread : IsUnread read.bytes fate
+  pub failures : read.after ≡ failures_after fate read.before
+
+abbrev pub OpensNoProgram : Disk → List ℕ → Fate → Type 0
+OpensNoProgram disk path f = IsNoWorkload disk path f ⊎ ((f ≡ CannotOpen) × FailsToOpen disk path)
