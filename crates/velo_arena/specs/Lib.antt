@@ -1,3 +1,4 @@
 pub mod Slots
 pub mod Kept
 pub mod Stamps
+pub mod Heirs

@@ -5,4 +5,4 @@ mod arena;
 mod step;
 
 pub use arena::{Arena, GraphFull};
-pub use step::{Node, Step};
+pub use step::{Heir, Node, Step};

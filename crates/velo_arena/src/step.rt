@@ -1,3 +1,6 @@
+ghost use Rattle.std.specs.Prelude.{◌≡◌};
+ghost use Rattle.velo_arena.specs.Heirs.{renamed};
+
 /// A node by its slot and its stamp. It names no node any more once that node was freed.
 #[derive(Clone, Copy, Debug, Default, PartialEq, Eq)]
 pub struct Step {
@@ -14,4 +17,25 @@ pub struct Node {
     pub stamp: u32,
     /// Whether the node was marked as finished.
     pub finished: bool,
+}
+
+/// The node with the first stamp gives way to that of the step.
+#[derive(Clone, Copy, Debug, PartialEq, Eq)]
+pub struct Heir {
+    /// The stamp of the node that gives way.
+    pub of: u32,
+    /// The node that it gives way to.
+    pub step: Step,
+}
+
+impl Step {
+    /// The step by its heir, where its node has one in the list, which is by slot.
+    pub fn renamed(self, heirs: &[Option<Heir>]) -> Step
+        ensures { result ≡ renamed heirs.now self }
+    {
+        match heirs.get(self.slot as usize) {
+            Some(Some(heir)) if heir.of == self.stamp => heir.step,
+            _ => self,
+        }
+    }
 }

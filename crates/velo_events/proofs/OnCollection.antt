@@ -4,19 +4,17 @@ use Rattle.std.specs.Prelude.{◌||◌, ◌==◌, sum_by, count_by, filter, IsTr
 use Rattle.std.proofs.lemmas.List.{append-nil}
 use Rattle.std.proofs.lemmas.List.Sums.{sum_by-cons, length-filter}
 use Rattle.std.proofs.lemmas.List.Kept.{IsStrictlyIncreasing-filter}
-use Rattle.std.proofs.lemmas.Bool.{cases_Bool, or_cases, eqb-true, lt-ltb, false≢true, both_ways, false_from_ne_true}
+use Rattle.std.proofs.lemmas.Bool.{cases_Bool, or_cases, eqb-true, lt-ltb, false≢true, false_from_ne_true}
 use Rattle.velo_events.specs.declared.config.Bounds.{Bounds}
 use Rattle.velo_events.specs.declared.event.Event.{Event}
 use Rattle.velo_events.specs.WellFormed.{IsWellFormed}
-use Rattle.velo_events.specs.Block.{positions, is_in_block, IsTransaction, IsUnfinished, IsFinished, IsOutside}
+use Rattle.velo_events.specs.Block.{positions, IsTransaction, IsUnfinished, IsFinished}
 use Rattle.velo_events.specs.Graph.{Reaches, IsCycle, Edge, HasCycle}
 use Rattle.velo_events.specs.Collection.{IsHarmless, IsLive, IsCovered, IsAccountedFor, IsGivenUp, HasManyLive}
-use Rattle.velo_events.proofs.OnBlocks.{is_in_block-append}
 use Rattle.velo_events.proofs.OnGraphs.{Reaches-trans, newest}
 use Rattle.velo_events.proofs.OnPositions.{count_positions, positions-increase, Contains-filter}
-use Rattle.velo_events.proofs.OnOwners.{is_in_block-parts}
-use Rattle.velo_events.proofs.OnUnfinished.{IsTransaction-append, IsUnfinished-before, IsFinished-append, newest-unfinished, cases_unfinished}
-use Rattle.velo_events.proofs.OnReaching.{IsOnCycle, IsOnCycle-from_cycle, HasCycle-from_on, Reaches-to_transaction, Reaches-from_transaction, ReachesBy, Reaches-push, Reaches-old, Reaches-by}
+use Rattle.velo_events.proofs.OnUnfinished.{IsTransaction-append, IsUnfinished-before, IsFinished-append, newest-unfinished, cases_unfinished, unfinished-not_finished}
+use Rattle.velo_events.proofs.OnReaching.{IsCycle-by, IsOnCycle, IsOnCycle-from_cycle, HasCycle-from_on, Reaches-to_transaction, Reaches-from_transaction, ReachesBy, Reaches-push, Reaches-old, Reaches-by}
 
 -- what holds of a trace, and with one more event where it did without, holds of each longer trace
 pub append-induct : (P : List Event → Type 0) → ((trace : List Event) (event : Event) → P trace → P (trace ++ event ∷ [])) → (trace more : List Event) → P trace → P (trace ++ more)
@@ -119,12 +117,6 @@ IsHarmless-append bounds trace more a harmless = record {
 
 -- ---- covered
 
--- a position outside blocks stays outside
-pub IsOutside-append : (trace more : List Event) (a : ℕ) → a < length trace → IsOutside trace a → IsOutside (trace ++ more) a
-IsOutside-append trace more a l outside b = false_from_ne_true _ (λ h.
-    let after = (is_in_block-parts (trace ++ more) b a h).0 in
-    both_ways (is_in_block trace b a) (outside b) (sym (is_in_block-append trace more b a after l) ∙ h))
-
 -- what is covered is a transaction
 pub IsCovered-transaction : (trace : List Event) (a n : ℕ) → IsCovered trace a n → IsTransaction trace a
 IsCovered-transaction trace a n c = Reaches-to_transaction trace n a c.finished.transaction c.reached
@@ -132,7 +124,6 @@ IsCovered-transaction trace a n c = Reaches-to_transaction trace n a c.finished.
 -- what is covered stays covered by the same transaction, with one more event
 pub IsCovered-push : (trace : List Event) (event : Event) (a n : ℕ) → IsCovered trace a n → IsCovered (trace ++ event ∷ []) a n
 IsCovered-push trace event a n c = record {
-  outside = IsOutside-append trace (event ∷ []) a t.within c.outside;
   finished = IsFinished-append trace (event ∷ []) n c.finished;
   reached = Reaches-old trace event n a c.reached;
   by_way_of = λ u unfinished r. ⊎_elim (old u unfinished) (new u) (Reaches-push trace event u a r);
@@ -154,6 +145,26 @@ IsCovered-push trace event a n c = record {
 -- and in every longer trace
 pub IsCovered-append : (trace more : List Event) (a n : ℕ) → IsCovered trace a n → IsCovered (trace ++ more) a n
 IsCovered-append trace more a n = append-induct (λ xs. IsCovered xs a n) (λ xs event c. IsCovered-push xs event a n c) trace more
+
+-- what covers what covers it
+pub IsCovered-trans : (trace : List Event) (a b n : ℕ) → IsCovered trace a b → IsCovered trace b n → IsCovered trace a n
+IsCovered-trans trace a b n c d = record {
+  finished = d.finished;
+  reached = Reaches-trans (Edge trace) n b a d.reached c.reached;
+  by_way_of = λ u unfinished r. d.by_way_of u unfinished (c.by_way_of u unfinished r);
+}
+
+-- where there is no cycle, what is covered has finished: else it would reach what covers it
+pub IsCovered-finished : (trace : List Event) (a n : ℕ) → ¬ HasCycle trace → IsCovered trace a n → IsFinished trace a
+IsCovered-finished trace a n none c = ⊎_elim (λ u. absurd (around u)) (λ f. f) (cases_unfinished trace a (IsCovered-transaction trace a n c))
+  where
+    apart : IsUnfinished trace a → n ≢ a
+    apart u same = unfinished-not_finished trace a u (subst (IsFinished trace) same c.finished)
+
+    around : IsUnfinished trace a → ⊥
+    around u = ⊎_elim (λ same. apart u same)
+        (λ forth. ⊎_elim (λ same. apart u (sym same)) (λ home. let w = IsCycle-by (Edge trace) n a forth home in none (record { cycle = w.0; is_cycle = w.1 })) (c.by_way_of a u (inl refl)))
+        c.reached
 
 -- what is covered is live only as long as what covers it is
 pub not_live-covered : (trace : List Event) (a n : ℕ) → IsCovered trace a n → ¬ IsLive trace n → ¬ IsLive trace a

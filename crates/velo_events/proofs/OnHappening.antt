@@ -4,7 +4,7 @@ use Rattle.std.specs.Prelude.{◌⊎◌, ◌↔◌, ◌&&◌, ◌||◌, ◌==◌
 use Rattle.std.proofs.lemmas.Bool.{cases_eq, cases_lt, and_parts, and_from, or_cases, or_left, or_right, eqb-true, eq-eqb, ltb-true, lt-ltb}
 use Rattle.velo_events.specs.declared.event.Event.{Event}
 use Rattle.velo_events.specs.Event.{thread_of, is_by}
-use Rattle.velo_events.specs.Block.{any_below, passes_at, owner}
+use Rattle.velo_events.specs.Block.{any_below, passes_at, owner, IsTransaction}
 use Rattle.velo_events.specs.Graph.{Path, Reaches, conflict_at, Edge, ConflictsInOrder, HappensBefore}
 use Rattle.velo_events.proofs.OnBlocks.{any_below-at, any_below-some}
 use Rattle.velo_events.proofs.OnScans.{passes_at-event}
@@ -173,3 +173,9 @@ IsFrom-next trace b j i r c = Reaches-trans (ConflictsInOrder trace) b j i r (in
 pub IsFrom-same_thread : (trace : List Event) (t b i : ℕ) → b ≤ i → IsTrue (passes_at trace (is_by t) b) → IsTrue (passes_at trace (is_by t) i) → IsFrom trace b i
 IsFrom-same_thread trace t b i l own_b own_i =
     ⊎_elim (λ later. inr ([], ConflictsInOrder-same_thread trace t b i later own_b own_i)) (λ at. inl (let e : b ≡ i = omega (arith, at, l) in e)) (cases_lt b i)
+
+-- so an earlier transaction of a thread reaches a later one
+pub Reaches-same_thread : (trace : List Event) (t a b : ℕ) → IsTransaction trace a → IsTransaction trace b → IsTrue (passes_at trace (is_by t) a) → IsTrue (passes_at trace (is_by t) b) → a ≤ b → Reaches (Edge trace) a b
+Reaches-same_thread trace t a b ta tb own_a own_b l =
+    subst (λ z. Reaches (Edge trace) z b) ta.first
+    (subst (λ z. Reaches (Edge trace) (owner trace a) z) tb.first (IsFrom-reaches trace a b (IsFrom-same_thread trace t a b l own_a own_b)))

@@ -1,15 +1,18 @@
 ghost use Rattle.velo_events.specs.Refusals.{GrowthRefused};
-ghost use Rattle.std.specs.Prelude.{◌≡◌, ◌≢◌, ◌↔◌, ℕ, ◌<◌, ◌≤◌, false, Some, None, replicate, IfOk, OnErr, IsErr, IsTrue, IsFalse, true, vec_capacity, if◌then◌else◌};
+ghost use Rattle.std.specs.Prelude.{◌≡◌, ◌≢◌, ◌↔◌, ℕ, ◌<◌, ◌≤◌, false, Some, None, length, replicate, is_some, IfOk, OnErr, IsErr, IsTrue, IsFalse, true, vec_capacity, if◌then◌else◌};
 ghost use Rattle.std.specs.Option.{ForSome};
 ghost use Rattle.velo_arena.specs.Slots.{limit_of, is_used, used_in, bears, stamp_in, is_finished_in, with_node, Opens};
+ghost use Rattle.velo_arena.specs.Heirs.{heir_in};
+ghost use Rattle.velo_graph.specs.Leaves.{LeavesOut};
 ghost use Rattle.velo_graph.specs.Collects.{Collects, TellsFreed, HasNothingLeft};
 ghost use Rattle.velo_graph.specs.Nodes.{Nodes, is_ancestor, reaches, IsRoot, IsAlone, IsSound, AddsEdge, LosesAncestor};
 
-use crate::rows::{carry, empty_rows, take_away_first, take_out};
+use crate::leave::leave;
+use crate::rows::{carry, empty_rows, leave_out_first, take_away_first, take_out};
 use crate::vacate::vacate;
 use std::alloc::Global;
 use std::marker::Model;
-use velo_arena::{Arena, GraphFull, Step};
+use velo_arena::{Arena, GraphFull, Heir, Step};
 use velo_events::Memory;
 use velo_events::growth::filled;
 use velo_rows::Ancestors;
@@ -148,6 +151,24 @@ impl<A: Ancestors> Graph<A> {
             end,
         );
         take_away_first(&mut self.rows, end, roots, &self.carried);
+    }
+
+    /// Frees exactly the nodes with an heir in the list, which is by slot. They have to be finished.
+    pub fn leave_out(&mut self, heirs: &[Option<Heir>])
+        requires heirs { length heirs.now ≡ limit_of self.old.slots }
+        requires finished { (k : ℕ) → IsTrue (is_some (heir_in heirs.now k)) → IsTrue (is_finished_in self.old.slots k) }
+        ensures leaves { LeavesOut self.old self.new heirs.now }
+        ensures sound { IsSound self.new }
+    {
+        let end = self.arena.extent();
+        leave(
+            &mut self.arena,
+            heirs,
+            &mut self.carried,
+            &mut self.leads,
+            end,
+        );
+        leave_out_first(&mut self.rows, end, &self.carried);
     }
 
     /// The slot of a step, where that slot is in use and bears the stamp.

@@ -3,7 +3,7 @@ ghost use Rattle.std.specs.Prelude.{◌≡◌, ◌<◌, ◌≤◌, map, length, 
 ghost use Rattle.std.specs.FinSet as set;
 ghost use Rattle.velo_rows.specs.Meet.{Meet};
 ghost use Rattle.velo_graph.specs.Roots.{one_more, may_meet, IsBelow, MeetBelow};
-ghost use Rattle.velo_graph.specs.Rows.{row_of, with_carried, ChangesFirst, CarriesEdge};
+ghost use Rattle.velo_graph.specs.Rows.{row_of, with_carried, without, ChangesFirst, CarriesEdge};
 
 use std::alloc::Global;
 use velo_events::Memory;
@@ -45,7 +45,7 @@ fn widen_first<A: Ancestors>(rows: &mut [A], count: u16, slot: u16, more: &A)
     requires slot { slot < length rows.old }
     requires capacities { map A.capacity rows.old ≡ replicate (length rows.old) (length rows.old) }
     requires more { A.capacity more.now ≡ length rows.old }
-    ensures members { ChangesFirst (with_carried slot (A.members more.now)) (map A.members rows.old) (map A.members rows.new) count }
+    ensures members { ChangesFirst (λ _. with_carried slot (A.members more.now)) (map A.members rows.old) (map A.members rows.new) count }
     ensures capacities { map A.capacity rows.new ≡ map A.capacity rows.old }
 {
     for n in 0..count {
@@ -58,7 +58,7 @@ pub fn take_out<A: Ancestors>(rows: &mut [A], count: u16, slot: u16)
     requires count { count ≤ length rows.old }
     requires slot { slot < length rows.old }
     requires capacities { map A.capacity rows.old ≡ replicate (length rows.old) (length rows.old) }
-    ensures members { ChangesFirst (λ row. set.remove row slot) (map A.members rows.old) (map A.members rows.new) count }
+    ensures members { ChangesFirst (λ _ row. set.remove row slot) (map A.members rows.old) (map A.members rows.new) count }
     ensures capacities { map A.capacity rows.new ≡ map A.capacity rows.old }
 {
     for n in 0..count {
@@ -123,11 +123,37 @@ pub fn take_away_first<A: Ancestors>(rows: &mut [A], count: u16, roots: Roots, g
     requires roots { IsBelow roots (length rows.old) }
     requires meets { MeetBelow roots (map A.members rows.old) (A.members gone.now) }
     requires gone { A.capacity gone.now ≡ length rows.old }
-    ensures members { ChangesFirst (λ row. set.difference row (A.members gone.now)) (map A.members rows.old) (map A.members rows.new) count }
+    ensures members { ChangesFirst (λ _ row. set.difference row (A.members gone.now)) (map A.members rows.old) (map A.members rows.new) count }
     ensures capacities { map A.capacity rows.new ≡ map A.capacity rows.old }
 {
     for n in 0..count {
         take_away(&mut rows[n as usize], roots, gone);
+    }
+}
+
+/// Empties the row of a slot that goes, or takes those that go away from it.
+fn leave_out<A: Ancestors>(row: &mut A, goes: bool, gone: &A)
+    requires { A.capacity gone.now ≡ A.capacity row.old }
+    ensures members { A.members row.new ≡ without goes (A.members gone.now) (A.members row.old) }
+    ensures capacity { A.capacity row.new ≡ A.capacity row.old }
+{
+    if goes {
+        row.clear();
+    } else {
+        row.take_away(gone);
+    }
+}
+
+/// Empties those of the first rows whose slots go, and takes all slots that go away from the others.
+pub fn leave_out_first<A: Ancestors>(rows: &mut [A], count: u16, gone: &A)
+    requires count { count ≤ length rows.old }
+    requires capacities { map A.capacity rows.old ≡ replicate (length rows.old) (length rows.old) }
+    requires gone { A.capacity gone.now ≡ length rows.old }
+    ensures members { ChangesFirst (λ k. without (set.contains (A.members gone.now) k) (A.members gone.now)) (map A.members rows.old) (map A.members rows.new) count }
+    ensures capacities { map A.capacity rows.new ≡ map A.capacity rows.old }
+{
+    for n in 0..count {
+        leave_out(&mut rows[n as usize], gone.contains(n), gone);
     }
 }
 

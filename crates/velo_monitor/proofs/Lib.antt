@@ -19,6 +19,14 @@ pub mod OnBegin
 pub mod OnPlaced
 pub mod OnDepthsAfter
 pub mod OnSteps
+pub mod OnFirsts
+pub mod OnLatest
+pub mod OnThreads
+pub mod OnHeirs
+pub mod OnCompacted
+pub mod OnFew
+pub mod OnLeft
+pub mod OnCompaction
 pub mod OnStart
 pub mod OnCounts
 pub mod OnNaming

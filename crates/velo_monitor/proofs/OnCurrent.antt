@@ -14,8 +14,8 @@ use Rattle.velo_events.specs.Block.{owner, IsFinished}
 use Rattle.velo_events.specs.Collection.{IsLive, IsCovered}
 use Rattle.velo_events.proofs.OnGraphs.{newest}
 use Rattle.velo_events.proofs.OnOwners.{newest-le, newest-alone, newest-not_alone}
-use Rattle.velo_events.proofs.OnUnfinished.{newest-unfinished, depth_in-none, depth_in-some, unfinished-not_finished, IsOutside-finished}
-use Rattle.velo_events.proofs.OnCollection.{IsLive-unfinished, IsCovered-transaction}
+use Rattle.velo_events.proofs.OnUnfinished.{newest-unfinished, depth_in-none, depth_in-some, unfinished-not_finished}
+use Rattle.velo_events.proofs.OnCollection.{IsLive-unfinished, IsCovered-finished}
 use Rattle.velo_arena.specs.declared.step.Step.{Step}
 use Rattle.velo_arena.specs.declared.step.Node.{Node}
 use Rattle.velo_arena.specs.Slots.{node_in, has_stamp, Opens, bears}
@@ -54,7 +54,7 @@ current-node bounds w trace e stands follows inside =
       s.2.borne,
       ⊎_elim (λ (same : s.0.stamp ≡ owner trace k.0). same ∙ k.2)
           (λ (covered : IsCovered trace (owner trace k.0) s.0.stamp).
-          absurd (unfinished-not_finished trace (newest trace e) unfinished_now (subst (IsFinished trace) k.2 (IsOutside-finished trace (owner trace k.0) (IsCovered-transaction trace (owner trace k.0) s.0.stamp covered).within covered.outside))))
+          absurd (unfinished-not_finished trace (newest trace e) unfinished_now (subst (IsFinished trace) k.2 (IsCovered-finished trace (owner trace k.0) s.0.stamp stands.acyclic covered))))
           s.2.which,
     )
 

@@ -56,7 +56,7 @@ module _ (bounds : Bounds) (w : Watched) (trace : List Event) (e : Event) (stand
           let both = and_parts (leads_on w.nodes froms c j) (reaches w.nodes c k) new in
           let from = leads-from j both.0 in
           let s = named bounds w trace e stands from.0 from.1 from.2 in
-          let found : IsFound trace e (owner trace s.at) = record { place = s.place; at = s.at; looked = s.looked; last = s.last; of = refl; differ = λ same. from.3 (stamp-other trace e from.1 (owner trace s.at) s.which same) } in
+          let found : IsFound trace e (owner trace s.at) = record { place = s.place; at = s.at; looked = s.looked; last = s.last; of = refl; differ = λ same. from.3 (stamp-other trace e stands.acyclic from.1 (owner trace s.at) s.which same) } in
           (Reaches-push_found bounds trace e stands.well_formed follows stands.few a b).1
           (inr (record {
             by = owner trace s.at;

@@ -22,7 +22,7 @@ pub bears-node : (nodes : Nodes) (k : ℕ) (n : Node) → node_in nodes.slots k 
 bears-node nodes k n there = ap (λ o. has_stamp o n.stamp) there ∙ eq-eqb n.stamp n.stamp refl
 
 module _ (bounds : Bounds) (w : Watched) (trace : List Event) (stands : IsMonitorOf bounds w trace) where
-  unfinished-node : (k a : ℕ) → Bears w.nodes k a → is_finished_in w.nodes.slots k ≡ false → IsUnfinished trace a
+  pub unfinished-node : (k a : ℕ) → Bears w.nodes k a → is_finished_in w.nodes.slots k ≡ false → IsUnfinished trace a
   unfinished-node k a borne going = record { transaction = stands.founded.transaction k a borne; open_block = flip (is_open trace a) (sym (stands.founded.finished k a borne) ∙ going) }
     where
       flip : (b : Bool) → not b ≡ false → b ≡ true

@@ -5,11 +5,11 @@ use Rattle.std.proofs.lemmas.Bool.{cases_Bool}
 use Rattle.velo_events.specs.declared.config.Bounds.{Bounds}
 use Rattle.velo_events.specs.declared.event.Event.{Event}
 use Rattle.velo_events.specs.Block.{owner, IsUnfinished}
-use Rattle.velo_events.specs.Graph.{Edge, Reaches}
+use Rattle.velo_events.specs.Graph.{Edge, Reaches, HasCycle}
 use Rattle.velo_events.specs.Collection.{IsLive, IsCovered}
 use Rattle.velo_events.proofs.OnGraphs.{newest}
-use Rattle.velo_events.proofs.OnUnfinished.{newest-not_finished, IsOutside-finished}
-use Rattle.velo_events.proofs.OnCollection.{IsCovered-transaction}
+use Rattle.velo_events.proofs.OnUnfinished.{newest-not_finished}
+use Rattle.velo_events.proofs.OnCollection.{IsCovered-finished}
 use Rattle.velo_arena.specs.declared.step.Step.{Step}
 use Rattle.velo_arena.specs.Slots.{bears}
 use Rattle.velo_graph.specs.Nodes.{Nodes, reaches}
@@ -47,10 +47,10 @@ pub stamp-newest : (trace : List Event) (e : Event) (b x : ℕ) → (b ≡ x) �
 stamp-newest trace e b x which at =
     ⊎_elim (λ (same : b ≡ x). sym same ∙ at) (λ (covered : IsCovered trace x b). absurd (newest-not_finished trace e b covered.finished (sym at))) which
 
-pub stamp-other : (trace : List Event) (e : Event) (b x : ℕ) → (b ≡ x) ⊎ IsCovered trace x b → x ≡ newest trace e → b ≡ newest trace e
-stamp-other trace e b x which at =
+pub stamp-other : (trace : List Event) (e : Event) → ¬ HasCycle trace → (b x : ℕ) → (b ≡ x) ⊎ IsCovered trace x b → x ≡ newest trace e → b ≡ newest trace e
+stamp-other trace e none b x which at =
     ⊎_elim (λ (same : b ≡ x). same ∙ at)
-    (λ (covered : IsCovered trace x b). absurd (newest-not_finished trace e x (IsOutside-finished trace x (IsCovered-transaction trace x b covered).within covered.outside) (sym at)))
+    (λ (covered : IsCovered trace x b). absurd (newest-not_finished trace e x (IsCovered-finished trace x b none covered) (sym at)))
     which
 
 -- the entry of a live transaction names a node that stands for it

@@ -11,7 +11,7 @@ use Rattle.velo_events.specs.Graph.{Edge, Reaches}
 use Rattle.velo_events.specs.Collection.{IsLive, IsCovered}
 use Rattle.velo_events.proofs.OnGraphs.{newest, Reaches-trans}
 use Rattle.velo_events.proofs.OnReaching.{Reaches-old, Reaches-to_transaction, IsPredecessor-edge}
-use Rattle.velo_events.proofs.OnUnfinished.{newest-outside, IsUnfinished-push_cases, IsFinished-append}
+use Rattle.velo_events.proofs.OnUnfinished.{IsUnfinished-push_cases, IsFinished-append}
 use Rattle.velo_arena.specs.Slots.{is_finished_in}
 use Rattle.velo_graph.specs.Nodes.{is_ancestor, reaches}
 use Rattle.velo_graph.proofs.OnOrders.{up_before}
@@ -45,7 +45,6 @@ module _ (bounds : Bounds) (w : Watched) (trace : List Event) (e : Event) (stand
   -- a finished node that is named, and has the others that are among its ancestors, covers it
   pub merged-covered : (k b : ℕ) → Names w.nodes w.kept e k b → IsTrue (is_finished_in w.nodes.slots k) → ((m d : ℕ) → Names w.nodes w.kept e m d → m ≢ k → IsTrue (is_ancestor w.nodes m k)) → IsCovered (trace ++ e ∷ []) (length trace) b
   merged-covered k b names done others = record {
-    outside = newest-outside trace e alone no_begin;
     finished = IsFinished-append trace (e ∷ []) b (record { transaction = stands.founded.transaction k b names.borne; not_open = not-true (is_open trace b) (sym (stands.founded.finished k b names.borne) ∙ done) });
     reached = reached;
     by_way_of = λ u still leads.
@@ -62,7 +61,7 @@ module _ (bounds : Bounds) (w : Watched) (trace : List Event) (e : Event) (stand
       reached =
           let s = named bounds w trace e stands k b names in
           let borne = stands.founded.transaction k b names.borne in
-          let differ : owner trace s.at ≢ newest trace e = λ (same : owner trace s.at ≡ newest trace e). let at : b ≡ newest trace e = stamp-other trace e b (owner trace s.at) s.which same in omega (arith, at, alone, borne.within) in
+          let differ : owner trace s.at ≢ newest trace e = λ (same : owner trace s.at ≡ newest trace e). let at : b ≡ newest trace e = stamp-other trace e stands.acyclic b (owner trace s.at) s.which same in omega (arith, at, alone, borne.within) in
           let found : IsFound trace e (owner trace s.at) = record { place = s.place; at = s.at; looked = s.looked; last = s.last; of = refl; differ = differ } in
           subst (λ z. Reaches (Edge (trace ++ e ∷ [])) b z) alone
           (Reaches-trans (Edge (trace ++ e ∷ [])) b (owner trace s.at) (newest trace e)

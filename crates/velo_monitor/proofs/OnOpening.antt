@@ -50,7 +50,7 @@ module _ (bounds : Bounds) (w : Watched) (trace : List Event) (e : Event) (stand
   found-of k b names =
       let s = named bounds w trace e stands k b names in
       let within = (stands.founded.transaction k b names.borne).within in
-      (owner trace s.at, record { place = s.place; at = s.at; looked = s.looked; last = s.last; of = refl; differ = λ same. let at : b ≡ newest trace e = stamp-other trace e b (owner trace s.at) s.which same in omega (arith, at, outer, within) }, stamp-reaches trace b (owner trace s.at) s.which)
+      (owner trace s.at, record { place = s.place; at = s.at; looked = s.looked; last = s.last; of = refl; differ = λ same. let at : b ≡ newest trace e = stamp-other trace e stands.acyclic b (owner trace s.at) s.which same in omega (arith, at, outer, within) }, stamp-reaches trace b (owner trace s.at) s.which)
 
   pub ancestors-opened : AreAncestors new (trace ++ e ∷ [])
   ancestors-opened = record { sound = sound; complete = complete }

@@ -1,5 +1,6 @@
 pub mod Watched
 pub mod Codes
 pub mod Steps
+pub mod Heirs
 pub mod Changed
 pub mod Answers

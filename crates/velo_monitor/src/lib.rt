@@ -5,6 +5,7 @@
 #![tactic(auto)]
 
 mod edges;
+mod heirs;
 mod monitor;
 
 pub use monitor::{Monitor, Seen};

@@ -1,5 +1,5 @@
 ghost use Rattle.velo_events.specs.Refusals.{GrowthRefused};
-ghost use Rattle.std.specs.Prelude.{◌≡◌, ◌≤◌, ◌<◌, ℕ, [], ◌∷◌, ◌++◌, List, length, IsTrue, IsFalse, IfOk, OnOk, OnErr, ◌↔◌, Some};
+ghost use Rattle.std.specs.Prelude.{◌≡◌, ◌*◌, ◌≤◌, ◌<◌, ℕ, [], ◌∷◌, ◌++◌, List, length, IsTrue, IsFalse, IfOk, OnOk, OnErr, ◌↔◌, Some};
 ghost use Rattle.std.specs.Option.{ForSome, option_to_list};
 ghost use Rattle.velo_events.specs.declared.config.Bounds.{Bounds as BoundsOf};
 ghost use Rattle.velo_events.specs.declared.event.Event.{Event as EventOf};
@@ -24,6 +24,7 @@ ghost use Rattle.velo_monitor.specs.Steps.{live_slots, ReachesSome};
 ghost use Rattle.velo_monitor.specs.Changed.{depth_of, CanCount, AfterInside, EndsBlock, CountsBlocks, BeginsBlock, IsPlaced, AfterOutside, ForgetsDead};
 
 use crate::edges::{add_edges, closes_or_adds, open_after, reaches_some};
+use crate::heirs::Heirs;
 use smallvec::SmallVec;
 use std::alloc::Global;
 use std::marker::Model;
@@ -57,10 +58,12 @@ pub struct Monitor {
     /// The steps that the present event looks up.
     steps: SmallVec<Step, MOST_PREDECESSORS>,
     freed: Freed,
+    /// Which nodes give way to which, as found by the last compaction.
+    heirs: Heirs,
 }
 
 impl Model for Monitor {
-    ghost use Rattle.std.specs.Prelude.{◌≤◌};
+    ghost use Rattle.std.specs.Prelude.{◌≡◌, ◌≤◌, length};
     ghost use Rattle.velo_arena.specs.Slots.{limit_of};
     ghost use Rattle.velo_tables.specs.declared.tables.TheConstants.{MOST_PREDECESSORS};
     ghost use Rattle.velo_monitor.specs.Watched.{Watched};
@@ -72,7 +75,7 @@ impl Model for Monitor {
 
     ghost view = { λ m. record { nodes = m.graph; kept = m.tables; depths = m.depths.items } };
 
-    ghost invariant = { λ m. (MOST_PREDECESSORS ≤ m.steps.capacity) × (limit_of m.graph.slots ≤ m.freed.room) };
+    ghost invariant = { λ m. (MOST_PREDECESSORS ≤ m.steps.capacity) × (limit_of m.graph.slots ≤ m.freed.room) × (length m.heirs ≡ limit_of m.graph.slots) };
 }
 
 impl Monitor {
@@ -87,6 +90,7 @@ impl Monitor {
     {
         let graph = Graph::new(alloc, config.nodes)?;
         let freed = Freed::new(alloc, config.nodes)?;
+        let heirs = Heirs::new(alloc, config.nodes)?;
         let tables = Tables::new(alloc, config)?;
         let depths = filled(alloc, 0, config.bounds.threads as usize)?;
         Ok(Monitor {
@@ -95,6 +99,7 @@ impl Monitor {
             depths,
             steps: SmallVec::new(alloc),
             freed,
+            heirs,
         })
     }
 
@@ -152,6 +157,20 @@ impl Monitor {
     {
         self.forget_dead(event);
         self.take_in(position, event)
+    }
+
+    /// Lets finished nodes of one thread that the same unfinished ones reach become the earliest of them. The events are those
+    /// taken in so far. It takes no memory.
+    pub fn compact(&mut self, events: &[Event])
+        requires { (bounds : BoundsOf) × IsMonitorOf bounds self.old events.now }
+        ensures same { (bounds : BoundsOf) → IsMonitorOf bounds self.old events.now → IsMonitorOf bounds self.new events.now }
+        ensures limit { limit_of self.new.nodes.slots ≡ limit_of self.old.nodes.slots }
+        ensures room { (e : EventOf) → HasRoomFor self.old.kept e → HasRoomFor self.new.kept e }
+        ensures few { (bounds : BoundsOf) (t : ℕ) → IsMonitorOf bounds self.old events.now → t < bounds.threads → depth_in events.now t ≡ 0 → used_in self.new.nodes.slots < bounds.threads * bounds.threads }
+    {
+        self.heirs.find(&self.graph, events);
+        self.graph.leave_out(self.heirs.list());
+        self.tables.rename(self.heirs.list());
     }
 
     /// How many slots are in use: at most as many as there are live transactions. Every transaction founds the node of one,

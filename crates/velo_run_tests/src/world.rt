@@ -231,6 +231,49 @@ fn a_full_graph_refuses_a_block(rt: HostRuntime) {
     assert_eq!(rt; played.used, 1);
 }
 
+/// A write in an open block, and five blocks of the other thread that read it.
+const READ_BY_FIVE: [Step; 18] = [
+    (MAIN, Action::Fork(OTHER)),
+    (MAIN, Action::Begin(Label(1))),
+    (MAIN, Action::Write(X, 1)),
+    (OTHER, Action::Begin(Label(2))),
+    (OTHER, Action::Read(X)),
+    (OTHER, Action::End),
+    (OTHER, Action::Begin(Label(2))),
+    (OTHER, Action::Read(X)),
+    (OTHER, Action::End),
+    (OTHER, Action::Begin(Label(2))),
+    (OTHER, Action::Read(X)),
+    (OTHER, Action::End),
+    (OTHER, Action::Begin(Label(2))),
+    (OTHER, Action::Read(X)),
+    (OTHER, Action::End),
+    (OTHER, Action::Begin(Label(2))),
+    (OTHER, Action::Read(X)),
+    (OTHER, Action::End),
+];
+
+/// How many of the outcomes say that the graph is full.
+fn times_full(outcomes: &[Outcome]) -> usize {
+    let mut times = 0;
+    for outcome in outcomes {
+        if *outcome == Err(Refusal::GraphFull) {
+            times += 1;
+        }
+    }
+    times
+}
+
+/// Four nodes are enough for two threads, and three are not: of the blocks that read, each third finds none, as the reads of a
+/// refused one go into the block before.
+#[test]
+fn enough_nodes_are_never_all_in_use(rt: HostRuntime) {
+    for (nodes, full) in [(4, 0), (3, 3), (2, 4)] {
+        let played = play(&rt, rt.alloc(), nodes, false, &READ_BY_FIVE);
+        assert_eq!(rt; times_full(played.outcomes.as_slice()), full);
+    }
+}
+
 /// A recorded lost update.
 const RECORDED: [(ThreadId, Kind); 8] = [
     (MAIN, Kind::Fork(OTHER)),

@@ -1,4 +1,5 @@
 pub mod OnReaders
+pub mod OnRenamed
 pub mod OnKept
 pub mod OnOthers
 pub mod OnCells

@@ -1,8 +1,10 @@
 -- What the tables keep: a step or none at each place.
-use Rattle.std.specs.Prelude.{◌≡◌, ℕ, Bool, false, ◌==◌, ◌&&◌, ◌<◌, ◌≤◌, List, [], Option, None, slice_index_or, length, if◌then◌else◌, ⊤}
+use Rattle.std.specs.Prelude.{◌≡◌, ℕ, Bool, false, ◌==◌, ◌&&◌, ◌<◌, ◌≤◌, List, [], Option, None, slice_index_or, option_map, length, if◌then◌else◌, ⊤}
 use Rattle.std.specs.List.{filter_map}
 use Rattle.std.specs.Int.{bit_at}
 use Rattle.velo_arena.specs.declared.step.Step.{Step}
+use Rattle.velo_arena.specs.declared.step.Heir.{Heir}
+use Rattle.velo_arena.specs.Heirs.{renamed}
 use Rattle.velo_events.specs.declared.event.Event.{Event}
 use Rattle.velo_events.specs.declared.event.Access.{Access}
 use Rattle.velo_events.specs.declared.event.Access.TheVariants.{Shared, Exclusive}
@@ -78,6 +80,11 @@ pub record IsUnchanged (old new : Kept) : Type 0 where
 pub record IsRecorded (old : Kept) (e : Event) (step : Option Step) (new : Kept) : Type 0 where
   pub each : (p : Place) → entry new p ≡ (if is_recorded e p then step else entry old p)
   pub room : (f : Event) → HasRoomFor old f → HasRoomFor new f
+
+-- every place has its step by its heir, where the node of the step has one; no room is lost
+pub record IsRenamed (old : Kept) (heirs : List (Option Heir)) (new : Kept) : Type 0 where
+  pub each : (p : Place) → entry new p ≡ option_map (renamed heirs) (entry old p)
+  pub room : (e : Event) → HasRoomFor old e → HasRoomFor new e
 
 -- the last read of cell x by thread t
 abbrev pub is_last_read : ℕ → ℕ → Place → Bool

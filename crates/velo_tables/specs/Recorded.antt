@@ -1,11 +1,14 @@
 -- What a recorded event leaves in the tables, list by list. Private contracts cite these words: public ones say it place by place.
-use Rattle.std.specs.Prelude.{ℕ, Option, None, slice_set}
+use Rattle.std.specs.Prelude.{ℕ, List, Option, None, map, option_map, slice_set}
 use Rattle.velo_arena.specs.declared.step.Step.{Step}
+use Rattle.velo_arena.specs.declared.step.Heir.{Heir}
+use Rattle.velo_arena.specs.Heirs.{renamed}
 use Rattle.velo_events.specs.declared.event.Event.{Event}
 use Rattle.velo_events.specs.declared.event.Access.{Access}
 use Rattle.velo_events.specs.declared.event.Access.TheVariants.{Shared, Exclusive}
 use Rattle.velo_events.specs.Event.{thread_of, access_of}
 use Rattle.velo_events.specs.Growth.{filled_up}
+use Rattle.velo_tables.specs.declared.cells.LastAccesses.{LastAccesses}
 use Rattle.velo_tables.specs.Kept.{Kept, Accesses, accesses_of}
 
 abbrev pub with_write : Accesses → Option Step → Accesses
@@ -33,3 +36,14 @@ kept_after_beside kept t _ step = kept
 
 unfoldable pub kept_after : Kept → Event → Option Step → Kept
 kept_after kept e step = kept_after_beside (with_thread kept (thread_of e) step) (thread_of e) (access_of e.kind) step
+
+-- a cell with the step of its last write by its heir
+abbrev pub with_write_by : List (Option Heir) → LastAccesses → LastAccesses
+with_write_by heirs cell = record { write = option_map (renamed heirs) cell.write; readers = cell.readers; reads = cell.reads }
+
+-- the accesses of a cell with each step by its heir
+abbrev pub with_heirs : List (Option Heir) → Accesses → Accesses
+with_heirs heirs accesses = record { write = option_map (renamed heirs) accesses.write; reads = map (option_map (renamed heirs)) accesses.reads }
+
+abbrev pub kept_by : List (Option Heir) → Kept → Kept
+kept_by heirs kept = record { threads = map (option_map (renamed heirs)) kept.threads; cells = map (with_heirs heirs) kept.cells }

@@ -1,5 +1,5 @@
 ghost use Rattle.velo_events.specs.Refusals.{GrowthRefused};
-ghost use Rattle.std.specs.Prelude.{◌≡◌, ◌<◌, ◌≤◌, ◌+◌, ◌++◌, List, [], Option, None, length, slice_index_or, slice_set, vec_capacity, IsTrue, ◌↔◌, OnOk, OnErr};
+ghost use Rattle.std.specs.Prelude.{◌≡◌, ◌<◌, ◌≤◌, ◌+◌, ◌++◌, List, [], Option, None, length, slice_index_or, slice_set, map, vec_capacity, IsTrue, ◌↔◌, OnOk, OnErr};
 ghost use Rattle.std.specs.List.{filter_map};
 ghost use Rattle.std.specs.Option.{option_to_list};
 ghost use Rattle.smallvec.specs.SmallVec.{HasRoomFor};
@@ -11,14 +11,15 @@ ghost use Rattle.velo_events.specs.Growth.{filled_up};
 ghost use Rattle.velo_tables.specs.Kept.{no_accesses};
 ghost use Rattle.velo_tables.specs.Others.{but_for, steps_of};
 ghost use Rattle.velo_tables.specs.Cells.{reads_in};
-ghost use Rattle.velo_tables.specs.Recorded.{with_write, with_read, with_reads_of};
+ghost use Rattle.velo_arena.specs.Heirs.{renamed};
+ghost use Rattle.velo_tables.specs.Recorded.{with_write, with_read, with_reads_of, with_heirs, with_write_by};
 
-use crate::entry::{Entry, entry_at};
+use crate::entry::{Entry, entry_at, rename_entries};
 use crate::tables::MOST_PREDECESSORS;
 use smallvec::SmallVec;
 use std::alloc::Global;
 use std::marker::Model;
-use velo_arena::Step;
+use velo_arena::{Heir, Step};
 use velo_events::growth::{fill_up_to, reserve};
 use velo_events::{Cell, Memory, ThreadId};
 
@@ -151,6 +152,28 @@ fn append_longer(entries: &mut Vec<Entry>, reads: Reads, count: usize)
     }
 }
 
+impl LastAccesses {
+    /// The accesses with the step of the last write by its heir.
+    fn renamed(self, heirs: &[Option<Heir>]) -> LastAccesses
+        ensures { result ≡ with_write_by heirs.now self }
+    {
+        LastAccesses {
+            write: self.write.renamed(heirs),
+            ..self
+        }
+    }
+}
+
+/// Puts the step of each last write by its heir.
+fn rename_writes(cells: &mut [LastAccesses], heirs: &[Option<Heir>])
+    ensures { cells.new ≡ map (with_write_by heirs.now) cells.old }
+{
+    for number in 0..cells.len() {
+        let cell = cells[number];
+        cells[number] = cell.renamed(heirs);
+    }
+}
+
 impl Cells {
     /// No cell.
     pub fn new(alloc: Global) -> Cells
@@ -215,8 +238,7 @@ impl Cells {
     pub fn has_room_to_read(&self, c: Cell, t: ThreadId) -> bool
         ensures { IsTrue result ↔ ((c.0 < length self.now) × (t.0 < length (slice_index_or self.now c.0 no_accesses).reads)) }
     {
-        (c.0 as usize) < self.cells.len()
-            && (t.0 as usize) < self.cells[c.0 as usize].reads.count
+        (c.0 as usize) < self.cells.len() && (t.0 as usize) < self.cells[c.0 as usize].reads.count
     }
 
     /// Whether there is room for a write of the cell.
@@ -315,6 +337,14 @@ impl Cells {
             let readers = without_reader(self.readers(c), t);
             self.put_read(c, t, readers, None);
         }
+    }
+
+    /// Puts each step by its heir.
+    pub fn rename(&mut self, heirs: &[Option<Heir>])
+        ensures { self.new ≡ map (with_heirs heirs.now) self.old }
+    {
+        rename_writes(&mut self.cells, heirs);
+        rename_entries(&mut self.reads, heirs);
     }
 
     /// Puts the step, or none, in the place of the thread's last read, and these bits in that of the cell's readers.

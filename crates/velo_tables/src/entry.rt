@@ -1,7 +1,8 @@
-ghost use Rattle.std.specs.Prelude.{◌≡◌, None, slice_index_or};
+ghost use Rattle.std.specs.Prelude.{◌≡◌, None, map, option_map, slice_index_or};
+ghost use Rattle.velo_arena.specs.Heirs.{renamed};
 
 use std::marker::Model;
-use velo_arena::Step;
+use velo_arena::{Heir, Step};
 
 /// A step or none, in eight bytes.
 #[derive(Clone, Copy, Debug)]
@@ -60,6 +61,16 @@ impl Entry {
             None
         }
     }
+
+    /// The entry with its step by its heir.
+    pub fn renamed(self, heirs: &[Option<Heir>]) -> Entry
+        ensures { result ≡ option_map (renamed heirs.now) self }
+    {
+        match self.step() {
+            Some(step) => Entry::new(Some(step.renamed(heirs))),
+            None => self,
+        }
+    }
 }
 
 /// The step of the entry with this number, or none where there is no room for it.
@@ -71,5 +82,15 @@ pub(crate) fn entry_at(entries: &[Entry], number: usize) -> Option<Step>
         entry.step()
     } else {
         None
+    }
+}
+
+/// Puts each step by its heir.
+pub(crate) fn rename_entries(entries: &mut [Entry], heirs: &[Option<Heir>])
+    ensures { entries.new ≡ map (option_map (renamed heirs.now)) entries.old }
+{
+    for number in 0..entries.len() {
+        let entry = entries[number];
+        entries[number] = entry.renamed(heirs);
     }
 }

@@ -6,17 +6,17 @@ ghost use Rattle.smallvec.specs.SmallVec.{HasRoomFor as HasSpace};
 ghost use Rattle.velo_events.specs.declared.limits.TheConstants.{MOST_THREADS};
 ghost use Rattle.velo_tables.specs.declared.tables.TheConstants.{MOST_PREDECESSORS};
 ghost use Rattle.velo_events.specs.Place.{LastOf, LastWrite, LastRead, thread_numbers};
-ghost use Rattle.velo_tables.specs.Kept.{entry, no_accesses, steps_looked_up, HasItsThreads, HasRoomFor, HasRoomToRead, HasRoomBeside, CoverReaders, IsBlank, IsUnchanged, IsRecorded, IsReadForgotten, accesses_of};
+ghost use Rattle.velo_tables.specs.Kept.{entry, no_accesses, steps_looked_up, HasItsThreads, HasRoomFor, HasRoomToRead, HasRoomBeside, CoverReaders, IsBlank, IsUnchanged, IsRecorded, IsReadForgotten, IsRenamed, accesses_of};
 ghost use Rattle.velo_tables.specs.Others.{but_for, accesses_but_for};
 ghost use Rattle.velo_events.specs.Event.{thread_of, access_of, is_exclusive};
-ghost use Rattle.velo_tables.specs.Recorded.{kept_after, kept_after_beside, with_cell, with_read};
+ghost use Rattle.velo_tables.specs.Recorded.{kept_after, kept_after_beside, kept_by, with_cell, with_read};
 
 use crate::cells::{Cells, push_step};
-use crate::entry::{Entry, entry_at};
+use crate::entry::{Entry, entry_at, rename_entries};
 use smallvec::SmallVec;
 use std::alloc::Global;
 use std::marker::Model;
-use velo_arena::Step;
+use velo_arena::{Heir, Step};
 use velo_events::growth::resize;
 use velo_events::{Access, Cell, Config, Event, MOST_THREADS, Memory, ThreadId};
 
@@ -231,6 +231,21 @@ impl Tables {
         ensures { self.new ≡ with_cell self.old c.0 (with_read (accesses_of self.old c.0) t.0 None) }
     {
         self.cells.forget_read(c, t);
+    }
+
+    /// Puts each step by its heir, where its node has one in the list, which is by slot.
+    pub fn rename(&mut self, heirs: &[Option<Heir>])
+        ensures renamed { IsRenamed self.old heirs.now self.new }
+        ensures threads { length self.new.threads ≡ length self.old.threads }
+    {
+        self.rename_in_place(heirs);
+    }
+
+    fn rename_in_place(&mut self, heirs: &[Option<Heir>])
+        ensures { self.new ≡ kept_by heirs.now self.old }
+    {
+        rename_entries(&mut self.threads, heirs);
+        self.cells.rename(heirs);
     }
 
     /// Puts the steps that the event looks up into the list, in place of what it had: first that of the thread's last

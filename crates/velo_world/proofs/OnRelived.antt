@@ -129,13 +129,13 @@ first_flaw bounds log i p e flaw here well at flawed =
 
 -- which limit was met
 limit_in_log : (config : Config) (log : List Event) (i : ℕ) (e : Event) (p : ℕ) (refusal : Refusal) → slice_get log i ≡ Some e → i ≡ p → length (take i log) ≤ config.events
-    → IsLimit config (take i log) e refusal → ((refusal ≡ LogFull) × (p ≡ config.events)) ⊎ ((refusal ≡ GraphFull) × (p < config.events) × FindsNoNodeAt config.nodes log p)
+    → IsLimit config (take i log) e refusal → ((refusal ≡ LogFull) × (p ≡ config.events)) ⊎ ((refusal ≡ GraphFull) × (p < config.events) × FindsNoNodeAt config.bounds.threads config.nodes log p)
 limit_in_log config log i e p refusal here same short (inl (full, limit)) =
     let count : length (take i log) ≡ i = length-before log i e here in
     inl (full, omega (arith, same, count, short, limit))
 limit_in_log config log i e p refusal here same short (inr (full, room, graph)) =
     let count : length (take i log) ≡ i = length-before log i e here in
-    inr (full, omega (arith, same, count, room), subst (λ n. FindsNoNodeAt config.nodes log n) same (record { event = e; here = here; finds_none = graph }))
+    inr (full, omega (arith, same, count, room), subst (λ n. FindsNoNodeAt config.bounds.threads config.nodes log n) same (record { event = e; here = here; finds_none = graph }))
 
 pub fault_in_log : (config : Config) (log : List Event) (i : ℕ) (e : Event) (fault : ReliveFault) → slice_get log i ≡ Some e
     → IsWellFormed config.bounds (take i log) → length (take i log) ≤ config.events → IsFaultAtEvent config (take i log) e fault → IsFaultOfLog config log fault

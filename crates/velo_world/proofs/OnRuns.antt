@@ -1,5 +1,5 @@
 -- The events that the monitor of a run took in.
-use Rattle.std.proofs.Common.{◌≡◌, ℕ, ◌≤◌, List, [], ◌∷◌, ◌++◌, length, take, take_all, Option, Some, None, Result, Ok, Err, refl, sym, ap, ◌∙◌, subst, arith, inl, inr, ⊎_elim}
+use Rattle.std.proofs.Common.{◌≡◌, ℕ, ◌<◌, ◌≤◌, List, [], ◌∷◌, ◌++◌, length, take, take_all, Option, Some, None, Result, Ok, Err, refl, sym, ap, ◌∙◌, subst, arith, inl, inr, ⊎_elim}
 use Rattle.std.specs.Prelude.{IsTrue, IsFalse, is_some, filter_map, OnOk}
 use Rattle.std.proofs.lemmas.Bool.{false≢true}
 use Rattle.std.proofs.lemmas.List.{take-append-le}
@@ -147,6 +147,22 @@ IsRunOf-reserved run monitor clocks trace same known bounds_are is = record {
     bounds_are = bounds_are ∙ is.watched.bounds_are;
   };
 }
+
+-- and so does a monitor of the same events after a compaction
+pub IsRunOf-compacted : (run : Run) (monitor : Watched) (trace : List Event) → IsFalse (is_some run.alarm) → ((bounds : Bounds) → IsMonitorOf bounds run.monitor trace → IsMonitorOf bounds monitor trace) → IsRunOf run trace → IsRunOf (record run { monitor = monitor }) trace
+IsRunOf-compacted run monitor trace quiet same is = record {
+  heap = is.heap;
+  watched = record {
+    alarm = is.watched.alarm;
+    monitor = subst (IsMonitorOf (bounds_of run.heap) monitor) (sym (events_watched-none trace run.alarm quiet)) (same (bounds_of run.heap) (monitor-quiet run (bounds_of run.heap) trace quiet is.watched));
+    clocks = is.watched.clocks;
+    bounds_are = is.watched.bounds_are;
+  };
+}
+
+-- where fewer are in use than so many, and these are at most the limit, one is free
+pub slot-left : (run : Run) (trace : List Event) (e : Event) (many : ℕ) → used_in run.monitor.nodes.slots < many → many ≤ limit_of run.monitor.nodes.slots → HasSlotFor run trace e
+slot-left run trace e many few within = record { slot = λ none needs. omega (arith, few, within) }
 
 -- the heap goes on beside them
 pub IsRunOf-applied : (run : Run) (heap : Contents) (bounds : Bounds) (trace : List Event) → IsHeapOf heap trace → bounds_of heap ≡ bounds → IsWatched run bounds trace → IsRunOf (record run { heap = heap }) trace

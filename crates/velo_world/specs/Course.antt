@@ -25,7 +25,7 @@ pub record IsCourseOfItsLog (c : Course) : Type 0 where
 
 -- a growth for the event was refused, or it finds no node
 abbrev pub FindsNoRoom : WorldState → Event → Refusal → Type 0
-FindsNoRoom w e refusal = ((refusal ≡ Memory) × GrowthRefused) ⊎ ((refusal ≡ GraphFull) × FindsNoNode w.log e w.config.nodes)
+FindsNoRoom w e refusal = ((refusal ≡ Memory) × GrowthRefused) ⊎ ((refusal ≡ GraphFull) × FindsNoNode w.config.bounds.threads w.log e w.config.nodes)
 
 -- the event that is due was added to the log, and the reply is the one to it
 pub record AddsToLog (w : WorldState) (t : ThreadId) (action : Action) (e : Event) (reply : Reply) (w' : WorldState) : Type 0 where

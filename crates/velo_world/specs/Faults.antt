@@ -20,7 +20,7 @@ world_of config log = record { config = config; halted = false; log = log }
 -- the log is full, or it is not and the event finds no node
 abbrev pub IsLimit : Config → List Event → Event → Refusal → Type 0
 IsLimit config log e refusal = ((refusal ≡ LogFull) × (config.events ≤ length log))
-    ⊎ ((refusal ≡ GraphFull) × (length log < config.events) × FindsNoNode log e config.nodes)
+    ⊎ ((refusal ≡ GraphFull) × (length log < config.events) × FindsNoNode config.bounds.threads log e config.nodes)
 
 -- why the event does not come next: a refusal, a wrong value, or a limit, in this order; or a growth was refused
 abbrev pub IsFaultAtEvent : Config → List Event → Event → ReliveFault → Type 0
@@ -31,10 +31,10 @@ IsFaultAtEvent config log e (WrongValue p) = (p ≡ length log) × (flaw_of conf
 IsFaultAtEvent config log e Memory = GrowthRefused
 
 -- the event at position p finds no node
-pub record FindsNoNodeAt (nodes : ℕ) (log : List Event) (p : ℕ) : Type 0 where
+pub record FindsNoNodeAt (threads nodes : ℕ) (log : List Event) (p : ℕ) : Type 0 where
   pub event : Event
   pub here : slice_get log p ≡ Some event
-  pub finds_none : FindsNoNode (take p log) event nodes
+  pub finds_none : FindsNoNode threads (take p log) event nodes
 
 -- The first event that can't come about, at position p within the limit, is refused for this reason; or the events up to p
 -- came about, and p is at the limit of events or, before it, at the limit of nodes.
@@ -42,7 +42,7 @@ abbrev pub IsRefusedAt : ℕ → ℕ → Bounds → List Event → ℕ → Refus
 IsRefusedAt limit nodes bounds log p refusal =
     (IsFirstFlaw bounds log p (flaw.Refused refusal) × (p ≤ limit))
     ⊎ ((p < length log) × IsWellFormed bounds (take (p + 1) log)
-    × (((refusal ≡ LogFull) × (p ≡ limit)) ⊎ ((refusal ≡ GraphFull) × (p < limit) × FindsNoNodeAt nodes log p)))
+    × (((refusal ≡ LogFull) × (p ≡ limit)) ⊎ ((refusal ≡ GraphFull) × (p < limit) × FindsNoNodeAt bounds.threads nodes log p)))
 
 -- the first event that can't come about, at position p within the limit, reads a value that its variable does not have
 pub record IsWrongValueAt (limit : ℕ) (bounds : Bounds) (log : List Event) (p : ℕ) : Type 0 where

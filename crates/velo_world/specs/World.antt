@@ -1,5 +1,5 @@
 -- A world as callers see it: its log tells heap, alarm and book, and an action is one event or a refusal.
-use Rattle.std.specs.Prelude.{◌≡◌, ◌≢◌, ◌≤◌, ◌<◌, ◌↔◌, ◌⊎◌, ◌&&◌, ℕ, Bool, true, false, List, [], ◌∷◌, ◌++◌, length, ⊤, Option, Some, None, Result, Ok, Err, IsOk, IsTrue, slice_get, slice_set, sum_by, map, take}
+use Rattle.std.specs.Prelude.{◌≡◌, ◌≢◌, ◌*◌, ◌≤◌, ◌<◌, ◌↔◌, ◌⊎◌, ◌&&◌, ℕ, Bool, true, false, List, [], ◌∷◌, ◌++◌, length, ⊤, Option, Some, None, Result, Ok, Err, IsOk, IsTrue, slice_get, slice_set, sum_by, map, take}
 use Rattle.velo_events.specs.declared.config.Config.{Config}
 use Rattle.velo_events.specs.declared.event.Action.{Action}
 use Rattle.velo_events.specs.declared.event.Action.TheVariants.{Fork}
@@ -138,18 +138,19 @@ pub record AddsEvent (w : WorldState) (share : Holding) (e : Event) (reply : Rep
   pub holding : share' ≡ with_tally share (with_event share.tally (length w.log) e)
   pub later : share.tally.next ≤ reply.position
 
--- an event after the log may find no node: no alarm is kept, the event's thread has no block open, and at least as many
--- transactions are live as there may be nodes
-pub record FindsNoNode (log : List Event) (e : Event) (nodes : ℕ) : Type 0 where
+-- an event after the log may find no node: no alarm is kept, the event's thread has no block open, at least as many transactions
+-- are live as there may be nodes, and these are fewer than the threads squared
+pub record FindsNoNode (threads : ℕ) (log : List Event) (e : Event) (nodes : ℕ) : Type 0 where
   pub no_alarm : ¬ HasCycle log
   pub outside : depth_in log (thread_of e) ≡ 0
   pub many_live : HasManyLive log nodes
+  pub few_nodes : nodes < threads * threads
 
 -- an event is due, and may find no node
 pub record FillsGraph (w : WorldState) (due : Result Event Refusal) : Type 0 where
   pub event : Event
   pub is_due : due ≡ Ok event
-  pub finds_none : FindsNoNode w.log event w.config.nodes
+  pub finds_none : FindsNoNode w.config.bounds.threads w.log event w.config.nodes
 
 -- nothing changed, shares neither, and the refusal is the one that is due; or memory for the due event was refused, or the
 -- graph is full

@@ -67,7 +67,10 @@ impl Course {
         ensures room { OnOk result (HasRoomForNext self.new.run self.new.log.events event.now) }
         ensures none { IfErr result (λ refusal. FindsNoRoom (course_of self.old) event.now refusal) }
     {
-        if self.run.has_no_node_for(event, self.config.nodes) {
+        if self
+            .run
+            .has_no_node_for(self.log.as_slice(), event, &self.config)
+        {
             return Err(Refusal::GraphFull);
         }
         if self.log.reserve_one().is_err() {

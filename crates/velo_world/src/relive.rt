@@ -154,7 +154,7 @@ impl Relived {
                 refusal: Refusal::LogFull,
             });
         }
-        if self.run.has_no_node_for(event, config.nodes) {
+        if self.run.has_no_node_for(&events[..position], event, config) {
             return Err(ReliveFault::Refused {
                 position,
                 refusal: Refusal::GraphFull,

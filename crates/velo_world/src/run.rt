@@ -1,8 +1,9 @@
 //! What follows from the events of a run.
 ghost use Rattle.velo_events.specs.Refusals.{GrowthRefused};
-ghost use Rattle.std.specs.Prelude.{◌≡◌, [], ◌∷◌, ◌++◌, List, Some, take, slice_get, IsTrue, IsFalse, IfOk, OnOk, OnErr};
+ghost use Rattle.std.specs.Prelude.{◌≡◌, [], ◌∷◌, ◌++◌, List, Some, None, take, slice_get, IsTrue, IsFalse, IfOk, OnOk, OnErr};
 ghost use Rattle.velo_events.specs.declared.event.Event.{Event as EventOf};
 ghost use Rattle.velo_events.specs.Block.{owner};
+ghost use Rattle.velo_events.specs.Collection.{HasManyLive};
 ghost use Rattle.velo_events.specs.Graph.{HasCycle};
 ghost use Rattle.velo_events.specs.WellFormed.{IsWellFormed, MayFollow};
 ghost use Rattle.velo_arena.specs.Slots.{limit_of};
@@ -79,20 +80,54 @@ impl Run {
         })
     }
 
-    /// Whether the next event needs a node, and all that there may be are in use. After an alarm no event needs one.
+    /// Whether the next event needs a node, and there is none for it: all that there may be are in use, and these are too few
+    /// for a compaction. After an alarm no event needs one. The events are those so far.
     #[inline]
-    pub fn has_no_node_for(&self, event: &Event, nodes: u16) -> bool
-        requires limit { limit_of self.now.monitor.nodes.slots ≡ nodes }
-        ensures slot { IsFalse result → (trace : List EventOf) → IsRunOf self.now trace → MayFollow (bounds_of self.now.heap) trace event.now → HasSlotFor self.now trace event.now }
-        ensures full { IsTrue result → (trace : List EventOf) → IsRunOf self.now trace → MayFollow (bounds_of self.now.heap) trace event.now → FindsNoNode trace event.now nodes }
+    pub fn has_no_node_for(&mut self, events: &[Event], event: &Event, config: &Config) -> bool
+        requires limit { limit_of self.old.monitor.nodes.slots ≡ config.now.nodes }
+        requires bounds { bounds_of self.old.heap ≡ config.now.bounds }
+        requires stands { IsRunOf self.old events.now }
+        requires follows { MayFollow (bounds_of self.old.heap) events.now event.now }
+        ensures heap { self.new.heap ≡ self.old.heap }
+        ensures limit { limit_of self.new.monitor.nodes.slots ≡ config.now.nodes }
+        ensures stands { IsRunOf self.new events.now }
+        ensures slot { IsFalse result → HasSlotFor self.new events.now event.now }
+        ensures full { IsTrue result → FindsNoNode config.now.bounds.threads events.now event.now config.now.nodes }
     {
         if self.alarm.is_some() {
             return false;
         }
-        if self.monitor.used() < nodes {
+        if self.monitor.used() < config.nodes {
             return false;
         }
-        self.monitor.needs_node(event)
+        self.is_full_for(events, event, config)
+    }
+
+    /// The same where all nodes that there may be are in use and no alarm is kept. If they are enough for it, a compaction leaves
+    /// one for the event.
+    #[inline(never)]
+    fn is_full_for(&mut self, events: &[Event], event: &Event, config: &Config) -> bool
+        requires quiet { self.old.alarm ≡ None }
+        requires many { HasManyLive events.now config.now.nodes }
+        requires limit { limit_of self.old.monitor.nodes.slots ≡ config.now.nodes }
+        requires bounds { bounds_of self.old.heap ≡ config.now.bounds }
+        requires stands { IsRunOf self.old events.now }
+        requires follows { MayFollow (bounds_of self.old.heap) events.now event.now }
+        ensures heap { self.new.heap ≡ self.old.heap }
+        ensures limit { limit_of self.new.monitor.nodes.slots ≡ config.now.nodes }
+        ensures stands { IsRunOf self.new events.now }
+        ensures slot { IsFalse result → HasSlotFor self.new events.now event.now }
+        ensures full { IsTrue result → FindsNoNode config.now.bounds.threads events.now event.now config.now.nodes }
+    {
+        if !self.monitor.needs_node(event) {
+            return false;
+        }
+        let threads = config.bounds.threads as u16;
+        if config.nodes < threads * threads {
+            return true;
+        }
+        self.monitor.compact(events);
+        false
     }
 
     /// Makes room for the next event, which finds a slot for its node if it needs one. After an alarm no event needs room.

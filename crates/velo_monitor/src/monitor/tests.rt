@@ -1,6 +1,10 @@
 ghost use Rattle.std.specs.Prelude.{◌<◌, IfOk, IsTrue};
+ghost use Rattle.velo_events.specs.declared.event.Event.{Event as EventOf};
 ghost use Rattle.velo_arena.specs.Slots.{used_in, limit_of};
-ghost use Rattle.velo_events.specs.WellFormed.{IsWellFormed};
+ghost use Rattle.velo_events.specs.WellFormed.{IsWellFormed, MayFollow};
+ghost use Rattle.velo_tables.specs.Kept.{HasRoomFor};
+ghost use Rattle.velo_monitor.specs.Watched.{IsMonitorOf};
+ghost use Rattle.velo_monitor.specs.Answers.{NeedsNode};
 
 use super::{Monitor, Seen};
 use std::alloc::Global;
@@ -61,11 +65,36 @@ fn look(rt: &impl Abort, monitor: &Monitor, nodes: &[Node]) {
     }
 }
 
+/// Lets the monitor of the events compact, if a slot is needed and none is free.
+fn make_slot(monitor: &mut Monitor, events: &[Event], needs_node: bool)
+    requires { IsMonitorOf BOUNDS monitor.old events.now }
+    ensures same { IsMonitorOf BOUNDS monitor.new events.now }
+    ensures room { (e : EventOf) → HasRoomFor monitor.old.kept e → HasRoomFor monitor.new.kept e }
+{
+    if needs_node && monitor.used() == monitor.graph.limit() {
+        monitor.compact(events);
+    }
+}
+
 /// Whether there is a free slot, if one is needed.
 fn has_slot(monitor: &Monitor, needs_node: bool) -> bool
     ensures { IsTrue result → IsTrue needs_node → used_in monitor.now.nodes.slots < limit_of monitor.now.nodes.slots }
 {
     !needs_node || monitor.used() < monitor.graph.limit()
+}
+
+/// Whether the event after these needs a node, and whether there is a slot for it, where the monitor compacts if there was none.
+fn find_slot(monitor: &mut Monitor, events: &[Event], event: &Event) -> (bool, bool)
+    requires stands { IsMonitorOf BOUNDS monitor.old events.now }
+    requires follows { MayFollow BOUNDS events.now event.now }
+    ensures same { IsMonitorOf BOUNDS monitor.new events.now }
+    ensures room { (e : EventOf) → HasRoomFor monitor.old.kept e → HasRoomFor monitor.new.kept e }
+    ensures slot { IsTrue result.1 → NeedsNode monitor.new events.now event.now → used_in monitor.new.nodes.slots < limit_of monitor.new.nodes.slots }
+{
+    let needs_node = monitor.needs_node(event);
+    make_slot(monitor, events, needs_node);
+    let needs_still = monitor.needs_node(event);
+    (needs_node, has_slot(monitor, needs_still))
 }
 
 /// The events of the rows as a trace, which can come about.
@@ -85,7 +114,8 @@ fn trace_of(alloc: Global, rows: &[Row]) -> Result<Trace, Fail>
     }
 }
 
-/// Lets a monitor of so many nodes observe the events up to the one that closes a cycle, and looks at it after each.
+/// Lets a monitor of so many nodes observe the events up to the one that closes a cycle, and looks at it after each. It compacts
+/// where all nodes are in use and one is needed.
 fn play(rt: &impl Abort, alloc: Global, nodes: u16, rows: &[Row]) -> Result<(), Fail> {
     let config = Config::new(1, BOUNDS, 100, nodes, false)?;
     let mut monitor = Monitor::new(alloc, &config)?;
@@ -97,9 +127,9 @@ fn play(rt: &impl Abort, alloc: Global, nodes: u16, rows: &[Row]) -> Result<(), 
         let event = events[i];
         let (_, _, needs, seen, after) = rows[i];
         monitor.reserve(&event)?;
-        let needs_node = monitor.needs_node(&event);
+        let (needs_node, has_slot) = find_slot(&mut monitor, &events[..i], &event);
         assert_eq!(rt; needs_node, needs, "{i}");
-        assert!(rt; has_slot(&monitor, needs_node));
+        assert!(rt; has_slot);
         let answer = monitor.observe(i, &event);
         assert_eq!(rt; answer, seen, "{i}");
         look(rt, &monitor, after);
@@ -175,6 +205,61 @@ fn slots_are_used_again(rt: HostRuntime) -> Result<(), Fail> {
             (0, Kind::Read(X, 1), false, Seen::Quiet, second),
             (1, Kind::Write(X, 2), false, Seen::Quiet, second),
             (1, Kind::End, false, Seen::Quiet, &[]),
+        ],
+    )
+}
+
+/// Four nodes are enough for two threads: of the blocks that read what an open block wrote, the later ones become the first. The
+/// block's next write closes a cycle through them.
+#[test]
+fn later_blocks_give_way(rt: HostRuntime) -> Result<(), Fail> {
+    let open: &[Node] = &[(1, false, &[])];
+    let begun: &[Node] = &[(1, false, &[]), (3, false, &[])];
+    let read: &[Node] = &[(1, false, &[]), (3, false, &[1])];
+    let ended: &[Node] = &[(1, false, &[]), (3, true, &[1])];
+    let second: &[Node] = &[(1, false, &[]), (3, true, &[1]), (6, false, &[1, 3])];
+    let two: &[Node] = &[(1, false, &[]), (3, true, &[1]), (6, true, &[1, 3])];
+    let third: &[Node] = &[
+        (1, false, &[]),
+        (3, true, &[1]),
+        (6, true, &[1, 3]),
+        (9, false, &[1, 3, 6]),
+    ];
+    let three: &[Node] = &[
+        (1, false, &[]),
+        (3, true, &[1]),
+        (6, true, &[1, 3]),
+        (9, true, &[1, 3, 6]),
+    ];
+    let fourth: &[Node] = &[(1, false, &[]), (3, true, &[1]), (12, false, &[1, 3])];
+    let left: &[Node] = &[(1, false, &[]), (3, true, &[1]), (12, true, &[1, 3])];
+    play(
+        &rt,
+        rt.alloc(),
+        4,
+        &[
+            (0, Kind::Fork(ThreadId(1)), false, Seen::Quiet, &[]),
+            (0, Kind::Begin(Label(1)), true, Seen::Quiet, open),
+            (0, Kind::Write(X, 1), false, Seen::Quiet, open),
+            (1, Kind::Begin(Label(2)), true, Seen::Quiet, begun),
+            (1, Kind::Read(X, 1), false, Seen::Quiet, read),
+            (1, Kind::End, false, Seen::Quiet, ended),
+            (1, Kind::Begin(Label(2)), true, Seen::Quiet, second),
+            (1, Kind::Read(X, 1), false, Seen::Quiet, second),
+            (1, Kind::End, false, Seen::Quiet, two),
+            (1, Kind::Begin(Label(2)), true, Seen::Quiet, third),
+            (1, Kind::Read(X, 1), false, Seen::Quiet, third),
+            (1, Kind::End, false, Seen::Quiet, three),
+            (1, Kind::Begin(Label(2)), true, Seen::Quiet, fourth),
+            (1, Kind::Read(X, 1), false, Seen::Quiet, fourth),
+            (1, Kind::End, false, Seen::Quiet, left),
+            (
+                0,
+                Kind::Write(X, 2),
+                false,
+                Seen::Closes { transaction: 1 },
+                left,
+            ),
         ],
     )
 }

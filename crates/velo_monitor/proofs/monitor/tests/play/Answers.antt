@@ -16,6 +16,16 @@ use Rattle.velo_monitor.proofs.monitor.tests.play.Goals as goal
 abbrev blank : Event
 blank = record { thread = record { 0 = 0 }; kind = Read (record { 0 = 0 }) 0 }
 
+pub find_slot-needs_node-requires-clause-stands : goal.find_slot-needs_node-requires-clause-stands
+find_slot-needs_node-requires-clause-stands g c = c.reserve.ensures.same BOUNDS (take c.loop-i.i-counter c.as_slice-events.result.now) c.loop-i.invariant
+
+pub find_slot-needs_node-requires-clause-follows : goal.find_slot-needs_node-requires-clause-follows
+find_slot-needs_node-requires-clause-follows g c =
+    let events = c.as_slice-events.result.now in
+    let i = c.loop-i.i-counter in
+    let well : IsWellFormed BOUNDS events = subst (λ (es : List Event). IsWellFormed BOUNDS es) (sym c.as_slice-events.ensures) c.in_ok-trace.ensures in
+    well.each i (get_or events i blank) (slice_get-get_or events i blank (omega (arith, c.loop-i-test.true)))
+
 pub observe-answer-requires : goal.observe-answer-requires
 observe-answer-requires g c =
     let events = c.as_slice-events.result.now in
@@ -23,9 +33,9 @@ observe-answer-requires g c =
     let before = take i events in
     let inside : i < length events = omega (arith, c.loop-i-test.true) in
     let well : IsWellFormed BOUNDS events = subst (λ (es : List Event). IsWellFormed BOUNDS es) (sym c.as_slice-events.ensures) c.in_ok-trace.ensures in
-    let stands = c.reserve.ensures.same BOUNDS before c.loop-i.invariant in
+    let stands = c.find_slot-needs_node.ensures.same in
     let follows = well.each i (get_or events i blank) (slice_get-get_or events i blank inside) in
-    let has : IsTrue c.has_slot.result = first_of (cc, search rules) in
+    let has : IsTrue c.find_slot-needs_node.result.1 = first_of (cc, search rules) in
     record {
       bounds = BOUNDS;
       trace = before;
@@ -33,8 +43,8 @@ observe-answer-requires g c =
       at_end = sym (length-take-le i events (omega (arith, inside)));
       within = omega arith;
       follows = follows;
-      room = c.in_ok-reserve.ensures.room BOUNDS before c.loop-i.invariant follows;
-      slot = λ needs. c.has_slot.ensures has ((c.needs_node-needs_node.ensures.exact BOUNDS before stands follows).1 needs);
+      room = c.find_slot-needs_node.ensures.room (get_or events i blank) (c.in_ok-reserve.ensures.room BOUNDS before c.loop-i.invariant follows);
+      slot = c.find_slot-needs_node.ensures.slot has;
     }
 
 pub loop-i-preserved : goal.loop-i-preserved
@@ -44,8 +54,8 @@ loop-i-preserved g c =
     let before = take i events in
     let inside : i < length events = omega (arith, c.loop-i-test.true) in
     let well : IsWellFormed BOUNDS events = subst (λ (es : List Event). IsWellFormed BOUNDS es) (sym c.as_slice-events.ensures) c.in_ok-trace.ensures in
-    let stands = c.reserve.ensures.same BOUNDS before c.loop-i.invariant in
+    let stands = c.find_slot-needs_node.ensures.same in
     let follows = well.each i (get_or events i blank) (slice_get-get_or events i blank inside) in
     let seen = c.observe-answer.ensures.seen BOUNDS before stands (sym (length-take-le i events (omega (arith, inside)))) follows in
-    let quiet : IsSeen BOUNDS c.reserve.new.self before (get_or events i blank) Quiet c.observe-answer.new.self = subst (λ (s : Seen). IsSeen BOUNDS c.reserve.new.self before (get_or events i blank) s c.observe-answer.new.self) c.in-Quiet.is seen in
+    let quiet : IsSeen BOUNDS c.find_slot-needs_node.new.monitor before (get_or events i blank) Quiet c.observe-answer.new.self = subst (λ (s : Seen). IsSeen BOUNDS c.find_slot-needs_node.new.monitor before (get_or events i blank) s c.observe-answer.new.self) c.in-Quiet.is seen in
     subst (λ (es : List Event). IsMonitorOf BOUNDS c.observe-answer.new.self es) (sym (take_more events i blank inside)) quiet.1

@@ -8,17 +8,21 @@ use Rattle.velo_world.proofs.OnRelived.{flaw-by, follows-by}
 use Rattle.std.proofs.lemmas.Grind.{elements}
 use Rattle.velo_world.proofs.relive.Relived.make_room.Goals as goal
 
+pub has_no_node_for-requires-clause-follows : goal.has_no_node_for-requires-clause-follows
+has_no_node_for-requires-clause-follows c =
+    let heap = c.requires.stands.run.heap in
+    MayFollow-from_no_flaw _ _ c.args.event.now heap.well_formed (sym (c.flaw_in.ensures _ heap) ∙ c.in-None.is)
+
 pub returns-then-has_no_node_for-clause-fault : goal.returns-then-has_no_node_for-clause-fault
 returns-then-has_no_node_for-clause-fault c =
     let here = length-before c.args.events.now c.args.position c.args.event.now c.requires.here in
     let stands = c.requires.stands in
     let none = sym (c.flaw_in.ensures _ stands.run.heap) ∙ c.in-None.is in
-    let follows = MayFollow-from_no_flaw _ _ c.args.event.now stands.run.heap.well_formed none in
     let inside = c.if-position-config.false in (
       sym here,
       inr (
         flaw-by _ _ _ c.args.event.now stands.bounds none,
-        inr (refl, (let room = inside in omega (arith, here, room)), c.has_no_node_for.ensures.full c.if-has_no_node_for.true _ stands.run follows),
+        inr (refl, (let room = inside in omega (arith, here, room)), c.has_no_node_for.ensures.full c.if-has_no_node_for.true),
       ),
     )
 
@@ -27,9 +31,9 @@ returns-in-Ok-clause-stands c =
     let stands = c.requires.stands in
     record {
       short = stands.short;
-      bounds = ap bounds_of c.reserve_for.ensures.heap ∙ stands.bounds;
-      nodes = ap (λ (n : Nodes). limit_of n.slots) c.reserve_for.ensures.nodes ∙ stands.nodes;
-      run = c.reserve_for.ensures.follows _ stands.run;
+      bounds = ap bounds_of (c.reserve_for.ensures.heap ∙ c.has_no_node_for.ensures.heap) ∙ stands.bounds;
+      nodes = ap (λ (n : Nodes). limit_of n.slots) c.reserve_for.ensures.nodes ∙ c.has_no_node_for.ensures.limit;
+      run = c.reserve_for.ensures.follows _ c.has_no_node_for.ensures.stands;
       book = stands.book;
       keeps = stands.keeps;
       ready = stands.ready;
@@ -39,21 +43,19 @@ returns-in-Ok-clause-stands c =
 pub returns-in-Ok-clause-next : goal.returns-in-Ok-clause-next
 returns-in-Ok-clause-next c =
     let here = length-before c.args.events.now c.args.position c.args.event.now c.requires.here in
-    let stands = c.requires.stands in
-    let none = sym (c.flaw_in.ensures _ stands.run.heap) ∙ c.in-None.is in
-    let follows = MayFollow-from_no_flaw _ _ c.args.event.now stands.run.heap.well_formed none in
+    let heap = c.requires.stands.run.heap in
+    let follows = MayFollow-from_no_flaw _ _ c.args.event.now heap.well_formed (sym (c.flaw_in.ensures _ heap) ∙ c.in-None.is) in
     record {
-      stands = c.reserve_for.ensures.follows _ stands.run;
-      follows = follows-by _ _ _ c.args.event.now (sym (ap bounds_of c.reserve_for.ensures.heap)) follows;
+      stands = c.reserve_for.ensures.follows _ c.has_no_node_for.ensures.stands;
+      follows = follows-by _ _ _ c.args.event.now (sym (ap bounds_of (c.reserve_for.ensures.heap ∙ c.has_no_node_for.ensures.heap))) follows;
       short = (let inside = c.if-position-config.false in let few = c.args.config.now.few_events in omega (arith, here, inside, few));
     }
 
 pub returns-in-Ok-clause-room : goal.returns-in-Ok-clause-room
 returns-in-Ok-clause-room c =
-    let stands = c.requires.stands in
-    let none = sym (c.flaw_in.ensures _ stands.run.heap) ∙ c.in-None.is in
-    let follows = MayFollow-from_no_flaw _ _ c.args.event.now stands.run.heap.well_formed none in
-    c.in-Ok.ensures.room _ stands.run follows (c.has_no_node_for.ensures.slot c.if-has_no_node_for.false _ stands.run follows)
+    let heap = c.requires.stands.run.heap in
+    let follows = MayFollow-from_no_flaw _ _ c.args.event.now heap.well_formed (sym (c.flaw_in.ensures _ heap) ∙ c.in-None.is) in
+    c.in-Ok.ensures.room _ c.has_no_node_for.ensures.stands (follows-by _ _ _ c.args.event.now (sym (ap bounds_of c.has_no_node_for.ensures.heap)) follows) (c.has_no_node_for.ensures.slot c.if-has_no_node_for.false)
 
 pub returns-in-Some-Refused-clause-fault : goal.returns-in-Some-Refused-clause-fault
 returns-in-Some-Refused-clause-fault c = grind (arith, elements)

@@ -1,0 +1,17 @@
+use Rattle.velo_monitor.proofs.OnCompaction.{threads-known, same-compacted, few-compacted}
+use Rattle.velo_monitor.proofs.monitor.Monitor.compact.Goals as goal
+
+pub find-requires-clause-threads : goal.find-requires-clause-threads
+find-requires-clause-threads c =
+    let inner = c.self.inside in
+    threads-known c.args.events.now inner.graph inner.tables inner.depths.items c.args.self.now c.self.view_is c.requires
+
+pub returns-clause-same : goal.returns-clause-same
+returns-clause-same c =
+    let inner = c.self.inside in
+    same-compacted c.args.events.now inner.graph inner.tables inner.depths.items c.args.self.now c.self.view_is c.find.new.self c.list.result.now c.find.ensures.heirs c.list.ensures c.leave_out.new.self c.leave_out.ensures.leaves c.list-2.result.now c.rename.new.self c.list-2.ensures c.leave_out.ensures.sound c.rename.ensures.renamed c.rename.ensures.threads
+
+pub returns-clause-few : goal.returns-clause-few
+returns-clause-few c =
+    let inner = c.self.inside in
+    few-compacted c.args.events.now inner.graph inner.tables inner.depths.items c.args.self.now c.self.view_is c.find.new.self c.list.result.now c.find.ensures.heirs c.list.ensures c.leave_out.new.self c.leave_out.ensures.leaves
