@@ -1,6 +1,6 @@
--- The steps that an event looks up are those of the last events at the places that it looks up.
+-- The steps that an event looks up are those at the places that it looks up.
 use Rattle.std.proofs.Common.{◌≡◌, ℕ, zero, suc, ◌<◌, List, [], ◌∷◌, length, get_or, Option, Some, None, refl, sym, ap, ◌∙◌, subst, arith}
-use Rattle.std.specs.Prelude.{◌↔◌, Contains}
+use Rattle.std.specs.Prelude.{Contains}
 use Rattle.std.specs.List.{filter_map, cons_option}
 use Rattle.velo_arena.specs.declared.step.Step.{Step}
 use Rattle.velo_events.specs.declared.config.Bounds.{Bounds}
@@ -9,10 +9,8 @@ use Rattle.velo_events.specs.declared.event.Kind.{Kind}
 use Rattle.velo_events.specs.declared.event.Kind.TheVariants.{Fork}
 use Rattle.velo_events.specs.Event.{access_of}
 use Rattle.velo_events.specs.WellFormed.{NamesKnown, MayFollow}
-use Rattle.velo_events.specs.Place.{Place, looked_up, last_at}
+use Rattle.velo_events.specs.Place.{Place, looked_up}
 use Rattle.velo_tables.specs.Kept.{Kept, entry, steps_looked_up, OthersKnown, HasItsThreads}
-use Rattle.velo_tables.specs.Last.{HasLastSteps}
-use Rattle.velo_tables.proofs.OnLast.{HasLastSteps-at, HasLastSteps-step}
 
 -- ---- what is in a list of those that have an image
 
@@ -51,24 +49,6 @@ steps_looked_up-contains kept e p step looks h = filter_map-contains (entry kept
 pub steps_looked_up-from : (kept : Kept) (e : Event) (step : Step) → Contains (steps_looked_up kept e) step → (p : Place) × Contains (looked_up e) p × (entry kept p ≡ Some step)
 unfolding steps_looked_up
 steps_looked_up-from kept e step w = filter_map-from (entry kept) (looked_up e) step w
-
--- the step was given for the last event of a place that the event looks up
-pub record IsStepOf (trace : List Event) (steps : List (Option Step)) (e : Event) (step : Step) : Type 0 where
-  pub place : Place
-  pub at : ℕ
-  pub looked : Contains (looked_up e) place
-  pub last : last_at place trace ≡ Some at
-  pub given : get_or steps at None ≡ Some step
-
--- Tables that stand for a trace give these steps and no others
-pub steps_looked_up-are : (kept : Kept) (trace : List Event) (steps : List (Option Step)) (e : Event) (step : Step) → HasLastSteps kept trace steps → Contains (steps_looked_up kept e) step ↔ IsStepOf trace steps e step
-steps_looked_up-are kept trace steps e step stands = (
-  (λ w.
-      let p = steps_looked_up-from kept e step w in
-      let k = HasLastSteps-step kept trace steps p.0 step stands p.2 in
-      record { place = p.0; at = k.0; looked = p.1; last = k.1; given = k.2 }),
-  (λ s. steps_looked_up-contains kept e s.place step s.looked (HasLastSteps-at kept trace steps s.place s.at stands s.last ∙ s.given)),
-)
 
 -- ---- the threads of an event that may follow
 

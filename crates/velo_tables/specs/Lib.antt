@@ -4,4 +4,3 @@ pub mod Kept
 pub mod Others
 pub mod Cells
 pub mod Recorded
-pub mod Last
