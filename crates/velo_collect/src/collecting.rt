@@ -54,7 +54,7 @@ pub fn collect<A: Ancestors>(graph: &mut Graph<A>, freed: &mut Freed)
     requires room { limit_of graph.old.slots ≤ freed.old.room }
     ensures collects { Collects graph.old graph.new }
     ensures nothing_left { HasNothingLeft graph.new }
-    ensures tells { TellsFreed graph.old graph.new freed.new.stamps }
+    ensures tells { TellsFreed graph.old.slots graph.new.slots freed.new.stamps }
     ensures room { freed.new.room ≡ freed.old.room }
     ensures sound { IsSound graph.new }
 {

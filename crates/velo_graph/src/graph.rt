@@ -136,7 +136,7 @@ impl<A: Ancestors> Graph<A> {
         requires room { limit_of self.old.slots ≤ vec_capacity freed.old }
         ensures collects { Collects self.old self.new }
         ensures nothing_left { HasNothingLeft self.new }
-        ensures tells { TellsFreed self.old self.new freed.new.items }
+        ensures tells { TellsFreed self.old.slots self.new.slots freed.new.items }
         ensures room { vec_capacity freed.new ≡ vec_capacity freed.old }
         ensures sound { IsSound self.new }
     {
