@@ -1,4 +1,4 @@
-"""Checks that each name in docs/DEFINITIONS.md stands in the specs or the sources of the crates.
+"""Checks that each name in docs/DEFINITIONS.md and docs/ARCHITECTURE.md stands in the specs or the sources of the crates.
 
     python3 tools/check_definitions.py
 
@@ -25,15 +25,16 @@ def main():
                for path in glob.glob(os.path.join(ROOT, "crates", "*", pattern), recursive=True)]
     known = set().union(*(words_of(path) for path in sources))
     files = {os.path.splitext(os.path.basename(path))[0] for path in sources}
-    with open(os.path.join(ROOT, "docs", "DEFINITIONS.md"), encoding="utf-8") as page:
-        lines = page.read().splitlines()
     faults = 0
-    for number, line in enumerate(lines, 1):
-        for name in re.findall(r"`([^`]+)`", line):
-            missing = [word for word in WORD.findall(name) if word not in known | files and not word.startswith("velo_")]
-            if missing and "/" not in name:
-                faults += 1
-                print(f"docs/DEFINITIONS.md:{number}: {', '.join(missing)} of `{name}` stands nowhere")
+    for page in ("DEFINITIONS.md", "ARCHITECTURE.md"):
+        with open(os.path.join(ROOT, "docs", page), encoding="utf-8") as file:
+            lines = file.read().splitlines()
+        for number, line in enumerate(lines, 1):
+            for name in re.findall(r"(?<!`)`([^`]+)`(?!`)", line):
+                missing = [word for word in WORD.findall(name) if word not in known | files and not word.startswith("velo_")]
+                if missing and not re.search(r"/|\.txt", name):
+                    faults += 1
+                    print(f"docs/{page}:{number}: {', '.join(missing)} of `{name}` stands nowhere")
     return 1 if faults else 0
 
 
