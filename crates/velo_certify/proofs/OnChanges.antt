@@ -59,14 +59,14 @@ module _ (old : Changes) (number a : ℕ) where
     swapped-fork = record {
       threads = refl;
       writes = refl;
-        found = λ trace numbers has. IsGreatest-same trace numbers (is_about thread_in u.0) (strong_for (Access.Fork u)) a (λ f. refl) (IsRow-raised trace numbers thread_in old.threads.items u.0 a within is has.threads);
+      found = λ trace numbers has. IsGreatest-same trace numbers (is_about thread_in u.0) (strong_for (Access.Fork u)) a (λ f. refl) (IsRow-raised trace numbers thread_in old.threads.items u.0 a within is has.threads);
     }
 
     pub swapped-join : IsSwapped old (Access.Join u) number old a
     swapped-join = record {
       threads = refl;
       writes = refl;
-        found = λ trace numbers has. IsGreatest-same trace numbers (is_about thread_in u.0) (strong_for (Access.Join u)) a (λ f. refl) (IsRow-raised trace numbers thread_in old.threads.items u.0 a within is has.threads);
+      found = λ trace numbers has. IsGreatest-same trace numbers (is_about thread_in u.0) (strong_for (Access.Join u)) a (λ f. refl) (IsRow-raised trace numbers thread_in old.threads.items u.0 a within is has.threads);
     }
 
 none-strong : (trace : List Event) (numbers : ℕ → ℕ) (test : Event → Bool) → ((f : Event) → test f ≡ false) → IsGreatest trace numbers test 0

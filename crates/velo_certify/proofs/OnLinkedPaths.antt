@@ -31,7 +31,6 @@ pub record Linked (trace : List Event) (b a : ℕ) : Type 0 where
   pub of_to : owner trace to ≡ a
   pub differ : b ≢ a
 
-
 conflict-of : (trace : List Event) (i j : ℕ) (e f : Event) → slice_get trace i ≡ Some e → slice_get trace j ≡ Some f → IsTrue (conflict_at trace i j) → IsTrue (conflict e f)
 unfolding conflict_at
 conflict-of trace i j e f at_i at_j h = rw (at_i, at_j) at h

@@ -193,7 +193,6 @@ module _ (trace : List Event) (n : ℕ) (old : Lists) (within : n < length trace
   read-next (Shared y) x h = there (slice_index old.reads.items y.0) ∙ ap (slice_index old.reads.items) (same_Some y.0 x h)
   read-next _ x h = absurd (none-some x h)
 
-
   after_n : (named : Event → Option ℕ) (fronts following : List ℕ) (x : ℕ) → IsListed trace named (n + 1) fronts following → x < length fronts → n < slice_index fronts x
   after_n named fronts following x v place = let f = (v.first x place).from_n in omega (arith, f)
 
@@ -216,7 +215,6 @@ placed-write old _ h = tt
 placed-read : (old : Lists) (k : Access) → HasPlaces (list_sizes old) k → IsPlaced old.reads.items (cell_read k)
 placed-read old (Shared x) h = h.1
 placed-read old _ h = tt
-
 
 pub AreListed-put : (trace : List Event) (n : ℕ) (e : Event) (old new : Lists) → slice_get trace n ≡ Some e → n < length trace → NamesRows (list_sizes old) e → AreListed trace (n + 1) old → (k : Access) → access_of e.kind ≡ k → ArePut old (thread_of e) k n new → AreListed trace n new
 AreListed-put trace n e old new here within names w k kind is = record {

@@ -159,7 +159,6 @@ module _ (trace : List Event) (owners : List ℕ) (at_hand x : ℕ) (lists : Lis
     count = p.grows.count ∙ w.passed.count;
   })
 
-
 -- ---- what conflicts with one event
 
 passes-map : (trace : List Event) (p q : Event → Bool) → ((e : Event) → IsTrue (p e) → IsTrue (q e)) → (i : ℕ) → IsTrue (passes_at trace p i) → IsTrue (passes_at trace q i)

@@ -80,8 +80,8 @@ holds_a_lock-locks_in bounds trace t well =
     let free : count_below bounds.locks (is_held_by trace t) ≡ 0 = omega (arith, none, held, shared) in
     let unshared : count_below bounds.locks (λ m. shares_in trace m t) ≡ 0 = omega (arith, none, held, shared) in
     false≢true (sym (any_below-never bounds.locks (holds trace t) (λ m l. or_from _ _
-        (any_below-none bounds.locks _ (count_below-none bounds.locks (is_held_by trace t) free) m l)
-        (any_below-none bounds.locks _ (count_below-none bounds.locks _ unshared) m l))) ∙ some)) in
+    (any_below-none bounds.locks _ (count_below-none bounds.locks (is_held_by trace t) free) m l)
+    (any_below-none bounds.locks _ (count_below-none bounds.locks _ unshared) m l))) ∙ some)) in
     some ∙ sym (ap not more))
     (λ (none : IsFalse (any_below bounds.locks (holds trace t))).
     let apart : (m : ℕ) → m < bounds.locks → IsFalse (holds trace t m) = any_below-none bounds.locks (holds trace t) none in

@@ -284,8 +284,8 @@ fn refusal(events: &[Event], bounds: Bounds, t: ThreadId, kind: Kind) -> Option<
             if m.0 >= bounds.locks {
                 return Some(Refusal::NoSuchLock);
             }
-            let held =
-                is_another(holder_in(events, m), t) || is_shared_beside(events, bounds, t, m);
+            let held = is_another(holder_in(events, m), t)
+                || is_shared_beside(events, bounds, t, m);
             acquire_refusal(holds(events, t, m), held)
         }
         Kind::Release(m) => {
