@@ -1,7 +1,7 @@
 ghost use Rattle.std.specs.Prelude.{◌≡◌, length};
 ghost use Rattle.velo_tables.specs.Kept.{HasItsThreads};
 
-use crate::words::by;
+use crate::words::{acquire, by, release, share, unshare};
 use std::alloc::Global;
 use std::process::Abort;
 use velo_arena::Step;
@@ -104,7 +104,23 @@ fn a_lock_has_one_last_event(rt: HostRuntime) {
     );
     look(&rt, &tables, by(1, Kind::Acquire(LockId(1))), &[at(2)]);
     look(&rt, &tables, by(1, Kind::Acquire(LockId(0))), &[]);
-    assert_eq!(rt; tables.last_on(LockId(1)), Some(at(2)));
-    assert_eq!(rt; tables.last_write(X), None);
-    assert_eq!(rt; tables.last_read(X, ThreadId(3)), None);
+    assert_eq!(rt; tables.last_write(LockId(1).cell()), Some(at(2)));
+    assert_eq!(rt; tables.last_write(X.cell()), None);
+    assert_eq!(rt; tables.last_read(X.cell(), ThreadId(3)), None);
+}
+
+/// Who shares a lock looks up who last had it alone, and who has it alone looks up its sharers too.
+#[test]
+fn a_lock_has_one_last_event_of_each_sharer(rt: HostRuntime) {
+    let mut tables = tables_of_four(&rt, rt.alloc());
+    note(&rt, &mut tables, release(0, 1), Some(at(1)));
+    note(&rt, &mut tables, share(2, 1), Some(at(2)));
+    note(&rt, &mut tables, share(1, 1), Some(at(3)));
+    note(&rt, &mut tables, unshare(2, 1), Some(at(4)));
+    look(&rt, &tables, share(3, 1), &[at(1)]);
+    look(&rt, &tables, acquire(3, 1), &[at(1), at(3), at(4)]);
+    look(&rt, &tables, acquire(3, 0), &[]);
+
+    note(&rt, &mut tables, acquire(3, 1), Some(at(5)));
+    look(&rt, &tables, share(0, 1), &[at(1), at(5)]);
 }
