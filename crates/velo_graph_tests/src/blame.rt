@@ -5,9 +5,7 @@ ghost use Rattle.velo_events.specs.Graph.{HasCycle};
 mod growths;
 mod order;
 
-use crate::words::{
-    acquire, begin, end, exit, fork, join, read, release, share, unshare, write,
-};
+use crate::words::{acquire, begin, end, exit, fork, join, read, release, share, unshare, write};
 use order::has_no_cycle;
 use std::alloc::Global;
 use std::process::Abort;
@@ -303,7 +301,10 @@ fn updates_of_a_workload(rt: HostRuntime) -> Result<(), Fail> {
             join(0, 1),
             exit(0),
         ],
-        ..replayed
+        position: 4,
+        ranks: &IN_ORDER,
+        open: &[block(1, 0)],
+        blamed: &[block(1, 0)],
     };
     judge_all(&rt, rt.alloc(), &[replayed, live])
 }
@@ -317,35 +318,37 @@ fn is_clean(alloc: Global, events: &[Event], ranks: &[usize]) -> Result<bool, Me
 /// Two threads share a lock at the same time, each in a block of its own.
 #[test]
 fn two_sharers_are_clean(rt: HostRuntime) -> Result<(), Fail> {
+    let events = [
+        fork(0, 1),
+        begin(0, 1),
+        share(0, 0),
+        begin(1, 2),
+        share(1, 0),
+        read(0, 0, 0),
+        read(1, 0, 0),
+        unshare(1, 0),
+        unshare(0, 0),
+        end(1),
+        end(0),
+    ];
+    assert_eq!(rt; is_clean(rt.alloc(), &events, &IN_ORDER), Ok(true));
+    let beside = Known {
+        log: "a share beside another",
+        events: &events,
+        position: 4,
+        ranks: &IN_ORDER,
+        open: &[block(3, 2)],
+        blamed: &[],
+    };
     let released = Known {
-        log: "two sharers",
-        events: &[
-            fork(0, 1),
-            begin(0, 1),
-            share(0, 0),
-            begin(1, 2),
-            share(1, 0),
-            read(0, 0, 0),
-            read(1, 0, 0),
-            unshare(1, 0),
-            unshare(0, 0),
-            end(1),
-            end(0),
-        ],
+        log: "a share released after another",
+        events: &events,
         position: 8,
         ranks: &IN_ORDER,
         open: &[block(1, 1)],
         blamed: &[],
     };
-    let beside = Known {
-        position: 4,
-        open: &[block(3, 2)],
-        ..released
-    };
-    judge_all(&rt, rt.alloc(), &[beside, released])?;
-    let clean = is_clean(rt.alloc(), released.events, released.ranks);
-    assert_eq!(rt; clean, Ok(true));
-    Ok(())
+    judge_all(&rt, rt.alloc(), &[beside, released])
 }
 
 /// A block that shares a lock twice, between which another thread has it alone.

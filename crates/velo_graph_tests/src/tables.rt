@@ -1,7 +1,7 @@
 ghost use Rattle.std.specs.Prelude.{◌≡◌, length};
 ghost use Rattle.velo_tables.specs.Kept.{HasItsThreads};
 
-use crate::words::{acquire, by, release, share, unshare};
+use crate::words::by;
 use std::alloc::Global;
 use std::process::Abort;
 use velo_arena::Step;
@@ -109,18 +109,40 @@ fn a_lock_has_one_last_event(rt: HostRuntime) {
     assert_eq!(rt; tables.last_read(X.cell(), ThreadId(3)), None);
 }
 
-/// Who shares a lock looks up who last had it alone, and who has it alone looks up its sharers too.
-#[test]
-fn a_lock_has_one_last_event_of_each_sharer(rt: HostRuntime) {
-    let mut tables = tables_of_four(&rt, rt.alloc());
-    note(&rt, &mut tables, release(0, 1), Some(at(1)));
-    note(&rt, &mut tables, share(2, 1), Some(at(2)));
-    note(&rt, &mut tables, share(1, 1), Some(at(3)));
-    note(&rt, &mut tables, unshare(2, 1), Some(at(4)));
-    look(&rt, &tables, share(3, 1), &[at(1)]);
-    look(&rt, &tables, acquire(3, 1), &[at(1), at(3), at(4)]);
-    look(&rt, &tables, acquire(3, 0), &[]);
+const LOCK: LockId = LockId(1);
 
-    note(&rt, &mut tables, acquire(3, 1), Some(at(5)));
-    look(&rt, &tables, share(0, 1), &[at(1), at(5)]);
+/// Who shares a lock looks up who last had it alone, and who takes it alone looks up its sharers too.
+#[test]
+fn a_lock_has_a_last_event_of_each_sharer(rt: HostRuntime) {
+    let mut tables = tables_of_four(&rt, rt.alloc());
+    note(&rt, &mut tables, by(0, Kind::Release(LOCK)), Some(at(1)));
+    note(
+        &rt,
+        &mut tables,
+        by(2, Kind::AcquireShared(LOCK)),
+        Some(at(2)),
+    );
+    note(
+        &rt,
+        &mut tables,
+        by(1, Kind::AcquireShared(LOCK)),
+        Some(at(3)),
+    );
+    note(
+        &rt,
+        &mut tables,
+        by(2, Kind::ReleaseShared(LOCK)),
+        Some(at(4)),
+    );
+    look(&rt, &tables, by(3, Kind::AcquireShared(LOCK)), &[at(1)]);
+    let alone = by(3, Kind::Acquire(LOCK));
+    look(&rt, &tables, alone, &[at(1), at(3), at(4)]);
+
+    note(&rt, &mut tables, alone, Some(at(5)));
+    look(
+        &rt,
+        &tables,
+        by(0, Kind::AcquireShared(LOCK)),
+        &[at(1), at(5)],
+    );
 }

@@ -197,7 +197,7 @@ fn thread_told(rt: &impl Abort, world: &World, shares: &Shares, thread: ThreadId
     }
 }
 
-fn told(rt: &impl Abort, world: &World, shares: &Shares) -> Told {
+fn told_by(rt: &impl Abort, world: &World, shares: &Shares) -> Told {
     let bounds = world.bounds();
     assert!(rt; bounds.variables == 1 && bounds.locks == 1);
     Told {
@@ -231,11 +231,11 @@ fn look(
 ) {
     let (thread, action) = case.step;
     let log = world.log().as_slice().to_vec(alloc).expect(rt, "memory");
-    let before = told(rt, world, shares);
+    let before = told_by(rt, world, shares);
     let outcome = act(rt, world, shares, thread, action);
     assert_eq!(rt; outcome, Err(case.refusal));
     assert!(rt; world.log().as_slice() == log.as_slice());
-    assert!(rt; told(rt, world, shares) == before);
+    assert!(rt; told_by(rt, world, shares) == before);
 }
 
 #[test]
