@@ -2,12 +2,15 @@
 
     python3 tools/sweep.py crates/velodrome/out/velodrome check LOG
     python3 tools/sweep.py --tests refused_growth crates/velo_run_tests/out/velo_run_tests_tests
+    python3 tools/sweep.py --starts crates/velodrome/out/velodrome run FILE
 
 A run of the program has to end as the one without a refusal, or with status 5 and `out of memory` (for `run` also `seat lost`)
 on standard error and nothing on standard output.
 
 With `--tests WORD` the program is the tests of a crate, as `rt test` leaves it. Each test whose name has the word is run by
 itself, and each run of it has to succeed.
+
+With `--starts` before all else the start of one thread is refused each time in place of a growth.
 """
 import os
 import subprocess
@@ -24,10 +27,12 @@ def build_shim(folder):
     return shim
 
 
-def run(shim, command, number):
-    """The status, both outputs, and whether a growth was refused."""
+def run(refusal, command, number):
+    """The status, both outputs, and whether a growth, or the start of a thread, was refused."""
+    shim, variable = refusal
     reader, writer = os.pipe()
-    environment = dict(os.environ, LD_PRELOAD=shim, REFUSE=str(number), REFUSED=str(writer))
+    environment = dict(os.environ, LD_PRELOAD=shim, REFUSED=str(writer))
+    environment[variable] = str(number)
     with subprocess.Popen(command, env=environment, stdin=subprocess.DEVNULL, stdout=subprocess.PIPE,
                           stderr=subprocess.PIPE, pass_fds=(writer,)) as child:
         os.close(writer)
@@ -49,20 +54,21 @@ def kind_of(got, plain):
     return "OTHER"
 
 
-def sweep(shim, command):
-    plain = run(shim, command, 0)
+def sweep(refusal, command):
+    plain = run(refusal, command, 0)
     kinds = {}
     number = 0
     while True:
         number += 1
-        got = run(shim, command, number)
+        got = run(refusal, command, number)
         if not got[3]:
             break
         kind = kind_of(got, plain)
         kinds[kind] = kinds.get(kind, 0) + 1
         if kind == "OTHER":
-            print(f"growth {number}: status {got[0]}, {len(got[1])} bytes out, {got[2][:80]!r}")
-    print(f"{number - 1} growths refused: {kinds}; without a refusal status {plain[0]}")
+            print(f"number {number}: status {got[0]}, {len(got[1])} bytes out, {got[2][:80]!r}")
+    what = "growths" if refusal[1] == "REFUSE" else "starts"
+    print(f"{number - 1} {what} refused: {kinds}; without a refusal status {plain[0]}")
     return "OTHER" not in kinds and kind_of(got, plain) != "OTHER"
 
 
@@ -72,25 +78,29 @@ def tests_of(program, word):
     return [name for name in names if word in name]
 
 
-def sweep_tests(shim, program, word):
+def sweep_tests(refusal, program, word):
     tests = tests_of(program, word)
     succeed = bool(tests)
     for test in tests:
         print(test, end=": ", flush=True)
-        succeed = sweep(shim, [program, test]) and run(shim, [program, test], 0)[0] == 0 and succeed
+        succeed = sweep(refusal, [program, test]) and run(refusal, [program, test], 0)[0] == 0 and succeed
     return succeed
 
 
 def main():
     command = sys.argv[1:]
+    variable = "REFUSE"
+    if command[:1] == ["--starts"]:
+        variable = "REFUSE_START"
+        command = command[1:]
     are_tests = command[:1] == ["--tests"]
     if not command or are_tests and len(command) != 3:
         sys.exit(__doc__)
     with tempfile.TemporaryDirectory() as folder:
-        shim = build_shim(folder)
+        refusal = (build_shim(folder), variable)
         if are_tests:
-            sys.exit(0 if sweep_tests(shim, command[2], command[1]) else 1)
-        sys.exit(0 if sweep(shim, command) else 1)
+            sys.exit(0 if sweep_tests(refusal, command[2], command[1]) else 1)
+        sys.exit(0 if sweep(refusal, command) else 1)
 
 
 main()

@@ -5,7 +5,7 @@ ghost use Rattle.velo_events.specs.Graph.{HasCycle};
 mod growths;
 mod order;
 
-use crate::words::{acquire, begin, end, exit, fork, join, read, release, write};
+use crate::words::{acquire, begin, end, exit, fork, join, read, release, share, unshare, write};
 use order::has_no_cycle;
 use std::alloc::Global;
 use std::process::Abort;
@@ -265,6 +265,112 @@ fn threads_and_locks(rt: HostRuntime) -> Result<(), Fail> {
         blamed: &[block(1, 1)],
     };
     judge_all(&rt, rt.alloc(), &[joined, lock])
+}
+
+/// The lost update of a workload: how its threads are scheduled leaves open which of the last exits comes first.
+#[test]
+fn updates_of_a_workload(rt: HostRuntime) -> Result<(), Fail> {
+    let replayed = Known {
+        log: "a replayed lost update",
+        events: &[
+            fork(0, 1),
+            begin(0, 0),
+            read(0, 0, 0),
+            write(1, 0, 5),
+            write(0, 0, 1),
+            end(0),
+            exit(1),
+            join(0, 1),
+            exit(0),
+        ],
+        position: 4,
+        ranks: &IN_ORDER,
+        open: &[block(1, 0)],
+        blamed: &[block(1, 0)],
+    };
+    let live = Known {
+        log: "a live lost update",
+        events: &[
+            fork(0, 1),
+            begin(0, 0),
+            read(0, 0, 0),
+            write(1, 0, 5),
+            write(0, 0, 1),
+            exit(1),
+            end(0),
+            join(0, 1),
+            exit(0),
+        ],
+        position: 4,
+        ranks: &IN_ORDER,
+        open: &[block(1, 0)],
+        blamed: &[block(1, 0)],
+    };
+    judge_all(&rt, rt.alloc(), &[replayed, live])
+}
+
+/// Whether the ranks show that the events have no cycle.
+fn is_clean(alloc: Global, events: &[Event], ranks: &[usize]) -> Result<bool, Memory> {
+    let trace = trace_of(alloc, events)?;
+    Ok(has_no_cycle(&trace, ranks))
+}
+
+/// Two threads share a lock at the same time, each in a block of its own.
+#[test]
+fn two_sharers_are_clean(rt: HostRuntime) -> Result<(), Fail> {
+    let events = [
+        fork(0, 1),
+        begin(0, 1),
+        share(0, 0),
+        begin(1, 2),
+        share(1, 0),
+        read(0, 0, 0),
+        read(1, 0, 0),
+        unshare(1, 0),
+        unshare(0, 0),
+        end(1),
+        end(0),
+    ];
+    assert_eq!(rt; is_clean(rt.alloc(), &events, &IN_ORDER), Ok(true));
+    let beside = Known {
+        log: "a share beside another",
+        events: &events,
+        position: 4,
+        ranks: &IN_ORDER,
+        open: &[block(3, 2)],
+        blamed: &[],
+    };
+    let released = Known {
+        log: "a share released after another",
+        events: &events,
+        position: 8,
+        ranks: &IN_ORDER,
+        open: &[block(1, 1)],
+        blamed: &[],
+    };
+    judge_all(&rt, rt.alloc(), &[beside, released])
+}
+
+/// A block that shares a lock twice, between which another thread has it alone.
+#[test]
+fn a_lock_taken_between_two_shares(rt: HostRuntime) -> Result<(), Fail> {
+    let between = Known {
+        log: "a lock taken between two shares",
+        events: &[
+            fork(0, 1),
+            begin(0, 1),
+            share(0, 0),
+            unshare(0, 0),
+            acquire(1, 0),
+            release(1, 0),
+            share(0, 0),
+        ],
+        position: 6,
+        ranks: &IN_ORDER,
+        open: &[block(1, 1)],
+        blamed: &[block(1, 1)],
+    };
+    judge_all(&rt, rt.alloc(), &[between])
 }
 
 #[test]

@@ -37,6 +37,43 @@ fn operations_find_their_nodes<A: Ancestors>(rt: &impl Abort, alloc: Global) -> 
     Ok(())
 }
 
+/// Two finished nodes after an unfinished one: an operation after one of them alone goes into it, and one after both does not.
+fn beside_another<A: Ancestors>(rt: &impl Abort, alloc: Global) -> Result<(), Fail> {
+    let mut graph = Graph::<A>::new(alloc, 3)?;
+    let first = open(rt, &mut graph, 1);
+    let second = open(rt, &mut graph, 3);
+    let third = open(rt, &mut graph, 5);
+    let dead = Step {
+        slot: second.slot,
+        stamp: 2,
+    };
+    edge(rt, &mut graph, first, second);
+    edge(rt, &mut graph, first, third);
+    finish(rt, &mut graph, second);
+    finish(rt, &mut graph, third);
+    for (steps, placed) in [
+        ([first, second].as_slice(), Placed::In(second)),
+        (&[second, second], Placed::In(second)),
+        (&[second, third], Placed::New),
+        (&[first], Placed::New),
+        (&[], Placed::None),
+        (&[dead], Placed::None),
+    ] {
+        assert_eq!(rt; place(&graph, steps), placed);
+    }
+    Ok(())
+}
+
+#[test]
+fn places_beside_another_over_set_rows(rt: HostRuntime) -> Result<(), Fail> {
+    beside_another::<SetRow>(&rt, rt.alloc())
+}
+
+#[test]
+fn places_beside_another_over_bit_rows(rt: HostRuntime) -> Result<(), Fail> {
+    beside_another::<BitRow>(&rt, rt.alloc())
+}
+
 #[test]
 fn places_over_set_rows(rt: HostRuntime) -> Result<(), Fail> {
     operations_find_their_nodes::<SetRow>(&rt, rt.alloc())

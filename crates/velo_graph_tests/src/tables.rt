@@ -104,7 +104,45 @@ fn a_lock_has_one_last_event(rt: HostRuntime) {
     );
     look(&rt, &tables, by(1, Kind::Acquire(LockId(1))), &[at(2)]);
     look(&rt, &tables, by(1, Kind::Acquire(LockId(0))), &[]);
-    assert_eq!(rt; tables.last_on(LockId(1)), Some(at(2)));
-    assert_eq!(rt; tables.last_write(X), None);
-    assert_eq!(rt; tables.last_read(X, ThreadId(3)), None);
+    assert_eq!(rt; tables.last_write(LockId(1).cell()), Some(at(2)));
+    assert_eq!(rt; tables.last_write(X.cell()), None);
+    assert_eq!(rt; tables.last_read(X.cell(), ThreadId(3)), None);
+}
+
+const LOCK: LockId = LockId(1);
+
+/// Who shares a lock looks up who last had it alone, and who takes it alone looks up its sharers too.
+#[test]
+fn a_lock_has_a_last_event_of_each_sharer(rt: HostRuntime) {
+    let mut tables = tables_of_four(&rt, rt.alloc());
+    note(&rt, &mut tables, by(0, Kind::Release(LOCK)), Some(at(1)));
+    note(
+        &rt,
+        &mut tables,
+        by(2, Kind::AcquireShared(LOCK)),
+        Some(at(2)),
+    );
+    note(
+        &rt,
+        &mut tables,
+        by(1, Kind::AcquireShared(LOCK)),
+        Some(at(3)),
+    );
+    note(
+        &rt,
+        &mut tables,
+        by(2, Kind::ReleaseShared(LOCK)),
+        Some(at(4)),
+    );
+    look(&rt, &tables, by(3, Kind::AcquireShared(LOCK)), &[at(1)]);
+    let alone = by(3, Kind::Acquire(LOCK));
+    look(&rt, &tables, alone, &[at(1), at(3), at(4)]);
+
+    note(&rt, &mut tables, alone, Some(at(5)));
+    look(
+        &rt,
+        &tables,
+        by(0, Kind::AcquireShared(LOCK)),
+        &[at(1), at(5)],
+    );
 }

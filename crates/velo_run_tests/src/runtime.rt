@@ -415,10 +415,12 @@ fn close_both(
     }
 }
 
+static CASES: [Case<'static>; 5] = [LOST_UPDATE, RELEASE_AND_EXIT, SHARES, HALT, HALT_AT_ALARM];
+
 #[test]
 fn two_threads(rt: HostRuntime) {
-    for case in [LOST_UPDATE, RELEASE_AND_EXIT, SHARES, HALT, HALT_AT_ALARM] {
-        let outcome = play(&rt, rt.alloc(), &case).ok();
+    for case in &CASES {
+        let outcome = play(&rt, rt.alloc(), case).ok();
         assert_eq!(rt; outcome, Some(((None, None), true)));
     }
 }
@@ -775,10 +777,12 @@ fn held(
     answered
 }
 
+static HOLDS: [Hold<'static>; 4] = [CONFIGURED, HALTED, TURNS, SHARERS];
+
 #[test]
 fn one_hold_of_a_room(rt: HostRuntime) {
-    for hold in [CONFIGURED, HALTED, TURNS, SHARERS] {
-        assert_eq!(rt; held(&rt, rt.alloc(), &hold), (None, hold.end));
+    for hold in &HOLDS {
+        assert_eq!(rt; held(&rt, rt.alloc(), hold), (None, hold.end));
     }
 }
 
@@ -841,8 +845,8 @@ fn a_foreign_seat(rt: HostRuntime) {
     assert_eq!(rt; foreign, Err(Refusal::Foreign));
     let given_back = close_with_foreign(&rt, rt.alloc(), second_run, first);
     let (second_run, first) = given_back.expect(&rt, "not closed");
-    for (shared, seat) in [(first_run, first), (second_run, second)] {
-        let told = write_and_close(&rt, rt.alloc(), shared, seat);
-        assert_eq!(rt; told, (Ok(Some(0)), Some(1)));
-    }
+    let told = write_and_close(&rt, rt.alloc(), first_run, first);
+    assert_eq!(rt; told, (Ok(Some(0)), Some(1)));
+    let told = write_and_close(&rt, rt.alloc(), second_run, second);
+    assert_eq!(rt; told, (Ok(Some(0)), Some(1)));
 }

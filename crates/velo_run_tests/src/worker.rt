@@ -1,11 +1,12 @@
+ghost use Rattle.std.specs.Prelude.{◌≡◌, IfSome};
+
 mod growths;
 mod live;
 
 use std::alloc::Global;
-use std::test::Fail;
 use velo_events::{Config, Event, Kind, Label, LockId, Refusal, ThreadId, VarId};
 use velo_worker::{Ending, replay};
-use velo_workload::parse;
+use velo_workload::{Workload, parse};
 use velo_world::Closed;
 
 const X: VarId = VarId(0);
@@ -68,6 +69,15 @@ const LOST_LOG: [Event; 9] = [
     by!(OTHER, Kind::Exit),
     by!(MAIN, Kind::Join(OTHER)),
     by!(MAIN, Kind::Exit),
+];
+
+/// The same up to the alarm.
+const STOPPED_LOG: [Event; 5] = [
+    by!(MAIN, Kind::Fork(OTHER)),
+    by!(MAIN, Kind::Begin(Label(0))),
+    by!(MAIN, Kind::Read(X, 0)),
+    by!(OTHER, Kind::Write(X, 5)),
+    by!(MAIN, Kind::Write(X, 1)),
 ];
 
 /// Two locks, taken in opposite orders.
@@ -152,124 +162,136 @@ fn has_totals(closed: &Closed, totals: &[(u128, u128)]) -> bool {
     true
 }
 
+/// Workloads, and what becomes of them.
+static RUNS: [Run<'static>; 12] = [
+    Run {
+        text: WRAPS,
+        schedule: &[],
+        stop: false,
+        log: &WRAPS_LOG,
+        totals: &[(18_446_744_073_709_551_615, 18_446_744_073_709_551_615)],
+        ending: Ending::Done,
+    },
+    Run {
+        text: LOST_UPDATE,
+        schedule: &LOST_SCHEDULE,
+        stop: false,
+        log: &LOST_LOG,
+        totals: &[(0, 1), (0, 5)],
+        ending: Ending::Done,
+    },
+    Run {
+        text: LOST_UPDATE,
+        schedule: &LOST_SCHEDULE,
+        stop: true,
+        log: &STOPPED_LOG,
+        totals: &[(0, 1), (0, 5)],
+        ending: Ending::Halted,
+    },
+    Run {
+        text: OPPOSITE,
+        schedule: &OPPOSITE_SCHEDULE,
+        stop: false,
+        log: &OPPOSITE_LOG,
+        totals: &[(0, 0), (0, 0)],
+        ending: Ending::Stuck,
+    },
+    Run {
+        text: SHARE,
+        schedule: &[],
+        stop: false,
+        log: &SHARE_LOG,
+        totals: &[(0, 0), (0, 0)],
+        ending: Ending::Done,
+    },
+    Run {
+        text: OPPOSITE_SHARE,
+        schedule: &OPPOSITE_SCHEDULE,
+        stop: false,
+        log: &OPPOSITE_SHARE_LOG,
+        totals: &[(0, 0), (0, 0)],
+        ending: Ending::Stuck,
+    },
+    Run {
+        text: WAITS,
+        schedule: &WAITS_SCHEDULE,
+        stop: false,
+        log: &WAITS_LOG,
+        totals: &[(0, 0), (0, 0)],
+        ending: Ending::Done,
+    },
+    Run {
+        text: NESTED,
+        schedule: &[],
+        stop: false,
+        log: &NESTED_LOG,
+        totals: &[(0, 93)],
+        ending: Ending::Done,
+    },
+    Run {
+        text: "thread main",
+        schedule: &[],
+        stop: false,
+        log: &EXIT_LOG,
+        totals: &[(0, 0)],
+        ending: Ending::Done,
+    },
+    Run {
+        text: "thread main\nrepeat 8388607\nset 1\ndone\nset 1",
+        schedule: &[],
+        stop: false,
+        log: &EXIT_LOG,
+        totals: &[(0, 0)],
+        ending: Ending::Done,
+    },
+    Run {
+        text: "thread main\njoin main",
+        schedule: &[],
+        stop: false,
+        log: &[],
+        totals: &[(0, 0)],
+        ending: Ending::Stuck,
+    },
+    Run {
+        text: "thread main\nend",
+        schedule: &[],
+        stop: false,
+        log: &[],
+        totals: &[(0, 0)],
+        ending: Ending::Refused(MAIN, Refusal::NoOpenBlock),
+    },
+];
+
 /// Whether the run has its log, its totals and its ending.
-fn plays(alloc: Global, run: &Run<'_>) -> Result<bool, Fail> {
-    let workload = parse(alloc, run.text)?;
-    let config = Config::new(0, workload.bounds(), 100, 64, run.stop)?;
-    let (closed, ending) = replay(alloc, &workload, run.schedule, config)?;
+fn went_as(closed: &Closed, ending: Ending, run: &Run<'_>) -> bool {
     let has_log = closed.log().as_slice() == run.log;
-    Ok(has_log && has_totals(&closed, run.totals) && ending == run.ending)
+    let has_totals = has_totals(closed, run.totals);
+    has_log && has_totals && ending == run.ending
+}
+
+/// A configuration for the workload's runs.
+fn config_for(workload: &Workload, events: u32, nodes: u16, stop: bool) -> Option<Config>
+    ensures { IfSome result (λ config. config.bounds ≡ workload.now.bounds) }
+{
+    Config::new(0, workload.bounds(), events, nodes, stop).ok()
+}
+
+/// Whether a replay of the workload goes as the run should.
+fn replays(alloc: Global, workload: &Workload, run: &Run<'_>) -> Option<bool> {
+    let config = config_for(workload, 100, 64, run.stop)?;
+    let (closed, ending) = replay(alloc, workload, run.schedule, config).ok()?;
+    Some(went_as(&closed, ending, run))
+}
+
+/// Whether a replay of the run's text goes as it should.
+fn plays(alloc: Global, run: &Run<'_>) -> Option<bool> {
+    let workload = parse(alloc, run.text).ok()?;
+    replays(alloc, &workload, run)
 }
 
 #[test]
-fn workloads_run_by_their_schedules(rt: HostRuntime) -> Result<(), Fail> {
-    for (text, schedule, stop, log, totals, ending) in [
-        (
-            WRAPS,
-            [].as_slice(),
-            false,
-            WRAPS_LOG.as_slice(),
-            [(18_446_744_073_709_551_615, 18_446_744_073_709_551_615)].as_slice(),
-            Ending::Done,
-        ),
-        (
-            LOST_UPDATE,
-            LOST_SCHEDULE.as_slice(),
-            false,
-            LOST_LOG.as_slice(),
-            [(0, 1), (0, 5)].as_slice(),
-            Ending::Done,
-        ),
-        (
-            LOST_UPDATE,
-            LOST_SCHEDULE.as_slice(),
-            true,
-            &LOST_LOG[..5],
-            [(0, 1), (0, 5)].as_slice(),
-            Ending::Halted,
-        ),
-        (
-            OPPOSITE,
-            OPPOSITE_SCHEDULE.as_slice(),
-            false,
-            OPPOSITE_LOG.as_slice(),
-            [(0, 0), (0, 0)].as_slice(),
-            Ending::Stuck,
-        ),
-        (
-            SHARE,
-            [].as_slice(),
-            false,
-            SHARE_LOG.as_slice(),
-            [(0, 0), (0, 0)].as_slice(),
-            Ending::Done,
-        ),
-        (
-            OPPOSITE_SHARE,
-            OPPOSITE_SCHEDULE.as_slice(),
-            false,
-            OPPOSITE_SHARE_LOG.as_slice(),
-            [(0, 0), (0, 0)].as_slice(),
-            Ending::Stuck,
-        ),
-        (
-            WAITS,
-            WAITS_SCHEDULE.as_slice(),
-            false,
-            WAITS_LOG.as_slice(),
-            [(0, 0), (0, 0)].as_slice(),
-            Ending::Done,
-        ),
-        (
-            NESTED,
-            [].as_slice(),
-            false,
-            NESTED_LOG.as_slice(),
-            [(0, 93)].as_slice(),
-            Ending::Done,
-        ),
-        (
-            "thread main",
-            [].as_slice(),
-            false,
-            EXIT_LOG.as_slice(),
-            [(0, 0)].as_slice(),
-            Ending::Done,
-        ),
-        (
-            "thread main\nrepeat 8388607\nset 1\ndone\nset 1",
-            [].as_slice(),
-            false,
-            EXIT_LOG.as_slice(),
-            [(0, 0)].as_slice(),
-            Ending::Done,
-        ),
-        (
-            "thread main\njoin main",
-            [].as_slice(),
-            false,
-            [].as_slice(),
-            [(0, 0)].as_slice(),
-            Ending::Stuck,
-        ),
-        (
-            "thread main\nend",
-            [].as_slice(),
-            false,
-            [].as_slice(),
-            [(0, 0)].as_slice(),
-            Ending::Refused(MAIN, Refusal::NoOpenBlock),
-        ),
-    ] {
-        let run = Run {
-            text,
-            schedule,
-            stop,
-            log,
-            totals,
-            ending,
-        };
-        assert!(rt; plays(rt.alloc(), &run)?, "{text}");
+fn workloads_run_by_their_schedules(rt: HostRuntime) {
+    for run in &RUNS {
+        assert_eq!(rt; plays(rt.alloc(), run), Some(true), "{}", run.text);
     }
-    Ok(())
 }

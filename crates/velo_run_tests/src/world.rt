@@ -3,6 +3,7 @@ ghost use Rattle.velo_ledger.specs.Shares.{opening_share};
 ghost use Rattle.velo_world.specs.World.{FitsLog, HoldsLiveShares, opening};
 
 mod growths;
+mod refusals;
 
 use crate::growths::again;
 use std::alloc::Global;
@@ -133,13 +134,47 @@ fn reply_without_value(position: usize) -> Outcome {
     replied(position, None, false)
 }
 
+/// Does an action by the thread's share.
+fn act(
+    rt: &impl Abort,
+    world: &mut World,
+    shares: &mut Shares,
+    thread: ThreadId,
+    action: Action,
+) -> Outcome {
+    let mut share = shares.take(thread).expect(rt, "no share");
+    assert!(rt; world.fits(&share));
+    let outcome = match action {
+        Action::Fork(child) => fork(rt, world, shares, &mut share, child),
+        _ => world.act(&mut share, action),
+    };
+    assert!(rt; world.fits(&share) && shares.put(share).is_ok());
+    outcome
+}
+
+/// Forks a thread, whose share comes to its place.
+fn fork(
+    rt: &impl Abort,
+    world: &mut World,
+    shares: &mut Shares,
+    share: &mut Share,
+    child: ThreadId,
+) -> Outcome
+    requires { FitsLog world.old share.old }
+    ensures { FitsLog world.new share.new }
+{
+    let (reply, born) = world.fork(share, child)?;
+    assert!(rt; shares.put(born).is_ok());
+    Ok(reply)
+}
+
 /// The 33rd begin is one too deep.
 fn nested_outcome(place: usize) -> Outcome {
-    match place {
-        0..32 => reply_without_value(place),
-        32 => Err(Refusal::TooDeep),
-        _ => reply_without_value(place - 1),
+    if place == 32 {
+        return Err(Refusal::TooDeep);
     }
+    let position = if place < 32 { place } else { place - 1 };
+    reply_without_value(position)
 }
 
 #[test]
@@ -176,12 +211,11 @@ fn refused_at_the_third_step(rt: HostRuntime) {
 
 /// What comes of the step of the lost update at the place, where an alarm leaves the rest to this.
 fn lost_update_outcome(place: usize, rest: Outcome) -> Outcome {
-    match place {
-        2 => replied(2, Some(0), false),
-        0..4 => reply_without_value(place),
-        4 => replied(4, None, true),
-        _ => rest,
+    if place > 4 {
+        return rest;
     }
+    let value = if place == 2 { Some(0) } else { None };
+    replied(place, value, place == 4)
 }
 
 #[test]
@@ -334,7 +368,7 @@ fn relive_changed_at(
 }
 
 /// Limits, a changed event, and what comes of the log.
-const RELIVED: [(u32, u16, usize, Kind, Result<bool, ReliveFault>); 8] = [
+static RELIVED: [(u32, u16, usize, Kind, Result<bool, ReliveFault>); 8] = [
     (100, 2, 0, Kind::Fork(OTHER), Ok(true)),
     (8, 2, 0, Kind::Fork(OTHER), Ok(true)),
     (
@@ -386,11 +420,9 @@ const RELIVED: [(u32, u16, usize, Kind, Result<bool, ReliveFault>); 8] = [
 
 #[test]
 fn a_recorded_log_is_relived(rt: HostRuntime) {
-    for (events, nodes, place, kind, wanted) in RELIVED {
-        assert_eq!(rt;
-            relive_changed_at(&rt, rt.alloc(), events, nodes, place, kind),
-            wanted
-        );
+    for (events, nodes, place, kind, wanted) in &RELIVED {
+        let relived = relive_changed_at(&rt, rt.alloc(), *events, *nodes, *place, *kind);
+        assert_eq!(rt; relived, *wanted);
     }
 }
 

@@ -1,4 +1,5 @@
-ghost use Rattle.std.specs.Prelude.{◌<◌, IfOk, IsTrue};
+ghost use Rattle.std.specs.Prelude.{◌≡◌, ◌<◌, [], ◌∷◌, ◌++◌, length, IsTrue};
+ghost use Rattle.velo_events.specs.declared.limits.TheConstants.{MOST_EVENTS};
 ghost use Rattle.velo_events.specs.declared.event.Event.{Event as EventOf};
 ghost use Rattle.velo_arena.specs.Slots.{used_in, limit_of};
 ghost use Rattle.velo_events.specs.WellFormed.{IsWellFormed, MayFollow};
@@ -9,8 +10,7 @@ ghost use Rattle.velo_monitor.specs.Answers.{NeedsNode};
 use super::{Monitor, Seen};
 use std::alloc::Global;
 use std::process::Abort;
-use std::test::Fail;
-use velo_events::{Bounds, Config, Event, Kind, Label, MOST_EVENTS, ThreadId, VarId};
+use velo_events::{Bounds, Config, Event, Kind, Label, LockId, MOST_EVENTS, ThreadId, VarId};
 use velo_graph::Graph;
 use velo_rows::BitRow;
 use velo_traces::{Trace, well_formed};
@@ -18,10 +18,12 @@ use velo_traces::{Trace, well_formed};
 const BOUNDS: Bounds = Bounds {
     threads: 2,
     variables: 1,
-    locks: 0,
+    locks: 1,
 };
 
 const X: VarId = VarId(0);
+
+const LOCK: LockId = LockId(0);
 
 /// A node as the tests see it: its stamp, whether it has finished, and the stamps of its ancestors.
 type Node<'a> = (u32, bool, &'a [u32]);
@@ -98,52 +100,77 @@ fn find_slot(monitor: &mut Monitor, events: &[Event], event: &Event) -> (bool, b
 }
 
 /// The events of the rows as a trace, which can come about.
-fn trace_of(alloc: Global, rows: &[Row]) -> Result<Trace, Fail>
-    ensures { IfOk result (λ trace. IsWellFormed BOUNDS trace.events) }
+fn trace_of(rt: &impl Abort, alloc: Global, rows: &[Row]) -> Trace
+    ensures { IsWellFormed BOUNDS result.events }
 {
     let mut trace = Trace::new(alloc);
     for (thread, kind, _, _, _) in rows {
-        trace.push(Event {
+        let event = Event {
             thread: ThreadId(*thread),
             kind: *kind,
-        })?;
+        };
+        trace.push(event).expect(rt, "memory");
     }
     match well_formed(&trace, BOUNDS) {
-        Ok(()) => Ok(trace),
-        Err(_) => Err("not well-formed".into()),
+        Ok(()) => trace,
+        Err(_) => panic!(rt; "not well-formed"),
     }
 }
 
-/// Lets a monitor of so many nodes observe the events up to the one that closes a cycle, and looks at it after each. It compacts
-/// where all nodes are in use and one is needed.
-fn play(rt: &impl Abort, alloc: Global, nodes: u16, rows: &[Row]) -> Result<(), Fail> {
-    let config = Config::new(1, BOUNDS, 100, nodes, false)?;
-    let mut monitor = Monitor::new(alloc, &config)?;
-    let trace = trace_of(alloc, rows)?;
-    let events = trace.as_slice();
-    assert_eq!(rt; events.len(), rows.len());
-    assert!(rt; events.len() < MOST_EVENTS as usize);
+/// A monitor of so many nodes that has seen no event.
+fn new_monitor(rt: &impl Abort, alloc: Global, nodes: u16) -> Monitor
+    ensures { IsMonitorOf BOUNDS result [] }
+{
+    let config = Config::new(1, BOUNDS, 100, nodes, false).expect(rt, "a configuration");
+    Monitor::new(alloc, &config).expect(rt, "memory")
+}
+
+/// Lets the monitor of the events before it observe an event.
+fn observe(
+    rt: &impl Abort,
+    monitor: &mut Monitor,
+    before: &[Event],
+    event: &Event,
+    needs_node: bool,
+) -> Seen
+    requires stands { IsMonitorOf BOUNDS monitor.old before.now }
+    requires follows { MayFollow BOUNDS before.now event.now }
+    requires within { length before.now < MOST_EVENTS }
+    ensures { result ≡ Seen.Quiet → IsMonitorOf BOUNDS monitor.new (before.now ++ event.now ∷ []) }
+{
+    monitor.reserve(event).expect(rt, "memory");
+    let found = find_slot(monitor, before, event);
+    assert!(rt; found.0 == needs_node && found.1);
+    monitor.observe(before.len(), event)
+}
+
+/// Lets the monitor observe the events up to the one that closes a cycle, and looks at it after each.
+fn follow(rt: &impl Abort, monitor: &mut Monitor, events: &[Event], rows: &[Row])
+    requires stands { IsMonitorOf BOUNDS monitor.old [] }
+    requires well_formed { IsWellFormed BOUNDS events.now }
+{
+    assert!(rt; events.len() == rows.len() && events.len() < MOST_EVENTS as usize);
     for i in 0..events.len() {
-        let event = events[i];
-        let (_, _, needs, seen, after) = rows[i];
-        monitor.reserve(&event)?;
-        let (needs_node, has_slot) = find_slot(&mut monitor, &events[..i], &event);
-        assert_eq!(rt; needs_node, needs, "{i}");
-        assert!(rt; has_slot);
-        let answer = monitor.observe(i, &event);
+        let (_, _, needs_node, seen, after) = rows[i];
+        let answer = observe(rt, monitor, &events[..i], &events[i], needs_node);
         assert_eq!(rt; answer, seen, "{i}");
-        look(rt, &monitor, after);
-        match answer {
-            Seen::Quiet => {}
-            Seen::Closes { .. } => return Ok(()),
+        look(rt, monitor, after);
+        if answer != Seen::Quiet {
+            return;
         }
     }
-    Ok(())
+}
+
+/// Lets a monitor of so many nodes follow the rows. It compacts where all nodes are in use and one is needed.
+fn play(rt: &impl Abort, alloc: Global, nodes: u16, rows: &[Row]) {
+    let mut monitor = new_monitor(rt, alloc, nodes);
+    let trace = trace_of(rt, alloc, rows);
+    follow(rt, &mut monitor, trace.as_slice(), rows);
 }
 
 /// Three reads outside blocks of what an open block wrote share a node, which goes with the block.
 #[test]
-fn reads_are_merged(rt: HostRuntime) -> Result<(), Fail> {
+fn reads_are_merged(rt: HostRuntime) {
     let open: &[Node] = &[(1, false, &[])];
     let merged: &[Node] = &[(1, false, &[]), (3, true, &[1])];
     play(
@@ -159,12 +186,12 @@ fn reads_are_merged(rt: HostRuntime) -> Result<(), Fail> {
             (1, Kind::Read(X, 1), false, Seen::Quiet, merged),
             (0, Kind::End, false, Seen::Quiet, &[]),
         ],
-    )
+    );
 }
 
 /// A read of what an open block wrote is not merged into that block: the block's next write closes a cycle.
 #[test]
-fn no_merge_into_an_open_block(rt: HostRuntime) -> Result<(), Fail> {
+fn no_merge_into_an_open_block(rt: HostRuntime) {
     let open: &[Node] = &[(1, false, &[])];
     let read: &[Node] = &[(1, false, &[]), (3, true, &[1])];
     play(
@@ -184,12 +211,63 @@ fn no_merge_into_an_open_block(rt: HostRuntime) -> Result<(), Fail> {
                 read,
             ),
         ],
-    )
+    );
+}
+
+/// What a block shares a second time another thread had alone in between, which closes a cycle.
+#[test]
+fn a_lock_taken_between_two_shares(rt: HostRuntime) {
+    let open: &[Node] = &[(1, false, &[])];
+    let taken: &[Node] = &[(1, false, &[]), (4, true, &[1])];
+    play(
+        &rt,
+        rt.alloc(),
+        2,
+        &[
+            (0, Kind::Fork(ThreadId(1)), false, Seen::Quiet, &[]),
+            (0, Kind::Begin(Label(1)), true, Seen::Quiet, open),
+            (0, Kind::AcquireShared(LOCK), false, Seen::Quiet, open),
+            (0, Kind::ReleaseShared(LOCK), false, Seen::Quiet, open),
+            (1, Kind::Acquire(LOCK), true, Seen::Quiet, taken),
+            (1, Kind::Release(LOCK), false, Seen::Quiet, taken),
+            (
+                0,
+                Kind::AcquireShared(LOCK),
+                false,
+                Seen::Closes { transaction: 1 },
+                taken,
+            ),
+        ],
+    );
+}
+
+/// Blocks that share a lock at the same time come neither before nor after one another.
+#[test]
+fn sharers_have_no_edges(rt: HostRuntime) {
+    let first: &[Node] = &[(1, false, &[])];
+    let both: &[Node] = &[(1, false, &[]), (3, false, &[])];
+    let second: &[Node] = &[(3, false, &[])];
+    play(
+        &rt,
+        rt.alloc(),
+        2,
+        &[
+            (0, Kind::Fork(ThreadId(1)), false, Seen::Quiet, &[]),
+            (0, Kind::Begin(Label(1)), true, Seen::Quiet, first),
+            (0, Kind::AcquireShared(LOCK), false, Seen::Quiet, first),
+            (1, Kind::Begin(Label(2)), true, Seen::Quiet, both),
+            (1, Kind::AcquireShared(LOCK), false, Seen::Quiet, both),
+            (0, Kind::ReleaseShared(LOCK), false, Seen::Quiet, both),
+            (1, Kind::ReleaseShared(LOCK), false, Seen::Quiet, both),
+            (0, Kind::End, false, Seen::Quiet, second),
+            (1, Kind::End, false, Seen::Quiet, &[]),
+        ],
+    );
 }
 
 /// A step of a block that has gone doesn't resolve, though its slot is used again.
 #[test]
-fn slots_are_used_again(rt: HostRuntime) -> Result<(), Fail> {
+fn slots_are_used_again(rt: HostRuntime) {
     let first: &[Node] = &[(1, false, &[])];
     let second: &[Node] = &[(4, false, &[])];
     play(
@@ -206,13 +284,13 @@ fn slots_are_used_again(rt: HostRuntime) -> Result<(), Fail> {
             (1, Kind::Write(X, 2), false, Seen::Quiet, second),
             (1, Kind::End, false, Seen::Quiet, &[]),
         ],
-    )
+    );
 }
 
 /// Four nodes are enough for two threads: of the blocks that read what an open block wrote, the later ones become the first. The
 /// block's next write closes a cycle through them.
 #[test]
-fn later_blocks_give_way(rt: HostRuntime) -> Result<(), Fail> {
+fn later_blocks_give_way(rt: HostRuntime) {
     let open: &[Node] = &[(1, false, &[])];
     let begun: &[Node] = &[(1, false, &[]), (3, false, &[])];
     let read: &[Node] = &[(1, false, &[]), (3, false, &[1])];
@@ -261,5 +339,5 @@ fn later_blocks_give_way(rt: HostRuntime) -> Result<(), Fail> {
                 left,
             ),
         ],
-    )
+    );
 }

@@ -1,14 +1,12 @@
 //! One growth is refused, whichever it is: the call tells it, and done again it answers as it would have. Without a refusal
 //! each call is done once.
-ghost use Rattle.std.specs.Prelude.{◌≡◌};
-
-use crate::growths::again;
+use super::config_for;
 use std::alloc::Global;
 use std::process::Abort;
 use std::sync::Wait;
 use std::thread::Threads;
-use velo_events::{Config, Memory, Refusal, ThreadId, VarId};
-use velo_worker::{Ending, LiveFault, OpenGate, live, replay};
+use velo_events::{Refusal, ThreadId, VarId};
+use velo_worker::{Ending, OpenGate, live, replay};
 use velo_workload::{WorkFault, Workload, parse};
 use velo_world::Closed;
 
@@ -16,13 +14,19 @@ use velo_world::Closed;
 const COUNTERS: &str =
     "var x\nlock m\nthread main\nfork a\nacquire m\nread x\nadd 1\nwrite x\nrelease m\njoin a\nthread a\nacquire m\nread x\nadd 1\nwrite x\nrelease m";
 
-/// A workload, and a configuration for its runs.
-fn workload(rt: &impl Abort, alloc: Global) -> (Workload, Config)
-    ensures { result.1.bounds ≡ result.0.bounds }
-{
-    let workload = again!(WorkFault::Memory, parse(alloc, COUNTERS)).expect(rt, "a workload");
-    let config = Config::new(0, workload.bounds(), 100, 64, false).expect(rt, "a configuration");
-    (workload, config)
+/// The workload; none where a growth was refused.
+fn parsed(rt: &impl Abort, alloc: Global) -> Option<Workload> {
+    match parse(alloc, COUNTERS) {
+        Ok(workload) => Some(workload),
+        Err(WorkFault::Memory) => None,
+        Err(_) => panic!(rt; "not a workload"),
+    }
+}
+
+fn workload(rt: &impl Abort, alloc: Global) -> Workload {
+    let first = parsed(rt, alloc);
+    let last = first.or_else(|| parsed(rt, alloc));
+    last.expect(rt, "memory")
 }
 
 /// Whether the run ended as it should.
@@ -46,14 +50,24 @@ fn is_refused(ending: Ending) -> bool {
     )
 }
 
-/// Whether a replay is whole; none where a growth was refused.
-fn replayed(rt: &impl Abort, alloc: Global) -> Option<bool> {
-    let (workload, config) = workload(rt, alloc);
-    match replay(alloc, &workload, &[], config) {
-        Ok((closed, ending)) if is_refused(ending) => None,
-        Ok((closed, ending)) => Some(is_whole(&closed, ending)),
-        Err(Memory) => None,
+/// Whether the run is whole; none where a growth was refused.
+fn judged(closed: &Closed, ending: Ending) -> Option<bool> {
+    if is_refused(ending) {
+        return None;
     }
+    Some(is_whole(closed, ending))
+}
+
+/// Whether a replay of the workload is whole; none where a growth was refused.
+fn replay_of(alloc: Global, workload: &Workload) -> Option<bool> {
+    let config = config_for(workload, 100, 64, false)?;
+    let (closed, ending) = replay(alloc, workload, &[], config).ok()?;
+    judged(&closed, ending)
+}
+
+fn replayed(rt: &impl Abort, alloc: Global) -> Option<bool> {
+    let workload = workload(rt, alloc);
+    replay_of(alloc, &workload)
 }
 
 #[test]
@@ -63,14 +77,20 @@ fn a_refused_growth_of_a_replay(rt: HostRuntime) {
     assert_eq!(rt; last, Some(true));
 }
 
-/// Whether a live run is whole; none where a growth was refused.
+/// Whether a live run of the workload is whole; none where a growth was refused.
+fn live_run_of<R: Threads + Wait + Sync>(
+    rt: &R,
+    alloc: Global,
+    workload: &Workload,
+) -> Option<bool> {
+    let config = config_for(workload, 100, 64, false)?;
+    let (closed, ending) = live(rt, alloc, workload, config, &OpenGate).ok()?;
+    judged(&closed, ending)
+}
+
 fn lived<R: Threads + Wait + Abort + Sync>(rt: &R, alloc: Global) -> Option<bool> {
-    let (workload, config) = workload(rt, alloc);
-    match live(rt, alloc, &workload, config, &OpenGate) {
-        Ok((closed, ending)) if is_refused(ending) => None,
-        Ok((closed, ending)) => Some(is_whole(&closed, ending)),
-        Err(LiveFault::Memory | LiveFault::Lost) => None,
-    }
+    let workload = workload(rt, alloc);
+    live_run_of(rt, alloc, &workload)
 }
 
 #[test]

@@ -1,12 +1,13 @@
+use super::config_for;
 use std::alloc::Global;
 use std::sync::Wait;
 use std::sync::atomic::{AtomicU64, Ordering};
 use std::thread;
 use std::thread::Threads;
-use velo_events::{Config, ThreadId, VarId};
+use velo_events::{ThreadId, VarId};
 use velo_traces::Block;
 use velo_worker::{Ending, Gate, OpenGate, live};
-use velo_workload::parse;
+use velo_workload::{Workload, parse};
 use velo_world::{Alarm, Closed};
 
 /// Two threads add to one variable under a lock, each a thousand times.
@@ -214,12 +215,27 @@ fn has_alarm(closed: &Closed, labels: &[String], shown: &Shown<'_>) -> bool {
 }
 
 fn looks_as(closed: &Closed, labels: &[String], shown: &Shown<'_>) -> bool {
-    has_counts(closed, shown.counts)
-        && first_variable(closed) == shown.first
-        && has_alarm(closed, labels, shown)
+    let has_alarm = has_alarm(closed, labels, shown);
+    let has_counts = has_counts(closed, shown.counts);
+    let first = first_variable(closed);
+    has_alarm && has_counts && first == shown.first
 }
 
-/// Whether the run of a workload shows what it should.
+/// Whether a live run of the workload shows what it should.
+fn run_shows<G: Gate + Sync, R: Threads + Wait + Sync>(
+    rt: &R,
+    alloc: Global,
+    workload: &Workload,
+    gate: &G,
+    shown: &Shown<'_>,
+) -> Option<bool> {
+    let config = config_for(workload, 20_000, 4_096, false)?;
+    let (closed, ending) = live(rt, alloc, workload, config, gate).ok()?;
+    let looks_so = looks_as(&closed, workload.label_names(), shown);
+    Some(looks_so && ending == shown.ending)
+}
+
+/// Whether a live run of the text's workload shows what it should.
 fn shows<G: Gate + Sync, R: Threads + Wait + Sync>(
     rt: &R,
     alloc: Global,
@@ -228,31 +244,53 @@ fn shows<G: Gate + Sync, R: Threads + Wait + Sync>(
     shown: &Shown<'_>,
 ) -> Option<bool> {
     let workload = parse(alloc, text).ok()?;
-    let config = Config::new(0, workload.bounds(), 20_000, 4_096, false).ok()?;
-    let (closed, ending) = live(rt, alloc, &workload, config, gate).ok()?;
-    Some(looks_as(&closed, workload.label_names(), shown) && ending == shown.ending)
+    run_shows(rt, alloc, &workload, gate, shown)
 }
+
+/// A live run in which two threads take turns, and what it shows.
+struct InTurns {
+    text: &'static str,
+    turns: [Turn; 3],
+    shown: Shown<'static>,
+}
+
+static IN_TURNS: [InTurns; 4] = [
+    InTurns {
+        text: LOST_UPDATE,
+        turns: LOST_ORDER,
+        shown: LOST,
+    },
+    InTurns {
+        text: OPPOSITE,
+        turns: BOTH_HOLD,
+        shown: STUCK,
+    },
+    InTurns {
+        text: SHARE,
+        turns: BOTH_SHARE,
+        shown: SHARED,
+    },
+    InTurns {
+        text: OPPOSITE_SHARE,
+        turns: BOTH_HOLD,
+        shown: STUCK,
+    },
+];
 
 #[test]
 fn live_runs_end_as_they_should(rt: HostRuntime) {
     let alloc = rt.alloc();
-    assert_eq!(rt;
-        shows(&rt, alloc, COUNTERS, &OpenGate, &COUNTED),
-        Some(true)
-    );
-    assert_eq!(rt;
-        shows(&rt, alloc, LOST_UPDATE, &ShutGate, &GATED),
-        Some(true)
-    );
-    for (text, turns, shown) in [
-        (LOST_UPDATE, LOST_ORDER, LOST),
-        (OPPOSITE, BOTH_HOLD, STUCK),
-        (SHARE, BOTH_SHARE, SHARED),
-        (OPPOSITE_SHARE, BOTH_HOLD, STUCK),
-    ] {
-        assert_eq!(rt;
-            shows(&rt, alloc, text, &Order::of(turns), &shown),
-            Some(true)
-        );
+    let counted = shows(&rt, alloc, COUNTERS, &OpenGate, &COUNTED);
+    assert_eq!(rt; counted, Some(true));
+    let gated = shows(&rt, alloc, LOST_UPDATE, &ShutGate, &GATED);
+    assert_eq!(rt; gated, Some(true));
+}
+
+#[test]
+fn threads_take_turns(rt: HostRuntime) {
+    for run in &IN_TURNS {
+        let order = Order::of(run.turns);
+        let shown = shows(&rt, rt.alloc(), run.text, &order, &run.shown);
+        assert_eq!(rt; shown, Some(true));
     }
 }

@@ -1,17 +1,16 @@
 //! One growth is refused, whichever it is: the call tells it and leaves no trace, and done again it answers as it would have.
 //! Without a refusal each call is done once.
 ghost use Rattle.std.specs.Prelude.{◌≤◌};
-ghost use Rattle.velo_world.specs.World.{FitsLog};
 
 use super::{
-    LOST_UPDATE, M, MAIN, OTHER, Outcome, RECORDED, X, events_at_its_end, is_alarm_at,
+    LOST_UPDATE, M, MAIN, OTHER, Outcome, RECORDED, X, act, events_at_its_end, is_alarm_at,
     lost_update_outcome, new_world, open_world, replied, two_threads,
 };
 use crate::growths::again;
 use std::alloc::Global;
 use std::process::Abort;
 use velo_events::{Action, Bounds, Config, Event, Kind, Label, Memory, Refusal, ThreadId};
-use velo_ledger::{Share, Shares, Tally};
+use velo_ledger::{Shares, Tally};
 use velo_traces::Trace;
 use velo_world::{Closed, ReliveFault, World};
 
@@ -27,40 +26,6 @@ fn a_refused_growth_of_a_new_world(rt: HostRuntime) {
     assert!(rt; world.fits(&share) && share.thread() == MAIN);
     assert!(rt; world.log().is_empty() && world.monitor().used() == 0);
     drop((world, share));
-}
-
-/// Does an action by the thread's share.
-fn act(
-    rt: &impl Abort,
-    world: &mut World,
-    shares: &mut Shares,
-    thread: ThreadId,
-    action: Action,
-) -> Outcome {
-    let mut share = shares.take(thread).expect(rt, "no share");
-    assert!(rt; world.fits(&share));
-    let outcome = match action {
-        Action::Fork(child) => fork(rt, world, shares, &mut share, child),
-        _ => world.act(&mut share, action),
-    };
-    assert!(rt; world.fits(&share) && shares.put(share).is_ok());
-    outcome
-}
-
-/// Forks a thread, whose share comes to its place.
-fn fork(
-    rt: &impl Abort,
-    world: &mut World,
-    shares: &mut Shares,
-    share: &mut Share,
-    child: ThreadId,
-) -> Outcome
-    requires { FitsLog world.old share.old }
-    ensures { FitsLog world.new share.new }
-{
-    let (reply, born) = world.fork(share, child)?;
-    assert!(rt; shares.put(born).is_ok());
-    Ok(reply)
 }
 
 /// What shows a trace of an action.
