@@ -1,6 +1,7 @@
 mod growths;
 mod slow;
 
+use crate::traces::logs;
 use crate::words::{begin, end, exit, fork, join, read, trace_of, write};
 use slow::{is_cycle, is_serial, trace_by_chance};
 use std::alloc::Global;
@@ -152,6 +153,89 @@ fn worked_logs(rt: HostRuntime) -> Result<(), Fail> {
         without: &[4],
     };
     judge_all(&rt, rt.alloc(), &[lost_update, joined, two_cycles, clean])
+}
+
+#[test]
+fn logs_that_share_a_lock(rt: HostRuntime) -> Result<(), Fail> {
+    let two_sharers = Known {
+        log: "two sharers",
+        events: &logs::two_sharers(),
+        list: &[0, 1, 2, 5, 8, 10, 3, 4, 6, 7, 9],
+        serial: true,
+        without: &[8, 10],
+    };
+    let shared_twice = Known {
+        log: "lock shared twice",
+        events: &logs::lock_shared_twice(),
+        list: &[1, 4],
+        serial: false,
+        without: &[4, 5],
+    };
+    judge_all(&rt, rt.alloc(), &[two_sharers, shared_twice])
+}
+
+/// Two ways lead from the second transaction back to the first, and the one that is found first goes through the later
+/// block.
+fn two_ways_back() -> [Event; 16] {
+    [
+        begin(0, 1),
+        write(0, 0, 1),
+        begin(1, 2),
+        read(1, 0, 1),
+        write(1, 1, 1),
+        write(1, 2, 1),
+        end(1),
+        begin(2, 3),
+        read(2, 1, 1),
+        write(2, 3, 1),
+        end(2),
+        begin(3, 4),
+        read(3, 2, 1),
+        write(3, 4, 1),
+        read(0, 4, 1),
+        read(0, 3, 1),
+    ]
+}
+
+/// Two blocks follow the first, and the earlier of them leads back to it through the later of two others.
+fn two_ways_there() -> [Event; 16] {
+    [
+        begin(0, 1),
+        write(0, 0, 1),
+        begin(1, 2),
+        read(1, 0, 1),
+        begin(2, 3),
+        read(2, 0, 1),
+        write(2, 1, 1),
+        write(1, 2, 1),
+        begin(3, 4),
+        read(3, 1, 1),
+        write(3, 3, 1),
+        begin(4, 5),
+        read(4, 2, 1),
+        write(4, 4, 1),
+        read(0, 3, 1),
+        read(0, 4, 1),
+    ]
+}
+
+#[test]
+fn the_least_of_several_shortest_cycles(rt: HostRuntime) -> Result<(), Fail> {
+    let back = Known {
+        log: "two ways back",
+        events: &two_ways_back(),
+        list: &[0, 2, 7],
+        serial: false,
+        without: &[13],
+    };
+    let there = Known {
+        log: "two ways there",
+        events: &two_ways_there(),
+        list: &[0, 2, 11],
+        serial: false,
+        without: &[13],
+    };
+    judge_all(&rt, rt.alloc(), &[back, there])
 }
 
 #[test]

@@ -1,3 +1,4 @@
+use crate::traces::logs;
 use crate::words::{acquire, begin, end, fork, read, release, trace_of, write};
 use std::alloc::Global;
 use std::process::Abort;
@@ -141,6 +142,68 @@ digraph cycle {
 ",
     };
     for known in &[lost_update, crossed, nested] {
+        let trace = trace_of(rt.alloc(), known.events)?;
+        compare(&rt, rt.alloc(), &trace, known)?;
+    }
+    Ok(())
+}
+
+#[test]
+fn alarms_by_sharers_and_of_nested_blocks(rt: HostRuntime) -> Result<(), Fail> {
+    let shared_twice = Known {
+        events: &logs::lock_shared_twice(),
+        position: 6,
+        blamed: &[block(1, 1)],
+        text: "\
+The blocks of this log cannot be serialized.
+Line 8 `0 acqs 0` closes a cycle of 2 transactions:
+  T1: thread 0, block 1, lines 3 to 8
+  T2: thread 1, outside blocks, line 6
+Each must come before the next, and the last before the first:
+  T1 before T2: line 5 `0 rels 0`, then line 6 `1 acq 0`
+  T2 before T1: line 6 `1 acq 0`, then line 8 `0 acqs 0`
+To blame in thread 0:
+  block 1, from line 3: line 6 `1 acq 0` must come after its begin and before line 8
+",
+        picture: "\
+digraph cycle {
+  rankdir=LR;
+  node [shape=box];
+  subgraph cluster_0 { label=\"thread 0\"; T1 [label=\"T1: block 1\\nlines 3 to 8\"]; }
+  subgraph cluster_1 { label=\"thread 1\"; T2 [label=\"T2: outside blocks\\nline 6\"]; }
+  T1 -> T2 [label=\"line 5: 0 rels 0\\nline 6: 1 acq 0\"];
+  T2 -> T1 [label=\"line 6: 1 acq 0\\nline 8: 0 acqs 0\"];
+}
+",
+    };
+    let both_blamed = Known {
+        events: &logs::inner_block_before_the_read(),
+        position: 5,
+        blamed: &[block(1, 1), block(2, 2)],
+        text: "\
+The blocks of this log cannot be serialized.
+Line 7 `0 wr 0 4` closes a cycle of 2 transactions:
+  T1: thread 0, block 1, lines 3 to 7
+  T2: thread 1, outside blocks, line 6
+Each must come before the next, and the last before the first:
+  T1 before T2: line 5 `0 rd 0 0`, then line 6 `1 wr 0 3`
+  T2 before T1: line 6 `1 wr 0 3`, then line 7 `0 wr 0 4`
+To blame in thread 0:
+  block 1, from line 3: line 6 `1 wr 0 3` must come after its begin and before line 7
+  block 2, from line 4: line 6 `1 wr 0 3` must come after its begin and before line 7
+",
+        picture: "\
+digraph cycle {
+  rankdir=LR;
+  node [shape=box];
+  subgraph cluster_0 { label=\"thread 0\"; T1 [label=\"T1: block 1\\nlines 3 to 7\"]; }
+  subgraph cluster_1 { label=\"thread 1\"; T2 [label=\"T2: outside blocks\\nline 6\"]; }
+  T1 -> T2 [label=\"line 5: 0 rd 0 0\\nline 6: 1 wr 0 3\"];
+  T2 -> T1 [label=\"line 6: 1 wr 0 3\\nline 7: 0 wr 0 4\"];
+}
+",
+    };
+    for known in &[shared_twice, both_blamed] {
         let trace = trace_of(rt.alloc(), known.events)?;
         compare(&rt, rt.alloc(), &trace, known)?;
     }

@@ -110,6 +110,89 @@ fn refusals_in_their_order(rt: HostRuntime) {
     assert_eq!(rt; heap.holder(LockId(0)), None);
 }
 
+/// What is tried with a lock that is shared, one after another.
+const SHARING_STEPS: [Step; 32] = [
+    (1, Action::AcquireShared(LockId(0)), Some(Refusal::NotLive)),
+    (
+        0,
+        Action::AcquireShared(LockId(1)),
+        Some(Refusal::NoSuchLock),
+    ),
+    (
+        0,
+        Action::ReleaseShared(LockId(1)),
+        Some(Refusal::NoSuchLock),
+    ),
+    (0, Action::Fork(ThreadId(1)), None),
+    (0, Action::Fork(ThreadId(2)), None),
+    (
+        0,
+        Action::ReleaseShared(LockId(0)),
+        Some(Refusal::NotHolder),
+    ),
+    // one sharer
+    (0, Action::AcquireShared(LockId(0)), None),
+    (
+        0,
+        Action::AcquireShared(LockId(0)),
+        Some(Refusal::AlreadyHeld),
+    ),
+    (0, Action::Acquire(LockId(0)), Some(Refusal::AlreadyHeld)),
+    (0, Action::Release(LockId(0)), Some(Refusal::NotHolder)),
+    (0, Action::Exit, Some(Refusal::LockHeld)),
+    (1, Action::Acquire(LockId(0)), Some(Refusal::Busy)),
+    (
+        1,
+        Action::ReleaseShared(LockId(0)),
+        Some(Refusal::NotHolder),
+    ),
+    // two sharers: a lock that the thread shares itself is not busy
+    (1, Action::AcquireShared(LockId(0)), None),
+    (1, Action::Acquire(LockId(0)), Some(Refusal::AlreadyHeld)),
+    (2, Action::Acquire(LockId(0)), Some(Refusal::Busy)),
+    (0, Action::ReleaseShared(LockId(0)), None),
+    (2, Action::Acquire(LockId(0)), Some(Refusal::Busy)),
+    (1, Action::Exit, Some(Refusal::LockHeld)),
+    (1, Action::ReleaseShared(LockId(0)), None),
+    (
+        1,
+        Action::ReleaseShared(LockId(0)),
+        Some(Refusal::NotHolder),
+    ),
+    // a holder, who does not share it
+    (2, Action::Acquire(LockId(0)), None),
+    (
+        2,
+        Action::AcquireShared(LockId(0)),
+        Some(Refusal::AlreadyHeld),
+    ),
+    (
+        2,
+        Action::ReleaseShared(LockId(0)),
+        Some(Refusal::NotHolder),
+    ),
+    (0, Action::AcquireShared(LockId(0)), Some(Refusal::Busy)),
+    (2, Action::Release(LockId(0)), None),
+    // sharers are left
+    (0, Action::AcquireShared(LockId(0)), None),
+    (2, Action::AcquireShared(LockId(0)), None),
+    (0, Action::Begin(Label(7)), None),
+    (0, Action::Exit, Some(Refusal::BlockOpen)),
+    (0, Action::End, None),
+    (0, Action::Exit, Some(Refusal::LockHeld)),
+];
+
+#[test]
+fn sharers_of_a_lock(rt: HostRuntime) {
+    let mut heap = heap_of_three_threads(&rt, rt.alloc());
+    assert_eq!(rt; first_surprise(&mut heap, &SHARING_STEPS), None);
+    assert_eq!(rt; heap.holder(LockId(0)), None);
+    assert_eq!(rt; heap.sharers(LockId(0)), 0b101);
+    for (thread, shares) in [(0, true), (1, false), (2, true)] {
+        assert_eq!(rt; heap.shares(LockId(0), ThreadId(thread)), shares);
+    }
+}
+
 #[test]
 fn values_and_holders(rt: HostRuntime) {
     let mut heap = heap_of_three_threads(&rt, rt.alloc());

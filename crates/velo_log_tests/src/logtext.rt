@@ -19,22 +19,30 @@ fn fault_of(alloc: Global, text: &[u8]) -> Option<LogFault> {
     read_log(alloc, &mut Bytes::new(text)).err()
 }
 
-/// Logs as in the worked examples, and each kind of line at the ends of its numbers' ranges.
+/// Logs in which no lock is shared: as in the worked examples, and each kind of line at the ends of its numbers' ranges.
 const LOGS: [&str; 14] = [
-    "vlog 1 1 0 0\n",
-    "vlog 1 2 1 0\n0 fork 1\n0 begin 7\n0 rd 0 0\n1 wr 0 5\n0 wr 0 1\n",
-    "vlog 1 2 2 0\n0 fork 1\n0 begin 1\n0 wr 0 1\n1 begin 2\n1 wr 1 1\n0 rd 1 1\n1 rd 0 1\n",
-    "vlog 1 2 0 0\n0 begin 1\n0 fork 1\n1 exit\n0 join 1\n",
-    "vlog 1 2 1 0\n0 fork 1\n0 begin 1\n0 rd 0 0\n0 begin 2\n1 wr 0 3\n0 wr 0 4\n",
-    "vlog 1 2 1 0\n0 fork 1\n0 begin 1\n0 begin 2\n0 rd 0 0\n1 wr 0 3\n0 wr 0 4\n",
-    "vlog 1 2 1 1\n0 fork 1\n0 begin 1\n0 acq 0\n0 rd 0 0\n0 rel 0\n1 acq 0\n1 wr 0 9\n1 rel 0\n0 acq 0\n",
-    "vlog 1 2 1 1\n0 fork 1\n0 begin 1\n0 acq 0\n0 rd 0 0\n0 wr 0 1\n0 rel 0\n0 end\n1 begin 1\n1 acq 0\n1 rd 0 1\n1 wr 0 2\n1 rel 0\n1 end\n",
-    "vlog 1 2 1 0\n0 fork 1\n0 begin 1\n0 wr 0 1\n1 rd 0 1\n0 wr 0 2\n",
-    "vlog 1 2 1 0\n0 fork 1\n0 begin 1\n0 wr 0 1\n0 end\n1 begin 2\n0 rd 0 1\n1 wr 0 2\n1 end\n",
-    "vlog 1 2 1 0\n0 fork 1\n0 begin 1\n1 wr 0 2\n0 rd 0 2\n0 end\n",
-    "vlog 1 2 1 1\n0 fork 1\n0 acq 0\n0 rel 0\n1 exit\n0 join 1\n0 end\n",
-    "vlog 1 64 65535 4096\n255 rd 65535 18446744073709551615\n255 wr 0 18446744073709551615\n",
-    "vlog 1 10 9 10\n0 begin 4294967295\n0 acq 65535\n9 rel 10\n10 fork 255\n99 join 0\n",
+    "vlog 2 1 0 0\n",
+    "vlog 2 2 1 0\n0 fork 1\n0 begin 7\n0 rd 0 0\n1 wr 0 5\n0 wr 0 1\n",
+    "vlog 2 2 2 0\n0 fork 1\n0 begin 1\n0 wr 0 1\n1 begin 2\n1 wr 1 1\n0 rd 1 1\n1 rd 0 1\n",
+    "vlog 2 2 0 0\n0 begin 1\n0 fork 1\n1 exit\n0 join 1\n",
+    "vlog 2 2 1 0\n0 fork 1\n0 begin 1\n0 rd 0 0\n0 begin 2\n1 wr 0 3\n0 wr 0 4\n",
+    "vlog 2 2 1 0\n0 fork 1\n0 begin 1\n0 begin 2\n0 rd 0 0\n1 wr 0 3\n0 wr 0 4\n",
+    "vlog 2 2 1 1\n0 fork 1\n0 begin 1\n0 acq 0\n0 rd 0 0\n0 rel 0\n1 acq 0\n1 wr 0 9\n1 rel 0\n0 acq 0\n",
+    "vlog 2 2 1 1\n0 fork 1\n0 begin 1\n0 acq 0\n0 rd 0 0\n0 wr 0 1\n0 rel 0\n0 end\n1 begin 1\n1 acq 0\n1 rd 0 1\n1 wr 0 2\n1 rel 0\n1 end\n",
+    "vlog 2 2 1 0\n0 fork 1\n0 begin 1\n0 wr 0 1\n1 rd 0 1\n0 wr 0 2\n",
+    "vlog 2 2 1 0\n0 fork 1\n0 begin 1\n0 wr 0 1\n0 end\n1 begin 2\n0 rd 0 1\n1 wr 0 2\n1 end\n",
+    "vlog 2 2 1 0\n0 fork 1\n0 begin 1\n1 wr 0 2\n0 rd 0 2\n0 end\n",
+    "vlog 2 2 1 1\n0 fork 1\n0 acq 0\n0 rel 0\n1 exit\n0 join 1\n0 end\n",
+    "vlog 2 64 65535 4096\n255 rd 65535 18446744073709551615\n255 wr 0 18446744073709551615\n",
+    "vlog 2 10 9 10\n0 begin 4294967295\n0 acq 65535\n9 rel 10\n10 fork 255\n99 join 0\n0 rel 65535\n0 wr 65535 0\n0 join 255\n",
+];
+
+/// Logs in which locks are shared.
+const SHARING_LOGS: [&str; 4] = [
+    "vlog 2 2 1 1\n0 fork 1\n0 begin 1\n0 acqs 0\n1 begin 2\n1 acqs 0\n0 rd 0 0\n1 rd 0 0\n1 rels 0\n0 rels 0\n1 end\n0 end\n",
+    "vlog 2 2 0 1\n0 fork 1\n0 begin 1\n0 acqs 0\n0 rels 0\n1 acq 0\n1 rel 0\n0 acqs 0\n",
+    "vlog 2 1 0 1\n0 acqs 0\n0 acq 0\n",
+    "vlog 2 64 65535 4096\n255 acqs 65535\n255 rels 0\n0 acqs 0\n99 rels 65535\n",
 ];
 
 /// Reads a log in steps and writes it in steps.
@@ -47,11 +55,40 @@ fn written_again(alloc: Global, log: &[u8], step: usize) -> Result<Text, Fail> {
 
 #[test]
 fn logs_come_back(rt: HostRuntime) -> Result<(), Fail> {
-    for log in LOGS {
+    for log in LOGS.iter().chain(&SHARING_LOGS) {
         for step in [1, 3, 64, usize::MAX] {
             let sink = written_again(rt.alloc(), log.as_bytes(), step)?;
             assert_eq!(rt; sink.as_slice(), log.as_bytes(), "{log}");
         }
+    }
+    Ok(())
+}
+
+/// The text of a log in version 1.
+fn in_version_1(alloc: Global, log: &str) -> Result<Vec<u8>, Fail> {
+    let mut text = Vec::new(alloc);
+    text.extend_from_slice(b"vlog 1")?;
+    text.extend_from_slice(log.as_bytes().get(6..).unwrap_or_default())?;
+    Ok(text)
+}
+
+/// Of a log in version 1 the version alone is written anew.
+#[test]
+fn logs_of_version_1_come_back_in_version_2(rt: HostRuntime) -> Result<(), Fail> {
+    for log in LOGS {
+        let old = in_version_1(rt.alloc(), log)?;
+        let sink = written_again(rt.alloc(), old.as_slice(), usize::MAX)?;
+        assert_eq!(rt; sink.as_slice(), log.as_bytes(), "{log}");
+    }
+    Ok(())
+}
+
+#[test]
+fn version_1_has_no_shared_locks(rt: HostRuntime) -> Result<(), Fail> {
+    for (log, line) in SHARING_LOGS.iter().zip([4, 4, 2, 2]) {
+        let old = in_version_1(rt.alloc(), *log)?;
+        let fault = Some(LogFault::BadLine(line));
+        assert_eq!(rt; fault_of(rt.alloc(), old.as_slice()), fault, "{log}");
     }
     Ok(())
 }
@@ -61,7 +98,7 @@ type Case<'a> = (&'a str, Option<LogFault>);
 
 const BAD_HEADER: Option<LogFault> = Some(LogFault::BadHeader);
 
-const FIRST_LINES: [Case; 19] = [
+const FIRST_LINES: [Case; 35] = [
     ("", BAD_HEADER),
     ("\n", BAD_HEADER),
     ("vlog 1 1 0 0", BAD_HEADER),
@@ -71,7 +108,17 @@ const FIRST_LINES: [Case; 19] = [
     ("vlog 1 1 0 4097\n", BAD_HEADER),
     ("vlog 01 1 0 0\n", BAD_HEADER),
     ("vlog 1 01 0 0\n", BAD_HEADER),
-    ("vlog 2 1 0 0\n", BAD_HEADER),
+    ("vlog 0 1 0 0\n", BAD_HEADER),
+    ("vlog 3 1 0 0\n", BAD_HEADER),
+    ("vlog 12 1 0 0\n", BAD_HEADER),
+    ("vlog 02 1 0 0\n", BAD_HEADER),
+    ("vlog  1 0 0\n", BAD_HEADER),
+    ("vlog 2 1 0 0", BAD_HEADER),
+    ("vlog 2 0 0 0\n", BAD_HEADER),
+    ("vlog 2 65 0 0\n", BAD_HEADER),
+    ("vlog 2 1 65536 0\n", BAD_HEADER),
+    ("vlog 2 1 0 4097\n", BAD_HEADER),
+    ("vlog 2 1 0 00\n", BAD_HEADER),
     ("vlog 1  1 0 0\n", BAD_HEADER),
     ("vlog 1 1 0 0 \n", BAD_HEADER),
     ("vlog 1 1 0 0\r\n", BAD_HEADER),
@@ -79,13 +126,19 @@ const FIRST_LINES: [Case; 19] = [
     (" vlog 1 1 0 0\n", BAD_HEADER),
     ("vlog 1 1 0\n", BAD_HEADER),
     ("vlog 1 +1 0 0\n", BAD_HEADER),
+    ("vlog 1 1 0 0\n", None),
+    ("vlog 1 64 0 0\n", None),
     ("vlog 1 1 65535 0\n", None),
-    ("vlog 1 64 0 4096\n", None),
+    ("vlog 1 1 0 4096\n", None),
+    ("vlog 2 1 0 0\n", None),
+    ("vlog 2 64 0 0\n", None),
+    ("vlog 2 1 65535 0\n", None),
+    ("vlog 2 1 0 4096\n", None),
 ];
 
 const SECOND: Option<LogFault> = Some(LogFault::BadLine(2));
 
-const LATER_LINES: [Case; 27] = [
+const LATER_LINES: [Case; 40] = [
     ("vlog 1 1 1 1\n0 rd 0 01\n", SECOND),
     ("vlog 1 1 1 1\n00 end\n", SECOND),
     ("vlog 1 1 1 1\n0 end\n\n", Some(LogFault::BadLine(3))),
@@ -109,6 +162,22 @@ const LATER_LINES: [Case; 27] = [
     ("vlog 1 1 1 1\n0 rd 0\n", SECOND),
     ("vlog 1 1 1 1\n0 begin\n", SECOND),
     ("vlog 1 1 1 1\n0 racq 0\n", SECOND),
+    ("vlog 1 1 1 1\n0 acqs 0\n", SECOND),
+    ("vlog 1 1 1 1\n0 rels 0\n", SECOND),
+    ("vlog 1 1 1 1\n0 acqs 0", Some(LogFault::Truncated(2))),
+    ("vlog 2 1 1 1\n0 acqs\n", SECOND),
+    ("vlog 2 1 1 1\n0 acqs 0 0\n", SECOND),
+    ("vlog 2 1 1 1\n0 acqs 00\n", SECOND),
+    ("vlog 2 1 1 1\n0 acqs 65536\n", SECOND),
+    ("vlog 2 1 1 1\n0 rels 65536\n", SECOND),
+    ("vlog 2 1 1 1\n256 rels 0\n", SECOND),
+    ("vlog 2 1 1 1\n0 acqr 0\n", SECOND),
+    ("vlog 2 1 1 1\n0 acq s0\n", SECOND),
+    (
+        "vlog 2 1 1 1\n0 acqs 0\n0 rels 0\n0 share 0\n",
+        Some(LogFault::BadLine(4)),
+    ),
+    ("vlog 2 1 1 1\n0 rels 0", Some(LogFault::Truncated(2))),
     ("vlog 1 1 1 1\n0 wr 0 1", Some(LogFault::Truncated(2))),
     (
         "vlog 1 1 1 1\n0 end\n0 end\n0",
@@ -228,7 +297,7 @@ fn written_failing(alloc: Global, log: &[u8], count: usize) -> Result<(bool, Tex
 
 #[test]
 fn devices_that_fail(rt: HostRuntime) -> Result<(), Fail> {
-    let log = "vlog 1 1 0 0\n0 exit\n".as_bytes();
+    let log = "vlog 2 1 0 0\n0 exit\n".as_bytes();
     for count in 0..log.len() {
         let read = read_failing(rt.alloc(), log, count);
         assert_eq!(rt; read, (Some(LogFault::Read), true));
@@ -389,7 +458,7 @@ fn read_and_write(alloc: Global, log: &[u8]) -> Result<(Vec<u8>, bool, u64), Fai
 fn readers_and_writers(rt: HostRuntime) -> Result<(), Fail> {
     let log = "vlog 1 1 0 0\n0 exit\n".as_bytes();
     let (written, has_failed, failures) = read_and_write(rt.alloc(), log)?;
-    assert_eq!(rt; written.as_slice(), "vlog 1 1 0 0\n0 exit\n!".as_bytes());
+    assert_eq!(rt; written.as_slice(), "vlog 2 1 0 0\n0 exit\n!".as_bytes());
     assert_eq!(rt; (has_failed, failures), (true, 1));
     Ok(())
 }

@@ -1,7 +1,10 @@
 mod graph;
-mod logs;
+pub mod logs;
 
-use crate::words::{acquire, begin, end, exit, fork, join, read, release, trace_of, write};
+use crate::words::{
+    acquire, acquire_shared, begin, end, exit, fork, join, read, release, release_shared, trace_of,
+    write,
+};
 use graph::{Edge, edges_of, first_closing, owners_of, pairs_of};
 use smallvec::SmallVec;
 use std::alloc::Global;
@@ -169,6 +172,31 @@ fn blocks_that_take_a_lock(rt: HostRuntime) -> Result<(), Fail> {
     Ok(())
 }
 
+#[test]
+fn blocks_that_share_a_lock(rt: HostRuntime) -> Result<(), Fail> {
+    for known in [
+        Known {
+            log: "two sharers",
+            events: &logs::two_sharers(),
+            owners: &[0, 1, 1, 3, 3, 1, 3, 3, 1, 3, 1],
+            edges: &[(0, 1), (0, 3)],
+            closing: None,
+            open: [&[], &[]],
+        },
+        Known {
+            log: "lock shared twice",
+            events: &logs::lock_shared_twice(),
+            owners: &[0, 1, 1, 1, 4, 5, 1],
+            edges: &[(0, 1), (0, 4), (1, 4), (0, 5), (1, 5), (4, 5), (4, 1), (5, 1)],
+            closing: Some(6),
+            open: [&[block(1, 1)], &[]],
+        },
+    ] {
+        judge(&rt, rt.alloc(), &known)?;
+    }
+    Ok(())
+}
+
 fn judge_flaw(
     rt: &impl Abort,
     alloc: Global,
@@ -223,6 +251,54 @@ fn flaws_of_locks_and_blocks(rt: HostRuntime) -> Result<(), Fail> {
         ),
         (&[acquire(0, 0), exit(0)], 1, Refusal::LockHeld),
         (&[begin(0, 1), end(0), end(0)], 2, Refusal::NoOpenBlock),
+    ];
+    for (events, position, refusal) in refused {
+        judge_flaw(&rt, rt.alloc(), events, position, Flaw::Refused(refusal))?;
+    }
+    Ok(())
+}
+
+#[test]
+fn flaws_of_shared_locks(rt: HostRuntime) -> Result<(), Fail> {
+    let refused: [(&[Event], usize, Refusal); 12] = [
+        (&[acquire_shared(0, 1)], 0, Refusal::NoSuchLock),
+        (&[release_shared(0, 1)], 0, Refusal::NoSuchLock),
+        (&[acquire_shared(0, 0), acquire(0, 0)], 1, Refusal::AlreadyHeld),
+        (
+            &[acquire_shared(0, 0), acquire_shared(0, 0)],
+            1,
+            Refusal::AlreadyHeld,
+        ),
+        (&[acquire(0, 0), acquire_shared(0, 0)], 1, Refusal::AlreadyHeld),
+        (&[acquire_shared(0, 0), exit(0)], 1, Refusal::LockHeld),
+        (&[acquire_shared(0, 0), release(0, 0)], 1, Refusal::NotHolder),
+        (&[acquire(0, 0), release_shared(0, 0)], 1, Refusal::NotHolder),
+        (
+            &[acquire_shared(0, 0), release_shared(0, 0), release_shared(0, 0)],
+            2,
+            Refusal::NotHolder,
+        ),
+        (
+            &[fork(0, 1), acquire_shared(0, 0), acquire(1, 0)],
+            2,
+            Refusal::Busy,
+        ),
+        (
+            &[fork(0, 1), acquire(0, 0), acquire_shared(1, 0)],
+            2,
+            Refusal::Busy,
+        ),
+        // a lock that the thread shares itself is not busy
+        (
+            &[
+                fork(0, 1),
+                acquire_shared(0, 0),
+                acquire_shared(1, 0),
+                acquire(1, 0),
+            ],
+            3,
+            Refusal::AlreadyHeld,
+        ),
     ];
     for (events, position, refusal) in refused {
         judge_flaw(&rt, rt.alloc(), events, position, Flaw::Refused(refusal))?;

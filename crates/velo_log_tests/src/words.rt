@@ -26,6 +26,14 @@ pub fn release(thread: u8, lock: u16) -> Event {
     by(thread, Kind::Release(LockId(lock)))
 }
 
+pub fn acquire_shared(thread: u8, lock: u16) -> Event {
+    by(thread, Kind::AcquireShared(LockId(lock)))
+}
+
+pub fn release_shared(thread: u8, lock: u16) -> Event {
+    by(thread, Kind::ReleaseShared(LockId(lock)))
+}
+
 pub fn begin(thread: u8, label: u32) -> Event {
     by(thread, Kind::Begin(Label(label)))
 }

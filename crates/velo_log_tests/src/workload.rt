@@ -49,6 +49,29 @@ const FIRST_FAULTS: &[(&str, Option<WorkFault>)] = &[
         Some(WorkFault::Unknown(3)),
     ),
     ("lock m\nthread main\nshare", Some(WorkFault::BadLine(3))),
+    ("lock m\nthread main\nunshare", Some(WorkFault::BadLine(3))),
+    (
+        "lock m\nthread main\nshare m m",
+        Some(WorkFault::BadLine(3)),
+    ),
+    ("lock m\nthread main\nshare 1m", Some(WorkFault::BadLine(3))),
+    ("lock m\nshare m\nthread main", Some(WorkFault::BadLine(2))),
+    (
+        "lock m\nunshare m\nthread main",
+        Some(WorkFault::BadLine(2)),
+    ),
+    (
+        "lock share\nlock unshare\nthread main\nshare unshare\nunshare share",
+        None,
+    ),
+    (
+        "lock m\nthread main\nrepeat 8388607\nshare m\ndone\nunshare m",
+        None,
+    ),
+    (
+        "lock m\nthread main\nrepeat 8388607\nunshare m\ndone\nshare m\nshare m",
+        Some(WorkFault::TooMany(2)),
+    ),
     (
         "thread a\nfork b\n\nthread b\njoin c",
         Some(WorkFault::Unknown(5)),
@@ -109,12 +132,64 @@ fn fault_of_pieces(rt: &impl Abort, alloc: Global, pieces: &[(usize, &str)]) -> 
     fault
 }
 
-/// The fault of a text that declares so many threads.
-fn fault_of_threads(rt: &impl Abort, alloc: Global, count: usize) -> Option<WorkFault> {
+/// So many declarations by this word, what stands behind them, and the fault.
+struct Declarations {
+    word: &'static str,
+    count: usize,
+    rest: &'static str,
+    fault: Option<WorkFault>,
+}
+
+static DECLARATIONS: [Declarations; 6] = [
+    Declarations {
+        word: "thread",
+        count: 64,
+        rest: "",
+        fault: None,
+    },
+    Declarations {
+        word: "thread",
+        count: 65,
+        rest: "",
+        fault: Some(WorkFault::TooMany(65)),
+    },
+    Declarations {
+        word: "var",
+        count: 65_535,
+        rest: "thread main",
+        fault: None,
+    },
+    Declarations {
+        word: "var",
+        count: 65_536,
+        rest: "thread main",
+        fault: Some(WorkFault::TooMany(65_536)),
+    },
+    Declarations {
+        word: "lock",
+        count: 4_096,
+        rest: "thread main",
+        fault: None,
+    },
+    Declarations {
+        word: "lock",
+        count: 4_097,
+        rest: "thread main",
+        fault: Some(WorkFault::TooMany(4_097)),
+    },
+];
+
+/// The fault of a text with so many declarations.
+fn fault_of_declarations(
+    rt: &impl Abort,
+    alloc: Global,
+    declared: &Declarations,
+) -> Option<WorkFault> {
     let mut text = String::new(alloc);
-    for number in 0..count {
-        writeln!(text, "thread t{number}").expect(rt, "memory");
+    for number in 0..declared.count {
+        writeln!(text, "{} n{number}", declared.word).expect(rt, "memory");
     }
+    text.push_str(declared.rest).expect(rt, "memory");
     let fault = fault_of(alloc, text.as_str());
     drop(text);
     fault
@@ -153,9 +228,11 @@ fn limits(rt: HostRuntime) {
 }
 
 #[test]
-fn threads(rt: HostRuntime) {
-    for (count, fault) in [(64, None), (65, Some(WorkFault::TooMany(65)))] {
-        assert_eq!(rt; fault_of_threads(&rt, rt.alloc(), count), fault);
+fn declarations(rt: HostRuntime) {
+    for declared in &DECLARATIONS {
+        let fault = fault_of_declarations(&rt, rt.alloc(), declared);
+        let Declarations { word, count, .. } = declared;
+        assert_eq!(rt; fault, declared.fault, "{count} times {word}");
     }
 }
 

@@ -6,6 +6,7 @@ mod devices;
 mod growths;
 mod hostile;
 mod logs;
+mod precedence;
 mod reports;
 mod slow;
 mod workloads;
@@ -34,6 +35,8 @@ struct Folder<'a> {
     files: &'a [(&'a str, &'a str)],
     step: usize,
     alloc: Global,
+    /// Whether a file was created.
+    has_created: bool,
     /// What was written to a file.
     output: Text,
 }
@@ -44,7 +47,17 @@ impl<'a> Folder<'a> {
             files,
             step,
             alloc,
+            has_created: false,
             output: Text::new(alloc),
+        }
+    }
+
+    /// What the file has that was created, if there is one.
+    fn created(&self) -> Option<&[u8]> {
+        if self.has_created {
+            Some(self.output.as_slice())
+        } else {
+            None
         }
     }
 }
@@ -78,6 +91,7 @@ impl<'a> Files for Folder<'a> {
             return None;
         }
         let room = if path == "full" { 9 } else { usize::MAX };
+        self.has_created = true;
         self.output = Text::new(self.alloc)
             .in_steps(self.step)
             .failing_after(room);

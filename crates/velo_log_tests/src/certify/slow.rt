@@ -1,5 +1,8 @@
 //! Certificates judged by all pairs of positions, and traces by chance.
-use crate::words::{acquire, begin, end, exit, fork, join, read, release, trace_of, write};
+use crate::words::{
+    acquire, acquire_shared, begin, end, exit, fork, join, read, release, release_shared, trace_of,
+    write,
+};
 use std::alloc::Global;
 use velo_events::{Event, Memory, conflicts};
 use velo_traces::Trace;
@@ -85,7 +88,7 @@ fn event_by_chance(seed: &mut u64) -> Event {
     let thread = (next_number(seed) % 3) as u8;
     let child = (next_number(seed) % 3) as u8;
     let thing = (next_number(seed) % 2) as u16;
-    match next_number(seed) % 12 {
+    match next_number(seed) % 14 {
         0 | 1 => begin(thread, 1),
         2 => end(thread),
         3 => fork(thread, child),
@@ -93,7 +96,9 @@ fn event_by_chance(seed: &mut u64) -> Event {
         5 => exit(thread),
         6 => acquire(thread, thing),
         7 => release(thread, thing),
-        8 | 9 => write(thread, thing, 1),
+        8 => acquire_shared(thread, thing),
+        9 => release_shared(thread, thing),
+        10 | 11 => write(thread, thing, 1),
         _ => read(thread, thing, 1),
     }
 }

@@ -1,5 +1,7 @@
 //! Logs whose transactions, edges and blame are known from outside.
-use crate::words::{acquire, begin, end, exit, fork, join, read, release, write};
+use crate::words::{
+    acquire, acquire_shared, begin, end, exit, fork, join, read, release, release_shared, write,
+};
 use velo_events::Event;
 
 /// Another thread writes between a block's read and its write.
@@ -86,5 +88,35 @@ pub fn handover() -> [Event; 13] {
         write(1, 0, 2),
         release(1, 0),
         end(1),
+    ]
+}
+
+/// Two blocks read under a lock that both share.
+pub fn two_sharers() -> [Event; 11] {
+    [
+        fork(0, 1),
+        begin(0, 1),
+        acquire_shared(0, 0),
+        begin(1, 2),
+        acquire_shared(1, 0),
+        read(0, 0, 0),
+        read(1, 0, 0),
+        release_shared(1, 0),
+        release_shared(0, 0),
+        end(1),
+        end(0),
+    ]
+}
+
+/// A block shares a lock twice, and another thread has it alone in between.
+pub fn lock_shared_twice() -> [Event; 7] {
+    [
+        fork(0, 1),
+        begin(0, 1),
+        acquire_shared(0, 0),
+        release_shared(0, 0),
+        acquire(1, 0),
+        release(1, 0),
+        acquire_shared(0, 0),
     ]
 }

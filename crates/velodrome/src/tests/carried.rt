@@ -8,7 +8,7 @@ use velo_logtext::{Bytes, LogFault, Text};
 use velo_program::{CarryFault, carry_run};
 
 /// The lost update in version 2.
-const CARRIED: &str = "vlog 2 2 1 0\n0 fork 1\n0 begin 7\n0 rd 0 0\n1 wr 0 5\n0 wr 0 1\n";
+pub const CARRIED: &str = "vlog 2 2 1 0\n0 fork 1\n0 begin 7\n0 rd 0 0\n1 wr 0 5\n0 wr 0 1\n";
 
 /// Words that carry a log over.
 const TO_A_FILE: &[&str] = &["velodrome", "carry", "a.log", "--log", "o.log"];
@@ -22,7 +22,7 @@ struct Run {
     status: u8,
 }
 
-static RUNS: [Run; 9] = [
+static RUNS: [Run; 14] = [
     Run {
         words: TO_A_FILE,
         log: LOST_UPDATE,
@@ -65,6 +65,41 @@ static RUNS: [Run; 9] = [
         file: "",
         err: "log fault 1\n",
         status: 2,
+    },
+    Run {
+        words: TO_A_FILE,
+        log: "vlog 2 2 0 1\n0 fork 1\n0 acqs 0\n1 acqs 0\n1 acq 0\n0 rels 0\n",
+        file: "vlog 2 2 0 1\n0 fork 1\n0 acqs 0\n1 acqs 0\n1 acq 0\n0 rels 0\n",
+        err: "",
+        status: 0,
+    },
+    Run {
+        words: TO_A_FILE,
+        log: "vlog 2 2 0 1\n0 fork 1\n0 acqs 0\n1 acqs 0\n1 acq 0\n0 rels 0",
+        file: "",
+        err: "log fault 3 line 6\n",
+        status: 2,
+    },
+    Run {
+        words: TO_A_FILE,
+        log: "vlog 2 1 0 1\n0 acqs 0\n0 acqs\n",
+        file: "",
+        err: "log fault 2 line 3\n",
+        status: 2,
+    },
+    Run {
+        words: TO_A_FILE,
+        log: "",
+        file: "",
+        err: "log fault 1\n",
+        status: 2,
+    },
+    Run {
+        words: TO_A_FILE,
+        log: "vlog 1 64 65535 4096\n",
+        file: "vlog 2 64 65535 4096\n",
+        err: "",
+        status: 0,
     },
     Run {
         words: &["velodrome", "carry", "b.log", "--log", "o.log"],

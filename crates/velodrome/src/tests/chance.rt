@@ -13,12 +13,14 @@ use velo_worker::{Ending, Gate, live};
 use velo_workload::parse;
 use velo_world::Closed;
 
-/// Two threads that add to one variable in blocks; the second one under a lock, once, or twice.
-const WORKLOADS: [&str; 4] = [
+/// Two threads that add to one variable in blocks; then under a lock, once, or twice; two that take two locks in opposite
+/// orders; and two of which one reads under a lock that it shares.
+const WORKLOADS: [&str; 5] = [
     "var x\nthread main\nfork a\nbegin inc\nread x\nadd 1\nwrite x\nend\njoin a\nthread a\nbegin inc\nread x\nadd 1\nwrite x\nend\n",
     "var x\nlock m\nthread main\nfork a\nbegin inc\nacquire m\nread x\nadd 1\nwrite x\nrelease m\nend\njoin a\nthread a\nbegin inc\nacquire m\nread x\nadd 1\nwrite x\nrelease m\nend\n",
     "var x\nlock m\nthread main\nfork a\nbegin inc\nacquire m\nread x\nrelease m\nadd 1\nacquire m\nwrite x\nrelease m\nend\njoin a\nthread a\nbegin inc\nacquire m\nread x\nrelease m\nadd 1\nacquire m\nwrite x\nrelease m\nend\n",
     "lock m\nlock n\nthread main\nfork a\nacquire m\nacquire n\nrelease n\nrelease m\njoin a\nthread a\nacquire n\nacquire m\nrelease m\nrelease n\n",
+    "var x\nlock m\nthread main\nfork a\nbegin look\nshare m\nread x\nunshare m\nshare m\nread x\nunshare m\nend\njoin a\nthread a\nbegin inc\nacquire m\nread x\nadd 1\nwrite x\nrelease m\nend\n",
 ];
 
 /// A gate at which each thread sleeps for a time by chance before some of its events.
@@ -62,7 +64,7 @@ fn compare(rt: &impl Abort, alloc: Global, closed: &Closed) {
 
 /// Runs a workload by threads that are held up by chance, and compares what it shows.
 fn run_by_chance<R: Threads + Wait + Clock + Abort + Sync>(rt: &R, alloc: Global, seed: u64) {
-    let workload = parse(alloc, WORKLOADS[(seed % 4) as usize]).expect(rt, "a workload");
+    let workload = parse(alloc, WORKLOADS[(seed % 5) as usize]).expect(rt, "a workload");
     let config = Config::new(seed, workload.bounds(), 64, 64, false).expect(rt, "a configuration");
     let gate = Sleepy { rt, seed };
     let (closed, ending) = live(rt, alloc, &workload, config, &gate).expect(rt, "a run");

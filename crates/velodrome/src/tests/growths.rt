@@ -1,8 +1,12 @@
 //! One growth is refused, whichever it is: the call tells it, and done again it answers as it would have. Without a refusal
 //! each call is done once.
+use super::carried::CARRIED;
 use super::{LOST_UPDATE, LOST_UPDATE_CERTIFIED};
-use velo_logtext::{Bytes, LogFault, WriterSink};
-use velo_program::{CheckFault, Verdict, check_run};
+use std::alloc::Global;
+use velo_events::{Action, Refusal, ThreadId, VarId};
+use velo_logtext::{Bytes, LogFault, WriterSink, read_log};
+use velo_program::{CarryFault, CheckFault, Verdict, carry_run, check_run, config_of};
+use velo_world::{ReliveFault, World};
 
 /// What the call answers, or where a growth is refused what the same call answers then.
 macro_rules! again {
@@ -35,4 +39,50 @@ fn a_refused_growth_of_a_check(rt: HostRuntime) {
     drop(sink);
     assert_eq!(rt; space.as_slice().get(..written.len()), Some(written));
     assert_eq!(rt; space.as_slice().get(written.len()), Some(&0));
+}
+
+/// Nothing is written where a growth is refused. The sink takes no growth itself.
+#[test]
+fn a_refused_growth_of_a_log_that_is_carried_over(rt: HostRuntime) {
+    let carried = CARRIED.as_bytes();
+    let mut space = [0u8; 100];
+    let mut sink = WriterSink::new(space.as_mut_slice());
+    let answer = again!(
+        CarryFault::Log(LogFault::Memory),
+        carry_run(
+            rt.alloc(),
+            &mut Bytes::new(LOST_UPDATE.as_bytes()),
+            &mut sink
+        )
+    );
+    assert_eq!(rt; answer, Ok(()));
+    drop(sink);
+    assert_eq!(rt; space.as_slice().get(..carried.len()), Some(carried));
+    assert_eq!(rt; space.as_slice().get(carried.len()), Some(&0));
+}
+
+/// A block that has written a variable, and a thread that has done nothing.
+const WRITTEN: &str = "vlog 2 2 1 0\n0 fork 1\n0 begin 1\n0 wr 0 1\n";
+
+/// What the world of this log, whose block has the one node that there may be, answers to a read by the thread.
+fn read_beside(alloc: Global) -> Result<Option<Refusal>, ReliveFault> {
+    let (bounds, log) = match read_log(alloc, &mut Bytes::new(WRITTEN.as_bytes())) {
+        Ok(read) => read,
+        Err(_) => return Err(ReliveFault::Memory),
+    };
+    match World::relive(alloc, config_of(bounds, 4, 1), log) {
+        Ok((mut world, mut shares)) => {
+            let read = world.act_as(&mut shares, ThreadId(1), Action::Read(VarId(0)));
+            drop((world, shares));
+            Ok(read.err())
+        }
+        Err(fault) => Err(fault),
+    }
+}
+
+/// A full graph is told before any growth for the event, whether that growth would be refused or not.
+#[test]
+fn a_refused_growth_beside_a_full_graph(rt: HostRuntime) {
+    let refusal = again!(ReliveFault::Memory, read_beside(rt.alloc()));
+    assert_eq!(rt; refusal, Ok(Some(Refusal::GraphFull)));
 }

@@ -69,7 +69,7 @@ fn show<R: Threads + Wait + Sync>(
 }
 
 /// Command lines with the text that they read, and their status.
-const COMMANDS: [(&[&str], &str, u8); 4] = [
+const COMMANDS: [(&[&str], &str, u8); 5] = [
     (&["velodrome", "check", "a.log"], LOST_UPDATE, 3),
     (
         &["velodrome", "check", "-", "--certificate"],
@@ -94,6 +94,11 @@ const COMMANDS: [(&[&str], &str, u8); 4] = [
         ],
         COLLIDING,
         3,
+    ),
+    (
+        &["velodrome", "carry", "a.log", "--log", "o.log"],
+        LOST_UPDATE,
+        0,
     ),
 ];
 
@@ -133,18 +138,19 @@ fn compare_failed(rt: &impl Abort, written: &Text, whole: &Text, count: usize, s
     assert_eq!(rt; told, wanted);
 }
 
-/// Lets the write to standard output after so many bytes fail.
+/// Lets the write to standard output after so many bytes fail. What goes to a file went there before.
 fn fail_output<R: Threads + Wait + Abort + Sync>(
     rt: &R,
-    alloc: Global,
     words: &[&str],
     text: &str,
-    whole: &Shown,
+    whole: (&Shown, &Devices),
     count: usize,
 ) {
-    let mut devices = Devices::new(alloc, text.as_bytes());
+    let mut devices = Devices::new(whole.1.alloc, text.as_bytes());
     let shown = show(rt, words, &mut devices, count);
-    compare_failed(rt, &shown.out, &whole.out, count, &shown);
+    compare_failed(rt, &shown.out, &whole.0.out, count, &shown);
+    let file = whole.1.output.as_slice();
+    assert_eq!(rt; devices.output.as_slice(), file, "{count} bytes of {text}");
     drop((shown, devices));
 }
 
@@ -171,7 +177,7 @@ fn writes_to_standard_output_fail(rt: HostRuntime) {
         let whole = show(&rt, words, &mut devices, usize::MAX);
         assert_eq!(rt; whole.status, status);
         for count in 0..whole.out.as_slice().len() {
-            fail_output(&rt, rt.alloc(), words, text, &whole, count);
+            fail_output(&rt, words, text, (&whole, &devices), count);
         }
         drop((whole, devices));
     }
@@ -246,7 +252,7 @@ fn logs_are_cut_off_at_each_byte(rt: HostRuntime) {
 }
 
 /// Bytes that spoil a text in ways that matter.
-const BYTES: &[u8] = b"0123456789 \n\r\tabdefgijklnoqrtwx#_-\0\xff";
+const BYTES: &[u8] = b"0123456789 \n\r\tabdefgijklnoqrstwx#_-\0\xff";
 
 /// Changes, leaves out or puts in one byte, or cuts the text off.
 fn spoil(text: &mut Vec<u8>, dice: &mut Dice) -> Result<(), Fail> {
@@ -313,8 +319,9 @@ fn slow_answer_of(alloc: Global, bounds: Bounds, trace: &Trace) -> Result<String
 }
 
 /// Logs that are spoiled.
-const LOGS: [&str; 3] = [
+const LOGS: [&str; 4] = [
     LOST_UPDATE,
+    "vlog 2 3 2 2\n0 fork 1\n0 begin 1\n0 acqs 0\n1 begin 2\n1 acqs 0\n0 rd 0 0\n1 rd 0 0\n1 rels 0\n0 rels 0\n1 acq 0\n1 wr 1 4\n1 rel 0\n0 acqs 0\n0 rels 0\n0 acqs 1\n1 end\n0 end\n",
     "vlog 1 3 2 2\n0 fork 1\n0 begin 1\n0 acq 0\n0 rd 0 0\n0 wr 0 1\n0 rel 0\n1 acq 0\n1 rd 0 1\n1 wr 1 4\n1 rel 0\n0 rd 1 4\n0 end\n1 exit\n0 join 1\n",
     "vlog 1 2 1 1\n0 fork 1\n0 begin 1\n0 begin 2\n1 begin 3\n0 wr 0 7\n1 rd 0 7\n0 end\n1 acq 0\n1 rel 0\n1 end\n0 end\n1 wr 0 2\n0 rd 0 2\n0 exit\n",
 ];
@@ -339,7 +346,7 @@ fn compare_slow(rt: &impl Abort, alloc: Global, log: &[u8], shown: &Shown) -> Re
 fn spoiled_logs(rt: HostRuntime) -> Result<(), Fail> {
     let mut dice = Dice::new(20);
     for turn in 0..4000 {
-        let log = spoiled(rt.alloc(), LOGS[turn % 3], &mut dice)?;
+        let log = spoiled(rt.alloc(), LOGS[turn % 4], &mut dice)?;
         let mut devices = Devices::new(rt.alloc(), &log);
         let words = ["velodrome", "check", "a.log"];
         let shown = show(&rt, &words, &mut devices, usize::MAX);

@@ -17,8 +17,29 @@ const MERGED: &str =
 const AFTER_THE_ALARM: &str =
     "vlog 1 2 1 0\n0 fork 1\n0 begin 7\n0 rd 0 0\n1 wr 0 5\n0 wr 0 1\n0 end\n1 begin 1\n0 begin 2\n";
 
+/// Two blocks read under a lock that both share.
+const SHARED: &str =
+    "vlog 2 2 1 1\n0 fork 1\n0 begin 1\n0 acqs 0\n1 begin 2\n1 acqs 0\n0 rd 0 0\n1 rd 0 0\n1 rels 0\n0 rels 0\n1 end\n0 end\n";
+
+const SHARED_REPORT: &str = "events 11\nthread 0 6\nthread 1 5\nverdict clean\n";
+
+const SHARED_CERTIFIED: &str =
+    "events 11\nthread 0 6\nthread 1 5\nverdict clean\nserial 0\nserial 1 2 5 8 10\nserial 3 4 6 7 9\n";
+
+/// A block shares a lock twice, and another thread has it alone in between.
+const SHARED_TWICE: &str =
+    "vlog 2 2 0 1\n0 fork 1\n0 begin 1\n0 acqs 0\n0 rels 0\n1 acq 0\n1 rel 0\n0 acqs 0\n";
+
+const SHARED_TWICE_REPORT: &str =
+    "events 7\nthread 0 5\nthread 1 2\nverdict alarm 6\ntransaction 1\nblame 1 1\n";
+
+const SHARED_TWICE_CERTIFIED: &str =
+    "events 7\nthread 0 5\nthread 1 2\nverdict alarm 6\ntransaction 1\nblame 1 1\ncycle 1 4\n";
+
 /// Words that check a log.
 const PLAIN: &[&str] = &["velodrome", "check", "a.log"];
+
+const CERTIFIED_BY: &[&str] = &["velodrome", "check", "a.log", "--certificate"];
 
 const ONE_EVENT: &[&str] = &["velodrome", "check", "--events", "1", "a.log"];
 
@@ -35,7 +56,7 @@ struct Run {
     status: u8,
 }
 
-static RUNS: [Run; 36] = [
+static RUNS: [Run; 50] = [
     Run {
         words: PLAIN,
         log: "vlog 1 1 0 0\n",
@@ -282,11 +303,109 @@ static RUNS: [Run; 36] = [
         status: 2,
     },
     Run {
-        words: &["velodrome", "check", "a.log", "--certificate"],
+        words: CERTIFIED_BY,
         log: LOST_UPDATE,
         out: LOST_UPDATE_CERTIFIED,
         err: "",
         status: 3,
+    },
+    Run {
+        words: PLAIN,
+        log: SHARED,
+        out: SHARED_REPORT,
+        err: "",
+        status: 0,
+    },
+    Run {
+        words: CERTIFIED_BY,
+        log: SHARED,
+        out: SHARED_CERTIFIED,
+        err: "",
+        status: 0,
+    },
+    Run {
+        words: PLAIN,
+        log: SHARED_TWICE,
+        out: SHARED_TWICE_REPORT,
+        err: "",
+        status: 3,
+    },
+    Run {
+        words: CERTIFIED_BY,
+        log: SHARED_TWICE,
+        out: SHARED_TWICE_CERTIFIED,
+        err: "",
+        status: 3,
+    },
+    Run {
+        words: PLAIN,
+        log: "vlog 2 1 0 1\n0 acqs 0\n0 acq 0\n",
+        out: "",
+        err: "refused 7 at 1\n",
+        status: 2,
+    },
+    Run {
+        words: PLAIN,
+        log: "vlog 2 1 0 1\n0 acqs 0\n0 exit\n",
+        out: "",
+        err: "refused 16 at 1\n",
+        status: 2,
+    },
+    Run {
+        words: PLAIN,
+        log: "vlog 2 1 0 1\n0 acqs 0\n0 rel 0\n",
+        out: "",
+        err: "refused 8 at 1\n",
+        status: 2,
+    },
+    Run {
+        words: PLAIN,
+        log: "vlog 2 2 0 1\n0 fork 1\n0 acqs 0\n1 acq 0\n",
+        out: "",
+        err: "refused 6 at 2\n",
+        status: 2,
+    },
+    Run {
+        words: PLAIN,
+        log: "vlog 2 2 0 1\n0 fork 1\n0 acq 0\n1 acqs 0\n",
+        out: "",
+        err: "refused 6 at 2\n",
+        status: 2,
+    },
+    Run {
+        words: PLAIN,
+        log: "vlog 2 1 0 1\n0 acq 0\n0 rels 0\n",
+        out: "",
+        err: "refused 8 at 1\n",
+        status: 2,
+    },
+    Run {
+        words: PLAIN,
+        log: "vlog 2 1 0 1\n0 acqs 1\n",
+        out: "",
+        err: "refused 4 at 0\n",
+        status: 2,
+    },
+    Run {
+        words: PLAIN,
+        log: "vlog 1 1 0 1\n0 acqs 0\n",
+        out: "",
+        err: "log fault 2 line 2\n",
+        status: 2,
+    },
+    Run {
+        words: PLAIN,
+        log: "vlog 1 1 0 1\n0 rels 0\n",
+        out: "",
+        err: "log fault 2 line 2\n",
+        status: 2,
+    },
+    Run {
+        words: PLAIN,
+        log: "vlog 3 1 0 0\n",
+        out: "",
+        err: "log fault 1\n",
+        status: 2,
     },
 ];
 
@@ -330,34 +449,89 @@ digraph cycle {
 }
 ";
 
-/// Logs with their explanation, their picture and the status.
-const EXPLAINED: [(&str, &str, &str, u8); 2] = [
-    (
-        "vlog 1 1 0 0\n",
-        "The blocks of this log can be serialized.\nEvents: 0\nTransactions, which can follow one another: 0\n",
-        "",
-        0,
-    ),
-    (LOST_UPDATE, LOST_UPDATE_EXPLAINED, LOST_UPDATE_DRAWN, 3),
+const SHARED_TWICE_EXPLAINED: &str = "\
+The blocks of this log cannot be serialized.
+Line 8 `0 acqs 0` closes a cycle of 2 transactions:
+  T1: thread 0, block 1, lines 3 to 8
+  T2: thread 1, outside blocks, line 6
+Each must come before the next, and the last before the first:
+  T1 before T2: line 5 `0 rels 0`, then line 6 `1 acq 0`
+  T2 before T1: line 6 `1 acq 0`, then line 8 `0 acqs 0`
+To blame in thread 0:
+  block 1, from line 3: line 6 `1 acq 0` must come after its begin and before line 8
+";
+
+const SHARED_TWICE_DRAWN: &str = "\
+digraph cycle {
+  rankdir=LR;
+  node [shape=box];
+  subgraph cluster_0 { label=\"thread 0\"; T1 [label=\"T1: block 1\\nlines 3 to 8\"]; }
+  subgraph cluster_1 { label=\"thread 1\"; T2 [label=\"T2: outside blocks\\nline 6\"]; }
+  T1 -> T2 [label=\"line 5: 0 rels 0\\nline 6: 1 acq 0\"];
+  T2 -> T1 [label=\"line 6: 1 acq 0\\nline 8: 0 acqs 0\"];
+}
+";
+
+/// A log with its explanation, its picture, for which a file is created with an alarm alone, and the status.
+struct Explained {
+    log: &'static str,
+    words: &'static str,
+    picture: Option<&'static str>,
+    status: u8,
+}
+
+static EXPLAINED: [Explained; 4] = [
+    Explained {
+        log: "vlog 1 1 0 0\n",
+        words: "The blocks of this log can be serialized.\nEvents: 0\nTransactions, which can follow one another: 0\n",
+        picture: None,
+        status: 0,
+    },
+    Explained {
+        log: SHARED,
+        words: "The blocks of this log can be serialized.\nEvents: 11\nTransactions, which can follow one another: 3\n",
+        picture: None,
+        status: 0,
+    },
+    Explained {
+        log: LOST_UPDATE,
+        words: LOST_UPDATE_EXPLAINED,
+        picture: Some(LOST_UPDATE_DRAWN),
+        status: 3,
+    },
+    Explained {
+        log: SHARED_TWICE,
+        words: SHARED_TWICE_EXPLAINED,
+        picture: Some(SHARED_TWICE_DRAWN),
+        status: 3,
+    },
 ];
+
+/// Explains a log, and draws its cycle.
+fn explain<R: Threads + Wait + Abort + Sync>(rt: &R, alloc: Global, known: &Explained) {
+    let files = [("a.log", known.log)];
+    let mut folder = Folder::new(alloc, &files, usize::MAX);
+    let asked = ["velodrome", "explain", "a.log", "--dot", "o.dot"];
+    let shown = show(rt, &asked, &mut folder);
+    compare(rt, &shown, known.words, "", known.status, known.log);
+    let picture = known.picture.map(str::as_bytes);
+    assert_eq!(rt; folder.created(), picture, "{}", known.log);
+    drop((shown, folder));
+}
 
 #[test]
 fn verdicts_are_explained(rt: HostRuntime) {
-    for (log, words, picture, status) in EXPLAINED {
-        let files = [("a.log", log)];
-        let mut folder = Folder::new(rt.alloc(), &files, usize::MAX);
-        let asked = ["velodrome", "explain", "a.log", "--dot", "o.dot"];
-        let shown = show(&rt, &asked, &mut folder);
-        compare(&rt, &shown, words, "", status, log);
-        assert_eq!(rt; folder.output.as_slice(), picture.as_bytes());
-        drop((shown, folder));
+    for known in &EXPLAINED {
+        explain(&rt, rt.alloc(), known);
     }
 }
 
 /// Logs with their report and the certificate behind it.
-const CERTIFIED: [(&str, &str); 5] = [
+const CERTIFIED: [(&str, &str); 7] = [
     ("vlog 1 1 0 0\n", "events 0\nthread 0 0\nverdict clean\n"),
     (LOST_UPDATE, LOST_UPDATE_CERTIFIED),
+    (SHARED, SHARED_CERTIFIED),
+    (SHARED_TWICE, SHARED_TWICE_CERTIFIED),
     (
         "vlog 1 2 2 0\n0 fork 1\n0 begin 1\n0 wr 0 1\n1 begin 2\n1 wr 1 1\n0 rd 1 1\n1 rd 0 1\n",
         "events 7\nthread 0 4\nthread 1 3\nverdict alarm 6\ntransaction 3\nblame none\ncycle 3 1\n",

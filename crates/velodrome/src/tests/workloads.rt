@@ -27,9 +27,30 @@ const WAITING: &str =
 const COUNTING: &str =
     "var x\nlock m\nthread main\nfork a\nfork b\njoin a\njoin b\nread x\nthread a\nrepeat 100\nbegin l\nacquire m\nread x\nadd 1\nwrite x\nrelease m\nend\ndone\nthread b\nrepeat 100\nbegin l\nacquire m\nread x\nadd 1\nwrite x\nrelease m\nend\ndone\n";
 
-/// The log of its replay, which is checked as well.
+/// Two threads that read under a lock which both share.
+const SHARING: &str =
+    "var x\nlock m\nthread main\nfork a\nshare m\nread x\nunshare m\njoin a\nthread a\nshare m\nread x\nunshare m\n";
+
+const SHARING_REPORT: &str = "events 10\nthread 0 main 6\nthread 1 a 4\nverdict clean\n";
+
+const SHARING_LOG: &str =
+    "vlog 2 2 1 1\n0 fork 1\n1 acqs 0\n0 acqs 0\n1 rd 0 0\n0 rd 0 0\n1 rels 0\n0 rels 0\n1 exit\n0 join 1\n0 exit\n";
+
+/// Two locks that are taken in opposite orders, of which one is shared by one thread.
+const CROSSING_BY_A_SHARE: &str =
+    "lock m\nlock n\nthread main\nfork a\nshare m\nacquire n\nrelease n\nunshare m\nthread a\nacquire n\nacquire m\nrelease m\nrelease n\n";
+
+/// A thread that joins another, which waits for a lock that the first shares.
+const WAITING_FOR_A_SHARE: &str =
+    "lock m\nthread main\nshare m\nfork a\njoin a\nthread a\nacquire m\nrelease m\n";
+
+/// A block that shares a lock twice, and a thread that has the lock alone in between.
+const SHARING_TWICE: &str =
+    "lock m\nthread main\nfork a\nbegin twice\nshare m\nunshare m\nshare m\nunshare m\nend\njoin a\nthread a\nacquire m\nrelease m\n";
+
+/// The log of the lost update's replay, which is checked as well.
 pub const COLLIDING_LOG: &str =
-    "vlog 1 2 1 0\n0 fork 1\n0 begin 0\n0 rd 0 0\n1 wr 0 5\n0 wr 0 1\n0 end\n1 exit\n0 join 1\n0 exit\n";
+    "vlog 2 2 1 0\n0 fork 1\n0 begin 0\n0 rd 0 0\n1 wr 0 5\n0 wr 0 1\n0 end\n1 exit\n0 join 1\n0 exit\n";
 
 const COLLIDING_REPORT: &str =
     "events 9\nthread 0 main 7\nthread 1 a 2\nverdict alarm 4\ntransaction 1\nblame 1 inc\n";
@@ -58,7 +79,7 @@ const UNSCHEDULED: &[&str] = &["velodrome", "replay", "w"];
 
 const LIVE: &[&str] = &["velodrome", "run", "w"];
 
-static WORKS: [Work; 27] = [
+static WORKS: [Work; 36] = [
     Work {
         words: REPLAYED,
         workload: COLLIDING,
@@ -81,7 +102,7 @@ static WORKS: [Work; 27] = [
         workload: COLLIDING,
         out: "events 5\nthread 0 main 4\nthread 1 a 1\nverdict alarm 4\ntransaction 1\nblame 1 inc\n",
         err: "",
-        log: "vlog 1 2 1 0\n0 fork 1\n0 begin 0\n0 rd 0 0\n1 wr 0 5\n0 wr 0 1\n",
+        log: "vlog 2 2 1 0\n0 fork 1\n0 begin 0\n0 rd 0 0\n1 wr 0 5\n0 wr 0 1\n",
         status: 3,
     },
     Work {
@@ -129,7 +150,7 @@ static WORKS: [Work; 27] = [
         workload: "thread main\nend\n",
         out: "events 0\nthread 0 main 0\nverdict clean\n",
         err: "refused 9 thread 0\n",
-        log: "vlog 1 1 0 0\n",
+        log: "vlog 2 1 0 0\n",
         status: 4,
     },
     Work {
@@ -145,7 +166,7 @@ static WORKS: [Work; 27] = [
         workload: COLLIDING,
         out: "events 2\nthread 0 main 1\nthread 1 a 1\nverdict clean\n",
         err: "refused 17 thread 0\n",
-        log: "vlog 1 2 1 0\n0 fork 1\n1 wr 0 5\n",
+        log: "vlog 2 2 1 0\n0 fork 1\n1 wr 0 5\n",
         status: 4,
     },
     Work {
@@ -217,7 +238,7 @@ static WORKS: [Work; 27] = [
         workload: COLLIDING,
         out: "",
         err: "write failed\n",
-        log: "vlog 1 2 ",
+        log: "vlog 2 2 ",
         status: 5,
     },
     Work {
@@ -225,7 +246,7 @@ static WORKS: [Work; 27] = [
         workload: COLLIDING,
         out: "",
         err: "write failed\n",
-        log: "vlog 1 2 ",
+        log: "vlog 2 2 ",
         status: 5,
     },
     Work {
@@ -233,7 +254,7 @@ static WORKS: [Work; 27] = [
         workload: FORKING,
         out: "events 9\nthread 0 main 7\nthread 1 a 2\nverdict alarm 5\ntransaction 0\nblame 0 inc\ncycle 0 3\n",
         err: "",
-        log: "vlog 1 2 1 0\n0 begin 0\n0 rd 0 0\n0 fork 1\n1 wr 0 5\n1 exit\n0 join 1\n0 wr 0 0\n0 end\n0 exit\n",
+        log: "vlog 2 2 1 0\n0 begin 0\n0 rd 0 0\n0 fork 1\n1 wr 0 5\n1 exit\n0 join 1\n0 wr 0 0\n0 end\n0 exit\n",
         status: 3,
     },
     Work {
@@ -241,7 +262,7 @@ static WORKS: [Work; 27] = [
         workload: FORKING,
         out: "events 6\nthread 0 main 4\nthread 1 a 2\nverdict alarm 5\ntransaction 0\nblame 0 inc\n",
         err: "",
-        log: "vlog 1 2 1 0\n0 begin 0\n0 rd 0 0\n0 fork 1\n1 wr 0 5\n1 exit\n0 join 1\n",
+        log: "vlog 2 2 1 0\n0 begin 0\n0 rd 0 0\n0 fork 1\n1 wr 0 5\n1 exit\n0 join 1\n",
         status: 3,
     },
     Work {
@@ -257,7 +278,7 @@ static WORKS: [Work; 27] = [
         workload: WAITING,
         out: "events 2\nthread 0 main 2\nthread 1 a 0\nverdict clean\n",
         err: "stuck\n",
-        log: "vlog 1 2 0 1\n0 acq 0\n0 fork 1\n",
+        log: "vlog 2 2 0 1\n0 acq 0\n0 fork 1\n",
         status: 4,
     },
     Work {
@@ -297,8 +318,96 @@ static WORKS: [Work; 27] = [
         workload: FORKING,
         out: "",
         err: "write failed\n",
-        log: "vlog 1 2 ",
+        log: "vlog 2 2 ",
         status: 5,
+    },
+    Work {
+        words: UNSCHEDULED,
+        workload: SHARING,
+        out: SHARING_REPORT,
+        err: "",
+        log: "",
+        status: 0,
+    },
+    Work {
+        words: &["velodrome", "replay", "w", "--log", "o.log"],
+        workload: SHARING,
+        out: SHARING_REPORT,
+        err: "",
+        log: SHARING_LOG,
+        status: 0,
+    },
+    Work {
+        words: LIVE,
+        workload: SHARING,
+        out: SHARING_REPORT,
+        err: "",
+        log: "",
+        status: 0,
+    },
+    Work {
+        words: &[
+            "velodrome",
+            "replay",
+            "w",
+            "--schedule",
+            "0 0 1",
+            "--log",
+            "o.log",
+        ],
+        workload: CROSSING_BY_A_SHARE,
+        out: "events 3\nthread 0 main 2\nthread 1 a 1\nverdict clean\n",
+        err: "stuck\n",
+        log: "vlog 2 2 0 2\n0 fork 1\n0 acqs 0\n1 acq 1\n",
+        status: 4,
+    },
+    Work {
+        words: &["velodrome", "run", "w", "--log", "o.log"],
+        workload: WAITING_FOR_A_SHARE,
+        out: "events 2\nthread 0 main 2\nthread 1 a 0\nverdict clean\n",
+        err: "stuck\n",
+        log: "vlog 2 2 0 1\n0 acqs 0\n0 fork 1\n",
+        status: 4,
+    },
+    Work {
+        words: &[
+            "velodrome",
+            "replay",
+            "w",
+            "--schedule",
+            "0 0 0 0 1 1 0",
+            "--certificate",
+            "--stop",
+        ],
+        workload: SHARING_TWICE,
+        out: "events 7\nthread 0 main 5\nthread 1 a 2\nverdict alarm 6\ntransaction 1\nblame 1 twice\ncycle 1 4\n",
+        err: "",
+        log: "",
+        status: 3,
+    },
+    Work {
+        words: UNSCHEDULED,
+        workload: "lock m\nthread main\nshare m\nacquire m\n",
+        out: "events 1\nthread 0 main 1\nverdict clean\n",
+        err: "refused 7 thread 0\n",
+        log: "",
+        status: 4,
+    },
+    Work {
+        words: UNSCHEDULED,
+        workload: "lock m\nthread main\nshare m\n",
+        out: "events 1\nthread 0 main 1\nverdict clean\n",
+        err: "refused 16 thread 0\n",
+        log: "",
+        status: 4,
+    },
+    Work {
+        words: UNSCHEDULED,
+        workload: "lock m\nthread main\nshare n\n",
+        out: "",
+        err: "workload fault 2 line 3\n",
+        log: "",
+        status: 2,
     },
 ];
 
