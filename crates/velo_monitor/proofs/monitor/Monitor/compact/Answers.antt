@@ -1,5 +1,10 @@
-use Rattle.velo_monitor.proofs.OnCompaction.{threads-known, same-compacted, few-compacted}
+use Rattle.velo_monitor.proofs.OnCompaction.{threads-few, threads-known, same-compacted, few-compacted}
 use Rattle.velo_monitor.proofs.monitor.Monitor.compact.Goals as goal
+
+pub find-requires-clause-few : goal.find-requires-clause-few
+find-requires-clause-few c =
+    let inner = c.self.inside in
+    threads-few c.args.events.now inner.graph inner.tables inner.depths.items c.args.self.now c.self.view_is c.requires
 
 pub find-requires-clause-threads : goal.find-requires-clause-threads
 find-requires-clause-threads c =
