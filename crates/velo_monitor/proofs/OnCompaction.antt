@@ -1,5 +1,6 @@
 -- What a compaction keeps, by what its three calls leave.
-use Rattle.std.proofs.Common.{◌≡◌, ℕ, ◌*◌, ◌<◌, List, length, Option, sym, subst}
+use Rattle.std.proofs.Common.{◌≡◌, ℕ, ◌*◌, ◌<◌, ◌≤◌, List, length, Option, sym, subst, arith}
+use Rattle.velo_events.specs.declared.limits.TheConstants.{MOST_THREADS}
 use Rattle.velo_events.specs.declared.config.Bounds.{Bounds}
 use Rattle.velo_events.specs.declared.event.Event.{Event}
 use Rattle.velo_events.specs.Heap.{depth_in}
@@ -19,8 +20,13 @@ module _ (trace : List Event) (graph : Nodes) (tables : Kept) (depths : List ℕ
   before : (bounds : Bounds) → IsMonitorOf bounds w trace → IsMonitorOf bounds (record { nodes = graph; kept = tables; depths = depths }) trace
   before bounds stands = subst (λ (m : Watched). IsMonitorOf bounds m trace) (sym view) stands
 
-  pub threads-known : (bounds : Bounds) × IsMonitorOf bounds w trace → HaveThreads graph trace
-  threads-known some = have-threads some.0 (record { nodes = graph; kept = tables; depths = depths }) trace (before some.0 some.1)
+  pub threads-few : (bounds : Bounds) × IsMonitorOf bounds w trace → length depths ≤ MOST_THREADS
+  threads-few some = let stands = before some.0 some.1 in omega (arith, stands.depths.0, stands.few)
+
+  pub threads-known : (bounds : Bounds) × IsMonitorOf bounds w trace → HaveThreads graph trace (length depths)
+  threads-known some =
+      let stands = before some.0 some.1 in
+      subst (HaveThreads graph trace) (sym stands.depths.0) (have-threads some.0 (record { nodes = graph; kept = tables; depths = depths }) trace stands)
 
   module _ (heirs listed : List (Option Heir)) (are : AreHeirs graph trace heirs) (lists : listed ≡ heirs) (nodes : Nodes) (leaves : LeavesOut graph nodes listed) where
     leaves-out : LeavesOut graph nodes heirs

@@ -1,13 +1,13 @@
 -- How the unfinished node of each thread is found, and the earliest nodes that these reach, one slot after another.
 use Rattle.std.proofs.Common.{◌≡◌, ◌≢◌, ℕ, ◌+◌, ◌<◌, ◌≤◌, Bool, true, false, List, length, get_or, set, Option, Some, None, refl, sym, ap, ◌∙◌, subst, ⊎_elim, inl, inr, arith, get_or-set_same, get_or-set_other}
 use Rattle.std.specs.Prelude.{nat_le, IsTrue, IsSomeAnd, is_some, if◌then◌else◌}
-use Rattle.std.proofs.lemmas.Bool.{cases_eq, both_ways, leb-true, leb-false}
+use Rattle.std.proofs.lemmas.Bool.{cases_eq, cases_lt, both_ways, false≢true, leb-true, leb-false}
+use Rattle.std.proofs.lemmas.List.{get_or_past}
 use Rattle.velo_events.specs.declared.limits.TheConstants.{MOST_THREADS}
 use Rattle.velo_events.specs.declared.event.Event.{Event}
 use Rattle.velo_arena.specs.Slots.{is_used, is_finished_in, node_in, stamp_in, limit_of}
 use Rattle.velo_graph.specs.Nodes.{Nodes}
 use Rattle.velo_graph.proofs.OnCollecting.{used_of_finished}
-use Rattle.velo_monitor.specs.declared.heirs.TheConstants.{PAIRS}
 use Rattle.velo_monitor.specs.Heirs.{thread_in, going_in, IsStill, AreGoing, is_reached, pair_of, first_in, earlier_of, IsReachedOf, AreFirsts}
 
 none_some : {X : Type 0} (o : Option X) (x : X) → o ≡ None → o ≡ Some x → ⊥
@@ -91,8 +91,8 @@ module _ (nodes : Nodes) (events : List Event) where
     pair-apart t s u v l m same = (omega (arith, l, m, same), omega (arith, l, m, same))
 
     module _ (firsts : List (Option ℕ)) (n : ℕ) where
-      pub firsts-step : (s t : ℕ) → t ≡ thread n → t < MOST_THREADS → s < MOST_THREADS → length firsts ≡ PAIRS → IsTrue (is_finished_in nodes.slots n) → IsTrue (is_reached nodes (going_in going s) n) → AreFirsts nodes events going firsts n s → AreFirsts nodes events going (set firsts (pair_of t s) (Some (earlier_of nodes (first_in firsts t s) n))) n (s + 1)
-      firsts-step s t own few small long done reached so_far = record {
+      pub firsts-step : (s t : ℕ) → t ≡ thread n → t < MOST_THREADS → s < MOST_THREADS → pair_of t s < length firsts → IsTrue (is_finished_in nodes.slots n) → IsTrue (is_reached nodes (going_in going s) n) → AreFirsts nodes events going firsts n s → AreFirsts nodes events going (set firsts (pair_of t s) (Some (earlier_of nodes (first_in firsts t s) n))) n (s + 1)
+      firsts-step s t own few small inside done reached so_far = record {
         each = λ u v r l m there. ⊎_elim
             (λ (same : pair_of u v ≡ pair_of t s).
             let at = pair-apart u v t s m small same in
@@ -129,7 +129,7 @@ module _ (nodes : Nodes) (events : List Event) where
           after = set firsts (pair_of t s) (Some (earlier_of nodes (first_in firsts t s) n))
 
           here : first_in after t s ≡ Some new
-          here = get_or-set_same firsts (pair_of t s) (Some (earlier_of nodes (first_in firsts t s) n)) None (omega (arith, few, small, long))
+          here = get_or-set_same firsts (pair_of t s) (Some (earlier_of nodes (first_in firsts t s) n)) None inside
 
           away : (u v : ℕ) → pair_of u v ≢ pair_of t s → first_in after u v ≡ first_in firsts u v
           away u v other = get_or-set_other firsts (pair_of t s) (pair_of u v) (Some (earlier_of nodes (first_in firsts t s) n)) None other
@@ -148,6 +148,19 @@ module _ (nodes : Nodes) (events : List Event) where
                   omega (arith, now.1, apart),
             ))
             seen) m is;
+      }
+
+      -- no thread past the last one has an unfinished node
+      pub firsts-rest : (m : ℕ) → length going ≤ m → AreFirsts nodes events going firsts n m → AreFirsts nodes events going firsts n MOST_THREADS
+      firsts-rest m past so_far = record {
+        each = so_far.each;
+        least = λ u v k seen l is. so_far.least u v k
+            (⊎_elim (λ (before : k < n). inl before)
+            (λ (now : (k ≡ n) × (v < MOST_THREADS)).
+            ⊎_elim (λ (low : v < m). inr (now.0, low))
+            (λ (high : m ≤ v). absurd (false≢true (sym (ap (λ o. is_reached nodes o k) (get_or_past going v None (omega (arith, past, high)))) ∙ is.reached)))
+            (cases_lt v m))
+            seen) l is;
       }
 
       pub firsts-next : AreFirsts nodes events going firsts n MOST_THREADS → AreFirsts nodes events going firsts (n + 1) 0

@@ -59,7 +59,7 @@ module _ (bounds : Bounds) (w : Watched) (trace : List Event) (stands : IsMonito
   pub finished-used : (k : ℕ) → IsTrue (is_finished_in w.nodes.slots k) → IsTrue (is_used w.nodes.slots k)
   finished-used k done = used_of_finished (node_in w.nodes.slots k) done
 
-  small : (k : ℕ) → IsTrue (is_used w.nodes.slots k) → thread k < MOST_THREADS
+  pub small : (k : ℕ) → IsTrue (is_used w.nodes.slots k) → thread k < MOST_THREADS
   small k used = omega (arith, thread-known bounds w trace stands k used, stands.few)
 
   -- of the nodes of a thread that an unfinished one reaches, the first is no later than each

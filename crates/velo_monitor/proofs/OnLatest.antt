@@ -1,7 +1,8 @@
 -- How the latest of the earliest nodes is found, one thread after another.
-use Rattle.std.proofs.Common.{◌≡◌, ℕ, ◌+◌, ◌<◌, ◌≤◌, Bool, true, false, List, Option, Some, None, refl, sym, ap, ◌∙◌, subst, ⊎_elim, inl, inr, arith}
+use Rattle.std.proofs.Common.{◌≡◌, ℕ, ◌+◌, ◌<◌, ◌≤◌, Bool, true, false, List, length, Option, Some, None, refl, sym, ap, ◌∙◌, subst, ⊎_elim, inl, inr, arith}
 use Rattle.std.specs.Prelude.{◌⊎◌, nat_le, IsTrue, IsSomeAnd, if◌then◌else◌}
-use Rattle.std.proofs.lemmas.Bool.{cases_eq, both_ways, leb-true, leb-false}
+use Rattle.std.proofs.lemmas.Bool.{cases_eq, cases_lt, both_ways, false≢true, leb-true, leb-false}
+use Rattle.std.proofs.lemmas.List.{get_or_past}
 use Rattle.velo_events.specs.declared.limits.TheConstants.{MOST_THREADS}
 use Rattle.velo_events.specs.declared.event.Event.{Event}
 use Rattle.velo_arena.specs.Slots.{node_in, stamp_in, limit_of}
@@ -65,6 +66,15 @@ module _ (nodes : Nodes) where
     latest-stay s o out so_far = record {
       among = so_far.among;
       above = λ v r l is there. so_far.above v r (⊎_elim (λ (here : v ≡ s). absurd (both_ways (is_reached nodes (going_in going s) k) out (ap (λ z. is_reached nodes (going_in going z) k) (sym here) ∙ is))) (λ (other : v ≡ s → ⊥). omega (arith, l, other)) (cases_eq v s)) is there;
+    }
+
+    -- no thread past the last one has an unfinished node
+    pub latest-rest : (m : ℕ) (o : Option ℕ) → length going ≤ m → IsLatest nodes going firsts t k m o → IsLatest nodes going firsts t k MOST_THREADS o
+    latest-rest m o past so_far = record {
+      among = so_far.among;
+      above = λ v r l is there. ⊎_elim (λ (low : v < m). so_far.above v r low is there)
+          (λ (high : m ≤ v). absurd (false≢true (sym (ap (λ g. is_reached nodes g k) (get_or_past going v None (omega (arith, past, high)))) ∙ is)))
+          (cases_lt v m);
     }
 
 -- past the last slot is no node

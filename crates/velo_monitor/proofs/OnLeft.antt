@@ -12,8 +12,8 @@ use Rattle.velo_graph.specs.Nodes.{Nodes}
 use Rattle.velo_graph.specs.Leaves.{LeavesOut}
 use Rattle.velo_monitor.specs.Watched.{Watched, IsMonitorOf}
 use Rattle.velo_monitor.specs.Heirs.{thread_in, going_in, IsStill, first_in, Stays, IsHeirOf, AreHeirs}
-use Rattle.velo_monitor.proofs.OnThreads.{thread-known, have-threads, none-still, going-still, reached-by, reached-from}
-use Rattle.velo_monitor.proofs.OnHeirs.{in_cell, first-of}
+use Rattle.velo_monitor.proofs.OnThreads.{thread-known, none-still, going-still, reached-by, reached-from}
+use Rattle.velo_monitor.proofs.OnHeirs.{in_cell, small, first-of}
 use Rattle.velo_monitor.proofs.OnFew.{used-lt}
 
 module _ (bounds : Bounds) (w : Watched) (trace : List Event) (stands : IsMonitorOf bounds w trace) (heirs : List (Option Heir)) (are : AreHeirs w.nodes trace heirs) (t0 : ℕ) (known : t0 < bounds.threads) (outside : depth_in trace t0 ≡ 0) where
@@ -36,7 +36,7 @@ module _ (bounds : Bounds) (w : Watched) (trace : List Event) (stands : IsMonito
       let latest = stays.is done in
       let by = stands.collected.each k done in
       let still : IsStill w.nodes by.0 = record { used = stands.sound.ancestor_used by.0 k by.1; unfinished = by.2 } in
-      let few = (have-threads bounds w trace stands).few in
+      let few = small bounds w trace stands heirs are in
       let reached = reached-from bounds w trace stands are.going are.are_going by.0 k still by.1 in
       let first = first-of bounds w trace stands heirs are (thread by.0) k (few by.0 still.used) done reached in
       let some = in_cell stays.latest (λ h. stamp_in w.nodes.slots first.0 ≤ stamp_in w.nodes.slots h) (latest.above (thread by.0) first.0 (few by.0 still.used) reached first.1) in

@@ -58,8 +58,8 @@ module _ (bounds : Bounds) (w : Watched) (trace : List Event) (stands : IsMonito
   pub thread-known : (k : ℕ) → IsTrue (is_used w.nodes.slots k) → thread k < bounds.threads
   thread-known k used = let e = by-thread trace (stamp k) (stamp-within k used) in subst (λ t. t < bounds.threads) (sym e.2) (stands.well_formed.each (stamp k) e.0 e.1).known_thread
 
-  pub have-threads : HaveThreads w.nodes trace
-  have-threads = record { own = stamp-within; few = λ k used. omega (arith, thread-known k used, stands.few) }
+  pub have-threads : HaveThreads w.nodes trace bounds.threads
+  have-threads = record { own = stamp-within; few = thread-known }
 
   -- the event of a node is by the node's thread
   pub own-node : (k : ℕ) → IsTrue (is_used w.nodes.slots k) → IsTrue (passes_at trace (is_by (thread k)) (stamp k))

@@ -19,10 +19,10 @@ thread_at events i = option_map_or thread_of (slice_get events i) 0
 abbrev pub thread_in : Nodes → List Event → ℕ → ℕ
 thread_in nodes events k = thread_at events (stamp_in nodes.slots k)
 
--- the node in each slot in use is of an event, and that of a thread below the most
-pub record HaveThreads (nodes : Nodes) (events : List Event) : Type 0 where
+-- the node in each slot in use is of an event, and that of one of so many threads
+pub record HaveThreads (nodes : Nodes) (events : List Event) (threads : ℕ) : Type 0 where
   pub own : (k : ℕ) → IsTrue (is_used nodes.slots k) → stamp_in nodes.slots k < length events
-  pub few : (k : ℕ) → IsTrue (is_used nodes.slots k) → thread_in nodes events k < MOST_THREADS
+  pub few : (k : ℕ) → IsTrue (is_used nodes.slots k) → thread_in nodes events k < threads
 
 -- ---- unfinished nodes, by thread
 

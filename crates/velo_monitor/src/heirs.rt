@@ -1,9 +1,9 @@
 //! Which finished nodes give way to which: of those of one thread that the same unfinished nodes reach, to the earliest.
 ghost use Rattle.velo_events.specs.Refusals.{GrowthRefused};
-ghost use Rattle.std.specs.Prelude.{◌≡◌, ◌<◌, ℕ, Some, None, length, slice_index_or, IfOk, OnErr, IsTrue};
+ghost use Rattle.std.specs.Prelude.{◌≡◌, ◌*◌, ◌<◌, ◌≤◌, ℕ, Some, None, length, slice_index_or, IfOk, OnErr, IsTrue};
 ghost use Rattle.std.specs.Option.{ForSome};
 ghost use Rattle.velo_events.specs.declared.limits.TheConstants.{MOST_THREADS};
-ghost use Rattle.velo_arena.specs.Slots.{is_used, is_finished_in, limit_of};
+ghost use Rattle.velo_arena.specs.Slots.{is_used, is_finished_in, stamp_in, limit_of};
 ghost use Rattle.velo_arena.specs.Heirs.{heir_in};
 ghost use Rattle.velo_monitor.specs.declared.heirs.TheConstants.{PAIRS};
 ghost use Rattle.velo_monitor.specs.Heirs.{thread_in, HaveThreads, AreGoing, going_in, is_reached, pair_of, first_in, earlier_of, AreFirsts, later_of, IsLatest, IsHeirOf, AreHeirs};
@@ -22,8 +22,6 @@ const PAIRS: usize = MOST_THREADS as usize * MOST_THREADS as usize;
 /// The heir of each slot, as it was found last. Only `new` takes memory.
 #[derive(Drop)]
 pub struct Heirs {
-    /// Of each thread an unfinished node.
-    going: Vec<Option<u16>>,
     /// For each two threads the earliest finished node of the one that the unfinished node of the other reaches.
     firsts: Vec<Option<u16>>,
     heirs: Vec<Option<Heir>>,
@@ -31,7 +29,6 @@ pub struct Heirs {
 
 impl Model for Heirs {
     ghost use Rattle.std.specs.Prelude.{◌≡◌, List, Option, length};
-    ghost use Rattle.velo_events.specs.declared.limits.TheConstants.{MOST_THREADS};
     ghost use Rattle.velo_arena.specs.declared.step.Heir.{Heir};
     ghost use Rattle.velo_monitor.specs.declared.heirs.TheConstants.{PAIRS};
 
@@ -39,7 +36,7 @@ impl Model for Heirs {
 
     ghost view = { λ h. h.heirs.items };
 
-    ghost invariant = { λ h. (length h.going.items ≡ MOST_THREADS) × (length h.firsts.items ≡ PAIRS) };
+    ghost invariant = { λ h. length h.firsts.items ≡ PAIRS };
 }
 
 impl Heirs {
@@ -51,14 +48,9 @@ impl Heirs {
         ensures limit { IfOk result (λ heirs. length heirs ≡ limit) }
         ensures memory { OnErr result GrowthRefused }
     {
-        let going = filled(alloc, None, MOST_THREADS as usize)?;
         let firsts = filled(alloc, None, PAIRS)?;
         let heirs = filled(alloc, None, limit as usize)?;
-        Ok(Heirs {
-            going,
-            firsts,
-            heirs,
-        })
+        Ok(Heirs { firsts, heirs })
     }
 
     /// The heir of each slot.
@@ -68,25 +60,47 @@ impl Heirs {
         &self.heirs
     }
 
-    /// Finds the heir of each slot of the graph.
-    pub fn find(&mut self, graph: &Graph<BitRow>, events: &[Event])
+    /// Finds the heir of each slot of the graph, whose nodes are of so many threads.
+    pub fn find(&mut self, graph: &Graph<BitRow>, events: &[Event], threads: usize)
         requires limit { length self.old ≡ limit_of graph.now.slots }
-        requires threads { HaveThreads graph.now events.now }
+        requires few { threads ≤ MOST_THREADS }
+        requires threads { HaveThreads graph.now events.now threads }
         ensures heirs { AreHeirs graph.now events.now self.new }
         ensures limit { length self.new ≡ length self.old }
     {
-        find_going(graph, events, &mut self.going);
-        find_firsts(graph, events, &self.going, &mut self.firsts);
-        find_heirs(graph, events, &self.going, &self.firsts, &mut self.heirs);
+        find_all(graph, events, threads, &mut self.firsts, &mut self.heirs);
     }
+}
+
+/// Finds the heir of each slot, where the nodes are of so many threads. Only the pairs of these are looked at.
+fn find_all(
+    graph: &Graph<BitRow>,
+    events: &[Event],
+    threads: usize,
+    firsts: &mut [Option<u16>],
+    heirs: &mut [Option<Heir>],
+)
+    requires limit { length heirs.old ≡ limit_of graph.now.slots }
+    requires few { threads ≤ MOST_THREADS }
+    requires threads { HaveThreads graph.now events.now threads }
+    requires pairs { length firsts.old ≡ PAIRS }
+    ensures heirs { AreHeirs graph.now events.now heirs.new }
+    ensures limit { length heirs.new ≡ length heirs.old }
+    ensures pairs { length firsts.new ≡ length firsts.old }
+{
+    let mut all = [None; MOST_THREADS as usize];
+    let going = &mut all[..threads];
+    let firsts = &mut firsts[..threads * MOST_THREADS as usize];
+    find_going(graph, events, going);
+    find_firsts(graph, events, going, firsts);
+    find_heirs(graph, events, going, firsts, heirs);
 }
 
 /// The thread of a node in use: that of the event with its stamp.
 fn thread_of(graph: &Graph<BitRow>, events: &[Event], slot: u16) -> usize
     requires used { IsTrue (is_used graph.now.slots slot) }
-    requires threads { HaveThreads graph.now events.now }
-    ensures thread { result ≡ thread_in graph.now events.now slot }
-    ensures few { result < MOST_THREADS }
+    requires own { stamp_in graph.now.slots slot < length events.now }
+    ensures { result ≡ thread_in graph.now events.now slot }
 {
     let stamp = graph.stamp_of(slot);
     let event = &events[stamp as usize];
@@ -105,8 +119,7 @@ fn clear(list: &mut [Option<u16>])
 
 /// Finds of each thread an unfinished node, if it has one.
 fn find_going(graph: &Graph<BitRow>, events: &[Event], going: &mut [Option<u16>])
-    requires threads { HaveThreads graph.now events.now }
-    requires length { length going.old ≡ MOST_THREADS }
+    requires threads { HaveThreads graph.now events.now (length going.old) }
     ensures going { AreGoing graph.now events.now going.new (limit_of graph.now.slots) }
     ensures length { length going.new ≡ length going.old }
 {
@@ -134,8 +147,7 @@ fn is_reached(graph: &Graph<BitRow>, going: Option<u16>, slot: u16) -> bool
 fn pair_of(t: usize, s: usize) -> usize
     requires t { t < MOST_THREADS }
     requires s { s < MOST_THREADS }
-    ensures pair { result ≡ pair_of t s }
-    ensures below { result < PAIRS }
+    ensures { result ≡ pair_of t s }
 {
     t * MOST_THREADS as usize + s
 }
@@ -167,10 +179,10 @@ fn put_firsts(
     slot: u16,
 )
     requires finished { IsTrue (is_finished_in graph.now.slots slot) }
-    requires threads { HaveThreads graph.now events.now }
+    requires threads { HaveThreads graph.now events.now (length going.now) }
     requires going { (s u : ℕ) → going_in going.now s ≡ Some u → IsTrue (is_used graph.now.slots u) }
-    requires length { length going.now ≡ MOST_THREADS }
-    requires pairs { length firsts.old ≡ PAIRS }
+    requires few { length going.now ≤ MOST_THREADS }
+    requires pairs { length firsts.old ≡ length going.now * MOST_THREADS }
     requires firsts { AreFirsts graph.now events.now going.now firsts.old slot 0 }
     ensures firsts { AreFirsts graph.now events.now going.now firsts.new slot MOST_THREADS }
     ensures pairs { length firsts.new ≡ length firsts.old }
@@ -191,10 +203,10 @@ fn find_firsts(
     going: &[Option<u16>],
     firsts: &mut [Option<u16>],
 )
-    requires threads { HaveThreads graph.now events.now }
+    requires threads { HaveThreads graph.now events.now (length going.now) }
     requires going { (s u : ℕ) → going_in going.now s ≡ Some u → IsTrue (is_used graph.now.slots u) }
-    requires length { length going.now ≡ MOST_THREADS }
-    requires pairs { length firsts.old ≡ PAIRS }
+    requires few { length going.now ≤ MOST_THREADS }
+    requires pairs { length firsts.old ≡ length going.now * MOST_THREADS }
     ensures firsts { AreFirsts graph.now events.now going.now firsts.new (limit_of graph.now.slots) 0 }
     ensures pairs { length firsts.new ≡ length firsts.old }
 {
@@ -234,11 +246,11 @@ fn latest_of(
     slot: u16,
 ) -> Option<u16>
     requires used { IsTrue (is_used graph.now.slots slot) }
-    requires t { t < MOST_THREADS }
+    requires t { t < length going.now }
     requires going { (s u : ℕ) → going_in going.now s ≡ Some u → IsTrue (is_used graph.now.slots u) }
     requires firsts { (s r : ℕ) → s < MOST_THREADS → first_in firsts.now t s ≡ Some r → IsTrue (is_used graph.now.slots r) }
-    requires length { length going.now ≡ MOST_THREADS }
-    requires pairs { length firsts.now ≡ PAIRS }
+    requires few { length going.now ≤ MOST_THREADS }
+    requires pairs { length firsts.now ≡ length going.now * MOST_THREADS }
     ensures { IsLatest graph.now going.now firsts.now t slot MOST_THREADS result }
 {
     let mut latest = None;
@@ -259,11 +271,11 @@ fn heir_of(
     slot: u16,
 ) -> Option<Heir>
     requires finished { IsTrue (is_finished_in graph.now.slots slot) }
-    requires threads { HaveThreads graph.now events.now }
+    requires threads { HaveThreads graph.now events.now (length going.now) }
     requires going { AreGoing graph.now events.now going.now (limit_of graph.now.slots) }
     requires firsts { AreFirsts graph.now events.now going.now firsts.now (limit_of graph.now.slots) 0 }
-    requires length { length going.now ≡ MOST_THREADS }
-    requires pairs { length firsts.now ≡ PAIRS }
+    requires few { length going.now ≤ MOST_THREADS }
+    requires pairs { length firsts.now ≡ length going.now * MOST_THREADS }
     ensures { IsHeirOf graph.now events.now going.now firsts.now slot result }
 {
     let t = thread_of(graph, events, slot);
@@ -287,11 +299,11 @@ fn find_heirs(
     firsts: &[Option<u16>],
     heirs: &mut [Option<Heir>],
 )
-    requires threads { HaveThreads graph.now events.now }
+    requires threads { HaveThreads graph.now events.now (length going.now) }
     requires going { AreGoing graph.now events.now going.now (limit_of graph.now.slots) }
     requires firsts { AreFirsts graph.now events.now going.now firsts.now (limit_of graph.now.slots) 0 }
-    requires length { length going.now ≡ MOST_THREADS }
-    requires pairs { length firsts.now ≡ PAIRS }
+    requires few { length going.now ≤ MOST_THREADS }
+    requires pairs { length firsts.now ≡ length going.now * MOST_THREADS }
     requires limit { length heirs.old ≡ limit_of graph.now.slots }
     ensures heirs { (k : ℕ) → IsHeirOf graph.now events.now going.now firsts.now k (heir_in heirs.new k) }
     ensures limit { length heirs.new ≡ length heirs.old }

@@ -168,7 +168,7 @@ impl Monitor {
         ensures room { (e : EventOf) → HasRoomFor self.old.kept e → HasRoomFor self.new.kept e }
         ensures few { (bounds : BoundsOf) (t : ℕ) → IsMonitorOf bounds self.old events.now → t < bounds.threads → depth_in events.now t ≡ 0 → used_in self.new.nodes.slots < bounds.threads * bounds.threads }
     {
-        self.heirs.find(&self.graph, events);
+        self.heirs.find(&self.graph, events, self.depths.len());
         self.graph.leave_out(self.heirs.list());
         self.tables.rename(self.heirs.list());
     }

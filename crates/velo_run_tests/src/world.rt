@@ -2,6 +2,7 @@ ghost use Rattle.std.specs.Prelude.{◌≡◌, false, None, Some, replicate, sli
 ghost use Rattle.velo_ledger.specs.Shares.{opening_share};
 ghost use Rattle.velo_world.specs.World.{FitsLog, HoldsLiveShares, opening};
 
+mod compaction;
 mod growths;
 mod refusals;
 

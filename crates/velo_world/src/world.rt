@@ -105,8 +105,9 @@ impl World {
     /// no fork. The shares that fitted fit again.
     ///
     /// # Errors
-    /// The first refusal that applies: `Halted` (1), those of the heap (2 to 16), `LogFull` (17), `GraphFull` (18), which an
-    /// event inside a block or after an alarm never meets, `Memory` (19). Nothing changes then, the share neither.
+    /// The first refusal that applies: `Halted` (1), those of the heap (2 to 16), `LogFull` (17), `GraphFull` (18), which only a
+    /// limit of fewer nodes than the threads squared brings, and no event inside a block or after an alarm ever meets, `Memory`
+    /// (19). Nothing changes then, the share neither.
     pub fn act(&mut self, share: &mut Share, action: Action) -> Result<Reply, Refusal>
         requires fork { IsNoFork action }
         requires fits { FitsLog self.old share.old }

@@ -2,6 +2,7 @@
 mod carried;
 mod chance;
 mod command_lines;
+mod compaction;
 mod devices;
 mod growths;
 mod hostile;
