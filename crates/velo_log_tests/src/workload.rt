@@ -228,7 +228,7 @@ fn limits(rt: HostRuntime) {
 }
 
 #[test]
-fn declarations(rt: HostRuntime) {
+fn limits_of_declarations(rt: HostRuntime) {
     for declared in &DECLARATIONS {
         let fault = fault_of_declarations(&rt, rt.alloc(), declared);
         let Declarations { word, count, .. } = declared;
