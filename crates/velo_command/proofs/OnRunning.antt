@@ -4,7 +4,7 @@ use Rattle.clap.specs.Words.{App, HasMatchesOf, IsAmong, Text, fault_of, is_simp
 use Rattle.clap.specs.declared.error.kind.ErrorKind.{ErrorKind}
 use Rattle.clap.specs.declared.error.kind.ErrorKind.TheVariants.{OutOfMemory}
 use Rattle.clap.specs.declared.parser.matches.ArgMatches.{ArgMatches}
-use Rattle.velo_program.specs.Disk.{Disk}
+use Rattle.velo_program.specs.Disk.{Store}
 use Rattle.velo_command.specs.Asked.{Asked, AsksForNothing}
 use Rattle.velo_command.specs.CommandLine.{asked_by, command_line, faults_of}
 use Rattle.velo_command.specs.Running.{DoesRequest, Runs}
@@ -23,25 +23,25 @@ matches_ask line words m is matches faultless nothing =
     (subst AsksForNothing same nothing)
 
 -- the words were taken, and what they ask for was done
-pub runs_asked : (line : App) (words : List Text) (m : ArgMatches) (disk : Disk) (AreKept : Type 0) (console : Console)
+pub runs_asked : (line : App) (words : List Text) (m : ArgMatches) (store : Store) (console : Console)
     → line ≡ command_line → HasMatchesOf line words m → (is_simple_and_free line ≡ true → fault_of line words ≡ [])
-    → DoesRequest (subcommand_rows_of m) disk console → Runs words disk AreKept console
+    → DoesRequest (subcommand_rows_of m) store console → Runs words store console
 unfolding faults_of asked_by
-runs_asked line words m disk AreKept console is matches faultless does =
+runs_asked line words m store console is matches faultless does =
     let same : subcommand_rows_of m ≡ subcommand_of command_line words =
     (subst (λ (x : App). HasMatchesOf x words m) is matches line_is_simple).1 in
     inl (
       subst (λ (x : App). is_simple_and_free x ≡ true → fault_of x words ≡ []) is faultless line_is_simple_and_free,
-      subst (λ (asked : Asked). DoesRequest asked disk console) same does,
+      subst (λ (asked : Asked). DoesRequest asked store console) same does,
     )
 
 -- the words were refused, and the reason was told
-pub runs_told : (line : App) (words : List Text) (kind : ErrorKind) (disk : Disk) (AreKept : Type 0) (console : Console)
-    → line ≡ command_line → (is_simple_and_free line ≡ true → (kind ≡ OutOfMemory) ⊎ IsAmong kind (fault_of line words)) → AreKept
-    → Tells kind console → Runs words disk AreKept console
+pub runs_told : (line : App) (words : List Text) (kind : ErrorKind) (store : Store) (console : Console)
+    → line ≡ command_line → (is_simple_and_free line ≡ true → (kind ≡ OutOfMemory) ⊎ IsAmong kind (fault_of line words)) → store.is_kept
+    → Tells kind console → Runs words store console
 unfolding faults_of asked_by
-runs_told line words kind disk AreKept console is has_kind same (inr lacks) = inr (same, inr lacks)
-runs_told line words kind disk AreKept console is has_kind same (inl t) =
+runs_told line words kind store console is has_kind same (inr lacks) = inr (same, inr lacks)
+runs_told line words kind store console is has_kind same (inl t) =
     let kinds : (kind ≡ OutOfMemory) ⊎ IsAmong kind (fault_of command_line words) =
     subst (λ (x : App). is_simple_and_free x ≡ true → (kind ≡ OutOfMemory) ⊎ IsAmong kind (fault_of x words)) is has_kind line_is_simple_and_free in
     inr (

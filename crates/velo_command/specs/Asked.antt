@@ -15,7 +15,8 @@ use Rattle.velo_program.specs.declared.request.Request.TheVariants.{Carry, Check
 abbrev pub WritesNumber : ℕ → Option Text → ℕ → Type 0
 WritesNumber bits None n = ⊥
 WritesNumber bits (Some text) n =
-    IsNumeral 10 (without_leading_plus text) × (digits_value 10 (without_leading_plus text) < 2 ^ bits)
+    IsNumeral 10 (without_leading_plus text)
+    × (digits_value 10 (without_leading_plus text) < 2 ^ bits)
     × (n ≡ digits_value 10 (without_leading_plus text))
 
 -- the flag is set where its text says so, and not where it has none
@@ -44,7 +45,8 @@ IsRun rows options =
 -- no schedule is the empty one
 abbrev pub IsReplay : List Row → ReplayOptions → Type 0
 IsReplay rows options =
-    (unwrap_or (first_of (codes "schedule") rows) [] ≡ options.schedule.now) × IsRun rows options.run
+    (unwrap_or (first_of (codes "schedule") rows) [] ≡ options.schedule.now)
+    × IsRun rows options.run
 
 abbrev pub IsExplanation : List Row → ExplainOptions → Type 0
 IsExplanation rows options =
@@ -53,7 +55,8 @@ IsExplanation rows options =
 
 abbrev pub IsCarrying : List Row → CarryOptions → Type 0
 IsCarrying rows options =
-    (first_of (codes "LOG") rows ≡ Some options.log.now) × (first_of (codes "log") rows ≡ Some options.out.now)
+    (first_of (codes "LOG") rows ≡ Some options.log.now)
+    × (first_of (codes "log") rows ≡ Some options.out.now)
 
 -- a subcommand by its name, with the values of its arguments
 abbrev pub Asked : Type 0

@@ -3,7 +3,7 @@ use Rattle.std.specs.Prelude.{◌≡◌, ◌⊎◌, ℕ, List, []}
 use Rattle.clap.specs.Words.{IsAmong, Text}
 use Rattle.clap.specs.declared.error.kind.ErrorKind.{ErrorKind}
 use Rattle.velo_program.specs.Causes.{AnswersWithCause}
-use Rattle.velo_program.specs.Disk.{Disk}
+use Rattle.velo_program.specs.Disk.{Store}
 use Rattle.velo_program.specs.Fate.{Ends}
 use Rattle.velo_program.specs.Program.{Does}
 use Rattle.velo_program.specs.declared.fate.Fate.{Fate}
@@ -13,11 +13,11 @@ use Rattle.velo_command.specs.CommandLine.{asked_by, faults_of}
 use Rattle.velo_command.specs.Usage.{Console, LacksMemory, TellsError}
 
 -- a request that was asked for was done, and the end is that of what it came to
-pub record DoesRequest (asked : Asked) (disk : Disk) (console : Console) : Type 0 where
+pub record DoesRequest (asked : Asked) (store : Store) (console : Console) : Type 0 where
   pub request : Request
   pub fate : Fate
   pub asks : AsksFor asked request
-  pub done : Does disk request console.out fate
+  pub done : Does store request console.out fate
   pub cause : AnswersWithCause request fate
   pub ended : Ends fate console.err console.status
 
@@ -28,9 +28,9 @@ pub record TellsFault (words : List Text) (console : Console) : Type 0 where
   pub text : List ℕ
   pub told : TellsError kind text console
 
--- The words have no fault, and what they ask for was done; or the files are as they were, and one of the faults was told, or
--- memory ran out before.
-abbrev pub Runs : List Text → Disk → Type 0 → Console → Type 0
-Runs words disk AreKept console =
-    ((faults_of words ≡ []) × DoesRequest (asked_by words) disk console)
-    ⊎ (AreKept × (TellsFault words console ⊎ LacksMemory console))
+-- The words have no fault, and what they ask for was done; or the files are as they were, and one of the faults was told,
+-- or memory ran out before.
+abbrev pub Runs : List Text → Store → Console → Type 0
+Runs words store console =
+    ((faults_of words ≡ []) × DoesRequest (asked_by words) store console)
+    ⊎ (store.is_kept × (TellsFault words console ⊎ LacksMemory console))

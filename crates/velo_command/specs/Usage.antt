@@ -15,8 +15,8 @@ bad_usage = 2
 abbrev pub not_utf8 : List ℕ
 not_utf8 = codes "error: a word of the command line is not UTF-8\n"
 
--- Standard output and standard error, before and after a run of the program; whether the first is as it was; and the status that
--- the program ends with.
+-- Standard output and standard error, before and after a run of the program; whether the first is as it was; and the status
+-- that the program ends with.
 pub record Console : Type 1 where
   pub out : Writing
   pub is_kept : Type 0
@@ -24,7 +24,8 @@ pub record Console : Type 1 where
   pub status : ℕ
 
 abbrev pub console_of : Type 0 → Writing → Writing → ℕ → Console
-console_of is_kept out err status = record { out = out; is_kept = is_kept; err = err; status = status }
+console_of is_kept out err status =
+    record { out = out; is_kept = is_kept; err = err; status = status }
 
 -- the text went to standard output, and the end is a good one without a line; or it broke off, and the end is that of a
 -- failed write

@@ -10,7 +10,10 @@ use clap::{Arg, ArgAction, Command, value_parser};
 use std::alloc::Global;
 use velo_events::{MOST_EVENTS, MOST_NODES, Memory};
 
-/// The command line of the program: a word of no subcommand, or a number out of its range, is a fault of usage.
+/// The command line of the program, as [`run`](crate::run) reads its words: the subcommands `check`, `replay`, `run`,
+/// `explain` and `carry`, each with its operand and its options. A word of no subcommand, or a limit out of its range, is a
+/// fault of usage: `--events` is 1 to [`MOST_EVENTS`], and 1,048,576 where it is not given; `--nodes` is 1 to [`MOST_NODES`],
+/// and 1,024.
 ///
 /// # Errors
 /// `Memory` where a growth was refused.
@@ -157,7 +160,7 @@ fn carried<'a>(alloc: Global) -> Arg<'a>
         alloc,
         "log",
         "OUT",
-        "Write the log to this path, which is another file than LOG",
+        "Write the log to this path, which is emptied first",
     )
     .required(true)
 }

@@ -76,9 +76,11 @@ README.md describes it whole, and the report.
 The schedule: in its turn a thread goes up to its next event and tries that; it passes where it must wait. After the
 turns of the schedule all threads have turns in rounds, up to the end.
 
+FILE and OUT are two files: where they are one, nothing is done to it. With - for FILE this is not tested.
+
 Statuses, each with the lines on standard error:
   0  done without an alarm, or help
-  2  usage; 'bad schedule'; the text is no workload: 'workload fault K line N'
+  2  usage; 'bad schedule'; 'error: FILE and OUT are one file'; the text is no workload: 'workload fault K line N'
   3  an alarm: no serial reordering of the run exists
   4  the run could not go on: 'stuck', 'refused K thread T'; the report is written all the same
   5  memory or a device failed: 'out of memory', 'read failed', 'write failed', 'cannot open'
@@ -102,9 +104,11 @@ Each thread of the workload is a thread of the system, and they run at once: two
 logs and in their verdicts. 'velodrome replay --help' describes the workload. A thread waits for a lock that another one
 holds, and for the end of a thread that it joins; where that chain of waits comes back to it, the run ends as 'stuck'.
 
+FILE and OUT are two files: where they are one, nothing is done to it. With - for FILE this is not tested.
+
 Statuses, each with the lines on standard error:
   0  done without an alarm, or help
-  2  usage; the text is no workload: 'workload fault K line N'
+  2  usage; 'error: FILE and OUT are one file'; the text is no workload: 'workload fault K line N'
   3  an alarm: no serial reordering of the run exists
   4  the run could not go on: 'stuck', 'refused K thread T'; the report is written all the same
   5  memory or a device failed: 'out of memory', 'read failed', 'write failed', 'cannot open'; or a thread was lost for
@@ -120,20 +124,25 @@ It tells which event closes a cycle, which transactions are on the cycle, which 
 edges, which blocks are to blame and why, each with its line of the log. Of a log without an alarm it tells how many
 transactions a serial order has; there is no picture then, and OUT is not opened.
 
-The log, the statuses and what their numbers mean are those of 'velodrome check --help'. A log has as many events and
-nodes as any check may have.";
+LOG and OUT are two files: where they are one, nothing is done to it: 'error: LOG and OUT are one file', with status 2.
+With - for LOG this is not tested.
+
+The log, the other statuses and what their numbers mean are those of 'velodrome check --help'. A log has as many events
+and nodes as any check may have.";
 
 /// Behind the help of `carry`.
 pub const OF_CARRY: &str = "\
 Example:
   printf 'vlog 1 1 0 0\\n0 begin 7\\n0 end\\n' | velodrome carry - --log new.log
 It writes the same log to new.log, with 'vlog 2' in its first line. A log of either version is read; whether its events can
-come about is not judged. OUT is another file than LOG: it is emptied before the log is read, and stays empty where the
-text is no log.
+come about is not judged. OUT is emptied before the log is read, and stays empty where the text is no log.
+
+LOG and OUT are two files: where they are one, nothing is done to it. With - for LOG this is not tested, so OUT must not be
+the file that standard input is read from.
 
 Statuses, each with the lines on standard error:
   0  done, or help
-  2  usage; the text is no log: 'log fault K', 'log fault K line N'
+  2  usage; 'error: LOG and OUT are one file'; the text is no log: 'log fault K', 'log fault K line N'
   5  memory or a device failed: 'out of memory', 'read failed', 'write failed', 'cannot open'
 
 Log faults: see 'velodrome check --help'.";

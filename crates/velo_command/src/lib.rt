@@ -8,4 +8,5 @@ mod program;
 mod requests;
 mod telling;
 
+pub use arguments::command;
 pub use program::{end_without_words, run};

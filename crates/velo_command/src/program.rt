@@ -2,6 +2,7 @@
 ghost use Rattle.std.specs.Prelude.{◌≡◌, map};
 ghost use Rattle.std.specs.declared.io.ErrorKind.TheVariants.{InvalidData};
 ghost use Rattle.clap.specs.Words.{subcommand_rows_of};
+ghost use Rattle.velo_program.specs.Disk.{store};
 ghost use Rattle.velo_program.specs.Fate.{Closes, Ends};
 ghost use Rattle.velo_program.specs.Writing.{writing};
 ghost use Rattle.velo_program.specs.declared.fate.Fate.TheVariants as fate;
@@ -33,7 +34,7 @@ pub fn run<R: Threads + Wait + Sync, F: Files, W: AsStr, O: Sink, E: Sink>(
     out: &mut O,
     err: &mut E,
 ) -> u8
-    ensures { Runs (map W.text words.now) (F.disk files.old) (files.new ≡ files.old)
+    ensures { Runs (map W.text words.now) (store F.disk files.old files.new)
         (console_of (out.new ≡ out.old)
         (writing O.contents O.failures out.old out.new)
         (writing E.contents E.failures err.old err.new) result) }
@@ -66,7 +67,7 @@ fn do_asked<R: Threads + Wait + Sync, F: Files, O: Sink, E: Sink>(
     err: &mut E,
 ) -> u8
     requires { ¬ AsksForNothing (subcommand_rows_of matches.now) }
-    ensures { DoesRequest (subcommand_rows_of matches.now) (F.disk files.old)
+    ensures { DoesRequest (subcommand_rows_of matches.now) (store F.disk files.old files.new)
         (console_of (out.new ≡ out.old)
         (writing O.contents O.failures out.old out.new)
         (writing E.contents E.failures err.old err.new) result) }

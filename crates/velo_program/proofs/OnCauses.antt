@@ -19,6 +19,8 @@ use Rattle.velo_program.specs.declared.check.CheckFault.{CheckFault}
 use Rattle.velo_program.specs.declared.check.CheckFault.TheVariants as check_fault
 use Rattle.velo_program.specs.declared.fate.Fate.{Fate}
 use Rattle.velo_program.specs.declared.fate.Fate.TheVariants as fate
+use Rattle.velo_program.specs.declared.request.Operand.{Operand}
+use Rattle.velo_program.specs.declared.request.Operand.TheVariants.{File, Log}
 use Rattle.velo_program.specs.declared.request.ReplayOptions.{ReplayOptions}
 use Rattle.velo_program.specs.declared.request.RunOptions.{RunOptions}
 use Rattle.velo_program.specs.declared.request.Request.{Request}
@@ -35,7 +37,7 @@ use Rattle.velo_program.specs.Causes.{AnswersWithCause, CheckByGrowth, ComesByGr
 use Rattle.velo_program.specs.Carrying.{IsCarryAnswer}
 use Rattle.velo_program.specs.Check.{IsCheckAnswer, IsFaultOfInput}
 use Rattle.velo_program.specs.Delivery.{Answer, IsDelivered, IsTold, LacksMemory, silent}
-use Rattle.velo_program.specs.Disk.{Disk}
+use Rattle.velo_program.specs.Disk.{Disk, IsBarred, Store}
 use Rattle.velo_program.specs.Explaining.{ComesOut, IsExplanation}
 use Rattle.velo_program.specs.Playing.{ByThreads, ByTurns, IsEndAnswer, IsPlayAnswer, IsRunOf, IsUnread, Play, is_unreported}
 use Rattle.velo_program.specs.Program.{Does}
@@ -134,14 +136,14 @@ module _ (EndsSo : Ending → Type 0) where
   of_play play options read answer so (inr (f, unread, is)) = said answer (silent f) is (of_unread read f unread)
 
   -- what became of the answer has its cause
-  of_delivered : (disk : Disk) (path : Option (Bor (List ℕ))) (out : Writing) (answer : Answer) (f : Fate) → EndsSoIn answer → IsDelivered disk path out answer f → ComesTo EndsSo f
-  of_delivered disk path out answer fate.CannotOpen cause put = tt
-  of_delivered disk path out answer fate.WriteFailed cause put = tt
-  of_delivered disk path out answer f cause put = subst (ComesTo EndsSo) (sym put.0) cause
+  of_delivered : (store : Store) (path : Option (Bor (List ℕ))) (out : Writing) (answer : Answer) (f : Fate) → EndsSoIn answer → IsDelivered store path out answer f → ComesTo EndsSo f
+  of_delivered store path out answer fate.CannotOpen cause put = tt
+  of_delivered store path out answer fate.WriteFailed cause put = tt
+  of_delivered store path out answer f cause put = subst (ComesTo EndsSo) (sym put.0) cause
 
-  of_explained : (disk : Disk) (path : Option (Bor (List ℕ))) (out : Writing) (answer : Answer) (f : Fate) → EndsSoIn answer → ComesOut disk path out answer f → ComesTo EndsSo f
-  of_explained disk path out answer fate.Memory cause put = put.0
-  of_explained disk path out answer f cause put = of_delivered disk path out answer f cause put
+  of_explained : (store : Store) (path : Option (Bor (List ℕ))) (out : Writing) (answer : Answer) (f : Fate) → EndsSoIn answer → ComesOut store path out answer f → ComesTo EndsSo f
+  of_explained store path out answer fate.Memory cause put = put.0
+  of_explained store path out answer f cause put = of_delivered store path out answer f cause put
 
   of_told : (out : Writing) (answer : Answer) (f : Fate) → EndsSoIn answer → IsTold out answer f → ComesTo EndsSo f
   of_told out answer fate.WriteFailed cause told = tt
@@ -153,20 +155,23 @@ of_schedule : (options : ReplayOptions) (fault : ScheduleFault) → IsFaultOfSch
 of_schedule options schedule_fault.Bad is = tt
 of_schedule options schedule_fault.Memory is = is
 
-unopened : (EndsSo : Ending → Type 0) (f : Fate) → f ≡ fate.CannotOpen → ComesTo EndsSo f
-unopened EndsSo f is = subst (ComesTo EndsSo) (sym is) tt
+-- what was not read is told otherwise
+unread : (EndsSo : Ending → Type 0) (disk : Disk) (operand : Operand) (input : List ℕ) (output : Option (Bor (List ℕ))) (f : Fate) → IsBarred disk operand input output f → ComesTo EndsSo f
+unread EndsSo disk operand input output f (inl closed) = subst (ComesTo EndsSo) (sym closed.0) tt
+unread EndsSo disk operand input output f (inr one) = subst (ComesTo EndsSo) (sym one.0) tt
 
-pub of_done : (disk : Disk) (asked : Request) (out : Writing) (f : Fate) → Does disk asked out f → AnswersWithCause asked f
-of_done disk (request.Check options) out f (inl h) = of_delivered EndsByGrowth disk None out h.2.answer f (of_check EndsByGrowth _ _ _ h.0.bytes h.2.answer tt h.2.is_answer) h.2.put
-of_done disk (request.Check options) out f (inr h) = unopened EndsByGrowth f h.0
-of_done disk (request.Replay options) out f (inl bad) = subst ComesByGrowth (sym bad.told) (of_schedule options bad.fault bad.is_fault)
-of_done disk (request.Replay options) out f (inr (schedule, inl h)) =
-    of_delivered EndsByGrowth disk options.run.log out h.2.answer f (of_play EndsByGrowth (ByTurns h.2.is_answer.0) options.run h.0.bytes h.2.answer (λ program ended w run. run.cause) h.2.is_answer.2) h.2.put
-of_done disk (request.Replay options) out f (inr (schedule, inr h)) = unopened EndsByGrowth f h.0
-of_done disk (request.Run options) out f (inl h) =
-    of_delivered EndsWithCause disk options.log out h.2.answer f (of_play EndsWithCause ByThreads options h.0.bytes h.2.answer (λ program ended w run. run.cause) h.2.is_answer) h.2.put
-of_done disk (request.Run options) out f (inr h) = unopened EndsWithCause f h.0
-of_done disk (request.Explain options) out f (inl h) = of_explained EndsByGrowth disk options.dot out h.2.answer f (of_explanation EndsByGrowth h.0.bytes h.2.answer tt h.2.is_answer) h.2.put
-of_done disk (request.Explain options) out f (inr h) = unopened EndsByGrowth f h.0
-of_done disk (request.Carry options) out f (inl h) = of_told EndsByGrowth h.2.put.0.0 h.2.answer f (of_carry EndsByGrowth h.0.bytes h.2.answer tt h.2.is_answer) h.2.put.0.2
-of_done disk (request.Carry options) out f (inr h) = unopened EndsByGrowth f h.0
+pub of_done : (store : Store) (asked : Request) (out : Writing) (f : Fate) → Does store asked out f → AnswersWithCause asked f
+of_done store (request.Check options) out f (inl h) = of_delivered EndsByGrowth store None out h.2.answer f (of_check EndsByGrowth _ _ _ h.0.bytes h.2.answer tt h.2.is_answer) h.2.put
+of_done store (request.Check options) out f (inr h) = unread EndsByGrowth store.disk Log options.log.now None f h.0.0
+of_done store (request.Replay options) out f (inl bad) = subst ComesByGrowth (sym bad.told) (of_schedule options bad.fault bad.is_fault)
+of_done store (request.Replay options) out f (inr (schedule, inl h)) =
+    of_delivered EndsByGrowth store options.run.log out h.2.answer f (of_play EndsByGrowth (ByTurns h.2.is_answer.0) options.run h.0.bytes h.2.answer (λ program ended w run. run.cause) h.2.is_answer.2) h.2.put
+of_done store (request.Replay options) out f (inr (schedule, inr h)) = unread EndsByGrowth store.disk File options.run.file.now options.run.log f h.0.0
+of_done store (request.Run options) out f (inl h) =
+    of_delivered EndsWithCause store options.log out h.2.answer f (of_play EndsWithCause ByThreads options h.0.bytes h.2.answer (λ program ended w run. run.cause) h.2.is_answer) h.2.put
+of_done store (request.Run options) out f (inr h) = unread EndsWithCause store.disk File options.file.now options.log f h.0.0
+of_done store (request.Explain options) out f (inl h) = of_explained EndsByGrowth store options.dot out h.2.answer f (of_explanation EndsByGrowth h.0.bytes h.2.answer tt h.2.is_answer) h.2.put
+of_done store (request.Explain options) out f (inr h) = unread EndsByGrowth store.disk Log options.log.now options.dot f h.0.0
+of_done store (request.Carry options) out f (inl h) = of_told EndsByGrowth h.2.put.0.0 h.2.answer f (of_carry EndsByGrowth h.0.bytes h.2.answer tt h.2.is_answer) h.2.put.0.2
+of_done store (request.Carry options) out f (inr (inl h, nothing)) = unread EndsByGrowth store.disk Log options.log.now (Some options.out) f h.0
+of_done store (request.Carry options) out f (inr (inr h, nothing)) = subst ComesByGrowth (sym h.0) tt

@@ -1,6 +1,6 @@
 -- What an explanation comes to.
 use Rattle.std.proofs.Common.{◌≡◌, ap, inl, inr, refl, sym, subst, take}
-use Rattle.std.specs.Prelude.{ℕ, Bool, List, Option, Some, Result, Ok, Err, OnOk, OnErr, ◌⊎◌}
+use Rattle.std.specs.Prelude.{ℕ, Bool, List, Option, Some, None, Result, Ok, Err, OnOk, OnErr, ◌⊎◌}
 use Rattle.std.specs.Borrow.{Bor}
 use Rattle.std.specs.Io.KnownBytes.{Appends}
 use Rattle.velo_events.specs.declared.event.Event.{Event}
@@ -19,35 +19,40 @@ use Rattle.velo_worker.specs.declared.ending.Ending.TheVariants as ending
 use Rattle.velo_program.specs.declared.fate.Fate.{Fate}
 use Rattle.velo_program.specs.declared.fate.Fate.TheVariants as fate
 use Rattle.velo_program.specs.Delivery.{Answer, LacksMemory, Saves, failures_after}
-use Rattle.velo_program.specs.Disk.{Disk}
-use Rattle.velo_program.specs.Explaining.{ComesOut, ExplainsAlarm, ExplainsVerdict, explained}
+use Rattle.velo_program.specs.Disk.{Store}
+use Rattle.velo_program.specs.Explaining.{ComesOut, ExplainsAlarm, ExplainsVerdict, IsKeptWithout, explained}
 use Rattle.velo_program.specs.Writing.{Writing, WritesNothing}
 use Rattle.velo_program.specs.Steps.{IsDrawn, fate_of_telling}
 use Rattle.velo_program.proofs.OnDelivery.{delivered_reads, same_end}
 use Rattle.velo_program.proofs.OnVerdicts.{no_cycle_before}
 
-module _ (disk : Disk) (path : Option (Bor (List ℕ))) (out : Writing) where
+module _ (store : Store) (path : Option (Bor (List ℕ))) (out : Writing) where
   -- where the picture fails nothing goes out
-  pub undrawn : (picture : List ℕ) (text : Option (List ℕ)) (end f : Fate) → IsDrawn {X = ℕ} disk path picture (Err f) → WritesNothing out
-      → ComesOut disk path out (record { file = Some picture; text = text; end = end }) f
+  pub undrawn : (picture : List ℕ) (text : Option (List ℕ)) (end f : Fate) → IsDrawn {X = ℕ} store path picture (Err f) → WritesNothing out
+      → ComesOut store path out (record { file = Some picture; text = text; end = end }) f
   undrawn picture text end fate.CannotOpen h nothing = (h, nothing)
   undrawn picture text end fate.WriteFailed h nothing = inl (h, nothing)
-  undrawn picture text end fate.Memory h nothing = (h, nothing.1)
+  undrawn picture text end fate.Memory h nothing = (h, nothing.1, tt)
   undrawn picture text end f h nothing = absurd h
 
+  -- what is not drawn leaves the files as they were
+  kept_without : (file : Option (List ℕ)) → Saves store path file → IsKeptWithout store file
+  kept_without None saved = saved
+  kept_without (Some picture) saved = tt
+
   -- the words went out, or a beginning of them
-  pub written : {X : Type 0} (file : Option (List ℕ)) (text : List ℕ) (alarm : Bool) (result : Result X ExplainFault) → Saves disk path file
+  pub written : {X : Type 0} (file : Option (List ℕ)) (text : List ℕ) (alarm : Bool) (result : Result X ExplainFault) → Saves store path file
       → OnOk result (Appends out.old out.new text) → OnErr result (AppendsBeginning out.old out.new text) → out.after ≡ explain.failures_after result out.before
       → (result ≡ Err explain_fault.Memory → GrowthRefused)
-      → ComesOut disk path out (record { file = file; text = Some text; end = fate.Finished ending.Done alarm }) (fate_of_telling result (fate.Finished ending.Done alarm))
+      → ComesOut store path out (record { file = file; text = Some text; end = fate.Finished ending.Done alarm }) (fate_of_telling result (fate.Finished ending.Done alarm))
   written file text alarm (Ok told) saved ok err failures memory = (refl, saved, (ok, failures))
-  written file text alarm (Err explain_fault.Memory) saved ok err failures memory = (memory refl, failures)
+  written file text alarm (Err explain_fault.Memory) saved ok err failures memory = (memory refl, failures, kept_without file saved)
   written file text alarm (Err explain_fault.Write) saved ok err failures memory = inr (saved, (err, failures))
 
   -- no explanation is told as a failed read
-  pub explains_reads : (log : List Event) (answer : Answer) (n : ℕ) → ExplainsVerdict log answer ⊎ LacksMemory answer → (f : Fate) → ComesOut disk path out answer f → failures_after f n ≡ n
+  pub explains_reads : (log : List Event) (answer : Answer) (n : ℕ) → ExplainsVerdict log answer ⊎ LacksMemory answer → (f : Fate) → ComesOut store path out answer f → failures_after f n ≡ n
   explains_reads log answer n is fate.Memory h = refl
-  explains_reads log answer n is f h = delivered_reads disk path out answer n (by_end is) f h
+  explains_reads log answer n is f h = delivered_reads store path out answer n (by_end is) f h
     where
       by_end : ExplainsVerdict log answer ⊎ LacksMemory answer → failures_after answer.end n ≡ n
       by_end (inl (inl alarm)) = same_end answer _ n alarm.said refl

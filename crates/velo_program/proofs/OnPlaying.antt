@@ -14,7 +14,7 @@ use Rattle.velo_program.specs.declared.fate.Fate.{Fate}
 use Rattle.velo_program.specs.declared.fate.Fate.TheVariants as fate
 use Rattle.velo_program.specs.declared.request.RunOptions.{RunOptions}
 use Rattle.velo_program.specs.Delivery.{Answer, IsDelivered, IsSaved, failures_after, silent}
-use Rattle.velo_program.specs.Disk.{Disk}
+use Rattle.velo_program.specs.Disk.{Disk, Store}
 use Rattle.velo_program.specs.Playing.{ByThreads, ByTurns, IsEndAnswer, IsFaultOfText, IsFaultOfWork, IsRunAnswer, IsTextOf, IsUnread, Play, is_unreported}
 use Rattle.velo_program.specs.Reading.{Reading}
 use Rattle.velo_program.specs.Schedule.{IsSchedule}
@@ -55,16 +55,16 @@ fault_read (Some all) bytes (work_fault.TooMany n) is h = fault_of_text all byte
 -- ---- what a run has to say
 
 -- where the log is not saved nothing goes out
-pub unsaved : (disk : Disk) (path : Option (Bor (List ℕ))) (out : Writing) (log : List ℕ) (text : Option (List ℕ)) (end f : Fate)
-    → IsSaved {X = ℕ} disk path log (Err f) → WritesNothing out → IsDelivered disk path out (record { file = Some log; text = text; end = end }) f
-unsaved disk path out log text end fate.CannotOpen h nothing = (h, nothing)
-unsaved disk path out log text end fate.WriteFailed h nothing = inl (h, nothing)
-unsaved disk path out log text end f h nothing = absurd h
+pub unsaved : (store : Store) (path : Option (Bor (List ℕ))) (out : Writing) (log : List ℕ) (text : Option (List ℕ)) (end f : Fate)
+    → IsSaved {X = ℕ} store path log (Err f) → WritesNothing out → IsDelivered store path out (record { file = Some log; text = text; end = end }) f
+unsaved store path out log text end fate.CannotOpen h nothing = (h, nothing)
+unsaved store path out log text end fate.WriteFailed h nothing = inl (h, nothing)
+unsaved store path out log text end f h nothing = absurd h
 
 -- no run is told as a failed read
 pub plays_reads : (play : Play) (options : RunOptions) (program : Program) (answer : Answer) (n : ℕ) → IsRunAnswer play options program answer
-    → (disk : Disk) (path : Option (Bor (List ℕ))) (out : Writing) (f : Fate) → IsDelivered disk path out answer f → failures_after f n ≡ n
-plays_reads play options program answer n is disk path out f put = delivered_reads disk path out answer n (by_end play is) f put
+    → (store : Store) (path : Option (Bor (List ℕ))) (out : Writing) (f : Fate) → IsDelivered store path out answer f → failures_after f n ≡ n
+plays_reads play options program answer n is store path out f put = delivered_reads store path out answer n (by_end play is) f put
   where
     of_end : (b : Bool) (certificate : Bool) (ended : Ending) (w : WorldState) → IsEndAnswer b program certificate ended w answer → failures_after answer.end n ≡ n
     of_end true certificate ended w says = same_end answer _ n says refl
@@ -79,11 +79,11 @@ plays_reads play options program answer n is disk path out f put = delivered_rea
 -- ---- the workload
 
 -- why there is none is told, with nothing written
-pub unread_put : (read : Option (List ℕ)) (f : Fate) → IsUnread read f → (disk : Disk) (path : Option (Bor (List ℕ))) (out : Writing) → WritesNothing out
-    → IsDelivered disk path out (silent f) f
-unread_put read fate.CannotOpen unread disk path out nothing = absurd unread
-unread_put read fate.WriteFailed unread disk path out nothing = absurd unread
-unread_put read f unread disk path out nothing = (refl, tt, nothing)
+pub unread_put : (read : Option (List ℕ)) (f : Fate) → IsUnread read f → (store : Store) → store.is_kept → (path : Option (Bor (List ℕ))) (out : Writing) → WritesNothing out
+    → IsDelivered store path out (silent f) f
+unread_put read fate.CannotOpen unread store kept path out nothing = absurd unread
+unread_put read fate.WriteFailed unread store kept path out nothing = absurd unread
+unread_put read f unread store kept path out nothing = (refl, kept, nothing)
 
 -- a program that was read was opened; else there is none
 pub opened : (disk : Disk) (path : List ℕ) (read : Reading) → disk.gives path read → (result : Result Program Fate) → IfOk result (IsTextOf read.bytes)
@@ -91,10 +91,10 @@ pub opened : (disk : Disk) (path : List ℕ) (read : Reading) → disk.gives pat
 opened disk path read given (Ok program) text kept = record { read = read; given = given; is_text = text; no_failure = kept }
 opened disk path read given (Err f) text kept = tt
 
-pub not_opened : (disk : Disk) (path : List ℕ) (read : Reading) → disk.gives path read → (result : Result Program Fate) → IfErr result (IsUnread read.bytes)
-    → IfErr result (λ f. read.after ≡ failures_after f read.before) → IfErr result (OpensNoProgram disk path)
-not_opened disk path read given (Ok program) unread failures = tt
-not_opened disk path read given (Err f) unread failures = inl (record { read = read; given = given; unread = unread; failures = failures })
+pub not_opened : (disk : Disk) (options : RunOptions) (read : Reading) → disk.gives options.file.now read → (result : Result Program Fate) → IfErr result (IsUnread read.bytes)
+    → IfErr result (λ f. read.after ≡ failures_after f read.before) → IfErr result (OpensNoProgram disk options)
+not_opened disk options read given (Ok program) unread failures = tt
+not_opened disk options read given (Err f) unread failures = inl (record { read = read; given = given; unread = unread; failures = failures })
 
 -- the schedule behind a reference
 pub schedule_read : (text : List ℕ) (schedule lent : List ThreadId) → lent ≡ schedule → IsSchedule text schedule → IsSchedule text lent

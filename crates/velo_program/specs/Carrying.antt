@@ -20,8 +20,10 @@ carried bounds trace = saying (log_text bounds trace) (Finished Done false)
 -- What is said of a log: its text of version 2; or nothing, because it could not be read.
 abbrev pub IsCarryAnswer : Option (List ℕ) → Answer → Type 0
 IsCarryAnswer read answer =
-    ((bounds : Bounds) × (trace : List Event) × IsInput read bounds trace × (answer ≡ carried bounds trace))
-    ⊎ ((fault : LogFault) × IsFaultOfLogText read fault × (answer ≡ silent (Check (check_fault.Log fault))))
+    ((bounds : Bounds) × (trace : List Event) × IsInput read bounds trace
+    × (answer ≡ carried bounds trace))
+    ⊎ ((fault : LogFault) × IsFaultOfLogText read fault
+    × (answer ≡ silent (Check (check_fault.Log fault))))
 
 -- an answer to what was read was told on the output
 abbrev pub Carries : Option (List ℕ) → Writing → Fate → Type 0

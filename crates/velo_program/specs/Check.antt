@@ -37,7 +37,8 @@ abbrev pub IsInput : Option (List ℕ) → Bounds → List Event → Type 0
 IsInput read bounds trace = IfSome read (λ bytes. IsLogText bytes bounds trace)
 
 -- the log of the input came about as it says, within the limit of events
-pub record ComesAbout (limit : ℕ) (read : Option (List ℕ)) (bounds : Bounds) (trace : List Event) : Type 0 where
+pub record ComesAbout (limit : ℕ) (read : Option (List ℕ)) (bounds : Bounds) (trace : List Event)
+    : Type 0 where
   pub input : IsInput read bounds trace
   pub well_formed : IsWellFormed bounds trace
   pub room : length trace ≤ limit
@@ -45,7 +46,8 @@ pub record ComesAbout (limit : ℕ) (read : Option (List ℕ)) (bounds : Bounds)
 -- ---- why it did not
 
 -- the log stops at an event that is refused, or that reads a wrong value
-pub record IsRefused (limit nodes : ℕ) (read : Option (List ℕ)) (p : ℕ) (refusal : Refusal) : Type 0 where
+pub record IsRefused (limit nodes : ℕ) (read : Option (List ℕ)) (p : ℕ) (refusal : Refusal)
+    : Type 0 where
   pub bounds : Bounds
   pub trace : List Event
   pub input : IsInput read bounds trace
@@ -60,7 +62,8 @@ pub record IsWrongValue (limit : ℕ) (read : Option (List ℕ)) (p : ℕ) : Typ
 -- the bytes are the text of no log, by their first wrong line; or the source failed, or a growth was refused
 abbrev pub IsFaultOfLogText : Option (List ℕ) → LogFault → Type 0
 IsFaultOfLogText read fault =
-    IfSome read (λ bytes. Answers MOST_EVENTS bytes (Err fault)) × (fault ≡ log_fault.Memory → GrowthRefused)
+    IfSome read (λ bytes. Answers MOST_EVENTS bytes (Err fault))
+    × (fault ≡ log_fault.Memory → GrowthRefused)
 
 abbrev pub IsFaultOfInput : ℕ → ℕ → Option (List ℕ) → CheckFault → Type 0
 IsFaultOfInput limit nodes read (Log fault) = IsFaultOfLogText read fault
@@ -93,7 +96,8 @@ IsCertified false log text = text ≡ []
 -- ---- the output and the verdict
 
 -- the report of a log, and then its certificate if that is asked for
-pub record IsOutput (names : Names) (certificate : Bool) (threads : ℕ) (log : List Event) (text : List ℕ) : Type 0 where
+pub record IsOutput (names : Names) (certificate : Bool) (threads : ℕ) (log : List Event) (text : List ℕ)
+    : Type 0 where
   pub report : List ℕ
   pub is_report : IsReport names threads log report
   pub lines : List ℕ
@@ -109,7 +113,8 @@ pub record IsVerdict (trace : List Event) (answer : Verdict) : Type 0 where
 -- ---- the answer
 
 -- the report by numbers of the log of the input, with its certificate if that is asked for, and the verdict as the end
-pub record IsChecked (limit : ℕ) (certificate : Bool) (read : Option (List ℕ)) (answer : Answer) : Type 0 where
+pub record IsChecked (limit : ℕ) (certificate : Bool) (read : Option (List ℕ)) (answer : Answer)
+    : Type 0 where
   pub bounds : Bounds
   pub trace : List Event
   pub log : ComesAbout limit read bounds trace
@@ -119,11 +124,15 @@ pub record IsChecked (limit : ℕ) (certificate : Bool) (read : Option (List ℕ
   pub is_verdict : IsVerdict trace verdict
   pub said : answer ≡ saying text (Finished Done (is_alarm verdict))
 
+-- nothing is said of an input that has this fault
+abbrev pub IsUnchecked : ℕ → ℕ → Option (List ℕ) → Answer → Type 0
+IsUnchecked limit nodes read answer =
+    (fault : CheckFault) × IsFaultOfInput limit nodes read fault × (answer ≡ silent (Check fault))
+
 -- What a check has to say: the report and the verdict; or nothing, for a reason.
 abbrev pub IsCheckAnswer : ℕ → ℕ → Bool → Option (List ℕ) → Answer → Type 0
 IsCheckAnswer limit nodes certificate read answer =
-    IsChecked limit certificate read answer
-    ⊎ ((fault : CheckFault) × IsFaultOfInput limit nodes read fault × (answer ≡ silent (Check fault)))
+    IsChecked limit certificate read answer ⊎ IsUnchecked limit nodes read answer
 
 -- What a check came to: an answer to what was read was told on the output.
 abbrev pub Checks : ℕ → ℕ → Bool → Option (List ℕ) → Writing → Fate → Type 0
@@ -138,4 +147,5 @@ IsOutputOf names certificate w text = IsOutput names certificate w.config.bounds
 
 -- what writing it came to
 abbrev pub WritesOutput : {X F : Type 0} → Names → Bool → WorldState → Writing → Result X F → Type 0
-WritesOutput names certificate w out result = (text : List ℕ) × IsOutputOf names certificate w text × Delivers out text result
+WritesOutput names certificate w out result =
+    (text : List ℕ) × IsOutputOf names certificate w text × Delivers out text result

@@ -1,17 +1,17 @@
 -- An answer, and what becomes of it on the way out.
-use Rattle.std.specs.Prelude.{◌≡◌, ◌⊎◌, ⊤, ℕ, List, Option, Some, None, Result, Ok, Err}
+use Rattle.std.specs.Prelude.{◌≡◌, ◌⊎◌, ℕ, List, Option, Some, None, Result, Ok, Err}
 use Rattle.std.specs.Borrow.{Bor}
 use Rattle.velo_events.specs.Refusals.{GrowthRefused}
 use Rattle.velo_logtext.specs.declared.fault.LogFault.TheVariants.{Read}
 use Rattle.velo_logtext.specs.Device.{one_more}
 use Rattle.velo_program.specs.declared.check.CheckFault.TheVariants.{Log}
-use Rattle.velo_program.specs.Disk.{Disk}
+use Rattle.velo_program.specs.Disk.{Disk, Store}
 use Rattle.velo_program.specs.Writing.{Writing, Writes, BreaksOff, WritesNothing}
 use Rattle.velo_program.specs.declared.fate.Fate.{Fate}
 use Rattle.velo_program.specs.declared.fate.Fate.TheVariants.{CannotOpen, Check, Memory, ReadFailed, WriteFailed}
 
--- What a command has to say: a text for the file that was asked for, if it has one; a text for the output, if it has one; and
--- how it ends.
+-- What a command has to say: a text for the file that was asked for, if it has one; a text for the output, if it has one;
+-- and how it ends.
 pub record Answer : Type 0 where
   pub file : Option (List ℕ)
   pub text : Option (List ℕ)
@@ -54,15 +54,17 @@ IsTold out answer end = (end ≡ answer.end) × Takes out answer.text
 
 -- ---- in the file that was asked for
 
--- it took the text, if there is one
-abbrev pub Saves : Disk → Option (Bor (List ℕ)) → Option (List ℕ) → Type 0
-Saves disk path None = ⊤
-Saves disk None (Some text) = ⊤
-Saves disk (Some path) (Some text) = (file : Writing) × disk.takes path.now file × Writes file text
+-- it took the text; where no file is asked for, or there is no text for it, none was opened
+abbrev pub Saves : Store → Option (Bor (List ℕ)) → Option (List ℕ) → Type 0
+Saves store path None = store.is_kept
+Saves store None (Some text) = store.is_kept
+Saves store (Some path) (Some text) =
+    (file : Writing) × store.disk.takes path.now file × Writes file text
 
 -- it took a beginning of the text
 abbrev pub BreaksOffAt : Disk → Option (Bor (List ℕ)) → Option (List ℕ) → Type 0
-BreaksOffAt disk (Some path) (Some text) = (file : Writing) × disk.takes path.now file × BreaksOff file text
+BreaksOffAt disk (Some path) (Some text) =
+    (file : Writing) × disk.takes path.now file × BreaksOff file text
 BreaksOffAt disk path text = ⊥
 
 -- it does not open
@@ -71,17 +73,21 @@ FailsAt disk (Some path) (Some text) = disk.fails path.now
 FailsAt disk path text = ⊥
 
 -- what writing the file came to
-abbrev pub IsSaved : {X : Type 0} → Disk → Option (Bor (List ℕ)) → List ℕ → Result X Fate → Type 0
-IsSaved disk path text (Ok x) = Saves disk path (Some text)
-IsSaved disk path text (Err CannotOpen) = FailsAt disk path (Some text)
-IsSaved disk path text (Err WriteFailed) = BreaksOffAt disk path (Some text)
-IsSaved disk path text (Err end) = ⊥
+abbrev pub IsSaved : {X : Type 0} → Store → Option (Bor (List ℕ)) → List ℕ → Result X Fate → Type 0
+IsSaved store path text (Ok x) = Saves store path (Some text)
+IsSaved store path text (Err CannotOpen) = FailsAt store.disk path (Some text)
+IsSaved store path text (Err WriteFailed) = BreaksOffAt store.disk path (Some text)
+IsSaved store path text (Err end) = ⊥
 
 -- ---- in both
 
--- What became of an answer. The file is written first: where it fails, nothing goes to the output.
-abbrev pub IsDelivered : Disk → Option (Bor (List ℕ)) → Writing → Answer → Fate → Type 0
-IsDelivered disk path out answer CannotOpen = FailsAt disk path answer.file × WritesNothing out
-IsDelivered disk path out answer WriteFailed =
-    (BreaksOffAt disk path answer.file × WritesNothing out) ⊎ (Saves disk path answer.file × TakesPart out answer.text)
-IsDelivered disk path out answer end = (end ≡ answer.end) × Saves disk path answer.file × Takes out answer.text
+-- What became of an answer. The file is written first: where it fails, nothing goes to the output. Where the answer has
+-- nothing for a file, none is opened.
+abbrev pub IsDelivered : Store → Option (Bor (List ℕ)) → Writing → Answer → Fate → Type 0
+IsDelivered store path out answer CannotOpen =
+    FailsAt store.disk path answer.file × WritesNothing out
+IsDelivered store path out answer WriteFailed =
+    (BreaksOffAt store.disk path answer.file × WritesNothing out)
+    ⊎ (Saves store path answer.file × TakesPart out answer.text)
+IsDelivered store path out answer end =
+    (end ≡ answer.end) × Saves store path answer.file × Takes out answer.text

@@ -1,5 +1,5 @@
 -- What an explanation has to say, by the bytes of its input and by the definitions.
-use Rattle.std.specs.Prelude.{◌≡◌, ◌⊎◌, ℕ, true, false, List, length, Option, Some}
+use Rattle.std.specs.Prelude.{◌≡◌, ◌⊎◌, ⊤, ℕ, true, false, List, length, Option, Some, None}
 use Rattle.std.specs.Borrow.{Bor}
 use Rattle.velo_events.specs.declared.config.Bounds.{Bounds}
 use Rattle.velo_events.specs.declared.event.Event.{Event}
@@ -14,12 +14,11 @@ use Rattle.velo_explain.specs.Evidence.{IsEvidence, HaveReasons}
 use Rattle.velo_explain.specs.Picture.{picture_text}
 use Rattle.velo_explain.specs.Text.{explanation_text, clean_text}
 use Rattle.velo_worker.specs.declared.ending.Ending.TheVariants.{Done}
-use Rattle.velo_program.specs.declared.check.CheckFault.{CheckFault}
 use Rattle.velo_program.specs.declared.fate.Fate.{Fate}
-use Rattle.velo_program.specs.declared.fate.Fate.TheVariants.{Finished, Check, Memory}
-use Rattle.velo_program.specs.Check.{ComesAbout, IsFaultOfInput}
-use Rattle.velo_program.specs.Delivery.{Answer, IsDelivered, LacksMemory, saying, silent}
-use Rattle.velo_program.specs.Disk.{Disk}
+use Rattle.velo_program.specs.declared.fate.Fate.TheVariants.{Finished, Memory}
+use Rattle.velo_program.specs.Check.{ComesAbout, IsUnchecked}
+use Rattle.velo_program.specs.Delivery.{Answer, IsDelivered, LacksMemory, saying}
+use Rattle.velo_program.specs.Disk.{Store}
 use Rattle.velo_program.specs.Writing.{Writing}
 
 -- ---- the words of a verdict
@@ -27,7 +26,11 @@ use Rattle.velo_program.specs.Writing.{Writing}
 -- what is said of an alarm at position p by its evidence: the picture of its cycle for the file, and its words
 abbrev pub explained : List Event → ℕ → Evidence → Answer
 explained log p evidence =
-    record { file = Some (picture_text log evidence); text = Some (explanation_text log p evidence); end = Finished Done true }
+    record {
+      file = Some (picture_text log evidence);
+      text = Some (explanation_text log p evidence);
+      end = Finished Done true;
+    }
 
 -- what is said of a log without a cycle: how many events and how many transactions it has, and nothing for the file
 abbrev pub counted : List Event → Answer
@@ -58,13 +61,17 @@ pub record IsExplained (read : Option (List ℕ)) (answer : Answer) : Type 0 whe
 -- What an explanation has to say: the verdict in words, and the cycle of an alarm; or nothing, for a reason.
 abbrev pub IsExplanation : Option (List ℕ) → Answer → Type 0
 IsExplanation read answer =
-    IsExplained read answer
-    ⊎ (((fault : CheckFault) × IsFaultOfInput MOST_EVENTS MOST_NODES read fault × (answer ≡ silent (Check fault)))
-    ⊎ LacksMemory answer)
+    IsExplained read answer ⊎ (IsUnchecked MOST_EVENTS MOST_NODES read answer ⊎ LacksMemory answer)
 
 -- ---- what became of it
 
+-- where there is no picture no file is opened
+abbrev pub IsKeptWithout : Store → Option (List ℕ) → Type 0
+IsKeptWithout store None = store.is_kept
+IsKeptWithout store (Some picture) = ⊤
+
 -- Memory may also be refused once the picture is written. What the output took is not said then, but it did not fail.
-abbrev pub ComesOut : Disk → Option (Bor (List ℕ)) → Writing → Answer → Fate → Type 0
-ComesOut disk path out answer Memory = GrowthRefused × (out.after ≡ out.before)
-ComesOut disk path out answer end = IsDelivered disk path out answer end
+abbrev pub ComesOut : Store → Option (Bor (List ℕ)) → Writing → Answer → Fate → Type 0
+ComesOut store path out answer Memory =
+    GrowthRefused × (out.after ≡ out.before) × IsKeptWithout store answer.file
+ComesOut store path out answer end = IsDelivered store path out answer end

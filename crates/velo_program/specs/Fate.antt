@@ -20,8 +20,10 @@ use Rattle.velo_program.specs.declared.check.Verdict.TheVariants as verdict
 use Rattle.velo_program.specs.declared.check.CheckFault.{CheckFault}
 use Rattle.velo_program.specs.declared.check.CheckFault.TheVariants.{Log, Refused, WrongValue, Write, Memory}
 use Rattle.velo_program.specs.declared.fate.Fate.{Fate}
-use Rattle.velo_program.specs.declared.fate.Fate.TheVariants.{Finished, Schedule, Work, Check, CannotOpen, ReadFailed, WriteFailed, Lost}
+use Rattle.velo_program.specs.declared.fate.Fate.TheVariants.{Finished, Schedule, Work, Check, CannotOpen, OneFile, ReadFailed, WriteFailed, Lost}
 use Rattle.velo_program.specs.declared.fate.Fate.TheVariants as fate
+use Rattle.velo_program.specs.declared.request.Operand.{Operand}
+use Rattle.velo_program.specs.declared.request.Operand.TheVariants as operand
 
 abbrev pub number_of : Refusal → ℕ
 number_of Halted = 1
@@ -82,6 +84,7 @@ status_of (Schedule fault) = status_of_schedule fault
 status_of (Work fault) = status_of_work fault
 status_of (Check fault) = status_of_check fault
 status_of CannotOpen = 5
+status_of (OneFile operand) = 2
 status_of ReadFailed = 5
 status_of WriteFailed = 5
 status_of fate.Memory = 5
@@ -98,14 +101,16 @@ line_of_log log_fault.Memory = codes "out of memory\n"
 abbrev pub line_of_check : CheckFault → List ℕ
 line_of_check (Log fault) = line_of_log fault
 line_of_check (Refused position refusal) =
-    codes "refused " ++ decimal (number_of refusal) ++ codes " at " ++ decimal position ++ codes "\n"
+    codes "refused " ++ decimal (number_of refusal)
+    ++ codes " at " ++ decimal position ++ codes "\n"
 line_of_check (WrongValue position) = codes "wrong value at " ++ decimal position ++ codes "\n"
 line_of_check Write = codes "write failed\n"
 line_of_check Memory = codes "out of memory\n"
 
 abbrev pub line_of_refused : ThreadId → Refusal → List ℕ
 line_of_refused thread refusal =
-    codes "refused " ++ decimal (number_of refusal) ++ codes " thread " ++ decimal thread.0 ++ codes "\n"
+    codes "refused " ++ decimal (number_of refusal)
+    ++ codes " thread " ++ decimal thread.0 ++ codes "\n"
 
 abbrev pub line_of_end : Ending → List ℕ
 line_of_end (ending.Refused thread refusal.Memory) = codes "out of memory\n"
@@ -128,8 +133,13 @@ place_of_work (work_fault.TooMany n) = Some (5, n)
 place_of_work work_fault.Memory = None
 
 abbrev pub line_of_work : Option (ℕ × ℕ) → List ℕ
-line_of_work (Some (number, n)) = codes "workload fault " ++ decimal number ++ codes " line " ++ decimal n ++ codes "\n"
+line_of_work (Some (number, n)) =
+    codes "workload fault " ++ decimal number ++ codes " line " ++ decimal n ++ codes "\n"
 line_of_work None = codes "out of memory\n"
+
+abbrev pub line_of_one_file : Operand → List ℕ
+line_of_one_file operand.Log = codes "error: LOG and OUT are one file\n"
+line_of_one_file operand.File = codes "error: FILE and OUT are one file\n"
 
 abbrev pub line_of : Fate → List ℕ
 line_of (Finished how alarm) = line_of_end how
@@ -137,6 +147,7 @@ line_of (Schedule fault) = line_of_schedule fault
 line_of (Work fault) = line_of_work (place_of_work fault)
 line_of (Check fault) = line_of_check fault
 line_of CannotOpen = codes "cannot open\n"
+line_of (OneFile operand) = line_of_one_file operand
 line_of ReadFailed = codes "read failed\n"
 line_of Lost = codes "seat lost\n"
 line_of WriteFailed = codes "write failed\n"
@@ -155,7 +166,8 @@ fate_of (Err fault) = Check fault
 
 -- the line went out and this is the status, or the device failed once and the status is 5
 abbrev pub Closes : ℕ → List ℕ → Writing → ℕ → Type 0
-Closes status line err result = ((result ≡ status) × Writes err line) ⊎ ((result ≡ 5) × (err.after ≡ one_more err.before))
+Closes status line err result =
+    ((result ≡ status) × Writes err line) ⊎ ((result ≡ 5) × (err.after ≡ one_more err.before))
 
 -- the end is that of what the program came to
 abbrev pub Ends : Fate → Writing → ℕ → Type 0

@@ -17,7 +17,8 @@ check_fault_of relive.Memory = Memory
 
 -- why the log can't be done to its end
 abbrev pub IsFaultOfLog : Config → List Event → CheckFault → Type 0
-IsFaultOfLog config log (Refused p refusal) = IsRefusedAt config.events config.nodes config.bounds log p refusal
+IsFaultOfLog config log (Refused p refusal) =
+    IsRefusedAt config.events config.nodes config.bounds log p refusal
 IsFaultOfLog config log (WrongValue p) = IsWrongValueAt config.events config.bounds log p
 IsFaultOfLog config log Memory = GrowthRefused
 IsFaultOfLog config log (Log fault) = ⊥

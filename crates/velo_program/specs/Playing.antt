@@ -30,13 +30,16 @@ use Rattle.velo_program.specs.Fate.{is_alarm}
 
 -- the bytes, where they are known, are the text of this program
 abbrev pub IsTextOf : Option (List ℕ) → Program → Type 0
-IsTextOf read program = IfSome read (λ bytes. (length bytes ≤ MOST_WORKLOAD_BYTES) × (meaning_of bytes ≡ Ok program))
+IsTextOf read program =
+    IfSome read (λ bytes. (length bytes ≤ MOST_WORKLOAD_BYTES) × (meaning_of bytes ≡ Ok program))
 
 -- why bytes are the text of none: there are too many of them; or they are no text; or the text has this fault
 abbrev pub IsFaultOfText : List ℕ → WorkFault → Type 0
-IsFaultOfText bytes fault = ((MOST_WORKLOAD_BYTES < length bytes) × (fault ≡ work_fault.TooMany 0))
+IsFaultOfText bytes fault =
+    ((MOST_WORKLOAD_BYTES < length bytes) × (fault ≡ work_fault.TooMany 0))
     ⊎ ((length bytes ≤ MOST_WORKLOAD_BYTES)
-    × (((¬ IsUtf8 bytes) × (fault ≡ work_fault.BadLine 0)) ⊎ Answers (meaning_of bytes) (Err fault)))
+    × (((¬ IsUtf8 bytes) × (fault ≡ work_fault.BadLine 0))
+    ⊎ Answers (meaning_of bytes) (Err fault)))
 
 abbrev pub IsFaultOfWork : Option (List ℕ) → WorkFault → Type 0
 IsFaultOfWork read work_fault.Memory = GrowthRefused
@@ -64,7 +67,8 @@ pub record IsConfigOf (program : Program) (options : RunOptions) (config : Confi
   pub stop : config.stop ≡ options.stop
 
 -- a replay of the program by a schedule
-pub record IsReplayOf (schedule : List ThreadId) (options : RunOptions) (program : Program) (ended : Ending) (w : WorldState) : Type 0 where
+pub record IsReplayOf (schedule : List ThreadId) (options : RunOptions) (program : Program)
+    (ended : Ending) (w : WorldState) : Type 0 where
   pub config : Config
   pub configured : IsConfigOf program options config
   pub replays : Replays program schedule config ended w
@@ -91,7 +95,8 @@ is_unreported _ = false
 abbrev pub AreNamesOf : Program → Names → Type 0
 AreNamesOf program Numbers = ⊥
 AreNamesOf program (Words threads labels) =
-    (map string_bytes threads.now ≡ program.thread_names) × (map string_bytes labels.now ≡ program.label_names)
+    (map string_bytes threads.now ≡ program.thread_names)
+    × (map string_bytes labels.now ≡ program.label_names)
 
 -- the text of the world's log
 abbrev pub text_of_log : WorldState → List ℕ
@@ -100,10 +105,15 @@ text_of_log w = log_text w.config.bounds w.log
 -- what is said of the log of a world by this text and this verdict: its own text for the file, and the ending
 abbrev pub reported : Ending → WorldState → List ℕ → Verdict → Answer
 reported ended w text verdict =
-    record { file = Some (text_of_log w); text = Some text; end = Finished ended (is_alarm verdict) }
+    record {
+      file = Some (text_of_log w);
+      text = Some text;
+      end = Finished ended (is_alarm verdict);
+    }
 
 -- the text is the report by these names, with its certificate if that is asked for, and the verdict is that of the log
-pub record IsReported (names : Names) (certificate : Bool) (ended : Ending) (w : WorldState) (answer : Answer) : Type 0 where
+pub record IsReported (names : Names) (certificate : Bool) (ended : Ending) (w : WorldState)
+    (answer : Answer) : Type 0 where
   pub text : List ℕ
   pub output : IsOutput names certificate w.config.bounds.threads w.log text
   pub verdict : Verdict
@@ -117,7 +127,8 @@ IsEndAnswer false program certificate ended w answer =
     (names : Names) × AreNamesOf program names × IsReported names certificate ended w answer
 
 -- a run that came to an end, and what is said of it
-pub record IsPlayed (play : Play) (options : RunOptions) (program : Program) (answer : Answer) : Type 0 where
+pub record IsPlayed (play : Play) (options : RunOptions) (program : Program) (answer : Answer)
+    : Type 0 where
   pub ended : Ending
   pub world : WorldState
   pub is_run : IsRunOf play options program ended world

@@ -8,4 +8,5 @@ pub record Reading : Type 0 where
   pub after : ℕ
 
 abbrev pub reading : {S : Type 0} → (S → Option (List ℕ)) → (S → ℕ) → S → S → Reading
-reading remaining failures old new = record { bytes = remaining old; before = failures old; after = failures new }
+reading remaining failures old new =
+    record { bytes = remaining old; before = failures old; after = failures new }

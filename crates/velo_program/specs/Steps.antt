@@ -21,11 +21,12 @@ use Rattle.velo_program.specs.declared.fate.Fate.TheVariants.{CannotOpen, Memory
 use Rattle.velo_program.specs.declared.reading.ReadFault.{ReadFault}
 use Rattle.velo_program.specs.declared.reading.ReadFault.TheVariants as read_fault
 use Rattle.velo_program.specs.declared.request.Request.{Request}
+use Rattle.velo_program.specs.declared.request.Operand.TheVariants.{File}
 use Rattle.velo_program.specs.declared.request.RunOptions.{RunOptions}
 use Rattle.velo_program.specs.Carrying.{Carries}
 use Rattle.velo_program.specs.Check.{IsOutputOf, IsVerdict}
 use Rattle.velo_program.specs.Delivery.{Answer, IsDelivered, IsSaved, IsTold, LacksMemory, failures_after}
-use Rattle.velo_program.specs.Disk.{Disk, FailsToOpen}
+use Rattle.velo_program.specs.Disk.{Disk, IsBarred, Store}
 use Rattle.velo_program.specs.Explaining.{ComesOut, ExplainsVerdict}
 use Rattle.velo_program.specs.Playing.{IsEndAnswer, IsReported, IsRunAnswer, IsTextOf, IsUnread, Play, is_unreported}
 use Rattle.velo_program.specs.Program.{IsAnswer}
@@ -37,10 +38,12 @@ use Rattle.velo_program.specs.Writing.{BreaksOff, Writes, WritesNothing, Writing
 -- the bytes are all that the source gives, where they are known; or they are more than the most that are wanted, and a beginning
 abbrev pub IsReadOf : ℕ → Option (List ℕ) → List ℕ → Type 0
 IsReadOf most None bytes = ⊤
-IsReadOf most (Some all) bytes = (rest : List ℕ) × (all ≡ bytes ++ rest) × (length bytes ≤ most → rest ≡ [])
+IsReadOf most (Some all) bytes =
+    (rest : List ℕ) × (all ≡ bytes ++ rest) × (length bytes ≤ most → rest ≡ [])
 
 -- the bytes grew by a piece of what the source gives, of so many bytes, and of none only at its end
-pub record GrowsByPiece (before after : Option (List ℕ)) (old new : List ℕ) (count : ℕ) : Type 0 where
+pub record GrowsByPiece (before after : Option (List ℕ)) (old new : List ℕ) (count : ℕ)
+    : Type 0 where
   pub piece : List ℕ
   pub grown : new ≡ old ++ piece
   pub given : Consumes before after piece
@@ -61,7 +64,8 @@ HasAlarm log = (alarm : Option Alarm) × AlarmOf log alarm
 -- what a world shows by numbers, and its verdict; or a growth was refused
 abbrev pub Shows : Bool → WorldState → Writing → Result Verdict CheckFault → Type 0
 Shows certificate w out (Ok answer) =
-    IsVerdict w.log answer × ((text : List ℕ) × IsOutputOf Numbers certificate w text × Writes out text)
+    IsVerdict w.log answer
+    × ((text : List ℕ) × IsOutputOf Numbers certificate w text × Writes out text)
 Shows certificate w out (Err check_fault.Write) =
     ((answer : Verdict) × IsVerdict w.log answer)
     × ((text : List ℕ) × IsOutputOf Numbers certificate w text × BreaksOff out text)
@@ -71,14 +75,15 @@ Shows certificate w out (Err fault) = ⊥
 -- ---- an explanation
 
 -- what drawing the picture came to
-abbrev pub IsDrawn : {X : Type 0} → Disk → Option (Bor (List ℕ)) → List ℕ → Result X Fate → Type 0
-IsDrawn disk path picture (Err Memory) = GrowthRefused
-IsDrawn disk path picture result = IsSaved disk path picture result
+abbrev pub IsDrawn : {X : Type 0} → Store → Option (Bor (List ℕ)) → List ℕ → Result X Fate → Type 0
+IsDrawn store path picture (Err Memory) = GrowthRefused
+IsDrawn store path picture result = IsSaved store path picture result
 
 -- the verdict of a log was explained, or memory was wanting
-abbrev pub Explains : List Event → Disk → Option (Bor (List ℕ)) → Writing → Fate → Type 0
-Explains log disk path out f =
-    (answer : Answer) × (ExplainsVerdict log answer ⊎ LacksMemory answer) × ComesOut disk path out answer f
+abbrev pub Explains : List Event → Store → Option (Bor (List ℕ)) → Writing → Fate → Type 0
+Explains log store path out f =
+    (answer : Answer) × (ExplainsVerdict log answer ⊎ LacksMemory answer)
+    × ComesOut store path out answer f
 
 -- what writing an explanation comes to
 abbrev pub fate_of_telling : {X : Type 0} → Result X ExplainFault → Fate → Fate
@@ -89,20 +94,25 @@ fate_of_telling (Err explain_fault.Write) end = WriteFailed
 -- ---- a run
 
 -- what writing a report came to, whose log was written before
-abbrev pub Reports : Names → Bool → Ending → WorldState → Disk → Option (Bor (List ℕ)) → Writing → Fate → Type 0
-Reports names certificate ended w disk path out f =
-    (answer : Answer) × (IsReported names certificate ended w answer ⊎ LacksMemory answer) × IsDelivered disk path out answer f
+abbrev pub Reports : Names → Bool → Ending → WorldState
+    → Store → Option (Bor (List ℕ)) → Writing → Fate → Type 0
+Reports names certificate ended w store path out f =
+    (answer : Answer) × (IsReported names certificate ended w answer ⊎ LacksMemory answer)
+    × IsDelivered store path out answer f
 
 -- what telling how a run ended came to
-abbrev pub TellsEnd : Program → Bool → Ending → WorldState → Disk → Option (Bor (List ℕ)) → Writing → Fate → Type 0
-TellsEnd program certificate ended w disk path out f =
-    (answer : Answer) × (IsEndAnswer (is_unreported ended) program certificate ended w answer ⊎ LacksMemory answer)
-    × IsDelivered disk path out answer f
+abbrev pub TellsEnd : Program → Bool → Ending → WorldState
+    → Store → Option (Bor (List ℕ)) → Writing → Fate → Type 0
+TellsEnd program certificate ended w store path out f =
+    (answer : Answer)
+    × (IsEndAnswer (is_unreported ended) program certificate ended w answer ⊎ LacksMemory answer)
+    × IsDelivered store path out answer f
 
 -- what playing a workload came to
-abbrev pub Plays : Play → RunOptions → Program → Disk → Writing → Fate → Type 0
-Plays play options program disk out f =
-    (answer : Answer) × IsRunAnswer play options program answer × IsDelivered disk options.log out answer f
+abbrev pub Plays : Play → RunOptions → Program → Store → Writing → Fate → Type 0
+Plays play options program store out f =
+    (answer : Answer) × IsRunAnswer play options program answer
+    × IsDelivered store options.log out answer f
 
 -- ---- carrying over
 
@@ -110,7 +120,8 @@ Plays play options program disk out f =
 abbrev pub CarriesTo : Disk → List ℕ → Reading → Fate → Type 0
 CarriesTo disk path read f =
     ((f ≡ CannotOpen) × disk.fails path)
-    ⊎ ((file : Writing) × disk.takes path file × Carries read.bytes file f × (read.after ≡ failures_after f read.before))
+    ⊎ ((file : Writing) × disk.takes path file × Carries read.bytes file f
+    × (read.after ≡ failures_after f read.before))
 
 -- ---- a request
 
@@ -132,5 +143,6 @@ pub record IsNoWorkload (disk : Disk) (path : List ℕ) (fate : Fate) : Type 0 w
   pub unread : IsUnread read.bytes fate
   pub failures : read.after ≡ failures_after fate read.before
 
-abbrev pub OpensNoProgram : Disk → List ℕ → Fate → Type 0
-OpensNoProgram disk path f = IsNoWorkload disk path f ⊎ ((f ≡ CannotOpen) × FailsToOpen disk path)
+abbrev pub OpensNoProgram : Disk → RunOptions → Fate → Type 0
+OpensNoProgram disk options f =
+    IsNoWorkload disk options.file.now f ⊎ IsBarred disk File options.file.now options.log f

@@ -11,7 +11,8 @@ pub record Writing : Type 0 where
   pub after : ℕ
 
 abbrev pub writing : {S : Type 0} → (S → Option (List ℕ)) → (S → ℕ) → S → S → Writing
-writing contents failures old new = record { old = contents old; new = contents new; before = failures old; after = failures new }
+writing contents failures old new =
+    record { old = contents old; new = contents new; before = failures old; after = failures new }
 
 -- the text went out
 abbrev pub Writes : Writing → List ℕ → Type 0

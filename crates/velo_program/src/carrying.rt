@@ -4,24 +4,28 @@ ghost use Rattle.velo_program.specs.Carrying.{Carries, fate_of_carrying};
 ghost use Rattle.velo_program.specs.Delivery.{failures_after};
 ghost use Rattle.velo_program.specs.Program.{Responds};
 ghost use Rattle.velo_program.specs.Reading.{reading};
+ghost use Rattle.velo_program.specs.Disk.{store};
 ghost use Rattle.velo_program.specs.Writing.{Writing, WritesNothing, writing};
 ghost use Rattle.velo_program.specs.declared.request.Request.TheVariants.{Carry};
 ghost use Rattle.velo_program.specs.Steps.{CarriesTo};
 
 use crate::check::CheckFault;
 use crate::fate::Fate;
-use crate::files::{Files, is_standard_input};
-use crate::request::CarryOptions;
+use crate::files::{Files, is_standard_input, open_input};
+use crate::request::{CarryOptions, Operand};
 use std::alloc::Global;
+use thiserror::Error;
 use velo_logtext::{LogFault, Sink, Source, WriteFault, read_log, write_log};
 use velo_worker::Ending;
 
 /// Why a log was not carried over.
-#[derive(Clone, Copy, Debug, PartialEq, Eq)]
+#[derive(Clone, Copy, Debug, PartialEq, Eq, Error)]
 pub enum CarryFault {
     /// The log could not be read.
+    #[error(transparent)]
     Log(LogFault),
     /// The sink failed; a beginning of the log was written.
+    #[error("write failed")]
     Write,
 }
 
@@ -87,15 +91,15 @@ fn carry_log<I: Source, F: Files>(
 
 /// Carries the log that was asked for over.
 pub fn carry_file<F: Files>(alloc: Global, options: &CarryOptions, files: &mut F) -> Fate
-    ensures { (out : Writing) → WritesNothing out → Responds (F.disk files.old)
-        (Carry options.now) out result }
+    ensures { (out : Writing) → WritesNothing out
+        → Responds (store F.disk files.old files.new) (Carry options.now) out result }
 {
     if is_standard_input(options.log) {
         let mut log = files.standard_input();
         return carry_log(alloc, options, &mut log, files);
     }
-    match files.open(options.log) {
-        Some(mut log) => carry_log(alloc, options, &mut log, files),
-        None => Fate::CannotOpen,
+    match open_input(files, Operand::Log, options.log, Some(options.out)) {
+        Ok(mut log) => carry_log(alloc, options, &mut log, files),
+        Err(fate) => fate,
     }
 }

@@ -1,4 +1,4 @@
-//! Checking a recorded log.
+//! `velodrome check`, and what all commands ask of a recorded log.
 ghost use Rattle.std.specs.Prelude.{◌≡◌, ◌≤◌, false, IfOk, IfErr, IfSome, OnOk, OnErr, is_some, length};
 ghost use Rattle.velo_events.specs.Certificate.{IsSerialOrder, IsShortestCycleAt};
 ghost use Rattle.velo_events.specs.Graph.{HasCycle, IsClosing};
@@ -9,18 +9,26 @@ ghost use Rattle.velo_logtext.specs.Text.{AreBounds};
 ghost use Rattle.velo_world.specs.Faults.{world_of};
 ghost use Rattle.velo_program.specs.Check.{Checks, ComesAbout, IsFaultOfInput, IsOrderOrCycle, IsVerdict, WritesOutput};
 ghost use Rattle.velo_program.specs.Delivery.{failures_after};
+ghost use Rattle.velo_program.specs.Program.{Responds};
+ghost use Rattle.velo_program.specs.Disk.{store};
 ghost use Rattle.velo_program.specs.Fate.{fate_of, is_alarm};
 ghost use Rattle.velo_program.specs.Faults.{check_fault_of, IsFaultOfLog};
 ghost use Rattle.velo_program.specs.Writing.{writing};
-ghost use Rattle.velo_program.specs.declared.fate.Fate.TheVariants.{Check};
-ghost use Rattle.velo_program.specs.Steps.{HasAlarm, Shows};
+ghost use Rattle.velo_program.specs.declared.fate.Fate.TheVariants as fate;
+ghost use Rattle.velo_program.specs.declared.request.Request.TheVariants.{Check};
+ghost use Rattle.velo_program.specs.Steps.{HasAlarm, Shows, Tells};
 
+use crate::fate::Fate;
+use crate::files::{Files, is_standard_input, open_input};
+use crate::request::{CheckOptions, Operand};
 use std::alloc::Global;
+use thiserror::Error;
 use velo_certify::{CertFault, cycle_of, serial_order};
 use velo_events::{Bounds, Config, Memory, Refusal};
 use velo_logtext::{LogFault, Sink, Source, WriteFault, read_log};
 use velo_report::{Names, certificate_lines, report};
 use velo_traces::Trace;
+use velo_worker::Ending;
 use velo_world::{Closed, ReliveFault, World};
 
 /// What a log shows.
@@ -40,17 +48,22 @@ pub fn is_alarm(verdict: Verdict) -> bool
 }
 
 /// Why a log has no verdict. Positions count the events from 0.
-#[derive(Clone, Copy, Debug, PartialEq, Eq)]
+#[derive(Clone, Copy, Debug, PartialEq, Eq, Error)]
 pub enum CheckFault {
     /// The log could not be read.
+    #[error(transparent)]
     Log(LogFault),
     /// The event at the position is refused.
+    #[error("refused {} at {position}", *.refusal as u8)]
     Refused { position: usize, refusal: Refusal },
     /// The event at the position reads a value that the variable does not have.
+    #[error("wrong value at {position}")]
     WrongValue { position: usize },
     /// The sink failed; a beginning of the report, or of the certificate behind it, was written.
+    #[error("write failed")]
     Write,
     /// A growth was refused.
+    #[error("out of memory")]
     Memory,
 }
 
@@ -252,8 +265,8 @@ pub fn relive<I: Source>(
         closed.config.bounds closed.log) }
     ensures err { IfErr result (IsFaultOfInput events nodes (I.remaining source.old)) }
     ensures read { OnOk result (I.failures source.new ≡ I.failures source.old) }
-    ensures failure { IfErr result (λ fault. I.failures source.new ≡ failures_after (Check fault)
-        (I.failures source.old)) }
+    ensures failure { IfErr result (λ fault. I.failures source.new
+        ≡ failures_after (fate.Check fault) (I.failures source.old)) }
 {
     let (bounds, log) = match read_log(alloc, source) {
         Ok(read) => read,
@@ -292,5 +305,60 @@ pub fn check_run<I: Source, O: Sink>(
     match relive(alloc, source, events, nodes) {
         Ok(closed) => finish(alloc, closed, certificate, sink),
         Err(fault) => Err(fault),
+    }
+}
+
+/// What a check came to.
+pub fn fate_of(answer: Result<Verdict, CheckFault>) -> Fate
+    ensures { result ≡ fate_of answer }
+{
+    match answer {
+        Ok(verdict) => Fate::Finished {
+            ending: Ending::Done,
+            alarm: is_alarm(verdict),
+        },
+        Err(CheckFault::Write) => Fate::WriteFailed,
+        Err(fault) => Fate::Check(fault),
+    }
+}
+
+/// Checks a log within the limits that were asked for, and writes the report, with its certificate if that was asked for.
+fn check_log<I: Source, O: Sink>(
+    alloc: Global,
+    options: &CheckOptions,
+    log: &mut I,
+    out: &mut O,
+) -> Fate
+    ensures told { Tells (Check options.now) (I.remaining log.old)
+        (writing O.contents O.failures out.old out.new) result }
+    ensures failures { I.failures log.new ≡ failures_after result (I.failures log.old) }
+{
+    let answer = check_run(
+        alloc,
+        log,
+        out,
+        options.limits.events,
+        options.limits.nodes,
+        options.certificate,
+    );
+    fate_of(answer)
+}
+
+/// Checks the log that was asked for.
+pub fn check_file<F: Files, O: Sink>(
+    alloc: Global,
+    options: &CheckOptions,
+    files: &mut F,
+    out: &mut O,
+) -> Fate
+    ensures { Responds (store F.disk files.old files.new) (Check options.now)
+        (writing O.contents O.failures out.old out.new) result }
+{
+    if is_standard_input(options.log) {
+        return check_log(alloc, options, &mut files.standard_input(), out);
+    }
+    match open_input(files, Operand::Log, options.log, None) {
+        Ok(mut log) => check_log(alloc, options, &mut log, out),
+        Err(fate) => fate,
     }
 }

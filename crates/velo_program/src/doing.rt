@@ -1,10 +1,11 @@
 //! Each command is done, whatever the files and the output are.
 ghost use Rattle.velo_program.specs.Causes.{AnswersWithCause};
 ghost use Rattle.velo_program.specs.Program.{Does};
+ghost use Rattle.velo_program.specs.Disk.{store};
 ghost use Rattle.velo_program.specs.Writing.{writing};
 
 use crate::carrying::carry_file;
-use crate::checking::check_file;
+use crate::check::check_file;
 use crate::explaining::explain_file;
 use crate::fate::Fate;
 use crate::files::Files;
@@ -25,7 +26,7 @@ pub fn do_request<R: Threads + Wait + Sync, F: Files, O: Sink>(
     files: &mut F,
     out: &mut O,
 ) -> Fate
-    ensures done { Does (F.disk files.old) request.now
+    ensures done { Does (store F.disk files.old files.new) request.now
         (writing O.contents O.failures out.old out.new) result }
     ensures memory { AnswersWithCause request.now result }
 {

@@ -7,6 +7,7 @@ ghost use Rattle.velo_worker.specs.declared.ending.Ending.TheVariants.{Done};
 ghost use Rattle.velo_program.specs.Explaining.{ComesOut, explained};
 ghost use Rattle.velo_program.specs.Program.{IsAnswered, Responds};
 ghost use Rattle.velo_program.specs.Reading.{reading};
+ghost use Rattle.velo_program.specs.Disk.{store};
 ghost use Rattle.velo_program.specs.Writing.{writing};
 ghost use Rattle.velo_program.specs.declared.fate.Fate.TheVariants.{Finished};
 ghost use Rattle.velo_program.specs.declared.request.Request.TheVariants.{Explain};
@@ -14,8 +15,8 @@ ghost use Rattle.velo_program.specs.Steps.{Explains, IsDrawn, fate_of_telling};
 
 use crate::check::relive;
 use crate::fate::Fate;
-use crate::files::{Files, is_standard_input};
-use crate::request::ExplainOptions;
+use crate::files::{Files, is_standard_input, open_input};
+use crate::request::{ExplainOptions, Operand};
 use std::alloc::Global;
 use velo_certify::CertFault;
 use velo_events::{MOST_EVENTS, MOST_NODES};
@@ -50,7 +51,7 @@ fn draw<F: Files>(
 ) -> Result<(), Fate>
     requires few { length log.now.events ≤ MOST_EVENTS }
     requires evidence { IsEvidenceAt log.now.events position evidence.now }
-    ensures { IsDrawn (F.disk files.old) path.entry
+    ensures { IsDrawn (store F.disk files.old files.new) path.entry
         (picture_text log.now.events evidence.now) result }
 {
     let Some(path) = path else {
@@ -78,7 +79,8 @@ fn explain_by<F: Files, O: Sink>(
 ) -> Fate
     requires few { length log.now.events ≤ MOST_EVENTS }
     requires evidence { IsEvidenceAt log.now.events position evidence.now }
-    ensures { ComesOut (F.disk files.old) path.entry (writing O.contents O.failures out.old out.new)
+    ensures { ComesOut (store F.disk files.old files.new) path.entry
+        (writing O.contents O.failures out.old out.new)
         (explained log.now.events position evidence.now) result }
 {
     match draw(alloc, log, position, evidence, path, files) {
@@ -96,7 +98,7 @@ fn explain_closed<F: Files, O: Sink>(
     out: &mut O,
 ) -> Fate
     requires { length closed.now.log ≤ MOST_EVENTS }
-    ensures { Explains closed.now.log (F.disk files.old) path.entry
+    ensures { Explains closed.now.log (store F.disk files.old files.new) path.entry
         (writing O.contents O.failures out.old out.new) result }
 {
     let log = closed.log();
@@ -124,7 +126,7 @@ fn explain_log<I: Source, F: Files, O: Sink>(
     files: &mut F,
     out: &mut O,
 ) -> Fate
-    ensures { IsAnswered (F.disk files.old) (Explain options.now)
+    ensures { IsAnswered (store F.disk files.old files.new) (Explain options.now)
         (reading I.remaining I.failures source.old source.new)
         (writing O.contents O.failures out.old out.new) result }
 {
@@ -145,15 +147,15 @@ pub fn explain_file<F: Files, O: Sink>(
     files: &mut F,
     out: &mut O,
 ) -> Fate
-    ensures { Responds (F.disk files.old) (Explain options.now)
+    ensures { Responds (store F.disk files.old files.new) (Explain options.now)
         (writing O.contents O.failures out.old out.new) result }
 {
     if is_standard_input(options.log) {
         let mut log = files.standard_input();
         return explain_log(alloc, options, &mut log, files, out);
     }
-    match files.open(options.log) {
-        Some(mut log) => explain_log(alloc, options, &mut log, files, out),
-        None => Fate::CannotOpen,
+    match open_input(files, Operand::Log, options.log, options.dot) {
+        Ok(mut log) => explain_log(alloc, options, &mut log, files, out),
+        Err(fate) => fate,
     }
 }

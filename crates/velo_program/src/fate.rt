@@ -2,9 +2,10 @@
 ghost use Rattle.std.specs.Prelude.{◌≡◌, ◌≤◌, ◌++◌, [], codes, decimal, length, take, IfOk, OnOk, OnErr};
 ghost use Rattle.velo_logtext.specs.Device.{one_more};
 ghost use Rattle.velo_program.specs.Writing.{Writes, writing};
-ghost use Rattle.velo_program.specs.Fate.{Ends, number_of, status_of, status_of_check, status_of_log, status_of_end, status_of_schedule, status_of_work, place_of_work, line_of, line_of_check, line_of_log, line_of_end, line_of_refused, line_of_schedule, line_of_work};
+ghost use Rattle.velo_program.specs.Fate.{Ends, number_of, status_of, status_of_check, status_of_log, status_of_end, status_of_schedule, status_of_work, place_of_work, line_of, line_of_check, line_of_log, line_of_end, line_of_one_file, line_of_refused, line_of_schedule, line_of_work};
 
 use crate::check::CheckFault;
+use crate::request::Operand;
 use crate::schedule::ScheduleFault;
 use crate::status::{ALARM, BAD_INPUT, DONE, FAILED, INCOMPLETE};
 use velo_events::{Refusal, ThreadId};
@@ -28,6 +29,8 @@ pub enum Fate {
     Check(CheckFault),
     /// A file could not be opened.
     CannotOpen,
+    /// The file that was to be written is the one that the operand names. It is untouched.
+    OneFile(Operand),
     /// A file could not be read.
     ReadFailed,
     /// A file, a report or help could not be written.
@@ -103,6 +106,7 @@ fn status_of(fate: Fate) -> u8
         Fate::Schedule(fault) => status_of_schedule(fault),
         Fate::Work(fault) => status_of_work(fault),
         Fate::Check(fault) => status_of_check(fault),
+        Fate::OneFile(_) => BAD_INPUT,
         Fate::CannotOpen | Fate::ReadFailed | Fate::WriteFailed | Fate::Memory | Fate::Lost => {
             FAILED
         }
@@ -231,6 +235,18 @@ fn put_work_fault(buffer: &mut [u8], fault: WorkFault) -> usize
     }
 }
 
+/// Puts the line of an input that is the file to be written at the front of a buffer, and answers where it ends.
+fn put_one_file(buffer: &mut [u8], operand: Operand) -> usize
+    requires { 64 ≤ length buffer.old }
+    ensures text { take result buffer.new ≡ line_of_one_file operand }
+    ensures end { result ≤ length buffer.new }
+{
+    match operand {
+        Operand::Log => put_bytes(buffer, 0, b"error: LOG and OUT are one file\n"),
+        Operand::File => put_bytes(buffer, 0, b"error: FILE and OUT are one file\n"),
+    }
+}
+
 /// Puts the line that tells how a run ended at the front of a buffer, and answers where it ends: at 0 if there is none.
 fn put_line(buffer: &mut [u8], fate: Fate) -> usize
     requires { 64 ≤ length buffer.old }
@@ -243,6 +259,7 @@ fn put_line(buffer: &mut [u8], fate: Fate) -> usize
         Fate::Work(fault) => put_work_fault(buffer, fault),
         Fate::Check(fault) => put_check_fault(buffer, fault),
         Fate::CannotOpen => put_bytes(buffer, 0, b"cannot open\n"),
+        Fate::OneFile(operand) => put_one_file(buffer, operand),
         Fate::ReadFailed => put_bytes(buffer, 0, b"read failed\n"),
         Fate::Lost => put_bytes(buffer, 0, b"seat lost\n"),
         Fate::WriteFailed => put_bytes(buffer, 0, b"write failed\n"),
@@ -250,11 +267,11 @@ fn put_line(buffer: &mut [u8], fate: Fate) -> usize
     }
 }
 
-/// Writes the line that tells how a run ended, if there is one, in one piece, and answers the status to end with. It takes no
-/// memory.
+/// Writes the line that tells how a run ended, if there is one, in one piece, and answers the status to end with, 0 to 5
+/// (see [`status`](crate::status)). It takes no memory.
 ///
 /// # Errors
-/// `WriteFault` where the sink failed; the status is then [`FAILED`].
+/// `WriteFault` where the sink failed; the program ends with [`FAILED`] then.
 pub fn end_line<S: Sink>(fate: &Fate, sink: &mut S) -> Result<u8, WriteFault>
     ensures status { IfOk result (λ status. status ≡ status_of fate.now) }
     ensures text { OnOk result (Writes
@@ -267,7 +284,8 @@ pub fn end_line<S: Sink>(fate: &Fate, sink: &mut S) -> Result<u8, WriteFault>
     Ok(status_of(*fate))
 }
 
-/// Tells how a run ended, and answers the status to end with.
+/// Tells how a run ended, and answers the status to end with: that of `end_line`, or [`FAILED`] where the line could not be
+/// written.
 pub fn end_with<S: Sink>(fate: &Fate, sink: &mut S) -> u8
     ensures { Ends fate.now (writing S.contents S.failures sink.old sink.new) result }
 {

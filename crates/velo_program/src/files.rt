@@ -1,7 +1,9 @@
 //! Files of the program.
-ghost use Rattle.std.specs.Prelude.{◌≡◌, ◌≢◌, ◌↔◌, codes, IfSome, IsNone, IsTrue};
-ghost use Rattle.velo_program.specs.Disk.{Disk, IsGiven, IsTaken, untold};
+ghost use Rattle.std.specs.Prelude.{◌≡◌, ◌≢◌, ◌↔◌, codes, IfErr, IfOk, IfSome, IsNone, IsTrue};
+ghost use Rattle.velo_program.specs.Disk.{Disk, IsBarred, IsGiven, IsTaken, untold};
 
+use crate::fate::Fate;
+use crate::request::Operand;
 use velo_logtext::{Sink, Source};
 
 /// Where the program finds its files.
@@ -28,6 +30,14 @@ pub trait Files {
         ensures { IsGiven (disk self.now) (codes "-")
             Self.StandardInput.remaining Self.StandardInput.failures result };
 
+    /// Whether the file that opened at a path to be read is the file at another one, which is to be emptied: where this is
+    /// not known, it is another file.
+    fn are_one(&self, input: &str, output: &str) -> bool
+        ensures { IsTrue result → (disk self.now).one input.now output.now }
+    {
+        false
+    }
+
     /// Opens the file at a path to be written, and empties it; none where this fails.
     fn create(&mut self, path: &str) -> Option<&mut Self::Output>
         ensures some { IfSome result (λ file. IsTaken (disk self.old) path.now
@@ -40,4 +50,28 @@ pub fn is_standard_input(path: &str) -> bool
     ensures { IsTrue result ↔ (path.now ≡ codes "-") }
 {
     path == "-"
+}
+
+/// Opens the file of a command's input. It may not be the file that the command is to empty, if there is one.
+///
+/// # Errors
+/// `CannotOpen` where it does not open; `OneFile` where it is the file to be emptied.
+pub fn open_input<F: Files>(
+    files: &F,
+    operand: Operand,
+    input: &str,
+    output: Option<&str>,
+) -> Result<F::Input, Fate>
+    requires { input.now ≢ codes "-" }
+    ensures given { IfOk result (IsGiven (F.disk files.now) input.now
+        F.Input.remaining F.Input.failures) }
+    ensures barred { IfErr result (IsBarred (F.disk files.now) operand input.now output.entry) }
+{
+    let Some(file) = files.open(input) else {
+        return Err(Fate::CannotOpen);
+    };
+    match output {
+        Some(output) if files.are_one(input, output) => Err(Fate::OneFile(operand)),
+        _ => Ok(file),
+    }
 }

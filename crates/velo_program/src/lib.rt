@@ -3,7 +3,6 @@
 
 mod carrying;
 mod check;
-mod checking;
 mod doing;
 mod explaining;
 mod fate;
@@ -21,9 +20,9 @@ pub use check::{
     CheckFault, Verdict, check_run, config_of, do_log, order_or_cycle_of, write_output,
 };
 pub use doing::do_request;
-pub use fate::{Fate, end_with};
+pub use fate::{Fate, end_line, end_with};
 pub use files::Files;
 pub use request::{
-    CarryOptions, CheckOptions, ExplainOptions, Limits, ReplayOptions, Request, RunOptions,
+    CarryOptions, CheckOptions, ExplainOptions, Limits, Operand, ReplayOptions, Request, RunOptions,
 };
 pub use schedule::{MOST_TURNS, ScheduleFault, schedule_of};

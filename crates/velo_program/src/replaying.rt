@@ -1,6 +1,7 @@
 //! `velodrome replay`.
 ghost use Rattle.velo_program.specs.Playing.{ByTurns};
 ghost use Rattle.velo_program.specs.Program.{Does, IsScheduleOf, Responds};
+ghost use Rattle.velo_program.specs.Disk.{store};
 ghost use Rattle.velo_program.specs.Writing.{writing};
 ghost use Rattle.velo_program.specs.declared.request.Request.TheVariants.{Replay};
 ghost use Rattle.velo_program.specs.Steps.{Plays};
@@ -25,7 +26,8 @@ fn replay_workload<F: Files, O: Sink>(
     files: &mut F,
     out: &mut O,
 ) -> Fate
-    ensures { Plays (ByTurns schedule.now) options.now workload.now (F.disk files.old)
+    ensures { Plays (ByTurns schedule.now) options.now workload.now
+        (store F.disk files.old files.new)
         (writing O.contents O.failures out.old out.new) result }
 {
     let config = config_of_run(workload, options);
@@ -44,10 +46,10 @@ fn replay_by<F: Files, O: Sink>(
     out: &mut O,
 ) -> Fate
     requires { IsScheduleOf options.now schedule.now }
-    ensures { Responds (F.disk files.old) (Replay options.now)
+    ensures { Responds (store F.disk files.old files.new) (Replay options.now)
         (writing O.contents O.failures out.old out.new) result }
 {
-    match open_workload(alloc, options.run.file, files) {
+    match open_workload(alloc, &options.run, files) {
         Ok(workload) => {
             let fate = replay_workload(alloc, &workload, schedule, &options.run, files, out);
             drop(workload);
@@ -65,7 +67,7 @@ pub fn replay_file<F: Files, O: Sink>(
     files: &mut F,
     out: &mut O,
 ) -> Fate
-    ensures { Does (F.disk files.old) (Replay options.now)
+    ensures { Does (store F.disk files.old files.new) (Replay options.now)
         (writing O.contents O.failures out.old out.new) result }
 {
     match schedule_of(alloc, options.schedule) {

@@ -68,6 +68,15 @@ pub struct CarryOptions<'a> {
     pub out: &'a str,
 }
 
+/// The word of the command line that names an input.
+#[derive(Clone, Copy, Debug, PartialEq, Eq)]
+pub enum Operand {
+    /// `LOG`, a recorded log.
+    Log,
+    /// `FILE`, a workload.
+    File,
+}
+
 /// What the program was asked for.
 #[derive(Clone, Copy, Debug)]
 pub enum Request<'a> {

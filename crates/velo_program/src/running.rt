@@ -1,6 +1,7 @@
 //! `velodrome run`.
 ghost use Rattle.velo_program.specs.Playing.{ByThreads};
 ghost use Rattle.velo_program.specs.Program.{Responds};
+ghost use Rattle.velo_program.specs.Disk.{store};
 ghost use Rattle.velo_program.specs.Writing.{writing};
 ghost use Rattle.velo_program.specs.declared.request.Request.TheVariants.{Run};
 ghost use Rattle.velo_program.specs.Steps.{Plays};
@@ -25,7 +26,7 @@ fn run_workload<R: Threads + Wait + Sync, F: Files, O: Sink>(
     files: &mut F,
     out: &mut O,
 ) -> Fate
-    ensures { Plays ByThreads options.now workload.now (F.disk files.old)
+    ensures { Plays ByThreads options.now workload.now (store F.disk files.old files.new)
         (writing O.contents O.failures out.old out.new) result }
 {
     let config = config_of_run(workload, options);
@@ -44,10 +45,10 @@ pub fn run_file<R: Threads + Wait + Sync, F: Files, O: Sink>(
     files: &mut F,
     out: &mut O,
 ) -> Fate
-    ensures { Responds (F.disk files.old) (Run options.now)
+    ensures { Responds (store F.disk files.old files.new) (Run options.now)
         (writing O.contents O.failures out.old out.new) result }
 {
-    match open_workload(alloc, options.file, files) {
+    match open_workload(alloc, options, files) {
         Ok(workload) => {
             let fate = run_workload(rt, alloc, &workload, options, files, out);
             drop(workload);

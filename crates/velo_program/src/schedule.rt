@@ -6,6 +6,7 @@ ghost use Rattle.velo_program.specs.declared.schedule.ScheduleFault.TheVariants 
 ghost use Rattle.velo_program.specs.Schedule.{IsNumberOf, IsSchedule, IsFaultOfSchedule};
 
 use std::alloc::Global;
+use thiserror::Error;
 use velo_events::growth::reserve;
 use velo_events::{MOST_THREADS, Memory, ThreadId};
 
@@ -13,12 +14,14 @@ use velo_events::{MOST_THREADS, Memory, ThreadId};
 pub const MOST_TURNS: usize = 1_000_000;
 
 /// Why a text is no schedule.
-#[derive(Clone, Copy, Debug, PartialEq, Eq)]
+#[derive(Clone, Copy, Debug, PartialEq, Eq, Error)]
 pub enum ScheduleFault {
     /// It is another text than the numbers of threads, below [`MOST_THREADS`], without leading zeros, parted by one
     /// space, or has more of them than [`MOST_TURNS`].
+    #[error("bad schedule")]
     Bad,
     /// A growth was refused.
+    #[error("out of memory")]
     Memory,
 }
 

@@ -3,14 +3,15 @@ ghost use Rattle.std.specs.Prelude.{◌≡◌, Some, IfOk, IfErr, IfSome, OnOk, 
 ghost use Rattle.velo_program.specs.Check.{IsOrderOrCycle};
 ghost use Rattle.velo_program.specs.Delivery.{IsSaved, failures_after};
 ghost use Rattle.velo_program.specs.Playing.{IsConfigOf, IsFaultOfWork, IsTextOf, IsUnread, is_unreported, text_of_log};
+ghost use Rattle.velo_program.specs.Disk.{store};
 ghost use Rattle.velo_program.specs.Writing.{writing};
 ghost use Rattle.velo_program.specs.Steps.{OpensNoProgram, OpensProgram, Reports, TellsEnd};
 
 use crate::check::{is_alarm, order_or_cycle_of, verdict_of, write_output};
 use crate::fate::Fate;
-use crate::files::{Files, is_standard_input};
+use crate::files::{Files, is_standard_input, open_input};
 use crate::reading::{ReadFault, read_whole};
-use crate::request::RunOptions;
+use crate::request::{Operand, RunOptions};
 use std::alloc::Global;
 use velo_events::{Config, Memory, Refusal};
 use velo_logtext::{Sink, Source, WriteFault, write_log};
@@ -53,16 +54,20 @@ fn workload_of(alloc: Global, bytes: &[u8]) -> Result<Workload, WorkFault>
 }
 
 /// Reads the workload that was asked for.
-pub fn open_workload<F: Files>(alloc: Global, path: &str, files: &F) -> Result<Workload, Fate>
-    ensures some { IfOk result (OpensProgram (F.disk files.now) path.now) }
-    ensures none { IfErr result (OpensNoProgram (F.disk files.now) path.now) }
+pub fn open_workload<F: Files>(
+    alloc: Global,
+    options: &RunOptions,
+    files: &F,
+) -> Result<Workload, Fate>
+    ensures some { IfOk result (OpensProgram (F.disk files.now) options.now.file.now) }
+    ensures none { IfErr result (OpensNoProgram (F.disk files.now) options.now) }
 {
-    if is_standard_input(path) {
+    if is_standard_input(options.file) {
         return read_workload(alloc, &mut files.standard_input());
     }
-    match files.open(path) {
-        Some(mut file) => read_workload(alloc, &mut file),
-        None => Err(Fate::CannotOpen),
+    match open_input(files, Operand::File, options.file, options.log) {
+        Ok(mut file) => read_workload(alloc, &mut file),
+        Err(fate) => Err(fate),
     }
 }
 
@@ -95,7 +100,8 @@ fn is_unreported(ending: Ending) -> bool
 
 /// Writes the log of a run to the path, if there is one.
 fn save_log<F: Files>(closed: &Closed, path: Option<&str>, files: &mut F) -> Result<(), Fate>
-    ensures { IsSaved (F.disk files.old) path.entry (text_of_log closed.now) result }
+    ensures { IsSaved (store F.disk files.old files.new) path.entry
+        (text_of_log closed.now) result }
 {
     let Some(path) = path else {
         return Ok(());
@@ -121,7 +127,8 @@ fn report_by<F: Files, O: Sink>(
     out: &mut O,
 ) -> Fate
     requires { IfSome list (λ list. IsOrderOrCycle closed.now.log list.now) }
-    ensures { Reports names.now (is_some list.entry) ending closed.now (F.disk files.old) path.entry
+    ensures { Reports names.now (is_some list.entry) ending closed.now
+        (store F.disk files.old files.new) path.entry
         (writing O.contents O.failures out.old out.new) result }
 {
     let verdict = verdict_of(closed);
@@ -149,8 +156,8 @@ fn tell<F: Files, O: Sink>(
     files: &mut F,
     out: &mut O,
 ) -> Fate
-    ensures { Reports names.now options.now.certificate ending closed.now (F.disk files.old)
-        options.now.log
+    ensures { Reports names.now options.now.certificate ending closed.now
+        (store F.disk files.old files.new) options.now.log
         (writing O.contents O.failures out.old out.new) result }
 {
     if !options.certificate {
@@ -183,8 +190,8 @@ pub fn finish_run<F: Files, O: Sink>(
     files: &mut F,
     out: &mut O,
 ) -> Fate
-    ensures { TellsEnd workload.now options.now.certificate ended.1 ended.0 (F.disk files.old)
-        options.now.log
+    ensures { TellsEnd workload.now options.now.certificate ended.1 ended.0
+        (store F.disk files.old files.new) options.now.log
         (writing O.contents O.failures out.old out.new) result }
 {
     let (closed, ending) = ended;
@@ -203,8 +210,8 @@ fn show_run<F: Files, O: Sink>(
     files: &mut F,
     out: &mut O,
 ) -> Fate
-    ensures { TellsEnd workload.now options.now.certificate ending closed.now (F.disk files.old)
-        options.now.log
+    ensures { TellsEnd workload.now options.now.certificate ending closed.now
+        (store F.disk files.old files.new) options.now.log
         (writing O.contents O.failures out.old out.new) result }
 {
     if is_unreported(ending) {

@@ -9,7 +9,7 @@ returns-then-is_standard_input g c out nothing =
     let disk = g.F.Files.disk c.args.files.now in
     let read = reading g.F.StandardInput.Source.remaining g.F.StandardInput.Source.failures c.standard_input-log.result c.carry_log.new.source in
     ⊎_elim
-    (λ fails. inr (fails.0, inr fails.1, nothing))
+    (λ fails. inr (inr (fails.0, fails.1), nothing))
     (λ carried. inl (
       read,
       subst (λ (path : List ℕ). disk.gives path read) (sym is) (c.standard_input-log.ensures c.carry_log.new.source),
@@ -22,13 +22,13 @@ returns-then-is_standard_input g c out nothing =
     ))
     c.carry_log.ensures
 
-pub returns-in-Some : goal.returns-in-Some
-returns-in-Some g c out nothing =
+pub returns-in-Ok : goal.returns-in-Ok
+returns-in-Ok g c out nothing =
     ⊎_elim
-    (λ fails. inr (fails.0, inr fails.1, nothing))
+    (λ fails. inr (inr (fails.0, fails.1), nothing))
     (λ carried. inl (
       _,
-      c.in-Some.ensures.some c.carry_log-in-Some.new.source,
+      c.in-Ok.ensures.given c.carry_log-in-Ok.new.source,
       record {
         answer = carried.2.0;
         is_answer = carried.2.1;
@@ -36,7 +36,7 @@ returns-in-Some g c out nothing =
         failures = carried.3;
       },
     ))
-    c.carry_log-in-Some.ensures
+    c.carry_log-in-Ok.ensures
 
-pub returns-in-None : goal.returns-in-None
-returns-in-None g c out nothing = inr (refl, inl (search rules, search rules), nothing)
+pub returns-in-Err : goal.returns-in-Err
+returns-in-Err g c out nothing = inr (inl (c.in-Err.ensures.barred, refl), nothing)

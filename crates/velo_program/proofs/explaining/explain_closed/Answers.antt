@@ -3,6 +3,7 @@ use Rattle.velo_events.specs.declared.event.Event.{Event}
 use Rattle.velo_events.specs.Graph.{IsClosing}
 use Rattle.velo_program.specs.declared.fate.Fate.TheVariants.{Memory}
 use Rattle.velo_program.specs.Delivery.{silent}
+use Rattle.velo_program.specs.Disk.{store}
 use Rattle.velo_program.specs.Explaining.{counted, explained}
 use Rattle.velo_program.specs.Writing.{writing}
 use Rattle.velo_program.proofs.OnExplaining.{of_evidence, written}
@@ -15,7 +16,7 @@ returns-in_default g c =
       counted c.log-log.result.now.events,
       inl (inr (c.in_default.ensures.none, ap counted c.log-log.ensures.events)),
       rw c.fate_of_telling.ensures
-          (written (g.F.Files.disk c.args.files.now) c.args.path out None _ false c.explain_clean.result tt
+          (written (store g.F.Files.disk c.args.files.now c.args.files.now) c.args.path out None _ false c.explain_clean.result refl
           c.explain_clean.ensures.ok c.explain_clean.ensures.err c.explain_clean.ensures.failures c.explain_clean.ensures.memory),
     )
 
@@ -37,4 +38,4 @@ returns-in-Ok g c = (
 pub returns-in-Err-Memory : goal.returns-in-Err-Memory
 returns-in-Err-Memory g c =
     let refused = rw c.in-Err-Memory.field-0-is at c.in-Err-Memory.ensures.fault in
-    (silent Memory, inr (refused, refl), (refused, refl))
+    (silent Memory, inr (refused, refl), (refused, refl, refl))

@@ -10,8 +10,8 @@ returns-then-is_standard_input g c =
     let read = reading g.F.StandardInput.Source.remaining g.F.StandardInput.Source.failures c.standard_input-log.result c.explain_log.new.source in
     inl (read, subst (λ (path : List ℕ). disk.gives path read) (sym is) (c.standard_input-log.ensures c.explain_log.new.source), c.explain_log.ensures)
 
-pub returns-in-Some : goal.returns-in-Some
-returns-in-Some g c = inl (_, c.in-Some.ensures.some c.explain_log-in-Some.new.source, c.explain_log-in-Some.ensures)
+pub returns-in-Ok : goal.returns-in-Ok
+returns-in-Ok g c = inl (_, c.in-Ok.ensures.given c.explain_log-in-Ok.new.source, c.explain_log-in-Ok.ensures)
 
-pub returns-in-None : goal.returns-in-None
-returns-in-None g c = inr (refl, (search rules, search rules), (refl, refl))
+pub returns-in-Err : goal.returns-in-Err
+returns-in-Err g c = inr ((c.in-Err.ensures.barred, refl), (refl, refl))

@@ -1,6 +1,7 @@
 use Rattle.std.proofs.Common.{◌∙◌, inl, inr, refl, sym, ⊎_elim}
 use Rattle.velo_program.specs.Delivery.{silent}
 use Rattle.velo_program.specs.Playing.{ByTurns}
+use Rattle.velo_program.specs.Disk.{store}
 use Rattle.velo_program.specs.Writing.{writing}
 use Rattle.velo_program.proofs.OnPlaying.{plays_reads, unread_put}
 use Rattle.velo_program.proofs.replaying.replay_by.Goals as goal
@@ -18,7 +19,7 @@ returns-in-Ok g c =
         is_answer = (c.args.schedule.now, c.requires, inl (c.in-Ok.workload, from.is_text, played.1));
         put = played.2;
         failures = from.no_failure
-            ∙ sym (plays_reads (ByTurns c.args.schedule.now) c.args.options.now.run c.in-Ok.workload played.0 _ played.1 (g.F.Files.disk c.args.files.now) c.args.options.now.run.log out c.replay_workload-fate.result played.2);
+            ∙ sym (plays_reads (ByTurns c.args.schedule.now) c.args.options.now.run c.in-Ok.workload played.0 _ played.1 (store g.F.Files.disk c.args.files.now c.replay_workload-fate.new.files) c.args.options.now.run.log out c.replay_workload-fate.result played.2);
       },
     )
 
@@ -31,9 +32,9 @@ returns-in-Err g c =
       record {
         answer = silent c.in-Err.fate;
         is_answer = (c.args.schedule.now, c.requires, inr (c.in-Err.fate, none.unread, refl));
-        put = unread_put none.read.bytes c.in-Err.fate none.unread (g.F.Files.disk c.args.files.now) c.args.options.now.run.log (writing g.O.Sink.contents g.O.Sink.failures c.args.out.now c.args.out.now) (refl, refl);
+        put = unread_put none.read.bytes c.in-Err.fate none.unread (store g.F.Files.disk c.args.files.now c.args.files.now) refl c.args.options.now.run.log (writing g.O.Sink.contents g.O.Sink.failures c.args.out.now c.args.out.now) (refl, refl);
         failures = none.failures;
       },
     ))
-    (λ fails. inr (fails.0, fails.1, (refl, refl)))
+    (λ barred. inr ((barred, refl), (refl, refl)))
     c.in-Err.ensures.none

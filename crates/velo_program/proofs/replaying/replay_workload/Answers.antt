@@ -20,4 +20,4 @@ returns-in-Ok g c =
     )
 
 pub returns-in-Err : goal.returns-in-Err
-returns-in-Err g c = (silent Memory, inr (inr (c.in-Err.ensures.memory, refl)), (refl, tt, (refl, refl)))
+returns-in-Err g c = (silent Memory, inr (inr (c.in-Err.ensures.memory, refl)), (refl, refl, (refl, refl)))

@@ -21,7 +21,7 @@ returns-in-Ok g c =
 
 pub returns-in-Err-Memory : goal.returns-in-Err-Memory
 returns-in-Err-Memory g c =
-    (silent Memory, inr (inr (rw c.in-Err-Memory.field-0-is at c.in-Err-Memory.ensures.memory refl, refl)), (refl, tt, (refl, refl)))
+    (silent Memory, inr (inr (rw c.in-Err-Memory.field-0-is at c.in-Err-Memory.ensures.memory refl, refl)), (refl, refl, (refl, refl)))
 
 pub returns-in-Err-Lost : goal.returns-in-Err-Lost
-returns-in-Err-Lost g c = (silent Lost, inr (inl refl), (refl, tt, (refl, refl)))
+returns-in-Err-Lost g c = (silent Lost, inr (inl refl), (refl, refl, (refl, refl)))

@@ -9,7 +9,7 @@ returns-then-is_unreported g c = (
   silent (Finished c.args.ending false),
   inl (subst (λ (b : Bool). IsEndAnswer b c.args.workload.now c.args.options.now.certificate c.args.ending c.args.closed.now (silent (Finished c.args.ending false)))
       (sym (sym c.is_unreported.ensures ∙ c.if-is_unreported.true)) refl),
-  (refl, tt, (refl, refl)),
+  (refl, refl, (refl, refl)),
 )
 
 pub returns : goal.returns

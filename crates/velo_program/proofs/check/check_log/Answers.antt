@@ -3,7 +3,7 @@ use Rattle.velo_program.specs.declared.fate.Fate.{Fate}
 use Rattle.velo_program.specs.declared.request.Request.TheVariants.{Check}
 use Rattle.velo_program.specs.Writing.{writing}
 use Rattle.velo_program.specs.Steps.{Tells}
-use Rattle.velo_program.proofs.checking.check_log.Goals as goal
+use Rattle.velo_program.proofs.check.check_log.Goals as goal
 
 pub returns-clause-told : goal.returns-clause-told
 returns-clause-told g c =

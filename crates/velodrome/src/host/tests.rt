@@ -1,0 +1,155 @@
+//! A file that is read is not emptied.
+use crate::host::HostFiles;
+use std::alloc::Global;
+use std::process::Abort;
+use std::sync::Wait;
+use std::thread::Threads;
+use velo_command::run;
+use velo_logtext::{Bytes, Text};
+use velo_program::Files;
+
+/// Two paths, and whether one regular file stands at both.
+const PATHS: [(&str, &str, bool); 6] = [
+    ("/proc/self/exe", "/proc/self/exe", true),
+    ("/proc/self/exe", "/proc/../proc/self/exe", true),
+    ("/proc/self/exe", "/proc/self/status", false),
+    ("/proc/self/exe", "/proc/self/none", false),
+    ("/dev/null", "/dev/null", false),
+    ("/proc", "/proc", false),
+];
+
+#[test]
+fn one_file_at_two_paths(rt: HostRuntime) {
+    let files = HostFiles::new(&rt);
+    for (input, output, are_one) in PATHS {
+        assert_eq!(&rt; files.are_one(input, output), are_one, "{input} {output}");
+    }
+    drop(files);
+}
+
+const LOG: &str = "vlog 2 1 0 0\n0 begin 7\n0 end\n";
+
+/// A log at the path `log`, which is also at `again`; and whether a file was opened to be written.
+#[derive(Drop)]
+struct Linked {
+    output: Text,
+    is_emptied: bool,
+}
+
+impl Files for Linked {
+    type Input = Bytes<'static>;
+
+    type StandardInput = Bytes<'static>;
+
+    type Output = Text;
+
+    fn open(&self, path: &str) -> Option<Bytes<'static>> {
+        if path == "log" {
+            Some(Bytes::new(LOG.as_bytes()))
+        } else {
+            None
+        }
+    }
+
+    fn standard_input(&self) -> Bytes<'static> {
+        Bytes::new(LOG.as_bytes())
+    }
+
+    fn are_one(&self, input: &str, output: &str) -> bool {
+        input == "log" && output == "again"
+    }
+
+    fn create(&mut self, _path: &str) -> Option<&mut Text> {
+        self.is_emptied = true;
+        Some(&mut self.output)
+    }
+}
+
+/// The words behind the program's name, the line on standard error, the status, and whether a file was opened to be written.
+type Row = (&'static [&'static str], &'static str, u8, bool);
+
+const LOG_AND_OUT: &str = "error: LOG and OUT are one file\n";
+
+const FILE_AND_OUT: &str = "error: FILE and OUT are one file\n";
+
+static ROWS: [Row; 9] = [
+    (
+        &["velodrome", "carry", "log", "--log", "again"],
+        LOG_AND_OUT,
+        2,
+        false,
+    ),
+    (
+        &["velodrome", "explain", "log", "--dot", "again"],
+        LOG_AND_OUT,
+        2,
+        false,
+    ),
+    (
+        &["velodrome", "replay", "log", "--log", "again"],
+        FILE_AND_OUT,
+        2,
+        false,
+    ),
+    (
+        &["velodrome", "run", "log", "--log", "again"],
+        FILE_AND_OUT,
+        2,
+        false,
+    ),
+    (
+        &[
+            "velodrome",
+            "replay",
+            "log",
+            "--log",
+            "again",
+            "--schedule",
+            "x",
+        ],
+        "bad schedule\n",
+        2,
+        false,
+    ),
+    (
+        &["velodrome", "carry", "none", "--log", "again"],
+        "cannot open\n",
+        5,
+        false,
+    ),
+    (
+        &["velodrome", "carry", "log", "--log", "other"],
+        "",
+        0,
+        true,
+    ),
+    (&["velodrome", "carry", "-", "--log", "again"], "", 0, true),
+    (
+        &["velodrome", "explain", "log", "--dot", "other"],
+        "",
+        0,
+        false,
+    ),
+];
+
+/// Runs the program on these words.
+fn play<R: Threads + Wait + Abort + Sync>(rt: &R, alloc: Global, row: &Row) {
+    let (words, line, status, is_emptied) = *row;
+    let mut files = Linked {
+        output: Text::new(alloc),
+        is_emptied: false,
+    };
+    let mut out = Text::new(alloc);
+    let mut err = Text::new(alloc);
+    let told = run(rt, alloc, words, &mut files, &mut out, &mut err);
+    assert_eq!(rt; (told, files.is_emptied), (status, is_emptied), "{line}");
+    assert_eq!(rt; err.as_slice(), line.as_bytes());
+    drop((files, out, err));
+}
+
+#[test]
+fn an_input_is_not_emptied(rt: HostRuntime) {
+    for row in &ROWS {
+        play(&rt, rt.alloc(), row);
+    }
+}
