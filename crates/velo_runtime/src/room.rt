@@ -78,6 +78,13 @@ impl Room {
         Ok((room, Seat { share }))
     }
 
+    /// The world, to be read while the caller has the room: its log with heap, alarm, graph and book.
+    pub fn world(&self) -> &World
+        ensures { result.now ≡ self.now.world }
+    {
+        &self.world
+    }
+
     /// How many threads, variables and locks there are.
     pub fn bounds(&self) -> Bounds
         ensures { result ≡ self.now.world.config.bounds }
@@ -345,7 +352,7 @@ pub fn comes_back(room: &Room, caller: ThreadId, wanted: Wanted) -> bool
     requires { IsThere room.now.world.config.bounds wanted }
     ensures { IsTrue result ↔ ComesBackIn room.now caller wanted }
 {
-    // a bit for each thread that chains are known to lead to, and for each of them whose wait was followed
+    // A bit for each thread that a chain is known to lead to, and one for each of these whose wait was followed.
     let mut reached = room.leads(wanted);
     let mut done: u64 = 0;
     while reached & !done != 0 {
