@@ -1,5 +1,5 @@
 ghost use Rattle.velo_events.specs.Refusals.{GrowthRefused};
-ghost use Rattle.std.specs.Prelude.{◌≡◌, ◌≢◌, ◌+◌, ◌↔◌, None, Err, IfOk, IfErr, IfSome, IfNone, IsFalse, IsTrue, sum_by, length, replicate, OnErr};
+ghost use Rattle.std.specs.Prelude.{◌≡◌, ◌≢◌, ◌+◌, ◌⊎◌, ◌↔◌, None, Err, IfOk, IfErr, IfSome, IfNone, IsFalse, IsTrue, sum_by, length, replicate, OnErr};
 ghost use Rattle.velo_events.specs.declared.refusal.Refusal.TheVariants as refusal;
 ghost use Rattle.velo_events.specs.Graph.{HasCycle};
 ghost use Rattle.velo_events.specs.Reordering.{IsSerializable};
@@ -123,11 +123,37 @@ impl Room {
         self.world.halt();
     }
 
+    /// Ends the run of a room that was opened with the configuration. It takes no memory.
+    ///
+    /// # Errors
+    /// Room and seats as they were, exactly where the room was opened with another configuration, or the seats are not one
+    /// fitting seat of each thread that was born.
+    pub(crate) fn close_as(
+        self,
+        config: Config,
+        seats: Vec<Seat>,
+    ) -> Result<Closed, (Room, Vec<Seat>)>
+        ensures closed { IfOk result (λ closed. closed ≡ self.world) }
+        ensures config { IfOk result (λ closed. closed.config ≡ config) }
+        ensures all { IfOk result (λ closed. AreSeatsOf self.world seats.items) }
+        ensures total { IfOk result (λ closed.
+            length closed.log ≡ sum_by (λ seat. seat.tally.events) seats.items) }
+        ensures room { IfErr result (λ back. back.0 ≡ self) }
+        ensures seats { IfErr result (λ back. back.1 ≡ seats) }
+        ensures cause { IfErr result (λ back.
+            (self.world.config ≢ config) ⊎ ¬ AreSeatsOf self.world seats.items) }
+    {
+        if self.world.config() != config {
+            return Err((self, seats));
+        }
+        self.close(seats)
+    }
+
     /// Ends the run. It takes no memory.
     ///
     /// # Errors
     /// Room and seats as they were, exactly where the seats are not one fitting seat of each thread that was born.
-    pub(crate) fn close(self, mut seats: Vec<Seat>) -> Result<Closed, (Room, Vec<Seat>)>
+    fn close(self, mut seats: Vec<Seat>) -> Result<Closed, (Room, Vec<Seat>)>
         ensures closed { IfOk result (λ closed. closed ≡ self.world) }
         ensures all { IfOk result (λ closed. AreSeatsOf self.world seats.items) }
         ensures total { IfOk result (λ closed.
