@@ -1,5 +1,5 @@
 -- Chains of waits, and the search for all threads that they lead to.
-use Rattle.std.proofs.Common.{◌≡◌, ℕ, ◌+◌, ◌*◌, ◌%◌, ◌^◌, ◌<◌, ◌≤◌, sym, ap, ◌∙◌, subst, Bool, List, [], ◌∷◌, ◌++◌, arith, ⊎_elim}
+use Rattle.std.proofs.Common.{◌≡◌, ℕ, ◌*◌, ◌%◌, ◌^◌, ◌<◌, ◌≤◌, sym, ap, ◌∙◌, subst, Bool, List, [], ◌∷◌, ◌++◌, arith, ⊎_elim}
 use Rattle.std.specs.Prelude.{◌==◌, Option, Some, IsTrue, ◌↔◌}
 use Rattle.std.specs.Int.{bit_at, bit_not, trailing_zeros}
 use Rattle.std.specs.Int.RustNames.{bit_or}

@@ -1,5 +1,6 @@
 pub mod OnMasks
 pub mod Chains
+pub mod OnConfigs
 pub mod OnRefusals
 pub mod OnSeats
 pub mod OnTurns

@@ -1,6 +1,6 @@
 -- What follows from a turn: for its room, and for its seat.
-use Rattle.std.proofs.Common.{◌≡◌, ◌≢◌, ◌⊎◌, inl, inr, ⊎_elim, refl, ℕ, ap, ◌∙◌, sym, Ok, Err, List, length, set, replicate}
-use Rattle.std.specs.Prelude.{Result, Option, Some, None, IfSome, ◌↔◌}
+use Rattle.std.proofs.Common.{◌≡◌, ◌≢◌, ◌⊎◌, inl, inr, ⊎_elim, refl, ℕ, ap, ◌∙◌, sym, subst, Ok, Err, List, length, set, replicate}
+use Rattle.std.specs.Prelude.{Result, Option, Some, None, IfErr, IfSome, IsErrAnd, ◌↔◌}
 use Rattle.std.proofs.lemmas.List.{length-set, length-replicate}
 use Rattle.std.proofs.lemmas.List.Elements.{All-same, All-set, All-replicate}
 use Rattle.velo_events.specs.declared.config.Bounds.{Bounds}
@@ -18,9 +18,9 @@ use Rattle.velo_runtime.specs.declared.wait.Wanted.{Wanted}
 use Rattle.velo_runtime.specs.declared.wait.Turn.{Turn}
 use Rattle.velo_runtime.specs.declared.wait.Turn.TheVariants.{Done, Refused, Wait}
 use Rattle.velo_runtime.specs.Rooms.{RoomState, IsThere, AreWaitsWithin}
-use Rattle.velo_runtime.specs.Steps.{ActsIn}
+use Rattle.velo_runtime.specs.Steps.{ActsIn, StepsForking}
 use Rattle.velo_runtime.specs.Turns.{wanted_by, RefusedFor, IsTurnAfter, TakesTurn, TurnsIn}
-use Rattle.velo_runtime.specs.Seats.{GainsEventBy}
+use Rattle.velo_runtime.specs.Seats.{GainsEventBy, IsForkRefused, IsRefused}
 use Rattle.velo_runtime.proofs.OnRefusals.{acts-refuses, no_foreign, no_runtime, refused_growth}
 
 -- ---- the table of waits
@@ -122,6 +122,29 @@ undone room room' share share' action turn other (inr foreign) = foreign.0.same_
 
 pub same_after_refusal : (room room' : RoomState) (share share' : Holding) (action : Action) (r : Refusal) → TurnsIn room share action (Refused r) room' share' → share' ≡ share
 same_after_refusal room room' share share' action r turns = undone room room' share share' action (Refused r) (λ reply is. cc) turns
+
+pub refused_in : (room room' : RoomState) (share share' : Holding) (action : Action) (r : Refusal) → TurnsIn room share action (Refused r) room' share' → IsRefused share action r
+refused_in room room' share share' action r turns = record {
+  room = room;
+  room' = room';
+  turns = subst (TurnsIn room share action (Refused r) room') (same_after_refusal room room' share share' action r turns) turns;
+}
+
+fork_undone : (room room' : RoomState) (share share' : Holding) (child : ThreadId) (r : Refusal) → StepsForking room share child (Err r) room' share' → share' ≡ share
+fork_undone room room' share share' child r (inl forks) = forks.forks.holding
+fork_undone room room' share share' child r (inr foreign) = foreign.0.same_share
+
+pub fork_refused_in : (room room' : RoomState) (share share' : Holding) (child : ThreadId) (r : Refusal) → StepsForking room share child (Err r) room' share' → IsForkRefused share child r
+fork_refused_in room room' share share' child r steps = record {
+  room = room;
+  room' = room';
+  steps = subst (StepsForking room share child (Err r) room') (fork_undone room room' share share' child r steps) steps;
+}
+
+-- a refusal that is handed on
+pub handed_on : {X : Type 0} (result : Result X Refusal) (r : Refusal) (P : Refusal → Type 0) → IsErrAnd result (λ f. f ≡ r) → P r → IfErr result P
+handed_on (Ok x) r P same holds = tt
+handed_on (Err f) r P same holds = subst P (sym same) holds
 
 pub same_after_wait : (room room' : RoomState) (share share' : Holding) (action : Action) → TurnsIn room share action Wait room' share' → share' ≡ share
 same_after_wait room room' share share' action turns = undone room room' share share' action Wait (λ reply is. cc) turns

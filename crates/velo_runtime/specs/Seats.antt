@@ -1,8 +1,10 @@
 -- What a seat learns of its calls, and which seats end a run.
-use Rattle.std.specs.Prelude.{◌≡◌, ◌≤◌, ◌<◌, ◌==◌, ℕ, Bool, List, None, All, count_by, if◌then◌else◌}
+use Rattle.std.specs.Prelude.{◌≡◌, ◌≤◌, ◌<◌, ◌==◌, ℕ, Bool, List, None, Err, All, count_by, if◌then◌else◌}
 use Rattle.velo_events.specs.declared.event.Action.{Action}
 use Rattle.velo_events.specs.declared.event.Event.{Event}
 use Rattle.velo_events.specs.declared.event.Kind.{Kind}
+use Rattle.velo_events.specs.declared.event.ThreadId.{ThreadId}
+use Rattle.velo_events.specs.declared.refusal.Refusal.{Refusal}
 use Rattle.velo_events.specs.Heap.{status_in}
 use Rattle.velo_events.specs.Meaning.{is_unborn, kind_for}
 use Rattle.velo_ledger.specs.Views.{Holding}
@@ -12,6 +14,10 @@ use Rattle.velo_world.specs.World.{WorldState}
 use Rattle.velo_world.specs.World.{FitsLog}
 use Rattle.velo_world.specs.World.{value_read}
 use Rattle.velo_world.specs.declared.run.Reply.{Reply}
+use Rattle.velo_runtime.specs.declared.wait.Turn.TheVariants.{Refused}
+use Rattle.velo_runtime.specs.Rooms.{RoomState}
+use Rattle.velo_runtime.specs.Steps.{StepsForking}
+use Rattle.velo_runtime.specs.Turns.{TurnsIn}
 
 -- an event of the share's thread
 abbrev pub event_by : Holding → Kind → Event
@@ -37,6 +43,18 @@ pub record GainsEventBy (share share' : Holding) (reply : Reply) (action : Actio
   pub log : List Event
   pub value : reply.value ≡ value_read (kind_for log action)
   pub gains : GainsEventAt share share' reply.position (kind_for log action)
+
+-- the action was refused so, as the room was in some hold of the lock, and nothing changed of the share
+pub record IsRefused (share : Holding) (action : Action) (refusal : Refusal) : Type 0 where
+  pub room : RoomState
+  pub room' : RoomState
+  pub turns : TurnsIn room share action (Refused refusal) room' share
+
+-- the same of a fork
+pub record IsForkRefused (share : Holding) (child : ThreadId) (refusal : Refusal) : Type 0 where
+  pub room : RoomState
+  pub room' : RoomState
+  pub steps : StepsForking room share child (Err refusal) room' share
 
 -- ---- the end of a run
 

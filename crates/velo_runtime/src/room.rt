@@ -1,5 +1,5 @@
 ghost use Rattle.velo_events.specs.Refusals.{GrowthRefused};
-ghost use Rattle.std.specs.Prelude.{◌≡◌, ◌≢◌, ◌+◌, ◌↔◌, None, Err, IfOk, IfErr, IfSome, IfNone, IsFalse, IsTrue, sum_by, length, replicate, OnErr};
+ghost use Rattle.std.specs.Prelude.{◌≡◌, ◌≢◌, ◌+◌, ◌⊎◌, ◌↔◌, None, Err, IfOk, IfErr, IfSome, IfNone, IsFalse, IsTrue, sum_by, length, replicate, OnErr};
 ghost use Rattle.velo_events.specs.declared.refusal.Refusal.TheVariants as refusal;
 ghost use Rattle.velo_events.specs.Graph.{HasCycle};
 ghost use Rattle.velo_events.specs.Reordering.{IsSerializable};
@@ -78,6 +78,13 @@ impl Room {
         Ok((room, Seat { share }))
     }
 
+    /// The world, to be read while the caller has the room: its log with heap, alarm, graph and book.
+    pub fn world(&self) -> &World
+        ensures { result.now ≡ self.now.world }
+    {
+        &self.world
+    }
+
     /// How many threads, variables and locks there are.
     pub fn bounds(&self) -> Bounds
         ensures { result ≡ self.now.world.config.bounds }
@@ -116,11 +123,37 @@ impl Room {
         self.world.halt();
     }
 
+    /// Ends the run of a room that was opened with the configuration. It takes no memory.
+    ///
+    /// # Errors
+    /// Room and seats as they were, exactly where the room was opened with another configuration, or the seats are not one
+    /// fitting seat of each thread that was born.
+    pub(crate) fn close_as(
+        self,
+        config: Config,
+        seats: Vec<Seat>,
+    ) -> Result<Closed, (Room, Vec<Seat>)>
+        ensures closed { IfOk result (λ closed. closed ≡ self.world) }
+        ensures config { IfOk result (λ closed. closed.config ≡ config) }
+        ensures all { IfOk result (λ closed. AreSeatsOf self.world seats.items) }
+        ensures total { IfOk result (λ closed.
+            length closed.log ≡ sum_by (λ seat. seat.tally.events) seats.items) }
+        ensures room { IfErr result (λ back. back.0 ≡ self) }
+        ensures seats { IfErr result (λ back. back.1 ≡ seats) }
+        ensures cause { IfErr result (λ back.
+            (self.world.config ≢ config) ⊎ ¬ AreSeatsOf self.world seats.items) }
+    {
+        if self.world.config() != config {
+            return Err((self, seats));
+        }
+        self.close(seats)
+    }
+
     /// Ends the run. It takes no memory.
     ///
     /// # Errors
     /// Room and seats as they were, exactly where the seats are not one fitting seat of each thread that was born.
-    pub(crate) fn close(self, mut seats: Vec<Seat>) -> Result<Closed, (Room, Vec<Seat>)>
+    fn close(self, mut seats: Vec<Seat>) -> Result<Closed, (Room, Vec<Seat>)>
         ensures closed { IfOk result (λ closed. closed ≡ self.world) }
         ensures all { IfOk result (λ closed. AreSeatsOf self.world seats.items) }
         ensures total { IfOk result (λ closed.
@@ -345,7 +378,7 @@ pub fn comes_back(room: &Room, caller: ThreadId, wanted: Wanted) -> bool
     requires { IsThere room.now.world.config.bounds wanted }
     ensures { IsTrue result ↔ ComesBackIn room.now caller wanted }
 {
-    // a bit for each thread that chains are known to lead to, and for each of them whose wait was followed
+    // A bit for each thread that a chain is known to lead to, and one for each of these whose wait was followed.
     let mut reached = room.leads(wanted);
     let mut done: u64 = 0;
     while reached & !done != 0 {

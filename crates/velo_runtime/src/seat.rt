@@ -1,10 +1,11 @@
 ghost use Rattle.std.specs.Prelude.{◌≡◌, ◌≢◌, None, Err, IfOk, IfErr, OnErr};
+ghost use Rattle.velo_events.specs.declared.event.Action.TheVariants as action;
 ghost use Rattle.velo_events.specs.declared.event.Kind.TheVariants as kind;
 ghost use Rattle.velo_events.specs.declared.refusal.Refusal.TheVariants as refusal;
 ghost use Rattle.velo_events.specs.Refusals.{GrowthRefused};
 ghost use Rattle.velo_ledger.specs.Shares.{opening_share};
 ghost use Rattle.velo_world.specs.World.{IsNoFork};
-ghost use Rattle.velo_runtime.specs.Seats.{GainsEvent, GainsEventBy, GainsEventOf};
+ghost use Rattle.velo_runtime.specs.Seats.{GainsEvent, GainsEventBy, GainsEventOf, IsForkRefused, IsRefused};
 ghost use Rattle.velo_runtime.specs.Turns.{wanted_by};
 
 use crate::room::{fork_in, turn_in};
@@ -31,8 +32,9 @@ impl Model for Seat {
     ghost view = { λ seat. seat.share };
 }
 
-/// Each of the calls that are passed `rt` takes the room's lock, and does one action in one hold of it. `Memory` (19) is
-/// answered only where a growth was refused, and `RuntimeMemory` (21) never.
+/// Each of the calls that are passed `rt` takes the room's lock, and does one action in one hold of it. A refusal is the one
+/// that is due for the call's own action, in the room as it was in that hold. `Memory` (19) is answered only where a growth was
+/// refused, and `RuntimeMemory` (21) never.
 ///
 /// No call may be made by a thread that has the room's guard: it would wait for itself.
 impl Seat {
@@ -49,6 +51,7 @@ impl Seat {
     /// The refusal of [`turn_in`]. The seat is as it was then.
     pub fn read<R: Wait>(&mut self, rt: &R, shared: &Shared, x: VarId) -> Result<u64, Refusal>
         ensures read { IfOk result (λ value. GainsEvent self.old self.new (kind.Read x value)) }
+        ensures refused { IfErr result (IsRefused self.old (action.Read x)) }
         ensures unchanged { OnErr result (self.new ≡ self.old) }
         ensures memory { result ≡ Err refusal.Memory → GrowthRefused }
         ensures runtime { result ≢ Err refusal.RuntimeMemory }
@@ -72,6 +75,7 @@ impl Seat {
         value: u64,
     ) -> Result<Reply, Refusal>
         ensures written { IfOk result (λ reply. GainsEventOf self.old self.new reply (kind.Write x value)) }
+        ensures refused { IfErr result (IsRefused self.old (action.Write x value)) }
         ensures unchanged { OnErr result (self.new ≡ self.old) }
         ensures memory { result ≡ Err refusal.Memory → GrowthRefused }
         ensures runtime { result ≢ Err refusal.RuntimeMemory }
@@ -91,6 +95,7 @@ impl Seat {
     ) -> Result<Reply, Refusal>
         ensures acquired { IfOk result (λ reply. GainsEventOf self.old self.new reply (kind.Acquire lock)) }
         ensures waits { result ≢ Err refusal.Busy }
+        ensures refused { IfErr result (IsRefused self.old (action.Acquire lock)) }
         ensures unchanged { OnErr result (self.new ≡ self.old) }
         ensures memory { result ≡ Err refusal.Memory → GrowthRefused }
         ensures runtime { result ≢ Err refusal.RuntimeMemory }
@@ -109,6 +114,7 @@ impl Seat {
         lock: LockId,
     ) -> Result<Reply, Refusal>
         ensures released { IfOk result (λ reply. GainsEventOf self.old self.new reply (kind.Release lock)) }
+        ensures refused { IfErr result (IsRefused self.old (action.Release lock)) }
         ensures unchanged { OnErr result (self.new ≡ self.old) }
         ensures memory { result ≡ Err refusal.Memory → GrowthRefused }
         ensures runtime { result ≢ Err refusal.RuntimeMemory }
@@ -128,6 +134,7 @@ impl Seat {
     ) -> Result<Reply, Refusal>
         ensures acquired { IfOk result (λ reply. GainsEventOf self.old self.new reply (kind.AcquireShared lock)) }
         ensures waits { result ≢ Err refusal.Busy }
+        ensures refused { IfErr result (IsRefused self.old (action.AcquireShared lock)) }
         ensures unchanged { OnErr result (self.new ≡ self.old) }
         ensures memory { result ≡ Err refusal.Memory → GrowthRefused }
         ensures runtime { result ≢ Err refusal.RuntimeMemory }
@@ -146,6 +153,7 @@ impl Seat {
         lock: LockId,
     ) -> Result<Reply, Refusal>
         ensures released { IfOk result (λ reply. GainsEventOf self.old self.new reply (kind.ReleaseShared lock)) }
+        ensures refused { IfErr result (IsRefused self.old (action.ReleaseShared lock)) }
         ensures unchanged { OnErr result (self.new ≡ self.old) }
         ensures memory { result ≡ Err refusal.Memory → GrowthRefused }
         ensures runtime { result ≢ Err refusal.RuntimeMemory }
@@ -164,6 +172,7 @@ impl Seat {
         label: Label,
     ) -> Result<Reply, Refusal>
         ensures begun { IfOk result (λ reply. GainsEventOf self.old self.new reply (kind.Begin label)) }
+        ensures refused { IfErr result (IsRefused self.old (action.Begin label)) }
         ensures unchanged { OnErr result (self.new ≡ self.old) }
         ensures memory { result ≡ Err refusal.Memory → GrowthRefused }
         ensures runtime { result ≢ Err refusal.RuntimeMemory }
@@ -177,6 +186,7 @@ impl Seat {
     /// The refusal of [`turn_in`]. The seat is as it was then.
     pub fn end<R: Wait>(&mut self, rt: &R, shared: &Shared) -> Result<Reply, Refusal>
         ensures ended { IfOk result (λ reply. GainsEventOf self.old self.new reply kind.End) }
+        ensures refused { IfErr result (IsRefused self.old action.End) }
         ensures unchanged { OnErr result (self.new ≡ self.old) }
         ensures memory { result ≡ Err refusal.Memory → GrowthRefused }
         ensures runtime { result ≢ Err refusal.RuntimeMemory }
@@ -196,6 +206,7 @@ impl Seat {
     ) -> Result<Seat, Refusal>
         ensures forked { IfOk result (λ seat. GainsEvent self.old self.new (kind.Fork child)) }
         ensures child { IfOk result (λ seat. seat ≡ opening_share self.old.run child.0) }
+        ensures refused { IfErr result (IsForkRefused self.old child) }
         ensures unchanged { OnErr result (self.new ≡ self.old) }
         ensures memory { result ≡ Err refusal.Memory → GrowthRefused }
         ensures runtime { result ≢ Err refusal.RuntimeMemory }
@@ -217,6 +228,7 @@ impl Seat {
     ) -> Result<Reply, Refusal>
         ensures joined { IfOk result (λ reply. GainsEventOf self.old self.new reply (kind.Join thread)) }
         ensures waits { result ≢ Err refusal.NotExited }
+        ensures refused { IfErr result (IsRefused self.old (action.Join thread)) }
         ensures unchanged { OnErr result (self.new ≡ self.old) }
         ensures memory { result ≡ Err refusal.Memory → GrowthRefused }
         ensures runtime { result ≢ Err refusal.RuntimeMemory }
@@ -230,6 +242,7 @@ impl Seat {
     /// The refusal of [`turn_in`]. The seat is as it was then.
     pub fn exit<R: Wait>(&mut self, rt: &R, shared: &Shared) -> Result<Reply, Refusal>
         ensures exited { IfOk result (λ reply. GainsEventOf self.old self.new reply kind.Exit) }
+        ensures refused { IfErr result (IsRefused self.old action.Exit) }
         ensures unchanged { OnErr result (self.new ≡ self.old) }
         ensures memory { result ≡ Err refusal.Memory → GrowthRefused }
         ensures runtime { result ≢ Err refusal.RuntimeMemory }
@@ -242,6 +255,7 @@ impl Seat {
     fn turn<R: Wait>(&mut self, rt: &R, shared: &Shared, action: Action) -> Result<Reply, Refusal>
         requires { IsNoFork action }
         ensures done { IfOk result (λ reply. GainsEventBy self.old self.new reply action) }
+        ensures refused { IfErr result (IsRefused self.old action) }
         ensures unchanged { OnErr result (self.new ≡ self.old) }
         ensures lasting { IfErr result (λ refusal. wanted_by action refusal ≡ None) }
         ensures memory { result ≡ Err refusal.Memory → GrowthRefused }

@@ -21,6 +21,8 @@ pub struct Shared {
     pub room: Mutex<Room>,
     /// Notified when a waiting thread may go on.
     changed: Condvar,
+    /// What the room was opened with. It stands beside the lock, since no clause can name what a lock holds.
+    config: Config,
 }
 
 impl Debug for Shared {
@@ -38,6 +40,7 @@ impl Shared {
     /// # Errors
     /// `RuntimeMemory` (21) where a growth was refused.
     pub fn open(alloc: Global, config: Config) -> Result<(Shared, Seat), Refusal>
+        ensures config { IfOk result (λ opened. opened.0.config ≡ config) }
         ensures seat { IfOk result (λ opened. opened.1 ≡ opening_share config.run 0) }
         ensures cause { IfErr result (λ e. e ≡ refusal.RuntimeMemory) }
         ensures memory { OnErr result GrowthRefused }
@@ -48,8 +51,16 @@ impl Shared {
         let shared = Shared {
             room: Mutex::new(room),
             changed: Condvar::new(),
+            config,
         };
         Ok((shared, seat))
+    }
+
+    /// What the room was opened with.
+    pub fn config(&self) -> Config
+        ensures { result ≡ self.now.config }
+    {
+        self.config
     }
 
     /// Refuses every action from now on, and notifies the threads that wait.
@@ -89,23 +100,31 @@ impl Debug for Missing {
     }
 }
 
-/// Ends the run. It takes no memory.
+/// Ends the run. It takes no memory. What is closed has the configuration with which the room was opened.
 ///
 /// # Errors
-/// `Missing` where the seats are not one fitting seat of each thread that was forked, and of thread 0.
+/// `Missing` where the seats are not one fitting seat of each thread that was forked, and of thread 0; and where callers had
+/// the rooms of two runs change places, and the other run has another configuration.
 pub fn close(shared: Shared, seats: Vec<Seat>) -> Result<Closed, Missing>
+    ensures config { IfOk result (λ closed. closed.config ≡ shared.config) }
     ensures seats { IfOk result (λ closed. AreSeatsOf closed seats.items) }
     ensures total { IfOk result (λ closed.
         length closed.log ≡ sum_by (λ seat. seat.tally.events) seats.items) }
     ensures back { IfErr result (λ missing. missing.seats ≡ seats) }
+    ensures same { IfErr result (λ missing. missing.shared.config ≡ shared.config) }
 {
-    let Shared { room, changed } = shared;
-    match room.into_inner().close(seats) {
+    let Shared {
+        room,
+        changed,
+        config,
+    } = shared;
+    match room.into_inner().close_as(config, seats) {
         Ok(closed) => Ok(closed),
         Err((room, seats)) => Err(Missing {
             shared: Shared {
                 room: Mutex::new(room),
                 changed,
+                config,
             },
             seats,
         }),

@@ -19,6 +19,7 @@ pub enum Turn {
     Done(Reply),
     /// Nothing was done, and the thread waits for nothing; but for a foreign share, whose thread's wait stays as it was.
     Refused(Refusal),
-    /// Nothing was done yet: the thread waits until the lock is free, or the thread to join has exited.
+    /// Nothing was done yet: the thread waits until no other thread holds the lock in its way, or the thread to join has
+    /// exited.
     Wait,
 }

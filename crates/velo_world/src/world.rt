@@ -203,6 +203,13 @@ impl World {
         }
     }
 
+    /// What the world was opened with.
+    pub fn config(&self) -> Config
+        ensures { result ≡ self.now.config }
+    {
+        self.course.config
+    }
+
     /// How many threads, variables and locks there are.
     pub fn bounds(&self) -> Bounds
         ensures { result ≡ self.now.config.bounds }
