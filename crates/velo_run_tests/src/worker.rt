@@ -276,10 +276,20 @@ fn config_for(workload: &Workload, events: u32, nodes: u16, stop: bool) -> Optio
     Config::new(0, workload.bounds(), events, nodes, stop).ok()
 }
 
+/// The end of a replay of the workload.
+fn end_of_replay(
+    alloc: Global,
+    workload: &Workload,
+    schedule: &[ThreadId],
+    stop: bool,
+) -> Option<(Closed, Ending)> {
+    let config = config_for(workload, 100, 64, stop)?;
+    replay(alloc, workload, schedule, config).ok()
+}
+
 /// Whether a replay of the workload goes as the run should.
 fn replays(alloc: Global, workload: &Workload, run: &Run<'_>) -> Option<bool> {
-    let config = config_for(workload, 100, 64, run.stop)?;
-    let (closed, ending) = replay(alloc, workload, run.schedule, config).ok()?;
+    let (closed, ending) = end_of_replay(alloc, workload, run.schedule, run.stop)?;
     Some(went_as(&closed, ending, run))
 }
 

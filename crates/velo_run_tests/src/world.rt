@@ -290,10 +290,10 @@ const READ_BY_FIVE: [Step; 18] = [
 
 /// How many of the outcomes say that the graph is full.
 fn times_full(outcomes: &[Outcome]) -> usize {
-    let mut times = 0;
+    let mut times: usize = 0;
     for outcome in outcomes {
         if *outcome == Err(Refusal::GraphFull) {
-            times += 1;
+            times = times.saturating_add(1);
         }
     }
     times

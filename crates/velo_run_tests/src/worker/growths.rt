@@ -1,12 +1,13 @@
 //! One growth is refused, whichever it is: the call tells it, and done again it answers as it would have. Without a refusal
 //! each call is done once.
-use super::config_for;
+use super::end_of_replay;
+use super::live::end_of_live_run;
 use std::alloc::Global;
 use std::process::Abort;
 use std::sync::Wait;
 use std::thread::Threads;
 use velo_events::{Refusal, ThreadId, VarId};
-use velo_worker::{Ending, OpenGate, live, replay};
+use velo_worker::{Ending, OpenGate};
 use velo_workload::{WorkFault, Workload, parse};
 use velo_world::Closed;
 
@@ -60,8 +61,7 @@ fn judged(closed: &Closed, ending: Ending) -> Option<bool> {
 
 /// Whether a replay of the workload is whole; none where a growth was refused.
 fn replay_of(alloc: Global, workload: &Workload) -> Option<bool> {
-    let config = config_for(workload, 100, 64, false)?;
-    let (closed, ending) = replay(alloc, workload, &[], config).ok()?;
+    let (closed, ending) = end_of_replay(alloc, workload, &[], false)?;
     judged(&closed, ending)
 }
 
@@ -83,8 +83,7 @@ fn live_run_of<R: Threads + Wait + Sync>(
     alloc: Global,
     workload: &Workload,
 ) -> Option<bool> {
-    let config = config_for(workload, 100, 64, false)?;
-    let (closed, ending) = live(rt, alloc, workload, config, &OpenGate).ok()?;
+    let (closed, ending) = end_of_live_run(rt, alloc, workload, 64, &OpenGate)?;
     judged(&closed, ending)
 }
 

@@ -221,6 +221,18 @@ fn looks_as(closed: &Closed, labels: &[String], shown: &Shown<'_>) -> bool {
     has_alarm && has_counts && first == shown.first
 }
 
+/// The end of a live run of the workload, with so many nodes.
+pub(super) fn end_of_live_run<G: Gate + Sync, R: Threads + Wait + Sync>(
+    rt: &R,
+    alloc: Global,
+    workload: &Workload,
+    nodes: u16,
+    gate: &G,
+) -> Option<(Closed, Ending)> {
+    let config = config_for(workload, 20_000, nodes, false)?;
+    live(rt, alloc, workload, config, gate).ok()
+}
+
 /// Whether a live run of the workload shows what it should.
 fn run_shows<G: Gate + Sync, R: Threads + Wait + Sync>(
     rt: &R,
@@ -229,8 +241,7 @@ fn run_shows<G: Gate + Sync, R: Threads + Wait + Sync>(
     gate: &G,
     shown: &Shown<'_>,
 ) -> Option<bool> {
-    let config = config_for(workload, 20_000, 4_096, false)?;
-    let (closed, ending) = live(rt, alloc, workload, config, gate).ok()?;
+    let (closed, ending) = end_of_live_run(rt, alloc, workload, 4_096, gate)?;
     let looks_so = looks_as(&closed, workload.label_names(), shown);
     Some(looks_so && ending == shown.ending)
 }
