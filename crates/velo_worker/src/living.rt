@@ -19,6 +19,7 @@ use std::alloc::Global;
 use std::sync::Wait;
 use std::thread;
 use std::thread::{Scope, Threads};
+use thiserror::Error;
 use velo_events::growth::{reserve, with_capacity};
 use velo_events::{Config, Event, Kind, Memory, Refusal};
 use velo_runtime::{Seat, Shared, close};
@@ -26,11 +27,13 @@ use velo_workload::Workload;
 use velo_world::Closed;
 
 /// Why a live run has no world to show.
-#[derive(Clone, Copy, Debug, PartialEq, Eq)]
+#[derive(Clone, Copy, Debug, PartialEq, Eq, Error)]
 pub enum LiveFault {
     /// A growth was refused before the first event.
+    #[error("out of memory")]
     Memory,
     /// A seat did not come back, or is not that of a thread that did its body.
+    #[error("seat lost")]
     Lost,
 }
 
