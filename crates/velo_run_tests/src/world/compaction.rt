@@ -2,7 +2,7 @@
 ghost use Rattle.std.specs.Prelude.{◌≡◌, false};
 ghost use Rattle.velo_world.specs.World.{HoldsLiveShares};
 
-use super::{M, MAIN, OTHER, Outcome, Step, X, replied, times_full};
+use super::{M, MAIN, OTHER, Outcome, Step, X, replied};
 use crate::growths::again;
 use std::alloc::Global;
 use std::process::Abort;
@@ -196,7 +196,7 @@ fn worlds_with_few_nodes_answer_as_large_ones(rt: HostRuntime) {
         let steps = steps_by_chance(seed);
         let few = play(&rt, rt.alloc(), 3, 9, &steps);
         let many = play(&rt, rt.alloc(), 3, 200, &steps);
-        assert_eq!(rt; times_full(few.outcomes.as_slice()), 0);
+        assert!(rt; !few.outcomes.contains(&Err(Refusal::GraphFull)), "{seed}");
         assert!(rt; few.outcomes.as_slice() == many.outcomes.as_slice(), "{seed}");
         assert_eq!(rt; few.alarm, many.alarm, "{seed}");
         drop((few, many));
@@ -231,12 +231,19 @@ const GROWING: [Step; 24] = [
     (MAIN, Action::Read(Y)),
 ];
 
+/// The values of the first two variables.
+fn values_in(world: &World) -> (u64, u64) {
+    if world.bounds().variables < 2 {
+        return (0, 0);
+    }
+    (world.heap().value(X), world.heap().value(Y))
+}
+
 /// What a refusal has to leave: the length of the log, two values, whether there is an alarm, and whether the shares fit.
-fn shown_by(world: &World, shares: &Shares) -> (usize, u64, u64, bool, bool) {
+fn shown_by(world: &World, shares: &Shares) -> (usize, (u64, u64), bool, bool) {
     (
         world.log().len(),
-        world.heap().value(X),
-        world.heap().value(Y),
+        values_in(world),
         world.alarm().is_some(),
         world.is_complete(shares),
     )
@@ -257,9 +264,9 @@ fn act_again(rt: &impl Abort, world: &mut World, shares: &mut Shares, step: Step
     }
 }
 
-/// What the step at the place comes to.
-fn growing_outcome(place: usize) -> Outcome {
-    let value = match GROWING[place].1 {
+/// What the action at the place comes to.
+fn growing_outcome(place: usize, action: Action) -> Outcome {
+    let value = match action {
         Action::Read(Y) => Some(5),
         Action::Read(_) => Some(1),
         _ => None,
@@ -267,14 +274,15 @@ fn growing_outcome(place: usize) -> Outcome {
     replied(place, value, place == 23)
 }
 
-/// Whether the nodes were enough, blocks gave way or not.
+/// Blocks give way before the refusal, and no other trace of the call is left.
 #[test]
 fn a_refused_growth_behind_a_compaction(rt: HostRuntime) {
     let (mut world, mut shares) = open(&rt, rt.alloc(), 2, 4);
     for place in 0..24 {
-        let outcome = act_again(&rt, &mut world, &mut shares, GROWING[place]);
-        assert_eq!(rt; outcome, growing_outcome(place), "{place}");
+        let step = GROWING[place];
+        let outcome = act_again(&rt, &mut world, &mut shares, step);
+        assert_eq!(rt; outcome, growing_outcome(place, step.1), "{place}");
     }
-    assert_eq!(rt; shown_by(&world, &shares), (24, 1, 5, true, true));
+    assert_eq!(rt; shown_by(&world, &shares), (24, (1, 5), true, true));
     drop((world, shares));
 }
