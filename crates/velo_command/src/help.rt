@@ -16,7 +16,7 @@ Statuses:
   5  memory or a device failed
 
 The help of each command has an example, its statuses with the lines on standard error, and what their numbers mean.
-README.md describes the formats.";
+docs/REFERENCE.md describes the formats.";
 
 /// Behind the help of `check`.
 pub const OF_CHECK: &str = "\
@@ -25,9 +25,10 @@ Example, a lost update:
 It reports 'verdict alarm 4' and 'blame 1 7', with status 3. Positions count the events from 0: the event at
 position P stands on line P + 2 of the log.
 
-The log: its first line is 'vlog 1 T V M' with the numbers of threads, variables and locks; each further line is an
-event: 't rd x v', 't wr x v', 't acq m', 't rel m', 't begin l', 't end', 't fork u', 't join u' or 't exit'.
-README.md describes it whole, and the report.
+The log: its first line is 'vlog 2 T V M' with the numbers of threads, variables and locks; each further line is an
+event: 't rd x v', 't wr x v', 't acq m', 't rel m', 't acqs m', 't rels m' (a shared acquire and its release),
+'t begin l', 't end', 't fork u', 't join u' or 't exit'. A log that begins 'vlog 1' has no 'acqs' and no 'rels'.
+docs/REFERENCE.md describes it whole, and the report.
 
 Statuses, each with the lines on standard error:
   0  no alarm, or help
@@ -69,9 +70,9 @@ Example, two threads that take two locks in opposite orders:
 It reports three events and 'verdict clean', and says 'stuck', with status 4.
 
 The workload: 'var NAME' and 'lock NAME' first; then for each thread a line 'thread NAME' and its statements, one a
-line: 'read x', 'write x', 'set n', 'add n', 'acquire m', 'release m', 'begin l', 'end', 'fork t', 'join t', and
-'repeat n' up to 'done'. '#' begins a comment. Thread 0 is the first; the others run once they are forked.
-README.md describes it whole, and the report.
+line: 'read x', 'write x', 'set n', 'add n', 'acquire m', 'release m', 'share m', 'unshare m', 'begin l', 'end',
+'fork t', 'join t', and 'repeat n' up to 'done'. '#' begins a comment. Thread 0 is the first; the others run once they
+are forked. docs/REFERENCE.md describes it whole, and the report.
 
 The schedule: in its turn a thread goes up to its next event and tries that; it passes where it must wait. After the
 turns of the schedule all threads have turns in rounds, up to the end.
