@@ -197,7 +197,10 @@ fn worlds_with_few_nodes_answer_as_large_ones(rt: HostRuntime) {
         let few = play(&rt, rt.alloc(), 3, 9, &steps);
         let many = play(&rt, rt.alloc(), 3, 200, &steps);
         assert!(rt; !few.outcomes.contains(&Err(Refusal::GraphFull)), "{seed}");
-        assert!(rt; few.outcomes.as_slice() == many.outcomes.as_slice(), "{seed}");
+        assert!(rt;
+            few.outcomes.as_slice() == many.outcomes.as_slice(),
+            "{seed}"
+        );
         assert_eq!(rt; few.alarm, many.alarm, "{seed}");
         drop((few, many));
     }

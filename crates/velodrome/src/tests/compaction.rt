@@ -73,8 +73,7 @@ const FORKED_INSIDE_REPORT: &str =
     "events 106\nthread 0 main 5\nthread 1 a 101\nverdict alarm 103\ntransaction 0\nblame 0 all\n";
 
 /// What the first two of the 50 blocks leave, where the third one finds no node.
-const CUT_SHORT_REPORT: &str =
-    "events 6\nthread 0 main 2\nthread 1 a 4\nverdict clean\n";
+const CUT_SHORT_REPORT: &str = "events 6\nthread 0 main 2\nthread 1 a 4\nverdict clean\n";
 
 /// What the program does with a text by so many nodes.
 struct Run {
