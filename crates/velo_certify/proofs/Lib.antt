@@ -11,7 +11,7 @@ pub mod OnOrders
 pub mod OnReached
 pub mod OnSorting
 pub mod OnLists
-pub mod OnPasses
+pub mod OnVisits
 pub mod OnSearch
 pub mod OnDistances
 pub mod OnNearest

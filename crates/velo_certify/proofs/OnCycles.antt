@@ -19,11 +19,11 @@ use Rattle.velo_certify.proofs.OnDistances.{AreDistances-path}
 
 -- ---- the walk
 
-module _ (trace : List Event) (far : List ℕ) (start second : ℕ) (w : AreDistances trace start far) where
-  pub WalksBack-start : IsNearest trace far start second → WalksBack trace far start second (start ∷ []) second
+module _ (trace : List Event) (distance : List ℕ) (start second : ℕ) (w : AreDistances trace start distance) where
+  pub WalksBack-start : IsNearest trace distance start second → WalksBack trace distance start second (start ∷ []) second
   WalksBack-start n = record { between = []; items = refl; path = n.edge; steps = omega arith; reached = n.reached }
 
-  pub WalksBack-next : (next : List ℕ) → AreTowards trace start far next → (cycle : List ℕ) (present : ℕ) → present ≢ start → WalksBack trace far start second cycle present → WalksBack trace far start second (cycle ++ present ∷ []) (slice_index next present)
+  pub WalksBack-next : (next : List ℕ) → AreTowards trace start distance next → (cycle : List ℕ) (present : ℕ) → present ≢ start → WalksBack trace distance start second cycle present → WalksBack trace distance start second (cycle ++ present ∷ []) (slice_index next present)
   WalksBack-next next t cycle present other v = record {
     between = v.between ++ present ∷ [];
     items = ap (λ xs. xs ++ present ∷ []) v.items;
@@ -33,18 +33,18 @@ module _ (trace : List Event) (far : List ℕ) (start second : ℕ) (w : AreDist
   }
 
   -- no cycle through the start is shorter
-  second-least : IsNearest trace far start second → (other : List ℕ) → IsCycleFrom trace start other → slice_index far second ≤ length other
+  second-least : IsNearest trace distance start second → (other : List ℕ) → IsCycleFrom trace start other → slice_index distance second ≤ length other
   second-least n [] c = absurd c.cyclic
   second-least n (a ∷ []) c = absurd c.cyclic
   second-least n (a ∷ b ∷ rest) c =
       let edge : Edge trace start b = subst (λ x. Edge trace x b) c.begins c.cyclic.0 in
       let path : Path (Edge trace) b rest start = subst (λ x. Path (Edge trace) b rest x) c.begins c.cyclic.1 in
-      let long = AreDistances-path trace start far w b rest path in
+      let long = AreDistances-path trace start distance w b rest path in
       let most = n.nearest b edge long.0 in
       let upto = long.1 in
       omega (arith, most, upto)
 
-  pub IsShortestFrom-end : (cycle : List ℕ) (present : ℕ) → present ≡ start → IsNearest trace far start second → WalksBack trace far start second cycle present → IsShortestFrom trace start cycle
+  pub IsShortestFrom-end : (cycle : List ℕ) (present : ℕ) → present ≡ start → IsNearest trace distance start second → WalksBack trace distance start second cycle present → IsShortestFrom trace start cycle
   IsShortestFrom-end cycle present back n v = record {
     is_cycle = record {
       cyclic = subst (IsCycle (Edge trace)) (sym v.items) (closed v.between (subst (Path (Edge trace) start v.between) back v.path));
@@ -53,7 +53,7 @@ module _ (trace : List Event) (far : List ℕ) (start second : ℕ) (w : AreDist
     shortest = λ other c.
         let least = second-least n other c in
         let all = v.steps in
-        let one : slice_index far present ≡ 1 = ap (slice_index far) back ∙ w.begins in
+        let one : slice_index distance present ≡ 1 = ap (slice_index distance) back ∙ w.begins in
         let long : length cycle ≡ length v.between + 1 = ap length v.items ∙ omega arith in
         omega (arith, least, all, one, long);
   }
@@ -63,12 +63,12 @@ module _ (trace : List Event) (far : List ℕ) (start second : ℕ) (w : AreDist
       closed (b ∷ rest) p = p
 
   -- where no next one has a distance there is no cycle
-  pub IsOnNone-by : ((b : ℕ) → Edge trace start b → slice_index far b ≡ 0) → IsOnNone trace start
+  pub IsOnNone-by : ((b : ℕ) → Edge trace start b → slice_index distance b ≡ 0) → IsOnNone trace start
   IsOnNone-by none = record {
     none = λ cycle c has.
         let b = IsCycle-next (Edge trace) cycle start c has in
         let is = none b.0 b.1 in
-        ⊎_elim (λ same. b.1.differ (sym same)) (λ p. let some = (AreDistances-path trace start far w b.0 p.0 p.1).0 in omega (arith, some, is)) b.2;
+        ⊎_elim (λ same. b.1.differ (sym same)) (λ p. let some = (AreDistances-path trace start distance w b.0 p.0 p.1).0 in omega (arith, some, is)) b.2;
   }
 
 -- ---- the events up to a position

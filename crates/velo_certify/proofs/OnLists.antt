@@ -151,11 +151,11 @@ module _ (trace : List Event) (n : ℕ) (e : Event) (here : slice_get trace n �
 
 -- what is in the lists of things follows, by the kind
 abbrev pub alike_with : Lists → Access → ℕ → List ℕ
-alike_with old (Shared c) n = set old.alike.items n (slice_index old.reads.items c.0)
-alike_with old (Exclusive c) n = set old.alike.items n (slice_index old.writes.items c.0)
-alike_with old (Access.Fork u) n = set old.alike.items n (slice_index old.handles.items u.0)
-alike_with old (Access.Join u) n = set old.alike.items n (slice_index old.handles.items u.0)
-alike_with old Nothing n = old.alike.items
+alike_with old (Shared c) n = set old.next_same.items n (slice_index old.reads.items c.0)
+alike_with old (Exclusive c) n = set old.next_same.items n (slice_index old.writes.items c.0)
+alike_with old (Access.Fork u) n = set old.next_same.items n (slice_index old.handles.items u.0)
+alike_with old (Access.Join u) n = set old.next_same.items n (slice_index old.handles.items u.0)
+alike_with old Nothing n = old.next_same.items
 
 -- the lists with a position of this thread and kind put before their fronts
 pub record ArePut (old : Lists) (t : ℕ) (k : Access) (n : ℕ) (new : Lists) : Type 0 where
@@ -164,21 +164,21 @@ pub record ArePut (old : Lists) (t : ℕ) (k : Access) (n : ℕ) (new : Lists) :
   pub writes : new.writes.items ≡ with_front old.writes.items (cell_written k) n
   pub reads : new.reads.items ≡ with_front old.reads.items (cell_read k) n
   pub following : new.following.items ≡ set old.following.items n (slice_index old.threads.items t)
-  pub alike : new.alike.items ≡ alike_with old k n
+  pub next_same : new.next_same.items ≡ alike_with old k n
 
-alike-same : (old : Lists) (k : Access) (n : ℕ) → AreSameBut n old.alike.items (alike_with old k n)
-alike-same old (Shared x) n = AreSameBut-set old.alike.items n (slice_index old.reads.items x.0)
-alike-same old (Exclusive x) n = AreSameBut-set old.alike.items n (slice_index old.writes.items x.0)
-alike-same old (Access.Fork u) n = AreSameBut-set old.alike.items n (slice_index old.handles.items u.0)
-alike-same old (Access.Join u) n = AreSameBut-set old.alike.items n (slice_index old.handles.items u.0)
-alike-same old _ n = AreSameBut-same old.alike.items n
+next_same-same : (old : Lists) (k : Access) (n : ℕ) → AreSameBut n old.next_same.items (alike_with old k n)
+next_same-same old (Shared x) n = AreSameBut-set old.next_same.items n (slice_index old.reads.items x.0)
+next_same-same old (Exclusive x) n = AreSameBut-set old.next_same.items n (slice_index old.writes.items x.0)
+next_same-same old (Access.Fork u) n = AreSameBut-set old.next_same.items n (slice_index old.handles.items u.0)
+next_same-same old (Access.Join u) n = AreSameBut-set old.next_same.items n (slice_index old.handles.items u.0)
+next_same-same old _ n = AreSameBut-same old.next_same.items n
 
 module _ (trace : List Event) (n : ℕ) (old : Lists) (within : n < length trace) (w : AreListed trace (n + 1) old) where
-  alike_long : n < length old.alike.items
-  alike_long = let c = w.alike.count in omega (arith, within, c)
+  alike_long : n < length old.next_same.items
+  alike_long = let c = w.next_same.count in omega (arith, within, c)
 
-  there : (m : ℕ) → slice_index (set old.alike.items n m) n ≡ m
-  there m = get_or-set_same old.alike.items n m 0 alike_long
+  there : (m : ℕ) → slice_index (set old.next_same.items n m) n ≡ m
+  there m = get_or-set_same old.next_same.items n m 0 alike_long
 
   handle-next : (k : Access) (x : ℕ) → handled_of k ≡ Some x → slice_index (alike_with old k n) n ≡ slice_index old.handles.items x
   handle-next (Access.Fork u) x h = there (slice_index old.handles.items u.0) ∙ ap (slice_index old.handles.items) (same_Some u.0 x h)
@@ -196,12 +196,12 @@ module _ (trace : List Event) (n : ℕ) (old : Lists) (within : n < length trace
   after_n : (named : Event → Option ℕ) (fronts following : List ℕ) (x : ℕ) → IsListed trace named (n + 1) fronts following → x < length fronts → n < slice_index fronts x
   after_n named fronts following x v place = let f = (v.first x place).from_n in omega (arith, f)
 
-  alike-rising : (k : Access) → HasPlaces (list_sizes old) k → IsRising trace (alike_with old k n)
-  alike-rising (Shared x) h = IsRising-set trace old.alike.items n (slice_index old.reads.items x.0) within (after_n read_in old.reads.items old.alike.items x.0 w.reads h.1) w.alike
-  alike-rising (Exclusive x) h = IsRising-set trace old.alike.items n (slice_index old.writes.items x.0) within (after_n written_in old.writes.items old.alike.items x.0 w.writes h.0) w.alike
-  alike-rising (Access.Fork u) h = IsRising-set trace old.alike.items n (slice_index old.handles.items u.0) within (after_n handled_in old.handles.items old.alike.items u.0 w.handles h.1) w.alike
-  alike-rising (Access.Join u) h = IsRising-set trace old.alike.items n (slice_index old.handles.items u.0) within (after_n handled_in old.handles.items old.alike.items u.0 w.handles h.1) w.alike
-  alike-rising _ h = w.alike
+  next_same-rising : (k : Access) → HasPlaces (list_sizes old) k → IsRising trace (alike_with old k n)
+  next_same-rising (Shared x) h = IsRising-set trace old.next_same.items n (slice_index old.reads.items x.0) within (after_n read_in old.reads.items old.next_same.items x.0 w.reads h.1) w.next_same
+  next_same-rising (Exclusive x) h = IsRising-set trace old.next_same.items n (slice_index old.writes.items x.0) within (after_n written_in old.writes.items old.next_same.items x.0 w.writes h.0) w.next_same
+  next_same-rising (Access.Fork u) h = IsRising-set trace old.next_same.items n (slice_index old.handles.items u.0) within (after_n handled_in old.handles.items old.next_same.items u.0 w.handles h.1) w.next_same
+  next_same-rising (Access.Join u) h = IsRising-set trace old.next_same.items n (slice_index old.handles.items u.0) within (after_n handled_in old.handles.items old.next_same.items u.0 w.handles h.1) w.next_same
+  next_same-rising _ h = w.next_same
 
 placed-handle : (old : Lists) (k : Access) → HasPlaces (list_sizes old) k → IsPlaced old.handles.items (handled_of k)
 placed-handle old (Access.Fork u) h = h.1
@@ -225,22 +225,22 @@ AreListed-put trace n e old new here within names w k kind is = record {
   writes = alike_row written_in (cell_written k) (ap cell_written kind) old.writes.items new.writes.items w.writes is.writes (placed-write old k places) (write-next trace n old within w k);
   reads = alike_row read_in (cell_read k) (ap cell_read kind) old.reads.items new.reads.items w.reads is.reads (placed-read old k places) (read-next trace n old within w k);
   following = subst (IsRising trace) (sym is.following) (IsRising-set trace old.following.items n (slice_index old.threads.items (thread_of e)) within (after_n trace n old within w thread_in old.threads.items old.following.items (thread_of e) w.threads names.thread) w.following);
-  alike = subst (IsRising trace) (sym is.alike) (alike-rising trace n old within w k places);
+  next_same = subst (IsRising trace) (sym is.next_same) (next_same-rising trace n old within w k places);
 }
   where
     places : HasPlaces (list_sizes old) k
     places = subst (HasPlaces (list_sizes old)) kind names.names
 
-    alike_row : (named : Event → Option ℕ) (o : Option ℕ) → named e ≡ o → (fronts after : List ℕ) → IsListed trace named (n + 1) fronts old.alike.items → after ≡ with_front fronts o n → IsPlaced fronts o → ((x : ℕ) → o ≡ Some x → slice_index (alike_with old k n) n ≡ slice_index fronts x) → IsListed trace named n after new.alike.items
-    alike_row named o about fronts after v after_is place next_is = subst (λ xs. IsListed trace named n xs new.alike.items) (sym after_is) (subst (IsListed trace named n (with_front fronts o n)) (sym is.alike)
-        (IsListed-after trace n e here within named fronts old.alike.items (alike_with old k n) v (alike-same old k n) o about place next_is))
+    alike_row : (named : Event → Option ℕ) (o : Option ℕ) → named e ≡ o → (fronts after : List ℕ) → IsListed trace named (n + 1) fronts old.next_same.items → after ≡ with_front fronts o n → IsPlaced fronts o → ((x : ℕ) → o ≡ Some x → slice_index (alike_with old k n) n ≡ slice_index fronts x) → IsListed trace named n after new.next_same.items
+    alike_row named o about fronts after v after_is place next_is = subst (λ xs. IsListed trace named n xs new.next_same.items) (sym after_is) (subst (IsListed trace named n (with_front fronts o n)) (sym is.next_same)
+        (IsListed-after trace n e here within named fronts old.next_same.items (alike_with old k n) v (next_same-same old k n) o about place next_is))
 
-pub AreListed-start : (trace : List Event) (threads things : ℕ) (lists : Lists) → lists.threads.items ≡ replicate threads (length trace) → lists.handles.items ≡ replicate threads (length trace) → lists.writes.items ≡ replicate things (length trace) → lists.reads.items ≡ replicate things (length trace) → lists.following.items ≡ replicate (length trace) (length trace) → lists.alike.items ≡ replicate (length trace) (length trace) → AreListed trace (length trace) lists
+pub AreListed-start : (trace : List Event) (threads things : ℕ) (lists : Lists) → lists.threads.items ≡ replicate threads (length trace) → lists.handles.items ≡ replicate threads (length trace) → lists.writes.items ≡ replicate things (length trace) → lists.reads.items ≡ replicate things (length trace) → lists.following.items ≡ replicate (length trace) (length trace) → lists.next_same.items ≡ replicate (length trace) (length trace) → AreListed trace (length trace) lists
 AreListed-start trace threads things lists a b c d f g = record {
   threads = IsListed-start trace thread_in threads lists.threads.items lists.following.items a;
-  handles = IsListed-start trace handled_in threads lists.handles.items lists.alike.items b;
-  writes = IsListed-start trace written_in things lists.writes.items lists.alike.items c;
-  reads = IsListed-start trace read_in things lists.reads.items lists.alike.items d;
+  handles = IsListed-start trace handled_in threads lists.handles.items lists.next_same.items b;
+  writes = IsListed-start trace written_in things lists.writes.items lists.next_same.items c;
+  reads = IsListed-start trace read_in things lists.reads.items lists.next_same.items d;
   following = IsRising-start trace lists.following.items f;
-  alike = IsRising-start trace lists.alike.items g;
+  next_same = IsRising-start trace lists.next_same.items g;
 }

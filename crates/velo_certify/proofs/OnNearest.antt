@@ -64,8 +64,8 @@ Edge-leads trace a b e = record {
 
 -- ---- the nearest
 
-module _ (trace : List Event) (far : List ℕ) (a n : ℕ) where
-  pub IsNearestSoFar-none : (nearest : Option ℕ) → ¬ LeadsInto trace a n → IsNearestSoFar trace far a n nearest → IsNearestSoFar trace far a (n + 1) nearest
+module _ (trace : List Event) (distance : List ℕ) (a n : ℕ) where
+  pub IsNearestSoFar-none : (nearest : Option ℕ) → ¬ LeadsInto trace a n → IsNearestSoFar trace distance a n nearest → IsNearestSoFar trace distance a (n + 1) nearest
   IsNearestSoFar-none None none w = record { none = λ i l h. ⊎_elim (λ g. w.none i g h) (λ g. absurd (none (subst (LeadsInto trace a) (let same : i ≡ n = omega (arith, g, l) in same) h))) (cases_lt i n) }
   IsNearestSoFar-none (Some b) none w = record {
     edge = w.edge;
@@ -73,40 +73,40 @@ module _ (trace : List Event) (far : List ℕ) (a n : ℕ) where
     nearest = λ i l h some. ⊎_elim (λ g. w.nearest i g h some) (λ g. absurd (none (subst (LeadsInto trace a) (let same : i ≡ n = omega (arith, g, l) in same) h))) (cases_lt i n);
   }
 
-  pub IsNearestSoFar-next : (nearest result : Option ℕ) → LeadsInto trace a n → IsWithNext far nearest (owner trace n) result → IsNearestSoFar trace far a n nearest → IsNearestSoFar trace far a (n + 1) result
+  pub IsNearestSoFar-next : (nearest result : Option ℕ) → LeadsInto trace a n → IsWithNext distance nearest (owner trace n) result → IsNearestSoFar trace distance a n nearest → IsNearestSoFar trace distance a (n + 1) result
   IsNearestSoFar-next nearest result leads next w = ⊎_elim
-      (λ none. subst (IsNearestSoFar trace far a (n + 1)) (sym (next.without none)) (stays nearest none w))
-      (λ other. let some : 0 < slice_index far (owner trace n) = ⊎_elim (λ l. l) (λ g. absurd (other (omega (arith, g)))) (cases_lt 0 (slice_index far (owner trace n))) in
+      (λ none. subst (IsNearestSoFar trace distance a (n + 1)) (sym (next.without none)) (stays nearest none w))
+      (λ other. let some : 0 < slice_index distance (owner trace n) = ⊎_elim (λ l. l) (λ g. absurd (other (omega (arith, g)))) (cases_lt 0 (slice_index distance (owner trace n))) in
       let v = next.with_distance some in
-      subst (IsNearestSoFar trace far a (n + 1)) (sym v.1) (changes nearest v.0 v.2 v.3 v.4 some w))
-      (cases_eq (slice_index far (owner trace n)) 0)
+      subst (IsNearestSoFar trace distance a (n + 1)) (sym v.1) (changes nearest v.0 v.2 v.3 v.4 some w))
+      (cases_eq (slice_index distance (owner trace n)) 0)
     where
-      stays : (o : Option ℕ) → slice_index far (owner trace n) ≡ 0 → IsNearestSoFar trace far a n o → IsNearestSoFar trace far a (n + 1) o
-      stays None none w = record { none = λ i l h. ⊎_elim (λ g. w.none i g h) (λ g. ap (λ k. slice_index far (owner trace k)) (let same : i ≡ n = omega (arith, g, l) in same) ∙ none) (cases_lt i n) }
+      stays : (o : Option ℕ) → slice_index distance (owner trace n) ≡ 0 → IsNearestSoFar trace distance a n o → IsNearestSoFar trace distance a (n + 1) o
+      stays None none w = record { none = λ i l h. ⊎_elim (λ g. w.none i g h) (λ g. ap (λ k. slice_index distance (owner trace k)) (let same : i ≡ n = omega (arith, g, l) in same) ∙ none) (cases_lt i n) }
       stays (Some b) none w = record {
         edge = w.edge;
         reached = w.reached;
-        nearest = λ i l h some. ⊎_elim (λ g. w.nearest i g h some) (λ g. absurd (let is = ap (λ k. slice_index far (owner trace k)) (let same : i ≡ n = omega (arith, g, l) in same) in omega (arith, is, none, some))) (cases_lt i n);
+        nearest = λ i l h some. ⊎_elim (λ g. w.nearest i g h some) (λ g. absurd (let is = ap (λ k. slice_index distance (owner trace k)) (let same : i ≡ n = omega (arith, g, l) in same) in omega (arith, is, none, some))) (cases_lt i n);
       }
 
-      changes : (o : Option ℕ) (r : ℕ) → slice_index far r ≤ slice_index far (owner trace n) → IfSome o (λ b. slice_index far r ≤ slice_index far b) → (r ≡ owner trace n) ⊎ (o ≡ Some r) → 0 < slice_index far (owner trace n) → IsNearestSoFar trace far a n o → IsNearestBelow trace far a (n + 1) r
+      changes : (o : Option ℕ) (r : ℕ) → slice_index distance r ≤ slice_index distance (owner trace n) → IfSome o (λ b. slice_index distance r ≤ slice_index distance b) → (r ≡ owner trace n) ⊎ (o ≡ Some r) → 0 < slice_index distance (owner trace n) → IsNearestSoFar trace distance a n o → IsNearestBelow trace distance a (n + 1) r
       changes None r near old either some w = record {
         edge = ⊎_elim (λ e. LeadsInto-edge trace a n r leads (sym e)) (λ e. absurd (none-some r e)) either;
-        reached = ⊎_elim (λ e. subst (λ x. 0 < slice_index far x) (sym e) some) (λ e. absurd (none-some r e)) either;
-        nearest = λ i l h has. ⊎_elim (λ g. absurd (let none = w.none i g h in omega (arith, none, has))) (λ g. let is = ap (λ k. slice_index far (owner trace k)) (let same : i ≡ n = omega (arith, g, l) in same) in omega (arith, is, near)) (cases_lt i n);
+        reached = ⊎_elim (λ e. subst (λ x. 0 < slice_index distance x) (sym e) some) (λ e. absurd (none-some r e)) either;
+        nearest = λ i l h has. ⊎_elim (λ g. absurd (let none = w.none i g h in omega (arith, none, has))) (λ g. let is = ap (λ k. slice_index distance (owner trace k)) (let same : i ≡ n = omega (arith, g, l) in same) in omega (arith, is, near)) (cases_lt i n);
       }
       changes (Some b) r near old either some w = record {
         edge = ⊎_elim (λ e. LeadsInto-edge trace a n r leads (sym e)) (λ e. subst (Edge trace a) (same_Some b r e) w.edge) either;
-        reached = ⊎_elim (λ e. subst (λ x. 0 < slice_index far x) (sym e) some) (λ e. subst (λ x. 0 < slice_index far x) (same_Some b r e) w.reached) either;
-        nearest = λ i l h has. ⊎_elim (λ g. let before = w.nearest i g h has in omega (arith, old, before)) (λ g. let is = ap (λ k. slice_index far (owner trace k)) (let same : i ≡ n = omega (arith, g, l) in same) in omega (arith, is, near)) (cases_lt i n);
+        reached = ⊎_elim (λ e. subst (λ x. 0 < slice_index distance x) (sym e) some) (λ e. subst (λ x. 0 < slice_index distance x) (same_Some b r e) w.reached) either;
+        nearest = λ i l h has. ⊎_elim (λ g. let before = w.nearest i g h has in omega (arith, old, before)) (λ g. let is = ap (λ k. slice_index distance (owner trace k)) (let same : i ≡ n = omega (arith, g, l) in same) in omega (arith, is, near)) (cases_lt i n);
       }
 
-pub IsNearestSoFar-end : (trace : List Event) (far : List ℕ) (a n : ℕ) (nearest : Option ℕ) → length trace ≤ n → IsNearestSoFar trace far a n nearest → MatchOption nearest ((b : ℕ) → Edge trace a b → slice_index far b ≡ 0) (IsNearest trace far a)
-IsNearestSoFar-end trace far a n None all w = λ b e. subst (λ x. slice_index far x ≡ 0) e.of_to (w.none e.to (let inside = e.in_trace in omega (arith, inside, all)) (Edge-leads trace a b e))
-IsNearestSoFar-end trace far a n (Some b) all w = record {
+pub IsNearestSoFar-end : (trace : List Event) (distance : List ℕ) (a n : ℕ) (nearest : Option ℕ) → length trace ≤ n → IsNearestSoFar trace distance a n nearest → MatchOption nearest ((b : ℕ) → Edge trace a b → slice_index distance b ≡ 0) (IsNearest trace distance a)
+IsNearestSoFar-end trace distance a n None all w = λ b e. subst (λ x. slice_index distance x ≡ 0) e.of_to (w.none e.to (let inside = e.in_trace in omega (arith, inside, all)) (Edge-leads trace a b e))
+IsNearestSoFar-end trace distance a n (Some b) all w = record {
   edge = w.edge;
   reached = w.reached;
-  nearest = λ c e some. subst (λ x. slice_index far b ≤ slice_index far x) e.of_to (w.nearest e.to (let inside = e.in_trace in omega (arith, inside, all)) (Edge-leads trace a c e) (subst (λ x. 0 < slice_index far x) (sym e.of_to) some));
+  nearest = λ c e some. subst (λ x. slice_index distance b ≤ slice_index distance x) e.of_to (w.nearest e.to (let inside = e.in_trace in omega (arith, inside, all)) (Edge-leads trace a c e) (subst (λ x. 0 < slice_index distance x) (sym e.of_to) some));
 }
 
 -- ---- whether an edge leads into a position

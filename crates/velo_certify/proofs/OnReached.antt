@@ -27,13 +27,13 @@ Grows-twice level old mid new v w = record {
   longer = let m = v.longer in let n = w.longer in omega (arith, m, n);
   same = λ i l. w.same i (let m = v.longer in omega (arith, l, m)) ∙ v.same i l;
   behind = λ i g l. ⊎_elim
-      (λ early. ap (slice_index new.far.items) (w.same i early) ∙ (let is = v.behind i g early in w.kept (slice_index mid.found.items i) (omega (arith, is)) ∙ is))
+      (λ early. ap (slice_index new.distance.items) (w.same i early) ∙ (let is = v.behind i g early in w.kept (slice_index mid.found.items i) (omega (arith, is)) ∙ is))
       (λ late. w.behind i late l)
       (cases_lt i (length mid.found.items));
   queued = λ b none has. ⊎_elim
       (λ z. w.queued b z has)
       (λ some. let (i, l, is) = v.queued b none some in (i, let m = w.longer in omega (arith, l, m), w.same i l ∙ is))
-      (cases_zero (slice_index mid.far.items b));
+      (cases_zero (slice_index mid.distance.items b));
 }
 
 pub LeadsNewTo-same : (b : ℕ) (reached : Reached) → LeadsNewTo b reached reached
@@ -42,5 +42,5 @@ LeadsNewTo-same b reached = record { kept = λ a had. refl; towards = λ a none 
 pub LeadsNewTo-twice : (level b : ℕ) (old mid new : Reached) → Grows level old mid → LeadsNewTo b old mid → LeadsNewTo b mid new → LeadsNewTo b old new
 LeadsNewTo-twice level b old mid new grown v w = record {
   kept = λ a had. w.kept a (let same = grown.kept a had in omega (arith, had, same)) ∙ v.kept a had;
-  towards = λ a none has. ⊎_elim (λ z. w.towards a z has) (λ some. w.kept a some ∙ v.towards a none some) (cases_zero (slice_index mid.far.items a));
+  towards = λ a none has. ⊎_elim (λ z. w.towards a z has) (λ some. w.kept a some ∙ v.towards a none some) (cases_zero (slice_index mid.distance.items a));
 }

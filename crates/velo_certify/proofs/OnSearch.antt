@@ -17,32 +17,32 @@ use Rattle.velo_certify.specs.declared.reached.Reached.{Reached}
 use Rattle.velo_certify.specs.Distances.{AreDistances, AreTowards}
 use Rattle.velo_certify.specs.Lists.{IsFirst, IsListed, AreListed, list_sizes}
 use Rattle.velo_certify.specs.Owners.{event_at}
-use Rattle.velo_certify.specs.Search.{IsStart, IsQueued, Grows, LeadsNewTo, AreOnLevel, IsSortedFrom, IsPassed, ArePassed, level_at, Passes, PassesConflicts, ExpandsBelow, Expands, IsSearched}
+use Rattle.velo_certify.specs.Search.{IsStart, IsQueued, Grows, LeadsNewTo, AreOnLevel, IsSortedFrom, IsVisited, AreVisited, level_at, Visits, VisitsConflicts, ExpandsBelow, Expands, IsSearched}
 use Rattle.velo_certify.specs.Table.{AllNameRows}
 use Rattle.velo_certify.specs.Threads.{thread_at, IsFirstFrom}
 use Rattle.velo_certify.proofs.OnGreatest.{passes-conflict, conflict-passes}
 use Rattle.velo_certify.proofs.OnLists.{here, about-named, named-about}
-use Rattle.velo_certify.proofs.OnPasses.{Grows-reached}
+use Rattle.velo_certify.proofs.OnVisits.{Grows-reached}
 use Rattle.velo_certify.proofs.OnReached.{cases_zero, Grows-same, Grows-twice, LeadsNewTo-same, LeadsNewTo-twice}
 use Rattle.velo_certify.proofs.OnThreads.{one-thread, own-thread, Follows, Follows-next}
 
--- ---- before anything is passed
+-- ---- before anything is visited
 
-IsPassed-start : (trace : List Event) (named : Event → Option ℕ) (far fronts following : List ℕ) → IsListed trace named 0 fronts following → IsPassed trace named far fronts following
-IsPassed-start trace named far fronts following w = record {
+IsVisited-start : (trace : List Event) (named : Event → Option ℕ) (distance fronts following : List ℕ) → IsListed trace named 0 fronts following → IsVisited trace named distance fronts following
+IsVisited-start trace named distance fronts following w = record {
   next = w.next;
   own = λ x l. (w.first x l).own;
-  passed = λ x i l upto h. absurd ((w.first x l).none i (omega arith) upto h);
+  visited = λ x i l upto h. absurd ((w.first x l).none i (omega arith) upto h);
 }
 
-pub ArePassed-start : (trace : List Event) (lists : Lists) (reached : Reached) → AreListed trace 0 lists → AllNameRows (list_sizes lists) trace (length trace) → length reached.far.items ≡ length trace → ArePassed trace lists reached
-ArePassed-start trace lists reached w names count = record {
-  threads = IsPassed-start trace thread_in reached.far.items lists.threads.items lists.following.items w.threads;
-  handles = IsPassed-start trace handled_in reached.far.items lists.handles.items lists.alike.items w.handles;
-  writes = IsPassed-start trace written_in reached.far.items lists.writes.items lists.alike.items w.writes;
-  reads = IsPassed-start trace read_in reached.far.items lists.reads.items lists.alike.items w.reads;
+pub AreVisited-start : (trace : List Event) (lists : Lists) (reached : Reached) → AreListed trace 0 lists → AllNameRows (list_sizes lists) trace (length trace) → length reached.distance.items ≡ length trace → AreVisited trace lists reached
+AreVisited-start trace lists reached w names count = record {
+  threads = IsVisited-start trace thread_in reached.distance.items lists.threads.items lists.following.items w.threads;
+  handles = IsVisited-start trace handled_in reached.distance.items lists.handles.items lists.next_same.items w.handles;
+  writes = IsVisited-start trace written_in reached.distance.items lists.writes.items lists.next_same.items w.writes;
+  reads = IsVisited-start trace read_in reached.distance.items lists.reads.items lists.next_same.items w.reads;
   following = w.following;
-  alike = w.alike;
+  next_same = w.next_same;
   names = names;
   count = count;
 }
@@ -58,7 +58,7 @@ first-of_thread trace t n j w = record {
 }
 
 -- the next position of the thread
-pub next-of_thread : (trace : List Event) (lists : Lists) (reached : Reached) (n : ℕ) → n < length trace → ArePassed trace lists reached → IsFirstFrom trace (thread_at trace n) (n + 1) (slice_index lists.following.items n)
+pub next-of_thread : (trace : List Event) (lists : Lists) (reached : Reached) (n : ℕ) → n < length trace → AreVisited trace lists reached → IsFirstFrom trace (thread_at trace n) (n + 1) (slice_index lists.following.items n)
 next-of_thread trace lists reached n within w =
     first-of_thread trace (thread_at trace n) (n + 1) (slice_index lists.following.items n)
     (w.threads.next.each n (thread_at trace n) (omega arith) (named-about trace thread_in (thread_at trace n) n (event_at trace n) (here trace n within) refl))
@@ -66,26 +66,26 @@ next-of_thread trace lists reached n within w =
 of-thread : (trace : List Event) (b j : ℕ) → j < length trace → owner trace j ≡ b → thread_at trace j ≡ thread_at trace b
 of-thread trace b j within own = sym (one-thread trace j within) ∙ ap (thread_at trace) own
 
-pub reached-within : (far : List ℕ) (a : ℕ) → 0 < slice_index far a → a < length far
-reached-within far a has = ⊎_elim (λ l. l) (λ g. absurd (let none = get_or_past far a 0 g in omega (arith, has, none))) (cases_lt a (length far))
+pub reached-within : (distance : List ℕ) (a : ℕ) → 0 < slice_index distance a → a < length distance
+reached-within distance a has = ⊎_elim (λ l. l) (λ g. absurd (let none = get_or_past distance a 0 g in omega (arith, has, none))) (cases_lt a (length distance))
 
 pub ExpandsBelow-start : (trace : List Event) (b : ℕ) (old : Reached) → ExpandsBelow trace b b old old
 ExpandsBelow-start trace b old = record {
-  grows = Grows-same (slice_index old.far.items b) old;
+  grows = Grows-same (slice_index old.distance.items b) old;
   leads = LeadsNewTo-same b old;
   found = λ a none has. absurd (omega (arith, none, has));
   all = λ i j before upto clash own. absurd (let most = owner-le trace j in omega (arith, most, own, upto));
 }
 
-module _ (trace : List Event) (b n : ℕ) (old now : Reached) (positive : 0 < slice_index old.far.items b) (follows : Follows trace b n) (v : ExpandsBelow trace b n old now) where
-  module _ (new : Reached) (k : ℕ) (within : n < length trace) (of_b : owner trace n ≡ b) (next : IsFirstFrom trace (thread_at trace n) (n + 1) k) (passes : PassesConflicts trace n now new) where
-    by_event : Passes trace n (λ f. conflict f (event_at trace n)) now new
-    by_event = passes.each (event_at trace n) (here trace n within)
+module _ (trace : List Event) (b n : ℕ) (old now : Reached) (positive : 0 < slice_index old.distance.items b) (follows : Follows trace b n) (v : ExpandsBelow trace b n old now) where
+  module _ (new : Reached) (k : ℕ) (within : n < length trace) (of_b : owner trace n ≡ b) (next : IsFirstFrom trace (thread_at trace n) (n + 1) k) (visits : VisitsConflicts trace n now new) where
+    by_event : Visits trace n (λ f. conflict f (event_at trace n)) now new
+    by_event = visits.each (event_at trace n) (here trace n within)
 
-    level : level_at trace now n ≡ slice_index old.far.items b
-    level = ap (slice_index now.far.items) of_b ∙ v.grows.kept b positive
+    level : level_at trace now n ≡ slice_index old.distance.items b
+    level = ap (slice_index now.distance.items) of_b ∙ v.grows.kept b positive
 
-    grown : Grows (slice_index old.far.items b) now new
+    grown : Grows (slice_index old.distance.items b) now new
     grown = subst (λ l. Grows l now new) level by_event.grows
 
     pub Follows-on : Follows trace b k
@@ -93,8 +93,8 @@ module _ (trace : List Event) (b n : ℕ) (old now : Reached) (positive : 0 < sl
 
     pub ExpandsBelow-next : ExpandsBelow trace b k old new
     ExpandsBelow-next = record {
-      grows = Grows-twice (slice_index old.far.items b) old now new v.grows grown;
-      leads = LeadsNewTo-twice (slice_index old.far.items b) b old now new v.grows v.leads (subst (λ c. LeadsNewTo c now new) of_b by_event.leads);
+      grows = Grows-twice (slice_index old.distance.items b) old now new v.grows grown;
+      leads = LeadsNewTo-twice (slice_index old.distance.items b) b old now new v.grows v.leads (subst (λ c. LeadsNewTo c now new) of_b by_event.leads);
       found = λ a none has. ⊎_elim
           (λ z.
           let is = by_event.reaches.found a z has in
@@ -108,13 +108,13 @@ module _ (trace : List Event) (b n : ℕ) (old now : Reached) (positive : 0 < sl
               in_conflict = conflict-passes trace n (event_at trace n) (here trace n within) i h;
               of_from = of_a;
               of_to = of_b;
-              differ = λ e. let same = ap (slice_index old.far.items) e in omega (arith, same, none, positive);
+              differ = λ e. let same = ap (slice_index old.distance.items) e in omega (arith, same, none, positive);
             },
           ))
           (λ some. let is = v.found a none some in (grown.kept a some ∙ is.0, is.1))
-          (cases_zero (slice_index now.far.items a));
+          (cases_zero (slice_index now.distance.items a));
       all = λ i j before upto clash own. ⊎_elim
-          (λ early. Grows-reached (slice_index old.far.items b) now new grown (owner trace i) (v.all i j before early clash own))
+          (λ early. Grows-reached (slice_index old.distance.items b) now new grown (owner trace i) (v.all i j before early clash own))
           (λ late. ⊎_elim
           (λ behind. absurd (let inside : j < length trace = let most = next.at_most in omega (arith, upto, most) in next.none j (omega (arith, behind)) upto (of-thread trace b j inside own ∙ sym (of-thread trace b n within of_b))))
           (λ g.
@@ -166,31 +166,31 @@ IsSearched-start trace target reached w = record {
   least = λ i a l. absurd (omega (arith, l));
 }
   where
-    one : (i : ℕ) → i < length reached.found.items → slice_index reached.far.items (slice_index reached.found.items i) ≡ 1
-    one i l = ap (slice_index reached.far.items) (w.alone (slice_index reached.found.items i) (reached.queue.each i l)) ∙ w.begins
+    one : (i : ℕ) → i < length reached.found.items → slice_index reached.distance.items (slice_index reached.found.items i) ≡ 1
+    one i l = ap (slice_index reached.distance.items) (w.alone (slice_index reached.found.items i) (reached.queue.each i l)) ∙ w.begins
 
 module _ (trace : List Event) (target k : ℕ) (old new : Reached) (w : IsSearched trace target k old) (inside : k < length old.found.items) (x : Expands trace (slice_index old.found.items k) old new) where
   abbrev b : ℕ
   b = slice_index old.found.items k
 
   abbrev d : ℕ
-  d = slice_index old.far.items b
+  d = slice_index old.distance.items b
 
   positive : 0 < d
   positive = old.queue.each k inside
 
   -- what was in the queue is as it was
-  numbered : (i : ℕ) → i < length old.found.items → slice_index new.far.items (slice_index new.found.items i) ≡ slice_index old.far.items (slice_index old.found.items i)
-  numbered i l = ap (slice_index new.far.items) (x.grows.same i l) ∙ x.grows.kept (slice_index old.found.items i) (old.queue.each i l)
+  numbered : (i : ℕ) → i < length old.found.items → slice_index new.distance.items (slice_index new.found.items i) ≡ slice_index old.distance.items (slice_index old.found.items i)
+  numbered i l = ap (slice_index new.distance.items) (x.grows.same i l) ∙ x.grows.kept (slice_index old.found.items i) (old.queue.each i l)
 
-  top : (i : ℕ) → i < length new.found.items → slice_index new.far.items (slice_index new.found.items i) ≤ d + 1
+  top : (i : ℕ) → i < length new.found.items → slice_index new.distance.items (slice_index new.found.items i) ≤ d + 1
   top i l = ⊎_elim (λ early. let is = numbered i early in let most = w.close i early inside in omega (arith, is, most)) (λ late. let is = x.grows.behind i late l in omega (arith, is)) (cases_lt i (length old.found.items))
 
-  top_reached : (a : ℕ) → 0 < slice_index new.far.items a → slice_index new.far.items a ≤ d + 1
+  top_reached : (a : ℕ) → 0 < slice_index new.distance.items a → slice_index new.distance.items a ≤ d + 1
   top_reached a has = ⊎_elim
       (λ none. let is = (x.found a none has).0 in omega (arith, is))
-      (λ had. let (i, l, is) = w.queued a had in let kept = x.grows.kept a had in let same = ap (slice_index old.far.items) is in let most = w.close i l inside in omega (arith, kept, same, most))
-      (cases_zero (slice_index old.far.items a))
+      (λ had. let (i, l, is) = w.queued a had in let kept = x.grows.kept a had in let same = ap (slice_index old.distance.items) is in let most = w.close i l inside in omega (arith, kept, same, most))
+      (cases_zero (slice_index old.distance.items a))
 
   pub IsSearched-next : IsSearched trace target (k + 1) new
   IsSearched-next = record {
@@ -199,34 +199,34 @@ module _ (trace : List Event) (target k : ℕ) (old new : Reached) (w : IsSearch
     alone = λ a is. ⊎_elim
         (λ none. absurd (let fresh = (x.found a none (omega (arith, is))).0 in omega (arith, fresh, is, positive)))
         (λ had. w.alone a (sym (x.grows.kept a had) ∙ is))
-        (cases_zero (slice_index old.far.items a));
+        (cases_zero (slice_index old.distance.items a));
     towards = record {
       edges = λ a has other. ⊎_elim
           (λ none. subst (Edge trace a) (sym (x.leads.towards a none has)) (x.found a none has).1)
           (λ had. subst (Edge trace a) (sym (x.leads.kept a had)) (w.towards.edges a had other))
-          (cases_zero (slice_index old.far.items a));
+          (cases_zero (slice_index old.distance.items a));
       nearer = record {
         each = λ a has other. ⊎_elim
             (λ none.
             let first = (x.found a none has).0 in
-            let there = ap (slice_index new.far.items) (x.leads.towards a none has) in
+            let there = ap (slice_index new.distance.items) (x.leads.towards a none has) in
             let kept = x.grows.kept b positive in
             (omega (arith, there, kept, positive), omega (arith, there, kept, first)))
             (λ had.
             let near = w.towards.nearer.each a had other in
-            let there = ap (slice_index new.far.items) (x.leads.kept a had) in
+            let there = ap (slice_index new.distance.items) (x.leads.kept a had) in
             let one = x.grows.kept a had in
             let kept = x.grows.kept (slice_index old.next.items a) near.0 in
             let some = near.0 in
             let less = near.1 in
             (omega (arith, there, kept, some), omega (arith, there, kept, one, less)))
-            (cases_zero (slice_index old.far.items a));
+            (cases_zero (slice_index old.distance.items a));
       };
     };
     queued = λ a has. ⊎_elim
         (λ none. x.grows.queued a none has)
         (λ had. let (i, l, is) = w.queued a had in (i, let more = x.grows.longer in omega (arith, l, more), x.grows.same i l ∙ is))
-        (cases_zero (slice_index old.far.items a));
+        (cases_zero (slice_index old.distance.items a));
     sorted = λ i j l h. ⊎_elim
         (λ early. let p = numbered i (omega (arith, l, early)) in let q = numbered j early in let most = w.sorted i j l early in omega (arith, p, q, most))
         (λ late. let is = x.grows.behind j late h in let most = top i (omega (arith, l, h)) in omega (arith, is, most))
@@ -245,29 +245,29 @@ module _ (trace : List Event) (target k : ℕ) (old new : Reached) (w : IsSearch
         (λ late.
         let at_k : i ≡ k = omega (arith, late, l) in
         let of_b : slice_index new.found.items i ≡ b = ap (slice_index new.found.items) at_k ∙ x.grows.same k inside in
-        let has : 0 < slice_index new.far.items a = subst (λ c. 0 < slice_index new.far.items c) e.of_from (x.all e.from e.to e.in_order e.in_trace e.in_conflict (e.of_to ∙ of_b)) in
+        let has : 0 < slice_index new.distance.items a = subst (λ c. 0 < slice_index new.distance.items c) e.of_from (x.all e.from e.to e.in_order e.in_trace e.in_conflict (e.of_to ∙ of_b)) in
         let most = top_reached a has in
-        let same = ap (slice_index new.far.items) of_b in
+        let same = ap (slice_index new.distance.items) of_b in
         let kept = x.grows.kept b positive in
         (has, omega (arith, most, same, kept)))
         (cases_lt i k);
   }
 
-pub AreDistances-end : (trace : List Event) (target k : ℕ) (reached : Reached) → IsSearched trace target k reached → length reached.found.items ≤ k → AreDistances trace target reached.far.items
+pub AreDistances-end : (trace : List Event) (target k : ℕ) (reached : Reached) → IsSearched trace target k reached → length reached.found.items ≤ k → AreDistances trace target reached.distance.items
 AreDistances-end trace target k reached w end = record {
   count = w.count;
   begins = w.begins;
   alone = w.alone;
   step = λ a d is.
-      let near = w.towards.nearer.each a (omega (arith, is)) (λ e. let same = ap (slice_index reached.far.items) e in let one = w.begins in omega (arith, same, one, is)) in (
+      let near = w.towards.nearer.each a (omega (arith, is)) (λ e. let same = ap (slice_index reached.distance.items) e in let one = w.begins in omega (arith, same, one, is)) in (
         slice_index reached.next.items a,
-        w.towards.edges a (omega (arith, is)) (λ e. let same = ap (slice_index reached.far.items) e in let one = w.begins in omega (arith, same, one, is)),
-        let less = near.1 in let at_d : slice_index reached.far.items (slice_index reached.next.items a) ≡ suc d = omega (arith, less, is) in at_d,
+        w.towards.edges a (omega (arith, is)) (λ e. let same = ap (slice_index reached.distance.items) e in let one = w.begins in omega (arith, same, one, is)),
+        let less = near.1 in let at_d : slice_index reached.distance.items (slice_index reached.next.items a) ≡ suc d = omega (arith, less, is) in at_d,
       );
   least = λ a b e some.
       let (i, l, is) = w.queued b some in
       let v = w.least i a (omega (arith, l, end)) l (subst (Edge trace a) (sym is) e) in
-      let same = ap (slice_index reached.far.items) is in
+      let same = ap (slice_index reached.distance.items) is in
       (v.0, let most = v.1 in omega (arith, most, same));
 }
 
@@ -279,15 +279,15 @@ AreOnLevel-sorted from old new inside s w = record {
   each = λ i g l. one i g (let n = s.found.count in omega (arith, l, n)) ∙ sym (one from (omega arith) inside);
 }
   where
-    one : (i : ℕ) → from ≤ i → i < length old.found.items → slice_index new.far.items (slice_index new.found.items i) ≡ slice_index old.far.items (slice_index old.found.items from)
-    one i g l = let (j, h, m, is) = s.found.has i g l in ap (λ xs. slice_index xs (slice_index new.found.items i)) s.far ∙ (ap (slice_index old.far.items) is ∙ w.each j h m)
+    one : (i : ℕ) → from ≤ i → i < length old.found.items → slice_index new.distance.items (slice_index new.found.items i) ≡ slice_index old.distance.items (slice_index old.found.items from)
+    one i g l = let (j, h, m, is) = s.found.has i g l in ap (λ xs. slice_index xs (slice_index new.found.items i)) s.distance ∙ (ap (slice_index old.distance.items) is ∙ w.each j h m)
 
 pub IsSearched-sorted : (trace : List Event) (target from : ℕ) (old new : Reached) → from < length old.found.items → IsSortedFrom from old new → AreOnLevel old from → IsSearched trace target from old → IsSearched trace target from new
 IsSearched-sorted trace target from old new inside s level w = record {
-  count = ap length s.far ∙ w.count;
+  count = ap length s.distance ∙ w.count;
   begins = same target ∙ w.begins;
   alone = λ a is. w.alone a (sym (same a) ∙ is);
-  towards = subst (λ far. AreTowards trace target far new.next.items) (sym s.far) (subst (AreTowards trace target old.far.items) (sym s.next) w.towards);
+  towards = subst (λ distance. AreTowards trace target distance new.next.items) (sym s.distance) (subst (AreTowards trace target old.distance.items) (sym s.next) w.towards);
   queued = λ a has.
       let (i, l, is) = w.queued a (let e = same a in omega (arith, has, e)) in
       ⊎_elim (λ early. (i, let n = s.found.count in omega (arith, l, n), s.found.before i early ∙ is)) (λ late. let (j, g, m, there) = s.found.kept i late l in (j, let n = s.found.count in omega (arith, m, n), there ∙ is)) (cases_lt i from);
@@ -309,19 +309,19 @@ IsSearched-sorted trace target from old new inside s level w = record {
       (let some = v.0 in omega (arith, some, y), let most = v.1 in omega (arith, most, x, y));
 }
   where
-    same : (a : ℕ) → slice_index new.far.items a ≡ slice_index old.far.items a
-    same a = ap (λ xs. slice_index xs a) s.far
+    same : (a : ℕ) → slice_index new.distance.items a ≡ slice_index old.distance.items a
+    same a = ap (λ xs. slice_index xs a) s.distance
 
-    early_one : (i : ℕ) → i < from → slice_index new.far.items (slice_index new.found.items i) ≡ slice_index old.far.items (slice_index old.found.items i)
-    early_one i l = same (slice_index new.found.items i) ∙ ap (slice_index old.far.items) (s.found.before i l)
+    early_one : (i : ℕ) → i < from → slice_index new.distance.items (slice_index new.found.items i) ≡ slice_index old.distance.items (slice_index old.found.items i)
+    early_one i l = same (slice_index new.found.items i) ∙ ap (slice_index old.distance.items) (s.found.before i l)
 
-    late_one : (i : ℕ) → from ≤ i → i < length old.found.items → slice_index new.far.items (slice_index new.found.items i) ≡ slice_index old.far.items (slice_index old.found.items from)
-    late_one i g l = let (j, h, m, is) = s.found.has i g l in same (slice_index new.found.items i) ∙ (ap (slice_index old.far.items) is ∙ level.each j h m)
+    late_one : (i : ℕ) → from ≤ i → i < length old.found.items → slice_index new.distance.items (slice_index new.found.items i) ≡ slice_index old.distance.items (slice_index old.found.items from)
+    late_one i g l = let (j, h, m, is) = s.found.has i g l in same (slice_index new.found.items i) ∙ (ap (slice_index old.distance.items) is ∙ level.each j h m)
 
 -- only the target is on the first level
 pub AreOnLevel-start : (count target : ℕ) (reached : Reached) → IsStart count target reached → AreOnLevel reached 0
 AreOnLevel-start count target reached w = record {
-  each = λ i g l. ap (slice_index reached.far.items) (w.alone (slice_index reached.found.items i) (reached.queue.each i l) ∙ sym (w.alone (slice_index reached.found.items 0) (reached.queue.each 0 (omega (arith, l)))));
+  each = λ i g l. ap (slice_index reached.distance.items) (w.alone (slice_index reached.found.items i) (reached.queue.each i l) ∙ sym (w.alone (slice_index reached.found.items 0) (reached.queue.each 0 (omega (arith, l)))));
 }
 
 -- what the transactions of one level reach is on the next one
@@ -329,9 +329,9 @@ pub AreOnLevel-end : (level : ℕ) (old new : Reached) → Grows level old new �
 AreOnLevel-end level old new w = record { each = λ i g l. w.behind i g l ∙ sym (w.behind (length old.found.items) (omega arith) (omega (arith, g, l))) }
 
 -- one transaction of the level more
-module _ (trace : List Event) (begin k : ℕ) (old now new : Reached) (level : AreOnLevel old begin) (from : begin ≤ k) (inside : k < length old.found.items) (grown : Grows (slice_index old.far.items (slice_index old.found.items begin)) old now) (x : Expands trace (slice_index now.found.items k) now new) where
-  level_is : slice_index now.far.items (slice_index now.found.items k) ≡ slice_index old.far.items (slice_index old.found.items begin)
-  level_is = ap (slice_index now.far.items) (grown.same k inside) ∙ (grown.kept (slice_index old.found.items k) (old.queue.each k inside) ∙ level.each k from inside)
+module _ (trace : List Event) (begin k : ℕ) (old now new : Reached) (level : AreOnLevel old begin) (from : begin ≤ k) (inside : k < length old.found.items) (grown : Grows (slice_index old.distance.items (slice_index old.found.items begin)) old now) (x : Expands trace (slice_index now.found.items k) now new) where
+  level_is : slice_index now.distance.items (slice_index now.found.items k) ≡ slice_index old.distance.items (slice_index old.found.items begin)
+  level_is = ap (slice_index now.distance.items) (grown.same k inside) ∙ (grown.kept (slice_index old.found.items k) (old.queue.each k inside) ∙ level.each k from inside)
 
-  pub Grows-level : Grows (slice_index old.far.items (slice_index old.found.items begin)) old new
-  Grows-level = Grows-twice (slice_index old.far.items (slice_index old.found.items begin)) old now new grown (subst (λ l. Grows l now new) level_is x.grows)
+  pub Grows-level : Grows (slice_index old.distance.items (slice_index old.found.items begin)) old new
+  Grows-level = Grows-twice (slice_index old.distance.items (slice_index old.found.items begin)) old now new grown (subst (λ l. Grows l now new) level_is x.grows)

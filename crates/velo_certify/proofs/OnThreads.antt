@@ -302,7 +302,7 @@ module _ (trace : List Event) (listed : List Bool) where
       }
         where
           least : (next : Next) → IsFalse (is_before next a) → (fronts : List ℕ) (n : ℕ) → IsNextSoFar trace listed fronts n next → (t : ℕ) → t < n → slice_index fronts t < length trace → IsFree trace listed (slice_index fronts t) → a ≤ slice_index fronts t
-          least (Ready b) after fronts n h t l within f = let far = h.2 t l within f in let most = ltb-false b a after in omega (arith, far, most)
+          least (Ready b) after fronts n h t l within f = let distance = h.2 t l within f in let most = ltb-false b a after in omega (arith, distance, most)
           least Stuck after fronts n h t l within f = absurd (h.1 t l within f)
           least Done after fronts n h t l within f = absurd (h t l within)
 

@@ -40,12 +40,12 @@ IsLastFault trace start NotThere = ⊥
 IsLastFault trace start Memory = GrowthRefused
 
 -- the walk has come from the start, by the list, to the present transaction, and with the way back it is as long as it can be
-pub record WalksBack (trace : List Event) (far : List ℕ) (start second : ℕ) (cycle : List ℕ) (present : ℕ) : Type 0 where
+pub record WalksBack (trace : List Event) (distance : List ℕ) (start second : ℕ) (cycle : List ℕ) (present : ℕ) : Type 0 where
   pub between : List ℕ
   pub items : cycle ≡ start ∷ between
   pub path : Path (Edge trace) start between present
-  pub steps : length between + slice_index far present ≡ slice_index far second
-  pub reached : 0 < slice_index far present
+  pub steps : length between + slice_index distance present ≡ slice_index distance second
+  pub reached : 0 < slice_index distance present
 
 -- what comes next in a list, where its first comes after its last
 abbrev pub next_in : List ℕ → ℕ → ℕ

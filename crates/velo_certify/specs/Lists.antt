@@ -39,8 +39,8 @@ list_sizes lists = record {
 -- the positions from n on are in the lists
 pub record AreListed (trace : List Event) (n : ℕ) (lists : Lists) : Type 0 where
   pub threads : IsListed trace thread_in n lists.threads.items lists.following.items
-  pub handles : IsListed trace handled_in n lists.handles.items lists.alike.items
-  pub writes : IsListed trace written_in n lists.writes.items lists.alike.items
-  pub reads : IsListed trace read_in n lists.reads.items lists.alike.items
+  pub handles : IsListed trace handled_in n lists.handles.items lists.next_same.items
+  pub writes : IsListed trace written_in n lists.writes.items lists.next_same.items
+  pub reads : IsListed trace read_in n lists.reads.items lists.next_same.items
   pub following : IsRising trace lists.following.items
-  pub alike : IsRising trace lists.alike.items
+  pub next_same : IsRising trace lists.next_same.items

@@ -17,24 +17,24 @@ pub record LeadsInto (trace : List Event) (a n : ℕ) : Type 0 where
   pub differ : a ≢ owner trace n
 
 -- of what the transaction has an edge to and has a distance, this is the nearest
-pub record IsNearest (trace : List Event) (far : List ℕ) (a b : ℕ) : Type 0 where
+pub record IsNearest (trace : List Event) (distance : List ℕ) (a b : ℕ) : Type 0 where
   pub edge : Edge trace a b
-  pub reached : 0 < slice_index far b
-  pub nearest : (c : ℕ) → Edge trace a c → 0 < slice_index far c → slice_index far b ≤ slice_index far c
+  pub reached : 0 < slice_index distance b
+  pub nearest : (c : ℕ) → Edge trace a c → 0 < slice_index distance c → slice_index distance b ≤ slice_index distance c
 
 -- the same of the edges that lead into positions below n
-pub record IsNearestBelow (trace : List Event) (far : List ℕ) (a n b : ℕ) : Type 0 where
+pub record IsNearestBelow (trace : List Event) (distance : List ℕ) (a n b : ℕ) : Type 0 where
   pub edge : Edge trace a b
-  pub reached : 0 < slice_index far b
-  pub nearest : (i : ℕ) → i < n → LeadsInto trace a i → 0 < slice_index far (owner trace i) → slice_index far b ≤ slice_index far (owner trace i)
+  pub reached : 0 < slice_index distance b
+  pub nearest : (i : ℕ) → i < n → LeadsInto trace a i → 0 < slice_index distance (owner trace i) → slice_index distance b ≤ slice_index distance (owner trace i)
 
-pub record IsNoneBelow (trace : List Event) (far : List ℕ) (a n : ℕ) : Type 0 where
-  pub none : (i : ℕ) → i < n → LeadsInto trace a i → slice_index far (owner trace i) ≡ 0
+pub record IsNoneBelow (trace : List Event) (distance : List ℕ) (a n : ℕ) : Type 0 where
+  pub none : (i : ℕ) → i < n → LeadsInto trace a i → slice_index distance (owner trace i) ≡ 0
 
 abbrev pub IsNearestSoFar : List Event → List ℕ → ℕ → ℕ → Option ℕ → Type 0
-IsNearestSoFar trace far a n nearest = MatchOption nearest (IsNoneBelow trace far a n) (IsNearestBelow trace far a n)
+IsNearestSoFar trace distance a n nearest = MatchOption nearest (IsNoneBelow trace distance a n) (IsNearestBelow trace distance a n)
 
 -- a transaction without a distance changes nothing; otherwise the answer is as near as both
-pub record IsWithNext (far : List ℕ) (nearest : Option ℕ) (next : ℕ) (result : Option ℕ) : Type 0 where
-  pub without : slice_index far next ≡ 0 → result ≡ nearest
-  pub with_distance : 0 < slice_index far next → (r : ℕ) × (result ≡ Some r) × (slice_index far r ≤ slice_index far next) × IfSome nearest (λ b. slice_index far r ≤ slice_index far b) × ((r ≡ next) ⊎ (nearest ≡ Some r))
+pub record IsWithNext (distance : List ℕ) (nearest : Option ℕ) (next : ℕ) (result : Option ℕ) : Type 0 where
+  pub without : slice_index distance next ≡ 0 → result ≡ nearest
+  pub with_distance : 0 < slice_index distance next → (r : ℕ) × (result ≡ Some r) × (slice_index distance r ≤ slice_index distance next) × IfSome nearest (λ b. slice_index distance r ≤ slice_index distance b) × ((r ≡ next) ⊎ (nearest ≡ Some r))

@@ -29,9 +29,9 @@ fn cycle_through(
     start: usize,
     second: usize,
 ) -> Result<Vec<usize>, Memory>
-    requires nearer { AreNearer start reached.now.far.items reached.now.next.items }
-    requires second { 0 < slice_index reached.now.far.items second }
-    ensures cycle { IfOk result (λ cycle. (trace : List Event) → AreDistances trace start reached.now.far.items → AreTowards trace start reached.now.far.items reached.now.next.items → IsNearest trace reached.now.far.items start second → IsShortestFrom trace start cycle.items) }
+    requires nearer { AreNearer start reached.now.distance.items reached.now.next.items }
+    requires second { 0 < slice_index reached.now.distance.items second }
+    ensures cycle { IfOk result (λ cycle. (trace : List Event) → AreDistances trace start reached.now.distance.items → AreTowards trace start reached.now.distance.items reached.now.next.items → IsNearest trace reached.now.distance.items start second → IsShortestFrom trace start cycle.items) }
     ensures memory { OnErr result GrowthRefused }
 {
     let mut cycle = Vec::new(alloc);
@@ -56,7 +56,7 @@ fn last_cycle(alloc: Global, events: &[Event]) -> Result<Vec<usize>, CertFault>
     let start = owner_of(events, &owners, events.len() - 1);
     let reached = reach_target(alloc, events, &owners, start)?;
     let mut table = Table::new(alloc, events)?;
-    match nearest_next(events, &owners, &mut table, &reached.far, start) {
+    match nearest_next(events, &owners, &mut table, &reached.distance, start) {
         Some(second) => Ok(cycle_through(alloc, &reached, start, second)?),
         None => Err(CertFault::NoCycle),
     }

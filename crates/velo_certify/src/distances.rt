@@ -3,7 +3,7 @@ ghost use Rattle.std.specs.Prelude.{◌≡◌, ◌<◌, ℕ, length, slice_index
 ghost use Rattle.velo_events.specs.Refusals.{GrowthRefused};
 ghost use Rattle.velo_certify.specs.Owners.{AreOwners};
 ghost use Rattle.velo_certify.specs.Distances.{AreDistances, AreTowards};
-ghost use Rattle.velo_certify.specs.Search.{AreOnLevel, ArePassed, Expands, IsSearched};
+ghost use Rattle.velo_certify.specs.Search.{AreOnLevel, AreVisited, Expands, IsSearched};
 
 use crate::lists::Lists;
 use crate::owners::owner_of;
@@ -20,14 +20,14 @@ fn expand(
     transaction: usize,
 )
     requires owners { AreOwners owners.now events.now }
-    requires lists { ArePassed events.now lists.old reached.old }
-    requires positive { 0 < slice_index reached.old.far.items transaction }
-    ensures lists { ArePassed events.now lists.new reached.new }
+    requires lists { AreVisited events.now lists.old reached.old }
+    requires positive { 0 < slice_index reached.old.distance.items transaction }
+    ensures lists { AreVisited events.now lists.new reached.new }
     ensures expands { Expands events.now transaction reached.old reached.new }
 {
     let mut at = transaction;
     while at < events.len() && owner_of(events, owners, at) == transaction {
-        lists.pass_conflicts(events, owners, reached, at);
+        lists.visit_conflicts(events, owners, reached, at);
         at = lists.following[at];
     }
 }
@@ -41,10 +41,10 @@ fn expand_level(
     begin: usize,
 )
     requires owners { AreOwners owners.now events.now }
-    requires lists { ArePassed events.now lists.old reached.old }
+    requires lists { AreVisited events.now lists.old reached.old }
     requires begin { begin < length reached.old.found.items }
     requires level { AreOnLevel reached.old begin }
-    ensures lists { ArePassed events.now lists.new reached.new }
+    ensures lists { AreVisited events.now lists.new reached.new }
     ensures searched { (target : ℕ) → IsSearched events.now target begin reached.old → IsSearched events.now target (length reached.old.found.items) reached.new }
     ensures level { AreOnLevel reached.new (length reached.old.found.items) }
 {
@@ -68,8 +68,8 @@ pub(crate) fn reach_target(
 ) -> Result<Reached, Memory>
     requires owners { AreOwners owners.now events.now }
     requires target { target < length events.now }
-    ensures distances { IfOk result (λ reached. AreDistances events.now target reached.far.items) }
-    ensures next { IfOk result (λ reached. AreTowards events.now target reached.far.items reached.next.items) }
+    ensures distances { IfOk result (λ reached. AreDistances events.now target reached.distance.items) }
+    ensures next { IfOk result (λ reached. AreTowards events.now target reached.distance.items reached.next.items) }
     ensures memory { OnErr result GrowthRefused }
 {
     let mut lists = Lists::new(alloc, events)?;

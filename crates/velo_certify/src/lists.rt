@@ -1,9 +1,9 @@
-//! The positions in rising lists, by what their events are about, and a search that passes each list from its front.
+//! The positions in rising lists, by what their events are about, and a search that visits each list from its front.
 ghost use Rattle.std.specs.Prelude.{◌≡◌, ◌≤◌, ◌<◌, ◌+◌, length, slice_index, slice_set, IfOk, OnErr};
 ghost use Rattle.velo_events.specs.Refusals.{GrowthRefused};
 ghost use Rattle.velo_certify.specs.Lists.{AreListed, IsRising, list_sizes};
 ghost use Rattle.velo_certify.specs.Owners.{AreOwners};
-ghost use Rattle.velo_certify.specs.Search.{ArePassed, IsSearching, Passes, PassesConflicts, PassesList, level_at};
+ghost use Rattle.velo_certify.specs.Search.{AreVisited, IsSearching, Visits, VisitsConflicts, VisitsList, level_at};
 ghost use Rattle.velo_certify.specs.Table.{AllNameRows, is_about, thread_in, handled_in, written_in, read_in};
 
 use crate::counts::counts_of;
@@ -12,7 +12,7 @@ use std::alloc::Global;
 use velo_events::growth::filled;
 use velo_events::{Access, Event, Memory};
 
-/// The fronts: for each list its first position that was not passed. What follows: for each position the next one in its
+/// The fronts: for each list its first position that was not visited. What follows: for each position the next one in its
 /// list. A place that is not there is the number of positions.
 #[derive(Drop)]
 pub(crate) struct Lists {
@@ -27,7 +27,7 @@ pub(crate) struct Lists {
     /// What follows each position in the list of its thread.
     pub following: Vec<usize>,
     /// What follows it in its other list, if it is in one.
-    alike: Vec<usize>,
+    next_same: Vec<usize>,
 }
 
 /// Puts a position at the front of a list.
@@ -41,8 +41,8 @@ fn put_first(fronts: &mut Vec<usize>, following: &mut Vec<usize>, thing: usize, 
     fronts[thing] = at;
 }
 
-/// Passes the positions of a list that are before the one at hand, and reaches their transactions.
-fn pass_list(
+/// Visits the positions of a list that are before the one at hand, and reaches their transactions.
+fn visit_list(
     events: &[Event],
     owners: &[usize],
     reached: &mut Reached,
@@ -53,11 +53,11 @@ fn pass_list(
 )
     requires within { at < length events.now }
     requires owners { AreOwners owners.now events.now }
-    requires count { length reached.old.far.items ≡ length events.now }
+    requires count { length reached.old.distance.items ≡ length events.now }
     requires positive { 0 < level_at events.now reached.old at }
     requires rising { IsRising events.now following.now }
     requires thing { thing < length fronts.old.items }
-    ensures { PassesList events.now at thing following.now fronts.old.items fronts.new.items reached.old reached.new }
+    ensures { VisitsList events.now at thing following.now fronts.old.items fronts.new.items reached.old reached.new }
 {
     let mut front = fronts[thing];
     while front < at {
@@ -68,7 +68,7 @@ fn pass_list(
 }
 
 impl Lists {
-    /// The lists of the events, none of which is passed.
+    /// The lists of the events, none of which is visited.
     ///
     /// # Errors
     /// `Memory` where a growth was refused.
@@ -85,7 +85,7 @@ impl Lists {
             writes: filled(alloc, none, counts.cells)?,
             reads: filled(alloc, none, counts.cells)?,
             following: filled(alloc, none, none)?,
-            alike: filled(alloc, none, none)?,
+            next_same: filled(alloc, none, none)?,
         };
         let mut at = none;
         while at > 0 {
@@ -111,11 +111,16 @@ impl Lists {
             at,
         );
         match event.kind.access() {
-            Access::Shared(c) => put_first(&mut self.reads, &mut self.alike, c.0 as usize, at),
-            Access::Exclusive(c) => put_first(&mut self.writes, &mut self.alike, c.0 as usize, at),
+            Access::Shared(c) => put_first(&mut self.reads, &mut self.next_same, c.0 as usize, at),
+            Access::Exclusive(c) => put_first(
+                &mut self.writes,
+                &mut self.next_same,
+                c.0 as usize,
+                at,
+            ),
             Access::Fork(u) | Access::Join(u) => put_first(
                 &mut self.handles,
-                &mut self.alike,
+                &mut self.next_same,
                 u.0 as usize,
                 at,
             ),
@@ -123,8 +128,8 @@ impl Lists {
         }
     }
 
-    /// Passes the events of a thread.
-    fn pass_thread(
+    /// Visits the events of a thread.
+    fn visit_thread(
         &mut self,
         events: &[Event],
         owners: &[usize],
@@ -136,9 +141,9 @@ impl Lists {
         requires thing { thread < length self.old.threads.items }
         ensures search { IsSearching events.now owners.now self.new reached.new at }
         ensures sizes { list_sizes self.new ≡ list_sizes self.old }
-        ensures passes { Passes events.now at (is_about thread_in thread) reached.old reached.new }
+        ensures visits { Visits events.now at (is_about thread_in thread) reached.old reached.new }
     {
-        pass_list(
+        visit_list(
             events,
             owners,
             reached,
@@ -149,8 +154,8 @@ impl Lists {
         );
     }
 
-    /// Passes the forks and joins of a thread.
-    fn pass_handle(
+    /// Visits the forks and joins of a thread.
+    fn visit_handle(
         &mut self,
         events: &[Event],
         owners: &[usize],
@@ -162,21 +167,21 @@ impl Lists {
         requires thing { thread < length self.old.handles.items }
         ensures search { IsSearching events.now owners.now self.new reached.new at }
         ensures sizes { list_sizes self.new ≡ list_sizes self.old }
-        ensures passes { Passes events.now at (is_about handled_in thread) reached.old reached.new }
+        ensures visits { Visits events.now at (is_about handled_in thread) reached.old reached.new }
     {
-        pass_list(
+        visit_list(
             events,
             owners,
             reached,
             &mut self.handles,
-            &self.alike,
+            &self.next_same,
             thread,
             at,
         );
     }
 
-    /// Passes the writes of a cell.
-    fn pass_writes(
+    /// Visits the writes of a cell.
+    fn visit_writes(
         &mut self,
         events: &[Event],
         owners: &[usize],
@@ -188,21 +193,21 @@ impl Lists {
         requires thing { cell < length self.old.writes.items }
         ensures search { IsSearching events.now owners.now self.new reached.new at }
         ensures sizes { list_sizes self.new ≡ list_sizes self.old }
-        ensures passes { Passes events.now at (is_about written_in cell) reached.old reached.new }
+        ensures visits { Visits events.now at (is_about written_in cell) reached.old reached.new }
     {
-        pass_list(
+        visit_list(
             events,
             owners,
             reached,
             &mut self.writes,
-            &self.alike,
+            &self.next_same,
             cell,
             at,
         );
     }
 
-    /// Passes its reads.
-    fn pass_reads(
+    /// Visits its reads.
+    fn visit_reads(
         &mut self,
         events: &[Event],
         owners: &[usize],
@@ -214,21 +219,21 @@ impl Lists {
         requires thing { cell < length self.old.reads.items }
         ensures search { IsSearching events.now owners.now self.new reached.new at }
         ensures sizes { list_sizes self.new ≡ list_sizes self.old }
-        ensures passes { Passes events.now at (is_about read_in cell) reached.old reached.new }
+        ensures visits { Visits events.now at (is_about read_in cell) reached.old reached.new }
     {
-        pass_list(
+        visit_list(
             events,
             owners,
             reached,
             &mut self.reads,
-            &self.alike,
+            &self.next_same,
             cell,
             at,
         );
     }
 
-    /// Passes what conflicts with the event at hand and is before it.
-    pub fn pass_conflicts(
+    /// Visits what conflicts with the event at hand and is before it.
+    pub fn visit_conflicts(
         &mut self,
         events: &[Event],
         owners: &[usize],
@@ -237,19 +242,19 @@ impl Lists {
     )
         requires search { IsSearching events.now owners.now self.old reached.old at }
         ensures search { IsSearching events.now owners.now self.new reached.new at }
-        ensures passes { PassesConflicts events.now at reached.old reached.new }
+        ensures visits { VisitsConflicts events.now at reached.old reached.new }
     {
         let event = events[at];
         let thread = event.thread.0 as usize;
-        self.pass_thread(events, owners, reached, thread, at);
-        self.pass_handle(events, owners, reached, thread, at);
+        self.visit_thread(events, owners, reached, thread, at);
+        self.visit_handle(events, owners, reached, thread, at);
         match event.kind.access() {
-            Access::Shared(c) => self.pass_writes(events, owners, reached, c.0 as usize, at),
+            Access::Shared(c) => self.visit_writes(events, owners, reached, c.0 as usize, at),
             Access::Exclusive(c) => {
-                self.pass_writes(events, owners, reached, c.0 as usize, at);
-                self.pass_reads(events, owners, reached, c.0 as usize, at);
+                self.visit_writes(events, owners, reached, c.0 as usize, at);
+                self.visit_reads(events, owners, reached, c.0 as usize, at);
             }
-            Access::Fork(u) | Access::Join(u) => self.pass_thread(
+            Access::Fork(u) | Access::Join(u) => self.visit_thread(
                 events,
                 owners,
                 reached,

@@ -50,33 +50,33 @@ pub(crate) fn has_edge(
 }
 
 /// The nearer of two transactions; of two at one distance the one with the lower number.
-fn nearer(far: &[usize], a: usize, b: usize) -> usize
-    requires first { a < length far.now }
-    requires second { b < length far.now }
-    ensures first { slice_index far.now result ≤ slice_index far.now a }
-    ensures second { slice_index far.now result ≤ slice_index far.now b }
+fn nearer(distance: &[usize], a: usize, b: usize) -> usize
+    requires first { a < length distance.now }
+    requires second { b < length distance.now }
+    ensures first { slice_index distance.now result ≤ slice_index distance.now a }
+    ensures second { slice_index distance.now result ≤ slice_index distance.now b }
     ensures either { (result ≡ a) ⊎ (result ≡ b) }
 {
-    if far[a] < far[b] {
+    if distance[a] < distance[b] {
         return a;
     }
-    if far[b] < far[a] {
+    if distance[b] < distance[a] {
         return b;
     }
     a.min(b)
 }
 
 /// The nearest so far, with one more transaction, which may have no distance.
-fn with_next(far: &[usize], nearest: Option<usize>, next: usize) -> Option<usize>
-    requires nearest { IfSome nearest (λ b. b < length far.now) }
-    requires next { next < length far.now }
-    ensures { IsWithNext far.now nearest next result }
+fn with_next(distance: &[usize], nearest: Option<usize>, next: usize) -> Option<usize>
+    requires nearest { IfSome nearest (λ b. b < length distance.now) }
+    requires next { next < length distance.now }
+    ensures { IsWithNext distance.now nearest next result }
 {
-    if far[next] == 0 {
+    if distance[next] == 0 {
         return nearest;
     }
     match nearest {
-        Some(b) => Some(nearer(far, b, next)),
+        Some(b) => Some(nearer(distance, b, next)),
         None => Some(next),
     }
 }
@@ -86,20 +86,20 @@ pub(crate) fn nearest_next(
     events: &[Event],
     owners: &[usize],
     table: &mut Table,
-    far: &[usize],
+    distance: &[usize],
     from: usize,
 ) -> Option<usize>
     requires owners { AreOwners owners.now events.now }
     requires names { AllNameRows (sizes table.old) events.now (length events.now) }
-    requires count { length far.now ≡ length events.now }
+    requires count { length distance.now ≡ length events.now }
     ensures names { sizes table.new ≡ sizes table.old }
-    ensures nearest { MatchOption result ((b : ℕ) → Edge events.now from b → slice_index far.now b ≡ 0) (IsNearest events.now far.now from) }
+    ensures nearest { MatchOption result ((b : ℕ) → Edge events.now from b → slice_index distance.now b ≡ 0) (IsNearest events.now distance.now from) }
 {
     table.clear();
     let mut nearest = None;
     for at in 0..events.len() {
         if makes_edge(events, owners, table, from, at) {
-            nearest = with_next(far, nearest, owner_of(events, owners, at));
+            nearest = with_next(distance, nearest, owner_of(events, owners, at));
         }
     }
     nearest

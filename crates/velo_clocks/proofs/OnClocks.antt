@@ -26,7 +26,7 @@ use Rattle.velo_events.proofs.OnBlame.{IsInterruptedAtLast, no_return, blame_law
 use Rattle.velo_events.specs.Place.{Place, LastOf, LastWrite, is_recorded, last_at}
 use Rattle.velo_events.proofs.OnLast.{last_at-push, last_at-is, last_at-within, last_position-at}
 use Rattle.velo_events.proofs.OnLookUps.{reached-from_conflict, looked_up-is, fork-first, no_join, no_fork, are_same-some, are_same-both, are_same-from, conflict-thread, conflict-cell, conflict-handled, fork_handles, forks_or_joins, reads_or_writes, conflict_at-events}
-use Rattle.velo_clocks.specs.Clocks.{ClockPlace, OfLast, OfWrite, OfReads, ClockState, IsAt, IsUnwrittenSince, IsForeignAt, IsLatestSince, AreClocksSince, IsNoted, KnowsNothing, KnowsTheSame, known_at, foreign_at, beside, greatest_of, clock_of, blame_bound, is_noted, is_cleared, stays}
+use Rattle.velo_clocks.specs.Clocks.{ClockPlace, OfLast, OfWrite, OfReads, ClockState, IsAt, IsUnwrittenSince, IsByOthersAt, IsLatestSince, AreClocksSince, IsNoted, KnowsNothing, KnowsTheSame, known_at, by_others_at, beside, greatest_of, clock_of, blame_bound, is_noted, is_cleared, stays}
 use Rattle.velo_clocks.proofs.OnLatest.{most-at, most-some, latest-same, latest-none, latest-union, latest-append}
 use Rattle.velo_clocks.proofs.OnBeside.{IsBeside, beside-is, beside-has, beside-conflicts, joined-conflicts, joined-at, last-write, read-write}
 
@@ -35,14 +35,14 @@ pub opens : (s : ClockState) (trace : List Event) → KnowsNothing s → AreCloc
 opens s trace nothing =
     record {
       known = λ p u. record { none_later = λ k i since these own from. absurd (omega (arith, since, passes_at-within trace (is_by u) k own)); latest = λ some. absurd (omega (arith, nothing.known p u, some)) };
-      foreign = λ p u. record { none_later = λ k i since these own from. absurd (omega (arith, since, passes_at-within trace (is_by u) k own)); latest = λ some. absurd (omega (arith, nothing.foreign p u, some)) };
+      by_others = λ p u. record { none_later = λ k i since these own from. absurd (omega (arith, since, passes_at-within trace (is_by u) k own)); latest = λ some. absurd (omega (arith, nothing.by_others p u, some)) };
     }
 
 pub reserves : (first : ℕ) (old new : ClockState) (trace : List Event) → KnowsTheSame old new → AreClocksSince first old trace → AreClocksSince first new trace
 reserves first old new trace same stands =
     record {
       known = λ p u. subst (IsLatestSince first trace (IsAt trace p) u) (sym (same.known p u)) (stands.known p u);
-      foreign = λ p u. subst (IsLatestSince first trace (IsForeignAt trace p u) u) (sym (same.foreign p u)) (stands.foreign p u);
+      by_others = λ p u. subst (IsLatestSince first trace (IsByOthersAt trace p u) u) (sym (same.by_others p u)) (stands.by_others p u);
     }
 
 -- ---- what the next event knows
@@ -209,14 +209,14 @@ at-after trace e (OfWrite x) i = last-after (is_noted e (OfWrite x)) (last_at (L
 at-after trace e (OfReads x) i = reads-after trace e x i (is_reading x e) (is_writing x e) refl refl
 
 -- the same of those that are not of a thread
-foreign-after : (b clears keeps : Bool) (New Old Next : Type 0) (new old : Bool) → (Old → new ≡ old) → New ↔ After b clears keeps Old Next → (New × IsFalse new) ↔ After b clears keeps (Old × IsFalse old) (Next × IsFalse new)
-foreign-after false false keeps New Old Next new old same each = (λ w. let a = each.0 w.0 in (a, sym (same a) ∙ w.1), λ w. (each.1 w.0, same w.0 ∙ w.1))
-foreign-after false true keeps New Old Next new old same each = (λ w. each.0 w.0, λ none. absurd none)
-foreign-after true clears true New Old Next new old same each = (
+by_others-after : (b clears keeps : Bool) (New Old Next : Type 0) (new old : Bool) → (Old → new ≡ old) → New ↔ After b clears keeps Old Next → (New × IsFalse new) ↔ After b clears keeps (Old × IsFalse old) (Next × IsFalse new)
+by_others-after false false keeps New Old Next new old same each = (λ w. let a = each.0 w.0 in (a, sym (same a) ∙ w.1), λ w. (each.1 w.0, same w.0 ∙ w.1))
+by_others-after false true keeps New Old Next new old same each = (λ w. each.0 w.0, λ none. absurd none)
+by_others-after true clears true New Old Next new old same each = (
   (λ w. ⊎_elim (λ a. inl (a, sym (same a) ∙ w.1)) (λ b. inr (b, w.1)) (each.0 w.0)),
   (λ w. ⊎_elim (λ a. (each.1 (inl a.0), same a.0 ∙ a.1)) (λ b. (each.1 (inr b.0), b.1)) w),
 )
-foreign-after true clears false New Old Next new old same each = (λ w. (each.0 w.0, w.1), λ w. (each.1 w.0, w.1))
+by_others-after true clears false New Old Next new old same each = (λ w. (each.0 w.0, w.1), λ w. (each.1 w.0, w.1))
 
 -- and what they know
 latest-after : (first : ℕ) (trace : List Event) (e : Event) (u : ℕ) (b clears keeps : Bool) (old next now : ℕ → Type 0) (m n : ℕ) → ((i : ℕ) → old i → i < length trace) → ((i : ℕ) → now i ↔ After b clears keeps (old i) (next i)) → IsLatestSince first trace old u m → IsLatestSince first (trace ++ e ∷ []) next u n
@@ -240,8 +240,8 @@ module _ (first : ℕ) (bounds : Bounds) (old new : ClockState) (trace : List Ev
   abbrev IsNew : ℕ → ℕ → Type 0
   IsNew u i = (i ≡ length trace) × IsFalse (passes_at (trace ++ e ∷ []) (is_by u) i)
 
-  next-foreign : (u : ℕ) → IsLatestSince first (trace ++ e ∷ []) (IsNew u) u (if u == thread_of e then 0 else clock_of old (length trace) e u)
-  next-foreign u = ⊎_elim
+  next-by_others : (u : ℕ) → IsLatestSince first (trace ++ e ∷ []) (IsNew u) u (if u == thread_of e then 0 else clock_of old (length trace) e u)
+  next-by_others u = ⊎_elim
       (λ own. rw own (latest-none first (trace ++ e ∷ []) u (IsNew u)
       (λ i w. both_ways (is_by u e) (sym (passes_at-push trace e (is_by u)) ∙ subst (λ k. IsFalse (passes_at (trace ++ e ∷ []) (is_by u) k)) w.0 w.1) (eq-eqb (thread_of e) u (sym (eqb-true u (thread_of e) own))))))
       (λ other. rw other (latest-same first (trace ++ e ∷ []) u (λ i. i ≡ length trace) (IsNew u) _
@@ -249,19 +249,19 @@ module _ (first : ℕ) (bounds : Bounds) (old new : ClockState) (trace : List Ev
       (λ i w. w.0) (knows-other first bounds old trace e u few well stands other)))
       (cases_Bool (u == thread_of e))
 
-  noted-foreign : (p : ClockPlace) (u : ℕ) → IsLatestSince first (trace ++ e ∷ []) (IsForeignAt (trace ++ e ∷ []) p u) u (foreign_at new p u)
-  noted-foreign p u =
-      subst (IsLatestSince first (trace ++ e ∷ []) (IsForeignAt (trace ++ e ∷ []) p u) u)
-      (ap (λ d. if is_noted e p then max d (if u == thread_of e then 0 else clock_of old (length trace) e u) else (if is_cleared e p then 0 else foreign_at old p u)) (sym (stays-keeps p (foreign_at old p u))) ∙ sym (state_after.foreign p u))
-      (latest-after first trace e u (is_noted e p) (is_cleared e p) (keeps p) (IsForeignAt trace p u) (IsNew u) (IsForeignAt (trace ++ e ∷ []) p u) (foreign_at old p u) (if u == thread_of e then 0 else clock_of old (length trace) e u)
+  noted-by_others : (p : ClockPlace) (u : ℕ) → IsLatestSince first (trace ++ e ∷ []) (IsByOthersAt (trace ++ e ∷ []) p u) u (by_others_at new p u)
+  noted-by_others p u =
+      subst (IsLatestSince first (trace ++ e ∷ []) (IsByOthersAt (trace ++ e ∷ []) p u) u)
+      (ap (λ d. if is_noted e p then max d (if u == thread_of e then 0 else clock_of old (length trace) e u) else (if is_cleared e p then 0 else by_others_at old p u)) (sym (stays-keeps p (by_others_at old p u))) ∙ sym (state_after.by_others p u))
+      (latest-after first trace e u (is_noted e p) (is_cleared e p) (keeps p) (IsByOthersAt trace p u) (IsNew u) (IsByOthersAt (trace ++ e ∷ []) p u) (by_others_at old p u) (if u == thread_of e then 0 else clock_of old (length trace) e u)
       (λ i w. at-within trace p i w.0)
-      (λ i. foreign-after (is_noted e p) (is_cleared e p) (keeps p) (IsAt (trace ++ e ∷ []) p i) (IsAt trace p i) (i ≡ length trace) (passes_at (trace ++ e ∷ []) (is_by u) i) (passes_at trace (is_by u) i)
+      (λ i. by_others-after (is_noted e p) (is_cleared e p) (keeps p) (IsAt (trace ++ e ∷ []) p i) (IsAt trace p i) (i ≡ length trace) (passes_at (trace ++ e ∷ []) (is_by u) i) (passes_at trace (is_by u) i)
       (λ at. passes_at-append trace (e ∷ []) (is_by u) i (at-within trace p i at)) (at-after trace e p i))
-      (stands.foreign p u) (next-foreign u))
+      (stands.by_others p u) (next-by_others u))
 
 pub notes : (first : ℕ) (bounds : Bounds) (old new : ClockState) (trace : List Event) (e : Event) → bounds.threads ≤ 64 → IsWellFormed bounds (trace ++ e ∷ [])
     → AreClocksSince first old trace → IsNoted old (length trace) e new → AreClocksSince first new (trace ++ e ∷ [])
-notes first bounds old new trace e few well stands state_after = record { known = noted-known first bounds old new trace e few well stands state_after; foreign = noted-foreign first bounds old new trace e few well stands state_after }
+notes first bounds old new trace e few well stands state_after = record { known = noted-known first bounds old new trace e few well stands state_after; by_others = noted-by_others first bounds old new trace e few well stands state_after }
 
 -- ---- which open blocks are interrupted
 
@@ -270,14 +270,14 @@ record IsBesideFrom (trace : List Event) (e : Event) (b : ℕ) : Type 0 where
   pub place : ClockPlace
   pub at : ℕ
   pub aside : IsBeside (access_of e.kind) place
-  pub there : IsForeignAt trace place (thread_of e) at
+  pub there : IsByOthersAt trace place (thread_of e) at
   pub from : IsFrom trace b at
 
 module _ (bounds : Bounds) (trace : List Event) (e : Event) (b : ℕ) (few : bounds.threads ≤ 64) (well : IsWellFormed bounds (trace ++ e ∷ [])) (none : ¬ HasCycle trace) (opened : IsTrue (is_open_at trace (thread_of e) b (length trace))) where
   module _ (q : ℕ) (f : Event) (here : slice_get trace q ≡ Some f) (other : IsFalse (passes_at trace (is_by (thread_of e)) q)) (from : IsFrom trace b q) where
     -- the last event of a place at which such an event is recorded is one too, where those of the place conflict
-    last-foreign : (p : Place) → IsTrue (is_recorded f p) → ((g : Event) → IsTrue (is_recorded g p) → IsTrue (conflict f g)) → (k : ℕ) × (last_at p trace ≡ Some k) × IsFalse (passes_at trace (is_by (thread_of e)) k) × IsFrom trace b k
-    last-foreign p recorded later =
+    last-by_others : (p : Place) → IsTrue (is_recorded f p) → ((g : Event) → IsTrue (is_recorded g p) → IsTrue (conflict f g)) → (k : ℕ) × (last_at p trace ≡ Some k) × IsFalse (passes_at trace (is_by (thread_of e)) k) × IsFrom trace b k
+    last-by_others p recorded later =
         let w = last_position-at (λ g. is_recorded g p) trace q f here recorded in
         let last = last_at-is p trace w.0 w.1 in
         ⊎_elim
@@ -291,7 +291,7 @@ module _ (bounds : Bounds) (trace : List Event) (e : Event) (b : ℕ) (few : bou
 
     beside-write : (x : ℕ) → cell_of (access_of e.kind) ≡ Some x → cell_of (access_of f.kind) ≡ Some x → IsTrue (is_exclusive (access_of f.kind)) → IsBesideFrom trace e b
     beside-write x accesses same writes =
-        let w = last-foreign (LastWrite x) (and_from _ _ writes (are_same-from _ _ x same refl))
+        let w = last-by_others (LastWrite x) (and_from _ _ writes (are_same-from _ _ x same refl))
         (λ g recorded. conflict-cell f g (are_same-from _ _ x same (are_same-some _ x (and_parts (is_exclusive (access_of g.kind)) _ recorded).1)) (or_left _ _ writes)) in
         record { place = OfWrite x; at = w.0; aside = accesses; there = (w.1, w.2); from = w.3 }
 
@@ -317,7 +317,7 @@ module _ (bounds : Bounds) (trace : List Event) (e : Event) (b : ℕ) (few : bou
 
     beside-joined : IsTrue (is_join_of (thread_of f) e) → IsBesideFrom trace e b
     beside-joined joins =
-        let w = last-foreign (LastOf (thread_of f)) (or_left _ _ (eq-eqb (thread_of f) (thread_of f) refl))
+        let w = last-by_others (LastOf (thread_of f)) (or_left _ _ (eq-eqb (thread_of f) (thread_of f) refl))
         (λ g recorded. ⊎_elim
         (λ also. conflict-thread f g (sym (eqb-true _ _ also)))
         (λ forks. conflict-handled f g (fork_handles (access_of g.kind) (thread_of f) forks))
@@ -365,8 +365,8 @@ bounded first bounds s trace e b since few well none stands opened = (below_boun
 
     below_bound : b < blame_bound s e → IsInterruptedAtLast trace e b
     below_bound below =
-        let q = most-some (λ p. foreign_at s p (thread_of e)) (beside (access_of e.kind)) (omega (arith, below)) in
-        let w = (stands.foreign q.0 (thread_of e)).latest (omega (arith, since, below, q.2)) in
+        let q = most-some (λ p. by_others_at s p (thread_of e)) (beside (access_of e.kind)) (omega (arith, below)) in
+        let w = (stands.by_others q.0 (thread_of e)).latest (omega (arith, since, below, q.2)) in
         let within = passes_at-within trace (is_by (thread_of e)) w.at w.own in
         let upto : b ≤ w.at = omega (arith, below, q.2, w.next) in
         record {
@@ -383,8 +383,8 @@ bounded first bounds s trace e b since few well none stands opened = (below_boun
         let after = IsFrom-le trace b i.through i.from in
         let l : b < length trace = omega (arith, after, i.before) in
         let w = beside-conflicting bounds trace e b few well none (is_open_at-before trace e (thread_of e) b l opened) i.through f.0 f.1 i.of_another i.from (conflict-from trace e i.through f.0 f.1 i.in_conflict) in
-        let below = (stands.foreign w.place (thread_of e)).none_later b w.at since w.there (own l) w.from in
-        let upto = most-at (λ p. foreign_at s p (thread_of e)) (beside (access_of e.kind)) w.place (beside-has (access_of e.kind) w.place w.aside) in
+        let below = (stands.by_others w.place (thread_of e)).none_later b w.at since w.there (own l) w.from in
+        let upto = most-at (λ p. by_others_at s p (thread_of e)) (beside (access_of e.kind)) w.place (beside-has (access_of e.kind) w.place w.aside) in
         omega (arith, below, upto)
 
 -- so the open blocks below the bound are those to blame, where none of them begins before `first`

@@ -10,7 +10,7 @@ use Rattle.velo_events.specs.declared.event.Access.{Access}
 use Rattle.velo_events.specs.declared.event.Access.TheVariants.{Shared, Exclusive, Nothing}
 use Rattle.velo_events.specs.Event.{are_same, thread_of, access_of, cell_of, forked_of, is_exclusive, is_shared}
 use Rattle.velo_events.proofs.OnLists.{get_or-set}
-use Rattle.velo_clocks.specs.Clocks.{Clock, ClockState, ClockPlace, OfLast, OfWrite, OfReads, IsNoted, blank_clock, clock_at, known_at, foreign_at, clock_of, beside, greatest_of, stays, is_noted, is_cleared}
+use Rattle.velo_clocks.specs.Clocks.{Clock, ClockState, ClockPlace, OfLast, OfWrite, OfReads, IsNoted, blank_clock, clock_at, known_at, by_others_at, clock_of, beside, greatest_of, stays, is_noted, is_cleared}
 use Rattle.velo_clocks.specs.Noted.{maxima, cleared_at, alone_at, joint_at, clock_beside, joined_clock, state_after_beside, state_after, with_thread, HasRoomAt, AreWithin, IsSized, HasRoomToNoteBeside, HasRoomToNote}
 use Rattle.velo_clocks.proofs.OnRaised.{get_or-raised, length-raised}
 use Rattle.velo_clocks.proofs.OnCleared.{get_or-nothing}
@@ -105,7 +105,7 @@ room-within n xs i some room = ⊎_elim (λ l. l)
     (cases_lt i (length xs))
 
 module _ (n : ℕ) (s : ClockState) (by : ThreadId) (clock : List ℕ) (sized : IsSized n s) (own : by.0 < n) (f : Clock → ℕ) (v : ℕ) (alone : f (alone_at clock by.0) ≡ v)
-    (beside_others : (c : Clock) → length c.known ≡ n → length c.foreign ≡ n → f (joint_at c clock by.0) ≡ max (f c) v) (cleared : (c : Clock) → f (cleared_at c) ≡ 0) where
+    (beside_others : (c : Clock) → length c.known ≡ n → length c.by_others ≡ n → f (joint_at c clock by.0) ≡ max (f c) v) (cleared : (c : Clock) → f (cleared_at c) ≡ 0) where
   alone-most : f (alone_at clock by.0) ≡ max 0 v
   alone-most = omega (arith, alone)
 
@@ -127,7 +127,7 @@ module _ (n : ℕ) (s : ClockState) (by : ThreadId) (clock : List ℕ) (sized : 
 
   after_read : (y x : ℕ) → HasRoomAt n s.reads y → f (get_or (set s.reads y (joint_at (get_or s.reads y blank_clock) clock by.0)) x blank_clock) ≡ (if y == x then max (f (get_or s.reads x blank_clock)) v else f (get_or s.reads x blank_clock))
   after_read y x room = number-set f s.reads y x (joint_at (get_or s.reads y blank_clock) clock by.0) (room-within n s.reads y (omega (arith, own)) room)
-      ∙ (ap (λ m. if y == x then m else f (get_or s.reads x blank_clock)) (beside_others (get_or s.reads y blank_clock) room.known room.foreign)
+      ∙ (ap (λ m. if y == x then m else f (get_or s.reads x blank_clock)) (beside_others (get_or s.reads y blank_clock) room.known room.by_others)
       ∙ ⊎_elim
       (λ at. ap (λ k. if y == x then max (f (get_or s.reads k blank_clock)) v else f (get_or s.reads x blank_clock)) at)
       (λ off. ap (λ b. if b then max (f (get_or s.reads y blank_clock)) v else f (get_or s.reads x blank_clock)) (ne_eqb y x off) ∙ ap (λ b. if b then max (f (get_or s.reads x blank_clock)) v else f (get_or s.reads x blank_clock)) (sym (ne_eqb y x off)))
@@ -178,39 +178,39 @@ module _ (n : ℕ) (s : ClockState) (position : ℕ) (e : Event) (sized : IsSize
   unfolding state_after
   known-after p u =
       number-after n s e.thread clock sized room.own (λ c. get_or c.known u 0) (clock_of s position e u) (joined_clock-at n s sized e room.own position u)
-      (λ c known foreign. get_or-raised c.known clock u (omega (arith, known, long)) ∙ ap (λ m. max (get_or c.known u 0) m) (joined_clock-at n s sized e room.own position u))
+      (λ c known by_others. get_or-raised c.known clock u (omega (arith, known, long)) ∙ ap (λ m. max (get_or c.known u 0) m) (joined_clock-at n s sized e room.own position u))
       (λ c. get_or-nothing c.known u)
       (access_of e.kind) room.beside p
       ∙ (ap (λ b. if b then max (stays p (known_at s p u)) (clock_of s position e u) else (if is_cleared_by (access_of e.kind) p then 0 else known_at s p u)) (noted-by e p)
       ∙ ap (λ b. if is_noted e p then max (stays p (known_at s p u)) (clock_of s position e u) else (if b then 0 else known_at s p u)) (cleared-by e p))
 
-  foreign-alone : (u : ℕ) → get_or (set clock (thread_of e) 0) u 0 ≡ (if u == thread_of e then 0 else clock_of s position e u)
-  foreign-alone u = ⊎_elim
+  by_others-alone : (u : ℕ) → get_or (set clock (thread_of e) 0) u 0 ≡ (if u == thread_of e then 0 else clock_of s position e u)
+  by_others-alone u = ⊎_elim
       (λ at. ap (λ k. get_or (set clock (thread_of e) 0) k 0) at ∙ (get_or-set_same clock (thread_of e) 0 0 (omega (arith, long, room.own)) ∙ ap (λ b. if b then 0 else clock_of s position e u) (sym (eq-eqb u (thread_of e) at))))
       (λ off. get_or-set_other clock (thread_of e) u 0 0 off ∙ (joined_clock-at n s sized e room.own position u ∙ ap (λ b. if b then 0 else clock_of s position e u) (sym (ne_eqb u (thread_of e) off))))
       (cases_eq u (thread_of e))
 
-  foreign-added : (u : ℕ) (c : Clock) → length c.foreign ≡ n → get_or (set (maxima c.foreign clock) (thread_of e) (get_or c.foreign (thread_of e) 0)) u 0 ≡ max (get_or c.foreign u 0) (if u == thread_of e then 0 else clock_of s position e u)
-  foreign-added u c foreign = ⊎_elim
-      (λ at. ap (λ k. get_or (set (maxima c.foreign clock) (thread_of e) (get_or c.foreign (thread_of e) 0)) k 0) at
-      ∙ (get_or-set_same (maxima c.foreign clock) (thread_of e) (get_or c.foreign (thread_of e) 0) 0 (omega (arith, length-raised c.foreign clock, foreign, room.own))
-      ∙ (ap (λ k. get_or c.foreign k 0) (sym at)
-      ∙ ((let same : get_or c.foreign u 0 ≡ max (get_or c.foreign u 0) 0 = omega arith in same) ∙ ap (λ b. max (get_or c.foreign u 0) (if b then 0 else clock_of s position e u)) (sym (eq-eqb u (thread_of e) at))))))
-      (λ off. get_or-set_other (maxima c.foreign clock) (thread_of e) u (get_or c.foreign (thread_of e) 0) 0 off
-      ∙ (get_or-raised c.foreign clock u (omega (arith, foreign, long))
-      ∙ (ap (λ m. max (get_or c.foreign u 0) m) (joined_clock-at n s sized e room.own position u) ∙ ap (λ b. max (get_or c.foreign u 0) (if b then 0 else clock_of s position e u)) (sym (ne_eqb u (thread_of e) off)))))
+  by_others-added : (u : ℕ) (c : Clock) → length c.by_others ≡ n → get_or (set (maxima c.by_others clock) (thread_of e) (get_or c.by_others (thread_of e) 0)) u 0 ≡ max (get_or c.by_others u 0) (if u == thread_of e then 0 else clock_of s position e u)
+  by_others-added u c by_others = ⊎_elim
+      (λ at. ap (λ k. get_or (set (maxima c.by_others clock) (thread_of e) (get_or c.by_others (thread_of e) 0)) k 0) at
+      ∙ (get_or-set_same (maxima c.by_others clock) (thread_of e) (get_or c.by_others (thread_of e) 0) 0 (omega (arith, length-raised c.by_others clock, by_others, room.own))
+      ∙ (ap (λ k. get_or c.by_others k 0) (sym at)
+      ∙ ((let same : get_or c.by_others u 0 ≡ max (get_or c.by_others u 0) 0 = omega arith in same) ∙ ap (λ b. max (get_or c.by_others u 0) (if b then 0 else clock_of s position e u)) (sym (eq-eqb u (thread_of e) at))))))
+      (λ off. get_or-set_other (maxima c.by_others clock) (thread_of e) u (get_or c.by_others (thread_of e) 0) 0 off
+      ∙ (get_or-raised c.by_others clock u (omega (arith, by_others, long))
+      ∙ (ap (λ m. max (get_or c.by_others u 0) m) (joined_clock-at n s sized e room.own position u) ∙ ap (λ b. max (get_or c.by_others u 0) (if b then 0 else clock_of s position e u)) (sym (ne_eqb u (thread_of e) off)))))
       (cases_eq u (thread_of e))
 
-  foreign-after : (p : ClockPlace) (u : ℕ) → foreign_at (state_after s clock e) p u ≡ (if is_noted e p then max (stays p (foreign_at s p u)) (if u == thread_of e then 0 else clock_of s position e u) else (if is_cleared e p then 0 else foreign_at s p u))
+  by_others-after : (p : ClockPlace) (u : ℕ) → by_others_at (state_after s clock e) p u ≡ (if is_noted e p then max (stays p (by_others_at s p u)) (if u == thread_of e then 0 else clock_of s position e u) else (if is_cleared e p then 0 else by_others_at s p u))
   unfolding state_after
-  foreign-after p u =
-      number-after n s e.thread clock sized room.own (λ c. get_or c.foreign u 0) (if u == thread_of e then 0 else clock_of s position e u) (foreign-alone u)
-      (λ c known foreign. foreign-added u c foreign) (λ c. get_or-nothing c.known u) (access_of e.kind) room.beside p
-      ∙ (ap (λ b. if b then max (stays p (foreign_at s p u)) (if u == thread_of e then 0 else clock_of s position e u) else (if is_cleared_by (access_of e.kind) p then 0 else foreign_at s p u)) (noted-by e p)
-      ∙ ap (λ b. if is_noted e p then max (stays p (foreign_at s p u)) (if u == thread_of e then 0 else clock_of s position e u) else (if b then 0 else foreign_at s p u)) (cleared-by e p))
+  by_others-after p u =
+      number-after n s e.thread clock sized room.own (λ c. get_or c.by_others u 0) (if u == thread_of e then 0 else clock_of s position e u) (by_others-alone u)
+      (λ c known by_others. by_others-added u c by_others) (λ c. get_or-nothing c.known u) (access_of e.kind) room.beside p
+      ∙ (ap (λ b. if b then max (stays p (by_others_at s p u)) (if u == thread_of e then 0 else clock_of s position e u) else (if is_cleared_by (access_of e.kind) p then 0 else by_others_at s p u)) (noted-by e p)
+      ∙ ap (λ b. if is_noted e p then max (stays p (by_others_at s p u)) (if u == thread_of e then 0 else clock_of s position e u) else (if b then 0 else by_others_at s p u)) (cleared-by e p))
 
   pub IsNoted-noted : IsNoted s position e (state_after s clock e)
-  IsNoted-noted = record { known = known-after; foreign = foreign-after }
+  IsNoted-noted = record { known = known-after; by_others = by_others-after }
 
 -- ---- room
 

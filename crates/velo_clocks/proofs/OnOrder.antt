@@ -6,7 +6,7 @@ use Rattle.velo_events.specs.declared.event.Event.{Event}
 use Rattle.velo_events.specs.declared.event.Access.{Access}
 use Rattle.velo_events.specs.declared.event.Access.TheVariants.{Shared, Exclusive, Nothing}
 use Rattle.velo_events.specs.Event.{thread_of, access_of, forked_of, is_fork_of, are_same}
-use Rattle.velo_clocks.specs.Clocks.{ClockState, ClockPlace, OfLast, OfWrite, OfReads, IsNoted, KnowsNothing, KnowsTheSame, known_at, foreign_at, clock_of, beside, greatest_of, stays, is_noted, is_cleared}
+use Rattle.velo_clocks.specs.Clocks.{ClockState, ClockPlace, OfLast, OfWrite, OfReads, IsNoted, KnowsNothing, KnowsTheSame, known_at, by_others_at, clock_of, beside, greatest_of, stays, is_noted, is_cleared}
 use Rattle.velo_clocks.specs.Order.{IsLed, IsInOrder, ForksUnknown, KeepsOrder}
 use Rattle.velo_clocks.proofs.OnLatest.{Among, most-at, most-some}
 
@@ -101,39 +101,39 @@ module _ (s : ClockState) (latest position : ℕ) (e : Event) (order : IsInOrder
     -- a place where the event was noted, one that it cleared, and any other
     record IsHere (p : ClockPlace) : Type 0 where
       known : (u : ℕ) → known_at new p u ≡ max (stays p (known_at s p u)) (clock u)
-      foreign : (u : ℕ) → foreign_at new p u ≡ max (stays p (foreign_at s p u)) (if u == t then 0 else clock u)
+      by_others : (u : ℕ) → by_others_at new p u ≡ max (stays p (by_others_at s p u)) (if u == t then 0 else clock u)
 
     record IsGone (p : ClockPlace) : Type 0 where
       known : (u : ℕ) → known_at new p u ≡ 0
-      foreign : (u : ℕ) → foreign_at new p u ≡ 0
+      by_others : (u : ℕ) → by_others_at new p u ≡ 0
 
     record IsElsewhere (p : ClockPlace) : Type 0 where
       known : (u : ℕ) → known_at new p u ≡ known_at s p u
-      foreign : (u : ℕ) → foreign_at new p u ≡ foreign_at s p u
+      by_others : (u : ℕ) → by_others_at new p u ≡ by_others_at s p u
 
     is_here : (p : ClockPlace) → is_noted e p ≡ true → IsHere p
     is_here p is = record {
       known = λ u. noted.known p u ∙ ap (λ c. if c then max (stays p (known_at s p u)) (clock u) else (if is_cleared e p then 0 else known_at s p u)) is;
-      foreign = λ u. noted.foreign p u ∙ ap (λ c. if c then max (stays p (foreign_at s p u)) (if u == t then 0 else clock u) else (if is_cleared e p then 0 else foreign_at s p u)) is;
+      by_others = λ u. noted.by_others p u ∙ ap (λ c. if c then max (stays p (by_others_at s p u)) (if u == t then 0 else clock u) else (if is_cleared e p then 0 else by_others_at s p u)) is;
     }
 
     module _ (p : ClockPlace) (is : is_noted e p ≡ false) where
       not_here : (u : ℕ) → known_at new p u ≡ (if is_cleared e p then 0 else known_at s p u)
       not_here u = noted.known p u ∙ ap (λ c. if c then max (stays p (known_at s p u)) (clock u) else (if is_cleared e p then 0 else known_at s p u)) is
 
-      foreign-not_here : (u : ℕ) → foreign_at new p u ≡ (if is_cleared e p then 0 else foreign_at s p u)
-      foreign-not_here u = noted.foreign p u ∙ ap (λ c. if c then max (stays p (foreign_at s p u)) (if u == t then 0 else clock u) else (if is_cleared e p then 0 else foreign_at s p u)) is
+      by_others-not_here : (u : ℕ) → by_others_at new p u ≡ (if is_cleared e p then 0 else by_others_at s p u)
+      by_others-not_here u = noted.by_others p u ∙ ap (λ c. if c then max (stays p (by_others_at s p u)) (if u == t then 0 else clock u) else (if is_cleared e p then 0 else by_others_at s p u)) is
 
       is_gone : is_cleared e p ≡ true → IsGone p
       is_gone gone = record {
         known = λ u. not_here u ∙ ap (λ c. if c then 0 else known_at s p u) gone;
-        foreign = λ u. foreign-not_here u ∙ ap (λ c. if c then 0 else foreign_at s p u) gone;
+        by_others = λ u. by_others-not_here u ∙ ap (λ c. if c then 0 else by_others_at s p u) gone;
       }
 
       is_elsewhere : is_cleared e p ≡ false → IsElsewhere p
       is_elsewhere kept = record {
         known = λ u. not_here u ∙ ap (λ c. if c then 0 else known_at s p u) kept;
-        foreign = λ u. foreign-not_here u ∙ ap (λ c. if c then 0 else foreign_at s p u) kept;
+        by_others = λ u. by_others-not_here u ∙ ap (λ c. if c then 0 else by_others_at s p u) kept;
       }
 
       gone-or-elsewhere : IsGone p ⊎ IsElsewhere p
@@ -182,17 +182,17 @@ module _ (s : ClockState) (latest position : ℕ) (e : Event) (order : IsInOrder
         (λ gone. omega (arith, gone.known u))
         (λ elsewhere. let c = old-less p u in omega (arith, c, elsewhere.known u))
 
-    foreign-less : (u : ℕ) → (if u == t then 0 else clock u) ≤ clock u
-    foreign-less u = elim (u == t) as (λ b. (if b then 0 else clock u) ≤ clock u) [ true ↦ omega arith | false ↦ omega arith ]
+    by_others-less : (u : ℕ) → (if u == t then 0 else clock u) ≤ clock u
+    by_others-less u = elim (u == t) as (λ b. (if b then 0 else clock u) ≤ clock u) [ true ↦ omega arith | false ↦ omega arith ]
 
-    old-foreign : (p : ClockPlace) (u : ℕ) → foreign_at s p u ≤ position
-    old-foreign p u = let upto = order.foreign p u in omega (arith, upto, keeps.later)
+    old-by_others : (p : ClockPlace) (u : ℕ) → by_others_at s p u ≤ position
+    old-by_others p u = let upto = order.by_others p u in omega (arith, upto, keeps.later)
 
-    new-foreign : (p : ClockPlace) (u : ℕ) → foreign_at new p u ≤ position + 1
-    new-foreign p u = at-place p
-        (λ here. let a = foreign-less u in let m = clock-most u in let b = stays-most p (foreign_at s p u) in let c = old-foreign p u in omega (arith, a, m, b, c, here.foreign u))
-        (λ gone. omega (arith, gone.foreign u))
-        (λ elsewhere. let c = old-foreign p u in omega (arith, c, elsewhere.foreign u))
+    new-by_others : (p : ClockPlace) (u : ℕ) → by_others_at new p u ≤ position + 1
+    new-by_others p u = at-place p
+        (λ here. let a = by_others-less u in let m = clock-most u in let b = stays-most p (by_others_at s p u) in let c = old-by_others p u in omega (arith, a, m, b, c, here.by_others u))
+        (λ gone. omega (arith, gone.by_others u))
+        (λ elsewhere. let c = old-by_others p u in omega (arith, c, elsewhere.by_others u))
 
     last-upto : (p : ClockPlace) (u : ℕ) → ¬ (u ≡ t) → known_at new p u ≤ known_at s (OfLast u) u
     last-upto p u off = at-place p
@@ -224,10 +224,10 @@ module _ (s : ClockState) (latest position : ℕ) (e : Event) (order : IsInOrder
     led-here p v here is = record {
       by = t;
       top =
-          let low = stays-most p (foreign_at s p t) in
-          let less = old-foreign p t in
+          let low = stays-most p (by_others_at s p t) in
+          let less = old-by_others p t in
           let none : (if t == t then 0 else clock t) ≡ 0 = ap (λ b. if b then 0 else clock t) (eq-eqb t t refl) in
-          omega (arith, here.foreign t, here.known t, clock-own, low, less, none);
+          omega (arith, here.by_others t, here.known t, clock-own, low, less, none);
       follows = λ q upto. at-place q
           (λ there. omega (arith, there.known v, is))
           (λ gone. absurd (omega (arith, upto, here.known t, clock-own, gone.known t)))
@@ -242,10 +242,10 @@ module _ (s : ClockState) (latest position : ℕ) (e : Event) (order : IsInOrder
         let same : known_at new p v ≡ known_at s p v = omega (arith, here.known v, more, kept (known_at s p v)) in
         let hidden : clock led.by < known_at s p led.by = ⊎_elim (λ less. less) (λ over. let all = covers p v led over in absurd (omega (arith, all, more, kept (known_at s p v)))) (cases_lt (clock led.by) (known_at s p led.by)) in
         let same_by : known_at new p led.by ≡ known_at s p led.by = omega (arith, here.known led.by, hidden, kept (known_at s p led.by)) in
-        let less : (if led.by == t then 0 else clock led.by) ≤ clock led.by = foreign-less led.by in
+        let less : (if led.by == t then 0 else clock led.by) ≤ clock led.by = by_others-less led.by in
         record {
           by = led.by;
-          top = omega (arith, here.foreign led.by, kept (foreign_at s p led.by), less, hidden, same_by, led.top);
+          top = omega (arith, here.by_others led.by, kept (by_others_at s p led.by), less, hidden, same_by, led.top);
           follows = λ q upto. let there = still-follows p v led q (omega (arith, upto, same_by)) in omega (arith, there, same);
         }
 
@@ -260,12 +260,12 @@ module _ (s : ClockState) (latest position : ℕ) (e : Event) (order : IsInOrder
         let led = order.closed.led p v (omega (arith, some, elsewhere.known v)) in
         record {
           by = led.by;
-          top = omega (arith, led.top, elsewhere.known led.by, elsewhere.foreign led.by);
+          top = omega (arith, led.top, elsewhere.known led.by, elsewhere.by_others led.by);
           follows = λ q upto. let there = still-follows p v led q (omega (arith, upto, elsewhere.known led.by)) in omega (arith, there, elsewhere.known v);
         })
 
     pub order-noted : IsInOrder (position + 1) new
-    order-noted = record { closed = record { led = led-new }; known = new-most; foreign = new-foreign; own = new-own }
+    order-noted = record { closed = record { led = led-new }; known = new-most; by_others = new-by_others; own = new-own }
 
 -- ---- nothing noted, and room made
 
@@ -273,7 +273,7 @@ pub order-blank : (s : ClockState) → KnowsNothing s → IsInOrder 0 s
 order-blank s none = record {
   closed = record { led = λ p v some. absurd (omega (arith, some, none.known p v)) };
   known = λ p u. omega (arith, none.known p u);
-  foreign = λ p u. omega (arith, none.foreign p u);
+  by_others = λ p u. omega (arith, none.by_others p u);
   own = λ p u. omega (arith, none.known p u);
 }
 
@@ -284,11 +284,11 @@ order-same latest old new same order = record {
         let led = order.closed.led p v (omega (arith, some, same.known p v)) in
         record {
           by = led.by;
-          top = omega (arith, led.top, same.known p led.by, same.foreign p led.by);
+          top = omega (arith, led.top, same.known p led.by, same.by_others p led.by);
           follows = λ q upto. let there = led.follows q (omega (arith, upto, same.known p led.by, same.known q led.by)) in omega (arith, there, same.known p v, same.known q v);
         };
   };
   known = λ p u. let h = order.known p u in omega (arith, h, same.known p u);
-  foreign = λ p u. let h = order.foreign p u in omega (arith, h, same.foreign p u);
+  by_others = λ p u. let h = order.by_others p u in omega (arith, h, same.by_others p u);
   own = λ p u. let h = order.own p u in omega (arith, h, same.known p u, same.known (OfLast u) u);
 }

@@ -12,11 +12,11 @@ use Rattle.velo_clocks.specs.declared.epochs.Epoch.{Epoch}
 use Rattle.velo_clocks.specs.declared.shared_rows.SharedRows.{SharedRows}
 use Rattle.velo_clocks.specs.declared.read_clocks.ReadBy.{ReadBy}
 use Rattle.velo_clocks.specs.declared.read_clocks.ReadBy.TheVariants.{Nobody, One, Several}
-use Rattle.velo_clocks.specs.declared.read_clocks.Reads.{Reads}
+use Rattle.velo_clocks.specs.declared.read_clocks.ReadPlace.{ReadPlace}
 use Rattle.velo_clocks.specs.declared.clock_places.PlaceClocks.{PlaceClocks}
 use Rattle.velo_events.specs.Growth.{filled_up}
 use Rattle.velo_events.proofs.OnFilling.{get_or-blanks, get_or-filled_up, length-filled_up}
-use Rattle.velo_clocks.specs.Clocks.{Clock, ClockState, ClockPlace, OfLast, OfWrite, OfReads, KnowsTheSame, KnowsNothing, IsNoted, blank_clock, clock_at, known_at, foreign_at, beside, greatest_of}
+use Rattle.velo_clocks.specs.Clocks.{Clock, ClockState, ClockPlace, OfLast, OfWrite, OfReads, KnowsTheSame, KnowsNothing, IsNoted, blank_clock, clock_at, known_at, by_others_at, beside, greatest_of}
 use Rattle.velo_clocks.specs.Noted.{maxima, alone_at, clock_beside, joined_clock, state_after_beside, state_after, with_spare, with_thread, HasRoomToNote, HasRoomToNoteBeside, HasRoomAt, AreWithin, KeepNumbers, IsSized}
 use Rattle.velo_clocks.specs.Order.{IsLed, IsAhead}
 use Rattle.velo_clocks.specs.Epochs.{blank_epoch, clock_in, alone_in, alones_in, IsInUse, AreRows, RefersTo}
@@ -48,24 +48,24 @@ alones-kept old new (m ∷ ms) same =
     ap (λ (xs : List ℕ). alone_at (set xs m.by.0 m.number) m.by.0 ∷ alones_in new ms) (same 0) ∙ ap (λ cs. alone_in old m ∷ cs) (alones-kept old new ms (λ i. same (suc i)))
 
 abbrev nowhere : List ℕ → Clock
-nowhere xs = record { known = xs; foreign = xs }
+nowhere xs = record { known = xs; by_others = xs }
 
-clock-kept : (old new own foreign : List (List ℕ)) (b : ReadBy) (l : ℕ) → get_or new 0 [] ≡ get_or old 0 [] → get_or new (epoch_in b).row [] ≡ get_or old (epoch_in b).row [] → clock_of_reads new own foreign b l ≡ clock_of_reads old own foreign b l
-clock-kept old new own foreign Nobody l first same = ap (λ (xs : List ℕ). nowhere xs) first
-clock-kept old new own foreign (One m) l first same = ap (λ (xs : List ℕ). alone_at (set xs m.by.0 m.number) m.by.0) same
-clock-kept old new own foreign Several l first same = refl
+clock-kept : (old new own by_others : List (List ℕ)) (b : ReadBy) (l : ℕ) → get_or new 0 [] ≡ get_or old 0 [] → get_or new (epoch_in b).row [] ≡ get_or old (epoch_in b).row [] → clock_of_reads new own by_others b l ≡ clock_of_reads old own by_others b l
+clock-kept old new own by_others Nobody l first same = ap (λ (xs : List ℕ). nowhere xs) first
+clock-kept old new own by_others (One m) l first same = ap (λ (xs : List ℕ). alone_at (set xs m.by.0 m.number) m.by.0) same
+clock-kept old new own by_others Several l first same = refl
 
-pub reads-kept : (old new own foreign : List (List ℕ)) (rs : List Reads) → get_or new 0 [] ≡ get_or old 0 [] → ((i : ℕ) → get_or new (epoch_in (get_or rs i blank_reads).by).row [] ≡ get_or old (epoch_in (get_or rs i blank_reads).by).row []) → reads_of new own foreign rs ≡ reads_of old own foreign rs
-reads-kept old new own foreign [] first same = refl
-reads-kept old new own foreign (r ∷ rs) first same =
-    ap (λ c. c ∷ reads_of new own foreign rs) (clock-kept old new own foreign r.by r.lists first (same 0)) ∙ ap (λ cs. read_clock old own foreign r ∷ cs) (reads-kept old new own foreign rs first (λ i. same (suc i)))
+pub reads-kept : (old new own by_others : List (List ℕ)) (rs : List ReadPlace) → get_or new 0 [] ≡ get_or old 0 [] → ((i : ℕ) → get_or new (epoch_in (get_or rs i blank_reads).by).row [] ≡ get_or old (epoch_in (get_or rs i blank_reads).by).row []) → reads_of new own by_others rs ≡ reads_of old own by_others rs
+reads-kept old new own by_others [] first same = refl
+reads-kept old new own by_others (r ∷ rs) first same =
+    ap (λ c. c ∷ reads_of new own by_others rs) (clock-kept old new own by_others r.by r.lists first (same 0)) ∙ ap (λ cs. read_clock old own by_others r ∷ cs) (reads-kept old new own by_others rs first (λ i. same (suc i)))
 
 abbrev pub state : List Clock → List Clock → List Clock → Bool → ClockState
 state threads writes reads spare = record { threads = threads; writes = writes; reads = reads; has_spare = spare }
 
 module _ (n : ℕ) (old new : PlaceClocks) (are : ArePlaces n old) (kept : KeepsPlaces old new) where
   abbrev kept_reads : List Clock
-  kept_reads = reads_of new.rows.rows old.reads.own old.reads.foreign old.reads.places.items
+  kept_reads = reads_of new.rows.rows old.reads.own old.reads.by_others old.reads.places.items
 
   pub state-kept : state_of new ≡ with_spare (is_ready new) (state_of old)
   state-kept =
@@ -74,7 +74,7 @@ module _ (n : ℕ) (old new : PlaceClocks) (are : ArePlaces n old) (kept : Keeps
       ∙ (ap (λ rs. state (alones_in new.rows.rows old.threads.items) (alones_in new.rows.rows old.writes.items) (reads_in new.rows rs) (is_ready new)) kept.reads
       ∙ (ap (λ cs. state cs (alones_in new.rows.rows old.writes.items) kept_reads (is_ready new)) (alones-kept old.rows.rows new.rows.rows old.threads.items (λ i. kept.same _ (are.threads i)))
       ∙ (ap (λ cs. state (alones_in old.rows.rows old.threads.items) cs kept_reads (is_ready new)) (alones-kept old.rows.rows new.rows.rows old.writes.items (λ i. kept.same _ (are.writes i)))
-      ∙ ap (λ cs. state (alones_in old.rows.rows old.threads.items) (alones_in old.rows.rows old.writes.items) cs (is_ready new)) (reads-kept old.rows.rows new.rows.rows old.reads.own old.reads.foreign old.reads.places.items (kept.same 0 are.rows.opened) (λ i. kept.same _ (are.reads.refers i)))))))
+      ∙ ap (λ cs. state (alones_in old.rows.rows old.threads.items) (alones_in old.rows.rows old.writes.items) cs (is_ready new)) (reads-kept old.rows.rows new.rows.rows old.reads.own old.reads.by_others old.reads.places.items (kept.same 0 are.rows.opened) (λ i. kept.same _ (are.reads.refers i)))))))
 
 -- ---- what the rows hold
 
@@ -90,8 +90,8 @@ module _ (n : ℕ) (rows : SharedRows) (are : AreRows n rows) where
   blank-known : (u : ℕ) → get_or (alone_in rows.rows blank_epoch).known u 0 ≡ 0
   blank-known u = zero-set (get_or rows.rows 0 []) blank-row u
 
-  blank-foreign : (u : ℕ) → get_or (alone_in rows.rows blank_epoch).foreign u 0 ≡ 0
-  blank-foreign u = zero-set (alone_in rows.rows blank_epoch).known blank-known u
+  blank-by_others : (u : ℕ) → get_or (alone_in rows.rows blank_epoch).by_others u 0 ≡ 0
+  blank-by_others u = zero-set (alone_in rows.rows blank_epoch).known blank-known u
 
   -- a number of each place is that of its event, which is the blank one where there is no place
   number-there : (f : Clock → ℕ) → f blank_clock ≡ 0 → f (alone_in rows.rows blank_epoch) ≡ 0 → (ms : List Epoch) (i : ℕ) → f (get_or (alones_in rows.rows ms) i blank_clock) ≡ f (alone_in rows.rows (get_or ms i blank_epoch))
@@ -103,20 +103,20 @@ module _ (n : ℕ) (rows : SharedRows) (are : AreRows n rows) where
   known-there : (ms : List Epoch) (i u : ℕ) → get_or (get_or (alones_in rows.rows ms) i blank_clock).known u 0 ≡ get_or (clock_in rows.rows (get_or ms i blank_epoch)) u 0
   known-there ms i u = number-there (λ c. get_or c.known u 0) refl (blank-known u) ms i
 
-  foreign-there : (ms : List Epoch) (i u : ℕ) → get_or (get_or (alones_in rows.rows ms) i blank_clock).foreign u 0 ≡ get_or (alone_in rows.rows (get_or ms i blank_epoch)).foreign u 0
-  foreign-there ms i u = number-there (λ c. get_or c.foreign u 0) refl (blank-foreign u) ms i
+  by_others-there : (ms : List Epoch) (i u : ℕ) → get_or (get_or (alones_in rows.rows ms) i blank_clock).by_others u 0 ≡ get_or (alone_in rows.rows (get_or ms i blank_epoch)).by_others u 0
+  by_others-there ms i u = number-there (λ c. get_or c.by_others u 0) refl (blank-by_others u) ms i
 
   module _ (ms : List Epoch) (refers : RefersTo rows ms) where
     pub alones-room : (i : ℕ) → i < length ms → HasRoomAt n (alones_in rows.rows ms) i
     alones-room i l = record {
       known = ap (λ (c : Clock). length c.known) (alones-at rows.rows ms i l) ∙ clock-long n rows are (get_or ms i blank_epoch) (refers i);
-      foreign = ap (λ (c : Clock). length c.foreign) (alones-at rows.rows ms i l) ∙ (length-set (clock_in rows.rows (get_or ms i blank_epoch)) (get_or ms i blank_epoch).by.0 0 ∙ clock-long n rows are (get_or ms i blank_epoch) (refers i));
+      by_others = ap (λ (c : Clock). length c.by_others) (alones-at rows.rows ms i l) ∙ (length-set (clock_in rows.rows (get_or ms i blank_epoch)) (get_or ms i blank_epoch).by.0 0 ∙ clock-long n rows are (get_or ms i blank_epoch) (refers i));
     }
 
     alones-within : AreWithin n (alones_in rows.rows ms)
     alones-within = record {
       known = λ i. ⊎_elim (λ l. omega (arith, (alones-room i l).known)) (λ past. omega (arith, ap (λ (c : Clock). length c.known) (alones-past rows.rows ms i past))) (cases_lt i (length ms));
-      foreign = λ i. ⊎_elim (λ l. omega (arith, (alones-room i l).foreign)) (λ past. omega (arith, ap (λ (c : Clock). length c.foreign) (alones-past rows.rows ms i past))) (cases_lt i (length ms));
+      by_others = λ i. ⊎_elim (λ l. omega (arith, (alones-room i l).by_others)) (λ past. omega (arith, ap (λ (c : Clock). length c.by_others) (alones-past rows.rows ms i past))) (cases_lt i (length ms));
     }
 
     -- what the event knows is what the place does
@@ -158,26 +158,26 @@ module _ (n : ℕ) (rows : SharedRows) (are : AreRows n rows) where
       filled-keep : KeepNumbers (alones_in rows.rows ms) (alones_in rows.rows more)
       filled-keep = record {
         known = λ i u. known-there more i u ∙ (ap (λ m. get_or (clock_in rows.rows m) u 0) (same-epoch i) ∙ sym (known-there ms i u));
-        foreign = λ i u. foreign-there more i u ∙ (ap (λ m. get_or (alone_in rows.rows m).foreign u 0) (same-epoch i) ∙ sym (foreign-there ms i u));
+        by_others = λ i u. by_others-there more i u ∙ (ap (λ m. get_or (alone_in rows.rows m).by_others u 0) (same-epoch i) ∙ sym (by_others-there ms i u));
       }
 
 -- ---- all places
 
 pub numbers-keep : (xs : List Clock) → KeepNumbers xs xs
-numbers-keep xs = record { known = λ i u. refl; foreign = λ i u. refl }
+numbers-keep xs = record { known = λ i u. refl; by_others = λ i u. refl }
 
 pub all-keep : (s t : ClockState) → KeepNumbers s.threads t.threads → KeepNumbers s.writes t.writes → KeepNumbers s.reads t.reads → KnowsTheSame s t
-all-keep s t threads writes reads = record { known = keep-known; foreign = keep-foreign }
+all-keep s t threads writes reads = record { known = keep-known; by_others = keep-by_others }
   where
     keep-known : (p : ClockPlace) (u : ℕ) → known_at t p u ≡ known_at s p u
     keep-known (OfLast i) u = threads.known i u
     keep-known (OfWrite x) u = writes.known x u
     keep-known (OfReads x) u = reads.known x u
 
-    keep-foreign : (p : ClockPlace) (u : ℕ) → foreign_at t p u ≡ foreign_at s p u
-    keep-foreign (OfLast i) u = threads.foreign i u
-    keep-foreign (OfWrite x) u = writes.foreign x u
-    keep-foreign (OfReads x) u = reads.foreign x u
+    keep-by_others : (p : ClockPlace) (u : ℕ) → by_others_at t p u ≡ by_others_at s p u
+    keep-by_others (OfLast i) u = threads.by_others i u
+    keep-by_others (OfWrite x) u = writes.by_others x u
+    keep-by_others (OfReads x) u = reads.by_others x u
 
 pub same-spare : (s : ClockState) (b : Bool) → KnowsTheSame s (with_spare b s)
 same-spare s b = all-keep s (with_spare b s) (numbers-keep s.threads) (numbers-keep s.writes) (numbers-keep s.reads)
@@ -202,10 +202,10 @@ room-spare n s b Nothing room = room
 room-spare n s b (Access.Join u) room = room
 
 pub same-twice : (s t u : ClockState) → KnowsTheSame s t → KnowsTheSame t u → KnowsTheSame s u
-same-twice s t u first second = record { known = λ p v. second.known p v ∙ first.known p v; foreign = λ p v. second.foreign p v ∙ first.foreign p v }
+same-twice s t u first second = record { known = λ p v. second.known p v ∙ first.known p v; by_others = λ p v. second.by_others p v ∙ first.by_others p v }
 
 pub noted-spare : (s t : ClockState) (position : ℕ) (e : Event) (b : Bool) → IsNoted s position e t → IsNoted s position e (with_spare b t)
-noted-spare s t position e b noted = record { known = λ p u. (same-spare t b).known p u ∙ noted.known p u; foreign = λ p u. (same-spare t b).foreign p u ∙ noted.foreign p u }
+noted-spare s t position e b noted = record { known = λ p u. (same-spare t b).known p u ∙ noted.known p u; by_others = λ p u. (same-spare t b).by_others p u ∙ noted.by_others p u }
 
 -- ---- one step
 
@@ -235,17 +235,17 @@ module _ (n : ℕ) (rows : SharedRows) (are : AreRows n rows) (ms : List Epoch) 
 
 -- ---- the first state
 
-module _ (n : ℕ) (rows : SharedRows) (are : AreRows n rows) (threads writes : List Epoch) (own foreign : List (List ℕ)) (rs : List Reads) (spare : Bool) (blanks : threads ≡ replicate n blank_epoch) (no_writes : writes ≡ []) (no_reads : rs ≡ []) where
+module _ (n : ℕ) (rows : SharedRows) (are : AreRows n rows) (threads writes : List Epoch) (own by_others : List (List ℕ)) (rs : List ReadPlace) (spare : Bool) (blanks : threads ≡ replicate n blank_epoch) (no_writes : writes ≡ []) (no_reads : rs ≡ []) where
   none-at : (f : Clock → ℕ) → f blank_clock ≡ 0 → f (alone_in rows.rows blank_epoch) ≡ 0 → (q : ClockPlace)
-      → f (clock_at (state (alones_in rows.rows threads) (alones_in rows.rows writes) (reads_of rows.rows own foreign rs) spare) q) ≡ 0
+      → f (clock_at (state (alones_in rows.rows threads) (alones_in rows.rows writes) (reads_of rows.rows own by_others rs) spare) q) ≡ 0
   none-at f none blank (OfLast t) = number-there n rows are f none blank threads t ∙ (ap (λ ms. f (alone_in rows.rows (get_or ms t blank_epoch))) blanks ∙ (ap (λ m. f (alone_in rows.rows m)) (get_or-blanks blank_epoch n t) ∙ blank))
   none-at f none blank (OfWrite x) = ap (λ ms. f (get_or (alones_in rows.rows ms) x blank_clock)) no_writes ∙ none
-  none-at f none blank (OfReads x) = ap (λ xs. f (get_or (reads_of rows.rows own foreign xs) x blank_clock)) no_reads ∙ none
+  none-at f none blank (OfReads x) = ap (λ xs. f (get_or (reads_of rows.rows own by_others xs) x blank_clock)) no_reads ∙ none
 
-  pub nothing-opened : KnowsNothing (state (alones_in rows.rows threads) (alones_in rows.rows writes) (reads_of rows.rows own foreign rs) spare)
+  pub nothing-opened : KnowsNothing (state (alones_in rows.rows threads) (alones_in rows.rows writes) (reads_of rows.rows own by_others rs) spare)
   nothing-opened = record {
     known = λ q u. none-at (λ c. get_or c.known u 0) refl (blank-known n rows are u) q;
-    foreign = λ q u. none-at (λ c. get_or c.foreign u 0) refl (blank-foreign n rows are u) q;
+    by_others = λ q u. none-at (λ c. get_or c.by_others u 0) refl (blank-by_others n rows are u) q;
   }
 
 -- ---- the event of a thread
@@ -264,7 +264,7 @@ raised-into (x ∷ xs) (y ∷ ys) long less =
 module _ (s : ClockState) (position : ℕ) (ahead : IsAhead s position) (p : ClockPlace) (known : List ℕ) (t : ℕ) (alone : clock_at s p ≡ alone_at known t) where
   led-by : (v : ℕ) (led : IsLed s p v) → led.by ≡ t
   led-by v led = ⊎_elim (λ at. at)
-      (λ off. absurd (let top = subst (λ (c : Clock). get_or c.foreign led.by 0 < get_or c.known led.by 0) alone led.top in omega (arith, top, get_or-set_other known t led.by 0 0 off)))
+      (λ off. absurd (let top = subst (λ (c : Clock). get_or c.by_others led.by 0 < get_or c.known led.by 0) alone led.top in omega (arith, top, get_or-set_other known t led.by 0 0 off)))
       (cases_eq led.by t)
 
   pub alone-follows : (v : ℕ) → known_at s p v ≤ known_at s (OfLast t) v

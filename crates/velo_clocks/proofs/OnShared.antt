@@ -114,7 +114,7 @@ module _ (n : ℕ) (p : PlaceClocks) (are : ArePlaces n p) (position : ℕ) (e :
       used = subst (λ r. IsInUse p.rows (epoch_in r).row) is (are.reads.refers i)
 
       alone : clock_at s (OfReads i) ≡ alone_in p.rows.rows one
-      alone = one-at p.rows.rows p.reads.own p.reads.foreign p.reads.places.items i one is
+      alone = one-at p.rows.rows p.reads.own p.reads.by_others p.reads.places.items i one is
 
       here : (v : ℕ) → get_or (clock_in p.rows.rows one) v 0 ≡ known_at s (OfReads i) v
       here v = ap (λ (c : Clock). get_or c.known v 0) (sym alone)

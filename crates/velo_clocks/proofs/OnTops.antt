@@ -20,7 +20,7 @@ tops-alone known clock by upto = record {
       (cases_eq u by);
 }
 
-pub tops-none : (known clock : List ℕ) → KnowsTops (record { known = known; foreign = known }) clock
+pub tops-none : (known clock : List ℕ) → KnowsTops (record { known = known; by_others = known }) clock
 tops-none known clock = record { each = λ u top. absurd (omega (arith, top)) }
 
 -- ---- all places

@@ -34,8 +34,8 @@ IsAt trace (OfWrite x) i = last_at (LastWrite x) trace ≡ Some i
 IsAt trace (OfReads x) i = IsTrue (passes_at trace (is_reading x) i) × IsUnwrittenSince trace x i
 
 -- and is not of thread u
-abbrev pub IsForeignAt : List Event → ClockPlace → ℕ → ℕ → Type 0
-IsForeignAt trace p u i = IsAt trace p i × IsFalse (passes_at trace (is_by u) i)
+abbrev pub IsByOthersAt : List Event → ClockPlace → ℕ → ℕ → Type 0
+IsByOthersAt trace p u i = IsAt trace p i × IsFalse (passes_at trace (is_by u) i)
 
 -- ---- what is known of a thread
 
@@ -58,10 +58,10 @@ pub record IsLatestSince (first : ℕ) (trace : List Event) (these : ℕ → Typ
 -- by number of a thread: what the events of a place know of it, and what those of other threads know of it
 pub record Clock : Type 0 where
   pub known : List ℕ
-  pub foreign : List ℕ
+  pub by_others : List ℕ
 
 abbrev pub blank_clock : Clock
-blank_clock = record { known = []; foreign = [] }
+blank_clock = record { known = []; by_others = [] }
 
 -- by number: what is kept of each thread, and of each cell for which there is room; and whether there is room for the next event
 pub record ClockState : Type 0 where
@@ -79,13 +79,13 @@ clock_at s (OfReads x) = slice_index_or s.reads x blank_clock
 abbrev pub known_at : ClockState → ClockPlace → ℕ → ℕ
 known_at s p u = slice_index_or (clock_at s p).known u 0
 
-abbrev pub foreign_at : ClockState → ClockPlace → ℕ → ℕ
-foreign_at s p u = slice_index_or (clock_at s p).foreign u 0
+abbrev pub by_others_at : ClockState → ClockPlace → ℕ → ℕ
+by_others_at s p u = slice_index_or (clock_at s p).by_others u 0
 
 -- The clocks stand for the trace as far as its events from position `first` on go. What they say of those before it is no more than that they come before.
 pub record AreClocksSince (first : ℕ) (s : ClockState) (trace : List Event) : Type 0 where
   pub known : (p : ClockPlace) (u : ℕ) → IsLatestSince first trace (IsAt trace p) u (known_at s p u)
-  pub foreign : (p : ClockPlace) (u : ℕ) → IsLatestSince first trace (IsForeignAt trace p u) u (foreign_at s p u)
+  pub by_others : (p : ClockPlace) (u : ℕ) → IsLatestSince first trace (IsByOthersAt trace p u) u (by_others_at s p u)
 
 -- The clocks stand for the trace.
 abbrev pub AreClocksOf : ClockState → List Event → Type 0
@@ -111,7 +111,7 @@ clock_of s position e u =
 
 -- the block of the event's thread that begins at b is blamed where b is below
 abbrev pub blame_bound : ClockState → Event → ℕ
-blame_bound s e = greatest_of (map (λ p. foreign_at s p (thread_of e)) (beside (access_of e.kind)))
+blame_bound s e = greatest_of (map (λ p. by_others_at s p (thread_of e)) (beside (access_of e.kind)))
 
 -- the event is one of the place's
 abbrev pub is_noted : Event → ClockPlace → Bool
@@ -133,15 +133,15 @@ stays _ n = 0
 pub record IsNoted (old : ClockState) (position : ℕ) (e : Event) (new : ClockState) : Type 0 where
   pub known : (p : ClockPlace) (u : ℕ) → known_at new p u
       ≡ (if is_noted e p then max (stays p (known_at old p u)) (clock_of old position e u) else (if is_cleared e p then 0 else known_at old p u))
-  pub foreign : (p : ClockPlace) (u : ℕ) → foreign_at new p u
-      ≡ (if is_noted e p then max (stays p (foreign_at old p u)) (if u == thread_of e then 0 else clock_of old position e u) else (if is_cleared e p then 0 else foreign_at old p u))
+  pub by_others : (p : ClockPlace) (u : ℕ) → by_others_at new p u
+      ≡ (if is_noted e p then max (stays p (by_others_at old p u)) (if u == thread_of e then 0 else clock_of old position e u) else (if is_cleared e p then 0 else by_others_at old p u))
 
 -- nothing is known
 pub record KnowsNothing (s : ClockState) : Type 0 where
   pub known : (p : ClockPlace) (u : ℕ) → known_at s p u ≡ 0
-  pub foreign : (p : ClockPlace) (u : ℕ) → foreign_at s p u ≡ 0
+  pub by_others : (p : ClockPlace) (u : ℕ) → by_others_at s p u ≡ 0
 
 -- room was made
 pub record KnowsTheSame (old new : ClockState) : Type 0 where
   pub known : (p : ClockPlace) (u : ℕ) → known_at new p u ≡ known_at old p u
-  pub foreign : (p : ClockPlace) (u : ℕ) → foreign_at new p u ≡ foreign_at old p u
+  pub by_others : (p : ClockPlace) (u : ℕ) → by_others_at new p u ≡ by_others_at old p u

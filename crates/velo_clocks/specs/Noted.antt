@@ -18,11 +18,11 @@ maxima (x ∷ xs) (y ∷ ys) = max x y ∷ maxima xs ys
 
 -- an event of thread t with this clock stands there alone
 abbrev pub alone_at : List ℕ → ℕ → Clock
-alone_at clock t = record { known = clock; foreign = slice_set clock t 0 }
+alone_at clock t = record { known = clock; by_others = slice_set clock t 0 }
 
 -- it stands there beside the others
 abbrev pub joint_at : Clock → List ℕ → ℕ → Clock
-joint_at old clock t = record { known = maxima old.known clock; foreign = slice_set (maxima old.foreign clock) t (slice_index_or old.foreign t 0) }
+joint_at old clock t = record { known = maxima old.known clock; by_others = slice_set (maxima old.by_others clock) t (slice_index_or old.by_others t 0) }
 
 -- what the list has room for stays, with nothing known
 abbrev pub nothing_in : List ℕ → List ℕ
@@ -30,24 +30,24 @@ nothing_in numbers = replicate (length numbers) 0
 
 -- nothing stands there any more
 abbrev pub cleared_at : Clock → Clock
-cleared_at old = record { known = nothing_in old.known; foreign = nothing_in old.known }
+cleared_at old = record { known = nothing_in old.known; by_others = nothing_in old.known }
 
 -- ---- some places, by number
 
 -- the place has a number for each of n threads
 pub record HasRoomAt (n : ℕ) (places : List Clock) (i : ℕ) : Type 0 where
   pub known : length (slice_index_or places i blank_clock).known ≡ n
-  pub foreign : length (slice_index_or places i blank_clock).foreign ≡ n
+  pub by_others : length (slice_index_or places i blank_clock).by_others ≡ n
 
 -- no place has more
 pub record AreWithin (n : ℕ) (places : List Clock) : Type 0 where
   pub known : (i : ℕ) → length (slice_index_or places i blank_clock).known ≤ n
-  pub foreign : (i : ℕ) → length (slice_index_or places i blank_clock).foreign ≤ n
+  pub by_others : (i : ℕ) → length (slice_index_or places i blank_clock).by_others ≤ n
 
 -- no number is changed
 pub record KeepNumbers (old new : List Clock) : Type 0 where
   pub known : (i u : ℕ) → slice_index_or (slice_index_or new i blank_clock).known u 0 ≡ slice_index_or (slice_index_or old i blank_clock).known u 0
-  pub foreign : (i u : ℕ) → slice_index_or (slice_index_or new i blank_clock).foreign u 0 ≡ slice_index_or (slice_index_or old i blank_clock).foreign u 0
+  pub by_others : (i u : ℕ) → slice_index_or (slice_index_or new i blank_clock).by_others u 0 ≡ slice_index_or (slice_index_or old i blank_clock).by_others u 0
 
 -- ---- all places
 

@@ -12,7 +12,7 @@ use Rattle.velo_clocks.specs.Noted.{maxima}
 
 -- The last event of thread u that is known at the place is one of the place, and no event of another thread there knows it.
 abbrev pub IsTop : Clock → ℕ → Type 0
-IsTop c u = slice_index_or c.foreign u 0 < slice_index_or c.known u 0
+IsTop c u = slice_index_or c.by_others u 0 < slice_index_or c.known u 0
 
 -- the clock knows each of these
 pub record KnowsTops (c : Clock) (clock : List ℕ) : Type 0 where
@@ -51,7 +51,7 @@ pub record IsClosed (s : ClockState) : Type 0 where
 pub record IsInOrder (latest : ℕ) (s : ClockState) : Type 0 where
   pub closed : IsClosed s
   pub known : (p : ClockPlace) (u : ℕ) → known_at s p u ≤ latest
-  pub foreign : (p : ClockPlace) (u : ℕ) → slice_index_or (clock_at s p).foreign u 0 ≤ latest
+  pub by_others : (p : ClockPlace) (u : ℕ) → slice_index_or (clock_at s p).by_others u 0 ≤ latest
   pub own : (p : ClockPlace) (t : ℕ) → known_at s p t ≤ known_at s (OfLast t) t
 
 -- ---- the next event

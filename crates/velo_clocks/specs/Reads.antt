@@ -4,34 +4,34 @@ use Rattle.velo_clocks.specs.declared.epochs.Epoch.{Epoch}
 use Rattle.velo_clocks.specs.declared.shared_rows.SharedRows.{SharedRows}
 use Rattle.velo_clocks.specs.declared.read_clocks.ReadBy.{ReadBy}
 use Rattle.velo_clocks.specs.declared.read_clocks.ReadBy.TheVariants.{Nobody, One, Several}
-use Rattle.velo_clocks.specs.declared.read_clocks.Reads.{Reads}
+use Rattle.velo_clocks.specs.declared.read_clocks.ReadPlace.{ReadPlace}
 use Rattle.velo_clocks.specs.declared.read_clocks.ReadClocks.{ReadClocks}
 use Rattle.velo_clocks.specs.Clocks.{Clock}
 use Rattle.velo_clocks.specs.Noted.{maxima}
 use Rattle.velo_clocks.specs.Epochs.{blank_epoch, clock_in, alone_in, IsInUse}
 
-abbrev pub blank_reads : Reads
+abbrev pub blank_reads : ReadPlace
 blank_reads = record { by = Nobody; lists = 0 }
 
 -- What the reads of several threads know: of each thread its own last read, and what those of others know of it.
 abbrev pub clock_by : List ℕ → List ℕ → Clock
-clock_by own foreign = record { known = maxima own foreign; foreign = foreign }
+clock_by own by_others = record { known = maxima own by_others; by_others = by_others }
 
 -- the clock of a place: its reads know nothing, what their event does, or what its lists say
 abbrev pub clock_of_reads : List (List ℕ) → List (List ℕ) → List (List ℕ) → ReadBy → ℕ → Clock
-clock_of_reads rows own foreign Nobody l = record { known = slice_index_or rows 0 []; foreign = slice_index_or rows 0 [] }
-clock_of_reads rows own foreign (One m) l = alone_in rows m
-clock_of_reads rows own foreign Several l = clock_by (slice_index_or own l []) (slice_index_or foreign l [])
+clock_of_reads rows own by_others Nobody l = record { known = slice_index_or rows 0 []; by_others = slice_index_or rows 0 [] }
+clock_of_reads rows own by_others (One m) l = alone_in rows m
+clock_of_reads rows own by_others Several l = clock_by (slice_index_or own l []) (slice_index_or by_others l [])
 
-abbrev pub read_clock : List (List ℕ) → List (List ℕ) → List (List ℕ) → Reads → Clock
-read_clock rows own foreign r = clock_of_reads rows own foreign r.by r.lists
+abbrev pub read_clock : List (List ℕ) → List (List ℕ) → List (List ℕ) → ReadPlace → Clock
+read_clock rows own by_others r = clock_of_reads rows own by_others r.by r.lists
 
 -- by number of a place
-abbrev pub reads_of : List (List ℕ) → List (List ℕ) → List (List ℕ) → List Reads → List Clock
-reads_of rows own foreign = map (read_clock rows own foreign)
+abbrev pub reads_of : List (List ℕ) → List (List ℕ) → List (List ℕ) → List ReadPlace → List Clock
+reads_of rows own by_others = map (read_clock rows own by_others)
 
 abbrev pub reads_in : SharedRows → ReadClocks → List Clock
-reads_in rows reads = reads_of rows.rows reads.own reads.foreign reads.places.items
+reads_in rows reads = reads_of rows.rows reads.own reads.by_others reads.places.items
 
 -- there are lists for one more place
 abbrev pub has_lists : ReadClocks → Bool
@@ -44,14 +44,14 @@ epoch_in (One m) = m
 epoch_in Several = blank_epoch
 
 -- the rows of these reads are in use
-abbrev pub ReadsReferTo : SharedRows → List Reads → Type 0
+abbrev pub ReadsReferTo : SharedRows → List ReadPlace → Type 0
 ReadsReferTo rows rs = (i : ℕ) → IsInUse rows (epoch_in (slice_index_or rs i blank_reads).by).row
 
 -- Lists have n numbers, the spare ones are there and nobody's, no two places have the same, and the rows of the reads are in use.
 pub record AreReads (n : ℕ) (rows : SharedRows) (reads : ReadClocks) : Type 0 where
-  pub lists : length reads.own ≤ length reads.foreign
+  pub lists : length reads.own ≤ length reads.by_others
   pub own_long : (l : ℕ) → l < length reads.own → length (slice_index_or reads.own l []) ≡ n
-  pub foreign_long : (l : ℕ) → l < length reads.foreign → length (slice_index_or reads.foreign l []) ≡ n
+  pub by_others_long : (l : ℕ) → l < length reads.by_others → length (slice_index_or reads.by_others l []) ≡ n
   pub spare : 0 < reads.spare → reads.spare < length reads.own
   pub given : (i : ℕ) → 0 < (slice_index_or reads.places.items i blank_reads).lists → (slice_index_or reads.places.items i blank_reads).lists < length reads.own
   pub free : (i : ℕ) → 0 < (slice_index_or reads.places.items i blank_reads).lists → ¬ ((slice_index_or reads.places.items i blank_reads).lists ≡ reads.spare)

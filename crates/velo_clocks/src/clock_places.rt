@@ -367,21 +367,21 @@ impl PlaceClocks {
     {
         let t = event.thread;
         match event.kind.access() {
-            Access::Shared(c) => self.foreign_in(&self.writes, c.0 as usize, t),
+            Access::Shared(c) => self.by_others_in(&self.writes, c.0 as usize, t),
             Access::Exclusive(c) => {
-                let writes = self.foreign_in(&self.writes, c.0 as usize, t);
-                let reads = self.reads.foreign(&self.rows, c.0 as usize, t);
+                let writes = self.by_others_in(&self.writes, c.0 as usize, t);
+                let reads = self.reads.by_others(&self.rows, c.0 as usize, t);
                 writes.max(reads as usize)
             }
-            Access::Join(u) => self.foreign_in(&self.threads, u.0 as usize, t),
+            Access::Join(u) => self.by_others_in(&self.threads, u.0 as usize, t),
             _ => 0,
         }
     }
 
     /// How far the event at the place with this number knows the thread, if it is of another.
-    fn foreign_in(&self, epochs: &[Epoch], number: usize, t: ThreadId) -> usize
-        ensures { (threads : ℕ) → AreRows threads self.now.rows → result ≡ slice_index_or (slice_index_or (alones_in self.now.rows.rows epochs.now) number blank_clock).foreign t.0 0 }
+    fn by_others_in(&self, epochs: &[Epoch], number: usize, t: ThreadId) -> usize
+        ensures { (threads : ℕ) → AreRows threads self.now.rows → result ≡ slice_index_or (slice_index_or (alones_in self.now.rows.rows epochs.now) number blank_clock).by_others t.0 0 }
     {
-        self.rows.foreign(Epoch::at(epochs, number), t) as usize
+        self.rows.by_others(Epoch::at(epochs, number), t) as usize
     }
 }

@@ -29,7 +29,7 @@ pub(crate) enum ReadBy {
 
 /// The reads of a variable since its last write.
 #[derive(Clone, Copy, Debug)]
-pub(crate) struct Reads {
+pub(crate) struct ReadPlace {
     /// Whose they are.
     pub by: ReadBy,
     /// Which lists are the place's own, counted from 1. They are given to it when several threads read, and stay with it.
@@ -42,24 +42,24 @@ pub(crate) struct ReadClocks {
     /// By number of the lists: the last read of each thread, where reads of several stand.
     pub own: NumberRows,
     /// What those of other threads know of each, there.
-    pub foreign: NumberRows,
+    pub by_others: NumberRows,
     /// Which lists are given next, or 0 while there are none to give.
     pub spare: usize,
     /// The reads at each place.
-    pub places: Vec<Reads>,
+    pub places: Vec<ReadPlace>,
 }
 
 impl ReadClocks {
     /// No places.
     pub fn new(alloc: Global) -> ReadClocks
         ensures own { result.own ≡ [] }
-        ensures foreign { result.foreign ≡ [] }
+        ensures by_others { result.by_others ≡ [] }
         ensures spare { result.spare ≡ 0 }
         ensures places { result.places.items ≡ [] }
     {
         ReadClocks {
             own: NumberRows::new(alloc),
-            foreign: NumberRows::new(alloc),
+            by_others: NumberRows::new(alloc),
             spare: 0,
             places: Vec::new(alloc),
         }
@@ -88,7 +88,7 @@ impl ReadClocks {
     pub fn reserve(&mut self, number: usize) -> Result<(), Memory>
         requires fits { number + 1 < 2 ^ 64 }
         ensures own { self.new.own ≡ self.old.own }
-        ensures foreign { self.new.foreign ≡ self.old.foreign }
+        ensures by_others { self.new.by_others ≡ self.old.by_others }
         ensures spare { self.new.spare ≡ self.old.spare }
         ensures reads { (threads : ℕ) (rows : SharedRows) → AreRows threads rows → AreReads threads rows self.old → AreReads threads rows self.new }
         ensures same { (threads : ℕ) (rows : SharedRows) → AreRows threads rows → KeepNumbers (reads_in rows self.old) (reads_in rows self.new) }
@@ -99,7 +99,7 @@ impl ReadClocks {
         fill_up_to(
             &mut self.places,
             number,
-            Reads {
+            ReadPlace {
                 by: ReadBy::Nobody,
                 lists: 0,
             },
@@ -143,7 +143,7 @@ impl ReadClocks {
         ensures ok { OnOk result (length self.new.own ≡ max (number + 1) (length self.old.own)) }
         ensures memory { OnErr result GrowthRefused }
     {
-        self.foreign.reserve(number, threads)?;
+        self.by_others.reserve(number, threads)?;
         self.own.reserve(number, threads)
     }
 
@@ -179,15 +179,15 @@ impl ReadClocks {
             ReadBy::One(one) => rows.raise_clock(one, clock),
             ReadBy::Several => {
                 raise(clock, self.own.list(place.lists));
-                raise(clock, self.foreign.list(place.lists));
+                raise(clock, self.by_others.list(place.lists));
             }
         }
     }
 
     /// What the reads of other threads at the place know of this one.
-    pub fn foreign(&self, rows: &SharedRows, number: usize, t: ThreadId) -> u32
+    pub fn by_others(&self, rows: &SharedRows, number: usize, t: ThreadId) -> u32
         ensures { (threads : ℕ) → AreRows threads rows.now → AreReads threads rows.now self.now
-            → result ≡ slice_index_or (slice_index_or (reads_in rows.now self.now) number blank_clock).foreign t.0 0 }
+            → result ≡ slice_index_or (slice_index_or (reads_in rows.now self.now) number blank_clock).by_others t.0 0 }
     {
         if number >= self.places.len() {
             return 0;
@@ -195,8 +195,8 @@ impl ReadClocks {
         let place = self.places[number];
         match place.by {
             ReadBy::Nobody => 0,
-            ReadBy::One(one) => rows.foreign(one, t),
-            ReadBy::Several => number_of(self.foreign.list(place.lists), t),
+            ReadBy::One(one) => rows.by_others(one, t),
+            ReadBy::Several => number_of(self.by_others.list(place.lists), t),
         }
     }
 
@@ -279,7 +279,7 @@ impl ReadClocks {
         let lists = self.give_lists(rows, number, threads);
         self.own
             .copy_as(lists, rows.rows.list(0), one.by, one.number);
-        self.foreign
+        self.by_others
             .copy_as(lists, rows.rows.list(one.row), one.by, 0);
         self.places[number].by = ReadBy::Several;
     }
@@ -292,7 +292,7 @@ impl ReadClocks {
         ensures reads { AreReads threads rows.now self.new }
         ensures same { reads_in rows.now self.new ≡ reads_in rows.now self.old }
         ensures own { self.new.own ≡ self.old.own }
-        ensures foreign { self.new.foreign ≡ self.old.foreign }
+        ensures by_others { self.new.by_others ≡ self.old.by_others }
         ensures count { length self.new.places.items ≡ length self.old.places.items }
         ensures by { (slice_index_or self.new.places.items number blank_reads).by ≡ (slice_index_or self.old.places.items number blank_reads).by }
         ensures result { (slice_index_or self.new.places.items number blank_reads).lists ≡ result }
@@ -328,7 +328,7 @@ impl ReadClocks {
     {
         let lists = self.places[place].lists;
         self.own.raise_number(lists, by, number);
-        self.foreign.raise_but(lists, rows.rows.list(row), by);
+        self.by_others.raise_but(lists, rows.rows.list(row), by);
     }
 
     /// No read stands at the place any more.

@@ -83,8 +83,8 @@ impl SharedRows {
     }
 
     /// How far the event knows the thread, if it is of another.
-    pub fn foreign(&self, epoch: Epoch, t: ThreadId) -> u32
-        ensures { result ≡ slice_index_or (alone_in self.now.rows epoch).foreign t.0 0 }
+    pub fn by_others(&self, epoch: Epoch, t: ThreadId) -> u32
+        ensures { result ≡ slice_index_or (alone_in self.now.rows epoch).by_others t.0 0 }
     {
         if t.0 == epoch.by.0 {
             0

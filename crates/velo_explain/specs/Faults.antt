@@ -1,6 +1,6 @@
 -- Why an explanation was not written.
 use Rattle.std.specs.Prelude.{ℕ, Result, Ok, Err}
-use Rattle.velo_logtext.specs.Device.{one_more}
+use Rattle.velo_logtext.specs.Device.{with_failure}
 use Rattle.velo_explain.specs.declared.fault.ExplainFault.{ExplainFault}
 use Rattle.velo_explain.specs.declared.fault.ExplainFault.TheVariants.{Memory, Write}
 
@@ -14,4 +14,4 @@ write_failed = Write
 abbrev pub failures_after : {X : Type 0} → Result X ExplainFault → ℕ → ℕ
 failures_after (Ok x) failures = failures
 failures_after (Err Memory) failures = failures
-failures_after (Err Write) failures = one_more failures
+failures_after (Err Write) failures = with_failure failures

@@ -40,7 +40,7 @@ pub struct Graph<A: Ancestors> {
     /// The slots in use whose nodes have not finished.
     unfinished: A,
     /// Whether a slot may be an ancestor of some other.
-    leads: Vec<bool>,
+    may_have_descendants: Vec<bool>,
 }
 
 impl<A: Ancestors> Model for Graph<A> {
@@ -55,7 +55,7 @@ impl<A: Ancestors> Model for Graph<A> {
 
     ghost view = { λ g. record { slots = g.arena; ancestors = map A.members g.rows.items } };
 
-    ghost invariant = { λ g. KeepsAll (record { slots = g.arena; ancestors = map A.members g.rows.items }) (map A.capacity g.rows.items) (A.capacity g.carried) g.leads.items (A.members g.unfinished) (A.capacity g.unfinished) };
+    ghost invariant = { λ g. KeepsAll (record { slots = g.arena; ancestors = map A.members g.rows.items }) (map A.capacity g.rows.items) (A.capacity g.carried) g.may_have_descendants.items (A.members g.unfinished) (A.capacity g.unfinished) };
 }
 
 impl<A: Ancestors> Graph<A> {
@@ -70,7 +70,7 @@ impl<A: Ancestors> Graph<A> {
         ensures sound { IfOk result IsSound }
         ensures memory { OnErr result GrowthRefused }
     {
-        let leads = filled(alloc, false, limit as usize)?;
+        let may_have_descendants = filled(alloc, false, limit as usize)?;
         let carried = A::empty(alloc, limit)?;
         let unfinished = A::empty(alloc, limit)?;
         let rows = empty_rows(alloc, limit)?;
@@ -80,7 +80,7 @@ impl<A: Ancestors> Graph<A> {
             rows,
             carried,
             unfinished,
-            leads,
+            may_have_descendants,
         })
     }
 
@@ -125,7 +125,7 @@ impl<A: Ancestors> Graph<A> {
     {
         let count = self.descendants_end(slot);
         take_out(&mut self.rows, count, slot);
-        self.leads[slot as usize] = false;
+        self.may_have_descendants[slot as usize] = false;
         self.unfinished.remove(slot);
         self.arena.free(slot);
     }
@@ -146,7 +146,7 @@ impl<A: Ancestors> Graph<A> {
             &self.rows,
             &self.unfinished,
             &mut self.carried,
-            &mut self.leads,
+            &mut self.may_have_descendants,
             freed,
             end,
         );
@@ -165,7 +165,7 @@ impl<A: Ancestors> Graph<A> {
             &mut self.arena,
             heirs,
             &mut self.carried,
-            &mut self.leads,
+            &mut self.may_have_descendants,
             end,
         );
         leave_out_first(&mut self.rows, end, &self.carried);
@@ -247,7 +247,7 @@ impl<A: Ancestors> Graph<A> {
     }
 
     /// Whether the node of a slot in use may be an ancestor of another one. Where not, it is none.
-    pub fn leads(&self, slot: u16) -> bool
+    pub fn may_have_descendants(&self, slot: u16) -> bool
         requires { IsTrue (is_used self.now.slots slot) }
         ensures { IsFalse result → (n : ℕ) → is_ancestor self.now slot n ≡ false }
     {
@@ -315,7 +315,7 @@ impl<A: Ancestors> Graph<A> {
     {
         let count = self.descendants_end(to);
         carry(&mut self.rows, &mut self.carried, count, from, to);
-        self.leads[from as usize] = true;
+        self.may_have_descendants[from as usize] = true;
     }
 
     /// Every descendant of a slot in use is below it.
@@ -324,7 +324,7 @@ impl<A: Ancestors> Graph<A> {
         ensures within { result ≤ limit_of self.now.slots }
         ensures below { (n : ℕ) → IsTrue (is_ancestor self.now slot n) → n < result }
     {
-        if self.leads[slot as usize] {
+        if self.may_have_descendants[slot as usize] {
             self.arena.extent()
         } else {
             0

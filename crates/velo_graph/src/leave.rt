@@ -12,24 +12,24 @@ pub fn leave<A: Ancestors>(
     arena: &mut Arena,
     heirs: &[Option<Heir>],
     gone: &mut A,
-    leads: &mut [bool],
+    may_have_descendants: &mut [bool],
     end: u16,
 )
     requires end { end ≤ limit_of arena.old }
     requires heirs { length heirs.now ≡ limit_of arena.old }
     requires used { (k : ℕ) → IsTrue (is_some (heir_in heirs.now k)) → IsTrue (is_used arena.old k) }
     requires gone { A.capacity gone.old ≡ limit_of arena.old }
-    requires leads { length leads.old ≡ limit_of arena.old }
+    requires may_have_descendants { length may_have_descendants.old ≡ limit_of arena.old }
     ensures vacates { Vacates arena.old arena.new (A.members gone.new) }
     ensures heirs { HaveHeirs heirs.now (A.members gone.new) end }
-    ensures marks { KeepsMarks leads.old leads.new (A.members gone.new) }
+    ensures marks { KeepsMarks may_have_descendants.old may_have_descendants.new (A.members gone.new) }
     ensures capacity { A.capacity gone.new ≡ A.capacity gone.old }
 {
     gone.clear();
     for slot in 0..end {
         if heirs[slot as usize].is_some() {
             gone.insert(slot);
-            leads[slot as usize] = false;
+            may_have_descendants[slot as usize] = false;
             arena.free(slot);
         }
     }

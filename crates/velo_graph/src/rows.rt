@@ -2,7 +2,7 @@ ghost use Rattle.velo_events.specs.Refusals.{GrowthRefused};
 ghost use Rattle.std.specs.Prelude.{◌≡◌, ◌<◌, ◌≤◌, map, length, replicate, IfOk, OnErr, IsTrue, false, if◌then◌else◌};
 ghost use Rattle.std.specs.FinSet as set;
 ghost use Rattle.velo_rows.specs.Meet.{Meet};
-ghost use Rattle.velo_graph.specs.Roots.{one_more, may_meet, IsBelow, MeetBelow};
+ghost use Rattle.velo_graph.specs.Roots.{with_root, may_meet, IsBelow, MeetBelow};
 ghost use Rattle.velo_graph.specs.Rows.{row_of, with_carried, without, ChangesFirst, CarriesEdge};
 
 use std::alloc::Global;
@@ -81,7 +81,7 @@ pub enum Roots {
 impl Roots {
     /// One more of them, if the slot is a root.
     pub fn and_if(self, slot: u16, is_root: bool) -> Roots
-        ensures { result ≡ (if is_root then one_more self slot else self) }
+        ensures { result ≡ (if is_root then with_root self slot else self) }
     {
         match (is_root, self) {
             (false, roots) => roots,

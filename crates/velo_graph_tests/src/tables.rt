@@ -1,5 +1,5 @@
 ghost use Rattle.std.specs.Prelude.{◌≡◌, length};
-ghost use Rattle.velo_tables.specs.Kept.{HasItsThreads};
+ghost use Rattle.velo_tables.specs.LastAccesses.{HasItsThreads};
 
 use crate::words::by;
 use std::alloc::Global;

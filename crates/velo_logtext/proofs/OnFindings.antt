@@ -13,7 +13,7 @@ use Rattle.velo_logtext.specs.declared.fault.LogFault.TheVariants.{BadHeader, Ba
 use Rattle.velo_logtext.specs.declared.read.Stop.{Stop}
 use Rattle.velo_logtext.specs.declared.read.Stop.TheVariants.{Short, NoEvent, Full, NoRoom}
 use Rattle.velo_logtext.specs.Text.{kind_text, header_line, event_line, event_lines, AreBounds, Head, AreEventsIn, Begins}
-use Rattle.velo_logtext.specs.Finding.{HasNoHeader, HasNoEvent, IsCutLine, Answers, failures_after}
+use Rattle.velo_logtext.specs.Finding.{HasNoHeader, HasNoEvent, IsCutLine, ReadsAs, failures_after}
 use Rattle.velo_logtext.specs.Reading.{event_in, header_at}
 use Rattle.velo_events.specs.Refusals.{GrowthRefused}
 use Rattle.velo_logtext.specs.Window.{margin, IsReason, judged, LinesGive}
@@ -243,7 +243,7 @@ begins : (bytes : List ℕ) (b : Head) (events : List Event) (lines rest : List 
 begins bytes b events lines rest whole text bounds fits =
     record { bounds_fit = bounds; events_fit = fits; text = whole ∙ ap (λ (t : List ℕ). header_line b ++ t) text ∙ sym (append_assoc (header_line b) (event_lines events) rest) }
 
-answers_lines : (limit : ℕ) (bytes lines : List ℕ) (b : Head) (events : List Event) (f : LogFault) → bytes ≡ header_line b ++ lines → AreBounds b.1 → AreEventsIn b.0 events → LinesGive b.0 limit lines events (Err f) → Answers limit bytes (Err f)
+answers_lines : (limit : ℕ) (bytes lines : List ℕ) (b : Head) (events : List Event) (f : LogFault) → bytes ≡ header_line b ++ lines → AreBounds b.1 → AreEventsIn b.0 events → LinesGive b.0 limit lines events (Err f) → ReadsAs limit bytes (Err f)
 answers_lines limit bytes lines b events BadHeader whole bounds fits given = absurd given
 answers_lines limit bytes lines b events (BadLine n) whole bounds fits given =
     record { shares = b.0; bounds = b.1; events = events; rest = given.2.rest; begins = begins bytes b events lines given.2.rest whole given.2.text bounds fits; room = given.0; line = given.1; wrong = given.2.left }
@@ -258,13 +258,13 @@ answers_lines limit bytes lines b events Memory whole bounds fits given = given
 whole_text : (a r : Option (List ℕ)) (there rest : List ℕ) (b : Head) → Keeps a (prepend_known there r) → there ≡ header_line b ++ rest → Keeps a (prepend_known (header_line b ++ rest) r)
 whole_text a r there rest b kept is = subst (λ (t : List ℕ). Keeps a (prepend_known t r)) is kept
 
-pub answers_fault : (limit : ℕ) (a r : Option (List ℕ)) (rest : List ℕ) (b : Head) (events : List Event) (f : LogFault) → Keeps a (prepend_known (header_line b ++ rest) r) → AreBounds b.1 → AreEventsIn b.0 events → IfSome (prepend_known rest r) (λ bytes. LinesGive b.0 limit bytes events (Err f)) → IfSome a (λ bytes. Answers limit bytes (Err f))
+pub answers_fault : (limit : ℕ) (a r : Option (List ℕ)) (rest : List ℕ) (b : Head) (events : List Event) (f : LogFault) → Keeps a (prepend_known (header_line b ++ rest) r) → AreBounds b.1 → AreEventsIn b.0 events → IfSome (prepend_known rest r) (λ bytes. LinesGive b.0 limit bytes events (Err f)) → IfSome a (λ bytes. ReadsAs limit bytes (Err f))
 answers_fault limit None r rest b events f kept bounds fits given = tt
 answers_fault limit (Some bytes) None rest b events f kept bounds fits given = absurd kept
 answers_fault limit (Some bytes) (Some more) rest b events f kept bounds fits given =
     answers_lines limit bytes (rest ++ more) b events f (sym kept ∙ append_assoc (header_line b) rest more) bounds fits given
 
-pub answers_log : (limit : ℕ) (a r : Option (List ℕ)) (rest : List ℕ) (b : Head) (events : List Event) → Keeps a (prepend_known (header_line b ++ rest) r) → AreBounds b.1 → AreEventsIn b.0 events → length events ≤ limit → IfSome (prepend_known rest r) (λ bytes. bytes ≡ event_lines events) → IfSome a (λ bytes. Answers limit bytes (Ok (b.1, events)))
+pub answers_log : (limit : ℕ) (a r : Option (List ℕ)) (rest : List ℕ) (b : Head) (events : List Event) → Keeps a (prepend_known (header_line b ++ rest) r) → AreBounds b.1 → AreEventsIn b.0 events → length events ≤ limit → IfSome (prepend_known rest r) (λ bytes. bytes ≡ event_lines events) → IfSome a (λ bytes. ReadsAs limit bytes (Ok (b.1, events)))
 answers_log limit None r rest b events kept bounds fits few given = tt
 answers_log limit (Some bytes) None rest b events kept bounds fits few given = absurd kept
 answers_log limit (Some bytes) (Some more) rest b events kept bounds fits few given =
@@ -290,7 +290,7 @@ no_header_there : (last : Bool) (end : ℕ) (bytes more : List ℕ) → header_a
 no_header_there true end bytes more none len enough at_end = no_header bytes more none (inr (at_end refl))
 no_header_there false end bytes more none len enough at_end = no_header bytes more none (inl (omega (arith, enough refl)))
 
-pub answers_no_header : (limit : ℕ) (a r : Option (List ℕ)) (last : Bool) (end : ℕ) (bytes : List ℕ) → Keeps (prepend_known [] a) (prepend_known bytes r) → header_at bytes ≡ None → length bytes ≡ end → (last ≡ false → 64 < end) → (IsTrue last → IsAtEnd r) → IfSome a (λ whole. Answers limit whole (Err BadHeader))
+pub answers_no_header : (limit : ℕ) (a r : Option (List ℕ)) (last : Bool) (end : ℕ) (bytes : List ℕ) → Keeps (prepend_known [] a) (prepend_known bytes r) → header_at bytes ≡ None → length bytes ≡ end → (last ≡ false → 64 < end) → (IsTrue last → IsAtEnd r) → IfSome a (λ whole. ReadsAs limit whole (Err BadHeader))
 answers_no_header limit None r last end bytes kept none len enough at_end = tt
 answers_no_header limit (Some whole) None last end bytes kept none len enough at_end = absurd kept
 answers_no_header limit (Some whole) (Some more) last end bytes kept none len enough at_end =

@@ -3,8 +3,8 @@ use Rattle.std.specs.Prelude.{◌≡◌, ℕ, ◌+◌, ◌%◌, ◌^◌, List, �
 use Rattle.std.specs.Io.KnownBytes.{Appends}
 
 -- the count after one more failure
-abbrev pub one_more : ℕ → ℕ
-one_more failures = (failures + 1) % 2 ^ 64
+abbrev pub with_failure : ℕ → ℕ
+with_failure failures = (failures + 1) % 2 ^ 64
 
 -- known bytes grow by a beginning of these
 pub record AppendsBeginning (old new : Option (List ℕ)) (bytes : List ℕ) : Type 0 where

@@ -6,7 +6,7 @@ use Rattle.velo_events.specs.Refusals.{GrowthRefused}
 use Rattle.velo_traces.specs.declared.trace.Trace.{Trace}
 use Rattle.velo_logtext.specs.declared.fault.LogFault.{LogFault}
 use Rattle.velo_logtext.specs.declared.fault.LogFault.TheVariants.{BadHeader, BadLine, Truncated, TooLong, Read, Memory}
-use Rattle.velo_logtext.specs.Device.{one_more}
+use Rattle.velo_logtext.specs.Device.{with_failure}
 use Rattle.velo_logtext.specs.Text.{AreBounds, IsEventIn, Head, header_line, event_line, Begins, IsLogText}
 
 -- no header with its newline stands at the front
@@ -69,11 +69,11 @@ finding_of (Ok log) = Ok (log.0, log.1.events)
 finding_of (Err fault) = Err fault
 
 -- What a reader of the bytes answers: what stands in them, unless the device failed or a growth was refused.
-abbrev pub Answers : ℕ → List ℕ → Finding → Type 0
-Answers limit bytes (Err Read) = Unit {0}
-Answers limit bytes (Err Memory) = GrowthRefused
-Answers limit bytes (Ok log) = Stands limit bytes (Ok log)
-Answers limit bytes (Err fault) = Stands limit bytes (Err fault)
+abbrev pub ReadsAs : ℕ → List ℕ → Finding → Type 0
+ReadsAs limit bytes (Err Read) = Unit {0}
+ReadsAs limit bytes (Err Memory) = GrowthRefused
+ReadsAs limit bytes (Ok log) = Stands limit bytes (Ok log)
+ReadsAs limit bytes (Err fault) = Stands limit bytes (Err fault)
 
 -- the answer is this finding, unless the device failed or a growth was refused
 abbrev pub IsFindingOrFailure : Finding → Finding → Type 0
@@ -84,6 +84,6 @@ IsFindingOrFailure finding (Err fault) = finding ≡ Err fault
 
 -- the count of failures after a reader's answer
 abbrev pub failures_after : {X : Type 0} → Result X LogFault → ℕ → ℕ
-failures_after (Err Read) failures = one_more failures
+failures_after (Err Read) failures = with_failure failures
 failures_after (Ok x) failures = failures
 failures_after (Err fault) failures = failures

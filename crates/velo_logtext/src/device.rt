@@ -2,7 +2,7 @@
 ghost use Rattle.std.specs.Prelude.{◌≡◌, ℕ, ◌+◌, ◌%◌, ◌^◌, ◌<◌, List, Option, None, length, IfOk, OnOk, OnErr};
 ghost use Rattle.std.specs.Io.{ReadsAtMost, WritesAtMost};
 ghost use Rattle.std.specs.Io.KnownBytes.{ReadConsumes, WriteAppends, Appends};
-ghost use Rattle.velo_logtext.specs.Device.{one_more, AppendsBeginning};
+ghost use Rattle.velo_logtext.specs.Device.{with_failure, AppendsBeginning};
 
 use crate::fault::WriteFault;
 use thiserror::Error;
@@ -29,7 +29,7 @@ pub trait Source {
         ensures bound { ReadsAtMost result piece.new }
         ensures bytes { ReadConsumes (remaining self.old) (remaining self.new) result piece.new }
         ensures ok { OnOk result (failures self.new ≡ failures self.old) }
-        ensures err { OnErr result (failures self.new ≡ one_more (failures self.old)) };
+        ensures err { OnErr result (failures self.new ≡ with_failure (failures self.old)) };
 }
 
 /// Where bytes go.
@@ -49,7 +49,7 @@ pub trait Sink {
         ensures some { 0 < length piece.now → IfOk result (λ n. 0 < n) }
         ensures bytes { WriteAppends (contents self.old) (contents self.new) result piece.now }
         ensures ok { OnOk result (failures self.new ≡ failures self.old) }
-        ensures err { OnErr result (failures self.new ≡ one_more (failures self.old)) };
+        ensures err { OnErr result (failures self.new ≡ with_failure (failures self.old)) };
 }
 
 /// Writes all the bytes.
@@ -60,7 +60,7 @@ pub fn write_all<S: Sink>(sink: &mut S, bytes: &[u8]) -> Result<(), WriteFault>
     ensures ok { OnOk result (Appends (S.contents sink.old) (S.contents sink.new) bytes.now) }
     ensures err { OnErr result (AppendsBeginning (S.contents sink.old) (S.contents sink.new) bytes.now) }
     ensures no_failure { OnOk result (S.failures sink.new ≡ S.failures sink.old) }
-    ensures failure { OnErr result (S.failures sink.new ≡ one_more (S.failures sink.old)) }
+    ensures failure { OnErr result (S.failures sink.new ≡ with_failure (S.failures sink.old)) }
 {
     let mut done = 0;
     while done < bytes.len() {

@@ -4,9 +4,9 @@ ghost use Rattle.std.specs.Io.KnownBytes.{IsAtEnd, Keeps, prepend_known};
 ghost use Rattle.velo_events.specs.Refusals.{GrowthRefused};
 ghost use Rattle.velo_events.specs.declared.limits.TheConstants.{MOST_EVENTS};
 ghost use Rattle.velo_logtext.specs.declared.fault.LogFault.TheVariants as log_fault;
-ghost use Rattle.velo_logtext.specs.Device.{one_more};
+ghost use Rattle.velo_logtext.specs.Device.{with_failure};
 ghost use Rattle.velo_logtext.specs.Text.{AreBounds, AreEvents, AreEventsIn, event_lines};
-ghost use Rattle.velo_logtext.specs.Finding.{Finding, Stands, Answers, IsFindingOrFailure, finding_of, failures_after};
+ghost use Rattle.velo_logtext.specs.Finding.{Finding, Stands, ReadsAs, IsFindingOrFailure, finding_of, failures_after};
 ghost use Rattle.velo_logtext.specs.Window.{margin, IsReason, judged, LinesGive};
 
 use crate::device::{Failed, Source};
@@ -106,7 +106,7 @@ fn fill<S: Source>(source: &mut S, buffer: &mut [u8], filled: Filled) -> Result<
     ensures enough { IfOk result (λ f. f.last ≡ false → 64 < f.end) }
     ensures known_end { IfOk result (λ f. IsTrue f.last → IsAtEnd (S.remaining source.new)) }
     ensures ok { OnOk result (S.failures source.new ≡ S.failures source.old) }
-    ensures err { OnErr result (S.failures source.new ≡ one_more (S.failures source.old)) }
+    ensures err { OnErr result (S.failures source.new ≡ with_failure (S.failures source.old)) }
 {
     let mut end = filled.end;
     let mut last = filled.last;
@@ -172,7 +172,7 @@ fn read_up_to<S: Source>(
     limit: usize,
 ) -> Result<(Bounds, Trace), LogFault>
     requires { limit ≤ MOST_EVENTS }
-    ensures found { IfSome (S.remaining source.old) (λ bytes. Answers limit bytes (finding_of result)) }
+    ensures found { IfSome (S.remaining source.old) (λ bytes. ReadsAs limit bytes (finding_of result)) }
     ensures within { IfOk result (λ log. AreBounds log.0 × AreEvents log.1.events × (length log.1.events ≤ limit)) }
     ensures end { OnOk result (IsAtEnd (S.remaining source.new)) }
     ensures failures { S.failures source.new ≡ failures_after result (S.failures source.old) }
@@ -209,7 +209,7 @@ fn read_up_to<S: Source>(
 /// failed in this call, and `Memory` only where a growth was refused.
 pub fn read_log<S: Source>(alloc: Global, source: &mut S) -> Result<(Bounds, Trace), LogFault>
     // What is answered stands in the bytes.
-    ensures found { IfSome (S.remaining source.old) (λ bytes. Answers MOST_EVENTS bytes (finding_of result)) }
+    ensures found { IfSome (S.remaining source.old) (λ bytes. ReadsAs MOST_EVENTS bytes (finding_of result)) }
 
     // What stands in the bytes is answered, unless the source failed or a growth was refused.
     ensures only { IfSome (S.remaining source.old) (λ bytes. (f : Finding) → Stands MOST_EVENTS bytes f → IsFindingOrFailure f (finding_of result)) }

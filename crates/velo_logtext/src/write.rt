@@ -2,7 +2,7 @@
 ghost use Rattle.std.specs.Prelude.{◌≡◌, ◌≤◌, ◌+◌, ◌++◌, true, length, take, decimal, OnOk, OnErr};
 ghost use Rattle.std.specs.Io.KnownBytes.{Appends};
 ghost use Rattle.velo_events.specs.declared.limits.TheConstants.{MOST_EVENTS};
-ghost use Rattle.velo_logtext.specs.Device.{one_more, AppendsBeginning};
+ghost use Rattle.velo_logtext.specs.Device.{with_failure, AppendsBeginning};
 ghost use Rattle.velo_logtext.specs.Text.{AreBounds, IsEvent, IsLogText, kind_text, event_line, header_line, log_text};
 
 use crate::buffer::{put_bytes, put_number};
@@ -96,7 +96,7 @@ pub fn write_log<S: Sink>(bounds: Bounds, trace: &Trace, sink: &mut S) -> Result
     // After a fault a beginning of the text went out, and the sink has failed once more.
     ensures err { OnErr result (AppendsBeginning (S.contents sink.old) (S.contents sink.new) (log_text bounds trace.now.events)) }
     ensures no_failure { OnOk result (S.failures sink.new ≡ S.failures sink.old) }
-    ensures failure { OnErr result (S.failures sink.new ≡ one_more (S.failures sink.old)) }
+    ensures failure { OnErr result (S.failures sink.new ≡ with_failure (S.failures sink.old)) }
 
     // What is written is read again as these bounds and events.
     ensures text { OnOk result (IsLogText (log_text bounds trace.now.events) bounds trace.now.events) }

@@ -16,7 +16,7 @@ use Rattle.velo_events.proofs.OnCollection.{not_live-append, IsCovered-push}
 use Rattle.velo_arena.specs.declared.step.Step.{Step}
 use Rattle.velo_arena.specs.Slots.{Slots, bears, is_finished_in}
 use Rattle.velo_graph.specs.Nodes.{Nodes, is_ancestor, reaches, leads_on, IsSound, AddsEdges}
-use Rattle.velo_tables.specs.Kept.{IsRecorded}
+use Rattle.velo_tables.specs.LastAccesses.{IsRecorded}
 use Rattle.velo_merge.specs.Named.{Bears}
 use Rattle.velo_merge.proofs.OnStamps.{one_stamp}
 use Rattle.velo_monitor.specs.Watched.{Watched, IsAccountedIn, AreDepths, IsMonitorOf}

@@ -14,7 +14,7 @@ use Rattle.velo_arena.specs.declared.step.Node.{Node}
 use Rattle.velo_arena.specs.Slots.{node_in, has_stamp, has_finished, is_used, limit_of, is_finished_in}
 use Rattle.velo_graph.specs.Nodes.{Nodes, is_ancestor, IsSound}
 use Rattle.velo_graph.proofs.OnNodes.{used_in_range}
-use Rattle.velo_tables.specs.Kept.{entry}
+use Rattle.velo_tables.specs.LastAccesses.{entry}
 use Rattle.velo_merge.specs.Named.{Bears}
 use Rattle.velo_monitor.specs.Watched.{Watched, AreFounded, AreAncestors, AreEntries, IsAccountedIn, AreDepths, IsMonitorOf}
 use Rattle.velo_graph.specs.Collects.{IsUnneeded, Collects}

@@ -20,7 +20,7 @@ use Rattle.velo_arena.specs.Heirs.{heir_in, renamed_by, renamed}
 use Rattle.velo_graph.specs.Nodes.{Nodes, is_ancestor, IsSound}
 use Rattle.velo_graph.specs.Leaves.{LeavesOut}
 use Rattle.velo_merge.specs.Named.{Bears}
-use Rattle.velo_tables.specs.Kept.{Kept, entry, IsRenamed}
+use Rattle.velo_tables.specs.LastAccesses.{LastAccesses, entry, IsRenamed}
 use Rattle.velo_monitor.specs.Watched.{Watched, IsStepFor, IsEntryFor, IsAccountedIn, IsMonitorOf}
 use Rattle.velo_monitor.proofs.OnHeirs.{IsHeir}
 
@@ -151,7 +151,7 @@ module _ (bounds : Bounds) (w : Watched) (trace : List Event) (stands : IsMonito
             subst (λ y. IsCovered trace y h.step.stamp) (same_stamp (node_in w.nodes.slots k) h.of z is.borne borne) (heir-covers k h is)
 
     -- the monitor stands for the same trace
-    pub stands-compacted : (kept : Kept) → IsRenamed w.kept heirs kept → length kept.threads ≡ length w.kept.threads → IsSound nodes → IsMonitorOf bounds (record { nodes = nodes; kept = kept; depths = w.depths }) trace
+    pub stands-compacted : (kept : LastAccesses) → IsRenamed w.kept heirs kept → length kept.threads ≡ length w.kept.threads → IsSound nodes → IsMonitorOf bounds (record { nodes = nodes; kept = kept; depths = w.depths }) trace
     stands-compacted kept renames same_threads sound = record {
       few = stands.few;
       well_formed = stands.well_formed;

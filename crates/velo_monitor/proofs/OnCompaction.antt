@@ -8,7 +8,7 @@ use Rattle.velo_arena.specs.declared.step.Heir.{Heir}
 use Rattle.velo_arena.specs.Slots.{used_in}
 use Rattle.velo_graph.specs.Nodes.{Nodes, IsSound}
 use Rattle.velo_graph.specs.Leaves.{LeavesOut}
-use Rattle.velo_tables.specs.Kept.{Kept, IsRenamed}
+use Rattle.velo_tables.specs.LastAccesses.{LastAccesses, IsRenamed}
 use Rattle.velo_monitor.specs.Watched.{Watched, IsMonitorOf}
 use Rattle.velo_monitor.specs.Heirs.{HaveThreads, AreHeirs}
 use Rattle.velo_monitor.proofs.OnThreads.{have-threads}
@@ -16,7 +16,7 @@ use Rattle.velo_monitor.proofs.OnHeirs.{is-heir}
 use Rattle.velo_monitor.proofs.OnCompacted.{stands-compacted}
 use Rattle.velo_monitor.proofs.OnLeft.{few-left}
 
-module _ (trace : List Event) (graph : Nodes) (tables : Kept) (depths : List ℕ) (w : Watched) (view : record { nodes = graph; kept = tables; depths = depths } ≡ w) where
+module _ (trace : List Event) (graph : Nodes) (tables : LastAccesses) (depths : List ℕ) (w : Watched) (view : record { nodes = graph; kept = tables; depths = depths } ≡ w) where
   before : (bounds : Bounds) → IsMonitorOf bounds w trace → IsMonitorOf bounds (record { nodes = graph; kept = tables; depths = depths }) trace
   before bounds stands = subst (λ (m : Watched). IsMonitorOf bounds m trace) (sym view) stands
 
@@ -35,7 +35,7 @@ module _ (trace : List Event) (graph : Nodes) (tables : Kept) (depths : List ℕ
     pub few-compacted : (bounds : Bounds) (t : ℕ) → IsMonitorOf bounds w trace → t < bounds.threads → depth_in trace t ≡ 0 → used_in nodes.slots < bounds.threads * bounds.threads
     few-compacted bounds t stands known none = few-left bounds (record { nodes = graph; kept = tables; depths = depths }) trace (before bounds stands) heirs are t known none nodes leaves-out
 
-    pub same-compacted : (listed' : List (Option Heir)) (kept : Kept) → listed' ≡ heirs → IsSound nodes → IsRenamed tables listed' kept → length kept.threads ≡ length tables.threads →
+    pub same-compacted : (listed' : List (Option Heir)) (kept : LastAccesses) → listed' ≡ heirs → IsSound nodes → IsRenamed tables listed' kept → length kept.threads ≡ length tables.threads →
         (bounds : Bounds) → IsMonitorOf bounds w trace → IsMonitorOf bounds (record { nodes = nodes; kept = kept; depths = depths }) trace
     same-compacted listed' kept lists' sound renames threads bounds stands =
         let was : Watched = record { nodes = graph; kept = tables; depths = depths } in

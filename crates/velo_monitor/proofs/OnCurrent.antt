@@ -21,7 +21,7 @@ use Rattle.velo_arena.specs.declared.step.Node.{Node}
 use Rattle.velo_arena.specs.Slots.{node_in, has_stamp, Opens, bears}
 use Rattle.velo_graph.specs.Nodes.{Nodes, is_ancestor, IsAlone}
 use Rattle.velo_events.specs.Place.{LastOf}
-use Rattle.velo_tables.specs.Kept.{entry}
+use Rattle.velo_tables.specs.LastAccesses.{entry}
 use Rattle.velo_tables.proofs.OnGraphLookUps.{current}
 use Rattle.velo_merge.specs.Named.{Bears}
 use Rattle.velo_monitor.specs.Watched.{Watched, IsMonitorOf}

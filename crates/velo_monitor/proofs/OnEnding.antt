@@ -20,7 +20,7 @@ use Rattle.velo_arena.specs.declared.step.Step.{Step}
 use Rattle.velo_arena.specs.Slots.{Slots, node_in, has_stamp, has_finished, bears, is_finished_in, with_node}
 use Rattle.velo_arena.proofs.OnSlots.{node_of_stamp, in_range}
 use Rattle.velo_graph.specs.Nodes.{Nodes, is_ancestor, IsSound, AddsEdges}
-use Rattle.velo_tables.specs.Kept.{IsRecorded}
+use Rattle.velo_tables.specs.LastAccesses.{IsRecorded}
 use Rattle.velo_merge.specs.Named.{Bears}
 use Rattle.velo_merge.proofs.OnStamps.{one_slot, one_stamp}
 use Rattle.velo_monitor.specs.Watched.{Watched, AreAncestors, AreDepths, IsMonitorOf}

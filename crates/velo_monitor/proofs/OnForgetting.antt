@@ -12,7 +12,7 @@ use Rattle.velo_arena.specs.declared.step.Step.{Step}
 use Rattle.velo_arena.specs.Slots.{used_in, limit_of}
 use Rattle.velo_graph.specs.Nodes.{Nodes}
 use Rattle.velo_events.specs.Place.{Place, looked_up, last_at}
-use Rattle.velo_tables.specs.Kept.{Kept, entry, steps_looked_up}
+use Rattle.velo_tables.specs.LastAccesses.{LastAccesses, entry, steps_looked_up}
 use Rattle.velo_merge.specs.Named.{live_stamp, live_stamps, HasFinished, IsAncestor}
 use Rattle.velo_monitor.specs.Watched.{Watched, IsEntryFor, AreEntries, IsMonitorOf}
 use Rattle.velo_monitor.specs.Changed.{IsGone, ForgetsDead}
@@ -24,7 +24,7 @@ entry-forgotten : (nodes : Nodes) (trace : List Event) (a : ℕ) (o : Option Ste
 entry-forgotten nodes trace a None gone is = is
 entry-forgotten nodes trace a (Some s) gone is = is.dead (gone.each s refl)
 
-entries-forgotten : (nodes : Nodes) (old new : Kept) (trace : List Event) → ForgetsDead nodes old new → AreEntries nodes old trace → AreEntries nodes new trace
+entries-forgotten : (nodes : Nodes) (old new : LastAccesses) (trace : List Event) → ForgetsDead nodes old new → AreEntries nodes old trace → AreEntries nodes new trace
 entries-forgotten nodes old new trace forgets entries = record { last = last; never = never; given = λ p s h. entries.given p s (was p s h) }
   where
     last : (p : Place) (i : ℕ) → last_at p trace ≡ Some i → IsEntryFor nodes trace (entry new p) (owner trace i)
@@ -54,7 +54,7 @@ module _ (nodes : Nodes) where
   stamps-same None xs ys h = h
   stamps-same (Some s) xs ys h = ap (λ ns. cons_option (live_stamp nodes s) ns) h
 
-  module _ (old new : Kept) (forgets : ForgetsDead nodes old new) where
+  module _ (old new : LastAccesses) (forgets : ForgetsDead nodes old new) where
     stamps-at : (ps : List Place) → live_stamps nodes (filter_map (entry new) ps) ≡ live_stamps nodes (filter_map (entry old) ps)
     stamps-at [] = refl
     stamps-at (p ∷ ps) =

@@ -18,7 +18,7 @@ use Rattle.velo_arena.specs.Slots.{Slots, bears}
 use Rattle.velo_graph.specs.Nodes.{Nodes, IsRoot}
 use Rattle.velo_graph.specs.Collects.{Collects, HasNothingLeft}
 use Rattle.velo_merge.specs.Named.{Bears}
-use Rattle.velo_tables.specs.Kept.{steps_looked_up}
+use Rattle.velo_tables.specs.LastAccesses.{steps_looked_up}
 use Rattle.velo_monitor.specs.Watched.{Watched, AreDepths, IsMonitorOf}
 use Rattle.velo_monitor.specs.Steps.{live_slots}
 use Rattle.velo_monitor.specs.Changed.{depth_of, EndsBlock, EndsInner, CountsBlocks, ExtendsBlock, ClosesBlock, AfterInside}

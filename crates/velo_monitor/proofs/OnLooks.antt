@@ -14,14 +14,14 @@ use Rattle.velo_arena.specs.declared.step.Step.{Step}
 use Rattle.velo_arena.specs.Slots.{bears}
 use Rattle.velo_graph.specs.Nodes.{Nodes, reaches}
 use Rattle.velo_events.specs.Place.{Place, looked_up, last_at}
-use Rattle.velo_tables.specs.Kept.{Kept, entry, steps_looked_up}
+use Rattle.velo_tables.specs.LastAccesses.{LastAccesses, entry, steps_looked_up}
 use Rattle.velo_tables.proofs.OnSteps.{steps_looked_up-contains, steps_looked_up-from}
 use Rattle.velo_merge.specs.Named.{Bears}
 use Rattle.velo_monitor.specs.Watched.{Watched, IsEntryFor, IsStepFor, IsMonitorOf}
 use Rattle.velo_monitor.proofs.OnNodes.{reaches-unfinished}
 
 -- a step that the event looks up names the node with stamp b in slot k
-pub record Names (nodes : Nodes) (kept : Kept) (e : Event) (k b : ℕ) : Type 0 where
+pub record Names (nodes : Nodes) (kept : LastAccesses) (e : Event) (k b : ℕ) : Type 0 where
   pub step : Step
   pub among : Contains (steps_looked_up kept e) step
   pub slot : step.slot ≡ k
@@ -66,7 +66,7 @@ none_or_some : (o : Option Step) (step : Step) → o ≡ None → o ≡ Some ste
 none_or_some o step none some = cc
 
 -- node b in slot k, which the event looks up, stands for the transaction at a place that it looks up
-pub record StandsAt (nodes : Nodes) (kept : Kept) (trace : List Event) (e : Event) (b : ℕ) : Type 0 where
+pub record StandsAt (nodes : Nodes) (kept : LastAccesses) (trace : List Event) (e : Event) (b : ℕ) : Type 0 where
   pub place : Place
   pub at : ℕ
   pub looked : Contains (looked_up e) place

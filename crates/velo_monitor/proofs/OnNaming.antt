@@ -13,7 +13,7 @@ use Rattle.velo_arena.specs.declared.step.Node.{Node}
 use Rattle.velo_arena.specs.Slots.{has_finished, Opens}
 use Rattle.velo_graph.specs.Nodes.{Nodes, reaches}
 use Rattle.velo_events.specs.Place.{LastOf}
-use Rattle.velo_tables.specs.Kept.{entry, steps_looked_up}
+use Rattle.velo_tables.specs.LastAccesses.{entry, steps_looked_up}
 use Rattle.velo_tables.proofs.OnSteps.{steps_looked_up-from}
 use Rattle.velo_merge.specs.Named.{Bears}
 use Rattle.velo_merge.proofs.OnStamps.{one_slot, one_stamp}

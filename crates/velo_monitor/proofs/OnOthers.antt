@@ -12,7 +12,7 @@ use Rattle.velo_arena.specs.declared.step.Step.{Step}
 use Rattle.velo_arena.specs.Slots.{bears}
 use Rattle.velo_graph.specs.Nodes.{Nodes, is_ancestor, reaches, leads_on, AddsEdges}
 use Rattle.velo_events.specs.Place.{LastOf, LastWrite, LastRead, thread_numbers, also_looked_up}
-use Rattle.velo_tables.specs.Kept.{Kept, entry, steps_looked_up}
+use Rattle.velo_tables.specs.LastAccesses.{LastAccesses, entry, steps_looked_up}
 use Rattle.velo_tables.specs.Others.{but_for, accesses_but_for}
 use Rattle.velo_tables.proofs.OnSteps.{filter_map-contains, filter_map-from}
 use Rattle.velo_merge.specs.Named.{Bears}
@@ -93,7 +93,7 @@ module _ {X : Type 0} (nodes : Nodes) (slot : ℕ) (f : X → Option Step) where
 
 -- ---- a write
 
-module _ (nodes : Nodes) (kept : Kept) (e : Event) (own : Step) (c : Cell) (writes : access_of e.kind ≡ Exclusive c) (current : entry kept (LastOf (thread_of e)) ≡ Some own) where
+module _ (nodes : Nodes) (kept : LastAccesses) (e : Event) (own : Step) (c : Cell) (writes : access_of e.kind ≡ Exclusive c) (current : entry kept (LastOf (thread_of e)) ≡ Some own) where
   abbrev looked : List Step
   looked = filter_map (entry kept) (LastWrite c.0 ∷ map (LastRead c.0) thread_numbers)
 

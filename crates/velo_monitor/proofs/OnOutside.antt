@@ -16,7 +16,7 @@ use Rattle.velo_events.proofs.OnUnfinished.{IsTransaction-append, IsTransaction-
 use Rattle.velo_events.proofs.OnCollection.{not_live-append, IsCovered-push}
 use Rattle.velo_arena.specs.declared.step.Step.{Step}
 use Rattle.velo_graph.specs.Nodes.{Nodes}
-use Rattle.velo_tables.specs.Kept.{IsRecorded}
+use Rattle.velo_tables.specs.LastAccesses.{IsRecorded}
 use Rattle.velo_monitor.specs.Watched.{Watched, AreAncestors, IsEntryFor, IsAccountedIn, AreDepths, IsMonitorOf}
 use Rattle.velo_monitor.proofs.OnTables.{entries-recorded}
 

@@ -21,7 +21,7 @@ use Rattle.velo_arena.proofs.OnSlots.{node_of_stamp}
 use Rattle.velo_graph.specs.Nodes.{Nodes, is_ancestor}
 use Rattle.velo_merge.specs.Named.{Bears, live_stamps}
 use Rattle.velo_merge.proofs.OnStamps.{one_slot, step_of_stamp, stamp_of_step}
-use Rattle.velo_tables.specs.Kept.{steps_looked_up, IsRecorded}
+use Rattle.velo_tables.specs.LastAccesses.{steps_looked_up, IsRecorded}
 use Rattle.velo_monitor.specs.Watched.{Watched, IsEntryFor, AreDepths, IsMonitorOf}
 use Rattle.velo_monitor.specs.Steps.{live_slots}
 use Rattle.velo_monitor.specs.Changed.{BeginsBlock, GetsNoNode, GoesIntoNode, GetsOwnNode, AfterOutside}

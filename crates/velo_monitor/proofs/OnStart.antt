@@ -12,7 +12,7 @@ use Rattle.velo_arena.specs.declared.step.Step.{Step}
 use Rattle.velo_arena.specs.declared.step.Node.{Node}
 use Rattle.velo_arena.specs.Slots.{node_in, has_stamp, has_finished}
 use Rattle.velo_graph.specs.Nodes.{Nodes, is_ancestor, IsSound}
-use Rattle.velo_tables.specs.Kept.{IsBlank, IsUnchanged}
+use Rattle.velo_tables.specs.LastAccesses.{IsBlank, IsUnchanged}
 use Rattle.velo_events.proofs.OnLast.{last_at-within}
 use Rattle.velo_merge.specs.Named.{Bears}
 use Rattle.velo_monitor.specs.Watched.{Watched, IsMonitorOf}

@@ -17,7 +17,7 @@ use Rattle.velo_arena.specs.declared.step.Step.{Step}
 use Rattle.velo_arena.specs.Slots.{Slots, node_in, bears, is_finished_in}
 use Rattle.velo_arena.proofs.OnSlots.{node_of_stamp}
 use Rattle.velo_graph.specs.Nodes.{is_ancestor, reaches, leads_on, IsSound, AddsEdges}
-use Rattle.velo_tables.specs.Kept.{IsRecorded}
+use Rattle.velo_tables.specs.LastAccesses.{IsRecorded}
 use Rattle.velo_merge.specs.Named.{Bears}
 use Rattle.velo_monitor.specs.Watched.{Watched, AreDepths, IsMonitorOf}
 use Rattle.velo_monitor.proofs.OnInside.{AreNamed, ancestors-inside}

@@ -13,7 +13,7 @@ use Rattle.velo_arena.specs.declared.step.Step.{Step}
 use Rattle.velo_arena.specs.Slots.{bears}
 use Rattle.velo_graph.specs.Nodes.{Nodes}
 use Rattle.velo_events.specs.Place.{Place, is_recorded, last_at}
-use Rattle.velo_tables.specs.Kept.{Kept, entry, IsRecorded, IsUnchanged}
+use Rattle.velo_tables.specs.LastAccesses.{LastAccesses, entry, IsRecorded, IsUnchanged}
 use Rattle.velo_events.proofs.OnLast.{last_at-push, last_at-within}
 use Rattle.velo_merge.specs.Named.{Bears}
 use Rattle.velo_monitor.specs.Watched.{IsEntryFor, AreEntries}
@@ -32,7 +32,7 @@ entry-push old new trace e (Some s) x keeps earlier transaction is = record {
 }
 
 -- with the step, or none, that stands for the event's transaction, the tables are those of the longer trace
-pub entries-recorded : (old new : Nodes) (kept after : Kept) (trace : List Event) (e : Event) (step : Option Step) → KeepsOld old new trace → ((s : Step) → IsSomeAnd old.slots.newest (λ newest. s.stamp ≤ newest) → (s.stamp < length trace) × IsSomeAnd new.slots.newest (λ newest. s.stamp ≤ newest)) → ((s : Step) → step ≡ Some s → IsSomeAnd new.slots.newest (λ newest. s.stamp ≤ newest)) → AreEntries old kept trace → IsRecorded kept e step after → IsEntryFor new (trace ++ e ∷ []) step (newest trace e) → AreEntries new after (trace ++ e ∷ [])
+pub entries-recorded : (old new : Nodes) (kept after : LastAccesses) (trace : List Event) (e : Event) (step : Option Step) → KeepsOld old new trace → ((s : Step) → IsSomeAnd old.slots.newest (λ newest. s.stamp ≤ newest) → (s.stamp < length trace) × IsSomeAnd new.slots.newest (λ newest. s.stamp ≤ newest)) → ((s : Step) → step ≡ Some s → IsSomeAnd new.slots.newest (λ newest. s.stamp ≤ newest)) → AreEntries old kept trace → IsRecorded kept e step after → IsEntryFor new (trace ++ e ∷ []) step (newest trace e) → AreEntries new after (trace ++ e ∷ [])
 entries-recorded old new kept after trace e step keeps earlier given entries recorded is = record { last = last; never = never; given = there }
   where
     last_of : (p : Place) (i : ℕ) (b : Bool) → is_recorded e p ≡ b → (if b then Some (length trace) else last_at p trace) ≡ Some i → IsEntryFor new (trace ++ e ∷ []) (if b then step else entry kept p) (owner (trace ++ e ∷ []) i)
@@ -66,7 +66,7 @@ entries-recorded old new kept after trace e step keeps earlier given entries rec
     there p s h = there_of p s (is_recorded e p) (sym (recorded.each p) ∙ h)
 
 -- room that was made changes no entry
-pub entries-unchanged : (nodes : Nodes) (old new : Kept) (trace : List Event) → IsUnchanged old new → AreEntries nodes old trace → AreEntries nodes new trace
+pub entries-unchanged : (nodes : Nodes) (old new : LastAccesses) (trace : List Event) → IsUnchanged old new → AreEntries nodes old trace → AreEntries nodes new trace
 entries-unchanged nodes old new trace same entries = record {
   last = λ p i at. subst (λ o. IsEntryFor nodes trace o (owner trace i)) (sym (same.each p)) (entries.last p i at);
   never = λ p at. same.each p ∙ entries.never p at;

@@ -12,7 +12,7 @@ use Rattle.velo_events.specs.Block.{owner}
 use Rattle.velo_events.specs.Graph.{HasCycle}
 use Rattle.velo_events.specs.Merge.{GetsNew}
 use Rattle.velo_arena.specs.Slots.{used_in, limit_of}
-use Rattle.velo_tables.specs.Kept.{steps_looked_up, HasRoomFor}
+use Rattle.velo_tables.specs.LastAccesses.{steps_looked_up, HasRoomFor}
 use Rattle.velo_merge.specs.Named.{live_stamps, HasFinished, IsAncestor}
 use Rattle.velo_monitor.specs.Watched.{Watched, IsMonitorOf}
 

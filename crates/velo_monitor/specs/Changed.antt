@@ -13,7 +13,7 @@ use Rattle.velo_graph.specs.Nodes.{Nodes, IsRoot, IsAlone, IsSound, AddsEdges}
 use Rattle.velo_graph.specs.Collects.{Collects}
 use Rattle.velo_merge.specs.Named.{Bears, live_stamps, HasFinished, IsAncestor}
 use Rattle.velo_events.specs.Place.{Place, LastOf}
-use Rattle.velo_tables.specs.Kept.{Kept, entry, steps_looked_up, HasRoomFor, IsRecorded}
+use Rattle.velo_tables.specs.LastAccesses.{LastAccesses, entry, steps_looked_up, HasRoomFor, IsRecorded}
 use Rattle.velo_monitor.specs.Watched.{Watched}
 use Rattle.velo_monitor.specs.Steps.{live_slots, ReachesSome}
 
@@ -132,7 +132,7 @@ pub record IsGone (nodes : Nodes) (step : Option Step) : Type 0 where
   pub each : (s : Step) → step ≡ Some s → bears nodes.slots s.slot s.stamp ≡ false
 
 -- some places whose steps name no node in use have none any more, every other keeps what it has; no room is lost
-pub record ForgetsDead (nodes : Nodes) (old new : Kept) : Type 0 where
+pub record ForgetsDead (nodes : Nodes) (old new : LastAccesses) : Type 0 where
   pub each : (p : Place) → (entry new p ≡ entry old p) ⊎ ((entry new p ≡ None) × IsGone nodes (entry old p))
   pub room : (e : Event) → HasRoomFor old e → HasRoomFor new e
   pub threads : length new.threads ≡ length old.threads

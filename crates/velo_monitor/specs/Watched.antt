@@ -15,12 +15,12 @@ use Rattle.velo_graph.specs.Nodes.{Nodes, is_ancestor, IsSound}
 use Rattle.velo_graph.specs.Collects.{HasNothingLeft}
 use Rattle.velo_merge.specs.Named.{Bears}
 use Rattle.velo_events.specs.Place.{Place, last_at}
-use Rattle.velo_tables.specs.Kept.{Kept, entry}
+use Rattle.velo_tables.specs.LastAccesses.{LastAccesses, entry}
 
 -- the nodes in use, the step at each place, and how many blocks each thread has open
 pub record Watched : Type 0 where
   pub nodes : Nodes
-  pub kept : Kept
+  pub kept : LastAccesses
   pub depths : List ℕ
 
 -- ---- the nodes
@@ -48,7 +48,7 @@ IsEntryFor nodes trace None a = ¬ IsLive trace a
 IsEntryFor nodes trace (Some step) a = IsStepFor nodes trace step a
 
 -- each place has an entry for the transaction of its last event, and no stamp that was not yet given
-pub record AreEntries (nodes : Nodes) (kept : Kept) (trace : List Event) : Type 0 where
+pub record AreEntries (nodes : Nodes) (kept : LastAccesses) (trace : List Event) : Type 0 where
   pub last : (p : Place) (i : ℕ) → last_at p trace ≡ Some i → IsEntryFor nodes trace (entry kept p) (owner trace i)
   pub never : (p : Place) → last_at p trace ≡ None → entry kept p ≡ None
   pub given : (p : Place) (step : Step) → entry kept p ≡ Some step → IsSomeAnd nodes.slots.newest (λ newest. step.stamp ≤ newest)

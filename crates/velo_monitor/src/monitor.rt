@@ -16,7 +16,7 @@ ghost use Rattle.velo_graph.specs.Nodes.{IsSound, AddsEdges};
 ghost use Rattle.velo_graph.specs.Collects.{HasNothingLeft};
 ghost use Rattle.velo_merge.specs.Named.{Bears, live_stamps, HasFinished, IsAncestor};
 ghost use Rattle.velo_events.specs.Place.{Place as PlaceOf, LastOf};
-ghost use Rattle.velo_tables.specs.Kept.{entry, steps_looked_up, HasRoomFor};
+ghost use Rattle.velo_tables.specs.LastAccesses.{entry, steps_looked_up, HasRoomFor};
 ghost use Rattle.velo_tables.specs.Others.{accesses_but_for};
 ghost use Rattle.velo_monitor.specs.Watched.{IsMonitorOf};
 ghost use Rattle.velo_monitor.specs.Answers.{NeedsNode, GetsNewNode, IsNext, IsSeen};
@@ -384,12 +384,12 @@ impl Monitor {
         ensures limit { limit_of self.new.nodes.slots ≡ limit_of self.old.nodes.slots }
     {
         let is_root = self.graph.is_root(own.slot);
-        let leads = self.graph.leads(own.slot);
+        let may_have_descendants = self.graph.may_have_descendants(own.slot);
         self.graph.finish(own);
         if !is_root {
             return;
         }
-        if leads {
+        if may_have_descendants {
             collect(&mut self.graph, &mut self.freed);
         } else {
             self.graph.free(own.slot);

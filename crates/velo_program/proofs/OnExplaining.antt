@@ -8,7 +8,7 @@ use Rattle.velo_events.specs.Graph.{HasCycle}
 use Rattle.velo_events.specs.Refusals.{GrowthRefused}
 use Rattle.velo_logtext.specs.Device.{AppendsBeginning}
 use Rattle.velo_traces.specs.declared.block.Block.{Block}
-use Rattle.velo_world.specs.declared.run.Alarm.{Alarm}
+use Rattle.velo_world.specs.declared.analysis.Alarm.{Alarm}
 use Rattle.velo_world.specs.World.{IsAlarm}
 use Rattle.velo_explain.specs.declared.evidence.Evidence.{Evidence}
 use Rattle.velo_explain.specs.Evidence.{IsEvidence, HaveReasons}

@@ -14,8 +14,8 @@ use Rattle.velo_events.proofs.OnReaching.{IsCycle-by}
 use Rattle.velo_events.proofs.OnScans.{event_at, take-next}
 use Rattle.velo_logtext.proofs.OnDevices.{appends_then, appends_nothing, beginning_then}
 use Rattle.velo_certify.specs.Cycle.{HasNoCycleAt}
-use Rattle.velo_logtext.specs.Device.{one_more}
-use Rattle.velo_logtext.specs.Finding.{Answers}
+use Rattle.velo_logtext.specs.Device.{with_failure}
+use Rattle.velo_logtext.specs.Finding.{ReadsAs}
 use Rattle.velo_logtext.specs.Finding as reader
 use Rattle.velo_logtext.specs.declared.fault.LogFault.{LogFault}
 use Rattle.velo_logtext.specs.declared.fault.LogFault.TheVariants as log_fault
@@ -65,7 +65,7 @@ IsVerdict-clean log no_cycle order =
     }
 
 -- what a reader found is the input
-pub input_found : (read : Option (List ℕ)) (limit : ℕ) (bounds : Bounds) (log : List Event) → IfSome read (λ bytes. Answers limit bytes (Ok (bounds, log))) → IsInput read bounds log
+pub input_found : (read : Option (List ℕ)) (limit : ℕ) (bounds : Bounds) (log : List Event) → IfSome read (λ bytes. ReadsAs limit bytes (Ok (bounds, log))) → IsInput read bounds log
 input_found (Some bytes) limit bounds log found = found.0
 input_found None limit bounds log found = tt
 
@@ -107,7 +107,7 @@ module _ (names : Names) (w : WorldState) where
 
   -- the report broke off
   pub report_breaks : (list : Option (Bor (List ℕ))) → MayCertify w.log list → (out : Writing)
-      → AppendsPartOfReport out.old out.new names threads w.log → out.after ≡ one_more out.before
+      → AppendsPartOfReport out.old out.new names threads w.log → out.after ≡ with_failure out.before
       → (text : List ℕ) × IsOutput names (is_some list) threads w.log text × BreaksOff out text
   report_breaks list certifies out part failed =
       let output = output_of names threads w.log list certifies part.text part.is_report in
@@ -123,7 +123,7 @@ module _ (names : Names) (w : WorldState) where
   pub behind_report : {X F : Type 0} (list : List ℕ) → IsOrderOrCycle w.log list → (out : Writing) (middle : Option (List ℕ)) (count : ℕ)
       → AppendsReport out.old middle names threads w.log → count ≡ out.before → (result : Result X F)
       → OnOk result (AppendsCertificate middle out.new w.log list) → OnErr result (AppendsPartOfCertificate middle out.new w.log list)
-      → OnOk result (out.after ≡ count) → OnErr result (out.after ≡ one_more count) → WritesOutput names true w out result
+      → OnOk result (out.after ≡ count) → OnErr result (out.after ≡ with_failure count) → WritesOutput names true w out result
   behind_report list certifies out middle count report kept (Ok x) whole part ok err =
       (report.text ++ whole.text, output whole.text whole.is_certificate, (appends_then out.old middle out.new report.text whole.text report.appends whole.appends, ok ∙ kept))
     where
@@ -132,7 +132,7 @@ module _ (names : Names) (w : WorldState) where
   behind_report list certifies out middle count report kept (Err f) whole part ok err = (
     report.text ++ part.text,
     record { report = report.text; is_report = report.is_report; lines = part.text; certified = (list, certifies, part.is_certificate); whole = refl },
-    (beginning_then out.old middle out.new report.text part.text [] (report.text ++ part.text) report.appends part.appends (sym (append-nil (report.text ++ part.text))), err ∙ ap one_more kept),
+    (beginning_then out.old middle out.new report.text part.text [] (report.text ++ part.text) report.appends part.appends (sym (append-nil (report.text ++ part.text))), err ∙ ap with_failure kept),
   )
 
 -- ---- the answer of a check

@@ -12,7 +12,7 @@ use Rattle.velo_events.specs.WellFormed.{IsWellFormed}
 use Rattle.velo_logtext.specs.declared.fault.LogFault.{LogFault}
 use Rattle.velo_logtext.specs.declared.fault.LogFault.TheVariants as log_fault
 use Rattle.velo_logtext.specs.Text.{IsLogText}
-use Rattle.velo_logtext.specs.Finding.{Answers}
+use Rattle.velo_logtext.specs.Finding.{ReadsAs}
 use Rattle.velo_world.specs.World.{WorldState}
 use Rattle.velo_world.specs.Faults.{IsRefusedAt, IsWrongValueAt}
 use Rattle.velo_report.specs.declared.names.Names.{Names}
@@ -62,7 +62,7 @@ pub record IsWrongValue (limit : ℕ) (read : Option (List ℕ)) (p : ℕ) : Typ
 -- the bytes are the text of no log, by their first wrong line; or the source failed, or a growth was refused
 abbrev pub IsFaultOfLogText : Option (List ℕ) → LogFault → Type 0
 IsFaultOfLogText read fault =
-    IfSome read (λ bytes. Answers MOST_EVENTS bytes (Err fault))
+    IfSome read (λ bytes. ReadsAs MOST_EVENTS bytes (Err fault))
     × (fault ≡ log_fault.Memory → GrowthRefused)
 
 abbrev pub IsFaultOfInput : ℕ → ℕ → Option (List ℕ) → CheckFault → Type 0

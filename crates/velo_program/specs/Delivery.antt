@@ -3,7 +3,7 @@ use Rattle.std.specs.Prelude.{◌≡◌, ◌⊎◌, ℕ, List, Option, Some, Non
 use Rattle.std.specs.Borrow.{Bor}
 use Rattle.velo_events.specs.Refusals.{GrowthRefused}
 use Rattle.velo_logtext.specs.declared.fault.LogFault.TheVariants.{Read}
-use Rattle.velo_logtext.specs.Device.{one_more}
+use Rattle.velo_logtext.specs.Device.{with_failure}
 use Rattle.velo_program.specs.declared.check.CheckFault.TheVariants.{Log}
 use Rattle.velo_program.specs.Disk.{Disk, Store}
 use Rattle.velo_program.specs.Writing.{Writing, Writes, BreaksOff, WritesNothing}
@@ -31,8 +31,8 @@ LacksMemory answer = GrowthRefused × (answer ≡ silent Memory)
 
 -- the count of failures of a source behind this end: once more where it is a failed read, and only there
 abbrev pub failures_after : Fate → ℕ → ℕ
-failures_after (Check (Log Read)) failures = one_more failures
-failures_after ReadFailed failures = one_more failures
+failures_after (Check (Log Read)) failures = with_failure failures
+failures_after ReadFailed failures = with_failure failures
 failures_after end failures = failures
 
 -- ---- on the output

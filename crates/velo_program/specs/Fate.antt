@@ -6,7 +6,7 @@ use Rattle.velo_events.specs.declared.refusal.Refusal.TheVariants as refusal
 use Rattle.velo_logtext.specs.declared.fault.LogFault.{LogFault}
 use Rattle.velo_logtext.specs.declared.fault.LogFault.TheVariants.{BadHeader, BadLine, Truncated, TooLong, Read}
 use Rattle.velo_logtext.specs.declared.fault.LogFault.TheVariants as log_fault
-use Rattle.velo_logtext.specs.Device.{one_more}
+use Rattle.velo_logtext.specs.Device.{with_failure}
 use Rattle.velo_events.specs.declared.event.ThreadId.{ThreadId}
 use Rattle.velo_worker.specs.declared.ending.Ending.{Ending}
 use Rattle.velo_worker.specs.declared.ending.Ending.TheVariants as ending
@@ -167,7 +167,7 @@ fate_of (Err fault) = Check fault
 -- the line went out and this is the status, or the device failed once and the status is 5
 abbrev pub Closes : ℕ → List ℕ → Writing → ℕ → Type 0
 Closes status line err result =
-    ((result ≡ status) × Writes err line) ⊎ ((result ≡ 5) × (err.after ≡ one_more err.before))
+    ((result ≡ status) × Writes err line) ⊎ ((result ≡ 5) × (err.after ≡ with_failure err.before))
 
 -- the end is that of what the program came to
 abbrev pub Ends : Fate → Writing → ℕ → Type 0

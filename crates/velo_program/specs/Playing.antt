@@ -16,7 +16,7 @@ use Rattle.velo_worker.specs.Schedule.{Replays}
 use Rattle.velo_workload.specs.declared.fault.WorkFault.{WorkFault}
 use Rattle.velo_workload.specs.declared.fault.WorkFault.TheVariants as work_fault
 use Rattle.velo_workload.specs.declared.limits.TheConstants.{MOST_WORKLOAD_BYTES}
-use Rattle.velo_workload.specs.Program.{Program, Answers, meaning_of}
+use Rattle.velo_workload.specs.Program.{Program, ParsesAs, meaning_of}
 use Rattle.velo_world.specs.World.{WorldState}
 use Rattle.velo_program.specs.declared.check.Verdict.{Verdict}
 use Rattle.velo_program.specs.declared.fate.Fate.{Fate}
@@ -39,7 +39,7 @@ IsFaultOfText bytes fault =
     ((MOST_WORKLOAD_BYTES < length bytes) × (fault ≡ work_fault.TooMany 0))
     ⊎ ((length bytes ≤ MOST_WORKLOAD_BYTES)
     × (((¬ IsUtf8 bytes) × (fault ≡ work_fault.BadLine 0))
-    ⊎ Answers (meaning_of bytes) (Err fault)))
+    ⊎ ParsesAs (meaning_of bytes) (Err fault)))
 
 abbrev pub IsFaultOfWork : Option (List ℕ) → WorkFault → Type 0
 IsFaultOfWork read work_fault.Memory = GrowthRefused

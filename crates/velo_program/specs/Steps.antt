@@ -6,13 +6,13 @@ use Rattle.velo_events.specs.Refusals.{GrowthRefused}
 use Rattle.velo_events.specs.declared.event.Event.{Event}
 use Rattle.velo_explain.specs.declared.fault.ExplainFault.{ExplainFault}
 use Rattle.velo_explain.specs.declared.fault.ExplainFault.TheVariants as explain_fault
-use Rattle.velo_logtext.specs.Device.{one_more}
+use Rattle.velo_logtext.specs.Device.{with_failure}
 use Rattle.velo_report.specs.declared.names.Names.{Names}
 use Rattle.velo_report.specs.declared.names.Names.TheVariants.{Numbers}
 use Rattle.velo_worker.specs.declared.ending.Ending.{Ending}
 use Rattle.velo_workload.specs.Program.{Program}
 use Rattle.velo_world.specs.World.{AlarmOf, WorldState}
-use Rattle.velo_world.specs.declared.run.Alarm.{Alarm}
+use Rattle.velo_world.specs.declared.analysis.Alarm.{Alarm}
 use Rattle.velo_program.specs.declared.check.CheckFault.{CheckFault}
 use Rattle.velo_program.specs.declared.check.CheckFault.TheVariants as check_fault
 use Rattle.velo_program.specs.declared.check.Verdict.{Verdict}
@@ -52,7 +52,7 @@ pub record GrowsByPiece (before after : Option (List ℕ)) (old new : List ℕ) 
 -- the count of failures of the source behind a read
 abbrev pub failures_by : {X : Type 0} → Result X ReadFault → ℕ → ℕ
 failures_by (Ok x) failures = failures
-failures_by (Err read_fault.Failed) failures = one_more failures
+failures_by (Err read_fault.Failed) failures = with_failure failures
 failures_by (Err read_fault.Memory) failures = failures
 
 -- ---- a check

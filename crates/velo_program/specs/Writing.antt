@@ -1,7 +1,7 @@
 -- What a command does to the sink of its output.
 use Rattle.std.specs.Prelude.{◌≡◌, ℕ, List, Option, Result, Ok, Err}
 use Rattle.std.specs.Io.KnownBytes.{Appends}
-use Rattle.velo_logtext.specs.Device.{AppendsBeginning, one_more}
+use Rattle.velo_logtext.specs.Device.{AppendsBeginning, with_failure}
 
 -- the bytes of a sink, where they are known, and how often it has failed, before and after
 pub record Writing : Type 0 where
@@ -20,7 +20,7 @@ Writes out text = Appends out.old out.new text × (out.after ≡ out.before)
 
 -- a beginning of it went out, up to the sink's failure
 abbrev pub BreaksOff : Writing → List ℕ → Type 0
-BreaksOff out text = AppendsBeginning out.old out.new text × (out.after ≡ one_more out.before)
+BreaksOff out text = AppendsBeginning out.old out.new text × (out.after ≡ with_failure out.before)
 
 abbrev pub WritesNothing : Writing → Type 0
 WritesNothing out = (out.new ≡ out.old) × (out.after ≡ out.before)

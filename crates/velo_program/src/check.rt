@@ -29,7 +29,7 @@ use velo_logtext::{LogFault, Sink, Source, WriteFault, read_log};
 use velo_report::{Names, certificate_lines, report};
 use velo_traces::Trace;
 use velo_worker::Ending;
-use velo_world::{Closed, ReliveFault, World};
+use velo_world::{Closed, LogReplayFault, World};
 
 /// What a log shows.
 #[derive(Clone, Copy, Debug, PartialEq, Eq)]
@@ -68,13 +68,13 @@ pub enum CheckFault {
 }
 
 /// The same fault of a check.
-fn fault_of(fault: ReliveFault) -> CheckFault
+fn fault_of(fault: LogReplayFault) -> CheckFault
     ensures { result ≡ check_fault_of fault }
 {
     match fault {
-        ReliveFault::Refused { position, refusal } => CheckFault::Refused { position, refusal },
-        ReliveFault::WrongValue { position } => CheckFault::WrongValue { position },
-        ReliveFault::Memory => CheckFault::Memory,
+        LogReplayFault::Refused { position, refusal } => CheckFault::Refused { position, refusal },
+        LogReplayFault::WrongValue { position } => CheckFault::WrongValue { position },
+        LogReplayFault::Memory => CheckFault::Memory,
     }
 }
 
@@ -91,8 +91,8 @@ pub fn do_log(alloc: Global, config: Config, log: Trace) -> Result<Closed, Check
     ensures short { IfOk result (λ closed. length closed.log ≤ closed.config.events) }
     ensures err { IfErr result (λ fault. IsFaultOfLog config log.events fault) }
 {
-    let (world, shares) = match World::relive(alloc, config, log) {
-        Ok(relived) => relived,
+    let (world, shares) = match World::from_log(alloc, config, log) {
+        Ok(replayed) => replayed,
         Err(fault) => return Err(fault_of(fault)),
     };
     match world.close(shares) {
@@ -253,7 +253,7 @@ fn finish<O: Sink>(
 ///
 /// # Errors
 /// As `check_run`, but for `Write`.
-pub fn relive<I: Source>(
+pub fn do_input<I: Source>(
     alloc: Global,
     source: &mut I,
     events: u32,
@@ -302,7 +302,7 @@ pub fn check_run<I: Source, O: Sink>(
         (writing O.contents O.failures sink.old sink.new) (fate_of result) }
     ensures read { I.failures source.new ≡ failures_after (fate_of result) (I.failures source.old) }
 {
-    match relive(alloc, source, events, nodes) {
+    match do_input(alloc, source, events, nodes) {
         Ok(closed) => finish(alloc, closed, certificate, sink),
         Err(fault) => Err(fault),
     }

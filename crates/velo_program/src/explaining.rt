@@ -13,7 +13,7 @@ ghost use Rattle.velo_program.specs.declared.fate.Fate.TheVariants.{Finished};
 ghost use Rattle.velo_program.specs.declared.request.Request.TheVariants.{Explain};
 ghost use Rattle.velo_program.specs.Steps.{Explains, IsDrawn, fate_of_telling};
 
-use crate::check::relive;
+use crate::check::do_input;
 use crate::fate::Fate;
 use crate::files::{Files, is_standard_input, open_input};
 use crate::request::{ExplainOptions, Operand};
@@ -130,7 +130,7 @@ fn explain_log<I: Source, F: Files, O: Sink>(
         (reading I.remaining I.failures source.old source.new)
         (writing O.contents O.failures out.old out.new) result }
 {
-    match relive(alloc, source, MOST_EVENTS, MOST_NODES) {
+    match do_input(alloc, source, MOST_EVENTS, MOST_NODES) {
         Ok(closed) => {
             let fate = explain_closed(alloc, &closed, options.dot, files, out);
             drop(closed);

@@ -1,6 +1,6 @@
 //! How the program ends: its status, and the line on standard error.
 ghost use Rattle.std.specs.Prelude.{◌≡◌, ◌≤◌, ◌++◌, [], codes, decimal, length, take, IfOk, OnOk, OnErr};
-ghost use Rattle.velo_logtext.specs.Device.{one_more};
+ghost use Rattle.velo_logtext.specs.Device.{with_failure};
 ghost use Rattle.velo_program.specs.Writing.{Writes, writing};
 ghost use Rattle.velo_program.specs.Fate.{Ends, number_of, status_of, status_of_check, status_of_log, status_of_end, status_of_schedule, status_of_work, place_of_work, line_of, line_of_check, line_of_log, line_of_end, line_of_one_file, line_of_refused, line_of_schedule, line_of_work};
 
@@ -276,7 +276,7 @@ pub fn end_line<S: Sink>(fate: &Fate, sink: &mut S) -> Result<u8, WriteFault>
     ensures status { IfOk result (λ status. status ≡ status_of fate.now) }
     ensures text { OnOk result (Writes
         (writing S.contents S.failures sink.old sink.new) (line_of fate.now)) }
-    ensures err { OnErr result (S.failures sink.new ≡ one_more (S.failures sink.old)) }
+    ensures err { OnErr result (S.failures sink.new ≡ with_failure (S.failures sink.old)) }
 {
     let mut buffer = [0u8; LINE_ROOM];
     let end = put_line(&mut buffer, *fate);

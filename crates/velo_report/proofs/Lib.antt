@@ -1,4 +1,4 @@
-pub mod OnPassing
+pub mod OnBuffering
 pub mod OnLines
 pub mod OnReports
 pub mod OnRuns

@@ -8,7 +8,7 @@ use Rattle.velo_events.specs.Certificate.{positions_of, IsCycleAt}
 use Rattle.velo_events.specs.Graph.{HasCycle, IsClosing}
 use Rattle.velo_events.specs.Reordering.{IsReordering, IsSerial}
 use Rattle.velo_logtext.specs.Device.{AppendsBeginning}
-use Rattle.velo_report.specs.Lines.{numbers_line, Passes}
+use Rattle.velo_report.specs.Lines.{numbers_line, Buffers}
 
 -- the log has no cycle, and the list is a serial reordering of it
 pub record CertifiesOrder (log : List Event) (list : List ℕ) : Type 0 where
@@ -58,10 +58,10 @@ pub record AppendsPartOfCertificate (old new : Option (List ℕ)) (log : List Ev
 -- ---- on the way to a sink. Private contracts cite these words
 
 -- the certificate behind what was gathered: some went out, and the rest is gathered then
-pub record PassesCertificate (old new : Option (List ℕ)) (before after : List ℕ) (log : List Event) (list : List ℕ) : Type 0 where
+pub record BuffersCertificate (old new : Option (List ℕ)) (before after : List ℕ) (log : List Event) (list : List ℕ) : Type 0 where
   pub text : List ℕ
   pub is_certificate : IsCertificate log list text
-  pub passes : Passes old new before after text
+  pub buffers : Buffers old new before after text
 
 -- a beginning went out
 pub record FailsInCertificate (old new : Option (List ℕ)) (before : List ℕ) (log : List Event) (list : List ℕ) : Type 0 where

@@ -28,10 +28,10 @@ word_text (Number number) = decimal number
 abbrev pub words_text : List Word → List (List ℕ)
 words_text words = map word_text words
 
--- ---- how bytes pass through what is gathered
+-- ---- how bytes are buffered
 
 -- With these bytes behind what was gathered, some went out, and the rest is gathered then.
-pub record Passes (old new : Option (List ℕ)) (before after bytes : List ℕ) : Type 0 where
+pub record Buffers (old new : Option (List ℕ)) (before after bytes : List ℕ) : Type 0 where
   pub out : List ℕ
   pub appends : Appends old new out
   pub whole : before ++ bytes ≡ out ++ after

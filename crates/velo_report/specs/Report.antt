@@ -6,7 +6,7 @@ use Rattle.velo_events.specs.declared.event.Event.{Event}
 use Rattle.velo_events.specs.Tally.{events_of}
 use Rattle.velo_traces.specs.declared.block.Block.{Block}
 use Rattle.velo_logtext.specs.Device.{AppendsBeginning}
-use Rattle.velo_world.specs.declared.run.Alarm.{Alarm}
+use Rattle.velo_world.specs.declared.analysis.Alarm.{Alarm}
 use Rattle.velo_world.specs.World.{AlarmOf}
 use Rattle.velo_report.specs.declared.names.Names.{Names}
 use Rattle.velo_report.specs.Lines.{line_of}

@@ -1,9 +1,9 @@
 //! The certificate of a closed world.
 ghost use Rattle.std.specs.Prelude.{◌≡◌, ◌≤◌, ◌<◌, ◌+◌, ◌++◌, ◌↔◌, ℕ, length, slice_index, IsTrue, OnOk, OnErr};
 ghost use Rattle.velo_events.specs.Reordering.{IsReordering, IsSerial};
-ghost use Rattle.velo_logtext.specs.Device.{one_more, AppendsBeginning};
-ghost use Rattle.velo_report.specs.Certificate.{Certifies, serial_lines, PassesCertificate, FailsInCertificate, AppendsCertificate, AppendsPartOfCertificate};
-ghost use Rattle.velo_report.specs.Lines.{Passes};
+ghost use Rattle.velo_logtext.specs.Device.{with_failure, AppendsBeginning};
+ghost use Rattle.velo_report.specs.Certificate.{Certifies, serial_lines, BuffersCertificate, FailsInCertificate, AppendsCertificate, AppendsPartOfCertificate};
+ghost use Rattle.velo_report.specs.Lines.{Buffers};
 ghost use Rattle.velo_report.specs.Runs.{AreInside, GoesOn, IsDepthAfter, IsRun, IsStart};
 
 use crate::lines::Lines;
@@ -64,10 +64,10 @@ fn add_order<S: Sink>(
     requires reorders { IsReordering events.now order.now }
     requires serial { IsSerial events.now order.now }
     requires inside { AreInside events.now order.now }
-    ensures ok { OnOk result (Passes (S.contents sink.old) (S.contents sink.new) lines.old lines.new (serial_lines events.now order.now)) }
+    ensures ok { OnOk result (Buffers (S.contents sink.old) (S.contents sink.new) lines.old lines.new (serial_lines events.now order.now)) }
     ensures err { OnErr result (AppendsBeginning (S.contents sink.old) (S.contents sink.new) (lines.old ++ serial_lines events.now order.now)) }
     ensures no_failure { OnOk result (S.failures sink.new ≡ S.failures sink.old) }
-    ensures failure { OnErr result (S.failures sink.new ≡ one_more (S.failures sink.old)) }
+    ensures failure { OnErr result (S.failures sink.new ≡ with_failure (S.failures sink.old)) }
 {
     let mut from = 0;
     while from < order.len() {
@@ -86,10 +86,10 @@ fn add_certificate<S: Sink>(
     list: &[usize],
 ) -> Result<(), WriteFault>
     requires { Certifies closed.now.log list.now }
-    ensures ok { OnOk result (PassesCertificate (S.contents sink.old) (S.contents sink.new) lines.old lines.new closed.now.log list.now) }
+    ensures ok { OnOk result (BuffersCertificate (S.contents sink.old) (S.contents sink.new) lines.old lines.new closed.now.log list.now) }
     ensures err { OnErr result (FailsInCertificate (S.contents sink.old) (S.contents sink.new) lines.old closed.now.log list.now) }
     ensures no_failure { OnOk result (S.failures sink.new ≡ S.failures sink.old) }
-    ensures failure { OnErr result (S.failures sink.new ≡ one_more (S.failures sink.old)) }
+    ensures failure { OnErr result (S.failures sink.new ≡ with_failure (S.failures sink.old)) }
 {
     match closed.alarm() {
         None => add_order(lines, sink, closed.log().as_slice(), list),
@@ -111,7 +111,7 @@ pub fn certificate_lines<S: Sink>(
     ensures ok { OnOk result (AppendsCertificate (S.contents sink.old) (S.contents sink.new) closed.now.log list.now) }
     ensures err { OnErr result (AppendsPartOfCertificate (S.contents sink.old) (S.contents sink.new) closed.now.log list.now) }
     ensures no_failure { OnOk result (S.failures sink.new ≡ S.failures sink.old) }
-    ensures failure { OnErr result (S.failures sink.new ≡ one_more (S.failures sink.old)) }
+    ensures failure { OnErr result (S.failures sink.new ≡ with_failure (S.failures sink.old)) }
 {
     let mut lines = Lines::new();
     add_certificate(&mut lines, sink, closed, list)?;

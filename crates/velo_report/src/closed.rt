@@ -1,8 +1,8 @@
 //! The report of a closed world.
 ghost use Rattle.std.specs.Prelude.{◌≡◌, ◌<◌, ◌++◌, ◌∷◌, [], codes, decimal, length, Some, OnOk, OnErr};
 ghost use Rattle.std.specs.Option.{option_copied};
-ghost use Rattle.velo_logtext.specs.Device.{one_more, AppendsBeginning};
-ghost use Rattle.velo_report.specs.Lines.{Passes};
+ghost use Rattle.velo_logtext.specs.Device.{with_failure, AppendsBeginning};
+ghost use Rattle.velo_report.specs.Lines.{Buffers};
 ghost use Rattle.velo_report.specs.Report.{thread_line, thread_lines, blame_line, blame_lines, verdict_lines, AppendsReport, AppendsPartOfReport};
 
 use crate::lines::{Lines, Word};
@@ -21,10 +21,10 @@ fn add_thread<S: Sink>(
     thread: ThreadId,
 ) -> Result<(), WriteFault>
     requires { thread.0 < closed.now.config.bounds.threads }
-    ensures ok { OnOk result (Passes (S.contents sink.old) (S.contents sink.new) lines.old lines.new (thread_line names.now closed.now.log thread.0)) }
+    ensures ok { OnOk result (Buffers (S.contents sink.old) (S.contents sink.new) lines.old lines.new (thread_line names.now closed.now.log thread.0)) }
     ensures err { OnErr result (AppendsBeginning (S.contents sink.old) (S.contents sink.new) (lines.old ++ thread_line names.now closed.now.log thread.0)) }
     ensures no_failure { OnOk result (S.failures sink.new ≡ S.failures sink.old) }
-    ensures failure { OnErr result (S.failures sink.new ≡ one_more (S.failures sink.old)) }
+    ensures failure { OnErr result (S.failures sink.new ≡ with_failure (S.failures sink.old)) }
 {
     let number = u64::from(thread.0);
     let count = closed.tally(thread).events;
@@ -45,10 +45,10 @@ fn add_threads<S: Sink>(
     names: &Names,
     closed: &Closed,
 ) -> Result<(), WriteFault>
-    ensures ok { OnOk result (Passes (S.contents sink.old) (S.contents sink.new) lines.old lines.new (thread_lines names.now closed.now.log closed.now.config.bounds.threads)) }
+    ensures ok { OnOk result (Buffers (S.contents sink.old) (S.contents sink.new) lines.old lines.new (thread_lines names.now closed.now.log closed.now.config.bounds.threads)) }
     ensures err { OnErr result (AppendsBeginning (S.contents sink.old) (S.contents sink.new) (lines.old ++ thread_lines names.now closed.now.log closed.now.config.bounds.threads)) }
     ensures no_failure { OnOk result (S.failures sink.new ≡ S.failures sink.old) }
-    ensures failure { OnErr result (S.failures sink.new ≡ one_more (S.failures sink.old)) }
+    ensures failure { OnErr result (S.failures sink.new ≡ with_failure (S.failures sink.old)) }
 {
     for t in 0..closed.bounds().threads {
         add_thread(lines, sink, names, closed, ThreadId(t))?;
@@ -63,10 +63,10 @@ fn add_block<S: Sink>(
     names: &Names,
     block: Block,
 ) -> Result<(), WriteFault>
-    ensures ok { OnOk result (Passes (S.contents sink.old) (S.contents sink.new) lines.old lines.new (blame_line names.now block)) }
+    ensures ok { OnOk result (Buffers (S.contents sink.old) (S.contents sink.new) lines.old lines.new (blame_line names.now block)) }
     ensures err { OnErr result (AppendsBeginning (S.contents sink.old) (S.contents sink.new) (lines.old ++ blame_line names.now block)) }
     ensures no_failure { OnOk result (S.failures sink.new ≡ S.failures sink.old) }
-    ensures failure { OnErr result (S.failures sink.new ≡ one_more (S.failures sink.old)) }
+    ensures failure { OnErr result (S.failures sink.new ≡ with_failure (S.failures sink.old)) }
 {
     let first = block.first as u64;
     match names.of_label(block.label) {
@@ -84,10 +84,10 @@ fn add_blame<S: Sink>(
     names: &Names,
     blamed: &[Block],
 ) -> Result<(), WriteFault>
-    ensures ok { OnOk result (Passes (S.contents sink.old) (S.contents sink.new) lines.old lines.new (blame_lines names.now blamed.now)) }
+    ensures ok { OnOk result (Buffers (S.contents sink.old) (S.contents sink.new) lines.old lines.new (blame_lines names.now blamed.now)) }
     ensures err { OnErr result (AppendsBeginning (S.contents sink.old) (S.contents sink.new) (lines.old ++ blame_lines names.now blamed.now)) }
     ensures no_failure { OnOk result (S.failures sink.new ≡ S.failures sink.old) }
-    ensures failure { OnErr result (S.failures sink.new ≡ one_more (S.failures sink.old)) }
+    ensures failure { OnErr result (S.failures sink.new ≡ with_failure (S.failures sink.old)) }
 {
     if blamed.is_empty() {
         return lines.add_line(sink, "blame", &[Word::Text("none")]);
@@ -105,10 +105,10 @@ fn add_alarm<S: Sink>(
     names: &Names,
     alarm: &Alarm,
 ) -> Result<(), WriteFault>
-    ensures ok { OnOk result (Passes (S.contents sink.old) (S.contents sink.new) lines.old lines.new (verdict_lines names.now (Some alarm.now))) }
+    ensures ok { OnOk result (Buffers (S.contents sink.old) (S.contents sink.new) lines.old lines.new (verdict_lines names.now (Some alarm.now))) }
     ensures err { OnErr result (AppendsBeginning (S.contents sink.old) (S.contents sink.new) (lines.old ++ verdict_lines names.now (Some alarm.now))) }
     ensures no_failure { OnOk result (S.failures sink.new ≡ S.failures sink.old) }
-    ensures failure { OnErr result (S.failures sink.new ≡ one_more (S.failures sink.old)) }
+    ensures failure { OnErr result (S.failures sink.new ≡ with_failure (S.failures sink.old)) }
 {
     let position = Word::Number(alarm.position as u64);
     lines.add_line(sink, "verdict", &[Word::Text("alarm"), position])?;
@@ -124,10 +124,10 @@ fn add_verdict<S: Sink>(
     names: &Names,
     alarm: Option<&Alarm>,
 ) -> Result<(), WriteFault>
-    ensures ok { OnOk result (Passes (S.contents sink.old) (S.contents sink.new) lines.old lines.new (verdict_lines names.now (option_copied alarm.entry))) }
+    ensures ok { OnOk result (Buffers (S.contents sink.old) (S.contents sink.new) lines.old lines.new (verdict_lines names.now (option_copied alarm.entry))) }
     ensures err { OnErr result (AppendsBeginning (S.contents sink.old) (S.contents sink.new) (lines.old ++ verdict_lines names.now (option_copied alarm.entry))) }
     ensures no_failure { OnOk result (S.failures sink.new ≡ S.failures sink.old) }
-    ensures failure { OnErr result (S.failures sink.new ≡ one_more (S.failures sink.old)) }
+    ensures failure { OnErr result (S.failures sink.new ≡ with_failure (S.failures sink.old)) }
 {
     match alarm {
         None => lines.add_line(sink, "verdict", &[Word::Text("clean")]),
@@ -144,7 +144,7 @@ pub fn report<S: Sink>(closed: &Closed, names: &Names, sink: &mut S) -> Result<(
     ensures ok { OnOk result (AppendsReport (S.contents sink.old) (S.contents sink.new) names.now closed.now.config.bounds.threads closed.now.log) }
     ensures err { OnErr result (AppendsPartOfReport (S.contents sink.old) (S.contents sink.new) names.now closed.now.config.bounds.threads closed.now.log) }
     ensures no_failure { OnOk result (S.failures sink.new ≡ S.failures sink.old) }
-    ensures failure { OnErr result (S.failures sink.new ≡ one_more (S.failures sink.old)) }
+    ensures failure { OnErr result (S.failures sink.new ≡ with_failure (S.failures sink.old)) }
 {
     let alarm = closed.alarm();
     let total = closed.total();

@@ -1,8 +1,8 @@
 //! Lines on their way to a sink, which sees few writes.
 ghost use Rattle.std.specs.Prelude.{◌≡◌, ◌≤◌, ◌+◌, ◌++◌, [], ◌∷◌, codes, decimal, drop, length, take, OnOk, OnErr};
 ghost use Rattle.std.specs.Io.KnownBytes.{Appends};
-ghost use Rattle.velo_logtext.specs.Device.{one_more, AppendsBeginning};
-ghost use Rattle.velo_report.specs.Lines.{word_text, spaced, words_text, line_of, numbers_line, Passes};
+ghost use Rattle.velo_logtext.specs.Device.{with_failure, AppendsBeginning};
+ghost use Rattle.velo_report.specs.Lines.{word_text, spaced, words_text, line_of, numbers_line, Buffers};
 
 use itoa::{Buffer, write_digits};
 use std::marker::Model;
@@ -82,7 +82,7 @@ impl Lines {
         ensures empty { OnOk result (self.new ≡ []) }
         ensures err { OnErr result (AppendsBeginning (S.contents sink.old) (S.contents sink.new) self.old) }
         ensures no_failure { OnOk result (S.failures sink.new ≡ S.failures sink.old) }
-        ensures failure { OnErr result (S.failures sink.new ≡ one_more (S.failures sink.old)) }
+        ensures failure { OnErr result (S.failures sink.new ≡ with_failure (S.failures sink.old)) }
     {
         write_all(sink, &self.bytes[..self.used])?;
         self.used = 0;
@@ -91,10 +91,10 @@ impl Lines {
 
     /// Adds bytes: they are gathered, and what is too long for that is written.
     fn add<S: Sink>(&mut self, sink: &mut S, piece: &[u8]) -> Result<(), WriteFault>
-        ensures ok { OnOk result (Passes (S.contents sink.old) (S.contents sink.new) self.old self.new piece.now) }
+        ensures ok { OnOk result (Buffers (S.contents sink.old) (S.contents sink.new) self.old self.new piece.now) }
         ensures err { OnErr result (AppendsBeginning (S.contents sink.old) (S.contents sink.new) (self.old ++ piece.now)) }
         ensures no_failure { OnOk result (S.failures sink.new ≡ S.failures sink.old) }
-        ensures failure { OnErr result (S.failures sink.new ≡ one_more (S.failures sink.old)) }
+        ensures failure { OnErr result (S.failures sink.new ≡ with_failure (S.failures sink.old)) }
     {
         if piece.len() <= ROOM - self.used {
             self.append(piece);
@@ -110,10 +110,10 @@ impl Lines {
 
     /// Adds a word.
     fn add_word<S: Sink>(&mut self, sink: &mut S, word: Word) -> Result<(), WriteFault>
-        ensures ok { OnOk result (Passes (S.contents sink.old) (S.contents sink.new) self.old self.new (word_text word.entry)) }
+        ensures ok { OnOk result (Buffers (S.contents sink.old) (S.contents sink.new) self.old self.new (word_text word.entry)) }
         ensures err { OnErr result (AppendsBeginning (S.contents sink.old) (S.contents sink.new) (self.old ++ word_text word.entry)) }
         ensures no_failure { OnOk result (S.failures sink.new ≡ S.failures sink.old) }
-        ensures failure { OnErr result (S.failures sink.new ≡ one_more (S.failures sink.old)) }
+        ensures failure { OnErr result (S.failures sink.new ≡ with_failure (S.failures sink.old)) }
     {
         match word {
             Word::Text(text) => self.add(sink, text.as_bytes()),
@@ -126,10 +126,10 @@ impl Lines {
 
     /// Adds a space and a word.
     fn add_spaced<S: Sink>(&mut self, sink: &mut S, word: Word) -> Result<(), WriteFault>
-        ensures ok { OnOk result (Passes (S.contents sink.old) (S.contents sink.new) self.old self.new (spaced (word_text word.entry))) }
+        ensures ok { OnOk result (Buffers (S.contents sink.old) (S.contents sink.new) self.old self.new (spaced (word_text word.entry))) }
         ensures err { OnErr result (AppendsBeginning (S.contents sink.old) (S.contents sink.new) (self.old ++ spaced (word_text word.entry))) }
         ensures no_failure { OnOk result (S.failures sink.new ≡ S.failures sink.old) }
-        ensures failure { OnErr result (S.failures sink.new ≡ one_more (S.failures sink.old)) }
+        ensures failure { OnErr result (S.failures sink.new ≡ with_failure (S.failures sink.old)) }
     {
         self.add(sink, b" ")?;
         self.add_word(sink, word)
@@ -137,10 +137,10 @@ impl Lines {
 
     /// Adds a space and a number.
     fn add_number<S: Sink>(&mut self, sink: &mut S, number: u64) -> Result<(), WriteFault>
-        ensures ok { OnOk result (Passes (S.contents sink.old) (S.contents sink.new) self.old self.new (spaced (decimal number))) }
+        ensures ok { OnOk result (Buffers (S.contents sink.old) (S.contents sink.new) self.old self.new (spaced (decimal number))) }
         ensures err { OnErr result (AppendsBeginning (S.contents sink.old) (S.contents sink.new) (self.old ++ spaced (decimal number))) }
         ensures no_failure { OnOk result (S.failures sink.new ≡ S.failures sink.old) }
-        ensures failure { OnErr result (S.failures sink.new ≡ one_more (S.failures sink.old)) }
+        ensures failure { OnErr result (S.failures sink.new ≡ with_failure (S.failures sink.old)) }
     {
         let mut text = [0; LONGEST];
         let start = write_spaced(number, &mut text);
@@ -157,10 +157,10 @@ impl Lines {
         first: &str,
         others: &[Word],
     ) -> Result<(), WriteFault>
-        ensures ok { OnOk result (Passes (S.contents sink.old) (S.contents sink.new) self.old self.new (line_of first.now (words_text others.now))) }
+        ensures ok { OnOk result (Buffers (S.contents sink.old) (S.contents sink.new) self.old self.new (line_of first.now (words_text others.now))) }
         ensures err { OnErr result (AppendsBeginning (S.contents sink.old) (S.contents sink.new) (self.old ++ line_of first.now (words_text others.now))) }
         ensures no_failure { OnOk result (S.failures sink.new ≡ S.failures sink.old) }
-        ensures failure { OnErr result (S.failures sink.new ≡ one_more (S.failures sink.old)) }
+        ensures failure { OnErr result (S.failures sink.new ≡ with_failure (S.failures sink.old)) }
     {
         self.add_word(sink, Word::Text(first))?;
         for word in others {
@@ -179,10 +179,10 @@ impl Lines {
         first: &str,
         numbers: &[usize],
     ) -> Result<(), WriteFault>
-        ensures ok { OnOk result (Passes (S.contents sink.old) (S.contents sink.new) self.old self.new (numbers_line first.now numbers.now)) }
+        ensures ok { OnOk result (Buffers (S.contents sink.old) (S.contents sink.new) self.old self.new (numbers_line first.now numbers.now)) }
         ensures err { OnErr result (AppendsBeginning (S.contents sink.old) (S.contents sink.new) (self.old ++ numbers_line first.now numbers.now)) }
         ensures no_failure { OnOk result (S.failures sink.new ≡ S.failures sink.old) }
-        ensures failure { OnErr result (S.failures sink.new ≡ one_more (S.failures sink.old)) }
+        ensures failure { OnErr result (S.failures sink.new ≡ with_failure (S.failures sink.old)) }
     {
         self.add_word(sink, Word::Text(first))?;
         for number in numbers {

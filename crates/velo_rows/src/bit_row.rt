@@ -2,7 +2,7 @@ ghost use Rattle.std.specs.Prelude.{◌≡◌, ◌+◌, ◌/◌, length};
 ghost use Rattle.velo_rows.specs.Bits.{AreBelow, IsEnd, bits_of, below_bits};
 
 use crate::ancestors::Ancestors;
-use crate::words::{end_of_bits, is_up, join, meet, put_all_down, put_down, put_up, take_away};
+use crate::words::{clear_bit, clear_bits, end_of_bits, is_set, join, meet, set_bit, take_away};
 use std::alloc::Global;
 use velo_events::Memory;
 use velo_events::growth::filled;
@@ -36,16 +36,16 @@ impl Ancestors for BitRow {
     }
 
     fn contains(&self, slot: u16) -> bool {
-        is_up(&self.words, slot as usize)
+        is_set(&self.words, slot as usize)
     }
 
     fn insert(&mut self, slot: u16) {
-        put_up(&mut self.words, slot as usize);
+        set_bit(&mut self.words, slot as usize);
         self.end = self.end.max(slot as usize / 64 + 1);
     }
 
     fn remove(&mut self, slot: u16) {
-        put_down(&mut self.words, slot as usize);
+        clear_bit(&mut self.words, slot as usize);
         self.end = end_of_bits(&self.words, self.end);
     }
 
@@ -68,7 +68,7 @@ impl Ancestors for BitRow {
     }
 
     fn clear(&mut self) {
-        put_all_down(&mut self.words, self.end);
+        clear_bits(&mut self.words, self.end);
         self.end = 0;
     }
 }

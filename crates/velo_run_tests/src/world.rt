@@ -14,7 +14,7 @@ use velo_events::{
 };
 use velo_ledger::{Share, Shares};
 use velo_traces::{Block, Trace};
-use velo_world::{Alarm, ReliveFault, Reply, World};
+use velo_world::{Alarm, LogReplayFault, Reply, World};
 
 type Step = (ThreadId, Action);
 
@@ -348,20 +348,20 @@ fn two_threads(rt: &impl Abort, events: u32, nodes: u16) -> Config
     Config::new(1, bounds, events, nodes, false).expect(rt, "a configuration")
 }
 
-/// Relives the recorded events, the one at the place changed, and answers whether the world has the alarm and the whole log.
-fn relive_changed_at(
+/// Replays the recorded events, the one at the place changed, and answers whether the world has the alarm and the whole log.
+fn replay_changed_at(
     rt: &impl Abort,
     alloc: Global,
     events: u32,
     nodes: u16,
     place: usize,
     kind: Kind,
-) -> Result<bool, ReliveFault> {
+) -> Result<bool, LogReplayFault> {
     let config = two_threads(rt, events, nodes);
-    match World::relive(alloc, config, log_changed_at(rt, alloc, place, kind)) {
-        Ok(relived) => {
-            let has_it_all = has_it_all(&relived.0);
-            drop(relived);
+    match World::from_log(alloc, config, log_changed_at(rt, alloc, place, kind)) {
+        Ok(replayed) => {
+            let has_it_all = has_it_all(&replayed.0);
+            drop(replayed);
             Ok(has_it_all)
         }
         Err(fault) => Err(fault),
@@ -369,7 +369,7 @@ fn relive_changed_at(
 }
 
 /// Limits, a changed event, and what comes of the log.
-static RELIVED: [(u32, u16, usize, Kind, Result<bool, ReliveFault>); 8] = [
+static REPLAYED: [(u32, u16, usize, Kind, Result<bool, LogReplayFault>); 8] = [
     (100, 2, 0, Kind::Fork(OTHER), Ok(true)),
     (8, 2, 0, Kind::Fork(OTHER), Ok(true)),
     (
@@ -377,7 +377,7 @@ static RELIVED: [(u32, u16, usize, Kind, Result<bool, ReliveFault>); 8] = [
         2,
         0,
         Kind::Fork(OTHER),
-        Err(ReliveFault::Refused {
+        Err(LogReplayFault::Refused {
             position: 7,
             refusal: Refusal::LogFull,
         }),
@@ -387,7 +387,7 @@ static RELIVED: [(u32, u16, usize, Kind, Result<bool, ReliveFault>); 8] = [
         1,
         0,
         Kind::Fork(OTHER),
-        Err(ReliveFault::Refused {
+        Err(LogReplayFault::Refused {
             position: 3,
             refusal: Refusal::GraphFull,
         }),
@@ -398,7 +398,7 @@ static RELIVED: [(u32, u16, usize, Kind, Result<bool, ReliveFault>); 8] = [
         2,
         5,
         Kind::Exit,
-        Err(ReliveFault::Refused {
+        Err(LogReplayFault::Refused {
             position: 5,
             refusal: Refusal::BlockOpen,
         }),
@@ -408,26 +408,26 @@ static RELIVED: [(u32, u16, usize, Kind, Result<bool, ReliveFault>); 8] = [
         2,
         2,
         Kind::Read(X, 9),
-        Err(ReliveFault::WrongValue { position: 2 }),
+        Err(LogReplayFault::WrongValue { position: 2 }),
     ),
     (
         7,
         2,
         7,
         Kind::Read(X, 9),
-        Err(ReliveFault::WrongValue { position: 7 }),
+        Err(LogReplayFault::WrongValue { position: 7 }),
     ),
 ];
 
 #[test]
-fn a_recorded_log_is_relived(rt: HostRuntime) {
-    for (events, nodes, place, kind, wanted) in &RELIVED {
-        let relived = relive_changed_at(&rt, rt.alloc(), *events, *nodes, *place, *kind);
-        assert_eq!(rt; relived, *wanted);
+fn a_recorded_log_is_replayed(rt: HostRuntime) {
+    for (events, nodes, place, kind, wanted) in &REPLAYED {
+        let replayed = replay_changed_at(&rt, rt.alloc(), *events, *nodes, *place, *kind);
+        assert_eq!(rt; replayed, *wanted);
     }
 }
 
-/// Relives the recorded events, lets the threads go on by the steps, and answers whether the alarm of the lost update comes.
+/// Replays the recorded events, lets the threads go on by the steps, and answers whether the alarm of the lost update comes.
 fn goes_on(rt: &impl Abort, alloc: Global, recorded: &[(ThreadId, Kind)], steps: &[Step]) -> bool {
     let mut log = Trace::new(alloc);
     for (thread, kind) in recorded {
@@ -437,8 +437,8 @@ fn goes_on(rt: &impl Abort, alloc: Global, recorded: &[(ThreadId, Kind)], steps:
         })
         .expect(rt, "memory");
     }
-    let relived = World::relive(alloc, two_threads(rt, 100, 2), log);
-    let (mut world, mut shares) = relived.expect(rt, "a world");
+    let replayed = World::from_log(alloc, two_threads(rt, 100, 2), log);
+    let (mut world, mut shares) = replayed.expect(rt, "a world");
     let outcomes = world.run(&mut shares, steps);
     let alarmed = is_the_alarm(world.alarm());
     drop((world, shares, outcomes));

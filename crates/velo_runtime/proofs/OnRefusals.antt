@@ -18,7 +18,7 @@ use Rattle.velo_ledger.specs.Views.{Holding}
 use Rattle.velo_world.specs.World.{WorldState, meaning}
 use Rattle.velo_world.specs.World.{FitsLog}
 use Rattle.velo_world.specs.World.{Acts, Forks, Refuses}
-use Rattle.velo_world.specs.declared.run.Reply.{Reply}
+use Rattle.velo_world.specs.declared.analysis.Reply.{Reply}
 use Rattle.velo_runtime.specs.Rooms.{RoomState, IsThere}
 use Rattle.velo_runtime.specs.Steps.{ActsIn, ForksIn}
 use Rattle.velo_runtime.specs.Turns.{wanted_by, lock_wanted, thread_wanted}

@@ -8,7 +8,7 @@ use Rattle.velo_events.specs.declared.refusal.Refusal.{Refusal}
 use Rattle.velo_events.specs.Meaning.{kind_for}
 use Rattle.velo_ledger.specs.Views.{Holding}
 use Rattle.velo_world.specs.World.{value_read}
-use Rattle.velo_world.specs.declared.run.Reply.{Reply}
+use Rattle.velo_world.specs.declared.analysis.Reply.{Reply}
 use Rattle.velo_runtime.specs.Seats.{GainsEventAt, GainsEventOf, GainsEventBy}
 
 -- the action is of one kind over every log, and reads nothing

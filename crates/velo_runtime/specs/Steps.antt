@@ -7,7 +7,7 @@ use Rattle.velo_events.specs.declared.refusal.Refusal.TheVariants.{Foreign}
 use Rattle.velo_ledger.specs.Views.{Holding}
 use Rattle.velo_world.specs.World.{FitsLog}
 use Rattle.velo_world.specs.World.{Acts, Forks}
-use Rattle.velo_world.specs.declared.run.Reply.{Reply}
+use Rattle.velo_world.specs.declared.analysis.Reply.{Reply}
 use Rattle.velo_runtime.specs.Rooms.{RoomState}
 
 -- the share fits, the step is the world's, and no wait changes

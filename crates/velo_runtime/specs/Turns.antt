@@ -8,7 +8,7 @@ use Rattle.velo_events.specs.declared.refusal.Refusal.TheVariants.{Busy, NotExit
 use Rattle.velo_ledger.specs.Views.{Holding}
 use Rattle.velo_world.specs.World.{FitsLog}
 use Rattle.velo_world.specs.World.{Acts}
-use Rattle.velo_world.specs.declared.run.Reply.{Reply}
+use Rattle.velo_world.specs.declared.analysis.Reply.{Reply}
 use Rattle.velo_runtime.specs.declared.wait.Wanted.{Wanted}
 use Rattle.velo_runtime.specs.declared.wait.Wanted.TheVariants.{Lock, LockShared, Thread}
 use Rattle.velo_runtime.specs.declared.wait.Turn.{Turn}

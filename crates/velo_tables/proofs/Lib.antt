@@ -1,6 +1,6 @@
 pub mod OnReaders
 pub mod OnRenamed
-pub mod OnKept
+pub mod OnLastAccesses
 pub mod OnOthers
 pub mod OnCells
 pub mod OnForgotten

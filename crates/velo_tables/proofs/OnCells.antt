@@ -6,11 +6,11 @@ use Rattle.std.proofs.Math.Seq.{take-set-lt}
 use Rattle.std.proofs.lemmas.Bool.{cases_eq, cases_lt, ltb-true, lt-ltb}
 use Rattle.std.proofs.lemmas.List.{ext_get_or, get_or-set_same, get_or-set_other, get_or_default, length-map, length-set, length-take-le, take-append-le, drop-append-le, drop_at, take_all, take-set-le, drop-set-lt, drop-set-add, set_past, set-get_or, map-append}
 use Rattle.velo_arena.specs.declared.step.Step.{Step}
-use Rattle.velo_tables.specs.declared.cells.Reads.{Reads}
-use Rattle.velo_tables.specs.declared.cells.LastAccesses.{LastAccesses}
+use Rattle.velo_tables.specs.declared.cells.ReadSpan.{ReadSpan}
+use Rattle.velo_tables.specs.declared.cells.CellAccesses.{CellAccesses}
 use Rattle.velo_events.specs.Growth.{filled_up}
 use Rattle.velo_tables.specs.Readers.{AreReaders}
-use Rattle.velo_tables.specs.Kept.{Accesses, no_accesses}
+use Rattle.velo_tables.specs.LastAccesses.{Accesses, no_accesses}
 use Rattle.velo_tables.specs.Recorded.{with_write, with_read, with_reads_of}
 use Rattle.velo_tables.specs.Cells.{reads_in, accesses_in, blank_cell, AreApart, place_of, AreReadsLaidOut}
 use Rattle.velo_events.proofs.OnFilling.{get_or-filled_up, length-filled_up, filled_up-long}
@@ -21,27 +21,27 @@ Entries = List (Option Step)
 
 -- ---- the reads of one cell
 
-abbrev Fits : Entries → Reads → Type 0
+abbrev Fits : Entries → ReadSpan → Type 0
 Fits entries v = v.start + v.count ≤ length entries
 
-pub length-reads_in : (entries : Entries) (v : Reads) → Fits entries v → length (reads_in entries v) ≡ v.count
+pub length-reads_in : (entries : Entries) (v : ReadSpan) → Fits entries v → length (reads_in entries v) ≡ v.count
 length-reads_in entries v fits = length-take-le v.count (drop v.start entries) (omega (arith, fits, length-drop v.start entries))
 
 -- more behind change nothing
-pub reads_in-append : (entries more : Entries) (v : Reads) → Fits entries v → reads_in (entries ++ more) v ≡ reads_in entries v
+pub reads_in-append : (entries more : Entries) (v : ReadSpan) → Fits entries v → reads_in (entries ++ more) v ≡ reads_in entries v
 reads_in-append entries more v fits =
     ap (take v.count) (drop-append-le v.start entries more (omega (arith, fits)))
     ∙ take-append-le v.count (drop v.start entries) more (omega (arith, fits, length-drop v.start entries))
 
-pub length-longer : (entries : Entries) (v : Reads) (count : ℕ) → Fits entries v → v.count ≤ count → length (filled_up None count (reads_in entries v)) ≡ count
+pub length-longer : (entries : Entries) (v : ReadSpan) (count : ℕ) → Fits entries v → v.count ≤ count → length (filled_up None count (reads_in entries v)) ≡ count
 length-longer entries v count fits longer = omega (arith, length-filled_up None count (reads_in entries v), length-reads_in entries v fits, longer)
 
 -- one of its own is written
-pub reads_in-set : (entries : Entries) (v : Reads) (t : ℕ) (step : Option Step) → t < v.count → reads_in (set entries (v.start + t) step) v ≡ set (reads_in entries v) t step
+pub reads_in-set : (entries : Entries) (v : ReadSpan) (t : ℕ) (step : Option Step) → t < v.count → reads_in (set entries (v.start + t) step) v ≡ set (reads_in entries v) t step
 reads_in-set entries v t step inside = ap (take v.count) (drop-set-add v.start entries t step) ∙ take-set-lt v.count (drop v.start entries) t step inside
 
 -- one of another cell is written
-pub reads_in-set_other : (entries : Entries) (v w : Reads) (t : ℕ) (step : Option Step) → t < v.count → AreApart v w → reads_in (set entries (v.start + t) step) w ≡ reads_in entries w
+pub reads_in-set_other : (entries : Entries) (v w : ReadSpan) (t : ℕ) (step : Option Step) → t < v.count → AreApart v w → reads_in (set entries (v.start + t) step) w ≡ reads_in entries w
 reads_in-set_other entries v w t step inside apart =
     ⊎_elim
     (λ before. ap (take w.count) (drop-set-lt w.start entries (v.start + t) step (omega (arith, before, inside))))
@@ -54,14 +54,14 @@ reads_in-set_other entries v w t step inside apart =
 
 -- ---- one cell is replaced
 
-AreApart-sym : (v w : Reads) → AreApart v w → AreApart w v
+AreApart-sym : (v w : ReadSpan) → AreApart v w → AreApart w v
 AreApart-sym v w apart = ⊎_elim (λ before. inr before) (λ behind. inl behind) apart
 
-pub get_or-accesses : (entries : Entries) (cells : List LastAccesses) (i : ℕ) → get_or (map (accesses_in entries) cells) i no_accesses ≡ accesses_in entries (get_or cells i blank_cell)
+pub get_or-accesses : (entries : Entries) (cells : List CellAccesses) (i : ℕ) → get_or (map (accesses_in entries) cells) i no_accesses ≡ accesses_in entries (get_or cells i blank_cell)
 get_or-accesses entries cells i = get_or-map (accesses_in entries) cells i blank_cell
 
 -- nothing is changed in the reads of the others, and the new one is laid out like them
-pub record Replaces (entries : Entries) (cells : List LastAccesses) (x : ℕ) (new : LastAccesses) (after : Entries) : Type 0 where
+pub record Replaces (entries : Entries) (cells : List CellAccesses) (x : ℕ) (new : CellAccesses) (after : Entries) : Type 0 where
   pub there : x < length cells
   pub longer : length entries ≤ length after
   pub others : (j : ℕ) → ¬ (x ≡ j) → reads_in after (place_of cells j) ≡ reads_in entries (place_of cells j)
@@ -69,8 +69,8 @@ pub record Replaces (entries : Entries) (cells : List LastAccesses) (x : ℕ) (n
   pub apart : (j : ℕ) → ¬ (x ≡ j) → AreApart new.reads (place_of cells j)
   pub readers : AreReaders new.readers (reads_in after new.reads)
 
-module _ (entries : Entries) (cells : List LastAccesses) (x : ℕ) (new : LastAccesses) (after : Entries) (replaces : Replaces entries cells x new after) where
-  abbrev replaced : List LastAccesses
+module _ (entries : Entries) (cells : List CellAccesses) (x : ℕ) (new : CellAccesses) (after : Entries) (replaces : Replaces entries cells x new after) where
+  abbrev replaced : List CellAccesses
   replaced = set cells x new
 
   here : get_or replaced x blank_cell ≡ new
@@ -101,28 +101,28 @@ module _ (entries : Entries) (cells : List LastAccesses) (x : ℕ) (new : LastAc
   module _ (laid : AreReadsLaidOut entries cells) where
     within-replaced : (j : ℕ) → Fits after (place_of replaced j)
     within-replaced j = ⊎_elim
-        (λ at. subst (λ k. Fits after (place_of replaced k)) at (subst (λ (v : LastAccesses). Fits after v.reads) (sym here) replaces.fits))
-        (λ off. subst (λ (v : LastAccesses). Fits after v.reads) (sym (other j off)) (omega (arith, laid.within j, replaces.longer)))
+        (λ at. subst (λ k. Fits after (place_of replaced k)) at (subst (λ (v : CellAccesses). Fits after v.reads) (sym here) replaces.fits))
+        (λ off. subst (λ (v : CellAccesses). Fits after v.reads) (sym (other j off)) (omega (arith, laid.within j, replaces.longer)))
         (cases_eq x j)
 
     apart-replaced : (j k : ℕ) → ¬ (j ≡ k) → AreApart (place_of replaced j) (place_of replaced k)
     apart-replaced j k off = ⊎_elim
         (λ at. subst (λ m. AreApart (place_of replaced m) (place_of replaced k)) at
-        (subst (λ (v : LastAccesses). AreApart v.reads (place_of replaced k)) (sym here)
-        (subst (λ (v : LastAccesses). AreApart new.reads v.reads) (sym (other k (λ e. off (sym at ∙ e)))) (replaces.apart k (λ e. off (sym at ∙ e))))))
-        (λ j_off. subst (λ (v : LastAccesses). AreApart v.reads (place_of replaced k)) (sym (other j j_off))
+        (subst (λ (v : CellAccesses). AreApart v.reads (place_of replaced k)) (sym here)
+        (subst (λ (v : CellAccesses). AreApart new.reads v.reads) (sym (other k (λ e. off (sym at ∙ e)))) (replaces.apart k (λ e. off (sym at ∙ e))))))
+        (λ j_off. subst (λ (v : CellAccesses). AreApart v.reads (place_of replaced k)) (sym (other j j_off))
         (⊎_elim
         (λ at. subst (λ m. AreApart (place_of cells j) (place_of replaced m)) at
-        (subst (λ (v : LastAccesses). AreApart (place_of cells j) v.reads) (sym here) (AreApart-sym new.reads (place_of cells j) (replaces.apart j j_off))))
-        (λ k_off. subst (λ (v : LastAccesses). AreApart (place_of cells j) v.reads) (sym (other k k_off)) (laid.apart j k off))
+        (subst (λ (v : CellAccesses). AreApart (place_of cells j) v.reads) (sym here) (AreApart-sym new.reads (place_of cells j) (replaces.apart j j_off))))
+        (λ k_off. subst (λ (v : CellAccesses). AreApart (place_of cells j) v.reads) (sym (other k k_off)) (laid.apart j k off))
         (cases_eq x k)))
         (cases_eq x j)
 
     readers-replaced : (j : ℕ) → AreReaders (get_or replaced j blank_cell).readers (reads_in after (place_of replaced j))
     readers-replaced j = ⊎_elim
         (λ at. subst (λ k. AreReaders (get_or replaced k blank_cell).readers (reads_in after (place_of replaced k))) at
-        (subst (λ (v : LastAccesses). AreReaders v.readers (reads_in after v.reads)) (sym here) replaces.readers))
-        (λ off. subst (λ (v : LastAccesses). AreReaders v.readers (reads_in after v.reads)) (sym (other j off))
+        (subst (λ (v : CellAccesses). AreReaders v.readers (reads_in after v.reads)) (sym here) replaces.readers))
+        (λ off. subst (λ (v : CellAccesses). AreReaders v.readers (reads_in after v.reads)) (sym (other j off))
         (subst (AreReaders (get_or cells j blank_cell).readers) (sym (replaces.others j off)) (laid.readers j)))
         (cases_eq x j)
 
@@ -131,20 +131,20 @@ module _ (entries : Entries) (cells : List LastAccesses) (x : ℕ) (new : LastAc
 
 -- ---- what the calls do, by place
 
-abbrev written : LastAccesses → Option Step → LastAccesses
+abbrev written : CellAccesses → Option Step → CellAccesses
 written v step = record { write = step; readers = v.readers; reads = v.reads }
 
-abbrev with_readers : LastAccesses → ℕ → LastAccesses
+abbrev with_readers : CellAccesses → ℕ → CellAccesses
 with_readers v readers = record { write = v.write; readers = readers; reads = v.reads }
 
-abbrev moved : ℕ → ℕ → LastAccesses → LastAccesses
+abbrev moved : ℕ → ℕ → CellAccesses → CellAccesses
 moved start count v = record { write = v.write; readers = v.readers; reads = record { start = start; count = count } }
 
 abbrev with_reads_in : Option Step → Entries → Accesses
 with_reads_in write reads = record { write = write; reads = reads }
 
-module _ (entries : Entries) (cells : List LastAccesses) (laid : AreReadsLaidOut entries cells) (x : ℕ) (there : x < length cells) where
-  abbrev old : LastAccesses
+module _ (entries : Entries) (cells : List CellAccesses) (laid : AreReadsLaidOut entries cells) (x : ℕ) (there : x < length cells) where
+  abbrev old : CellAccesses
   old = get_or cells x blank_cell
 
   -- a write is recorded
@@ -190,7 +190,7 @@ module _ (entries : Entries) (cells : List LastAccesses) (laid : AreReadsLaidOut
 
 -- ---- what the calls do, as callers see it
 
-module _ (entries : Entries) (cells : List LastAccesses) (lists : List Accesses) (laid : AreReadsLaidOut entries cells) (view : map (accesses_in entries) cells ≡ lists) where
+module _ (entries : Entries) (cells : List CellAccesses) (lists : List Accesses) (laid : AreReadsLaidOut entries cells) (view : map (accesses_in entries) cells ≡ lists) where
   pub same_count : length cells ≡ length lists
   same_count = sym (length-map cells (accesses_in entries)) ∙ ap length view
 
@@ -208,35 +208,35 @@ module _ (entries : Entries) (cells : List LastAccesses) (lists : List Accesses)
     pub there : x < length cells
     there = omega (arith, inside, same_count)
 
-    pub found-is : (v : LastAccesses) → v ≡ get_or cells x v → v ≡ get_or cells x blank_cell
+    pub found-is : (v : CellAccesses) → v ≡ get_or cells x v → v ≡ get_or cells x blank_cell
     found-is v at = at ∙ get_or_default cells x v blank_cell there
 
-    pub found-fits : (v : LastAccesses) → v ≡ get_or cells x v → Fits entries v.reads
-    found-fits v at = subst (λ (u : LastAccesses). Fits entries u.reads) (sym (found-is v at)) (laid.within x)
+    pub found-fits : (v : CellAccesses) → v ≡ get_or cells x v → Fits entries v.reads
+    found-fits v at = subst (λ (u : CellAccesses). Fits entries u.reads) (sym (found-is v at)) (laid.within x)
 
     -- the part that a call gives of them
-    pub part-is : (v : LastAccesses) (now : Entries) → v ≡ get_or cells x v → now ≡ entries → take (v.reads.start + v.reads.count - v.reads.start) (drop v.reads.start now) ≡ (get_or lists x no_accesses).reads
+    pub part-is : (v : CellAccesses) (now : Entries) → v ≡ get_or cells x v → now ≡ entries → take (v.reads.start + v.reads.count - v.reads.start) (drop v.reads.start now) ≡ (get_or lists x no_accesses).reads
     part-is v now at same =
         ap (λ k. take k (drop v.reads.start now)) (counted v)
-        ∙ (ap (λ es. reads_in es v.reads) same ∙ (ap (λ (u : LastAccesses). reads_in entries u.reads) (found-is v at) ∙ sym (ap (λ (a : Accesses). a.reads) (accesses-are x))))
+        ∙ (ap (λ es. reads_in es v.reads) same ∙ (ap (λ (u : CellAccesses). reads_in entries u.reads) (found-is v at) ∙ sym (ap (λ (a : Accesses). a.reads) (accesses-are x))))
       where
-        counted : (u : LastAccesses) → u.reads.start + u.reads.count - u.reads.start ≡ u.reads.count
+        counted : (u : CellAccesses) → u.reads.start + u.reads.count - u.reads.start ≡ u.reads.count
         counted u = omega arith
 
-    pub part-fits : (v : LastAccesses) (now : Entries) → v ≡ get_or cells x v → now ≡ entries → v.reads.start + v.reads.count ≤ length now
+    pub part-fits : (v : CellAccesses) (now : Entries) → v ≡ get_or cells x v → now ≡ entries → v.reads.start + v.reads.count ≤ length now
     part-fits v now at same = omega (arith, found-fits v at, ap length same)
 
     -- what a test of a thread against their count tells
-    pub room-tells : (v : LastAccesses) → v ≡ get_or cells x v → (t : ℕ) → IsTrue (ltb t v.reads.count) ↔ ((x < length lists) × (t < length (get_or lists x no_accesses).reads))
+    pub room-tells : (v : CellAccesses) → v ≡ get_or cells x v → (t : ℕ) → IsTrue (ltb t v.reads.count) ↔ ((x < length lists) × (t < length (get_or lists x no_accesses).reads))
     room-tells v at t =
-        let same : v.reads.count ≡ length (get_or lists x no_accesses).reads = omega (arith, count-is x, ap (λ (u : LastAccesses). u.reads.count) (found-is v at)) in
+        let same : v.reads.count ≡ length (get_or lists x no_accesses).reads = omega (arith, count-is x, ap (λ (u : CellAccesses). u.reads.count) (found-is v at)) in
         (λ said. (inside, omega (arith, ltb-true t v.reads.count said, same)), λ h. lt-ltb t v.reads.count (omega (arith, h.1, same)))
 
-    accesses-set : (new : LastAccesses) (after : Entries) (accesses : Accesses) → Replaces entries cells x new after → accesses_in after new ≡ accesses → map (accesses_in after) (set cells x new) ≡ set lists x accesses
+    accesses-set : (new : CellAccesses) (after : Entries) (accesses : Accesses) → Replaces entries cells x new after → accesses_in after new ≡ accesses → map (accesses_in after) (set cells x new) ≡ set lists x accesses
     accesses-set new after accesses replaces same = accesses-replaced entries cells x new after replaces ∙ (ap (set (map (accesses_in entries) cells) x) same ∙ ap (λ ls. set ls x accesses) view)
 
     -- a write
-    module _ (v : LastAccesses) (at : v ≡ get_or cells x v) where
+    module _ (v : CellAccesses) (at : v ≡ get_or cells x v) where
       pub laid-written : (step : Option Step) → AreReadsLaidOut entries (set cells x (written v step))
       laid-written step =
           subst (λ w. AreReadsLaidOut entries (set cells x (written w step))) (sym (found-is v at))
@@ -248,9 +248,9 @@ module _ (entries : Entries) (cells : List LastAccesses) (lists : List Accesses)
           ∙ accesses-set _ entries _ (Replaces-write entries cells laid x there step) (ap (λ (a : Accesses). with_write a step) (sym (accesses-are x)))
 
     -- a read
-    module _ (v w : LastAccesses) (at : v ≡ get_or cells x v) (at_too : w ≡ get_or cells x w) (t readers : ℕ) (step new : Option Step) (is_new : new ≡ step) (within : t < length (get_or lists x no_accesses).reads)
+    module _ (v w : CellAccesses) (at : v ≡ get_or cells x v) (at_too : w ≡ get_or cells x w) (t readers : ℕ) (step new : Option Step) (is_new : new ≡ step) (within : t < length (get_or lists x no_accesses).reads)
         (are : AreReaders readers (set (get_or lists x no_accesses).reads t step)) where
-      abbrev place : Reads
+      abbrev place : ReadSpan
       place = place_of cells x
 
       counted : t < place.count
@@ -263,33 +263,33 @@ module _ (entries : Entries) (cells : List LastAccesses) (lists : List Accesses)
       read_replaces = Replaces-read entries cells laid x there t readers new counted are_here
 
       pub place-inside : v.reads.start + t < length entries
-      place-inside = subst (λ (u : LastAccesses). u.reads.start + t < length entries) (sym (found-is v at)) (omega (arith, counted, laid.within x))
+      place-inside = subst (λ (u : CellAccesses). u.reads.start + t < length entries) (sym (found-is v at)) (omega (arith, counted, laid.within x))
 
       pub laid-read : AreReadsLaidOut (set entries (v.reads.start + t) new) (set cells x (with_readers w readers))
       laid-read =
-          subst (λ (u : LastAccesses). AreReadsLaidOut (set entries (u.reads.start + t) new) (set cells x (with_readers w readers))) (sym (found-is v at))
+          subst (λ (u : CellAccesses). AreReadsLaidOut (set entries (u.reads.start + t) new) (set cells x (with_readers w readers))) (sym (found-is v at))
           (subst (λ u. AreReadsLaidOut (set entries (place.start + t) new) (set cells x (with_readers u readers))) (sym (found-is w at_too))
           (laid-replaced entries cells x _ (set entries (place.start + t) new) read_replaces laid))
 
       pub accesses-read : map (accesses_in (set entries (v.reads.start + t) new)) (set cells x (with_readers w readers)) ≡ set lists x (with_read (get_or lists x no_accesses) t step)
       accesses-read =
-          ap (λ (u : LastAccesses). map (accesses_in (set entries (u.reads.start + t) new)) (set cells x (with_readers w readers))) (found-is v at)
+          ap (λ (u : CellAccesses). map (accesses_in (set entries (u.reads.start + t) new)) (set cells x (with_readers w readers))) (found-is v at)
           ∙ (ap (λ u. map (accesses_in (set entries (place.start + t) new)) (set cells x (with_readers u readers))) (found-is w at_too)
           ∙ (accesses-set _ (set entries (place.start + t) new) _ read_replaces
           (ap (with_reads_in (get_or cells x blank_cell).write) (reads_in-set entries place t new counted) ∙ ap (λ (a : Accesses). with_read a t new) (sym (accesses-are x)))
           ∙ ap (λ s. set lists x (with_read (get_or lists x no_accesses) t s)) is_new))
 
     -- room for reads
-    module _ (v w : LastAccesses) (at : v ≡ get_or cells x v) (at_too : w ≡ get_or cells x w) (count : ℕ) (longer : v.reads.count < count) (few : count ≤ 64)
+    module _ (v w : CellAccesses) (at : v ≡ get_or cells x v) (at_too : w ≡ get_or cells x w) (count : ℕ) (longer : v.reads.count < count) (few : count ≤ 64)
         (start : ℕ) (from : start ≡ length entries) (after : Entries) (is : after ≡ entries ++ filled_up None count (reads_in entries v.reads)) where
       longer_too : (place_of cells x).count ≤ count
-      longer_too = subst (λ (u : LastAccesses). u.reads.count ≤ count) (found-is v at) (omega (arith, longer))
+      longer_too = subst (λ (u : CellAccesses). u.reads.count ≤ count) (found-is v at) (omega (arith, longer))
 
       more_replaces : Replaces entries cells x (moved (length entries) count (get_or cells x blank_cell)) (entries ++ filled_up None count (reads_in entries (place_of cells x)))
       more_replaces = Replaces-more entries cells laid x there count longer_too few
 
       is-more : after ≡ entries ++ filled_up None count (reads_in entries (place_of cells x))
-      is-more = is ∙ ap (λ (u : LastAccesses). entries ++ filled_up None count (reads_in entries u.reads)) (found-is v at)
+      is-more = is ∙ ap (λ (u : CellAccesses). entries ++ filled_up None count (reads_in entries u.reads)) (found-is v at)
 
       new-is : moved start count w ≡ moved (length entries) count (get_or cells x blank_cell)
       new-is = ap (λ n. moved n count w) from ∙ ap (moved (length entries) count) (found-is w at_too)
@@ -307,10 +307,10 @@ module _ (entries : Entries) (cells : List LastAccesses) (lists : List Accesses)
           (ap (with_reads_in (get_or cells x blank_cell).write) (reads_in-moved entries cells laid x there count longer_too few) ∙ ap (with_reads_of count) (sym (accesses-are x))))
 
   -- where there is room already
-  pub had-room : (x count : ℕ) (v : LastAccesses) → x < length lists → v ≡ get_or cells x v → count ≤ v.reads.count → lists ≡ set lists x (with_reads_of count (get_or lists x no_accesses))
+  pub had-room : (x count : ℕ) (v : CellAccesses) → x < length lists → v ≡ get_or cells x v → count ≤ v.reads.count → lists ≡ set lists x (with_reads_of count (get_or lists x no_accesses))
   had-room x count v inside at h =
       sym (ap (set lists x) (ap (with_reads_in (get_or lists x no_accesses).write) (filled_up-long None count (get_or lists x no_accesses).reads
-      (omega (arith, h, count-is x, ap (λ (u : LastAccesses). u.reads.count) (found-is x inside v at))))) ∙ set-get_or lists x no_accesses)
+      (omega (arith, h, count-is x, ap (λ (u : CellAccesses). u.reads.count) (found-is x inside v at))))) ∙ set-get_or lists x no_accesses)
 
 -- where there is no room nothing is forgotten
 pub none-forgotten : (lists : List Accesses) (x t : ℕ) → ¬ ((x < length lists) × (t < length (get_or lists x no_accesses).reads)) → lists ≡ set lists x (with_read (get_or lists x no_accesses) t None)
@@ -326,16 +326,16 @@ map-replicate : {X Y : Type 0} (f : X → Y) (n : ℕ) (x : X) → map f (replic
 map-replicate f zero x = refl
 map-replicate f (suc n) x = ap (λ ys. f x ∷ ys) (map-replicate f n x)
 
-module _ (entries : Entries) (cells : List LastAccesses) (n : ℕ) where
-  abbrev filled : List LastAccesses
+module _ (entries : Entries) (cells : List CellAccesses) (n : ℕ) where
+  abbrev filled : List CellAccesses
   filled = filled_up blank_cell n cells
 
   pub laid-filled : AreReadsLaidOut entries cells → AreReadsLaidOut entries filled
   laid-filled laid = record {
-    within = λ i. subst (λ (v : LastAccesses). Fits entries v.reads) (sym (get_or-filled_up blank_cell n cells i)) (laid.within i);
-    apart = λ i j off. subst (λ (v : LastAccesses). AreApart v.reads (place_of filled j)) (sym (get_or-filled_up blank_cell n cells i))
-        (subst (λ (v : LastAccesses). AreApart (place_of cells i) v.reads) (sym (get_or-filled_up blank_cell n cells j)) (laid.apart i j off));
-    readers = λ i. subst (λ (v : LastAccesses). AreReaders v.readers (reads_in entries v.reads)) (sym (get_or-filled_up blank_cell n cells i)) (laid.readers i);
+    within = λ i. subst (λ (v : CellAccesses). Fits entries v.reads) (sym (get_or-filled_up blank_cell n cells i)) (laid.within i);
+    apart = λ i j off. subst (λ (v : CellAccesses). AreApart v.reads (place_of filled j)) (sym (get_or-filled_up blank_cell n cells i))
+        (subst (λ (v : CellAccesses). AreApart (place_of cells i) v.reads) (sym (get_or-filled_up blank_cell n cells j)) (laid.apart i j off));
+    readers = λ i. subst (λ (v : CellAccesses). AreReaders v.readers (reads_in entries v.reads)) (sym (get_or-filled_up blank_cell n cells i)) (laid.readers i);
   }
 
   pub accesses-filled : map (accesses_in entries) filled ≡ filled_up no_accesses n (map (accesses_in entries) cells)

@@ -5,10 +5,10 @@ use Rattle.std.proofs.Math.ListN.{set}
 use Rattle.std.proofs.lemmas.Bool.{cases_eq, cases_lt, ne_eqb, eq-eqb}
 use Rattle.std.proofs.lemmas.List.{get_or-set_other, get_or-set_same, length-set, get_or_past, set_past}
 use Rattle.velo_events.specs.Place.{Place, LastOf, LastWrite, LastRead}
-use Rattle.velo_tables.specs.Kept.{Kept, Accesses, no_accesses, accesses_of, entry, is_last_read, IsReadForgotten}
+use Rattle.velo_tables.specs.LastAccesses.{LastAccesses, Accesses, no_accesses, accesses_of, entry, is_last_read, IsReadForgotten}
 use Rattle.velo_tables.specs.Recorded.{with_read, with_cell}
 use Rattle.velo_events.proofs.OnLists.{get_or-set}
-use Rattle.velo_tables.proofs.OnKept.{IsRoomier, HasRoomFor-kept}
+use Rattle.velo_tables.proofs.OnLastAccesses.{IsRoomier, HasRoomFor-kept}
 
 -- what stands past the end is written nowhere
 get_or-cleared : {X : Type 0} (xs : List (Option X)) (i j : ℕ) → get_or (set xs i None) j None ≡ (if i == j then None else get_or xs j None)
@@ -21,11 +21,11 @@ get_or-cleared xs i j =
     (cases_eq i j))
     (cases_lt i (length xs))
 
-module _ (kept : Kept) (x t : ℕ) where
+module _ (kept : LastAccesses) (x t : ℕ) where
   abbrev read : Accesses
   read = with_read (accesses_of kept x) t None
 
-  abbrev after : Kept
+  abbrev after : LastAccesses
   after = with_cell kept x read
 
   here : accesses_of after x ≡ read

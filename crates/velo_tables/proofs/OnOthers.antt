@@ -7,7 +7,7 @@ use Rattle.std.specs.Option.{option_to_list}
 use Rattle.velo_arena.specs.declared.step.Step.{Step}
 use Rattle.velo_events.specs.Place.{LastWrite, LastRead, thread_numbers}
 use Rattle.velo_tables.specs.Readers.{AreReaders}
-use Rattle.velo_tables.specs.Kept.{Kept, entry, accesses_of, no_accesses}
+use Rattle.velo_tables.specs.LastAccesses.{LastAccesses, entry, accesses_of, no_accesses}
 use Rattle.velo_tables.specs.Others.{but_for, steps_of}
 use Rattle.velo_tables.proofs.OnReaders.{HaveBits, filter_map-cons}
 
@@ -28,16 +28,16 @@ filter_map-none f [] none = refl
 filter_map-none f (x ∷ xs) none = ap (λ o. cons_option o (filter_map f xs)) (none x) ∙ filter_map-none f xs none
 
 -- the steps of one cell's accesses
-abbrev pub accesses_of_places : Option ℕ → Kept → ℕ → List Step
+abbrev pub accesses_of_places : Option ℕ → LastAccesses → ℕ → List Step
 accesses_of_places slot kept x = filter_map (λ p. but_for slot (entry kept p)) (LastWrite x ∷ map (LastRead x) thread_numbers)
 
-pub steps_of_accesses : (slot : Option ℕ) (kept : Kept) (x : ℕ) → accesses_of_places slot kept x ≡ steps_of slot (accesses_of kept x)
+pub steps_of_accesses : (slot : Option ℕ) (kept : LastAccesses) (x : ℕ) → accesses_of_places slot kept x ≡ steps_of slot (accesses_of kept x)
 steps_of_accesses slot kept x =
     filter_map-cons (λ p. but_for slot (entry kept p)) (LastWrite x) (map (LastRead x) thread_numbers)
     ∙ ap (λ ys. option_to_list (but_for slot (accesses_of kept x).write) ++ ys) (filter_map-map (λ p. but_for slot (entry kept p)) (LastRead x) thread_numbers)
 
 -- a cell beyond the room has none
-pub no_steps_past : (slot : Option ℕ) (kept : Kept) (x : ℕ) → length kept.cells ≤ x → accesses_of_places slot kept x ≡ []
+pub no_steps_past : (slot : Option ℕ) (kept : LastAccesses) (x : ℕ) → length kept.cells ≤ x → accesses_of_places slot kept x ≡ []
 no_steps_past slot kept x past =
     steps_of_accesses slot kept x
     ∙ (ap (steps_of slot) (get_or_past kept.cells x no_accesses past)

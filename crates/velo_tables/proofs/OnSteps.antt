@@ -10,7 +10,7 @@ use Rattle.velo_events.specs.declared.event.Kind.TheVariants.{Fork}
 use Rattle.velo_events.specs.Event.{access_of}
 use Rattle.velo_events.specs.WellFormed.{NamesKnown, MayFollow}
 use Rattle.velo_events.specs.Place.{Place, looked_up}
-use Rattle.velo_tables.specs.Kept.{Kept, entry, steps_looked_up, OthersKnown, HasItsThreads}
+use Rattle.velo_tables.specs.LastAccesses.{LastAccesses, entry, steps_looked_up, OthersKnown, HasItsThreads}
 
 -- ---- what is in a list of those that have an image
 
@@ -42,20 +42,20 @@ module _ {X Y : Type 0} (f : X → Option Y) where
 
 -- ---- the steps of an event
 
-pub steps_looked_up-contains : (kept : Kept) (e : Event) (p : Place) (step : Step) → Contains (looked_up e) p → entry kept p ≡ Some step → Contains (steps_looked_up kept e) step
+pub steps_looked_up-contains : (kept : LastAccesses) (e : Event) (p : Place) (step : Step) → Contains (looked_up e) p → entry kept p ≡ Some step → Contains (steps_looked_up kept e) step
 unfolding steps_looked_up
 steps_looked_up-contains kept e p step looks h = filter_map-contains (entry kept) (looked_up e) p step looks h
 
-pub steps_looked_up-from : (kept : Kept) (e : Event) (step : Step) → Contains (steps_looked_up kept e) step → (p : Place) × Contains (looked_up e) p × (entry kept p ≡ Some step)
+pub steps_looked_up-from : (kept : LastAccesses) (e : Event) (step : Step) → Contains (steps_looked_up kept e) step → (p : Place) × Contains (looked_up e) p × (entry kept p ≡ Some step)
 unfolding steps_looked_up
 steps_looked_up-from kept e step w = filter_map-from (entry kept) (looked_up e) step w
 
 -- ---- the threads of an event that may follow
 
-others_known : (bounds : Bounds) (kept : Kept) (k : Kind) → length kept.threads ≡ bounds.threads → NamesKnown bounds k → OthersKnown kept (access_of k)
+others_known : (bounds : Bounds) (kept : LastAccesses) (k : Kind) → length kept.threads ≡ bounds.threads → NamesKnown bounds k → OthersKnown kept (access_of k)
 others_known bounds kept (Fork u) same known = omega (arith, same, known)
 others_known bounds kept _ same known = tt
 
 -- are those of the tables
-pub HasItsThreads-follows : (bounds : Bounds) (kept : Kept) (trace : List Event) (e : Event) → length kept.threads ≡ bounds.threads → MayFollow bounds trace e → HasItsThreads kept e
+pub HasItsThreads-follows : (bounds : Bounds) (kept : LastAccesses) (trace : List Event) (e : Event) → length kept.threads ≡ bounds.threads → MayFollow bounds trace e → HasItsThreads kept e
 HasItsThreads-follows bounds kept trace e same follows = record { own = omega (arith, same, follows.known_thread); forked = others_known bounds kept e.kind same follows.known_names }

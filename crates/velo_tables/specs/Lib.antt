@@ -1,6 +1,6 @@
 pub mod Entry
 pub mod Readers
-pub mod Kept
+pub mod LastAccesses
 pub mod Others
 pub mod Cells
 pub mod Recorded

@@ -4,7 +4,7 @@ use Rattle.std.specs.List.{filter_map}
 use Rattle.std.specs.Option.{option_to_list}
 use Rattle.velo_arena.specs.declared.step.Step.{Step}
 use Rattle.velo_events.specs.Place.{LastWrite, LastRead, thread_numbers}
-use Rattle.velo_tables.specs.Kept.{Kept, Accesses, entry}
+use Rattle.velo_tables.specs.LastAccesses.{LastAccesses, Accesses, entry}
 
 -- the step, unless it is of the slot that is left out
 abbrev pub but_for : Option ℕ → Option Step → Option Step
@@ -13,7 +13,7 @@ but_for (Some slot) None = None
 but_for (Some slot) (Some step) = if step.slot == slot then None else Some step
 
 -- the steps of the last accesses of cell x, but for those of the slot
-unfoldable pub accesses_but_for : Kept → ℕ → ℕ → List Step
+unfoldable pub accesses_but_for : LastAccesses → ℕ → ℕ → List Step
 accesses_but_for kept x slot = filter_map (λ p. but_for (Some slot) (entry kept p)) (LastWrite x ∷ map (LastRead x) thread_numbers)
 
 -- the same of one cell's accesses

@@ -8,7 +8,7 @@ ghost use Rattle.velo_arena.specs.declared.step.Step.{Step as StepOf};
 ghost use Rattle.velo_events.specs.Place.{thread_numbers};
 ghost use Rattle.velo_tables.specs.Readers.{AreReaders};
 ghost use Rattle.velo_events.specs.Growth.{filled_up};
-ghost use Rattle.velo_tables.specs.Kept.{no_accesses};
+ghost use Rattle.velo_tables.specs.LastAccesses.{no_accesses};
 ghost use Rattle.velo_tables.specs.Others.{but_for, steps_of};
 ghost use Rattle.velo_tables.specs.Cells.{reads_in};
 ghost use Rattle.velo_arena.specs.Heirs.{renamed};
@@ -25,32 +25,32 @@ use velo_events::{Cell, Memory, ThreadId};
 
 /// Where the last reads of one cell stand among those of all.
 #[derive(Clone, Copy, Debug)]
-pub(crate) struct Reads {
+pub(crate) struct ReadSpan {
     start: usize,
     count: usize,
 }
 
 /// The last accesses of one cell.
 #[derive(Clone, Copy, Debug)]
-pub(crate) struct LastAccesses {
+pub(crate) struct CellAccesses {
     write: Entry,
     /// A bit for each thread whose last read has a step, so that a write looks at no other thread.
     readers: u64,
     /// Its last read by each thread. There are none until the first read.
-    reads: Reads,
+    reads: ReadSpan,
 }
 
 /// The last accesses of each cell, by number. The last reads of all stand in one list, so that none has memory of its
 /// own, and a cell that nobody read takes nothing there.
 #[derive(Debug, Drop)]
 pub(crate) struct Cells {
-    cells: Vec<LastAccesses>,
+    cells: Vec<CellAccesses>,
     reads: Vec<Entry>,
 }
 
 impl Model for Cells {
     ghost use Rattle.std.specs.Prelude.{List};
-    ghost use Rattle.velo_tables.specs.Kept.{Accesses};
+    ghost use Rattle.velo_tables.specs.LastAccesses.{Accesses};
 
     ghost Value = { List Accesses };
 
@@ -128,7 +128,7 @@ fn without_reader(readers: u64, t: ThreadId) -> u64
 }
 
 /// The read by the thread with this number, or none where there is no room for it.
-fn read_in(entries: &[Entry], reads: Reads, thread: usize) -> Entry
+fn read_in(entries: &[Entry], reads: ReadSpan, thread: usize) -> Entry
     requires { reads.start + reads.count ≤ length entries.now }
     ensures { result ≡ slice_index_or (reads_in entries.now reads) thread None }
 {
@@ -140,7 +140,7 @@ fn read_in(entries: &[Entry], reads: Reads, thread: usize) -> Entry
 }
 
 /// Appends these reads once more, with blanks up to so many.
-fn append_longer(entries: &mut Vec<Entry>, reads: Reads, count: usize)
+fn append_longer(entries: &mut Vec<Entry>, reads: ReadSpan, count: usize)
     requires inside { reads.start + reads.count ≤ length entries.old.items }
     requires longer { reads.count ≤ count }
     requires room { length entries.old.items + count ≤ vec_capacity entries.old }
@@ -152,12 +152,12 @@ fn append_longer(entries: &mut Vec<Entry>, reads: Reads, count: usize)
     }
 }
 
-impl LastAccesses {
+impl CellAccesses {
     /// The accesses with the step of the last write by its heir.
-    fn renamed(self, heirs: &[Option<Heir>]) -> LastAccesses
+    fn renamed(self, heirs: &[Option<Heir>]) -> CellAccesses
         ensures { result ≡ with_write_by heirs.now self }
     {
-        LastAccesses {
+        CellAccesses {
             write: self.write.renamed(heirs),
             ..self
         }
@@ -165,7 +165,7 @@ impl LastAccesses {
 }
 
 /// Puts the step of each last write by its heir.
-fn rename_writes(cells: &mut [LastAccesses], heirs: &[Option<Heir>])
+fn rename_writes(cells: &mut [CellAccesses], heirs: &[Option<Heir>])
     ensures { cells.new ≡ map (with_write_by heirs.now) cells.old }
 {
     for number in 0..cells.len() {
@@ -278,10 +278,10 @@ impl Cells {
         ensures refused { OnErr result (length self.old ≤ c.0) }
         ensures memory { OnErr result GrowthRefused }
     {
-        let blank = LastAccesses {
+        let blank = CellAccesses {
             write: Entry::new(None),
             readers: 0,
-            reads: Reads { start: 0, count: 0 },
+            reads: ReadSpan { start: 0, count: 0 },
         };
         fill_up_to(&mut self.cells, c.0 as usize, blank)
     }
@@ -304,7 +304,7 @@ impl Cells {
         reserve(&mut self.reads, threads)?;
         let start = self.reads.len();
         append_longer(&mut self.reads, reads, threads);
-        self.cells[c.0 as usize].reads = Reads {
+        self.cells[c.0 as usize].reads = ReadSpan {
             start,
             count: threads,
         };

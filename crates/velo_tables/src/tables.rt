@@ -6,7 +6,7 @@ ghost use Rattle.smallvec.specs.SmallVec.{HasRoomFor as HasSpace};
 ghost use Rattle.velo_events.specs.declared.limits.TheConstants.{MOST_THREADS};
 ghost use Rattle.velo_tables.specs.declared.tables.TheConstants.{MOST_PREDECESSORS};
 ghost use Rattle.velo_events.specs.Place.{LastOf, LastWrite, LastRead, thread_numbers};
-ghost use Rattle.velo_tables.specs.Kept.{entry, no_accesses, steps_looked_up, HasItsThreads, HasRoomFor, HasRoomToRead, HasRoomBeside, CoverReaders, IsBlank, IsUnchanged, IsRecorded, IsReadForgotten, IsRenamed, accesses_of};
+ghost use Rattle.velo_tables.specs.LastAccesses.{entry, no_accesses, steps_looked_up, HasItsThreads, HasRoomFor, HasRoomToRead, HasRoomBeside, CoverReaders, IsBlank, IsUnchanged, IsRecorded, IsReadForgotten, IsRenamed, accesses_of};
 ghost use Rattle.velo_tables.specs.Others.{but_for, accesses_but_for};
 ghost use Rattle.velo_events.specs.Event.{thread_of, access_of, is_exclusive};
 ghost use Rattle.velo_tables.specs.Recorded.{kept_after, kept_after_beside, kept_by, with_cell, with_read};
@@ -35,9 +35,9 @@ pub struct Tables {
 impl Model for Tables {
     ghost use Rattle.std.specs.Prelude.{◌≤◌, length};
     ghost use Rattle.velo_events.specs.declared.limits.TheConstants.{MOST_THREADS};
-    ghost use Rattle.velo_tables.specs.Kept.{Kept};
+    ghost use Rattle.velo_tables.specs.LastAccesses.{LastAccesses};
 
-    ghost Value = { Kept };
+    ghost Value = { LastAccesses };
 
     ghost view = { λ s. record { threads = s.threads.items; cells = s.cells } };
 
@@ -250,7 +250,7 @@ impl Tables {
 
     /// Puts the steps that the event looks up into the list, in place of what it had: first that of the thread's last
     /// event, and a write's reads in the order of their threads.
-    #[tactic(auto, unfolding(crate::specs::Kept::steps_looked_up))]
+    #[tactic(auto, unfolding(crate::specs::LastAccesses::steps_looked_up))]
     pub fn predecessors_into(&self, event: &Event, list: &mut SmallVec<Step, MOST_PREDECESSORS>)
         requires { MOST_PREDECESSORS ≤ list.old.capacity }
         ensures items { list.new.items ≡ steps_looked_up self.now event.now }
@@ -265,7 +265,7 @@ impl Tables {
     }
 
     /// The one step that an event but a write looks up beside that of its thread's last event, if there is one.
-    #[tactic(auto, unfolding(crate::specs::Kept::steps_looked_up))]
+    #[tactic(auto, unfolding(crate::specs::LastAccesses::steps_looked_up))]
     pub fn step_beside(&self, event: &Event) -> Option<Step>
         requires { IsFalse (is_exclusive (access_of event.now.kind)) }
         ensures { steps_looked_up self.now event.now ≡ option_to_list (entry self.now (LastOf (thread_of event.now))) ++ option_to_list result }

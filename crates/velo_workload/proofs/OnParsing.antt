@@ -5,7 +5,7 @@ use Rattle.velo_workload.specs.declared.fault.WorkFault.TheVariants.{BadLine, Un
 use Rattle.velo_workload.specs.declared.statement.Statement.{Statement}
 use Rattle.velo_workload.specs.Phrase.{phrases, Phrase, Blank, Bad, BadThread, Variable, Lock, Thread, Body}
 use Rattle.velo_workload.specs.Outline.{Judges, Names, names_in, known, threads, first_fault}
-use Rattle.velo_workload.specs.Program.{Program, program, bodies, first_unknown, fault_in, unless_fault, meaning_of, Answers}
+use Rattle.velo_workload.specs.Program.{Program, program, bodies, first_unknown, fault_in, unless_fault, meaning_of, ParsesAs}
 use Rattle.velo_workload.proofs.OnReading.{wrong, judged_first, none_first}
 
 -- each thread has a body
@@ -24,7 +24,7 @@ count_bodies names (Body s ∷ ps) = count_bodies names ps
 no_program : WorkFault → Result Program WorkFault
 no_program f = Err f
 
-answered : (g : Option WorkFault) (w : Program) (f : WorkFault) → Judges g (wrong f) → Answers (unless_fault g w) (Err f)
+answered : (g : Option WorkFault) (w : Program) (f : WorkFault) → Judges g (wrong f) → ParsesAs (unless_fault g w) (Err f)
 answered g w (BadLine n) h = ap (λ (g : Option WorkFault). unless_fault g w) h
 answered g w (Unknown n) h = ap (λ (g : Option WorkFault). unless_fault g w) h
 answered g w (Twice n) h = ap (λ (g : Option WorkFault). unless_fault g w) h
@@ -33,7 +33,7 @@ answered g w (TooMany n) h = ap (λ (g : Option WorkFault). unless_fault g w) h
 answered g w Memory h = h
 
 module _ (text : List ℕ) where
-  pub first_wrong : (f : WorkFault) → Judges (first_fault (phrases text)) (wrong f) → Answers (meaning_of text) (Err f)
+  pub first_wrong : (f : WorkFault) → Judges (first_fault (phrases text)) (wrong f) → ParsesAs (meaning_of text) (Err f)
   unfolding meaning_of
   first_wrong f h =
       answered (fault_in (phrases text)) (program (phrases text)) f
@@ -45,7 +45,7 @@ module _ (text : List ℕ) where
       none_first (first_fault (phrases text)) (first_unknown (names_in (known (phrases text))) 0 (phrases text)) fine
       ∙ ap (λ (names : Names). first_unknown names 0 (phrases text)) (sym e)
 
-  pub second_wrong : (names : Names) (f : WorkFault) → names ≡ names_in (known (phrases text)) → first_fault (phrases text) ≡ None → Judges (first_unknown names 0 (phrases text)) (wrong f) → Answers (meaning_of text) (Err f)
+  pub second_wrong : (names : Names) (f : WorkFault) → names ≡ names_in (known (phrases text)) → first_fault (phrases text) ≡ None → Judges (first_unknown names 0 (phrases text)) (wrong f) → ParsesAs (meaning_of text) (Err f)
   unfolding meaning_of
   second_wrong names f e fine h =
       answered (fault_in (phrases text)) (program (phrases text)) f

@@ -21,7 +21,7 @@ use Rattle.velo_workload.specs.Words.{Word, lines}
 use Rattle.velo_workload.specs.Phrase.{phrase_of, phrases, Spoken, Begin, Repeat, Done, Phrase, Blank, Bad, BadThread, Variable, Lock, Thread, Body}
 use Rattle.velo_workload.specs.Outline.{AreFew, is_among, Judges, fault_from, first_fault, variable_in, lock_in, thread_in, label_in, label_of, statement_in, variables, locks, threads, labels, statements, reading, Known, known, Names, names_in, first_of_two, fault_of_line, fault_at_end, declared_fault, statement_fault, full_fault}
 use Rattle.velo_workload.specs.Nesting.{NestingState, new_nesting, last_open, nesting_after, nesting_after_line, nesting_from, nesting_of_lines, nesting_fault, most_kept, kept_open, kept}
-use Rattle.velo_workload.specs.Known.{IsReadUpTo, lines_left, phrases_left, Kept, kept_of, known_by, known_of, statement_kept, labelled, with_line, whole, up_to_most}
+use Rattle.velo_workload.specs.Known.{IsReadUpTo, lines_left, phrases_left, LineState, kept_of, known_by, known_of, statement_kept, labelled, with_line, whole, up_to_most}
 use Rattle.velo_workload.proofs.OnCosts.{agrees, same_depth, same_end}
 use Rattle.velo_workload.proofs.OnLonger.{IsLonger, names_longer}
 
@@ -87,16 +87,16 @@ labels_step ls s = refl
 -- ---- one more line
 
 -- what would be kept with one more line
-abbrev pub one_more : Kept → Phrase → ℕ → Kept
+abbrev pub one_more : LineState → Phrase → ℕ → LineState
 one_more k p n = record { variables = k.variables ++ variable_in p; locks = k.locks ++ lock_in p; threads = k.threads ++ thread_in p; labels = insert_all bytes_eq k.labels (label_in p); statements = k.statements + length (statement_in p); body = nesting_after_line k.body n p }
 
-kept_is : (k j : Kept) → k.variables ≡ j.variables → k.locks ≡ j.locks → k.threads ≡ j.threads → k.labels ≡ j.labels → k.statements ≡ j.statements → k.body ≡ j.body → k ≡ j
+kept_is : (k j : LineState) → k.variables ≡ j.variables → k.locks ≡ j.locks → k.threads ≡ j.threads → k.labels ≡ j.labels → k.statements ≡ j.statements → k.body ≡ j.body → k ≡ j
 kept_is k j a b c d e f = λ i. record { variables = a i; locks = b i; threads = c i; labels = d i; statements = e i; body = f i }
 
 none : (xs : List Word) → xs ≡ xs ++ []
 none xs = sym (append-nil xs)
 
-pub kept_step : (k : Kept) (p : Phrase) (n : ℕ) → with_line (up_to_most k) p n ≡ up_to_most (one_more k p n)
+pub kept_step : (k : LineState) (p : Phrase) (n : ℕ) → with_line (up_to_most k) p n ≡ up_to_most (one_more k p n)
 kept_step k Blank n = kept_is _ _ (none k.variables) (none k.locks) (none k.threads) refl (sym (add-zero k.statements)) refl
 kept_step k Bad n = kept_is _ _ (none k.variables) (none k.locks) (none k.threads) refl (sym (add-zero k.statements)) refl
 kept_step k BadThread n = kept_is _ _ (none k.variables) (none k.locks) (none k.threads) refl (sym (add-zero k.statements)) refl
@@ -141,7 +141,7 @@ end_kept b =
     ∙ ap (λ (t : Bool). unmatched_or (last_open b.open_repeats) (costly t)) (over MOST_COST b.cost)
 
 -- what is known by what is kept is what is known of the lines
-pub known_kept : (k : Kept) → known_by (up_to_most k) ≡ known_by k
+pub known_kept : (k : LineState) → known_by (up_to_most k) ≡ known_by k
 known_kept k = λ i. record { variables = k.variables; locks = k.locks; threads = k.threads; labels = k.labels; statements = k.statements; depth = length-map k.body.open_repeats kept_open i; body_end = end_kept k.body i }
 
 pub known_whole : (ps : List Phrase) → known_by (whole ps) ≡ known ps
@@ -199,10 +199,10 @@ labels_few ls s = omega arith
 same : (xs : List Word) (most : ℕ) → length xs ≤ most → length (xs ++ []) ≤ most
 same xs most le = subst (λ (ys : List Word). length ys ≤ most) (none xs) le
 
-few_same : (k : Kept) (d : ℕ) (f : Option WorkFault) → AreFew (known_by k) → AreFew (record { variables = k.variables ++ []; locks = k.locks ++ []; threads = k.threads ++ []; labels = k.labels; statements = k.statements + 0; depth = d; body_end = f })
+few_same : (k : LineState) (d : ℕ) (f : Option WorkFault) → AreFew (known_by k) → AreFew (record { variables = k.variables ++ []; locks = k.locks ++ []; threads = k.threads ++ []; labels = k.labels; statements = k.statements + 0; depth = d; body_end = f })
 few_same k d f few = record { variables = same k.variables _ few.variables; locks = same k.locks _ few.locks; threads = same k.threads _ few.threads; labels = omega (arith, few.labels); statements = omega (arith, few.statements) }
 
-pub few_more : (k : Kept) (p : Phrase) (n : ℕ) → AreFew (known_by k) → fault_of_line (known_by k) p n ≡ None → AreFew (known_by (one_more k p n))
+pub few_more : (k : LineState) (p : Phrase) (n : ℕ) → AreFew (known_by k) → fault_of_line (known_by k) p n ≡ None → AreFew (known_by (one_more k p n))
 few_more k (Variable name) n few e =
     let fine = before_test (eqb (length k.threads) 0) (BadLine n) _ e in
     record { variables = declared_few k.variables _ name n fine; locks = same k.locks _ few.locks; threads = same k.threads _ few.threads; labels = omega (arith, few.labels); statements = omega (arith, few.statements) }
@@ -286,8 +286,8 @@ module _ (text : List ℕ) where
       subst (λ (m : ℕ). AreFew (known_by (one_more (whole r.before) p (m + 1)))) r.number (few_more (whole r.before) p (n + 1) r.few fine_there) in
       record {
         before = r.before ++ p ∷ [];
-        is_kept = is ∙ ap (λ (k : Kept). with_line k p (n + 1)) r.is_kept ∙ kept_step (whole r.before) p (n + 1) ∙ ap (λ (m : ℕ). up_to_most (one_more (whole r.before) p (m + 1))) r.number ∙ ap up_to_most (sym (whole_more r.before p));
-        few = subst (λ (k : Kept). AreFew (known_by k)) (sym (whole_more r.before p)) few_here;
+        is_kept = is ∙ ap (λ (k : LineState). with_line k p (n + 1)) r.is_kept ∙ kept_step (whole r.before) p (n + 1) ∙ ap (λ (m : ℕ). up_to_most (one_more (whole r.before) p (m + 1))) r.number ∙ ap up_to_most (sym (whole_more r.before p));
+        few = subst (λ (k : LineState). AreFew (known_by k)) (sym (whole_more r.before p)) few_here;
         number = ap (λ (m : ℕ). m + 1) r.number ∙ sym (length-append r.before (p ∷ []));
         all = append_assoc r.before (p ∷ []) (phrases_left more) ∙ ap (λ (ls : List (List ℕ)). r.before ++ map phrase_of ls) (sym e) ∙ r.all;
         fault = sym (none_first _ (fault_from (r.before ++ p ∷ []) (phrases_left more)) fine) ∙ left_judged bytes line more o n r e;

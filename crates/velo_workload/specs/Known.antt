@@ -10,7 +10,7 @@ use Rattle.velo_workload.specs.Nesting.{NestingState, new_nesting, nesting_after
 use Rattle.velo_workload.specs.Outline.{AreFew, Known, variables, locks, threads, labels, statements, fault_from, first_fault}
 
 -- the names and labels so far, how many statements there were, and the body that is read
-pub record Kept : Type 0 where
+pub record LineState : Type 0 where
   pub variables : List Word
   pub locks : List Word
   pub threads : List Word
@@ -18,11 +18,11 @@ pub record Kept : Type 0 where
   pub statements : ℕ
   pub body : NestingState
 
-abbrev pub kept_of : Outline → Kept
+abbrev pub kept_of : Outline → LineState
 kept_of o = record { variables = names_of o.variables; locks = names_of o.locks; threads = names_of o.threads; labels = names_of o.labels; statements = o.statements; body = nesting_of o.body }
 
 -- what is known by it
-abbrev pub known_by : Kept → Known
+abbrev pub known_by : LineState → Known
 known_by k = record { variables = k.variables; locks = k.locks; threads = k.threads; labels = k.labels; statements = k.statements; depth = length k.body.open_repeats; body_end = nesting_fault k.body }
 
 abbrev pub known_of : Outline → Known
@@ -39,7 +39,7 @@ labelled ls (Begin name) = insert_key bytes_eq ls name
 labelled ls s = ls
 
 -- what is kept after one more line, which has this number
-abbrev pub with_line : Kept → Phrase → ℕ → Kept
+abbrev pub with_line : LineState → Phrase → ℕ → LineState
 with_line k (Variable name) n = record k { variables = k.variables ++ name ∷ [] }
 with_line k (Lock name) n = record k { locks = k.locks ++ name ∷ [] }
 with_line k (Thread name) n = record k { threads = k.threads ++ name ∷ []; body = new_nesting n }
@@ -47,10 +47,10 @@ with_line k (Body s) n = record k { labels = labelled k.labels s; statements = k
 with_line k p n = k
 
 -- what would be kept of these lines without a most
-abbrev pub whole : List Phrase → Kept
+abbrev pub whole : List Phrase → LineState
 whole ps = record { variables = variables ps; locks = locks ps; threads = threads ps; labels = labels ps; statements = length (statements ps); body = nesting_of_lines ps }
 
-abbrev pub up_to_most : Kept → Kept
+abbrev pub up_to_most : LineState → LineState
 up_to_most k = record k { body = kept k.body }
 
 -- ---- how far the first pass has come

@@ -89,7 +89,7 @@ unfoldable pub meaning_of : List ℕ → Result Program WorkFault
 meaning_of text = unless_fault (fault_in (phrases text)) (program (phrases text))
 
 -- what a parser answers: what the text means, unless a growth was refused
-abbrev pub Answers : Result Program WorkFault → Result Program WorkFault → Type 0
-Answers meaning (Ok w) = meaning ≡ Ok w
-Answers meaning (Err Memory) = GrowthRefused
-Answers meaning (Err f) = meaning ≡ Err f
+abbrev pub ParsesAs : Result Program WorkFault → Result Program WorkFault → Type 0
+ParsesAs meaning (Ok w) = meaning ≡ Ok w
+ParsesAs meaning (Err Memory) = GrowthRefused
+ParsesAs meaning (Err f) = meaning ≡ Err f

@@ -7,7 +7,7 @@ ghost use Rattle.velo_workload.specs.Names.{names_of};
 ghost use Rattle.velo_workload.specs.Bodies.{AreBodies};
 ghost use Rattle.velo_workload.specs.Outline.{AreFew, Judges, names_in};
 ghost use Rattle.velo_workload.specs.Known.{known_of, kept_of, whole};
-ghost use Rattle.velo_workload.specs.Program.{Program, meaning_of, Answers};
+ghost use Rattle.velo_workload.specs.Program.{Program, meaning_of, ParsesAs};
 ghost use Rattle.velo_workload.specs.Sketch.{sketches_of, drafted, unknown_in_sketches, bodies_completed};
 ghost use Rattle.velo_events.specs.declared.limits.TheConstants.{MOST_THREADS, MOST_LOCKS};
 ghost use Rattle.velo_workload.specs.declared.limits.TheConstants.{MOST_WORKLOAD_BYTES};
@@ -150,7 +150,7 @@ fn parse_into<'a>(
     text: &'a [u8],
 ) -> Result<Workload, WorkFault>
     requires { kept_of outline.old ≡ whole [] }
-    ensures { Answers (meaning_of text.now) result }
+    ensures { ParsesAs (meaning_of text.now) result }
 {
     let mut drafts = Bodies::new(alloc);
     match outline.read(text, &mut drafts) {
@@ -174,7 +174,7 @@ fn parse_into<'a>(
 /// The first fault of the text: the first pass judges all but undeclared names, line by line, and the second pass
 /// these. `Memory` only where a growth was refused.
 pub fn parse(alloc: Global, text: &str) -> Result<Workload, WorkFault>
-    ensures { Answers (meaning_of text.now) result }
+    ensures { ParsesAs (meaning_of text.now) result }
 {
     let mut outline = Outline::new(alloc);
     let parsed = parse_into(alloc, &mut outline, text.as_bytes());

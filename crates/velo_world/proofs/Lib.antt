@@ -1,6 +1,6 @@
 pub mod OnAlarms
-pub mod OnRuns
-pub mod OnCourses
+pub mod OnAnalyses
+pub mod OnLoggedRuns
 pub mod OnAnswers
 pub mod OnHoldings
 pub mod OnSteps
@@ -8,4 +8,4 @@ pub mod OnWorlds
 pub mod OnSequences
 pub mod OnClosing
 pub mod OnReadiness
-pub mod OnRelived
+pub mod OnLogReplays

@@ -18,7 +18,7 @@ use Rattle.velo_traces.specs.Blocks.{block_at, label_of}
 use Rattle.velo_blame.specs.Blamed.{AreBlamedAt, begins_of, thread_at}
 use Rattle.velo_events.proofs.OnGraphs.{IsClosing-push, IsClosing-append, HasCycle-from_closing}
 use Rattle.velo_events.proofs.OnSerializing.{serializable_law, serializable_law-none}
-use Rattle.velo_world.specs.declared.run.Alarm.{Alarm}
+use Rattle.velo_world.specs.declared.analysis.Alarm.{Alarm}
 use Rattle.velo_world.specs.World.{IsAlarm, AlarmOf}
 
 -- ---- the blocks of an alarm in a longer log

@@ -22,9 +22,9 @@ use Rattle.velo_ledger.specs.Views.{Accounts, Holding}
 use Rattle.velo_ledger.specs.Book.{CanEnterAt, EntersAt, IsFilled, with_row, with_tally}
 use Rattle.velo_ledger.specs.Shares.{opening_share, share_at}
 use Rattle.velo_events.proofs.OnLists.{slice_get-set_same, slice_get-set_other}
-use Rattle.velo_world.specs.declared.run.Reply.{Reply}
+use Rattle.velo_world.specs.declared.analysis.Reply.{Reply}
 use Rattle.velo_world.specs.World.{WorldState, meaning, IsBookOf, FitsLog, IsUnborn, IsLiveThread, HasShare, HoldsLiveShares, CompletesShares, Acts, with_born, StepsTo, RunsTo}
-use Rattle.velo_world.specs.Course.{AddsToLog}
+use Rattle.velo_world.specs.LoggedRun.{AddsToLog}
 use Rattle.velo_world.specs.Kept.{KeepsUnborn, with_share, taken_by}
 use Rattle.velo_world.proofs.OnAnswers.{event-meaning, meaning-live}
 use Rattle.velo_events.proofs.OnStatuses.{is_Unborn, unborn-before, live-before, unborn-same, actor-born, forked-after, forked-before}

@@ -11,9 +11,9 @@ use Rattle.velo_ledger.specs.Tally.{with_event}
 use Rattle.velo_ledger.specs.Views.{Accounts, Holding}
 use Rattle.velo_ledger.specs.Book.{FitsBook, with_row, with_tally}
 use Rattle.velo_ledger.specs.Shares.{opening_share, share_at}
-use Rattle.velo_world.specs.declared.run.Reply.{Reply}
+use Rattle.velo_world.specs.declared.analysis.Reply.{Reply}
 use Rattle.velo_world.specs.World.{WorldState, meaning, FitsLog, OthersStillFit, IsBookOf, IsNoFork, AddsEvent, Acts}
-use Rattle.velo_world.specs.Course.{AddsToLog}
+use Rattle.velo_world.specs.LoggedRun.{AddsToLog}
 use Rattle.velo_world.specs.Kept.{KeepsUnborn, left_by}
 use Rattle.velo_world.proofs.OnAnswers.{MayFollow-meaning, event-meaning}
 use Rattle.velo_world.proofs.OnHoldings.{longer, FitsBook-from, FitsLog-next_le, FitsLog-own, FitsLog-other, FitsLog-forked, IsBookOf-next, KeepsUnborn-next, KeepsUnborn-fork, kept-born, fork_by}

@@ -10,8 +10,8 @@ use Rattle.velo_events.specs.WellFormed.{IsWellFormed}
 use Rattle.velo_traces.specs.declared.judge.Flaw.TheVariants as flaw
 use Rattle.velo_traces.specs.Flaws.{flaw_of, IsFirstFlaw}
 use Rattle.velo_world.specs.World.{WorldState, FindsNoNode}
-use Rattle.velo_world.specs.declared.relive.ReliveFault.{ReliveFault}
-use Rattle.velo_world.specs.declared.relive.ReliveFault.TheVariants.{Refused, WrongValue, Memory}
+use Rattle.velo_world.specs.declared.log_replay.LogReplayFault.{LogReplayFault}
+use Rattle.velo_world.specs.declared.log_replay.LogReplayFault.TheVariants.{Refused, WrongValue, Memory}
 
 -- the world of a log, which nobody has halted
 abbrev pub world_of : Config → List Event → WorldState
@@ -23,7 +23,7 @@ IsLimit config log e refusal = ((refusal ≡ LogFull) × (config.events ≤ leng
     ⊎ ((refusal ≡ GraphFull) × (length log < config.events) × FindsNoNode config.bounds.threads log e config.nodes)
 
 -- why the event does not come next: a refusal, a wrong value, or a limit, in this order; or a growth was refused
-abbrev pub IsFaultAtEvent : Config → List Event → Event → ReliveFault → Type 0
+abbrev pub IsFaultAtEvent : Config → List Event → Event → LogReplayFault → Type 0
 IsFaultAtEvent config log e (Refused p refusal) = (p ≡ length log)
     × ((flaw_of config.bounds log e ≡ Some (flaw.Refused refusal))
     ⊎ ((flaw_of config.bounds log e ≡ None) × IsLimit config log e refusal))
@@ -49,8 +49,8 @@ pub record IsWrongValueAt (limit : ℕ) (bounds : Bounds) (log : List Event) (p 
   pub reason : IsFirstFlaw bounds log p flaw.WrongValue
   pub within : p ≤ limit
 
--- why the log can't be relived to its end
-abbrev pub IsFaultOfLog : Config → List Event → ReliveFault → Type 0
+-- why the log can't be replayed to its end
+abbrev pub IsFaultOfLog : Config → List Event → LogReplayFault → Type 0
 IsFaultOfLog config log (Refused p refusal) = IsRefusedAt config.events config.nodes config.bounds log p refusal
 IsFaultOfLog config log (WrongValue p) = IsWrongValueAt config.events config.bounds log p
 IsFaultOfLog config log Memory = GrowthRefused

@@ -1,7 +1,7 @@
 pub mod World
 pub mod Faults
-pub mod Run
-pub mod Course
+pub mod Analysis
+pub mod LoggedRun
 pub mod Kept
-pub mod Relived
+pub mod LogReplay
 pub mod Inside

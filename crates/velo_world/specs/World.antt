@@ -24,8 +24,8 @@ use Rattle.velo_ledger.specs.Tally.{with_event}
 use Rattle.velo_ledger.specs.Views.{Accounts, Holding}
 use Rattle.velo_traces.specs.Blocks.{block_at}
 use Rattle.velo_blame.specs.Blamed.{AreBlamedAt, begins_of}
-use Rattle.velo_world.specs.declared.run.Alarm.{Alarm}
-use Rattle.velo_world.specs.declared.run.Reply.{Reply}
+use Rattle.velo_world.specs.declared.analysis.Alarm.{Alarm}
+use Rattle.velo_world.specs.declared.analysis.Reply.{Reply}
 
 pub record WorldState : Type 0 where
   pub config : Config

@@ -6,7 +6,7 @@ ghost use Rattle.velo_heap.specs.Contents.{bounds_of, IsHeapOf};
 ghost use Rattle.velo_ledger.specs.Logs.{tally_of, events_below};
 ghost use Rattle.velo_world.specs.World.{IsAlarm};
 
-use crate::run::Alarm;
+use crate::analysis::Alarm;
 use crate::world::World;
 use std::marker::Model;
 use velo_events::{Bounds, ThreadId};

@@ -1,13 +1,13 @@
 //! One world: a log, the heap that it leaves and a book of it, where each action is one event and the first cycle raises the alarm.
 #![tactic(auto)]
 
+mod analysis;
 mod closed;
-mod course;
-mod relive;
-mod run;
+mod log_replay;
+mod logged_run;
 mod world;
 
+pub use analysis::{Alarm, Reply};
 pub use closed::Closed;
-pub use relive::ReliveFault;
-pub use run::{Alarm, Reply};
+pub use log_replay::LogReplayFault;
 pub use world::World;

@@ -19,9 +19,9 @@ ghost use Rattle.velo_monitor.specs.Watched.{IsMonitorOf};
 ghost use Rattle.velo_world.specs.World.{IsAlarm, IsWatchedPart, opening, halted_world, meaning, FitsLog, OthersStillFit, IsBookOf, IsLiveThread, HoldsLiveShares, CompletesShares, IsNoFork, Replies, Acts, Forks, Closes, StepsTo, RunsTo};
 ghost use Rattle.velo_world.specs.Kept.{left_by, taken_by, with_share};
 
+use crate::analysis::{Alarm, Analysis, Reply};
 use crate::closed::Closed;
-use crate::course::Course;
-use crate::run::{Alarm, Reply, Run};
+use crate::logged_run::LoggedRun;
 use std::alloc::Global;
 use std::fmt;
 use std::marker::Model;
@@ -39,7 +39,7 @@ use velo_traces::Trace;
 #[derive(Drop)]
 pub struct World {
     /// The run on its way.
-    pub(crate) course: Course,
+    pub(crate) logged: LoggedRun,
     /// A row for each thread.
     pub(crate) book: Book,
     /// The shares of the threads that are not born yet.
@@ -63,10 +63,10 @@ impl Model for World {
 impl fmt::Debug for World {
     fn fmt<W: fmt::Write>(&self, f: &mut fmt::Formatter<W>) -> fmt::Result {
         f.debug_struct("World")
-            .field("config", &self.course.config)
-            .field("halted", &self.course.halted)
-            .field("events", &self.course.log.len())
-            .field("alarm", &self.course.run.alarm)
+            .field("config", &self.logged.config)
+            .field("halted", &self.logged.halted)
+            .field("events", &self.logged.log.len())
+            .field("alarm", &self.logged.analysis.alarm)
             .finish_non_exhaustive()
     }
 }
@@ -85,14 +85,14 @@ impl World {
         let Some(share) = kept.take(ThreadId(0)) else {
             unreachable!()
         };
-        let run = Run::new(alloc, &config)?;
+        let analysis = Analysis::new(alloc, &config)?;
         let log = Trace::new(alloc);
         let world = World {
-            course: Course {
+            logged: LoggedRun {
                 config,
                 halted: false,
                 log,
-                run,
+                analysis,
             },
             book,
             kept,
@@ -115,7 +115,7 @@ impl World {
         ensures fits { FitsLog self.new share.new }
         ensures others { OthersStillFit self.old share.old.thread self.new }
     {
-        match self.course.perform(share.thread(), action) {
+        match self.logged.perform(share.thread(), action) {
             Ok((event, reply)) => {
                 self.book.enter(share, reply.position, &event);
                 Ok(reply)
@@ -136,7 +136,7 @@ impl World {
         ensures born { IfOk result (λ forked. FitsLog self.new forked.1) }
         ensures others { OthersStillFit self.old share.old.thread self.new }
     {
-        match self.course.perform(share.thread(), Action::Fork(child)) {
+        match self.logged.perform(share.thread(), Action::Fork(child)) {
             Ok((event, reply)) => {
                 self.book.enter(share, reply.position, &event);
                 match self.kept.take(child) {
@@ -193,7 +193,7 @@ impl World {
         ensures filled { (t : ℕ) → IsFilled shares.old t → IsFilled shares.new t }
         ensures complete { CompletesShares self.old shares.old → CompletesShares self.new shares.new }
     {
-        match self.course.perform(thread, action) {
+        match self.logged.perform(thread, action) {
             Ok((event, reply)) => {
                 self.book.enter_at(shares, reply.position, &event);
                 hand_over(&mut self.kept, shares, &event);
@@ -207,14 +207,14 @@ impl World {
     pub fn config(&self) -> Config
         ensures { result ≡ self.now.config }
     {
-        self.course.config
+        self.logged.config
     }
 
     /// How many threads, variables and locks there are.
     pub fn bounds(&self) -> Bounds
         ensures { result ≡ self.now.config.bounds }
     {
-        self.course.config.bounds
+        self.logged.config.bounds
     }
 
     /// How many threads there are.
@@ -230,7 +230,7 @@ impl World {
         ensures well_formed { IsWellFormed self.now.config.bounds self.now.log }
         ensures limit { length self.now.log ≤ self.now.config.events }
     {
-        &self.course.log
+        &self.logged.log
     }
 
     /// The heap that the log leaves.
@@ -238,7 +238,7 @@ impl World {
         ensures stands { IsHeapOf result.now self.now.log }
         ensures bounds { bounds_of result.now ≡ self.now.config.bounds }
     {
-        &self.course.run.heap
+        &self.logged.analysis.heap
     }
 
     /// The graph of the log's transactions; with an alarm, of those before it. A transaction that it gave up is on no cycle,
@@ -249,7 +249,7 @@ impl World {
         ensures given_up { (trace : List EventOf) → IsWatchedPart self.now.log trace → (a : ℕ) → IsGivenUp trace (stamps_in result.now.nodes.slots) a → IsHarmless self.now.config.bounds trace a }
         ensures limit { limit_of result.now.nodes.slots ≡ self.now.config.nodes }
     {
-        &self.course.run.monitor
+        &self.logged.analysis.monitor
     }
 
     /// The book of the log, with a row for each thread.
@@ -267,21 +267,21 @@ impl World {
         ensures serial_none { IfNone result (IsSerializable self.now.log) }
         ensures serial_some { IfSome result (λ alarm. ¬ IsSerializable self.now.log) }
     {
-        self.course.run.alarm.as_ref()
+        self.logged.analysis.alarm.as_ref()
     }
 
     /// Refuses every action from now on.
     pub fn halt(&mut self)
         ensures { self.new ≡ halted_world self.old }
     {
-        self.course.halted = true;
+        self.logged.halted = true;
     }
 
     /// Whether every action is refused: after `halt`, and after an alarm where the configuration says `stop`.
     pub fn is_halted(&self) -> bool
         ensures { result ≡ self.now.halted }
     {
-        self.course.halted
+        self.logged.halted
     }
 
     /// Whether the share is of this run and of a thread of this world, and says what the log says of it.

@@ -3,7 +3,7 @@ ghost use Rattle.velo_events.specs.declared.limits.TheConstants.{MOST_EVENTS};
 ghost use Rattle.velo_events.specs.declared.event.Event.{Event as EventOf};
 ghost use Rattle.velo_arena.specs.Slots.{used_in, limit_of};
 ghost use Rattle.velo_events.specs.WellFormed.{IsWellFormed, MayFollow};
-ghost use Rattle.velo_tables.specs.Kept.{HasRoomFor};
+ghost use Rattle.velo_tables.specs.LastAccesses.{HasRoomFor};
 ghost use Rattle.velo_monitor.specs.Watched.{IsMonitorOf};
 ghost use Rattle.velo_monitor.specs.Answers.{NeedsNode};
 

@@ -9,7 +9,7 @@ use std::process::Abort;
 use velo_events::{Action, Bounds, Config, Label, Memory, Refusal, ThreadId, VarId};
 use velo_ledger::Shares;
 use velo_traces::Trace;
-use velo_world::{ReliveFault, World};
+use velo_world::{LogReplayFault, World};
 
 const THIRD: ThreadId = ThreadId(2);
 
@@ -35,8 +35,8 @@ fn open(rt: &impl Abort, alloc: Global, threads: u8, nodes: u16) -> (World, Shar
 {
     let config = config_of(rt, threads, nodes);
     let opened = again!(
-        ReliveFault::Memory,
-        World::relive(alloc, config, Trace::new(alloc))
+        LogReplayFault::Memory,
+        World::from_log(alloc, config, Trace::new(alloc))
     );
     opened.expect(rt, "a world")
 }

@@ -12,7 +12,7 @@ use std::process::Abort;
 use velo_events::{Action, Bounds, Config, Event, Kind, Label, Memory, Refusal, ThreadId};
 use velo_ledger::{Shares, Tally};
 use velo_traces::Trace;
-use velo_world::{Closed, ReliveFault, World};
+use velo_world::{Closed, LogReplayFault, World};
 
 #[test]
 fn a_refused_growth_of_a_new_world(rt: HostRuntime) {
@@ -193,16 +193,16 @@ fn recorded(rt: &impl Abort, alloc: Global, count: usize) -> Trace
     log
 }
 
-/// Relives the first recorded events, and lets the threads go on.
+/// Replays the first recorded events, and lets the threads go on.
 fn goes_on(rt: &impl Abort, alloc: Global, count: usize)
     requires { count ≤ 8 }
 {
     let config = two_threads(rt, 100, 2);
-    let relived = again!(
-        ReliveFault::Memory,
-        World::relive(alloc, config, recorded(rt, alloc, count))
+    let replayed = again!(
+        LogReplayFault::Memory,
+        World::from_log(alloc, config, recorded(rt, alloc, count))
     );
-    let (mut world, mut shares) = relived.expect(rt, "a world");
+    let (mut world, mut shares) = replayed.expect(rt, "a world");
     for place in count..8 {
         let (thread, action) = LOST_UPDATE[place];
         assert_eq!(rt;

@@ -6,7 +6,7 @@ use std::alloc::Global;
 use velo_events::{Action, Refusal, ThreadId, VarId};
 use velo_logtext::{Bytes, LogFault, WriterSink, read_log};
 use velo_program::{CarryFault, CheckFault, Verdict, carry_run, check_run, config_of};
-use velo_world::{ReliveFault, World};
+use velo_world::{LogReplayFault, World};
 
 /// What the call answers, or where a growth is refused what the same call answers then.
 macro_rules! again {
@@ -65,12 +65,12 @@ fn a_refused_growth_of_a_log_that_is_carried_over(rt: HostRuntime) {
 const WRITTEN: &str = "vlog 2 2 1 0\n0 fork 1\n0 begin 1\n0 wr 0 1\n";
 
 /// What the world of this log, whose block has the one node that there may be, answers to a read by the thread.
-fn read_beside(alloc: Global) -> Result<Option<Refusal>, ReliveFault> {
+fn read_beside(alloc: Global) -> Result<Option<Refusal>, LogReplayFault> {
     let (bounds, log) = match read_log(alloc, &mut Bytes::new(WRITTEN.as_bytes())) {
         Ok(read) => read,
-        Err(_) => return Err(ReliveFault::Memory),
+        Err(_) => return Err(LogReplayFault::Memory),
     };
-    match World::relive(alloc, config_of(bounds, 4, 1), log) {
+    match World::from_log(alloc, config_of(bounds, 4, 1), log) {
         Ok((mut world, mut shares)) => {
             let read = world.act_as(&mut shares, ThreadId(1), Action::Read(VarId(0)));
             drop((world, shares));
@@ -83,6 +83,6 @@ fn read_beside(alloc: Global) -> Result<Option<Refusal>, ReliveFault> {
 /// A full graph is told before any growth for the event, whether that growth would be refused or not.
 #[test]
 fn a_refused_growth_beside_a_full_graph(rt: HostRuntime) {
-    let refusal = again!(ReliveFault::Memory, read_beside(rt.alloc()));
+    let refusal = again!(LogReplayFault::Memory, read_beside(rt.alloc()));
     assert_eq!(rt; refusal, Ok(Some(Refusal::GraphFull)));
 }

@@ -106,8 +106,8 @@ impl Dice {
 /// A world whose log came about by chance: of 48 actions those that were not refused.
 pub fn world_by_chance(rt: &impl Abort, alloc: Global, seed: u64) -> World {
     let config = config_of(BOUNDS, MOST_EVENTS, MOST_NODES);
-    let relived = World::relive(alloc, config, Trace::new(alloc));
-    let (mut world, mut shares) = relived.expect(rt, "a world");
+    let replayed = World::from_log(alloc, config, Trace::new(alloc));
+    let (mut world, mut shares) = replayed.expect(rt, "a world");
     let mut dice = Dice::new(seed);
     for i in 0..48u8 {
         let (thread, action) = turn_by(i, dice.throw());

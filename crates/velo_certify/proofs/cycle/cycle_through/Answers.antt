@@ -8,20 +8,20 @@ use Rattle.velo_certify.proofs.cycle.cycle_through.Goals as goal
 
 pub loop-present-preserved : goal.loop-present-preserved
 loop-present-preserved c =
-    let far = c.args.reached.now.far.items in let next = c.args.reached.now.next.items in let present = c.loop-present.present in
+    let distance = c.args.reached.now.distance.items in let next = c.args.reached.now.next.items in let present = c.loop-present.present in
     let reached = c.loop-present.invariant.there in
-    let inside : present < length next = let within = reached-within far present reached in let count = c.args.reached.now.count in omega (arith, within, count) in
+    let inside : present < length next = let within = reached-within distance present reached in let count = c.args.reached.now.count in omega (arith, within, count) in
     let is : c.index-present.result.now ≡ slice_index next present = c.index-present.ensures ∙ get_or_default next present c.index-present.result.now 0 inside in
     record {
-      there = subst (λ a. 0 < slice_index far a) (sym is) (c.requires.nearer.each present reached c.loop-present-test.true).0;
+      there = subst (λ a. 0 < slice_index distance a) (sym is) (c.requires.nearer.each present reached c.loop-present-test.true).0;
       walks = λ trace distances towards nearest.
-          subst (WalksBack trace far c.args.start c.args.second c.push_reserved-in-loop-present.new.self.items) (sym is)
-          (subst (λ xs. WalksBack trace far c.args.start c.args.second xs (slice_index next present))
+          subst (WalksBack trace distance c.args.start c.args.second c.push_reserved-in-loop-present.new.self.items) (sym is)
+          (subst (λ xs. WalksBack trace distance c.args.start c.args.second xs (slice_index next present))
           (sym (c.push_reserved-in-loop-present.ensures.items ∙ ap (λ xs. xs ++ present ∷ []) c.reserve-in-loop-present.ensures.items))
-          (WalksBack-next trace far c.args.start c.args.second distances next towards c.loop-present.cycle.items present c.loop-present-test.true (c.loop-present.invariant.walks trace distances towards nearest)));
+          (WalksBack-next trace distance c.args.start c.args.second distances next towards c.loop-present.cycle.items present c.loop-present-test.true (c.loop-present.invariant.walks trace distances towards nearest)));
     }
 
 pub returns-clause-cycle : goal.returns-clause-cycle
 returns-clause-cycle c = λ trace distances towards nearest.
-    IsShortestFrom-end trace c.args.reached.now.far.items c.args.start c.args.second distances c.loop-present.cycle.items c.loop-present.present
+    IsShortestFrom-end trace c.args.reached.now.distance.items c.args.start c.args.second distances c.loop-present.cycle.items c.loop-present.present
     c.loop-present-test.false nearest (c.loop-present.invariant.walks trace distances towards nearest)

@@ -8,9 +8,9 @@ use Rattle.velo_certify.proofs.cycle.cycle_through.Given as goal
 
 abbrev pub invariant-loop-present : goal.invariant-loop-present
 invariant-loop-present l = record {
-  there : 0 < slice_index l.reached.far.items l.present;
-  walks : (trace : List Event) → AreDistances trace l.start l.reached.far.items → AreTowards trace l.start l.reached.far.items l.reached.next.items → IsNearest trace l.reached.far.items l.start l.second → WalksBack trace l.reached.far.items l.start l.second l.cycle.items l.present;
+  there : 0 < slice_index l.reached.distance.items l.present;
+  walks : (trace : List Event) → AreDistances trace l.start l.reached.distance.items → AreTowards trace l.start l.reached.distance.items l.reached.next.items → IsNearest trace l.reached.distance.items l.start l.second → WalksBack trace l.reached.distance.items l.start l.second l.cycle.items l.present;
 }
 
 abbrev pub decreases-loop-present : goal.decreases-loop-present
-decreases-loop-present l = slice_index l.reached.far.items l.present
+decreases-loop-present l = slice_index l.reached.distance.items l.present

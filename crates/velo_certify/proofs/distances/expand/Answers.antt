@@ -10,25 +10,25 @@ use Rattle.velo_certify.proofs.distances.expand.Goals as goal
 pub loop-at-init : goal.loop-at-init
 loop-at-init c = record {
   lists = c.requires.lists;
-  follows = Follows-start c.args.events.now c.args.transaction (let within = reached-within c.args.reached.now.far.items c.args.transaction c.requires.positive in let count = c.requires.lists.count in omega (arith, within, count));
+  follows = Follows-start c.args.events.now c.args.transaction (let within = reached-within c.args.reached.now.distance.items c.args.transaction c.requires.positive in let count = c.requires.lists.count in omega (arith, within, count));
   expands = ExpandsBelow-start c.args.events.now c.args.transaction c.args.reached.now;
 }
 
 pub loop-at-preserved : goal.loop-at-preserved
 loop-at-preserved c =
-    let trace = c.args.events.now in let b = c.args.transaction in let n = c.loop-at.at in let old = c.args.reached.now in let now = c.loop-at.reached in let new = c.pass_conflicts.new.reached in
-    let lists = c.pass_conflicts.new.self in
+    let trace = c.args.events.now in let b = c.args.transaction in let n = c.loop-at.at in let old = c.args.reached.now in let now = c.loop-at.reached in let new = c.visit_conflicts.new.reached in
+    let lists = c.visit_conflicts.new.self in
     let k = c.index-at.result.now in
     let follows = c.loop-at.invariant.follows in
     let expands = c.loop-at.invariant.expands in
     let of_b : owner trace n ≡ b = sym c.owner_of.ensures.owner ∙ c.if-owner_of-transaction.true in
-    let passed = c.pass_conflicts.ensures.search.passed in
-    let there : k ≡ slice_index lists.following.items n = c.index-at.ensures ∙ get_or_default lists.following.items n k 0 (let count = passed.following.count in omega (arith, c.loop-at-test.true, count)) in
-    let next = subst (IsFirstFrom trace (thread_at trace n) (n + 1)) (sym there) (next-of_thread trace lists new n c.loop-at-test.true passed) in
+    let visited = c.visit_conflicts.ensures.search.visited in
+    let there : k ≡ slice_index lists.following.items n = c.index-at.ensures ∙ get_or_default lists.following.items n k 0 (let count = visited.following.count in omega (arith, c.loop-at-test.true, count)) in
+    let next = subst (IsFirstFrom trace (thread_at trace n) (n + 1)) (sym there) (next-of_thread trace lists new n c.loop-at-test.true visited) in
     record {
-      lists = passed;
-      follows = Follows-on trace b n old now c.requires.positive follows expands new k c.loop-at-test.true of_b next c.pass_conflicts.ensures.passes;
-      expands = ExpandsBelow-next trace b n old now c.requires.positive follows expands new k c.loop-at-test.true of_b next c.pass_conflicts.ensures.passes;
+      lists = visited;
+      follows = Follows-on trace b n old now c.requires.positive follows expands new k c.loop-at-test.true of_b next c.visit_conflicts.ensures.visits;
+      expands = ExpandsBelow-next trace b n old now c.requires.positive follows expands new k c.loop-at-test.true of_b next c.visit_conflicts.ensures.visits;
     }
 
 pub returns-else-owner_of-transaction-clause-expands : goal.returns-else-owner_of-transaction-clause-expands

@@ -1,11 +1,11 @@
 use Rattle.std.proofs.Common.{◌-◌, length}
-use Rattle.velo_certify.specs.Search.{ArePassed, ExpandsBelow}
+use Rattle.velo_certify.specs.Search.{AreVisited, ExpandsBelow}
 use Rattle.velo_certify.proofs.OnThreads.{Follows}
 use Rattle.velo_certify.proofs.distances.expand.Given as goal
 
 abbrev pub invariant-loop-at : goal.invariant-loop-at
 invariant-loop-at l = record {
-  lists : ArePassed l.events l.lists l.reached;
+  lists : AreVisited l.events l.lists l.reached;
   follows : Follows l.events l.transaction l.at;
   expands : ExpandsBelow l.events l.transaction l.at l.fn.reached l.reached;
 }

@@ -7,5 +7,5 @@ abbrev pub invariant-loop-at : goal.invariant-loop-at
 invariant-loop-at l = record {
   sizes : sizes l.table ≡ sizes l.fn.table;
   numbers : HasNumbers l.events (numbers_before (own_positions l.events l.from) l.at) l.table;
-  nearest : IsNearestSoFar l.events l.far l.from l.at l.nearest;
+  nearest : IsNearestSoFar l.events l.distance l.from l.at l.nearest;
 }

@@ -22,7 +22,7 @@ pub returns-in-Some-clause-ok : goal.returns-in-Some-clause-ok
 returns-in-Some-clause-ok g c =
     let log = c.args.closed.now.log in
     let is = IsCertificate-cycle log c.args.list.now (HasCycle-from_closing log _ c.in-Some.ensures.some.closing) in
-    on_ok_weaker c.add_numbers.result (λ p. record { text = _; is_certificate = is; passes = p }) c.add_numbers.ensures.ok
+    on_ok_weaker c.add_numbers.result (λ p. record { text = _; is_certificate = is; buffers = p }) c.add_numbers.ensures.ok
 
 pub returns-in-Some-clause-err : goal.returns-in-Some-clause-err
 returns-in-Some-clause-err g c =

@@ -3,9 +3,9 @@ use Rattle.std.specs.Prelude.{codes, decimal, OnOk, OnErr}
 use Rattle.velo_traces.specs.declared.block.Block.{Block}
 use Rattle.velo_logtext.specs.Device.{AppendsBeginning}
 use Rattle.std.proofs.lemmas.Result.{on_ok_weaker, on_err_weaker, err_from_is_err_and}
-use Rattle.velo_report.specs.Lines.{line_of, Passes}
+use Rattle.velo_report.specs.Lines.{line_of, Buffers}
 use Rattle.velo_report.specs.Report.{blame_lines}
-use Rattle.velo_report.proofs.OnPassing.{passes-then, passes-failed, first-failed, last-failed}
+use Rattle.velo_report.proofs.OnBuffering.{buffers-then, buffers-failed, first-failed, last-failed}
 use Rattle.velo_report.proofs.closed.add_alarm.Goals as goal
 
 pub returns-in_err-add_line-clause-err : goal.returns-in_err-add_line-clause-err
@@ -23,7 +23,7 @@ returns-in_err-add_line-2-clause-err g c =
     let transaction = line_of (codes "transaction") (decimal alarm.transaction ∷ []) in
     let blame = blame_lines c.args.names.now alarm.blamed.items in
     let p = err_from_is_err_and c.from_residual-in_err-add_line-2.result c.from_residual-in_err-add_line-2.ensures.1 in
-    rw p.1 (passes-failed _ _ _ _ _ verdict transaction blame _ c.in_ok-add_line.ensures.ok c.in_err-add_line-2.ensures.err refl)
+    rw p.1 (buffers-failed _ _ _ _ _ verdict transaction blame _ c.in_ok-add_line.ensures.ok c.in_err-add_line-2.ensures.err refl)
 
 pub returns-clause-ok : goal.returns-clause-ok
 returns-clause-ok g c =
@@ -31,9 +31,9 @@ returns-clause-ok g c =
     let verdict = line_of (codes "verdict") (codes "alarm" ∷ decimal alarm.position ∷ []) in
     let transaction = line_of (codes "transaction") (decimal alarm.transaction ∷ []) in
     let blame = blame_lines c.args.names.now c.as_slice.result.now in
-    subst (λ (blocks : List Block). OnOk c.add_blame.result (Passes (contents c.args.sink.now) (contents c.add_blame.new.sink) c.args.lines.now c.add_blame.new.lines (verdict ++ (transaction ++ blame_lines c.args.names.now blocks)))) c.as_slice.ensures
+    subst (λ (blocks : List Block). OnOk c.add_blame.result (Buffers (contents c.args.sink.now) (contents c.add_blame.new.sink) c.args.lines.now c.add_blame.new.lines (verdict ++ (transaction ++ blame_lines c.args.names.now blocks)))) c.as_slice.ensures
     (on_ok_weaker c.add_blame.result
-    (λ p. passes-then _ _ _ _ _ _ verdict (transaction ++ blame) c.in_ok-add_line.ensures.ok (passes-then _ _ _ _ _ _ transaction blame c.in_ok-add_line-2.ensures.ok p))
+    (λ p. buffers-then _ _ _ _ _ _ verdict (transaction ++ blame) c.in_ok-add_line.ensures.ok (buffers-then _ _ _ _ _ _ transaction blame c.in_ok-add_line-2.ensures.ok p))
     c.add_blame.ensures.ok)
 
 pub returns-clause-err : goal.returns-clause-err

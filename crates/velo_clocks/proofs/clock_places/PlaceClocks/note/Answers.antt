@@ -33,7 +33,7 @@ spread-requires-clause-follows c = λ said i one is own.
     let n = length c.args.clock.now in
     let are = c.requires.places in
     let was : (get_or old.reads.places.items i blank_reads).by ≡ One one = ap (λ (r : ReadClocks). (get_or r.places.items i blank_reads).by) (sym c.row_of-row.ensures.kept.reads) ∙ is in
-    let alone = one-at old.rows.rows old.reads.own old.reads.foreign old.reads.places.items i one was in
+    let alone = one-at old.rows.rows old.reads.own old.reads.by_others old.reads.places.items i one was in
     follows-noted n old mid are c.row_of-row.ensures.kept c.args.position c.row_of-row.result c.args.event.now c.row_of-row.ensures.row i one was alone (c.requires.ahead said) (sized-places n old are (reads-within n old.rows old.reads are.rows are.reads)) c.requires.room.own own
 
 pub returns-clause-noted : goal.returns-clause-noted

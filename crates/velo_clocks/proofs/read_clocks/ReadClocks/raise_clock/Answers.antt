@@ -24,7 +24,7 @@ pub returns-in-Several : goal.returns-in-Several
 returns-in-Several c =
     c.raise-in-Several.ensures
     ∙ (ap (maxima c.raise.new.numbers) c.list-in-Several.ensures
-    ∙ (ap (λ clock. maxima clock (get_or c.args.self.now.foreign c.index-place.result.now.lists [])) (c.raise.ensures ∙ ap (maxima c.args.clock.now) c.list.ensures)
+    ∙ (ap (λ clock. maxima clock (get_or c.args.self.now.by_others c.index-place.result.now.lists [])) (c.raise.ensures ∙ ap (maxima c.args.clock.now) c.list.ensures)
     ∙ raised-several (length c.args.clock.now) c.args.rows.now c.args.self.now c.requires.rows c.requires.reads c.args.number
     (omega (arith, c.if-number-len.false, c.len.ensures, c.args.self.now.places.ok.0)) c.index-place.result.now c.index-place.ensures
     c.args.clock.now c.in-Several.is))

@@ -13,13 +13,13 @@ same-at c i = from_either c.fill_up_to.result _ _ (get_or c.fill_up_to.new.items
 
 pub returns-clause-reads : goal.returns-clause-reads
 returns-clause-reads c = λ threads rows are_rows are.
-    more-are c.args.self.now (record { own = c.args.self.now.own; foreign = c.args.self.now.foreign; spare = c.args.self.now.spare; places = c.fill_up_to.new.items }) refl refl refl (same-at c) threads rows are
+    more-are c.args.self.now (record { own = c.args.self.now.own; by_others = c.args.self.now.by_others; spare = c.args.self.now.spare; places = c.fill_up_to.new.items }) refl refl refl (same-at c) threads rows are
 
 pub returns-clause-same : goal.returns-clause-same
 returns-clause-same c = λ threads rows are_rows.
-    more-keep threads rows are_rows c.args.self.now.own c.args.self.now.foreign c.args.self.now.places.items c.fill_up_to.new.items.items (same-at c)
+    more-keep threads rows are_rows c.args.self.now.own c.args.self.now.by_others c.args.self.now.places.items c.fill_up_to.new.items.items (same-at c)
 
 pub returns-clause-ok : goal.returns-clause-ok
 returns-clause-ok c = OnOk-weaker c.fill_up_to.result _ _ c.fill_up_to.ensures.ok (λ e threads rows are_rows are.
-    read-room threads rows (record { own = c.args.self.now.own; foreign = c.args.self.now.foreign; spare = c.args.self.now.spare; places = c.fill_up_to.new.items }) are_rows are c.args.number
+    read-room threads rows (record { own = c.args.self.now.own; by_others = c.args.self.now.by_others; spare = c.args.self.now.spare; places = c.fill_up_to.new.items }) are_rows are c.args.number
     (omega (arith, ap length e, length-filled_up blank_reads (c.args.number + 1) c.args.self.now.places.items)))

@@ -2,7 +2,7 @@ use Rattle.std.proofs.Common.{◌≡◌, sym, [], ◌∷◌, ◌++◌, IsTrue, �
 use Rattle.std.specs.Option.{option_to_list}
 use Rattle.velo_events.specs.Event.{thread_of}
 use Rattle.velo_events.specs.Place.{LastOf}
-use Rattle.velo_tables.specs.Kept.{entry, steps_looked_up}
+use Rattle.velo_tables.specs.LastAccesses.{entry, steps_looked_up}
 use Rattle.velo_graph.specs.Nodes.{AddsEdges}
 use Rattle.velo_monitor.specs.Watched.{Watched}
 use Rattle.velo_monitor.specs.Steps.{live_slots, ReachesSome}

@@ -18,13 +18,13 @@ free-requires-clause-root c =
     (subst (λ (v : Watched). now.slots ≡ with_node v.nodes.slots own.slot (Some (record { stamp = own.stamp; finished = true }))) c.self.view_is c.finish.ensures.finished)
     (subst (λ (v : Watched). now.ancestors ≡ v.nodes.ancestors) c.self.view_is c.finish.ensures.ancestors)) root
 
-pub returns-else-leads-clause-ends : goal.returns-else-leads-clause-ends
-returns-else-leads-clause-ends c =
+pub returns-else-may_have_descendants-clause-ends : goal.returns-else-may_have_descendants-clause-ends
+returns-else-may_have_descendants-clause-ends c =
     let old = c.args.self.now.nodes in
     let own = c.args.own in
     let now = c.finish.new.self in
     let root = (subst (λ (v : Watched). IsTrue c.is_root-is_root.result ↔ IsRoot v.nodes own.slot) c.self.view_is c.is_root-is_root.ensures).0 c.if-not-is_root.false in
-    let leaf = subst (λ (v : Watched). IsFalse c.leads-leads.result → (n : ℕ) → is_ancestor v.nodes own.slot n ≡ false) c.self.view_is c.leads-leads.ensures c.if-leads.false in
+    let leaf = subst (λ (v : Watched). IsFalse c.may_have_descendants-may_have_descendants.result → (n : ℕ) → is_ancestor v.nodes own.slot n ≡ false) c.self.view_is c.may_have_descendants-may_have_descendants.ensures c.if-may_have_descendants.false in
     let slots = subst (λ (v : Watched). now.slots ≡ with_node v.nodes.slots own.slot (Some (record { stamp = own.stamp; finished = true }))) c.self.view_is c.finish.ensures.finished in
     let rows = subst (λ (v : Watched). now.ancestors ≡ v.nodes.ancestors) c.self.view_is c.finish.ensures.ancestors in
     record {

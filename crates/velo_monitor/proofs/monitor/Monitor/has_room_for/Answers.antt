@@ -1,6 +1,6 @@
 use Rattle.std.proofs.Common.{ap, ◌∙◌, length, subst}
 use Rattle.std.specs.Prelude.{IsTrue, ◌↔◌}
-use Rattle.velo_tables.specs.Kept.{HasRoomFor}
+use Rattle.velo_tables.specs.LastAccesses.{HasRoomFor}
 use Rattle.velo_tables.proofs.OnSteps.{HasItsThreads-follows}
 use Rattle.velo_monitor.specs.Watched.{Watched}
 use Rattle.velo_monitor.proofs.monitor.Monitor.has_room_for.Goals as goal

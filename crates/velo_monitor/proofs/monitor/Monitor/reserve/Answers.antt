@@ -1,5 +1,5 @@
 use Rattle.std.proofs.Common.{ap, ◌∙◌, refl, subst, sym}
-use Rattle.velo_tables.specs.Kept.{entry}
+use Rattle.velo_tables.specs.LastAccesses.{entry}
 use Rattle.velo_monitor.specs.Watched.{Watched, IsMonitorOf}
 use Rattle.velo_monitor.proofs.OnStart.{makes-room}
 use Rattle.velo_monitor.proofs.monitor.Monitor.reserve.Goals as goal

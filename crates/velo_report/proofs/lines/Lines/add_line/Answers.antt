@@ -3,9 +3,9 @@ use Rattle.std.specs.Prelude.{codes}
 use Rattle.std.proofs.lemmas.List.{take_more, take_all}
 use Rattle.std.proofs.lemmas.Result.{on_ok_weaker, on_err_weaker, err_from_is_err_and}
 use Rattle.velo_logtext.specs.Device.{AppendsBeginning}
-use Rattle.velo_report.specs.Lines.{Passes, spaced, word_text}
+use Rattle.velo_report.specs.Lines.{Buffers, spaced, word_text}
 use Rattle.velo_report.proofs.OnLines.{no_word, begun, begun-start, begun-next, line-split, line-split-next, line-end, rest_of}
-use Rattle.velo_report.proofs.OnPassing.{passes-then, passes-failed, first-failed, last-failed}
+use Rattle.velo_report.proofs.OnBuffering.{buffers-then, buffers-failed, first-failed, last-failed}
 use Rattle.velo_report.proofs.lines.Lines.add_line.Goals as goal
 
 pub returns-in_err-add_word-clause-err : goal.returns-in_err-add_word-clause-err
@@ -21,8 +21,8 @@ loop-word-preserved g c =
     let word = get_or words i no_word in
     let more : take (i + 1) words ≡ take i words ++ word ∷ [] = take_more words i no_word c.loop-word-test.true in
     record {
-      passes = subst (Passes (contents c.args.sink.now) (contents c.add_spaced.new.sink) c.args.self.now c.add_spaced.new.self) (begun-next word_text first words i word more)
-          (passes-then _ _ _ _ _ _ (begun word_text first words i) (spaced (word_text word)) c.loop-word.invariant.passes c.in_ok-add_spaced.ensures.ok);
+      buffers = subst (Buffers (contents c.args.sink.now) (contents c.add_spaced.new.sink) c.args.self.now c.add_spaced.new.self) (begun-next word_text first words i word more)
+          (buffers-then _ _ _ _ _ _ (begun word_text first words i) (spaced (word_text word)) c.loop-word.invariant.buffers c.in_ok-add_spaced.ensures.ok);
       failures = c.in_ok-add_spaced.ensures.no_failure ∙ c.loop-word.invariant.failures;
     }
 
@@ -32,7 +32,7 @@ returns-in_err-add_spaced-clause-err g c =
     let word = get_or words i no_word in
     let more : take (i + 1) words ≡ take i words ++ word ∷ [] = take_more words i no_word c.loop-word-test.true in
     let p = err_from_is_err_and c.from_residual-in_err-add_spaced.result c.from_residual-in_err-add_spaced.ensures.1 in
-    rw p.1 (passes-failed _ _ _ _ _ (begun word_text first words i) (spaced (word_text word)) (rest_of word_text words (i + 1)) _ c.loop-word.invariant.passes c.in_err-add_spaced.ensures.err (line-split-next word_text first words i word more))
+    rw p.1 (buffers-failed _ _ _ _ _ (begun word_text first words i) (spaced (word_text word)) (rest_of word_text words (i + 1)) _ c.loop-word.invariant.buffers c.in_err-add_spaced.ensures.err (line-split-next word_text first words i word more))
 
 pub returns-clause-ok : goal.returns-clause-ok
 returns-clause-ok g c =
@@ -40,9 +40,9 @@ returns-clause-ok g c =
     let first = c.args.first.now in let words = c.args.others.now in let i = c.loop-word.word-index in
     let all : take i words ≡ words = take_all i words (omega arith) in
     on_ok_weaker c.add.result
-    (λ (p : Passes (contents c.loop-word.sink) (contents c.add.new.sink) c.loop-word.self c.add.new.self (codes "\n")).
-    subst (Passes (contents c.args.sink.now) (contents c.add.new.sink) c.args.self.now c.add.new.self) (sym (line-end word_text first words i all))
-    (passes-then _ _ _ _ _ _ (begun word_text first words i) (codes "\n") c.loop-word.invariant.passes p))
+    (λ (p : Buffers (contents c.loop-word.sink) (contents c.add.new.sink) c.loop-word.self c.add.new.self (codes "\n")).
+    subst (Buffers (contents c.args.sink.now) (contents c.add.new.sink) c.args.self.now c.add.new.self) (sym (line-end word_text first words i all))
+    (buffers-then _ _ _ _ _ _ (begun word_text first words i) (codes "\n") c.loop-word.invariant.buffers p))
     c.add.ensures.ok
 
 pub returns-clause-err : goal.returns-clause-err
@@ -53,5 +53,5 @@ returns-clause-err g c =
     on_err_weaker c.add.result
     (λ (p : AppendsBeginning (contents c.loop-word.sink) (contents c.add.new.sink) (c.loop-word.self ++ codes "\n")).
     subst (λ (t : List ℕ). AppendsBeginning (contents c.args.sink.now) (contents c.add.new.sink) (c.args.self.now ++ t)) (sym (line-end word_text first words i all))
-    (last-failed _ _ _ _ _ (begun word_text first words i) (codes "\n") c.loop-word.invariant.passes p))
+    (last-failed _ _ _ _ _ (begun word_text first words i) (codes "\n") c.loop-word.invariant.buffers p))
     c.add.ensures.err

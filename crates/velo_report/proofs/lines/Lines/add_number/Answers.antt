@@ -1,7 +1,7 @@
 use Rattle.std.proofs.Common.{◌++◌, List, ℕ, subst}
 use Rattle.std.specs.Prelude.{OnOk, OnErr}
 use Rattle.velo_logtext.specs.Device.{AppendsBeginning}
-use Rattle.velo_report.specs.Lines.{Passes}
+use Rattle.velo_report.specs.Lines.{Buffers}
 use Rattle.velo_report.proofs.OnLines.{spaced-taken}
 use Rattle.velo_report.proofs.lines.Lines.add_number.Goals as goal
 
@@ -9,7 +9,7 @@ pub returns-clause-ok : goal.returns-clause-ok
 returns-clause-ok g c =
     let contents = g.S.Sink.contents in
     let text = c.write_spaced-start.new.text in
-    subst (λ (t : List ℕ). OnOk c.add.result (Passes (contents c.args.sink.now) (contents c.add.new.sink) c.args.self.now c.add.new.self t))
+    subst (λ (t : List ℕ). OnOk c.add.result (Buffers (contents c.args.sink.now) (contents c.add.new.sink) c.args.self.now c.add.new.self t))
     (spaced-taken c.args.number c.write_spaced-start.result text c.write_spaced-start.ensures.all c.write_spaced-start.ensures.written) c.add.ensures.ok
 
 pub returns-clause-err : goal.returns-clause-err

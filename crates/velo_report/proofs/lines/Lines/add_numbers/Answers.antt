@@ -3,9 +3,9 @@ use Rattle.std.specs.Prelude.{codes, decimal}
 use Rattle.std.proofs.lemmas.List.{take_more, take_all}
 use Rattle.std.proofs.lemmas.Result.{on_ok_weaker, on_err_weaker, err_from_is_err_and}
 use Rattle.velo_logtext.specs.Device.{AppendsBeginning}
-use Rattle.velo_report.specs.Lines.{Passes, spaced}
+use Rattle.velo_report.specs.Lines.{Buffers, spaced}
 use Rattle.velo_report.proofs.OnLines.{begun, begun-start, begun-next, line-split, line-split-next, line-end, rest_of}
-use Rattle.velo_report.proofs.OnPassing.{passes-then, passes-failed, first-failed, last-failed}
+use Rattle.velo_report.proofs.OnBuffering.{buffers-then, buffers-failed, first-failed, last-failed}
 use Rattle.velo_report.proofs.lines.Lines.add_numbers.Goals as goal
 
 pub returns-in_err-add_word-clause-err : goal.returns-in_err-add_word-clause-err
@@ -21,8 +21,8 @@ loop-number-preserved g c =
     let word = get_or words i 0 in
     let more : take (i + 1) words ≡ take i words ++ word ∷ [] = take_more words i 0 c.loop-number-test.true in
     record {
-      passes = subst (Passes (contents c.args.sink.now) (contents c.add_number.new.sink) c.args.self.now c.add_number.new.self) (begun-next decimal first words i word more)
-          (passes-then _ _ _ _ _ _ (begun decimal first words i) (spaced (decimal word)) c.loop-number.invariant.passes c.in_ok-add_number.ensures.ok);
+      buffers = subst (Buffers (contents c.args.sink.now) (contents c.add_number.new.sink) c.args.self.now c.add_number.new.self) (begun-next decimal first words i word more)
+          (buffers-then _ _ _ _ _ _ (begun decimal first words i) (spaced (decimal word)) c.loop-number.invariant.buffers c.in_ok-add_number.ensures.ok);
       failures = c.in_ok-add_number.ensures.no_failure ∙ c.loop-number.invariant.failures;
     }
 
@@ -32,7 +32,7 @@ returns-in_err-add_number-clause-err g c =
     let word = get_or words i 0 in
     let more : take (i + 1) words ≡ take i words ++ word ∷ [] = take_more words i 0 c.loop-number-test.true in
     let p = err_from_is_err_and c.from_residual-in_err-add_number.result c.from_residual-in_err-add_number.ensures.1 in
-    rw p.1 (passes-failed _ _ _ _ _ (begun decimal first words i) (spaced (decimal word)) (rest_of decimal words (i + 1)) _ c.loop-number.invariant.passes c.in_err-add_number.ensures.err (line-split-next decimal first words i word more))
+    rw p.1 (buffers-failed _ _ _ _ _ (begun decimal first words i) (spaced (decimal word)) (rest_of decimal words (i + 1)) _ c.loop-number.invariant.buffers c.in_err-add_number.ensures.err (line-split-next decimal first words i word more))
 
 pub returns-clause-ok : goal.returns-clause-ok
 returns-clause-ok g c =
@@ -40,9 +40,9 @@ returns-clause-ok g c =
     let first = c.args.first.now in let words = c.args.numbers.now in let i = c.loop-number.number-index in
     let all : take i words ≡ words = take_all i words (omega arith) in
     on_ok_weaker c.add.result
-    (λ (p : Passes (contents c.loop-number.sink) (contents c.add.new.sink) c.loop-number.self c.add.new.self (codes "\n")).
-    subst (Passes (contents c.args.sink.now) (contents c.add.new.sink) c.args.self.now c.add.new.self) (sym (line-end decimal first words i all))
-    (passes-then _ _ _ _ _ _ (begun decimal first words i) (codes "\n") c.loop-number.invariant.passes p))
+    (λ (p : Buffers (contents c.loop-number.sink) (contents c.add.new.sink) c.loop-number.self c.add.new.self (codes "\n")).
+    subst (Buffers (contents c.args.sink.now) (contents c.add.new.sink) c.args.self.now c.add.new.self) (sym (line-end decimal first words i all))
+    (buffers-then _ _ _ _ _ _ (begun decimal first words i) (codes "\n") c.loop-number.invariant.buffers p))
     c.add.ensures.ok
 
 pub returns-clause-err : goal.returns-clause-err
@@ -53,5 +53,5 @@ returns-clause-err g c =
     on_err_weaker c.add.result
     (λ (p : AppendsBeginning (contents c.loop-number.sink) (contents c.add.new.sink) (c.loop-number.self ++ codes "\n")).
     subst (λ (t : List ℕ). AppendsBeginning (contents c.args.sink.now) (contents c.add.new.sink) (c.args.self.now ++ t)) (sym (line-end decimal first words i all))
-    (last-failed _ _ _ _ _ (begun decimal first words i) (codes "\n") c.loop-number.invariant.passes p))
+    (last-failed _ _ _ _ _ (begun decimal first words i) (codes "\n") c.loop-number.invariant.buffers p))
     c.add.ensures.err

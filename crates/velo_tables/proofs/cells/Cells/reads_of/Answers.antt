@@ -1,6 +1,6 @@
 use Rattle.std.proofs.Common.{◌<◌, length, sym, ap, arith}
 use Rattle.std.proofs.lemmas.List.{get_or_past}
-use Rattle.velo_tables.specs.Kept.{Accesses, no_accesses}
+use Rattle.velo_tables.specs.LastAccesses.{Accesses, no_accesses}
 use Rattle.velo_tables.proofs.OnCells.{same_count, part-fits, part-is}
 use Rattle.velo_tables.proofs.cells.Cells.reads_of.Goals as goal
 

@@ -1,6 +1,6 @@
 use Rattle.std.proofs.Common.{get_or, ◌∙◌, ap, arith}
 use Rattle.std.proofs.Math.ListN.{set}
-use Rattle.velo_tables.specs.Kept.{no_accesses}
+use Rattle.velo_tables.specs.LastAccesses.{no_accesses}
 use Rattle.velo_tables.specs.Recorded.{with_write}
 use Rattle.velo_tables.proofs.OnCells.{there, laid-written, accesses-written}
 use Rattle.velo_tables.proofs.cells.Cells.record_write.Goals as goal

@@ -1,14 +1,14 @@
 use Rattle.std.proofs.Common.{ℕ, ◌+◌, List, Option, map, sym, ap, subst, ◌∙◌}
 use Rattle.velo_arena.specs.declared.step.Step.{Step}
-use Rattle.velo_tables.specs.declared.cells.LastAccesses.{LastAccesses}
+use Rattle.velo_tables.specs.declared.cells.CellAccesses.{CellAccesses}
 use Rattle.velo_events.specs.Growth.{filled_up}
-use Rattle.velo_tables.specs.Kept.{no_accesses}
+use Rattle.velo_tables.specs.LastAccesses.{no_accesses}
 use Rattle.velo_tables.specs.Cells.{accesses_in, AreReadsLaidOut}
 use Rattle.velo_events.proofs.OnResults.{from_either, OnOk-weaker}
 use Rattle.velo_tables.proofs.OnCells.{laid-filled, accesses-filled}
 use Rattle.velo_tables.proofs.cells.Cells.reserve.Goals as goal
 
-abbrev filled_with : Option Step → ℕ → List LastAccesses → List LastAccesses
+abbrev filled_with : Option Step → ℕ → List CellAccesses → List CellAccesses
 filled_with write n cells = filled_up (record { write = write; readers = 0; reads = record { start = 0; count = 0 } }) n cells
 
 pub invariant_of-self : goal.invariant_of-self

@@ -1,5 +1,5 @@
 use Rattle.std.proofs.Common.{sym, subst}
-use Rattle.velo_tables.specs.Kept.{IsReadForgotten}
+use Rattle.velo_tables.specs.LastAccesses.{IsReadForgotten}
 use Rattle.velo_tables.proofs.OnForgotten.{IsReadForgotten-after}
 use Rattle.velo_tables.proofs.tables.Tables.forget_read.Goals as goal
 

@@ -1,7 +1,7 @@
 use Rattle.std.proofs.Common.{None, ap, ◌∙◌}
 use Rattle.std.specs.Prelude.{slice_index_or}
 use Rattle.velo_events.specs.Place.{LastOf}
-use Rattle.velo_tables.specs.Kept.{entry}
+use Rattle.velo_tables.specs.LastAccesses.{entry}
 use Rattle.velo_tables.proofs.tables.Tables.last_of.Goals as goal
 
 pub returns : goal.returns

@@ -1,6 +1,6 @@
 use Rattle.std.proofs.Common.{ap, ◌∙◌}
 use Rattle.velo_events.specs.Place.{LastWrite}
-use Rattle.velo_tables.specs.Kept.{entry}
+use Rattle.velo_tables.specs.LastAccesses.{entry}
 use Rattle.velo_tables.proofs.tables.Tables.last_write.Goals as goal
 
 pub returns : goal.returns

@@ -1,5 +1,5 @@
 use Rattle.std.proofs.Common.{subst}
-use Rattle.velo_tables.specs.Kept.{CoverReaders}
+use Rattle.velo_tables.specs.LastAccesses.{CoverReaders}
 use Rattle.velo_tables.proofs.tables.Tables.readers.Goals as goal
 
 pub returns : goal.returns

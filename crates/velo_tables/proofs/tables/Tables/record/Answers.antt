@@ -1,6 +1,6 @@
 use Rattle.std.proofs.Common.{sym, subst}
-use Rattle.velo_tables.specs.Kept.{IsRecorded}
-use Rattle.velo_tables.proofs.OnKept.{IsRecorded-kept_after}
+use Rattle.velo_tables.specs.LastAccesses.{IsRecorded}
+use Rattle.velo_tables.proofs.OnLastAccesses.{IsRecorded-kept_after}
 use Rattle.velo_tables.proofs.tables.Tables.record.Goals as goal
 
 pub returns-clause-recorded : goal.returns-clause-recorded

@@ -1,6 +1,6 @@
 use Rattle.std.proofs.Common.{Some, sym, subst}
-use Rattle.velo_tables.specs.Kept.{IsRecorded}
-use Rattle.velo_tables.proofs.OnKept.{IsRecorded-inside}
+use Rattle.velo_tables.specs.LastAccesses.{IsRecorded}
+use Rattle.velo_tables.proofs.OnLastAccesses.{IsRecorded-inside}
 use Rattle.velo_tables.proofs.tables.Tables.record_inside.Goals as goal
 
 pub returns-clause-recorded : goal.returns-clause-recorded

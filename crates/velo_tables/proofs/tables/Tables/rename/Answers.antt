@@ -1,5 +1,5 @@
 use Rattle.std.proofs.Common.{sym, subst}
-use Rattle.velo_tables.specs.Kept.{IsRenamed}
+use Rattle.velo_tables.specs.LastAccesses.{IsRenamed}
 use Rattle.velo_tables.proofs.OnRenamed.{IsRenamed-by}
 use Rattle.velo_tables.proofs.tables.Tables.rename.Goals as goal
 

@@ -5,7 +5,7 @@ use Rattle.velo_world.proofs.world.World.alarm.Goals as goal
 
 serializable : (c : goal.After-as_ref) → IfNone c.as_ref.result (IsSerializable c.args.self.now.log) × IfSome c.as_ref.result (λ _. ¬ IsSerializable c.args.self.now.log)
 serializable c =
-    AlarmOf-serializable c.args.self.now.log c.self.inside.course.run.alarm c.as_ref.result (rw (← c.self.view_is) c.self.invariant.course.run.watched.alarm) c.as_ref.ensures.variant
+    AlarmOf-serializable c.args.self.now.log c.self.inside.logged.analysis.alarm c.as_ref.result (rw (← c.self.view_is) c.self.invariant.logged.analysis.watched.alarm) c.as_ref.ensures.variant
 
 pub returns-clause-serial_none : goal.returns-clause-serial_none
 returns-clause-serial_none c = (serializable c).0

@@ -2,7 +2,7 @@ use Rattle.std.proofs.Common.{◌≡◌, Option, Some, None, refl, sym, ◌∙�
 use Rattle.std.proofs.lemmas.Option.{same_Some}
 use Rattle.velo_events.specs.declared.event.Action.{Action}
 use Rattle.velo_ledger.specs.Views.{Holding}
-use Rattle.velo_world.specs.Course.{course_of}
+use Rattle.velo_world.specs.LoggedRun.{logged_state}
 use Rattle.velo_world.specs.World.{FitsLog}
 use Rattle.velo_world.proofs.OnWorlds.{later-added, IsWorldOfItsLog-added, Acts-performed, FitsLog-performed, OthersStillFit-performed, born-performed, FitsLog-born}
 use Rattle.velo_world.proofs.world.World.fork.Goals as goal
@@ -35,7 +35,7 @@ returns-in-Some-clause-fits c =
 pub returns-in-Some-clause-born : goal.returns-in-Some-clause-born
 returns-in-Some-clause-born c =
     let born = same_Some _ _ (sym c.in-Some.is ∙ (c.take.ensures.share ∙ born-performed c.self.inside _ _ _ (Action.Fork c.args.child) _ _ c.perform.new.self c.self.view_is c.self.invariant c.thread.ensures c.requires c.in-Ok.ensures.outcome c.args.child refl)) in
-    subst (FitsLog (course_of c.perform.new.self)) (sym born) (FitsLog-born c.self.inside _ _ _ (Action.Fork c.args.child) _ _ c.perform.new.self c.self.view_is c.self.invariant c.thread.ensures c.requires c.in-Ok.ensures.outcome c.args.child refl)
+    subst (FitsLog (logged_state c.perform.new.self)) (sym born) (FitsLog-born c.self.inside _ _ _ (Action.Fork c.args.child) _ _ c.perform.new.self c.self.view_is c.self.invariant c.thread.ensures c.requires c.in-Ok.ensures.outcome c.args.child refl)
 
 pub returns-in-Some-clause-others : goal.returns-in-Some-clause-others
 returns-in-Some-clause-others c =

@@ -3,7 +3,7 @@ use Rattle.std.specs.Prelude.{Bool, Option, IfSome, IsTrue, ◌↔◌, is_some}
 use Rattle.std.specs.Option.{SomeIff}
 use Rattle.std.proofs.lemmas.Bool.{false≢true}
 use Rattle.velo_ledger.specs.Shares.{events_in_all}
-use Rattle.velo_world.specs.Course.{course_of}
+use Rattle.velo_world.specs.LoggedRun.{logged_state}
 use Rattle.velo_world.specs.World.{WorldState, CompletesShares}
 use Rattle.velo_world.proofs.OnClosing.{kept-counts_none, HaveAllShares-complete, CompletesShares-have}
 use Rattle.velo_world.proofs.world.World.is_complete.Goals as goal
@@ -20,14 +20,14 @@ pub returns-clause-complete : goal.returns-clause-complete
 returns-clause-complete c =
     let have = there _ _ c.is_some.result c.is_some.ensures c.gather_both.ensures.sum in (
       (λ t. subst (λ (w : WorldState). CompletesShares w c.args.given.now) c.self.view_is
-          (CompletesShares-have (course_of c.self.inside.course) c.self.inside.kept c.self.invariant.keeps c.self.inside.book c.args.given.now c.self.invariant.book c.gather_both.ensures.in_place.1 (have.0 t))),
-      (λ complete. have.1 (HaveAllShares-complete (course_of c.self.inside.course) c.self.inside.kept c.self.invariant.keeps c.self.inside.book c.args.given.now c.self.invariant.book (subst (λ (w : WorldState). CompletesShares w c.args.given.now) (sym c.self.view_is) complete))),
+          (CompletesShares-have (logged_state c.self.inside.logged) c.self.inside.kept c.self.invariant.keeps c.self.inside.book c.args.given.now c.self.invariant.book c.gather_both.ensures.in_place.1 (have.0 t))),
+      (λ complete. have.1 (HaveAllShares-complete (logged_state c.self.inside.logged) c.self.inside.kept c.self.invariant.keeps c.self.inside.book c.args.given.now c.self.invariant.book (subst (λ (w : WorldState). CompletesShares w c.args.given.now) (sym c.self.view_is) complete))),
     )
 
 pub returns-clause-sum : goal.returns-clause-sum
 returns-clause-sum c t =
     let both = total_of _ _ _ _ c.is_some.result c.is_some.ensures c.gather_both.ensures.sum c.gather_both.ensures.rows t in
     let total = c.self.invariant.book.total in
-    let none = kept-counts_none (course_of c.self.inside.course) c.self.inside.kept c.self.invariant.keeps in
-    let given : events_in_all c.args.given.now ≡ length (course_of c.self.inside.course).log = omega (arith, both, total, none) in
+    let none = kept-counts_none (logged_state c.self.inside.logged) c.self.inside.kept c.self.invariant.keeps in
+    let given : events_in_all c.args.given.now ≡ length (logged_state c.self.inside.logged).log = omega (arith, both, total, none) in
     given ∙ ap (λ (w : WorldState). length w.log) c.self.view_is

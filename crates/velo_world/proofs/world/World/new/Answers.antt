@@ -6,11 +6,11 @@ pub invariant_of-world : goal.invariant_of-world
 invariant_of-world c =
     let log_is = c.new-log.ensures in
     record {
-      course = record {
+      logged = record {
         short = (let none : length c.new-log.result.events ≡ 0 = ap length log_is in omega (arith, none));
-        bounds = c.in_ok-run.ensures.bounds;
-        nodes = c.in_ok-run.ensures.nodes;
-        run = rw log_is c.in_ok-run.ensures.follows;
+        bounds = c.in_ok-analysis.ensures.bounds;
+        nodes = c.in_ok-analysis.ensures.nodes;
+        analysis = rw log_is c.in_ok-analysis.ensures.follows;
       };
       book = rw (log_is, c.in_ok-book.ensures.book) (IsBookOf-opening c.args.config);
       keeps = rw (log_is, c.take.ensures.after) (KeepsUnborn-opening c.args.config c.in_ok-book.kept c.args.config.some_thread c.in_ok-book.ensures.shares);

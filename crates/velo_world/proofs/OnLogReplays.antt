@@ -1,0 +1,155 @@
+-- A recorded log that comes about again, or does not.
+use Rattle.std.proofs.Common.{◌≡◌, ℕ, ◌+◌, ◌<◌, ◌≤◌, Bool, true, false, List, [], ◌∷◌, ◌++◌, length, take, Option, Some, None, Ok, refl, sym, ap, ◌∙◌, subst, arith, inl, inr}
+use Rattle.std.specs.Prelude.{slice_get, ◌⊎◌, IsTrue, is_some}
+use Rattle.std.proofs.lemmas.Bool.{eqb-true, lt-leb}
+use Rattle.std.proofs.lemmas.Option.{slice_get_within}
+use Rattle.velo_events.specs.declared.config.Bounds.{Bounds}
+use Rattle.velo_events.specs.declared.config.Config.{Config}
+use Rattle.velo_events.specs.declared.event.Event.{Event}
+use Rattle.velo_events.specs.declared.event.Kind.{Kind}
+use Rattle.velo_events.specs.declared.event.Kind.TheVariants.{Read, Write, Acquire, Release, AcquireShared, ReleaseShared, Begin, End, Fork, Join, Exit}
+use Rattle.velo_events.specs.declared.event.ThreadId.{ThreadId}
+use Rattle.velo_events.specs.declared.refusal.Refusal.{Refusal}
+use Rattle.velo_events.specs.declared.refusal.Refusal.TheVariants.{LogFull, GraphFull}
+use Rattle.velo_events.specs.WellFormed.{MayFollow, NamesKnown, IsWellFormed}
+use Rattle.velo_events.specs.Meaning.{kind_for, event_for, action_of, refusal_of, has_its_value}
+use Rattle.velo_events.proofs.OnMeaning.{HasItsValue-kind_for, MayFollow-refusal_of}
+use Rattle.velo_events.proofs.OnWellFormed.{IsWellFormed-push}
+use Rattle.velo_events.proofs.OnScans.{take-next}
+use Rattle.velo_traces.specs.declared.judge.Flaw.{Flaw}
+use Rattle.velo_traces.specs.Flaws.{flaw_by, flaw_of, IsFirstFlaw}
+use Rattle.velo_traces.proofs.OnFlaws.{flaw-not_MayFollow, MayFollow-from_no_flaw}
+use Rattle.velo_world.specs.declared.log_replay.LogReplayFault.{LogReplayFault}
+use Rattle.velo_world.specs.declared.log_replay.LogReplayFault.TheVariants.{Refused, WrongValue, Memory}
+use Rattle.velo_world.specs.declared.analysis.Alarm.{Alarm}
+use Rattle.velo_world.specs.declared.analysis.Reply.{Reply}
+use Rattle.velo_world.specs.World.{meaning, value_read, AlarmOf}
+use Rattle.velo_world.specs.LoggedRun.{AddsToLog}
+use Rattle.velo_world.specs.Faults.{world_of, IsLimit, IsFaultAtEvent, FindsNoNodeAt, IsFaultOfLog}
+use Rattle.velo_world.proofs.OnAlarms.{AlarmOf-alarmed, length-before}
+
+-- ---- the event that is asked for
+
+-- what a read read plays no part in its refusal
+refusal_of-asked : (bounds : Bounds) (log : List Event) (t : ℕ) (kind : Kind) → refusal_of bounds log t (kind_for log (action_of kind)) ≡ refusal_of bounds log t kind
+unfolding refusal_of
+refusal_of-asked bounds log t (Read x v) = refl
+refusal_of-asked bounds log t (Write x v) = refl
+refusal_of-asked bounds log t (Acquire m) = refl
+refusal_of-asked bounds log t (Release m) = refl
+refusal_of-asked bounds log t (AcquireShared m) = refl
+refusal_of-asked bounds log t (ReleaseShared m) = refl
+refusal_of-asked bounds log t (Begin l) = refl
+refusal_of-asked bounds log t End = refl
+refusal_of-asked bounds log t (Fork u) = refl
+refusal_of-asked bounds log t (Join u) = refl
+refusal_of-asked bounds log t Exit = refl
+
+-- a read has its value where it asks for its own event
+own_event : (log : List Event) (t : ThreadId) (kind : Kind) → IsTrue (has_its_value log kind) → kind_for log (action_of kind) ≡ kind
+own_event log t (Read x v) h = ap (λ n. Read x n) (sym (eqb-true v _ h))
+own_event log t (Write x v) h = refl
+own_event log t (Acquire m) h = refl
+own_event log t (Release m) h = refl
+own_event log t (AcquireShared m) h = refl
+own_event log t (ReleaseShared m) h = refl
+own_event log t (Begin l) h = refl
+own_event log t End h = refl
+own_event log t (Fork u) h = refl
+own_event log t (Join u) h = refl
+own_event log t Exit h = refl
+
+-- the names of the event that is asked for are those of the action
+names_asked : (bounds : Bounds) (log : List Event) (kind : Kind) → NamesKnown bounds (kind_for log (action_of kind)) → NamesKnown bounds kind
+names_asked bounds log (Read x v) h = h
+names_asked bounds log (Write x v) h = h
+names_asked bounds log (Acquire m) h = h
+names_asked bounds log (Release m) h = h
+names_asked bounds log (AcquireShared m) h = h
+names_asked bounds log (ReleaseShared m) h = h
+names_asked bounds log (Begin l) h = h
+names_asked bounds log End h = h
+names_asked bounds log (Fork u) h = h
+names_asked bounds log (Join u) h = h
+names_asked bounds log Exit h = h
+
+-- what is not refused has its names in the bounds
+pub known_names : (bounds : Bounds) (log : List Event) (e : Event) → IsWellFormed bounds log → refusal_of bounds log e.thread.0 e.kind ≡ None → NamesKnown bounds e.kind
+known_names bounds log e well none =
+    let may : MayFollow bounds log (event_for log e.thread (action_of e.kind)) =
+    (MayFollow-refusal_of bounds log (event_for log e.thread (action_of e.kind)) well).1
+    (refusal_of-asked bounds log e.thread.0 e.kind ∙ none, HasItsValue-kind_for log (action_of e.kind)) in
+    names_asked bounds log e.kind may.known_names
+
+pub well_formed-by : (bounds bounds' : Bounds) (trace : List Event) → bounds ≡ bounds' → IsWellFormed bounds trace → IsWellFormed bounds' trace
+well_formed-by bounds bounds' trace same well = subst (λ b. IsWellFormed b trace) same well
+
+pub follows-by : (bounds bounds' : Bounds) (trace : List Event) (e : Event) → bounds ≡ bounds' → MayFollow bounds trace e → MayFollow bounds' trace e
+follows-by bounds bounds' trace e same follows = subst (λ b. MayFollow b trace e) same follows
+
+pub flaw-by : (bounds bounds' : Bounds) (trace : List Event) (e : Event) → bounds ≡ bounds' → flaw_of bounds trace e ≡ None → flaw_of bounds' trace e ≡ None
+flaw-by bounds bounds' trace e same none = subst (λ b. flaw_of b trace e ≡ None) same none
+
+-- ---- the event that comes about
+
+no_flaw : (o : Option Refusal) (right : Bool) → flaw_by o right ≡ None → (o ≡ None) × (right ≡ true)
+no_flaw None true is = (refl, refl)
+no_flaw None false is = cc
+no_flaw (Some r) right is = cc
+
+-- an event without a flaw is what its own action means
+pub meaning-flawless : (config : Config) (log : List Event) (e : Event) → flaw_of config.bounds log e ≡ None → length log < config.events → meaning (world_of config log) e.thread (action_of e.kind) ≡ Ok e
+meaning-flawless config log e flawless room =
+    let parts = no_flaw (refusal_of config.bounds log e.thread.0 e.kind) (has_its_value log e.kind) flawless in
+    let none : refusal_of config.bounds log e.thread.0 (kind_for log (action_of e.kind)) ≡ None = refusal_of-asked config.bounds log e.thread.0 e.kind ∙ parts.0 in
+    rw (none, lt-leb config.events (length log) room, own_event log e.thread e.kind parts.1) refl
+
+-- so it is the one event of a step of the world
+abbrev pub reply_to : List Event → Event → Option Alarm → ℕ → Reply
+reply_to log e alarm position = record { position = position; value = value_read e.kind; alarmed = is_some alarm }
+
+pub AddsToLog-flawless : (config : Config) (log : List Event) (e : Event) (alarm : Option Alarm) (position : ℕ) → config.stop ≡ false → flaw_of config.bounds log e ≡ None → length log < config.events → position ≡ length log → AlarmOf (log ++ e ∷ []) alarm → AddsToLog (world_of config log) e.thread (action_of e.kind) e (reply_to log e alarm position) (world_of config (log ++ e ∷ []))
+AddsToLog-flawless config log e alarm position goes_on flawless room here is = record {
+  due = meaning-flawless config log e flawless room;
+  config = refl;
+  log = refl;
+  halted = rw goes_on refl;
+  replies = record { position = here; value = refl; alarmed = AlarmOf-alarmed (log ++ e ∷ []) alarm is };
+}
+
+-- ---- the event that does not
+
+-- the first flaw
+first_flaw : (bounds : Bounds) (log : List Event) (i p : ℕ) (e : Event) (flaw : Flaw) → slice_get log i ≡ Some e → IsWellFormed bounds (take i log)
+    → p ≡ length (take i log) → flaw_of bounds (take i log) e ≡ Some flaw → IsFirstFlaw bounds log p flaw
+first_flaw bounds log i p e flaw here well at flawed =
+    let same : i ≡ p = sym (length-before log i e here) ∙ sym at in
+    subst (λ n. IsFirstFlaw bounds log n flaw) same
+    (record { before = well; event = e; here = here; does_not_follow = flaw-not_MayFollow bounds (take i log) e flaw well flawed; reason = flawed })
+
+-- which limit was met
+limit_in_log : (config : Config) (log : List Event) (i : ℕ) (e : Event) (p : ℕ) (refusal : Refusal) → slice_get log i ≡ Some e → i ≡ p → length (take i log) ≤ config.events
+    → IsLimit config (take i log) e refusal → ((refusal ≡ LogFull) × (p ≡ config.events)) ⊎ ((refusal ≡ GraphFull) × (p < config.events) × FindsNoNodeAt config.bounds.threads config.nodes log p)
+limit_in_log config log i e p refusal here same short (inl (full, limit)) =
+    let count : length (take i log) ≡ i = length-before log i e here in
+    inl (full, omega (arith, same, count, short, limit))
+limit_in_log config log i e p refusal here same short (inr (full, room, graph)) =
+    let count : length (take i log) ≡ i = length-before log i e here in
+    inr (full, omega (arith, same, count, room), subst (λ n. FindsNoNodeAt config.bounds.threads config.nodes log n) same (record { event = e; here = here; finds_none = graph }))
+
+pub fault_in_log : (config : Config) (log : List Event) (i : ℕ) (e : Event) (fault : LogReplayFault) → slice_get log i ≡ Some e
+    → IsWellFormed config.bounds (take i log) → length (take i log) ≤ config.events → IsFaultAtEvent config (take i log) e fault → IsFaultOfLog config log fault
+fault_in_log config log i e (Refused p refusal) here well short (at, inl flawed) =
+    inl (first_flaw config.bounds log i p e _ here well at flawed, omega (arith, at, short))
+fault_in_log config log i e (Refused p refusal) here well short (at, inr (none, limit)) =
+    let within : i < length log = slice_get_within log i e here in
+    let count : length (take i log) ≡ i = length-before log i e here in
+    let next : take (i + 1) log ≡ take i log ++ e ∷ [] = take-next log i e here in
+    let well_next : IsWellFormed config.bounds (take (i + 1) log) =
+    subst (IsWellFormed config.bounds) (sym next)
+    (IsWellFormed-push config.bounds (take i log) e well (MayFollow-from_no_flaw config.bounds (take i log) e well none)) in
+    let same : i ≡ p = omega (arith, at, count) in
+    inr (omega (arith, same, within), subst (λ n. IsWellFormed config.bounds (take (n + 1) log)) same well_next, limit_in_log config log i e p refusal here same short limit)
+fault_in_log config log i e (WrongValue p) here well short (at, flawed) =
+    record { reason = first_flaw config.bounds log i p e _ here well at flawed; within = omega (arith, at, short) }
+fault_in_log config log i e Memory here well short stops = stops

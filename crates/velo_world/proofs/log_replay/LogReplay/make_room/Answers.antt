@@ -1,0 +1,67 @@
+use Rattle.std.proofs.Common.{refl, sym, ap, ◌∙◌, arith, inr}
+use Rattle.velo_arena.specs.Slots.{limit_of}
+use Rattle.velo_graph.specs.Nodes.{Nodes}
+use Rattle.velo_heap.specs.Contents.{bounds_of}
+use Rattle.velo_traces.proofs.OnFlaws.{MayFollow-from_no_flaw}
+use Rattle.velo_world.proofs.OnAlarms.{length-before}
+use Rattle.velo_world.proofs.OnLogReplays.{flaw-by, follows-by}
+use Rattle.std.proofs.lemmas.Grind.{elements}
+use Rattle.velo_world.proofs.log_replay.LogReplay.make_room.Goals as goal
+
+pub has_no_node_for-requires-clause-follows : goal.has_no_node_for-requires-clause-follows
+has_no_node_for-requires-clause-follows c =
+    let heap = c.requires.stands.analysis.heap in
+    MayFollow-from_no_flaw _ _ c.args.event.now heap.well_formed (sym (c.flaw_in.ensures _ heap) ∙ c.in-None.is)
+
+pub returns-then-has_no_node_for-clause-fault : goal.returns-then-has_no_node_for-clause-fault
+returns-then-has_no_node_for-clause-fault c =
+    let here = length-before c.args.events.now c.args.position c.args.event.now c.requires.here in
+    let stands = c.requires.stands in
+    let none = sym (c.flaw_in.ensures _ stands.analysis.heap) ∙ c.in-None.is in
+    let inside = c.if-position-config.false in (
+      sym here,
+      inr (
+        flaw-by _ _ _ c.args.event.now stands.bounds none,
+        inr (refl, (let room = inside in omega (arith, here, room)), c.has_no_node_for.ensures.full c.if-has_no_node_for.true),
+      ),
+    )
+
+pub returns-in-Ok-clause-stands : goal.returns-in-Ok-clause-stands
+returns-in-Ok-clause-stands c =
+    let stands = c.requires.stands in
+    record {
+      short = stands.short;
+      bounds = ap bounds_of (c.reserve_for.ensures.heap ∙ c.has_no_node_for.ensures.heap) ∙ stands.bounds;
+      nodes = ap (λ (n : Nodes). limit_of n.slots) c.reserve_for.ensures.nodes ∙ c.has_no_node_for.ensures.limit;
+      analysis = c.reserve_for.ensures.follows _ c.has_no_node_for.ensures.stands;
+      book = stands.book;
+      keeps = stands.keeps;
+      ready = stands.ready;
+      complete = stands.complete;
+    }
+
+pub returns-in-Ok-clause-next : goal.returns-in-Ok-clause-next
+returns-in-Ok-clause-next c =
+    let here = length-before c.args.events.now c.args.position c.args.event.now c.requires.here in
+    let heap = c.requires.stands.analysis.heap in
+    let follows = MayFollow-from_no_flaw _ _ c.args.event.now heap.well_formed (sym (c.flaw_in.ensures _ heap) ∙ c.in-None.is) in
+    record {
+      stands = c.reserve_for.ensures.follows _ c.has_no_node_for.ensures.stands;
+      follows = follows-by _ _ _ c.args.event.now (sym (ap bounds_of (c.reserve_for.ensures.heap ∙ c.has_no_node_for.ensures.heap))) follows;
+      short = (let inside = c.if-position-config.false in let few = c.args.config.now.few_events in omega (arith, here, inside, few));
+    }
+
+pub returns-in-Ok-clause-room : goal.returns-in-Ok-clause-room
+returns-in-Ok-clause-room c =
+    let heap = c.requires.stands.analysis.heap in
+    let follows = MayFollow-from_no_flaw _ _ c.args.event.now heap.well_formed (sym (c.flaw_in.ensures _ heap) ∙ c.in-None.is) in
+    c.in-Ok.ensures.room _ c.has_no_node_for.ensures.stands (follows-by _ _ _ c.args.event.now (sym (ap bounds_of c.has_no_node_for.ensures.heap)) follows) (c.has_no_node_for.ensures.slot c.if-has_no_node_for.false)
+
+pub returns-in-Some-Refused-clause-fault : goal.returns-in-Some-Refused-clause-fault
+returns-in-Some-Refused-clause-fault c = grind (arith, elements)
+
+pub returns-in-Some-WrongValue-clause-fault : goal.returns-in-Some-WrongValue-clause-fault
+returns-in-Some-WrongValue-clause-fault c = grind (arith, elements)
+
+pub returns-then-position-config-clause-fault : goal.returns-then-position-config-clause-fault
+returns-then-position-config-clause-fault c = grind (arith, elements)

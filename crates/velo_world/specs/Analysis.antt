@@ -1,0 +1,56 @@
+-- How heap, monitor, clocks and alarm of a run follow from its events. Private contracts cite these words.
+use Rattle.std.specs.Prelude.{◌≡◌, ◌<◌, ℕ, List, length, take, Option, Some, None}
+use Rattle.velo_events.specs.declared.config.Bounds.{Bounds}
+use Rattle.velo_events.specs.declared.event.Event.{Event}
+use Rattle.velo_events.specs.declared.limits.TheConstants.{MOST_EVENTS}
+use Rattle.velo_events.specs.WellFormed.{MayFollow}
+use Rattle.velo_heap.specs.Contents.{bounds_of, IsHeapOf}
+use Rattle.velo_arena.specs.Slots.{used_in, limit_of}
+use Rattle.velo_clocks.specs.Clocks.{AreClocksOf}
+use Rattle.velo_tables.specs.LastAccesses.{HasRoomFor}
+use Rattle.velo_clocks.specs.Noted.{HasRoomToNote}
+use Rattle.velo_monitor.specs.Answers.{NeedsNode}
+use Rattle.velo_monitor.specs.Watched.{IsMonitorOf}
+use Rattle.velo_world.specs.World.{AlarmOf, IsAlarm}
+use Rattle.velo_world.specs.declared.analysis.Alarm.{Alarm}
+use Rattle.velo_world.specs.declared.analysis.Analysis.{Analysis}
+
+-- the events that the monitor took in: all, or with an alarm those before it
+abbrev pub events_watched : List Event → Option Alarm → List Event
+events_watched log None = log
+events_watched log (Some alarm) = take alarm.position log
+
+-- the alarm is that of the events, the monitor is that of the events before it, and without an alarm the clocks are those of all events
+pub record IsWatched (analysis : Analysis) (bounds : Bounds) (trace : List Event) : Type 0 where
+  pub alarm : AlarmOf trace analysis.alarm
+  pub monitor : IsMonitorOf bounds analysis.monitor (events_watched trace analysis.alarm)
+  pub clocks : analysis.alarm ≡ None → AreClocksOf analysis.clocks.state trace
+  pub bounds_are : analysis.clocks.bounds ≡ bounds
+
+-- the alarm of the event at the position came to the analysis, and nothing else changed
+pub record Raises (analysis : Analysis) (trace : List Event) (position : ℕ) (analysis' : Analysis) : Type 0 where
+  pub alarm : Alarm
+  pub is : IsAlarm trace alarm
+  pub here : alarm.position ≡ position
+  pub same : analysis' ≡ record analysis { alarm = Some alarm }
+
+-- and the heap is that of all events
+pub record IsAnalysisOf (analysis : Analysis) (trace : List Event) : Type 0 where
+  pub heap : IsHeapOf analysis.heap trace
+  pub watched : IsWatched analysis (bounds_of analysis.heap) trace
+
+-- the event finds a slot for its node, if it needs one. After an alarm it needs none
+pub record HasSlotFor (analysis : Analysis) (trace : List Event) (e : Event) : Type 0 where
+  pub slot : analysis.alarm ≡ None → NeedsNode analysis.monitor trace e → used_in analysis.monitor.nodes.slots < limit_of analysis.monitor.nodes.slots
+
+-- monitor and clocks can take in the event without memory
+pub record HasRoomForNext (analysis : Analysis) (trace : List Event) (e : Event) : Type 0 where
+  pub monitor : analysis.alarm ≡ None → HasRoomFor analysis.monitor.kept e
+  pub slot : HasSlotFor analysis trace e
+  pub clocks : analysis.alarm ≡ None → HasRoomToNote analysis.clocks.bounds.threads analysis.clocks.state e
+
+-- the event may follow those of the run
+pub record ComesNext (analysis : Analysis) (trace : List Event) (e : Event) : Type 0 where
+  pub stands : IsAnalysisOf analysis trace
+  pub follows : MayFollow (bounds_of analysis.heap) trace e
+  pub short : length trace < MOST_EVENTS

@@ -1,0 +1,251 @@
+//! What follows from the events of a run.
+ghost use Rattle.velo_events.specs.Refusals.{GrowthRefused};
+ghost use Rattle.std.specs.Prelude.{◌≡◌, [], ◌∷◌, ◌++◌, List, Some, None, take, slice_get, IsTrue, IsFalse, IfOk, OnOk, OnErr};
+ghost use Rattle.velo_events.specs.declared.event.Event.{Event as EventOf};
+ghost use Rattle.velo_events.specs.Block.{owner};
+ghost use Rattle.velo_events.specs.Collection.{HasManyLive};
+ghost use Rattle.velo_events.specs.Graph.{HasCycle};
+ghost use Rattle.velo_events.specs.WellFormed.{IsWellFormed, MayFollow};
+ghost use Rattle.velo_arena.specs.Slots.{limit_of};
+ghost use Rattle.velo_heap.specs.Contents.{bounds_of};
+ghost use Rattle.velo_clocks.specs.Clocks.{AreClocksOf};
+ghost use Rattle.velo_world.specs.World.{FindsNoNode, IsAlarm};
+ghost use Rattle.velo_world.specs.Analysis.{ComesNext, HasRoomForNext, HasSlotFor, IsAnalysisOf, IsWatched, Raises};
+
+use smallvec::SmallVec;
+use std::alloc::Global;
+use velo_blame::Clocks;
+use velo_events::{Config, Event, MOST_OPEN_BLOCKS, Memory};
+use velo_heap::Heap;
+use velo_monitor::{Monitor, Seen};
+use velo_traces::{Block, open_blocks_since};
+
+/// The first event that closed a cycle.
+#[derive(Drop, Debug, PartialEq, Eq)]
+pub struct Alarm {
+    /// Its position in the log.
+    pub position: usize,
+    /// The first position of its transaction.
+    pub transaction: usize,
+    /// The blocks to blame: those that its thread has open there and that are not self-serializable in the events up to
+    /// it, outermost first.
+    pub blamed: SmallVec<Block, MOST_OPEN_BLOCKS>,
+}
+
+/// What an action came to.
+#[derive(Clone, Copy, Debug, PartialEq, Eq)]
+pub struct Reply {
+    /// The position of its event.
+    pub position: usize,
+    /// The value that a read read.
+    pub value: Option<u64>,
+    /// Whether an alarm is kept after it.
+    pub alarmed: bool,
+}
+
+/// What follows from the events of a run: heap, graph, clocks and alarm.
+#[derive(Drop)]
+pub struct Analysis {
+    /// The heap that the events leave.
+    pub heap: Heap,
+    /// The monitor of the events before the alarm.
+    pub monitor: Monitor,
+    /// The clocks of the events before the alarm.
+    clocks: Clocks,
+    /// The alarm, once an event has closed a cycle.
+    pub alarm: Option<Alarm>,
+    alloc: Global,
+}
+
+impl Analysis {
+    /// The analysis of no events.
+    ///
+    /// # Errors
+    /// `Memory` where a growth was refused.
+    pub fn new(alloc: Global, config: &Config) -> Result<Analysis, Memory>
+        ensures bounds { IfOk result (λ analysis. bounds_of analysis.heap ≡ config.now.bounds) }
+        ensures nodes { IfOk result (λ analysis. limit_of analysis.monitor.nodes.slots ≡ config.now.nodes) }
+        ensures follows { IfOk result (λ analysis. IsAnalysisOf analysis []) }
+        ensures memory { OnErr result GrowthRefused }
+    {
+        let heap = Heap::new(alloc, config)?;
+        let monitor = Monitor::new(alloc, config)?;
+        let clocks = Clocks::new(alloc, config)?;
+        Ok(Analysis {
+            heap,
+            monitor,
+            clocks,
+            alarm: None,
+            alloc,
+        })
+    }
+
+    /// Whether the next event needs a node, and there is none for it: all that there may be are in use, and these are too few
+    /// for a compaction. After an alarm no event needs one. The events are those so far.
+    #[inline]
+    pub fn has_no_node_for(&mut self, events: &[Event], event: &Event, config: &Config) -> bool
+        requires limit { limit_of self.old.monitor.nodes.slots ≡ config.now.nodes }
+        requires bounds { bounds_of self.old.heap ≡ config.now.bounds }
+        requires stands { IsAnalysisOf self.old events.now }
+        requires follows { MayFollow (bounds_of self.old.heap) events.now event.now }
+        ensures heap { self.new.heap ≡ self.old.heap }
+        ensures limit { limit_of self.new.monitor.nodes.slots ≡ config.now.nodes }
+        ensures stands { IsAnalysisOf self.new events.now }
+        ensures slot { IsFalse result → HasSlotFor self.new events.now event.now }
+        ensures full { IsTrue result → FindsNoNode config.now.bounds.threads events.now event.now config.now.nodes }
+    {
+        if self.alarm.is_some() {
+            return false;
+        }
+        if self.monitor.used() < config.nodes {
+            return false;
+        }
+        self.is_full_for(events, event, config)
+    }
+
+    /// The same where all nodes that there may be are in use and no alarm is kept. If they are enough for it, a compaction leaves
+    /// one for the event.
+    #[inline(never)]
+    fn is_full_for(&mut self, events: &[Event], event: &Event, config: &Config) -> bool
+        requires quiet { self.old.alarm ≡ None }
+        requires many { HasManyLive events.now config.now.nodes }
+        requires limit { limit_of self.old.monitor.nodes.slots ≡ config.now.nodes }
+        requires bounds { bounds_of self.old.heap ≡ config.now.bounds }
+        requires stands { IsAnalysisOf self.old events.now }
+        requires follows { MayFollow (bounds_of self.old.heap) events.now event.now }
+        ensures heap { self.new.heap ≡ self.old.heap }
+        ensures limit { limit_of self.new.monitor.nodes.slots ≡ config.now.nodes }
+        ensures stands { IsAnalysisOf self.new events.now }
+        ensures slot { IsFalse result → HasSlotFor self.new events.now event.now }
+        ensures full { IsTrue result → FindsNoNode config.now.bounds.threads events.now event.now config.now.nodes }
+    {
+        if !self.monitor.needs_node(event) {
+            return false;
+        }
+        let threads = config.bounds.threads as u16;
+        if config.nodes < threads * threads {
+            return true;
+        }
+        self.monitor.compact(events);
+        false
+    }
+
+    /// Makes room for the next event, which finds a slot for its node if it needs one. After an alarm no event needs room.
+    ///
+    /// # Errors
+    /// `Memory` where a growth was refused. What follows from the events is as before then.
+    #[inline]
+    pub fn reserve_for(&mut self, event: &Event) -> Result<(), Memory>
+        ensures heap { self.new.heap ≡ self.old.heap }
+        ensures nodes { self.new.monitor.nodes ≡ self.old.monitor.nodes }
+        ensures follows { (trace : List EventOf) → IsAnalysisOf self.old trace → IsAnalysisOf self.new trace }
+        ensures room { OnOk result ((trace : List EventOf) → IsAnalysisOf self.old trace → MayFollow (bounds_of self.old.heap) trace event.now → HasSlotFor self.old trace event.now → HasRoomForNext self.new trace event.now) }
+        ensures memory { OnErr result GrowthRefused }
+    {
+        if self.alarm.is_some() {
+            return Ok(());
+        }
+        if self.has_room_for(event) {
+            return Ok(());
+        }
+        self.grow_for(event)
+    }
+
+    /// Whether monitor and clocks have room for the next event. It makes no call, so that an event that finds room, as most
+    /// do, pays for a few comparisons alone.
+    #[inline(always)]
+    fn has_room_for(&self, event: &Event) -> bool
+        ensures { IsTrue result → (trace : List EventOf) → IsAnalysisOf self.now trace → MayFollow (bounds_of self.now.heap) trace event.now → HasSlotFor self.now trace event.now → HasRoomForNext self.now trace event.now }
+    {
+        self.clocks.has_room_for(event) && self.monitor.has_room_for(event)
+    }
+
+    /// Makes the room. It stands out of line, for the events that find none.
+    #[inline(never)]
+    fn grow_for(&mut self, event: &Event) -> Result<(), Memory>
+        ensures heap { self.new.heap ≡ self.old.heap }
+        ensures nodes { self.new.monitor.nodes ≡ self.old.monitor.nodes }
+        ensures follows { (trace : List EventOf) → IsAnalysisOf self.old trace → IsAnalysisOf self.new trace }
+        ensures room { OnOk result ((trace : List EventOf) → IsAnalysisOf self.old trace → MayFollow (bounds_of self.old.heap) trace event.now → HasSlotFor self.old trace event.now → HasRoomForNext self.new trace event.now) }
+        ensures memory { OnErr result GrowthRefused }
+    {
+        self.clocks.reserve_for(event)?;
+        self.monitor.reserve(event)
+    }
+
+    /// Takes in the event at the position, which may follow those before it and for which there is room.
+    #[inline]
+    pub fn take_in(&mut self, events: &[Event], position: usize, event: &Event)
+        requires here { slice_get events.now position ≡ Some event.now }
+        requires next { ComesNext self.old (take position events.now) event.now }
+        requires room { HasRoomForNext self.old (take position events.now) event.now }
+        ensures bounds { bounds_of self.new.heap ≡ bounds_of self.old.heap }
+        ensures nodes { limit_of self.new.monitor.nodes.slots ≡ limit_of self.old.monitor.nodes.slots }
+        ensures follows { IsAnalysisOf self.new (take position events.now ++ event.now ∷ []) }
+    {
+        self.watch(events, position, event);
+        self.heap.apply(event);
+    }
+
+    /// Lets monitor and clocks see the event, unless an alarm is kept already, and raises the alarm if it closes a cycle.
+    #[inline]
+    fn watch(&mut self, events: &[Event], position: usize, event: &Event)
+        requires here { slice_get events.now position ≡ Some event.now }
+        requires next { ComesNext self.old (take position events.now) event.now }
+        requires room { HasRoomForNext self.old (take position events.now) event.now }
+        ensures heap { self.new.heap ≡ self.old.heap }
+        ensures nodes { limit_of self.new.monitor.nodes.slots ≡ limit_of self.old.monitor.nodes.slots }
+        ensures watched { IsWatched self.new (bounds_of self.old.heap) (take position events.now ++ event.now ∷ []) }
+    {
+        if self.alarm.is_some() {
+            return;
+        }
+        match self.monitor.observe(position, event) {
+            Seen::Quiet => self.clocks.note(position, event),
+            Seen::Closes { transaction } => self.raise_alarm(events, position, event, transaction),
+        }
+    }
+
+    /// Raises the alarm of the event at the position, which closes the first cycle. It stands out of line: an event that
+    /// raises none does not pay for the list of blocks.
+    #[inline(never)]
+    fn raise_alarm(&mut self, events: &[Event], position: usize, event: &Event, transaction: usize)
+        requires here { slice_get events.now position ≡ Some event.now }
+        requires clocks { AreClocksOf self.old.clocks.state (take position events.now) }
+        requires well_formed { IsWellFormed self.old.clocks.bounds (take position events.now ++ event.now ∷ []) }
+        requires acyclic { ¬ HasCycle (take position events.now) }
+        requires closes { HasCycle (take position events.now ++ event.now ∷ []) }
+        requires transaction { transaction ≡ owner (take position events.now ++ event.now ∷ []) position }
+        ensures { Raises self.old (take position events.now ++ event.now ∷ []) position self.new }
+    {
+        self.alarm = Some(self.alarm_at(events, position, event, transaction));
+    }
+
+    /// The alarm of the event at the position, which closes the first cycle.
+    fn alarm_at(
+        &self,
+        events: &[Event],
+        position: usize,
+        event: &Event,
+        transaction: usize,
+    ) -> Alarm
+        requires here { slice_get events.now position ≡ Some event.now }
+        requires clocks { AreClocksOf self.now.clocks.state (take position events.now) }
+        requires well_formed { IsWellFormed self.now.clocks.bounds (take position events.now ++ event.now ∷ []) }
+        requires acyclic { ¬ HasCycle (take position events.now) }
+        requires closes { HasCycle (take position events.now ++ event.now ∷ []) }
+        requires transaction { transaction ≡ owner (take position events.now ++ event.now ∷ []) position }
+        ensures alarm { IsAlarm (take position events.now ++ event.now ∷ []) result }
+        ensures position { result.position ≡ position }
+    {
+        let so_far = &events[..position + 1];
+        // the transaction begins with the outermost of its open blocks
+        let blocks = open_blocks_since(so_far, event.thread, transaction, self.alloc);
+        let blamed = self.clocks.blamed(&blocks, position, event);
+        Alarm {
+            position,
+            transaction,
+            blamed,
+        }
+    }
+}
