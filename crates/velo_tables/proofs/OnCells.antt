@@ -1,10 +1,10 @@
 -- The last accesses of each cell, where the last reads of all stand in one list: what becomes of them where one changes.
 use Rattle.std.proofs.Common.{◌≡◌, ltb, ℕ, zero, suc, ◌+◌, ◌-◌, ◌<◌, ◌≤◌, List, ◌∷◌, ◌++◌, Option, None, length, take, drop, get_or, map, refl, sym, ap, ◌∙◌, subst, arith, length-append, length-drop, ⊎_elim, inl, inr}
-use Rattle.std.specs.Prelude.{replicate, IsTrue, ◌↔◌}
+use Rattle.std.specs.Prelude.{replicate, slice_range, IsTrue, ◌↔◌}
 use Rattle.std.proofs.Math.ListN.{set, get_or-map}
 use Rattle.std.proofs.Math.Seq.{take-set-lt}
 use Rattle.std.proofs.lemmas.Bool.{cases_eq, cases_lt, ltb-true, lt-ltb}
-use Rattle.std.proofs.lemmas.List.{ext_get_or, get_or-set_same, get_or-set_other, get_or_default, length-map, length-set, length-take-le, take-append-le, drop-append-le, drop_at, take_all, take-set-le, drop-set-lt, drop-set-add, set_past, set-get_or, map-append}
+use Rattle.std.proofs.lemmas.List.{ext_get_or, get_or-set_same, get_or-set_other, get_or_default, length-map, length-set, length-take-le, take-append-le, drop-append-le, drop_at, take_all, take-set-le, drop-set-lt, drop-set-add, set_past, set-get_or, map-append, append_assoc}
 use Rattle.velo_arena.specs.declared.step.Step.{Step}
 use Rattle.velo_tables.specs.declared.cells.ReadSpan.{ReadSpan}
 use Rattle.velo_tables.specs.declared.cells.CellAccesses.{CellAccesses}
@@ -35,6 +35,20 @@ reads_in-append entries more v fits =
 
 pub length-longer : (entries : Entries) (v : ReadSpan) (count : ℕ) → Fits entries v → v.count ≤ count → length (filled_up None count (reads_in entries v)) ≡ count
 length-longer entries v count fits longer = omega (arith, length-filled_up None count (reads_in entries v), length-reads_in entries v fits, longer)
+
+-- they are appended once more, and then blanks
+pub longer-appended : (entries more : Entries) (len : ℕ) (v : ReadSpan) (count end : ℕ) → Fits entries v → v.count ≤ count → end ≡ length entries + count → len ≡ length more → more ≡ entries ++ slice_range entries v.start (v.start + v.count)
+    → take end more ++ replicate (end - len) None ≡ entries ++ filled_up None count (reads_in entries v)
+unfolding filled_up
+longer-appended entries more len v count end fits longer end_is len_is more_is =
+    let old = reads_in entries v in
+    let all : more ≡ entries ++ old = more_is ∙ ap (λ k. entries ++ take k (drop v.start entries)) (let e : v.start + v.count - v.start ≡ v.count = omega arith in e) in
+    let whole : length more ≡ length entries + length old = ap length all ∙ length-append entries old in
+    let left : end - len ≡ count - length old = omega (arith, whole, end_is, len_is) in
+    ap (λ ns. ns ++ replicate (end - len) None) (take_all end more (omega (arith, whole, length-reads_in entries v fits, longer, end_is)))
+    ∙ (ap (λ k. more ++ replicate k None) left
+    ∙ (ap (λ ns. ns ++ replicate (count - length old) None) all
+    ∙ append_assoc entries old (replicate (count - length old) None)))
 
 -- one of its own is written
 pub reads_in-set : (entries : Entries) (v : ReadSpan) (t : ℕ) (step : Option Step) → t < v.count → reads_in (set entries (v.start + t) step) v ≡ set (reads_in entries v) t step

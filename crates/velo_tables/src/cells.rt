@@ -146,10 +146,13 @@ fn append_longer(entries: &mut Vec<Entry>, reads: ReadSpan, count: usize)
     requires room { length entries.old.items + count ≤ vec_capacity entries.old }
     ensures { entries.new.items ≡ entries.old.items ++ filled_up None count (reads_in entries.old.items reads) }
 {
-    for thread in 0..count {
-        let read = read_in(entries, reads, thread);
-        entries.push_reserved(read);
-    }
+    let end = entries.len() + count;
+    let Ok(()) = entries.extend_from_within(reads.start..reads.start + reads.count) else {
+        unreachable!()
+    };
+    let Ok(()) = entries.resize(end, Entry::new(None)) else {
+        unreachable!()
+    };
 }
 
 impl CellAccesses {
