@@ -4,3 +4,4 @@ pub mod OnLocks
 pub mod OnAdmission
 pub mod OnStandings
 pub mod OnChanges
+pub mod OnSameness

@@ -1,5 +1,5 @@
 ghost use Rattle.velo_events.specs.Refusals.{GrowthRefused};
-ghost use Rattle.std.specs.Prelude.{◌≡◌, ◌<◌, ◌≤◌, [], ◌∷◌, ◌++◌, List, IfOk, option_map, length, slice_get, OnErr};
+ghost use Rattle.std.specs.Prelude.{◌≡◌, ◌<◌, ◌≤◌, [], ◌∷◌, ◌++◌, List, IsTrue, IfOk, option_map, length, slice_get, OnErr};
 ghost use Rattle.velo_events.specs.declared.event.Event.{Event};
 ghost use Rattle.velo_events.specs.Heap.{value_in, holder_in, shares_in, status_in, depth_in};
 ghost use Rattle.velo_events.specs.declared.limits.TheConstants.{MOST_THREADS};
@@ -12,7 +12,7 @@ use crate::lock::Lock;
 use crate::standing::Standing;
 use std::alloc::Global;
 use std::marker::Model;
-use velo_events::growth::filled;
+use velo_events::growth::{filled, with_capacity};
 use velo_events::{Action, Config, Event, Kind, LockId, Memory, Refusal, Status, ThreadId, VarId};
 
 /// The variables, locks and threads of a run as they stand.
@@ -38,6 +38,42 @@ impl Model for Heap {
     ghost invariant = { λ h. (length h.locks.items ≤ MOST_LOCKS) × (length h.threads.items ≤ MOST_THREADS) };
 }
 
+/// The same items once more.
+///
+/// # Errors
+/// `Memory` where a growth was refused.
+fn copied<T: Copy>(alloc: Global, items: &[T]) -> Result<Vec<T>, Memory>
+    ensures items { IfOk result (λ copy. copy.items ≡ items.now) }
+    ensures memory { OnErr result GrowthRefused }
+{
+    let mut copy = with_capacity(alloc, items.len())?;
+    match copy.extend_from_slice(items) {
+        Ok(()) => Ok(copy),
+        Err(_) => unreachable!(),
+    }
+}
+
+/// Whether the two have the same values.
+fn are_same_values(one: &[u64], other: &[u64]) -> bool
+    ensures { IsTrue result → one.now ≡ other.now }
+{
+    one == other
+}
+
+/// Whether the locks of the two are held alike.
+fn are_held_alike(one: &[Lock], other: &[Lock]) -> bool
+    ensures { IsTrue result → one.now ≡ other.now }
+{
+    one == other
+}
+
+/// Whether the threads of the two stand alike.
+fn stand_alike(one: &[Standing], other: &[Standing]) -> bool
+    ensures { IsTrue result → one.now ≡ other.now }
+{
+    one == other
+}
+
 impl Heap {
     /// The heap at the start of a run: thread 0 is live and no other is born, all variables are 0, all locks are free.
     ///
@@ -58,6 +94,33 @@ impl Heap {
             locks,
             threads,
         })
+    }
+
+    /// The same heap once more.
+    ///
+    /// # Errors
+    /// `Memory` where a growth was refused.
+    pub fn copy(&self, alloc: Global) -> Result<Heap, Memory>
+        ensures same { IfOk result (λ h. h ≡ self.now) }
+        ensures memory { OnErr result GrowthRefused }
+    {
+        let values = copied(alloc, &self.values)?;
+        let locks = copied(alloc, &self.locks)?;
+        let threads = copied(alloc, &self.threads)?;
+        Ok(Heap {
+            values,
+            locks,
+            threads,
+        })
+    }
+
+    /// Whether the heaps are the same. Heaps that differ may be told to.
+    pub fn is_same(&self, other: &Heap) -> bool
+        ensures { IsTrue result → self.now ≡ other.now }
+    {
+        are_same_values(&self.values, &other.values)
+            && are_held_alike(&self.locks, &other.locks)
+            && stand_alike(&self.threads, &other.threads)
     }
 
     /// The event that the action becomes if the thread does it now; a read's event has the variable's value.

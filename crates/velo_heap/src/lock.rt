@@ -6,7 +6,7 @@ ghost use Rattle.velo_heap.specs.Steps.{acquire_in, acquire_shared_in, release_i
 use velo_events::{Kind, LockId, MOST_THREADS, Refusal, ThreadId};
 
 /// Who holds one lock.
-#[derive(Clone, Copy, Debug)]
+#[derive(Clone, Copy, Debug, PartialEq, Eq)]
 pub struct Lock {
     /// The thread that holds it alone.
     pub holder: Option<ThreadId>,

@@ -5,7 +5,7 @@ ghost use Rattle.velo_heap.specs.Steps.{begin_in, end_in, exit_in, fork_by, join
 use velo_events::{Kind, Label, MOST_OPEN_BLOCKS, Refusal, Status, ThreadId};
 
 /// How one thread stands.
-#[derive(Clone, Copy, Debug)]
+#[derive(Clone, Copy, Debug, PartialEq, Eq)]
 pub struct Standing {
     /// How far it has come.
     pub status: Status,

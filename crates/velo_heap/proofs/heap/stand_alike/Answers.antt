@@ -1,0 +1,24 @@
+use Rattle.std.proofs.Common.{refl, sym, ◌∙◌}
+use Rattle.std.proofs.lemmas.Bool.{and_parts, eqb-true, false≢true}
+use Rattle.velo_events.specs.declared.event.Status.TheVariants.{Unborn, Live, Exited, Joined}
+use Rattle.velo_events.specs.contracts.event.StatusPartialEq.TheImpl as of_status
+use Rattle.velo_heap.specs.contracts.standing.StandingPartialEq.TheImpl as of_standing
+use Rattle.velo_heap.proofs.OnSameness.{Tells, Tells-lists}
+use Rattle.velo_heap.proofs.OnStandings.{same_standing}
+use Rattle.velo_heap.proofs.heap.stand_alike.Goals as goal
+
+same_status : Tells (of_status.eq-value).it
+same_status Unborn Unborn h = refl
+same_status Live Live h = refl
+same_status Exited Exited h = refl
+same_status Joined Joined h = refl
+same_status _ _ h = absurd (false≢true h)
+
+same : Tells (of_standing.eq-value).it
+same a b h =
+    let first = and_parts _ _ h in
+    let second = and_parts _ _ first.1 in
+    same_standing a.status b.status a.depth b.depth a.locks b.locks (same_status a.status b.status first.0) (eqb-true a.depth b.depth second.0) (eqb-true a.locks b.locks second.1)
+
+pub returns : goal.returns
+returns c = λ h. Tells-lists (of_standing.eq-value).it same c.args.one.now c.args.other.now (sym c.eq.ensures ∙ h)
