@@ -160,13 +160,13 @@ module _ (May : ℕ → List Event → Type 0) (program : IsProgram May) (thread
         let theirs_alone = λ (h : IsTrue (has_lock m.0 (take (length events) (script u)))). holder-by_script u m.0 events (are.by u events theirs) (their_part (λ ks. IsTrue (has_lock m.0 ks)) h) in (
           m.0,
           ⊎_elim
-          (λ first. let both = and_parts _ _ first in ⊎_elim
-          (λ alone. BothAlone (mine_alone both.0) (theirs_alone alone))
-          (λ shared. FirstAlone (mine_alone both.0) (shares-by_script u m.0 events (are.by u events theirs) (their_part (λ ks. IsTrue (shares_lock m.0 ks)) shared)))
-          (or_cases _ _ both.1))
-          (λ second. let both = and_parts _ _ second in
-          SecondAlone (shares-by_script t m.0 (own t log) (are.by t (own t log) (all.each t)) (my_part (λ ks. IsTrue (shares_lock m.0 ks)) both.0)) (theirs_alone both.1))
-          (or_cases _ _ m.2),
+              (λ first. let both = and_parts _ _ first in ⊎_elim
+              (λ alone. BothAlone (mine_alone both.0) (theirs_alone alone))
+              (λ shared. FirstAlone (mine_alone both.0) (shares-by_script u m.0 events (are.by u events theirs) (their_part (λ ks. IsTrue (shares_lock m.0 ks)) shared)))
+              (or_cases _ _ both.1))
+              (λ second. let both = and_parts _ _ second in
+              SecondAlone (shares-by_script t m.0 (own t log) (are.by t (own t log) (all.each t)) (my_part (λ ks. IsTrue (shares_lock m.0 ks)) both.0)) (theirs_alone both.1))
+              (or_cases _ _ m.2),
         );
     single = λ more g other may. sym (plain-twins e.kind g.kind) ∙ (or_parts _ _ (clear more g other may)).1;
   })
