@@ -1,0 +1,5 @@
+pub mod Left
+pub mod Stacks
+pub mod Tables
+pub mod Marks
+pub mod Thinned

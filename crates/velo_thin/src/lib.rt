@@ -1,0 +1,10 @@
+//! The rest of a log, where the blocks of some labels are dissolved and the operations on some locks and variables left out.
+#![tactic(auto)]
+
+mod growth;
+mod left;
+mod marks;
+mod thinned;
+
+pub use left::LeftOut;
+pub use thinned::{Thinned, thin};
