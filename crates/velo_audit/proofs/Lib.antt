@@ -1,0 +1,7 @@
+pub mod OnRounds
+pub mod OnTold
+pub mod OnWitness
+pub mod OnAnswers
+pub mod OnAudit
+pub mod OnUnique
+pub mod OnCount

@@ -1,0 +1,93 @@
+-- One round after another.
+use Rattle.std.proofs.Common.{◌≡◌, zero, suc, ◌+◌, ◌<◌, ◌≤◌, List, [], ◌∷◌, ◌++◌, length, map, Option, Some, None, refl, sym, ap, ◌∙◌, subst, arith}
+use Rattle.std.specs.Prelude.{All, Bool}
+use Rattle.std.proofs.lemmas.List.{length-map, map-append}
+use Rattle.std.proofs.lemmas.List.Elements.{All-append}
+use Rattle.velo_events.specs.declared.event.Event.{Event}
+use Rattle.velo_events.specs.Graph.{HasCycle}
+use Rattle.velo_events.specs.Reordering.{IsSerializable}
+use Rattle.velo_thin.specs.Left.{Left, rest_of, with_labels}
+use Rattle.velo_audit.specs.Rounds.{IsRound, Rounds, AreTheOnlyRounds, FirstRounds, AreFound, labels_told, labels_found, left_after, atomic_labels}
+use Rattle.velo_audit.specs.Rounds as round
+use Rattle.velo_audit.specs.Tells.{told_as}
+use Rattle.velo_audit.specs.Audit.{TellsTruly, AreWitnessed, RoundTells, left_behind, StandsAt}
+use Rattle.velo_audit.specs.Witness.{HasWitness}
+use Rattle.velo_audit.specs.declared.told.Told.{Told}
+use Rattle.velo_audit.proofs.OnWitness.{witness-within}
+use Rattle.velo_audit.proofs.OnUnique.{Rounds-unique}
+use Rattle.velo_audit.proofs.OnRounds.{told-blamed, round-fewer, rounds-few, rounds-serializable, rounds-found, rounds-left}
+
+FirstRounds-push : (log : List Event) (left : Left) (rounds : List round.Told) (told : round.Told) → FirstRounds log left rounds → IsRound log (left_after log left rounds) told → FirstRounds log left (rounds ++ told ∷ [])
+unfolding FirstRounds left_after
+FirstRounds-push log left [] told h r = (r, tt)
+FirstRounds-push log left (t ∷ rest) told h r = (h.0, FirstRounds-push log (with_labels left (labels_told log t)) rest told h.1 r)
+
+left_after-push : (log : List Event) (left : Left) (rounds : List round.Told) (told : round.Told) → left_after log left (rounds ++ told ∷ []) ≡ with_labels (left_after log left rounds) (labels_told log told)
+unfolding left_after
+left_after-push log left [] told = refl
+left_after-push log left (t ∷ rest) told = left_after-push log (with_labels left (labels_told log t)) rest told
+
+AreWitnessed-push : (asked : Bool) (log : List Event) (left : Left) (rounds : List Told) (told : Told) → AreWitnessed asked log left rounds → HasWitness asked log (left_after log left (map told_as rounds)) told.closing told.witness → AreWitnessed asked log left (rounds ++ told ∷ [])
+unfolding AreWitnessed left_after
+AreWitnessed-push asked log left [] told h w = (w, tt)
+AreWitnessed-push asked log left (t ∷ rest) told h w = (h.0, AreWitnessed-push asked log (with_labels left (labels_told log (told_as t))) rest told h.1 w)
+
+Rounds-from : (log : List Event) (left : Left) (rounds : List round.Told) → FirstRounds log left rounds → ¬ HasCycle (rest_of (left_after log left rounds) log) → Rounds log left rounds
+unfolding FirstRounds left_after Rounds
+Rounds-from log left [] h none = none
+Rounds-from log left (t ∷ rest) h none = (h.0, Rounds-from log (with_labels left (labels_told log t)) rest h.1 none)
+
+pub StandsAt-start : (asked : Bool) (log : List Event) (start : Left) (rounds : List Told) → rounds ≡ [] → StandsAt asked log start rounds start
+unfolding FirstRounds left_after AreWitnessed
+StandsAt-start asked log start rounds none = subst (λ xs. StandsAt asked log start xs start) (sym none) (record { first = tt; behind = refl; truly = λ k d l. absurd (omega (arith, l)); witnessed = tt })
+
+module _ (asked : Bool) (log : List Event) (start : Left) (rounds : List Told) (left : Left) (w : StandsAt asked log start rounds left) (answer : Option Told) (tells : RoundTells asked log left answer) (new : Left) (behind : new ≡ left_behind log left answer) where
+  -- a round with an alarm leaves out more
+  pub audit-smaller : (told : Told) → answer ≡ Some told → atomic_labels new log < atomic_labels left log
+  audit-smaller told is =
+      let r = subst (RoundTells asked log left) is tells in
+      let fewer = round-fewer log left (told_as told) r.0 in
+      omega (arith, fewer, ap (λ x. atomic_labels x log) (behind ∙ ap (left_behind log left) is))
+
+  pub StandsAt-push : (told : Told) → answer ≡ Some told → (more : List Told) → more ≡ rounds ++ told ∷ [] → StandsAt asked log start more new
+  StandsAt-push told is more pushed =
+      let r = subst (RoundTells asked log left) is tells in
+      let together : map told_as (rounds ++ told ∷ []) ≡ map told_as rounds ++ told_as told ∷ [] = map-append told_as rounds (told ∷ []) in
+      subst (λ xs. StandsAt asked log start xs new) (sym pushed) (record {
+        first = subst (FirstRounds log start) (sym together) (FirstRounds-push log start (map told_as rounds) (told_as told) w.first (subst (λ x. IsRound log x (told_as told)) w.behind r.0));
+        behind = behind ∙ (ap (left_behind log left) is ∙ (ap (λ x. with_labels x (labels_told log (told_as told))) w.behind ∙ (sym (left_after-push log start (map told_as rounds) (told_as told)) ∙ ap (left_after log start) (sym together))));
+        truly = All-append (TellsTruly log) rounds (told ∷ []) w.truly (one told (r.1, told-blamed log left (told_as told) r.0, witness-within asked log left told.closing told.witness r.2));
+        witnessed = AreWitnessed-push asked log start rounds told w.witnessed (subst (λ x. HasWitness asked log x told.closing told.witness) w.behind r.2);
+      })
+    where
+      one : (t : Told) → TellsTruly log t → All (TellsTruly log) (t ∷ [])
+      one t h zero d l = h
+      one t h (suc k) d l = absurd (omega (arith, l))
+
+  -- after one without an alarm all is said
+  module _ (is : answer ≡ None) where
+    no_cycle : ¬ HasCycle (rest_of left log)
+    no_cycle = subst (RoundTells asked log left) is tells
+
+    same : new ≡ left_after log start (map told_as rounds)
+    same = behind ∙ (ap (left_behind log left) is ∙ w.behind)
+
+    pub audit-rounds : Rounds log start (map told_as rounds)
+    audit-rounds = Rounds-from log start (map told_as rounds) w.first (subst (λ x. ¬ HasCycle (rest_of x log)) w.behind no_cycle)
+
+    pub audit-only : AreTheOnlyRounds log start (map told_as rounds)
+    audit-only others h = Rounds-unique log start others (map told_as rounds) h audit-rounds
+
+    pub audit-left : new ≡ with_labels start (labels_found log (map told_as rounds))
+    audit-left = same ∙ rounds-left log start (map told_as rounds)
+
+    pub audit-found : AreFound log start (labels_found log (map told_as rounds))
+    audit-found = rounds-found log start (map told_as rounds) audit-rounds
+
+    pub audit-few : length rounds + atomic_labels new log ≤ atomic_labels start log
+    audit-few =
+        let few = rounds-few log start (map told_as rounds) audit-rounds in
+        omega (arith, few, length-map rounds told_as, ap (λ x. atomic_labels x log) same)
+
+    pub audit-serializable : IsSerializable (rest_of new log)
+    audit-serializable = subst (λ x. IsSerializable (rest_of x log)) (sym same) (rounds-serializable log start (map told_as rounds) audit-rounds)

@@ -1,0 +1,158 @@
+-- The witness of a round.
+use Rattle.std.proofs.Common.{◌≡◌, ℕ, ◌+◌, ◌<◌, Bool, List, [], ◌∷◌, ◌++◌, length, length-take, take, drop, map, Option, Some, None, refl, sym, ap, ◌∙◌, subst, arith, inl, inr, ⊎_elim}
+use Rattle.std.specs.Prelude.{◌⊎◌, slice_get, slice_index, slice_index_or, Contains}
+use Rattle.std.proofs.lemmas.List.{length-map, get_or-map, take-append-drop}
+use Rattle.velo_events.specs.declared.event.Event.{Event}
+use Rattle.velo_events.specs.Block.{owner}
+use Rattle.velo_events.specs.Graph.{Edge, HasCycle, IsClosing, IsCycle, Leads, Reaches}
+use Rattle.velo_events.proofs.OnBlocks.{owner-append}
+use Rattle.velo_events.proofs.OnGraphs.{HasCycle-push, Edge-append, Path-map, newest}
+use Rattle.velo_events.proofs.OnReaching.{IsCycle-by}
+use Rattle.velo_events.proofs.OnScans.{event_at, take-next}
+use Rattle.velo_certify.specs.Cycle.{HasNoCycleAt}
+use Rattle.velo_certify.specs.declared.edges.EdgeEvents.{EdgeEvents}
+use Rattle.velo_traces.specs.declared.block.Block.{Block}
+use Rattle.velo_explain.specs.declared.spans.Span.{Span}
+use Rattle.velo_explain.specs.declared.evidence.Blame.{Blame}
+use Rattle.velo_explain.specs.declared.evidence.Evidence.{Evidence}
+use Rattle.velo_explain.specs.Evidence.{no_block, IsEvidence, HaveReasons, AreBlamesWithin, IsWithin}
+use Rattle.velo_explain.proofs.OnEvidence.{IsWithin-of}
+use Rattle.velo_world.specs.declared.analysis.Alarm.{Alarm}
+use Rattle.velo_world.specs.World.{IsAlarm}
+use Rattle.velo_thin.specs.Left.{Left, rest_of, places_of, place_of}
+use Rattle.velo_thin.proofs.OnLeft.{rest_of-is, stands_for}
+use Rattle.velo_audit.specs.Tells.{Tells}
+use Rattle.velo_audit.specs.Witness.{span_as_read, edge_as_read, blame_as_read, ReadsAs, IsWitness, HasWitness, IsWitnessWithin, IsEvidenceOf, WitnessTells}
+use Rattle.velo_audit.specs.declared.told.Told.{Told}
+use Rattle.velo_audit.proofs.OnRounds.{closing-before}
+
+-- ---- at the first closing event a cycle passes the transaction
+
+pub closing-on_cycle : (log : List Event) (p : ℕ) → IsClosing log p → HasNoCycleAt log p → ⊥
+closing-on_cycle log p closing none = around (HasCycle-push before e.0 (subst HasCycle next closing.closes))
+  where
+    before : List Event
+    before = take p log
+
+    e : (event : Event) × (slice_get log p ≡ Some event)
+    e = event_at log p closing.in_trace
+
+    next : take (p + 1) log ≡ before ++ e.0 ∷ []
+    next = take-next log p e.0 e.1
+
+    New : ℕ → ℕ → Type 0
+    New = Edge (before ++ e.0 ∷ [])
+
+    n : ℕ
+    n = newest before e.0
+
+    is_n : owner log p ≡ n
+    is_n =
+        ap (λ (xs : List Event). owner xs p) (sym (take-append-drop (p + 1) log))
+        ∙ (owner-append (take (p + 1) log) (drop (p + 1) log) p (let l = closing.in_trace in omega (arith, l, length-take (p + 1) log))
+        ∙ (ap (λ (xs : List Event). owner xs p) next ∙ ap (owner (before ++ e.0 ∷ [])) (let l = closing.in_trace in let here : p ≡ length before = omega (arith, l, length-take p log) in here)))
+
+    makes : (x : ℕ) → Leads (Edge before) n x → New x n → ⊥
+    makes x there edge =
+        let made = IsCycle-by New n x (there.0, Path-map (Edge before) New (Edge-append before (e.0 ∷ [])) n there.0 x there.1) ([], edge) in
+        none.none made.0 (subst (λ (xs : List Event). IsCycle (Edge xs) made.0) (sym next) made.1) (subst (Contains made.0) (sym is_n) made.2)
+
+    around : HasCycle before ⊎ ((x : ℕ) × Reaches (Edge before) n x × New x n) → ⊥
+    around (inl c) = closing-before log p closing c
+    around (inr w) = ⊎_elim (λ at. w.2.differ (sym at)) (λ there. makes w.0 there w.2) w.1
+
+-- ---- what is told of the alarm of the rest is the round's witness
+
+pub HasWitness-told : (asked : Bool) (log : List Event) (left : Left) (told : Told) (alarm : Alarm) → IsAlarm (rest_of left log) alarm → Tells asked (rest_of left log) (places_of left log) alarm told → HasWitness asked log left told.closing told.witness
+unfolding place_of
+HasWitness-told asked log left told alarm is tells = by told.witness tells.witness
+  where
+    by : (o : Option Evidence) → WitnessTells asked (rest_of left log) (places_of left log) alarm o → HasWitness asked log left told.closing o
+    by None h = h
+    by (Some evidence) h = (
+      h.0,
+      record {
+        position = alarm.position;
+        blamed = alarm.blamed.items;
+        inside = h.1.inside;
+        closes = is.closing;
+        are_blamed = is.blamed;
+        is_evidence = h.1.is_evidence;
+        reasons = h.1.reasons;
+        there = tells.closing;
+        reads = h.1.reads;
+      },
+    )
+
+-- ---- its positions are there
+
+place-within : (left : Left) (log : List Event) (k : ℕ) → k < length (rest_of left log) → place_of left log k < length log
+place-within left log k l = (stands_for left log k (let long = ap length (rest_of-is left log) in omega (arith, l, long))).within
+
+abbrev no_span : Span
+no_span = record { first = 0; last = 0 }
+
+abbrev no_edge : EdgeEvents
+no_edge = record { from = 0; to = 0 }
+
+abbrev no_blame : Blame
+no_blame = record { block = no_block; witness = 0 }
+
+module _ (log : List Event) (left : Left) (closing : ℕ) (evidence : Evidence) (w : IsWitness log left closing evidence) where
+  abbrev place : ℕ → ℕ
+  place = place_of left log
+
+  inner : IsWithin (length (rest_of left log)) w.position w.inside
+  inner = IsWithin-of (rest_of left log) w.position w.blamed w.inside w.is_evidence
+
+  pub IsWithin-read : IsWithin (length log) closing evidence
+  IsWithin-read = record {
+    position = let is = w.there in let l = place-within left log w.position w.closes.in_trace in omega (arith, is, l);
+    spans = record {
+      first = λ i l. let m = span_inside i l in subst (λ (s : Span). s.first < length log) (sym (span i m)) (place-within left log _ (inner.spans.first i m));
+      last = λ i l. let m = span_inside i l in subst (λ (s : Span). s.last < length log) (sym (span i m)) (place-within left log _ (inner.spans.last i m));
+    };
+    edges = record {
+      from = λ i l. let m = edge_inside i l in subst (λ (s : EdgeEvents). s.from < length log) (sym (edge i m)) (place-within left log _ (inner.edges.from i m));
+      to = λ i l. let m = edge_inside i l in subst (λ (s : EdgeEvents). s.to < length log) (sym (edge i m)) (place-within left log _ (inner.edges.to i m));
+    };
+    blames = record {
+      first = λ i l. let m = blame_inside i l in subst (λ (s : Blame). s.block.first < length log) (sym (blame i m)) (place-within left log _ (inner.blames.first i m));
+      witness = λ i l. let m = blame_inside i l in subst (λ (s : Blame). s.witness < length log) (sym (blame i m)) (place-within left log _ (inner.blames.witness i m));
+    };
+  }
+    where
+      span_inside : (i : ℕ) → i < length evidence.spans.items → i < length w.inside.spans.items
+      span_inside i l = omega (arith, l, ap length w.reads.spans, length-map w.inside.spans.items (span_as_read place))
+
+      span : (i : ℕ) → i < length w.inside.spans.items → slice_index_or evidence.spans.items i no_span ≡ span_as_read place (slice_index_or w.inside.spans.items i no_span)
+      span i l = ap (λ xs. slice_index_or xs i no_span) w.reads.spans ∙ get_or-map (span_as_read place) w.inside.spans.items i no_span no_span l
+
+      edge_inside : (i : ℕ) → i < length evidence.edges.items → i < length w.inside.edges.items
+      edge_inside i l = omega (arith, l, ap length w.reads.edges, length-map w.inside.edges.items (edge_as_read place))
+
+      edge : (i : ℕ) → i < length w.inside.edges.items → slice_index_or evidence.edges.items i no_edge ≡ edge_as_read place (slice_index_or w.inside.edges.items i no_edge)
+      edge i l = ap (λ xs. slice_index_or xs i no_edge) w.reads.edges ∙ get_or-map (edge_as_read place) w.inside.edges.items i no_edge no_edge l
+
+      blame_inside : (i : ℕ) → i < length evidence.blames.items → i < length w.inside.blames.items
+      blame_inside i l = omega (arith, l, ap length w.reads.blames, length-map w.inside.blames.items (blame_as_read place))
+
+      blame : (i : ℕ) → i < length w.inside.blames.items → slice_index_or evidence.blames.items i no_blame ≡ blame_as_read place (slice_index_or w.inside.blames.items i no_blame)
+      blame i l = ap (λ xs. slice_index_or xs i no_blame) w.reads.blames ∙ get_or-map (blame_as_read place) w.inside.blames.items i no_blame no_blame l
+
+pub witness-within : (asked : Bool) (log : List Event) (left : Left) (closing : ℕ) (o : Option Evidence) → HasWitness asked log left closing o → IsWitnessWithin (length log) closing o
+witness-within asked log left closing None h = tt
+witness-within asked log left closing (Some evidence) h = IsWithin-read log left closing evidence h.1
+
+-- ---- the evidence of an alarm, by its places
+
+pub IsEvidenceOf-read : (what : List Event) (places : List ℕ) (alarm : Alarm) → IsAlarm what alarm → (blamed : List Block) → blamed ≡ alarm.blamed.items → (inside evidence : Evidence) → IsEvidence what alarm.position blamed inside → (¬ HasCycle (take alarm.position what) → HaveReasons what alarm.position blamed inside) → ReadsAs (slice_index places) inside evidence → IsEvidenceOf what places alarm evidence
+IsEvidenceOf-read what places alarm is blamed same inside evidence e reasons reads = record {
+  inside = inside;
+  is_evidence = subst (λ bs. IsEvidence what alarm.position bs inside) same e;
+  reasons = subst (λ bs. HaveReasons what alarm.position bs inside) same (reasons (closing-before what alarm.position is.closing));
+  reads = reads;
+}
+
+pub blames-within : (what : List Event) (places : List ℕ) (p : ℕ) (blamed : List Block) (inside : Evidence) → length places ≡ length what → IsEvidence what p blamed inside → AreBlamesWithin (length places) inside.blames.items
+blames-within what places p blamed inside long e = subst (λ n. AreBlamesWithin n inside.blames.items) (sym long) (IsWithin-of what p blamed inside e).blames

@@ -1,0 +1,28 @@
+use Rattle.std.proofs.Common.{◌≡◌, ◌+◌, ◌∷◌, [], ap, sym, ◌∙◌, arith, ℕ}
+use Rattle.std.specs.Prelude.{if◌then◌else◌}
+use Rattle.velo_thin.specs.Tables.{left_of}
+use Rattle.velo_audit.proofs.OnCount.{IsCountedTo-again, IsCountedTo-new, IsCountedTo-none, no_label}
+use Rattle.velo_audit.proofs.count.count_in.Goals as goal
+
+pub returns-in_default : goal.returns-in_default
+returns-in_default c = record {
+  stands = IsCountedTo-none (left_of c.args.left.now) c.args.events.now c.args.position c.requires.within (left_of c.args.seen.now) c.args.count.now c.requires.stands (no_label _ c.in_default.not-Begin);
+  memory = tt;
+}
+
+pub returns-then-has_label-clause-stands : goal.returns-then-has_label-clause-stands
+returns-then-has_label-clause-stands c =
+    IsCountedTo-again (left_of c.args.left.now) c.args.events.now c.args.position c.requires.within (left_of c.args.seen.now) c.args.count.now c.requires.stands c.in-Begin.label c.in-Begin.is (sym c.if-has_label.ensures)
+
+pub returns-then-not-has_label-clause-stands : goal.returns-then-not-has_label-clause-stands
+returns-then-not-has_label-clause-stands c =
+    IsCountedTo-new (left_of c.args.left.now) c.args.events.now c.args.position c.requires.within (left_of c.args.seen.now) c.args.count.now c.requires.stands c.in-Begin.label c.in-Begin.is (sym c.if-has_label.ensures) _ c.in_ok-leave_out_label.ensures.ok _
+    (ap (λ b. c.args.count.now + (if b then 0 else 1)) c.if-not-has_label.ensures)
+
+pub returns-else-not-has_label-clause-stands : goal.returns-else-not-has_label-clause-stands
+returns-else-not-has_label-clause-stands c =
+    IsCountedTo-new (left_of c.args.left.now) c.args.events.now c.args.position c.requires.within (left_of c.args.seen.now) c.args.count.now c.requires.stands c.in-Begin.label c.in-Begin.is (sym c.if-has_label.ensures) _ c.in_ok-leave_out_label.ensures.ok _
+    (same ∙ ap (λ b. c.args.count.now + (if b then 0 else 1)) c.if-not-has_label.ensures)
+  where
+    same : c.args.count.now ≡ c.args.count.now + 0
+    same = omega arith

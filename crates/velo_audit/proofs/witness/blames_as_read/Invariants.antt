@@ -1,0 +1,10 @@
+use Rattle.std.proofs.Common.{◌≡◌, ◌≤◌, length, map, take}
+use Rattle.std.specs.Prelude.{vec_capacity, slice_index}
+use Rattle.velo_audit.specs.Witness.{blame_as_read}
+use Rattle.velo_audit.proofs.witness.blames_as_read.Given as goal
+
+abbrev pub invariant-loop-k : goal.invariant-loop-k
+invariant-loop-k l = record {
+  items : l.read.items ≡ map (blame_as_read (slice_index l.places)) (take l.k l.blames);
+  room : length l.blames ≤ vec_capacity l.read;
+}

@@ -1,0 +1,14 @@
+//! Which labels' blocks are not atomic in a log: by rounds of checking the rest of it, in each of which the labels are left
+//! out that the one before told.
+#![tactic(auto)]
+
+mod count;
+mod round;
+mod rounds;
+mod told;
+mod witness;
+
+pub use count::count_atomic;
+pub use round::AuditFault;
+pub use rounds::audit;
+pub use told::Told;

@@ -1,0 +1,132 @@
+//! One round: the rest of a log is checked.
+ghost use Rattle.std.specs.Prelude.{◌≡◌, ◌≤◌, false, length, IfOk, IfErr, OnErr};
+ghost use Rattle.velo_events.specs.Refusals.{GrowthRefused};
+ghost use Rattle.velo_events.specs.WellFormed.{IsWellFormed};
+ghost use Rattle.velo_audit.specs.Audit.{RoundTells, IsRoundFault, CheckTells, IsCheckFault, out_of_memory};
+ghost use Rattle.velo_thin.specs.Tables.{left_of};
+
+use crate::told::{Told, told_of};
+use crate::witness::place_at;
+use std::alloc::Global;
+use thiserror::Error;
+use velo_events::{Config, Memory, Refusal};
+use velo_ledger::Shares;
+use velo_thin::{LeftOut, Thinned, thin};
+use velo_traces::Trace;
+use velo_world::{LogReplayFault, World};
+
+/// Why a round could not be checked to its end.
+#[derive(Clone, Copy, Debug, PartialEq, Eq, Error)]
+pub enum AuditFault {
+    /// A growth was refused.
+    #[error("out of memory")]
+    Memory,
+    /// The event at this position of the log as read needs a node, and the graph of the rest is full.
+    #[error("the graph of the rest is full")]
+    GraphFull {
+        /// The position.
+        position: usize,
+    },
+}
+
+impl From<Memory> for AuditFault {
+    ghost use Rattle.std.specs.Prelude.{◌≡◌};
+    ghost use Rattle.velo_audit.specs.Audit.{out_of_memory};
+
+    ghost from_gives = { λ _ fault. fault ≡ out_of_memory };
+
+    fn from(_refused: Memory) -> AuditFault {
+        AuditFault::Memory
+    }
+}
+
+/// Checks the rest of a log that can come about, within its limits. The configuration has to go on after an alarm.
+///
+/// # Errors
+/// `GraphFull` where the graph of the rest needs more nodes than there may be, `Memory` where a growth was refused.
+pub fn round(
+    alloc: Global,
+    config: &Config,
+    log: &Trace,
+    left: &LeftOut,
+    asked: bool,
+) -> Result<Option<Told>, AuditFault>
+    requires goes_on { config.now.stop ≡ false }
+    requires short { length log.now.events ≤ config.now.events }
+    requires well_formed { IsWellFormed config.now.bounds log.now.events }
+    ensures tells { IfOk result (RoundTells asked log.now.events (left_of left.now)) }
+    ensures fault { IfErr result (IsRoundFault config.now log.now.events (left_of left.now)) }
+{
+    match thin(alloc, log, left) {
+        Ok(thinned) => check(alloc, config, thinned, asked),
+        Err(Memory) => Err(AuditFault::Memory),
+    }
+}
+
+/// Checks a trace, and tells of its alarm by the places for which its positions stand.
+fn check(
+    alloc: Global,
+    config: &Config,
+    thinned: Thinned,
+    asked: bool,
+) -> Result<Option<Told>, AuditFault>
+    requires goes_on { config.now.stop ≡ false }
+    requires short { length thinned.trace.events ≤ config.now.events }
+    requires well_formed { IsWellFormed config.now.bounds thinned.trace.events }
+    requires as_many { length thinned.places.items ≡ length thinned.trace.events }
+    ensures tells { IfOk result (CheckTells asked thinned.trace.events thinned.places.items) }
+    ensures fault { IfErr result (IsCheckFault config.now thinned.trace.events thinned.places.items) }
+{
+    let Thinned { trace, places } = thinned;
+    match World::from_log(alloc, *config, trace) {
+        Ok(replayed) => tell(alloc, asked, replayed, &places),
+        Err(
+            LogReplayFault::Refused {
+                position,
+                refusal: Refusal::GraphFull,
+            },
+        ) => Err(AuditFault::GraphFull {
+            position: place_at(&places, position),
+        }),
+        Err(LogReplayFault::Memory) => Err(AuditFault::Memory),
+        Err(_) => unreachable!(),
+    }
+}
+
+/// What is told of a world's alarm, if it has one. The world is given up.
+fn tell(
+    alloc: Global,
+    asked: bool,
+    replayed: (World, Shares),
+    places: &[u32],
+) -> Result<Option<Told>, AuditFault>
+    requires { length places.now ≡ length replayed.0.log }
+    ensures tells { IfOk result (CheckTells asked replayed.0.log places.now) }
+    ensures fault { OnErr result GrowthRefused }
+    ensures memory { IfErr result (λ fault. fault ≡ out_of_memory) }
+{
+    let told = told_in(alloc, asked, &replayed.0, places);
+    drop(replayed);
+    told
+}
+
+/// What is told of a world's alarm, if it has one.
+fn told_in(
+    alloc: Global,
+    asked: bool,
+    world: &World,
+    places: &[u32],
+) -> Result<Option<Told>, AuditFault>
+    requires { length places.now ≡ length world.now.log }
+    ensures tells { IfOk result (CheckTells asked world.now.log places.now) }
+    ensures fault { OnErr result GrowthRefused }
+    ensures memory { IfErr result (λ fault. fault ≡ out_of_memory) }
+{
+    let Some(alarm) = world.alarm() else {
+        return Ok(None);
+    };
+    match told_of(alloc, asked, world.log(), places, alarm) {
+        Ok(told) => Ok(Some(told)),
+        Err(Memory) => Err(AuditFault::Memory),
+    }
+}

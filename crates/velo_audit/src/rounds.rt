@@ -1,0 +1,103 @@
+//! All rounds of an audit.
+ghost use Rattle.std.specs.Prelude.{◌≡◌, ◌≤◌, ◌+◌, ◌++◌, ◌∷◌, [], false, length, map, All, IfOk, IfErr, OnOk, OnErr};
+ghost use Rattle.velo_events.specs.Refusals.{GrowthRefused};
+ghost use Rattle.velo_events.specs.Reordering.{IsSerializable};
+ghost use Rattle.velo_events.specs.WellFormed.{IsWellFormed};
+ghost use Rattle.velo_traces.specs.declared.block.Block.{Block as BlockOf};
+ghost use Rattle.velo_audit.specs.Audit.{RoundTells, TellsTruly, AreWitnessed, IsRoundFault, IsAuditFault, left_behind, out_of_memory};
+ghost use Rattle.velo_thin.specs.Left.{rest_of, with_labels};
+ghost use Rattle.velo_audit.specs.Rounds.{Rounds, AreTheOnlyRounds, AreFound, labels_found, atomic_labels};
+ghost use Rattle.velo_thin.specs.Tables.{left_of};
+ghost use Rattle.velo_audit.specs.Tells.{told_as};
+
+use crate::round::{AuditFault, round};
+use crate::told::Told;
+use std::alloc::Global;
+use velo_events::growth::reserve;
+use velo_events::{Config, Memory};
+use velo_thin::LeftOut;
+use velo_traces::{Block, Trace};
+
+/// Checks the rest of a log, leaves out the labels of the blocks that the first alarm tells, and so on until there is
+/// no alarm. Each round has its witness if this is asked for. The log can come about, within its limits. The configuration has
+/// to go on after an alarm.
+///
+/// # Errors
+/// `GraphFull` where the graph of the rest in a round needs more nodes than there may be, `Memory` where a growth was
+/// refused.
+pub fn audit(
+    alloc: Global,
+    config: &Config,
+    log: &Trace,
+    left: &mut LeftOut,
+    asked: bool,
+) -> Result<Vec<Told>, AuditFault>
+    requires goes_on { config.now.stop ≡ false }
+    requires short { length log.now.events ≤ config.now.events }
+    requires well_formed { IsWellFormed config.now.bounds log.now.events }
+    ensures rounds { IfOk result (λ rounds. Rounds log.now.events (left_of left.old) (map told_as rounds.items)) }
+    ensures only { IfOk result (λ rounds. AreTheOnlyRounds log.now.events (left_of left.old) (map told_as rounds.items)) }
+    ensures truly { IfOk result (λ rounds. All (TellsTruly log.now.events) rounds.items) }
+    ensures witnessed { IfOk result (λ rounds. AreWitnessed asked log.now.events (left_of left.old) rounds.items) }
+    ensures found { IfOk result (λ rounds. AreFound log.now.events (left_of left.old) (labels_found log.now.events (map told_as rounds.items))) }
+    ensures left { IfOk result (λ rounds. left_of left.new ≡ with_labels (left_of left.old) (labels_found log.now.events (map told_as rounds.items))) }
+    ensures few { IfOk result (λ rounds. length rounds.items + atomic_labels (left_of left.new) log.now.events ≤ atomic_labels (left_of left.old) log.now.events) }
+    ensures serializable { OnOk result (IsSerializable (rest_of (left_of left.new) log.now.events)) }
+    ensures fault { IfErr result (IsAuditFault config.now log.now.events (left_of left.old)) }
+{
+    let mut rounds = Vec::new(alloc);
+    while let Some(told) = next_round(alloc, config, log, left, asked)? {
+        keep(&mut rounds, told)?;
+    }
+    Ok(rounds)
+}
+
+/// Keeps what a round tells behind what those before told.
+fn keep(rounds: &mut Vec<Told>, told: Told) -> Result<(), AuditFault>
+    ensures ok { OnOk result (rounds.new.items ≡ rounds.old.items ++ told ∷ []) }
+    ensures fault { IfErr result (λ fault. fault ≡ out_of_memory) }
+    ensures memory { OnErr result GrowthRefused }
+{
+    match reserve(rounds, 1) {
+        Ok(()) => {
+            rounds.push_reserved(told);
+            Ok(())
+        }
+        Err(Memory) => Err(AuditFault::Memory),
+    }
+}
+
+/// Checks the rest, and leaves out the labels of what is told.
+fn next_round(
+    alloc: Global,
+    config: &Config,
+    log: &Trace,
+    left: &mut LeftOut,
+    asked: bool,
+) -> Result<Option<Told>, AuditFault>
+    requires goes_on { config.now.stop ≡ false }
+    requires short { length log.now.events ≤ config.now.events }
+    requires well_formed { IsWellFormed config.now.bounds log.now.events }
+    ensures tells { IfOk result (RoundTells asked log.now.events (left_of left.old)) }
+    ensures left { IfOk result (λ told. left_of left.new ≡ left_behind log.now.events (left_of left.old) told) }
+    ensures fault { IfErr result (IsRoundFault config.now log.now.events (left_of left.old)) }
+{
+    match round(alloc, config, log, left, asked)? {
+        None => Ok(None),
+        Some(told) => match leave_out_all(left, &told.blocks) {
+            Ok(()) => Ok(Some(told)),
+            Err(Memory) => Err(AuditFault::Memory),
+        },
+    }
+}
+
+/// Leaves out the labels of the blocks.
+fn leave_out_all(left: &mut LeftOut, blocks: &[Block]) -> Result<(), Memory>
+    ensures ok { OnOk result (left_of left.new ≡ with_labels (left_of left.old) (map (λ (b : BlockOf). b.label.0) blocks.now)) }
+    ensures memory { OnErr result GrowthRefused }
+{
+    for block in blocks {
+        left.leave_out_label(block.label)?;
+    }
+    Ok(())
+}
