@@ -21,5 +21,7 @@ pub use fault::{LogFault, WriteFault};
 pub use laws::{one_finding, one_text};
 pub use memory_sink::Text;
 pub use memory_source::Bytes;
+pub use numbers::number;
 pub use read::read_log;
+pub use words::after;
 pub use write::{put_kind, write_log};

@@ -1,0 +1,3 @@
+pub mod OnLines
+pub mod OnLists
+pub mod OnReading

@@ -1,0 +1,23 @@
+-- How a fault is told.
+use Rattle.std.specs.Prelude.{ℕ, ◌+◌, Option, Some, None}
+use Rattle.velo_names.specs.declared.limits.TheConstants.{MOST_NAME_LINES}
+use Rattle.velo_names.specs.declared.fault.NamesFault.{NamesFault}
+use Rattle.velo_names.specs.declared.fault.NamesFault.TheVariants.{BadLine, NamedTwice, TooManyLines, TooManyBytes, NotText, Memory}
+
+-- its number, if it is one of the file
+abbrev pub fault_number : NamesFault → Option ℕ
+fault_number (BadLine n) = Some 1
+fault_number (NamedTwice n) = Some 2
+fault_number TooManyLines = Some 3
+fault_number TooManyBytes = Some 3
+fault_number NotText = Some 4
+fault_number Memory = None
+
+-- its line, or 0 where it is one of the whole file
+abbrev pub fault_line : NamesFault → ℕ
+fault_line (BadLine n) = n
+fault_line (NamedTwice n) = n
+fault_line TooManyLines = MOST_NAME_LINES + 1
+fault_line TooManyBytes = 0
+fault_line NotText = 0
+fault_line Memory = 0

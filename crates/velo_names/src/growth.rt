@@ -1,0 +1,27 @@
+//! A growing call of `indexmap`, with the fact that its refusal leaves. No other code of this crate can show this fact.
+ghost use Rattle.std.specs.Prelude.{◌≡◌, ◌++◌, ◌∷◌, [], None, OnOk, OnErr};
+ghost use Rattle.velo_events.specs.Refusals.{GrowthRefused};
+ghost use Rattle.velo_names.specs.Answers.{list_in};
+ghost use Rattle.velo_names.specs.Names.{name_in};
+
+use indexmap::IndexMap;
+use velo_events::Memory;
+
+/// Puts the name of a number that has none behind the others.
+///
+/// # Errors
+/// `Memory` where a growth was refused.
+pub fn insert<'a>(
+    names: &mut IndexMap<u32, &'a [u8]>,
+    number: u32,
+    name: &'a [u8],
+) -> Result<(), Memory>
+    requires { name_in (list_in names.old) number ≡ None }
+    ensures names { OnOk result (list_in names.new ≡ list_in names.old ++ (number, name.now) ∷ []) }
+    ensures memory { OnErr result GrowthRefused }
+{
+    match names.insert(number, name) {
+        Ok(_) => Ok(()),
+        Err(_) => Err(Memory),
+    }
+}

@@ -1,0 +1,14 @@
+//! Names of threads, variables, locks and labels: the text of a file of names, and the mapping that it says.
+#![tactic(auto)]
+
+mod fault;
+mod growth;
+mod kind;
+mod limits;
+mod line;
+mod names;
+
+pub use fault::NamesFault;
+pub use kind::NameKind;
+pub use limits::{MOST_NAME_BYTES, MOST_NAME_LINES, MOST_NAMES_BYTES};
+pub use names::Names;

@@ -1,0 +1,10 @@
+//! The limits of a file of names, each in one place.
+
+/// The most bytes of a file.
+pub const MOST_NAMES_BYTES: usize = 16_777_216;
+
+/// The most lines of a file.
+pub const MOST_NAME_LINES: usize = 1_000_000;
+
+/// The most bytes of a name.
+pub const MOST_NAME_BYTES: usize = 200;

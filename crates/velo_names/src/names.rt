@@ -1,0 +1,185 @@
+//! The names of a file.
+ghost use Rattle.std.specs.Prelude.{◌≡◌, ◌+◌, ◌≤◌, length, IfOk, OnErr};
+ghost use Rattle.std.specs.Option.{option_copied};
+ghost use Rattle.velo_events.specs.Refusals.{GrowthRefused};
+ghost use Rattle.velo_names.specs.Answers.{list_in, AnswersAs};
+ghost use Rattle.velo_names.specs.Said.{said};
+ghost use Rattle.velo_names.specs.Line.{lines};
+ghost use Rattle.velo_names.specs.Names.{no_names, name_in, numbers_in, list_with, names_with, names_after, names_from, name_of, numbers_of, ReadsAs};
+
+use crate::fault::NamesFault;
+use crate::growth::insert;
+use crate::kind::NameKind;
+use crate::limits::{MOST_NAME_LINES, MOST_NAMES_BYTES};
+use crate::line::{Said, is_silent, naming, split_line};
+use indexmap::IndexMap;
+use std::alloc::Global;
+use std::marker::Model;
+use velo_events::Memory;
+use velo_events::growth::reserve;
+
+/// The names of threads, variables, locks and labels, as bytes of a file that are UTF-8.
+#[derive(Drop)]
+pub struct Names<'a> {
+    threads: IndexMap<u32, &'a [u8]>,
+    variables: IndexMap<u32, &'a [u8]>,
+    locks: IndexMap<u32, &'a [u8]>,
+    labels: IndexMap<u32, &'a [u8]>,
+}
+
+impl<'a> Model for Names<'a> {
+    ghost use Rattle.velo_names.specs.Answers.{list_in};
+    ghost use Rattle.velo_names.specs.Names.{NameLists};
+
+    ghost Value = { NameLists };
+
+    ghost view = { λ n. record { threads = list_in n.threads; variables = list_in n.variables; locks = list_in n.locks; labels = list_in n.labels } };
+}
+
+/// Adds the name of a number to a list, from a line.
+fn add<'a>(
+    names: &mut IndexMap<u32, &'a [u8]>,
+    number: u32,
+    name: &'a [u8],
+    line: usize,
+) -> Result<(), NamesFault>
+    ensures { AnswersAs (list_with (list_in names.old) number name.now line) (list_in names.new) result }
+{
+    if names.contains_key(&number) {
+        return Err(NamesFault::NamedTwice(line));
+    }
+    insert(names, number, name)?;
+    Ok(())
+}
+
+/// The name of a number in a list.
+fn name_in<'a>(names: &IndexMap<u32, &'a [u8]>, number: u32) -> Option<&'a [u8]>
+    ensures { option_copied result ≡ name_in (list_in names.now) number }
+{
+    names.get(&number).copied()
+}
+
+/// The numbers of a name in a list.
+fn numbers_in(alloc: Global, names: &IndexMap<u32, &[u8]>, name: &[u8]) -> Result<Vec<u32>, Memory>
+    ensures numbers { IfOk result (λ numbers. numbers.items ≡ numbers_in (list_in names.now) name.now) }
+    ensures memory { OnErr result GrowthRefused }
+{
+    let mut numbers = Vec::new(alloc);
+    for (number, other) in names {
+        if name == *other {
+            reserve(&mut numbers, 1)?;
+            numbers.push_reserved(*number);
+        }
+    }
+    Ok(numbers)
+}
+
+impl<'a> Names<'a> {
+    /// No names.
+    pub fn new(alloc: Global) -> Names<'a>
+        ensures { result ≡ no_names }
+    {
+        Names {
+            threads: IndexMap::new(alloc),
+            variables: IndexMap::new(alloc),
+            locks: IndexMap::new(alloc),
+            labels: IndexMap::new(alloc),
+        }
+    }
+
+    /// Takes in what a line says.
+    fn put(&mut self, found: Said<'a>, line: usize) -> Result<(), NamesFault>
+        ensures { AnswersAs (names_with self.old (said found.entry) line) self.new result }
+    {
+        match found.kind {
+            NameKind::Thread => add(&mut self.threads, found.number, found.name, line),
+            NameKind::Variable => add(&mut self.variables, found.number, found.name, line),
+            NameKind::Lock => add(&mut self.locks, found.number, found.name, line),
+            NameKind::Label => add(&mut self.labels, found.number, found.name, line),
+        }
+    }
+
+    /// Takes in a line of this number.
+    #[tactic(auto, unfolding(crate::specs::Names::names_after))]
+    fn take(&mut self, bytes: &'a [u8], line: usize) -> Result<(), NamesFault>
+        ensures { AnswersAs (names_after self.old line bytes.now) self.new result }
+    {
+        if line > MOST_NAME_LINES {
+            return Err(NamesFault::TooManyLines);
+        }
+        if is_silent(bytes) {
+            return Ok(());
+        }
+        match naming(bytes) {
+            None => Err(NamesFault::BadLine(line)),
+            Some(found) => self.put(found, line),
+        }
+    }
+
+    /// Takes in the lines of a text.
+    fn take_lines(&mut self, text: &'a [u8]) -> Result<(), NamesFault>
+        ensures { AnswersAs (names_from self.old 0 (lines text.now)) self.new result }
+    {
+        let mut rest = text;
+        let mut line = 0;
+        while !rest.is_empty() {
+            let (bytes, others) = split_line(rest);
+            line += 1;
+            self.take(bytes, line)?;
+            rest = others;
+        }
+        Ok(())
+    }
+
+    /// The names that stand in the bytes of a file.
+    ///
+    /// # Errors
+    /// `TooManyBytes`, and else `NotText`, and else the fault of the first line that has one. `Memory` where a growth
+    /// was refused.
+    pub fn parse(alloc: Global, bytes: &'a [u8]) -> Result<Names<'a>, NamesFault>
+        ensures { ReadsAs bytes.now result }
+    {
+        if bytes.len() > MOST_NAMES_BYTES {
+            return Err(NamesFault::TooManyBytes);
+        }
+        if std::str::from_utf8(bytes).is_err() {
+            return Err(NamesFault::NotText);
+        }
+        let mut names = Names::new(alloc);
+        match names.take_lines(bytes) {
+            Ok(()) => Ok(names),
+            Err(fault) => {
+                drop(names);
+                Err(fault)
+            }
+        }
+    }
+
+    /// The name of a number, if it has one.
+    pub fn name_of(&self, kind: NameKind, number: u32) -> Option<&'a [u8]>
+        ensures { option_copied result ≡ name_of self.now kind number }
+    {
+        match kind {
+            NameKind::Thread => name_in(&self.threads, number),
+            NameKind::Variable => name_in(&self.variables, number),
+            NameKind::Lock => name_in(&self.locks, number),
+            NameKind::Label => name_in(&self.labels, number),
+        }
+    }
+
+    /// The numbers of a name, in the order of their lines.
+    ///
+    /// # Errors
+    /// `Memory` where a growth was refused.
+    pub fn numbers_of(&self, alloc: Global, kind: NameKind, name: &[u8]) -> Result<Vec<u32>, Memory>
+        ensures numbers { IfOk result (λ numbers. numbers.items ≡ numbers_of self.now kind name.now) }
+        ensures memory { OnErr result GrowthRefused }
+    {
+        match kind {
+            NameKind::Thread => numbers_in(alloc, &self.threads, name),
+            NameKind::Variable => numbers_in(alloc, &self.variables, name),
+            NameKind::Lock => numbers_in(alloc, &self.locks, name),
+            NameKind::Label => numbers_in(alloc, &self.labels, name),
+        }
+    }
+}
