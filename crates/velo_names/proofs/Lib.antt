@@ -1,3 +1,5 @@
 pub mod OnLines
 pub mod OnLists
+pub mod OnNamings
 pub mod OnReading
+pub mod OnWriting

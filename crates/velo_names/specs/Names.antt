@@ -1,8 +1,8 @@
 -- The mapping that a file of names says.
 use Rattle.std.specs.Prelude.{◌≡◌, ℕ, ◌+◌, ◌<◌, ◌≤◌, nat_eq, nat_lt, List, [], ◌∷◌, ◌++◌, length, map, filter, Option, Some, None, is_some, Result, Ok, Err, if◌then◌else◌}
-use Rattle.std.specs.List.{flat_map}
+use Rattle.std.specs.List.{flat_map, enumerate_from}
 use Rattle.std.specs.Map.{lookup}
-use Rattle.std.specs.Option.{option_map_or}
+use Rattle.std.specs.Option.{option_map_or, option_to_list}
 use Rattle.std.specs.Str.{IsUtf8, bytes_eq}
 use Rattle.velo_events.specs.Refusals.{GrowthRefused}
 use Rattle.velo_names.specs.declared.limits.TheConstants.{MOST_NAME_LINES, MOST_NAMES_BYTES}
@@ -10,7 +10,7 @@ use Rattle.velo_names.specs.declared.fault.NamesFault.{NamesFault}
 use Rattle.velo_names.specs.declared.fault.NamesFault.TheVariants.{BadLine, NamedTwice, TooManyLines, TooManyBytes, NotText, Memory}
 use Rattle.velo_names.specs.declared.kind.NameKind.{NameKind}
 use Rattle.velo_names.specs.declared.kind.NameKind.TheVariants.{Thread, Variable, Lock, Label}
-use Rattle.velo_names.specs.Line.{Naming, naming_text, naming_of, is_silent, lines}
+use Rattle.velo_names.specs.Line.{Naming, naming_text, naming_of, is_silent, lines, is_number, whole_number}
 
 -- numbers with their names, in the order of the lines
 abbrev pub NameList : Type 0
@@ -53,6 +53,10 @@ numbers_in list name = map (λ e. e.0) (filter (λ e. bytes_eq name e.1) list)
 
 abbrev pub numbers_of : NameLists → NameKind → List ℕ → List ℕ
 numbers_of names kind name = numbers_in (list_of kind names) name
+
+-- What an argument means: digits alone are a number, which has to be one of the kind; all else is a name
+abbrev pub meant_by : NameLists → NameKind → List ℕ → List ℕ
+meant_by names kind argument = if is_number argument then option_to_list (whole_number kind argument) else numbers_of names kind argument
 
 -- ---- what a text says
 
@@ -117,6 +121,10 @@ naming_line kind e = naming_text (record { kind = kind; number = e.0; name = e.1
 
 abbrev pub list_text : NameKind → NameList → List ℕ
 list_text kind list = flat_map (naming_line kind) list
+
+-- names by their places, from 0 on
+abbrev pub by_place : List (List ℕ) → NameList
+by_place names = enumerate_from 0 names
 
 -- the threads first, then variables, locks and labels
 abbrev pub names_text : NameLists → List ℕ

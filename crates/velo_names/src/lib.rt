@@ -4,11 +4,15 @@
 mod fault;
 mod growth;
 mod kind;
+mod laws;
 mod limits;
 mod line;
 mod names;
+mod write;
 
 pub use fault::NamesFault;
 pub use kind::NameKind;
+pub use laws::one_line;
 pub use limits::{MOST_NAME_BYTES, MOST_NAME_LINES, MOST_NAMES_BYTES};
 pub use names::Names;
+pub use write::append_names;

@@ -1,7 +1,8 @@
 //! What a line of a file of names says.
 ghost use Rattle.std.specs.Prelude.{◌≡◌, ◌==◌, ◌<◌, ◌≤◌, option_map, ◌∷◌, length};
-ghost use Rattle.std.specs.List.{position_or_len};
-ghost use Rattle.velo_names.specs.Line.{is_control, has_control, is_name, is_silent, lines, name_at, number_and_name_at, naming_of};
+ghost use Rattle.std.specs.Char.{is_ascii_digit};
+ghost use Rattle.std.specs.List.{list_all, position_or_len};
+ghost use Rattle.velo_names.specs.Line.{is_number, whole_number, is_control, has_control, is_name, is_silent, lines, name_at, number_and_name_at, naming_of};
 ghost use Rattle.velo_names.specs.Said.{said};
 
 use crate::kind::NameKind;
@@ -112,4 +113,29 @@ pub fn split_line(bytes: &[u8]) -> (&[u8], &[u8])
         Some((_, rest)) => (line, rest),
         None => (line, rest),
     }
+}
+
+/// Whether each byte is a digit.
+fn are_digits(bytes: &[u8]) -> bool
+    ensures { result ≡ list_all is_ascii_digit bytes.now }
+{
+    bytes.iter().all(|byte| byte.is_ascii_digit())
+}
+
+/// Whether the bytes are digits alone.
+pub fn is_number(bytes: &[u8]) -> bool
+    ensures { result ≡ is_number bytes.now }
+{
+    !bytes.is_empty() && are_digits(bytes)
+}
+
+/// The number of a kind that the bytes are, if they are one.
+pub fn whole_number(kind: NameKind, bytes: &[u8]) -> Option<u32>
+    ensures { result ≡ whole_number kind bytes.now }
+{
+    let (number, rest) = number(bytes, u64::from(kind.greatest()))?;
+    if !rest.is_empty() {
+        return None;
+    }
+    Some(number as u32)
 }

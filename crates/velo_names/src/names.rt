@@ -5,15 +5,16 @@ ghost use Rattle.velo_events.specs.Refusals.{GrowthRefused};
 ghost use Rattle.velo_names.specs.Answers.{list_in, AnswersAs};
 ghost use Rattle.velo_names.specs.Said.{said};
 ghost use Rattle.velo_names.specs.Line.{lines};
-ghost use Rattle.velo_names.specs.Names.{no_names, name_in, numbers_in, list_with, names_with, names_after, names_from, name_of, numbers_of, ReadsAs};
+ghost use Rattle.velo_names.specs.Names.{no_names, meant_by, name_in, numbers_in, list_with, names_with, names_after, names_from, name_of, numbers_of, ReadsAs};
 
 use crate::fault::NamesFault;
 use crate::growth::insert;
 use crate::kind::NameKind;
 use crate::limits::{MOST_NAME_LINES, MOST_NAMES_BYTES};
-use crate::line::{Said, is_silent, naming, split_line};
+use crate::line::{Said, is_number, is_silent, naming, split_line, whole_number};
 use indexmap::IndexMap;
 use std::alloc::Global;
+use std::fmt;
 use std::marker::Model;
 use velo_events::Memory;
 use velo_events::growth::reserve;
@@ -34,6 +35,12 @@ impl<'a> Model for Names<'a> {
     ghost Value = { NameLists };
 
     ghost view = { λ n. record { threads = list_in n.threads; variables = list_in n.variables; locks = list_in n.locks; labels = list_in n.labels } };
+}
+
+impl<'a> fmt::Debug for Names<'a> {
+    fn fmt<W: fmt::Write>(&self, f: &mut fmt::Formatter<W>) -> fmt::Result {
+        f.write_str("Names")
+    }
 }
 
 /// Adds the name of a number to a list, from a line.
@@ -181,5 +188,30 @@ impl<'a> Names<'a> {
             NameKind::Lock => numbers_in(alloc, &self.locks, name),
             NameKind::Label => numbers_in(alloc, &self.labels, name),
         }
+    }
+
+    /// The numbers that an argument means: a number, if the argument is digits alone, and else those of which it is the name.
+    /// Digits with a leading zero, or beyond the ids of the kind, mean none.
+    ///
+    /// # Errors
+    /// `Memory` where a growth was refused.
+    pub fn meant_by(
+        &self,
+        alloc: Global,
+        kind: NameKind,
+        argument: &[u8],
+    ) -> Result<Vec<u32>, Memory>
+        ensures numbers { IfOk result (λ numbers. numbers.items ≡ meant_by self.now kind argument.now) }
+        ensures memory { OnErr result GrowthRefused }
+    {
+        if !is_number(argument) {
+            return self.numbers_of(alloc, kind, argument);
+        }
+        let mut numbers = Vec::new(alloc);
+        if let Some(number) = whole_number(kind, argument) {
+            reserve(&mut numbers, 1)?;
+            numbers.push_reserved(number);
+        }
+        Ok(numbers)
     }
 }

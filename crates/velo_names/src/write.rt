@@ -1,0 +1,66 @@
+//! The text of names.
+ghost use Rattle.std.specs.Prelude.{◌≡◌, ◌++◌, ◌∷◌, [], length, map, decimal, OnOk, OnErr};
+ghost use Rattle.std.specs.String.{string_bytes};
+ghost use Rattle.velo_events.specs.Refusals.{GrowthRefused};
+ghost use Rattle.velo_names.specs.Line.{kind_text};
+ghost use Rattle.velo_names.specs.Names.{naming_line, list_text, by_place};
+
+use crate::kind::NameKind;
+use std::alloc::Global;
+use velo_events::Memory;
+use velo_events::growth::reserve;
+use velo_logtext::put_number;
+
+/// Appends bytes.
+fn append(text: &mut Vec<u8>, bytes: &[u8]) -> Result<(), Memory>
+    ensures ok { OnOk result (text.new.items ≡ text.old.items ++ bytes.now) }
+    ensures memory { OnErr result GrowthRefused }
+{
+    reserve(text, bytes.len())?;
+    match text.extend_from_slice(bytes) {
+        Ok(()) => Ok(()),
+        Err(_) => unreachable!(),
+    }
+}
+
+/// Appends the word of a kind.
+fn append_kind(text: &mut Vec<u8>, kind: NameKind) -> Result<(), Memory>
+    ensures ok { OnOk result (text.new.items ≡ text.old.items ++ kind_text kind) }
+    ensures memory { OnErr result GrowthRefused }
+{
+    match kind {
+        NameKind::Thread => append(text, b"thread"),
+        NameKind::Variable => append(text, b"variable"),
+        NameKind::Lock => append(text, b"lock"),
+        NameKind::Label => append(text, b"label"),
+    }
+}
+
+/// Appends the line of a name.
+fn append_line(text: &mut Vec<u8>, kind: NameKind, number: u64, name: &[u8]) -> Result<(), Memory>
+    ensures ok { OnOk result (text.new.items ≡ text.old.items ++ naming_line kind (number, name.now)) }
+    ensures memory { OnErr result GrowthRefused }
+{
+    let mut buffer = [0u8; 20];
+    let end = put_number(&mut buffer, 0, number);
+    append_kind(text, kind)?;
+    append(text, b" ")?;
+    append(text, &buffer[..end])?;
+    append(text, b" ")?;
+    append(text, name)?;
+    append(text, b"\n")
+}
+
+/// Appends a line for each name of a kind, in the order of their numbers from 0 on.
+///
+/// # Errors
+/// `Memory` where a growth was refused.
+pub fn append_names(text: &mut Vec<u8>, kind: NameKind, names: &[String]) -> Result<(), Memory>
+    ensures ok { OnOk result (text.new.items ≡ text.old.items ++ list_text kind (by_place (map string_bytes names.now))) }
+    ensures memory { OnErr result GrowthRefused }
+{
+    for i in 0..names.len() {
+        append_line(text, kind, i as u64, names[i].as_bytes())?;
+    }
+    Ok(())
+}
