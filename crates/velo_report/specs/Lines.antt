@@ -3,7 +3,7 @@ use Rattle.std.specs.Prelude.{◌≡◌, ℕ, List, ◌++◌, codes, decimal, ma
 use Rattle.std.specs.List.{flat_map}
 use Rattle.std.specs.Io.KnownBytes.{Appends}
 use Rattle.velo_report.specs.declared.lines.Word.{Word}
-use Rattle.velo_report.specs.declared.lines.Word.TheVariants.{Text, Number}
+use Rattle.velo_report.specs.declared.lines.Word.TheVariants.{Text, Number, Bytes}
 
 -- ---- what a line is
 
@@ -24,6 +24,7 @@ numbers_line first numbers = line_of first (map decimal numbers)
 abbrev pub word_text : Word → List ℕ
 word_text (Text text) = text.now
 word_text (Number number) = decimal number
+word_text (Bytes bytes) = bytes.now
 
 abbrev pub words_text : List Word → List (List ℕ)
 words_text words = map word_text words

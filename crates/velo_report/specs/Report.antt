@@ -8,19 +8,21 @@ use Rattle.velo_traces.specs.declared.block.Block.{Block}
 use Rattle.velo_logtext.specs.Device.{AppendsBeginning}
 use Rattle.velo_world.specs.declared.analysis.Alarm.{Alarm}
 use Rattle.velo_world.specs.World.{AlarmOf}
+use Rattle.velo_names.specs.declared.kind.NameKind.TheVariants.{Thread, Label}
 use Rattle.velo_report.specs.declared.names.Names.{Names}
 use Rattle.velo_report.specs.Lines.{line_of}
-use Rattle.velo_report.specs.Names.{thread_name, label_word}
+use Rattle.velo_report.specs.Names.{thread_name, label_word, name_behind}
 
 -- ---- how many events there are
 
--- the number of a thread, its name if it has one, and how many events it has
-abbrev pub thread_words : Option (List ℕ) → ℕ → ℕ → List (List ℕ)
-thread_words None t count = decimal t ∷ decimal count ∷ []
-thread_words (Some name) t count = decimal t ∷ name ∷ decimal count ∷ []
+-- The number of a thread and how many events it has. A name of a workload stands between them, one of a file behind them
+abbrev pub thread_words : Option (List ℕ) → Option (List ℕ) → ℕ → ℕ → List (List ℕ)
+thread_words (Some behind) between t count = decimal t ∷ decimal count ∷ behind ∷ []
+thread_words None (Some between) t count = decimal t ∷ between ∷ decimal count ∷ []
+thread_words None None t count = decimal t ∷ decimal count ∷ []
 
 abbrev pub thread_line : Names → List Event → ℕ → List ℕ
-thread_line names log t = line_of (codes "thread") (thread_words (thread_name names t) t (events_of log t))
+thread_line names log t = line_of (codes "thread") (thread_words (name_behind names Thread t) (thread_name names t) t (events_of log t))
 
 -- a line for each thread, from 0 on
 abbrev pub thread_lines : Names → List Event → ℕ → List ℕ
@@ -28,9 +30,13 @@ thread_lines names log threads = flat_map (thread_line names log) (range_with_le
 
 -- ---- the verdict
 
--- the begin of a blamed block, and its label
+-- The begin of a blamed block, and its label, as a word or as a number with the name of a file behind it
+abbrev pub blame_words : Option (List ℕ) → ℕ → ℕ → List ℕ → List (List ℕ)
+blame_words (Some behind) first label word = decimal first ∷ decimal label ∷ behind ∷ []
+blame_words None first label word = decimal first ∷ word ∷ []
+
 abbrev pub blame_line : Names → Block → List ℕ
-blame_line names block = line_of (codes "blame") (decimal block.first ∷ label_word names block.label.0 ∷ [])
+blame_line names block = line_of (codes "blame") (blame_words (name_behind names Label block.label.0) block.first block.label.0 (label_word names block.label.0))
 
 -- a line for each blamed block, in their order
 abbrev pub blame_lines : Names → List Block → List ℕ

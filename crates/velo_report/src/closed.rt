@@ -9,6 +9,7 @@ use crate::lines::{Lines, Word};
 use crate::names::Names;
 use velo_events::ThreadId;
 use velo_logtext::{Sink, WriteFault};
+use velo_names::NameKind;
 use velo_traces::Block;
 use velo_world::{Alarm, Closed};
 
@@ -28,6 +29,13 @@ fn add_thread<S: Sink>(
 {
     let number = u64::from(thread.0);
     let count = closed.tally(thread).events;
+    if let Some(name) = names.behind(NameKind::Thread, u32::from(thread.0)) {
+        return lines.add_line(
+            sink,
+            "thread",
+            &[Word::Number(number), Word::Number(count), Word::Bytes(name)],
+        );
+    }
     match names.of_thread(thread) {
         Some(name) => lines.add_line(
             sink,
@@ -69,10 +77,21 @@ fn add_block<S: Sink>(
     ensures failure { OnErr result (S.failures sink.new ≡ with_failure (S.failures sink.old)) }
 {
     let first = block.first as u64;
+    if let Some(name) = names.behind(NameKind::Label, block.label.0) {
+        let label = u64::from(block.label.0);
+        return lines.add_line(
+            sink,
+            "blame",
+            &[Word::Number(first), Word::Number(label), Word::Bytes(name)],
+        );
+    }
     match names.of_label(block.label) {
         Word::Text(name) => lines.add_line(sink, "blame", &[Word::Number(first), Word::Text(name)]),
         Word::Number(label) => {
             lines.add_line(sink, "blame", &[Word::Number(first), Word::Number(label)])
+        }
+        Word::Bytes(name) => {
+            lines.add_line(sink, "blame", &[Word::Number(first), Word::Bytes(name)])
         }
     }
 }

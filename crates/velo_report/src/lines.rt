@@ -32,6 +32,8 @@ pub(crate) enum Word<'a> {
     Text(&'a str),
     /// The digits of a number.
     Number(u64),
+    /// A name as it stands in a file.
+    Bytes(&'a [u8]),
 }
 
 /// The bytes of lines that are still to be written.
@@ -117,6 +119,7 @@ impl Lines {
     {
         match word {
             Word::Text(text) => self.add(sink, text.as_bytes()),
+            Word::Bytes(bytes) => self.add(sink, bytes),
             Word::Number(number) => {
                 let mut digits = Buffer::new();
                 self.add(sink, digits.format(number).as_bytes())
