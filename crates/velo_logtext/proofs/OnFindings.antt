@@ -6,7 +6,6 @@ use Rattle.std.specs.Io.KnownBytes.{Keeps, prepend_known, IsAtEnd}
 use Rattle.std.proofs.lemmas.Bool.{cases_lt, eqb-true, eq-eqb}
 use Rattle.std.proofs.lemmas.Bool.Decides.{nat_tests}
 use Rattle.std.proofs.lemmas.List.{append-nil, get_or_append_left, nil_from_length}
-use Rattle.velo_events.specs.declared.config.Bounds.{Bounds}
 use Rattle.velo_events.specs.declared.event.Event.{Event}
 use Rattle.velo_logtext.specs.declared.fault.LogFault.{LogFault}
 use Rattle.velo_logtext.specs.declared.fault.LogFault.TheVariants.{BadHeader, BadLine, Truncated, TooLong, Read, Memory}
@@ -52,7 +51,7 @@ newline_found (b ∷ bs) (suc k) lt e =
       | inr not_here ↦ rw (not_here, later) refl
     ]
 
-newline_more : (bytes more : List ℕ) → Contains bytes 10 → Contains (bytes ++ more) 10
+pub newline_more : (bytes more : List ℕ) → Contains bytes 10 → Contains (bytes ++ more) 10
 newline_more bytes more h = (h.0, omega (arith, h.1, length-append bytes more), get_or_append_left bytes more 10 h.0 h.1 ∙ h.2)
 
 newline_behind : (front bytes : List ℕ) → Contains bytes 10 → Contains (front ++ bytes) 10
@@ -67,7 +66,7 @@ newline_of_event e rest =
 -- ---- no event, and no header
 
 -- where no event is taken from enough bytes, none is there, however they go on
-no_event : (shares : Bool) (bytes more : List ℕ) → event_in shares bytes ≡ None → (64 < length bytes) ⊎ (more ≡ []) → HasNoEvent shares (bytes ++ more)
+pub no_event : (shares : Bool) (bytes more : List ℕ) → event_in shares bytes ≡ None → (64 < length bytes) ⊎ (more ≡ []) → HasNoEvent shares (bytes ++ more)
 no_event shares bytes more none enough =
     record {
       none = λ e rest fits same.
@@ -101,7 +100,7 @@ no_header bytes more none enough =
 abbrev pub is_bad : List ℕ → Bool
 is_bad rest = ltb 64 (length rest) || has_newline rest
 
-bad_ended : (rest : List ℕ) → is_bad rest ≡ true → Contains rest 10 ⊎ (64 < length rest)
+pub bad_ended : (rest : List ℕ) → is_bad rest ≡ true → Contains rest 10 ⊎ (64 < length rest)
 bad_ended rest e =
     elim (cases_lt 64 (length rest)) [
       | inl long ↦ inr long
@@ -120,7 +119,7 @@ ended_bad rest (inl h) = let found = newline_found rest h.0 h.1 h.2 in rw found 
 ended_bad rest (inr long) = let test : ltb 64 (length rest) ≡ true = grind (arith, nat_tests) in rw test refl
 
 -- neither long nor with a newline
-not_bad : (rest : List ℕ) → is_bad rest ≡ false → (length rest ≤ 64) × (¬ Contains rest 10)
+pub not_bad : (rest : List ℕ) → is_bad rest ≡ false → (length rest ≤ 64) × (¬ Contains rest 10)
 not_bad rest e = (
   elim (cases_lt 64 (length rest)) [
     | inl long ↦ absurd (let bad = ended_bad rest (inr long) in cc)

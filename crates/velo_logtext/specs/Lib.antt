@@ -3,3 +3,5 @@ pub mod Text
 pub mod Finding
 pub mod Reading
 pub mod Window
+pub mod Reader
+pub mod Front

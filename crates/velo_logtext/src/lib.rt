@@ -11,6 +11,7 @@ mod memory_sink;
 mod memory_source;
 mod numbers;
 mod read;
+mod reader;
 mod words;
 mod write;
 
@@ -23,5 +24,6 @@ pub use memory_sink::Text;
 pub use memory_source::Bytes;
 pub use numbers::number;
 pub use read::read_log;
+pub use reader::LogReader;
 pub use words::after;
 pub use write::{put_kind, write_log};

@@ -17,10 +17,10 @@ use velo_events::{Bounds, MOST_EVENTS, growth};
 use velo_traces::Trace;
 
 /// The most bytes of a line before its newline.
-const LONGEST_LINE: usize = 64;
+pub const LONGEST_LINE: usize = 64;
 
 /// Room for what a read gives at a time, behind less than a line that was left.
-const ROOM: usize = 65_536 + LONGEST_LINE;
+pub const ROOM: usize = 65_536 + LONGEST_LINE;
 
 /// Why no more lines are taken from the bytes at hand.
 #[derive(Clone, Copy)]
@@ -119,7 +119,7 @@ fn fill<S: Source>(source: &mut S, buffer: &mut [u8], filled: Filled) -> Result<
 }
 
 /// Moves the last bytes of those that are there to the front.
-fn keep(buffer: &mut [u8], end: usize, left: usize)
+pub fn keep(buffer: &mut [u8], end: usize, left: usize)
     requires within { end ≤ length buffer.old }
     requires few { left ≤ end }
     ensures { take left buffer.new ≡ drop (end - left) (take end buffer.old) }
