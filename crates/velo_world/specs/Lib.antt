@@ -1,5 +1,6 @@
 pub mod World
 pub mod Faults
+pub mod Recorded
 pub mod Analysis
 pub mod LoggedRun
 pub mod Kept

@@ -5,6 +5,7 @@ mod analysis;
 mod closed;
 mod log_replay;
 mod logged_run;
+mod recorded;
 mod world;
 
 pub use analysis::{Alarm, Reply};

@@ -225,7 +225,7 @@ impl LogReplay {
 
 /// Why the event can't come next, by the heap.
 #[inline]
-fn flaw_in(heap: &Heap, event: &Event) -> Option<Flaw>
+pub fn flaw_in(heap: &Heap, event: &Event) -> Option<Flaw>
     ensures { (trace : List EventOf) → IsHeapOf heap.now trace → result ≡ flaw_of (bounds_of heap.now) trace event.now }
 {
     match heap.refusal(event) {

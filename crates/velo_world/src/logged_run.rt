@@ -57,7 +57,7 @@ impl LoggedRun {
 
     /// Makes room for the event, which may come next.
     #[inline]
-    fn make_room(&mut self, event: &Event) -> Result<(), Refusal>
+    pub fn make_room(&mut self, event: &Event) -> Result<(), Refusal>
         requires stands { FollowsFromItsLog self.old }
         requires follows { MayFollow self.old.config.bounds self.old.log.events event.now }
         requires short { length self.old.log.events < self.old.config.events }
@@ -84,7 +84,7 @@ impl LoggedRun {
 
     /// Takes in the event, which may come next and for which there is room.
     #[inline]
-    fn commit(&mut self, event: Event) -> Reply
+    pub fn commit(&mut self, event: Event) -> Reply
         requires stands { FollowsFromItsLog self.old }
         requires follows { MayFollow self.old.config.bounds self.old.log.events event }
         requires log { 0 < self.old.log.room }

@@ -1,0 +1,15 @@
+use Rattle.std.proofs.Common.{subst, sym}
+use Rattle.velo_events.specs.WellFormed.{MayFollow}
+use Rattle.velo_traces.proofs.OnFlaws.{MayFollow-from_no_flaw}
+use Rattle.velo_world.specs.World.{WorldState}
+use Rattle.velo_world.proofs.OnLoggedRuns.{well_formed-logged}
+use Rattle.velo_world.proofs.logged_run.LoggedRun.replay.Goals as goal
+
+pub make_room-requires-clause-follows : goal.make_room-requires-clause-follows
+make_room-requires-clause-follows c =
+    MayFollow-from_no_flaw _ _ c.args.event.now (well_formed-logged _ c.requires.stands) c.in_ok-judge.ensures.flawless
+
+pub commit-requires-clause-follows : goal.commit-requires-clause-follows
+commit-requires-clause-follows c =
+    subst (λ (w : WorldState). MayFollow w.config.bounds w.log c.args.event.now) (sym c.make_room.ensures.same)
+    (MayFollow-from_no_flaw _ _ c.args.event.now (well_formed-logged _ c.requires.stands) c.in_ok-judge.ensures.flawless)
