@@ -1,0 +1,38 @@
+/* cost [EVENTS [VARIABLES]]: nanoseconds an event, one thread, no lock. */
+#define _POSIX_C_SOURCE 199309L
+#include "velodrome.h"
+#include <stdio.h>
+#include <stdlib.h>
+#include <time.h>
+
+static double now(void) {
+    struct timespec t;
+    clock_gettime(CLOCK_MONOTONIC, &t);
+    return (double)t.tv_sec * 1e9 + (double)t.tv_nsec;
+}
+
+int main(int argc, char **argv) {
+    uint32_t events = argc > 1 ? (uint32_t)strtoul(argv[1], NULL, 10) : 1000000;
+    uint16_t variables = argc > 2 ? (uint16_t)atoi(argv[2]) : 1024;
+    velodrome m = VELODROME_CLOSED_HANDLE;
+    velodrome_answer a;
+    uint32_t status = velodrome_open(&m, 4, variables, 16, VELODROME_MOST_EVENTS, 1024);
+    for (uint8_t child = 1; child < 4; child++) status |= velodrome_fork(&m, 0, child, &a);
+    double start = now();
+    for (uint32_t round = 0; round < events / 8; round++) {
+        uint8_t thread = (uint8_t)(round % 4);
+        uint16_t lock = (uint16_t)(round * 7 % 16);
+        uint16_t x = (uint16_t)(round * 13 % (variables / 16u) * 16u + lock), y = (uint16_t)(round * 31 % (variables / 16u) * 16u + lock);
+        status |= velodrome_begin(&m, thread, round % 9, &a);
+        status |= velodrome_acquire(&m, thread, lock, &a);
+        status |= velodrome_read(&m, thread, x, &a);
+        status |= velodrome_write(&m, thread, x, round, &a);
+        status |= velodrome_read(&m, thread, y, &a);
+        status |= velodrome_write(&m, thread, y, round, &a);
+        status |= velodrome_release(&m, thread, lock, &a);
+        status |= velodrome_end(&m, thread, &a);
+    }
+    double each = (now() - start) / (events / 8 * 8);
+    printf("%.1f ns an event, %u events, %u variables, alarm %d\n", each, events / 8 * 8, variables, a.alarmed);
+    return status != 0 || velodrome_close(&m) != 0;
+}

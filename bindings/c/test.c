@@ -1,0 +1,75 @@
+/* What no contract says: that the header, the layout of its structs and the linked library fit together. */
+#include "velodrome.h"
+#include <stdio.h>
+#include <string.h>
+
+static int failed;
+static void expect(const char *what, uint64_t got, uint64_t wanted) {
+    if (got == wanted) return;
+    printf("%s: got %llu, wanted %llu\n", what, (unsigned long long)got, (unsigned long long)wanted);
+    failed = 1;
+}
+
+int main(void) {
+    velodrome m;
+    memset(&m, 0, sizeof m);
+    velodrome_answer a = {77, 78, true};
+    velodrome_summary s = {1, 2, 3, 4, true};
+
+    /* A closed handle answers so to every call, and what was to be answered is as it was. */
+    expect("closed read", velodrome_read(&m, 0, 0, &a), VELODROME_CLOSED);
+    expect("closed verdict", velodrome_verdict(&m, &s), VELODROME_CLOSED);
+    expect("closed close", velodrome_close(&m), VELODROME_CLOSED);
+    expect("answer kept", a.position, 77);
+    expect("summary kept", s.blamed, 4);
+
+    expect("no thread", velodrome_open(&m, 0, 1, 0, 10, 1), VELODROME_BAD_NUMBER);
+    expect("too many nodes", velodrome_open(&m, 1, 1, 0, 10, 4097), VELODROME_BAD_NUMBER);
+    expect("open", velodrome_open(&m, 3, 2, 2, 12, 64), VELODROME_DONE);
+    expect("open twice", velodrome_open(&m, 3, 2, 2, 12, 64), VELODROME_ALREADY_OPEN);
+
+    /* Each kind of event once, and most refusals. */
+    expect("not live", velodrome_read(&m, 1, 0, &a), VELODROME_NOT_LIVE);
+    expect("fork", velodrome_fork(&m, 0, 1, &a), 0);
+    expect("position", a.position, 0);
+    expect("fork again", velodrome_fork(&m, 0, 1, &a), VELODROME_ALREADY_FORKED);
+    expect("no such thread", velodrome_fork(&m, 0, 3, &a), VELODROME_NO_SUCH_THREAD);
+    expect("write", velodrome_write(&m, 0, 1, 18446744073709551615ull, &a), 0);
+    expect("read", velodrome_read(&m, 1, 1, &a), 0);
+    expect("value", a.value, 18446744073709551615ull);
+    expect("position", a.position, 2);
+    expect("no such variable", velodrome_read(&m, 1, 2, &a), VELODROME_NO_SUCH_VARIABLE);
+    expect("acquire", velodrome_acquire(&m, 0, 0, &a), 0);
+    expect("busy", velodrome_acquire_shared(&m, 1, 0, &a), VELODROME_BUSY);
+    expect("already held", velodrome_acquire(&m, 0, 0, &a), VELODROME_ALREADY_HELD);
+    expect("not holder", velodrome_release(&m, 1, 0, &a), VELODROME_NOT_HOLDER);
+    expect("release", velodrome_release(&m, 0, 0, &a), 0);
+    expect("acquire shared", velodrome_acquire_shared(&m, 0, 1, &a), 0);
+    expect("acquire shared", velodrome_acquire_shared(&m, 1, 1, &a), 0);
+    expect("lock held", velodrome_exit(&m, 1, &a), VELODROME_LOCK_HELD);
+    expect("release shared", velodrome_release_shared(&m, 1, 1, &a), 0);
+    expect("begin", velodrome_begin(&m, 1, 4294967295u, &a), 0);
+    expect("block open", velodrome_exit(&m, 1, &a), VELODROME_BLOCK_OPEN);
+    expect("end", velodrome_end(&m, 1, &a), 0);
+    expect("no open block", velodrome_end(&m, 1, &a), VELODROME_NO_OPEN_BLOCK);
+    expect("not exited", velodrome_join(&m, 0, 1, &a), VELODROME_NOT_EXITED);
+    expect("exit", velodrome_exit(&m, 1, &a), 0);
+    expect("join", velodrome_join(&m, 0, 1, &a), 0);
+    expect("log full", velodrome_read(&m, 0, 0, &a), VELODROME_LOG_FULL);
+
+    expect("verdict", velodrome_verdict(&m, &s), 0);
+    expect("events", s.events, 12);
+    expect("clean", s.alarmed, 0);
+    expect("blamed", s.blamed, 0);
+    expect("close", velodrome_close(&m), 0);
+    expect("close again", velodrome_close(&m), VELODROME_CLOSED);
+
+    /* Opened and closed again and again: a checker of leaks sees what is left. */
+    for (int i = 0; i < 1000; i++) {
+        expect("open", velodrome_open(&m, 2, 16, 4, 1000, 64), 0);
+        expect("write", velodrome_write(&m, 0, (uint16_t)(i % 16), 1, &a), 0);
+        expect("close", velodrome_close(&m), 0);
+    }
+    puts(failed ? "failed" : "passed");
+    return failed;
+}

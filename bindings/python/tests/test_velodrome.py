@@ -1,0 +1,84 @@
+"""What the library's contracts cannot say: names, threads, guards and errors of the binding."""
+import threading
+import unittest
+
+from velodrome import Monitor, Refused
+
+
+class Binding(unittest.TestCase):
+    def test_clean_under_a_lock(self):
+        with Monitor(threads=3) as monitor:
+            x, lock = monitor.shared('x', 0), monitor.lock('m')
+
+            def work():
+                for _ in range(50):
+                    with monitor.atomic('add'), lock:
+                        x.set(x.get() + 1)
+
+            threads = [monitor.spawn(work) for _ in range(2)]
+            for thread in threads:
+                thread.join()
+            self.assertEqual(x.get(), 100)
+            verdict = monitor.verdict()
+            self.assertFalse(verdict.alarmed)
+            self.assertEqual(verdict.events, 2 + 2 * 50 * 6 + 2 + 2 + 1)
+
+    def test_names(self):
+        with Monitor() as monitor:
+            monitor.shared('x')
+            monitor.lock('m')
+            with monitor.atomic('b'), monitor.atomic('a'):
+                pass
+            with monitor.atomic('b'):
+                pass
+            self.assertEqual(monitor.names(), 'label 0 b\nlabel 1 a\nvariable 0 x\nlock 0 m\n')
+
+    def test_refusals_change_nothing(self):
+        with Monitor(threads=1, variables=1, locks=1, events=2) as monitor:
+            for status, call in [(9, lambda: monitor.event('end')), (5, lambda: monitor.spawn(print)),
+                                 (3, lambda: monitor.event('read', 1)), (102, lambda: [monitor.shared('x'), monitor.shared('y')])]:
+                with self.assertRaises(Refused) as raised:
+                    call()
+                self.assertEqual(raised.exception.status, status)
+            self.assertEqual(monitor.verdict().events, 0)
+
+    def test_block_ends_at_an_exception(self):
+        with Monitor() as monitor:
+            with self.assertRaises(KeyError):
+                with monitor.atomic('b'):
+                    raise KeyError
+            self.assertEqual(monitor.verdict().events, 2)
+
+    def test_foreign_thread(self):
+        with Monitor() as monitor:
+            statuses = []
+
+            def work():
+                try:
+                    monitor.event('end')
+                except Refused as refused:
+                    statuses.append(refused.status)
+
+            thread = threading.Thread(target=work)
+            thread.start()
+            thread.join()
+            self.assertEqual(statuses, [2])
+
+    def test_failure_is_handed_on(self):
+        with Monitor() as monitor:
+            with self.assertRaises(ZeroDivisionError):
+                monitor.spawn(lambda: 1 // 0).join()
+
+    def test_closed(self):
+        monitor = Monitor()
+        monitor.close()
+        monitor.close()
+        with self.assertRaises(Refused) as raised:
+            monitor.verdict()
+        self.assertEqual(raised.exception.status, 100)
+        with self.assertRaises(Refused):
+            Monitor(threads=65)
+
+
+if __name__ == '__main__':
+    unittest.main()

@@ -1,0 +1,71 @@
+//! What the library's contracts cannot say: names, guards, threads and errors of the wrappers.
+use std::sync::Arc;
+use velodrome::{Event, Monitor, Mutex, Refused, RwLock, Shared};
+
+#[test]
+fn events_of_two_threads() {
+    let monitor = Monitor::open(3, 1, 1, 10_000, 64).unwrap();
+    let x = Arc::new(Shared::new(&monitor, "x", 0));
+    let m = Arc::new(Mutex::new(&monitor, "m", 0));
+    let work = || {
+        let (monitor, x, m) = (monitor.clone(), x.clone(), m.clone());
+        move || {
+            for _ in 0..50 {
+                let _block = monitor.atomic("add");
+                *m.lock() += 1;
+                let _held = m.lock();
+                x.set(x.get() + 1);
+            }
+        }
+    };
+    let threads = [monitor.spawn(work()).unwrap(), monitor.spawn(work()).unwrap()];
+    for thread in threads {
+        thread.join().unwrap();
+    }
+    assert_eq!((x.get(), *m.lock()), (100, 100));
+    assert_eq!(monitor.verdict().unwrap().events, 2 + 2 * 50 * 8 + 2 + 2 + 3);
+}
+
+#[test]
+fn readers_share() {
+    let monitor = Monitor::open(1, 0, 1, 100, 64).unwrap();
+    let lock = RwLock::new(&monitor, "l", 7);
+    assert_eq!(*lock.read(), 7);
+    *lock.write() = 8;
+    assert_eq!(*lock.read(), 8);
+    assert_eq!(monitor.verdict().unwrap().events, 6);
+    assert!(!monitor.verdict().unwrap().alarmed);
+}
+
+#[test]
+fn names() {
+    let monitor = Monitor::open(1, 2, 1, 100, 64).unwrap();
+    let _x = Shared::new(&monitor, "x", 0);
+    let _again = Shared::new(&monitor, "x", 0);
+    let _y = Shared::new(&monitor, "y", 0);
+    drop(monitor.atomic("b"));
+    assert_eq!(monitor.names(), "label 0 b\nvariable 0 x\nvariable 1 y\n");
+}
+
+#[test]
+fn refusals() {
+    let monitor = Monitor::open(1, 1, 1, 100, 64).unwrap();
+    assert_eq!(monitor.event(Event::End, || ()).unwrap_err(), Refused(9));
+    assert_eq!(monitor.spawn(|| ()).err(), Some(Refused(5)));
+    assert_eq!(Monitor::open(65, 1, 1, 100, 64).err(), Some(Refused(102)));
+    let foreign = monitor.clone();
+    assert_eq!(std::thread::spawn(move || foreign.thread()).join().unwrap(), Err(Refused(2)));
+    assert_eq!(monitor.verdict().unwrap().events, 0);
+}
+
+#[test]
+fn block_ends_at_a_panic() {
+    let monitor = Monitor::open(1, 1, 1, 100, 64).unwrap();
+    let theirs = std::panic::AssertUnwindSafe(&monitor);
+    let panicked = std::panic::catch_unwind(|| {
+        let _block = theirs.atomic("b");
+        panic!("as the test wants");
+    });
+    assert!(panicked.is_err());
+    assert_eq!(monitor.verdict().unwrap().events, 2);
+}

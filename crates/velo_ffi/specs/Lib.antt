@@ -1,0 +1,4 @@
+pub mod Watch
+pub mod Inside
+pub mod Kept
+pub mod Answers

@@ -1,0 +1,57 @@
+//! What is answered to a caller.
+
+/// What an event came to.
+#[repr(C)]
+#[derive(Drop, Clone, Copy)]
+pub struct Answer {
+    /// The position of the event in the log.
+    pub position: u64,
+    /// The value that a read read, else 0.
+    pub value: u64,
+    /// Whether there is an alarm after it.
+    pub alarmed: bool,
+}
+
+/// The verdict so far.
+#[repr(C)]
+#[derive(Drop, Clone, Copy)]
+pub struct Verdict {
+    /// How many events there are.
+    pub events: u64,
+    /// The position of the first event that closed a cycle, if there is an alarm, else 0.
+    pub position: u64,
+    /// The first position of its transaction, else 0.
+    pub transaction: u64,
+    /// How many blocks are to blame.
+    pub blamed: u64,
+    /// Whether there is an alarm.
+    pub alarmed: bool,
+}
+
+/// A block to blame.
+#[repr(C)]
+#[derive(Drop, Clone, Copy)]
+pub struct Blamed {
+    /// The position of its begin.
+    pub first: u64,
+    /// The label of its begin.
+    pub label: u32,
+}
+
+/// Done.
+pub const DONE: u32 = 0;
+
+/// The handle is closed.
+pub const CLOSED: u32 = 100;
+
+/// The handle is open already.
+pub const ALREADY_OPEN: u32 = 101;
+
+/// A number is out of its range.
+pub const BAD_NUMBER: u32 = 102;
+
+/// A growth was refused.
+pub const NO_MEMORY: u32 = 103;
+
+/// The buffer is too short. It is as it was.
+pub const TOO_SHORT: u32 = 104;

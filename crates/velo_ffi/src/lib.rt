@@ -1,0 +1,11 @@
+//! What programs in other languages call: a monitor that they keep by a handle, and one call for each event.
+#![tactic(auto)]
+
+mod answers;
+mod events;
+mod held;
+mod kept;
+mod live;
+mod monitor;
+mod verdicts;
+mod watch;
