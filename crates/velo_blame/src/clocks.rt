@@ -96,6 +96,7 @@ impl Clocks {
 
     /// Notes the event at the position, which comes next in the trace whose clocks these are. The position has to be
     /// below 2^32 - 1, and there has to be room, as after `reserve_for`. It takes no memory.
+    #[inline(always)]
     pub fn note(&mut self, position: usize, event: &Event)
         requires room { HasRoomToNote self.old.bounds.threads self.old.state event.now }
         requires fits { position + 1 < 2 ^ 32 }

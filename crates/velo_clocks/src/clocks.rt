@@ -81,7 +81,7 @@ impl ClockTables {
 
     /// Notes the event at the position, which has to be below 2^32 - 1. There has to be room for it, as after
     /// `reserve_for`.
-    #[inline]
+    #[inline(always)]
     pub fn note(&mut self, position: u32, event: &Event)
         requires room { HasRoomToNote (length self.old.threads) self.old event.now }
         requires fits { position + 1 < 2 ^ 32 }

@@ -149,6 +149,7 @@ impl Monitor {
     /// The position has to be the number of the events before it, below [`MOST_EVENTS`](velo_events::MOST_EVENTS), and
     /// the event one that may follow them. There has to be room for it, as after `reserve`, and a free slot where
     /// `needs_node` says so.
+    #[inline(always)]
     pub fn observe(&mut self, position: usize, event: &Event) -> Seen
         requires { IsNext self.old position event.now }
         ensures limit { limit_of self.new.nodes.slots ≡ limit_of self.old.nodes.slots }
@@ -234,6 +235,7 @@ impl Monitor {
     }
 
     /// Forgets what a write need not look up: the last reads of its cell whose nodes are gone.
+    #[inline(always)]
     fn forget_dead(&mut self, event: &Event)
         ensures forgets { ForgetsDead self.old.nodes self.old.kept self.new.kept }
         ensures nodes { self.new.nodes ≡ self.old.nodes }
@@ -271,6 +273,7 @@ impl Monitor {
     }
 
     /// Takes in the next event, unless it closes a cycle.
+    #[inline(always)]
     fn take_in(&mut self, position: usize, event: &Event) -> Seen
         requires { IsNext self.old position event.now }
         ensures limit { limit_of self.new.nodes.slots ≡ limit_of self.old.nodes.slots }
@@ -288,6 +291,7 @@ impl Monitor {
     }
 
     /// Takes in an event of a thread that has blocks open, unless it closes a cycle.
+    #[inline(always)]
     fn observe_inside(&mut self, event: &Event) -> Seen
         requires room { HasRoomFor self.old.kept event.now }
         requires sound { IsSound self.old.nodes }
@@ -311,6 +315,7 @@ impl Monitor {
     }
 
     /// Adds the event's edges into the node of the step, unless one of them closes a cycle.
+    #[inline(always)]
     fn closes_or_extends(&mut self, event: &Event, own: Step) -> bool
         requires current { entry self.old.kept (LastOf (thread_of event.now)) ≡ Some own }
         requires borne { Bears self.old.nodes own.slot own.stamp }
@@ -333,6 +338,7 @@ impl Monitor {
 
     /// Adds the edges from the nodes of the cell's last accesses but the own one into this, unless one of them closes a
     /// cycle.
+    #[inline(always)]
     fn closes_or_follows(&mut self, cell: Cell, own: Step) -> bool
         requires borne { Bears self.old.nodes own.slot own.stamp }
         requires sound { IsSound self.old.nodes }
@@ -352,6 +358,7 @@ impl Monitor {
     }
 
     /// Counts a begin or an end inside a block. The end of the outermost one finishes its node.
+    #[inline(always)]
     fn count_blocks(&mut self, event: &Event, own: Step)
         requires borne { Bears self.old.nodes own.slot own.stamp }
         requires nothing { HasNothingLeft self.old.nodes }

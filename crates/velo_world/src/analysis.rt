@@ -134,7 +134,7 @@ impl Analysis {
     ///
     /// # Errors
     /// `Memory` where a growth was refused. What follows from the events is as before then.
-    #[inline]
+    #[inline(always)]
     pub fn reserve_for(&mut self, event: &Event) -> Result<(), Memory>
         ensures heap { self.new.heap ≡ self.old.heap }
         ensures nodes { self.new.monitor.nodes ≡ self.old.monitor.nodes }
@@ -174,7 +174,7 @@ impl Analysis {
     }
 
     /// Takes in the event at the position, which may follow those before it and for which there is room.
-    #[inline]
+    #[inline(always)]
     pub fn take_in(&mut self, events: &[Event], position: usize, event: &Event)
         requires here { slice_get events.now position ≡ Some event.now }
         requires next { ComesNext self.old (take position events.now) event.now }
@@ -188,7 +188,7 @@ impl Analysis {
     }
 
     /// Lets monitor and clocks see the event, unless an alarm is kept already, and raises the alarm if it closes a cycle.
-    #[inline]
+    #[inline(always)]
     fn watch(&mut self, events: &[Event], position: usize, event: &Event)
         requires here { slice_get events.now position ≡ Some event.now }
         requires next { ComesNext self.old (take position events.now) event.now }
