@@ -24,7 +24,7 @@ check_is_right : faults_of check_words ≡ []
 unfolding faults_of walk_fault walked defaults_fault
 check_is_right = refl
 
-check_asks : (options : CheckOptions) → options.log.now ≡ codes "a" → options.limits.events ≡ 1048576 → options.limits.nodes ≡ 1024 → options.certificate ≡ false
+check_asks : (options : CheckOptions) → options.input.now ≡ codes "a" → options.limits.events ≡ 1048576 → options.limits.nodes ≡ 1024 → options.certificate ≡ false
     → AsksFor (asked_by check_words) (Check options)
 unfolding asked_by walked
 check_asks options log events nodes certificate = (refl, (ap Some (sym log), search rules, search rules))
@@ -37,7 +37,7 @@ run_is_right : faults_of run_words ≡ []
 unfolding faults_of walk_fault walked defaults_fault
 run_is_right = refl
 
-run_asks : (options : RunOptions) → options.file.now ≡ codes "w" → options.stop ≡ true → option_map (λ path. path.now) options.log ≡ Some (codes "o")
+run_asks : (options : RunOptions) → options.input.now ≡ codes "w" → options.stop ≡ true → option_map (λ path. path.now) options.target ≡ Some (codes "o")
     → options.limits.events ≡ 5 → options.limits.nodes ≡ 2 → options.certificate ≡ true → AsksFor (asked_by run_words) (Run options)
 unfolding asked_by walked
 run_asks options file stop log events nodes certificate = (refl, (ap Some (sym file), search rules, sym log, search rules, search rules))
@@ -50,7 +50,7 @@ replay_is_right : faults_of replay_words ≡ []
 unfolding faults_of walk_fault walked defaults_fault
 replay_is_right = refl
 
-replay_asks : (options : ReplayOptions) → options.schedule.now ≡ codes "0 1" → options.run.file.now ≡ codes "-" → options.run.stop ≡ false → options.run.log ≡ None
+replay_asks : (options : ReplayOptions) → options.schedule.now ≡ codes "0 1" → options.run.input.now ≡ codes "-" → options.run.stop ≡ false → options.run.target ≡ None
     → options.run.limits.events ≡ 1048576 → options.run.limits.nodes ≡ 1024 → options.run.certificate ≡ false
     → AsksFor (asked_by replay_words) (Replay options)
 unfolding asked_by walked
@@ -67,7 +67,7 @@ explain_is_right : faults_of explain_words ≡ []
 unfolding faults_of walk_fault walked defaults_fault
 explain_is_right = refl
 
-explain_asks : (options : ExplainOptions) → options.log.now ≡ codes "a" → option_map (λ path. path.now) options.dot ≡ Some (codes "p")
+explain_asks : (options : ExplainOptions) → options.input.now ≡ codes "a" → option_map (λ path. path.now) options.target ≡ Some (codes "p")
     → AsksFor (asked_by explain_words) (Explain options)
 unfolding asked_by walked
 explain_asks options log dot = (refl, (ap Some (sym log), sym dot))
@@ -80,7 +80,7 @@ carry_is_right : faults_of carry_words ≡ []
 unfolding faults_of walk_fault walked defaults_fault
 carry_is_right = refl
 
-carry_asks : (options : CarryOptions) → options.log.now ≡ codes "a" → options.out.now ≡ codes "b" → AsksFor (asked_by carry_words) (Carry options)
+carry_asks : (options : CarryOptions) → options.input.now ≡ codes "a" → options.target.now ≡ codes "b" → AsksFor (asked_by carry_words) (Carry options)
 unfolding asked_by walked
 carry_asks options log out = (refl, (ap Some (sym log), ap Some (sym out)))
 

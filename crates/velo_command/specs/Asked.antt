@@ -32,14 +32,14 @@ AreLimits rows limits =
 
 abbrev pub IsCheck : List Row → CheckOptions → Type 0
 IsCheck rows options =
-    (first_of (codes "LOG") rows ≡ Some options.log.now) × AreLimits rows options.limits
+    (first_of (codes "LOG") rows ≡ Some options.input.now) × AreLimits rows options.limits
     × IsFlag (one_of (codes "certificate") rows) options.certificate
 
 abbrev pub IsRun : List Row → RunOptions → Type 0
 IsRun rows options =
-    (first_of (codes "FILE") rows ≡ Some options.file.now)
+    (first_of (codes "FILE") rows ≡ Some options.input.now)
     × IsFlag (one_of (codes "stop") rows) options.stop
-    × (first_of (codes "log") rows ≡ option_map (λ path. path.now) options.log)
+    × (first_of (codes "log") rows ≡ option_map (λ path. path.now) options.target)
     × AreLimits rows options.limits × IsFlag (one_of (codes "certificate") rows) options.certificate
 
 -- no schedule is the empty one
@@ -50,13 +50,13 @@ IsReplay rows options =
 
 abbrev pub IsExplanation : List Row → ExplainOptions → Type 0
 IsExplanation rows options =
-    (first_of (codes "LOG") rows ≡ Some options.log.now)
-    × (first_of (codes "dot") rows ≡ option_map (λ path. path.now) options.dot)
+    (first_of (codes "LOG") rows ≡ Some options.input.now)
+    × (first_of (codes "dot") rows ≡ option_map (λ path. path.now) options.target)
 
 abbrev pub IsCarrying : List Row → CarryOptions → Type 0
 IsCarrying rows options =
-    (first_of (codes "LOG") rows ≡ Some options.log.now)
-    × (first_of (codes "log") rows ≡ Some options.out.now)
+    (first_of (codes "LOG") rows ≡ Some options.input.now)
+    × (first_of (codes "log") rows ≡ Some options.target.now)
 
 -- a subcommand by its name, with the values of its arguments
 abbrev pub Asked : Type 0

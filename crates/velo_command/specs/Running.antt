@@ -17,9 +17,9 @@ pub record DoesRequest (asked : Asked) (store : Store) (console : Console) : Typ
   pub request : Request
   pub fate : Fate
   pub asks : AsksFor asked request
-  pub done : Does store request console.out fate
+  pub done : Does store request console.stdout fate
   pub cause : AnswersWithCause request fate
-  pub ended : Ends fate console.err console.status
+  pub ended : Ends fate console.stderr console.status
 
 -- one of the faults of the words was told, by some text; help and the version are among them
 pub record TellsFault (words : List Text) (console : Console) : Type 0 where

@@ -18,21 +18,21 @@ not_utf8 = codes "error: a word of the command line is not UTF-8\n"
 -- Standard output and standard error, before and after a run of the program; whether the first is as it was; and the status
 -- that the program ends with.
 pub record Console : Type 1 where
-  pub out : Writing
+  pub stdout : Writing
   pub is_kept : Type 0
-  pub err : Writing
+  pub stderr : Writing
   pub status : ℕ
 
 abbrev pub console_of : Type 0 → Writing → Writing → ℕ → Console
-console_of is_kept out err status =
-    record { out = out; is_kept = is_kept; err = err; status = status }
+console_of is_kept stdout stderr status =
+    record { stdout = stdout; is_kept = is_kept; stderr = stderr; status = status }
 
 -- the text went to standard output, and the end is a good one without a line; or it broke off, and the end is that of a
 -- failed write
 abbrev pub ShowsHelp : Console → List ℕ → Type 0
 ShowsHelp console text =
-    (Writes console.out text × Closes 0 [] console.err console.status)
-    ⊎ (BreaksOff console.out text × Ends WriteFailed console.err console.status)
+    (Writes console.stdout text × Closes 0 [] console.stderr console.status)
+    ⊎ (BreaksOff console.stdout text × Ends WriteFailed console.stderr console.status)
 
 -- an error of this kind was told by this text: help and the version were shown; behind any other one standard output is as it
 -- was, and the text is the line that the program ends with. Want of memory is told otherwise
@@ -40,13 +40,13 @@ abbrev pub TellsError : ErrorKind → List ℕ → Console → Type 0
 TellsError DisplayHelp text console = ShowsHelp console text
 TellsError DisplayVersion text console = ShowsHelp console text
 TellsError OutOfMemory text console = ⊥
-TellsError kind text console = console.is_kept × Closes bad_usage text console.err console.status
+TellsError kind text console = console.is_kept × Closes bad_usage text console.stderr console.status
 
 -- a growth was refused, standard output is as it was, and the end is that of want of memory
 pub record LacksMemory (console : Console) : Type 0 where
   pub refused : GrowthRefused
   pub kept : console.is_kept
-  pub ended : Ends Memory console.err console.status
+  pub ended : Ends Memory console.stderr console.status
 
 -- an error of this kind was told, by some text; or memory ran out before
 abbrev pub Tells : ErrorKind → Console → Type 0

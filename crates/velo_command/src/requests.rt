@@ -35,7 +35,7 @@ fn check_options<'a>(found: &ArgMatches<'a>) -> Option<CheckOptions<'a>>
         → ¬ IsCheck (rows_of (found_of found.now)) options) }
 {
     Some(CheckOptions {
-        log: found.get_str("LOG")?,
+        input: found.get_str("LOG")?,
         limits: limits_of(found)?,
         certificate: found.get_flag("certificate"),
     })
@@ -58,9 +58,9 @@ fn run_options<'a>(found: &ArgMatches<'a>) -> Option<RunOptions<'a>>
         → ¬ IsRun (rows_of (found_of found.now)) options) }
 {
     Some(RunOptions {
-        file: found.get_str("FILE")?,
+        input: found.get_str("FILE")?,
         stop: found.get_flag("stop"),
-        log: found.get_str("log"),
+        target: found.get_str("log"),
         limits: limits_of(found)?,
         certificate: found.get_flag("certificate"),
     })
@@ -72,8 +72,8 @@ fn explain_options<'a>(found: &ArgMatches<'a>) -> Option<ExplainOptions<'a>>
         → ¬ IsExplanation (rows_of (found_of found.now)) options) }
 {
     Some(ExplainOptions {
-        log: found.get_str("LOG")?,
-        dot: found.get_str("dot"),
+        input: found.get_str("LOG")?,
+        target: found.get_str("dot"),
     })
 }
 
@@ -83,8 +83,8 @@ fn carry_options<'a>(found: &ArgMatches<'a>) -> Option<CarryOptions<'a>>
         → ¬ IsCarrying (rows_of (found_of found.now)) options) }
 {
     Some(CarryOptions {
-        log: found.get_str("LOG")?,
-        out: found.get_str("log")?,
+        input: found.get_str("LOG")?,
+        target: found.get_str("log")?,
     })
 }
 

@@ -1,4 +1,3 @@
 pub mod OnPieces
 pub mod OnEvidence
-pub mod OnWriting
 pub mod OnReasons

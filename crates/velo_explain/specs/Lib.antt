@@ -4,4 +4,3 @@ pub mod Evidence
 pub mod Text
 pub mod Picture
 pub mod Count
-pub mod Faults

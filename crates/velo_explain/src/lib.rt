@@ -5,13 +5,12 @@
 mod count;
 mod drawing;
 mod evidence;
-mod fault;
 mod pieces;
 mod spans;
 mod words;
 mod writing;
 
 pub use evidence::{Blame, Evidence, evidence_of};
-pub use fault::ExplainFault;
+pub use pieces::Page;
 pub use spans::Span;
 pub use writing::{explain, explain_clean, picture};

@@ -25,9 +25,9 @@ pub(crate) enum Piece<'a> {
     Lines(u64, u64),
 }
 
-/// Text that grows.
+/// A whole text, which was made in memory.
 #[derive(Drop)]
-pub(crate) struct Page {
+pub struct Page {
     bytes: Vec<u8>,
 }
 
@@ -41,7 +41,7 @@ impl Model for Page {
 
 impl Page {
     /// No text yet.
-    pub fn new(alloc: Global) -> Page
+    pub(crate) fn new(alloc: Global) -> Page
         ensures { result ≡ [] }
     {
         Page {
@@ -141,7 +141,7 @@ impl Page {
     ///
     /// # Errors
     /// `Memory` where a growth was refused.
-    pub fn add(&mut self, pieces: &[Piece]) -> Result<(), Memory>
+    pub(crate) fn add(&mut self, pieces: &[Piece]) -> Result<(), Memory>
         ensures ok { OnOk result (self.new ≡ self.old ++ pieces_text pieces.now) }
         ensures memory { OnErr result GrowthRefused }
     {

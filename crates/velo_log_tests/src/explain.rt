@@ -5,8 +5,7 @@ use std::process::Abort;
 use std::test::Fail;
 use velo_certify::{CertFault, serial_order};
 use velo_events::{Event, Label};
-use velo_explain::{Evidence, ExplainFault, evidence_of, explain, explain_clean, picture};
-use velo_logtext::Text;
+use velo_explain::{Evidence, evidence_of, explain, explain_clean, picture};
 use velo_traces::{Block, Trace};
 
 /// A log with its alarm, and what is to be written.
@@ -30,11 +29,9 @@ fn block(first: usize, label: u32) -> Block {
 fn compare(rt: &impl Abort, alloc: Global, trace: &Trace, known: &Known) -> Result<(), Fail> {
     assert!(rt; trace.len() < 100);
     let evidence = evidence_of(alloc, trace, known.position, known.blamed)?;
-    let mut words = Text::new(alloc);
-    explain(alloc, trace, known.position, &evidence, &mut words)?;
+    let words = explain(alloc, trace, known.position, &evidence)?;
     assert_eq!(rt; words.as_slice(), known.text.as_bytes());
-    let mut drawn = Text::new(alloc).in_steps(3);
-    picture(alloc, trace, known.position, &evidence, &mut drawn)?;
+    let drawn = picture(alloc, trace, known.position, &evidence)?;
     assert_eq!(rt; drawn.as_slice(), known.picture.as_bytes());
     Ok(())
 }
@@ -220,11 +217,10 @@ fn clean_log(rt: HostRuntime) -> Result<(), Fail> {
         end(0),
     ];
     let trace = trace_of(rt.alloc(), &events)?;
-    let mut words = Text::new(rt.alloc());
-    match serial_order(rt.alloc(), &trace) {
-        Ok(_) => explain_clean(rt.alloc(), &trace, &mut words)?,
+    let words = match serial_order(rt.alloc(), &trace) {
+        Ok(_) => explain_clean(rt.alloc(), &trace)?,
         Err(_) => panic!(&rt; "no serial order"),
-    }
+    };
     let wanted = "\
 The blocks of this log can be serialized.
 Events: 5
@@ -247,10 +243,5 @@ fn faults(rt: HostRuntime) -> Result<(), Fail> {
     assert!(&rt; trace.len() < 100);
     assert!(&rt; evidence_of(rt.alloc(), &trace, 3, &[]).err() == Some(CertFault::NoCycle));
     assert!(&rt; evidence_of(rt.alloc(), &trace, 5, &[]).err() == Some(CertFault::NotThere));
-    let evidence = evidence_of(rt.alloc(), &trace, 4, &[])?;
-    let mut words = Text::new(rt.alloc()).failing_after(10);
-    let answer = explain(rt.alloc(), &trace, 4, &evidence, &mut words);
-    assert_eq!(&rt; answer, Err(ExplainFault::Write));
-    assert_eq!(&rt; words.as_slice(), b"The blocks".as_slice());
     Ok(())
 }

@@ -29,18 +29,18 @@ use Rattle.velo_program.specs.declared.schedule.ScheduleFault.{ScheduleFault}
 use Rattle.velo_program.specs.declared.schedule.ScheduleFault.TheVariants as schedule_fault
 use Rattle.velo_worker.specs.declared.ending.Ending.{Ending}
 use Rattle.velo_worker.specs.declared.ending.Ending.TheVariants as ending
-use Rattle.velo_worker.specs.Causes.{EndsByGrowth, EndsWithCause, RefusedByGrowth}
+use Rattle.velo_worker.specs.Causes.{RefusedByGrowth}
 use Rattle.velo_workload.specs.Program.{Program}
 use Rattle.velo_workload.specs.declared.fault.WorkFault.TheVariants as work_fault
 use Rattle.velo_world.specs.World.{WorldState}
-use Rattle.velo_program.specs.Causes.{AnswersWithCause, CheckByGrowth, ComesByGrowth, ComesTo, LogByGrowth, ScheduleByGrowth}
-use Rattle.velo_program.specs.Carrying.{IsCarryAnswer}
+use Rattle.velo_program.specs.Causes.{AnswersWithCause, CheckByGrowth, ComesByRefusal, EndsByRefusal, Growths, GrowthsAndStarts, LogByGrowth, Needs, ScheduleByGrowth}
+use Rattle.velo_program.specs.Carrying.{IsCarryAnswer, IsPut}
 use Rattle.velo_program.specs.Check.{IsCheckAnswer, IsFaultOfInput}
-use Rattle.velo_program.specs.Delivery.{Answer, IsDelivered, IsTold, LacksMemory, silent}
+use Rattle.velo_program.specs.Delivery.{Answer, IsDelivered, LacksMemory, silent}
 use Rattle.velo_program.specs.Disk.{Disk, IsBarred, Store}
-use Rattle.velo_program.specs.Explaining.{ComesOut, IsExplanation}
-use Rattle.velo_program.specs.Playing.{ByThreads, ByTurns, IsEndAnswer, IsPlayAnswer, IsRunOf, IsUnread, Play, is_unreported}
-use Rattle.velo_program.specs.Program.{Does}
+use Rattle.velo_program.specs.Explaining.{IsExplanation}
+use Rattle.velo_program.specs.Playing.{ByThreads, ByTurns, IsRunReport, IsPlayAnswer, IsRunOf, IsUnread, Play, is_unreported}
+use Rattle.velo_program.specs.Program.{Does, DoesPlay}
 use Rattle.velo_program.specs.Schedule.{IsFaultOfSchedule}
 use Rattle.velo_program.specs.Writing.{Writing}
 
@@ -87,31 +87,31 @@ of_fault limit nodes read (check_fault.Refused p r) fault = of_refused limit nod
 of_fault limit nodes read check_fault.Memory fault = fault
 of_fault limit nodes read _ fault = tt
 
-module _ (EndsSo : Ending → Type 0) where
-  abbrev EndsSoIn : Answer → Type 0
-  EndsSoIn answer = ComesTo EndsSo answer.end
+module _ (needs : Needs) where
+  abbrev HasCause : Answer → Type 0
+  HasCause answer = ComesByRefusal needs answer.fate
 
   -- an end that is said so has its cause
-  said : (answer there : Answer) → answer ≡ there → EndsSoIn there → EndsSoIn answer
-  said answer there is cause = subst EndsSoIn (sym is) cause
+  said : (answer there : Answer) → answer ≡ there → HasCause there → HasCause answer
+  said answer there is cause = subst HasCause (sym is) cause
 
-  of_lack : (answer : Answer) → LacksMemory answer → EndsSoIn answer
+  of_lack : (answer : Answer) → LacksMemory answer → HasCause answer
   of_lack answer lacks = said answer (silent fate.Memory) lacks.1 lacks.0
 
-  of_check : (limit nodes : ℕ) (certificate : Bool) (read : Option (List ℕ)) (answer : Answer) → EndsSo ending.Done → IsCheckAnswer limit nodes certificate read answer → EndsSoIn answer
+  of_check : (limit nodes : ℕ) (certificate : Bool) (read : Option (List ℕ)) (answer : Answer) → EndsByRefusal needs ending.Done → IsCheckAnswer limit nodes certificate read answer → HasCause answer
   of_check limit nodes certificate read answer done (inl c) = said answer _ c.said done
   of_check limit nodes certificate read answer done (inr f) = said answer (silent (fate.Check f.0)) f.2 (of_fault limit nodes read f.0 f.1)
 
-  of_explanation : (read : Option (List ℕ)) (answer : Answer) → EndsSo ending.Done → IsExplanation read answer → EndsSoIn answer
+  of_explanation : (read : Option (List ℕ)) (answer : Answer) → EndsByRefusal needs ending.Done → IsExplanation read answer → HasCause answer
   of_explanation read answer done (inl e) = ⊎_elim (λ alarm. said answer _ alarm.said done) (λ clean. said answer _ clean.1 done) e.verdict
   of_explanation read answer done (inr (inl f)) = said answer (silent (fate.Check f.0)) f.2 (of_fault _ _ read f.0 f.1)
   of_explanation read answer done (inr (inr lacks)) = of_lack answer lacks
 
-  of_carry : (read : Option (List ℕ)) (answer : Answer) → EndsSo ending.Done → IsCarryAnswer read answer → EndsSoIn answer
+  of_carry : (read : Option (List ℕ)) (answer : Answer) → EndsByRefusal needs ending.Done → IsCarryAnswer read answer → HasCause answer
   of_carry read answer done (inl c) = said answer _ c.3 done
   of_carry read answer done (inr f) = said answer (silent (fate.Check (check_fault.Log f.0))) f.2 (of_log f.0 f.1.1)
 
-  of_unread : (read : Option (List ℕ)) (f : Fate) → IsUnread read f → ComesTo EndsSo f
+  of_unread : (read : Option (List ℕ)) (f : Fate) → IsUnread read f → ComesByRefusal needs f
   of_unread read (fate.Work work_fault.Memory) h = h
   of_unread read (fate.Work (work_fault.BadLine n)) h = tt
   of_unread read (fate.Work (work_fault.Unknown n)) h = tt
@@ -122,12 +122,12 @@ module _ (EndsSo : Ending → Type 0) where
   of_unread read fate.Memory h = h
   of_unread read _ h = absurd h
 
-  of_end : (b : Bool) (program : Program) (certificate : Bool) (ended : Ending) (w : WorldState) (answer : Answer) → IsEndAnswer b program certificate ended w answer → EndsSo ended → EndsSoIn answer
+  of_end : (b : Bool) (program : Program) (certificate : Bool) (ended : Ending) (w : WorldState) (answer : Answer) → IsRunReport b program certificate ended w answer → EndsByRefusal needs ended → HasCause answer
   of_end true program certificate ended w answer is cause = said answer _ is cause
   of_end false program certificate ended w answer is cause = said answer _ is.2.said cause
 
-  of_play : (play : Play) (options : RunOptions) (read : Option (List ℕ)) (answer : Answer) → ((program : Program) (ended : Ending) (w : WorldState) → IsRunOf play options program ended w → EndsSo ended)
-      → IsPlayAnswer play options read answer → EndsSoIn answer
+  of_play : (play : Play) (options : RunOptions) (read : Option (List ℕ)) (answer : Answer) → ((program : Program) (ended : Ending) (w : WorldState) → IsRunOf play options program ended w → EndsByRefusal needs ended)
+      → IsPlayAnswer play options read answer → HasCause answer
   of_play play options read answer so (inl (program, text, inl played)) =
       of_end (is_unreported played.ended) program options.certificate played.ended played.world answer played.says (so program played.ended played.world played.is_run)
   of_play (ByTurns schedule) options read answer so (inl (program, text, inr (inl lost))) = absurd lost
@@ -136,18 +136,14 @@ module _ (EndsSo : Ending → Type 0) where
   of_play play options read answer so (inr (f, unread, is)) = said answer (silent f) is (of_unread read f unread)
 
   -- what became of the answer has its cause
-  of_delivered : (store : Store) (path : Option (Bor (List ℕ))) (out : Writing) (answer : Answer) (f : Fate) → EndsSoIn answer → IsDelivered store path out answer f → ComesTo EndsSo f
+  of_delivered : (store : Store) (path : Option (Bor (List ℕ))) (out : Writing) (answer : Answer) (f : Fate) → HasCause answer → IsDelivered store path out answer f → ComesByRefusal needs f
   of_delivered store path out answer fate.CannotOpen cause put = tt
   of_delivered store path out answer fate.WriteFailed cause put = tt
-  of_delivered store path out answer f cause put = subst (ComesTo EndsSo) (sym put.0) cause
+  of_delivered store path out answer f cause put = subst (ComesByRefusal needs) (sym put.0) cause
 
-  of_explained : (store : Store) (path : Option (Bor (List ℕ))) (out : Writing) (answer : Answer) (f : Fate) → EndsSoIn answer → ComesOut store path out answer f → ComesTo EndsSo f
-  of_explained store path out answer fate.Memory cause put = put.0
-  of_explained store path out answer f cause put = of_delivered store path out answer f cause put
-
-  of_told : (out : Writing) (answer : Answer) (f : Fate) → EndsSoIn answer → IsTold out answer f → ComesTo EndsSo f
-  of_told out answer fate.WriteFailed cause told = tt
-  of_told out answer f cause told = subst (ComesTo EndsSo) (sym told.0) cause
+  of_put : (sink : Writing) (answer : Answer) (f : Fate) → HasCause answer → IsPut sink answer f → ComesByRefusal needs f
+  of_put sink answer fate.WriteFailed cause put = tt
+  of_put sink answer f cause put = subst (ComesByRefusal needs) (sym put.0) cause
 
 -- ---- by what was done
 
@@ -156,22 +152,24 @@ of_schedule options schedule_fault.Bad is = tt
 of_schedule options schedule_fault.Memory is = is
 
 -- what was not read is told otherwise
-unread : (EndsSo : Ending → Type 0) (disk : Disk) (operand : Operand) (input : List ℕ) (output : Option (Bor (List ℕ))) (f : Fate) → IsBarred disk operand input output f → ComesTo EndsSo f
-unread EndsSo disk operand input output f (inl closed) = subst (ComesTo EndsSo) (sym closed.0) tt
-unread EndsSo disk operand input output f (inr one) = subst (ComesTo EndsSo) (sym one.0) tt
+unread : (needs : Needs) (disk : Disk) (operand : Operand) (input : List ℕ) (target : Option (Bor (List ℕ))) (f : Fate) → IsBarred disk operand input target f → ComesByRefusal needs f
+unread needs disk operand input target f (inl closed) = subst (ComesByRefusal needs) (sym closed.0) tt
+unread needs disk operand input target f (inr one) = subst (ComesByRefusal needs) (sym one.0) tt
 
-pub of_done : (store : Store) (asked : Request) (out : Writing) (f : Fate) → Does store asked out f → AnswersWithCause asked f
-of_done store (request.Check options) out f (inl h) = of_delivered EndsByGrowth store None out h.2.answer f (of_check EndsByGrowth _ _ _ h.0.bytes h.2.answer tt h.2.is_answer) h.2.put
-of_done store (request.Check options) out f (inr h) = unread EndsByGrowth store.disk Log options.log.now None f h.0.0
-of_done store (request.Replay options) out f (inl bad) = subst ComesByGrowth (sym bad.told) (of_schedule options bad.fault bad.is_fault)
-of_done store (request.Replay options) out f (inr (schedule, inl h)) =
-    of_delivered EndsByGrowth store options.run.log out h.2.answer f (of_play EndsByGrowth (ByTurns h.2.is_answer.0) options.run h.0.bytes h.2.answer (λ program ended w run. run.cause) h.2.is_answer.2) h.2.put
-of_done store (request.Replay options) out f (inr (schedule, inr h)) = unread EndsByGrowth store.disk File options.run.file.now options.run.log f h.0.0
-of_done store (request.Run options) out f (inl h) =
-    of_delivered EndsWithCause store options.log out h.2.answer f (of_play EndsWithCause ByThreads options h.0.bytes h.2.answer (λ program ended w run. run.cause) h.2.is_answer) h.2.put
-of_done store (request.Run options) out f (inr h) = unread EndsWithCause store.disk File options.file.now options.log f h.0.0
-of_done store (request.Explain options) out f (inl h) = of_explained EndsByGrowth store options.dot out h.2.answer f (of_explanation EndsByGrowth h.0.bytes h.2.answer tt h.2.is_answer) h.2.put
-of_done store (request.Explain options) out f (inr h) = unread EndsByGrowth store.disk Log options.log.now options.dot f h.0.0
-of_done store (request.Carry options) out f (inl h) = of_told EndsByGrowth h.2.put.0.0 h.2.answer f (of_carry EndsByGrowth h.0.bytes h.2.answer tt h.2.is_answer) h.2.put.0.2
-of_done store (request.Carry options) out f (inr (inl h, nothing)) = unread EndsByGrowth store.disk Log options.log.now (Some options.out) f h.0
-of_done store (request.Carry options) out f (inr (inr h, nothing)) = subst ComesByGrowth (sym h.0) tt
+-- of a workload that was played
+played : (needs : Needs) (play : Play) (options : RunOptions) (store : Store) (stdout : Writing) (f : Fate)
+    → ((program : Program) (ended : Ending) (w : WorldState) → IsRunOf play options program ended w → EndsByRefusal needs ended) → DoesPlay play options store stdout f → ComesByRefusal needs f
+played needs play options store stdout f so (inl h) = unread needs store.disk File options.input.now options.target f h.0
+played needs play options store stdout f so (inr h) = of_delivered needs store options.target stdout h.1 f (of_play needs play options h.0.bytes h.1 so h.4) h.5
+
+pub of_done : (store : Store) (asked : Request) (stdout : Writing) (f : Fate) → Does store asked stdout f → AnswersWithCause asked f
+of_done store (request.Check options) stdout f (inl h) = unread Growths store.disk Log options.input.now None f h.0
+of_done store (request.Check options) stdout f (inr h) = of_delivered Growths store None stdout h.1 f (of_check Growths _ _ _ h.0.bytes h.1 tt h.4) h.5
+of_done store (request.Explain options) stdout f (inl h) = unread Growths store.disk Log options.input.now options.target f h.0
+of_done store (request.Explain options) stdout f (inr h) = of_delivered Growths store options.target stdout h.1 f (of_explanation Growths h.0.bytes h.1 tt h.4) h.5
+of_done store (request.Carry options) stdout f (inl h) = unread Growths store.disk Log options.input.now (Some options.target) f h.0
+of_done store (request.Carry options) stdout f (inr (inl h)) = subst (ComesByRefusal Growths) (sym h.0) tt
+of_done store (request.Carry options) stdout f (inr (inr h)) = of_put Growths h.2 h.1 f (of_carry Growths h.0.bytes h.1 tt h.5) h.7
+of_done store (request.Run options) stdout f h = played GrowthsAndStarts ByThreads options store stdout f (λ program ended w run. run.cause) h
+of_done store (request.Replay options) stdout f (inl bad) = subst (ComesByRefusal Growths) (sym bad.2) (of_schedule options bad.0 bad.1)
+of_done store (request.Replay options) stdout f (inr h) = played Growths (ByTurns h.0) options.run store stdout f (λ program ended w run. run.cause) h.2

@@ -1,63 +1,68 @@
 -- What an explanation comes to.
 use Rattle.std.proofs.Common.{◌≡◌, ap, inl, inr, refl, sym, subst, take}
-use Rattle.std.specs.Prelude.{ℕ, Bool, List, Option, Some, None, Result, Ok, Err, OnOk, OnErr, ◌⊎◌}
+use Rattle.std.specs.Prelude.{ℕ, Bool, false, List, Option, Some, None, Err, ◌⊎◌}
 use Rattle.std.specs.Borrow.{Bor}
-use Rattle.std.specs.Io.KnownBytes.{Appends}
 use Rattle.velo_events.specs.declared.event.Event.{Event}
 use Rattle.velo_events.specs.Graph.{HasCycle}
-use Rattle.velo_events.specs.Refusals.{GrowthRefused}
-use Rattle.velo_logtext.specs.Device.{AppendsBeginning}
 use Rattle.velo_traces.specs.declared.block.Block.{Block}
 use Rattle.velo_world.specs.declared.analysis.Alarm.{Alarm}
 use Rattle.velo_world.specs.World.{IsAlarm}
 use Rattle.velo_explain.specs.declared.evidence.Evidence.{Evidence}
 use Rattle.velo_explain.specs.Evidence.{IsEvidence, HaveReasons}
-use Rattle.velo_explain.specs.declared.fault.ExplainFault.{ExplainFault}
-use Rattle.velo_explain.specs.declared.fault.ExplainFault.TheVariants as explain_fault
-use Rattle.velo_explain.specs.Faults as explain
 use Rattle.velo_worker.specs.declared.ending.Ending.TheVariants as ending
 use Rattle.velo_program.specs.declared.fate.Fate.{Fate}
 use Rattle.velo_program.specs.declared.fate.Fate.TheVariants as fate
-use Rattle.velo_program.specs.Delivery.{Answer, LacksMemory, Saves, failures_after}
+use Rattle.velo_program.specs.Delivery.{Answer, IsDelivered, IsPrinted, LacksMemory, Saves, printing, silent}
 use Rattle.velo_program.specs.Disk.{Store}
-use Rattle.velo_program.specs.Explaining.{ComesOut, ExplainsAlarm, ExplainsVerdict, IsKeptWithout, explained}
+use Rattle.velo_program.specs.Explaining.{ExplainsAlarm, ExplainsVerdict, counted, explained}
+use Rattle.velo_program.specs.Reading.{failures_after}
 use Rattle.velo_program.specs.Writing.{Writing, WritesNothing}
-use Rattle.velo_program.specs.Steps.{IsDrawn, fate_of_telling}
-use Rattle.velo_program.proofs.OnDelivery.{delivered_reads, same_end}
+use Rattle.velo_program.specs.Steps.{DeliversOrLacks, Explains, IsSaved, PrintsOrLacks}
+use Rattle.velo_program.proofs.OnDelivery.{delivered_reads, printed_put, same_fate}
 use Rattle.velo_program.proofs.OnVerdicts.{no_cycle_before}
 
-module _ (store : Store) (path : Option (Bor (List ℕ))) (out : Writing) where
-  -- where the picture fails nothing goes out
-  pub undrawn : (picture : List ℕ) (text : Option (List ℕ)) (end f : Fate) → IsDrawn {X = ℕ} store path picture (Err f) → WritesNothing out
-      → ComesOut store path out (record { file = Some picture; text = text; end = end }) f
-  undrawn picture text end fate.CannotOpen h nothing = (h, nothing)
-  undrawn picture text end fate.WriteFailed h nothing = inl (h, nothing)
-  undrawn picture text end fate.Memory h nothing = (h, nothing.1, tt)
-  undrawn picture text end f h nothing = absurd h
+module _ (store : Store) (target : Option (Bor (List ℕ))) (stdout : Writing) where
+  -- where the picture is not saved nothing goes out
+  undrawn_so : (drawing words : List ℕ) (end f : Fate) → IsSaved {X = ℕ} store target drawing (Err f) → WritesNothing stdout
+      → IsDelivered store target stdout (record { saved = Some drawing; printed = Some words; fate = end }) f
+  undrawn_so drawing words end fate.CannotOpen h nothing = (h, nothing)
+  undrawn_so drawing words end fate.WriteFailed h nothing = inl (h, nothing)
+  undrawn_so drawing words end f h nothing = absurd h
 
-  -- what is not drawn leaves the files as they were
-  kept_without : (file : Option (List ℕ)) → Saves store path file → IsKeptWithout store file
-  kept_without None saved = saved
-  kept_without (Some picture) saved = tt
+  pub undrawn : (drawn drawing words : List ℕ) (end f : Fate) → drawn ≡ drawing → IsSaved {X = ℕ} store target drawn (Err f) → WritesNothing stdout
+      → IsDelivered store target stdout (record { saved = Some drawing; printed = Some words; fate = end }) f
+  undrawn drawn drawing words end f is h nothing = undrawn_so drawing words end f (subst (λ (t : List ℕ). IsSaved {X = ℕ} store target t (Err f)) is h) nothing
 
-  -- the words went out, or a beginning of them
-  pub written : {X : Type 0} (file : Option (List ℕ)) (text : List ℕ) (alarm : Bool) (result : Result X ExplainFault) → Saves store path file
-      → OnOk result (Appends out.old out.new text) → OnErr result (AppendsBeginning out.old out.new text) → out.after ≡ explain.failures_after result out.before
-      → (result ≡ Err explain_fault.Memory → GrowthRefused)
-      → ComesOut store path out (record { file = file; text = Some text; end = fate.Finished ending.Done alarm }) (fate_of_telling result (fate.Finished ending.Done alarm))
-  written file text alarm (Ok told) saved ok err failures memory = (refl, saved, (ok, failures))
-  written file text alarm (Err explain_fault.Memory) saved ok err failures memory = (memory refl, failures, kept_without file saved)
-  written file text alarm (Err explain_fault.Write) saved ok err failures memory = inr (saved, (err, failures))
+  -- what was made is the text that was to be saved
+  pub saved_text : (drawn drawing : List ℕ) → drawn ≡ drawing → Saves store target (Some drawn) → Saves store target (Some drawing)
+  saved_text drawn drawing is h = subst (λ (t : List ℕ). Saves store target (Some t)) is h
+
+  -- where it is, the words are printed
+  pub words_put : (saved : Option (List ℕ)) (words text : List ℕ) (alarm : Bool) → words ≡ text → Saves store target saved → (f : Fate)
+      → IsPrinted stdout (printing words (fate.Finished ending.Done alarm)) f → IsDelivered store target stdout (record { saved = saved; printed = Some text; fate = fate.Finished ending.Done alarm }) f
+  words_put saved words text alarm is kept f told =
+      printed_put store target stdout saved None (Some text) _ kept (λ e. cc) f (subst (λ (t : List ℕ). IsPrinted stdout (printing t (fate.Finished ending.Done alarm)) f) is told)
 
   -- no explanation is told as a failed read
-  pub explains_reads : (log : List Event) (answer : Answer) (n : ℕ) → ExplainsVerdict log answer ⊎ LacksMemory answer → (f : Fate) → ComesOut store path out answer f → failures_after f n ≡ n
-  explains_reads log answer n is fate.Memory h = refl
-  explains_reads log answer n is f h = delivered_reads store path out answer n (by_end is) f h
+  pub explains_reads : (log : List Event) (answer : Answer) (n : ℕ) → ExplainsVerdict log answer ⊎ LacksMemory answer → (f : Fate) → IsDelivered store target stdout answer f → failures_after f n ≡ n
+  explains_reads log answer n is f h = delivered_reads store target stdout answer n (by_fate is) f h
     where
-      by_end : ExplainsVerdict log answer ⊎ LacksMemory answer → failures_after answer.end n ≡ n
-      by_end (inl (inl alarm)) = same_end answer _ n alarm.said refl
-      by_end (inl (inr clean)) = same_end answer _ n clean.1 refl
-      by_end (inr lacks) = same_end answer _ n lacks.1 refl
+      by_fate : ExplainsVerdict log answer ⊎ LacksMemory answer → failures_after answer.fate n ≡ n
+      by_fate (inl (inl alarm)) = same_fate answer _ n alarm.said refl
+      by_fate (inl (inr clean)) = same_fate answer _ n clean.1 refl
+      by_fate (inr lacks) = same_fate answer _ n lacks.1 refl
+
+  -- this answer explains the log; or memory was wanting, and nothing is said
+  pub explains_by : (log : List Event) (answer : Answer) (f : Fate) → ExplainsVerdict log answer → DeliversOrLacks answer store target stdout f → Explains log store target stdout f
+  explains_by log answer f explains (inl put) = (answer, inl explains, put)
+  explains_by log answer f explains (inr lacks) =
+      (silent fate.Memory, inr (lacks.0, refl), subst (λ (f : Fate). IsDelivered store target stdout (silent fate.Memory) f) (sym lacks.1) (refl, lacks.2, lacks.3))
+
+  -- words alone leave the files as they were
+  pub explains_clean : (log : List Event) (f : Fate) → ¬ HasCycle log → store.is_kept → PrintsOrLacks (counted log) stdout f → Explains log store target stdout f
+  explains_clean log f none kept (inl told) = (counted log, inl (inr (none, refl)), printed_put store target stdout None None (counted log).printed (fate.Finished ending.Done false) kept (λ e. cc) f told)
+  explains_clean log f none kept (inr lacks) =
+      (silent fate.Memory, inr (lacks.0, refl), subst (λ (f : Fate). IsDelivered store target stdout (silent fate.Memory) f) (sym lacks.1) (refl, kept, lacks.2))
 
 -- an alarm is explained by its evidence, whichever list of its events the evidence is of
 pub of_evidence : (events log : List Event) → events ≡ log → (a : Alarm) (blamed : List Block) → blamed ≡ a.blamed.items → (evidence : Evidence)

@@ -13,14 +13,14 @@ use Rattle.velo_world.specs.World.{WorldState}
 use Rattle.velo_program.specs.declared.fate.Fate.{Fate}
 use Rattle.velo_program.specs.declared.fate.Fate.TheVariants as fate
 use Rattle.velo_program.specs.declared.request.RunOptions.{RunOptions}
-use Rattle.velo_program.specs.Delivery.{Answer, IsDelivered, IsSaved, failures_after, silent}
+use Rattle.velo_program.specs.Delivery.{Answer, IsDelivered, silent}
 use Rattle.velo_program.specs.Disk.{Disk, Store}
-use Rattle.velo_program.specs.Playing.{ByThreads, ByTurns, IsEndAnswer, IsFaultOfText, IsFaultOfWork, IsRunAnswer, IsTextOf, IsUnread, Play, is_unreported}
-use Rattle.velo_program.specs.Reading.{Reading}
+use Rattle.velo_program.specs.Playing.{ByThreads, ByTurns, IsRunReport, IsFaultOfText, IsFaultOfWork, IsRunAnswer, IsTextOf, IsUnread, Play, is_unreported}
+use Rattle.velo_program.specs.Reading.{FailsAsTold, Reading, failures_after}
 use Rattle.velo_program.specs.Schedule.{IsSchedule}
 use Rattle.velo_program.specs.Writing.{Writing, WritesNothing}
-use Rattle.velo_program.specs.Steps.{IsReadOf, OpensNoProgram, OpensProgram}
-use Rattle.velo_program.proofs.OnDelivery.{delivered_reads, same_end}
+use Rattle.velo_program.specs.Steps.{IsReadOf, IsSaved, OpensNoProgram, OpensProgram}
+use Rattle.velo_program.proofs.OnDelivery.{delivered_reads, same_fate}
 
 -- ---- from the bytes that were read to those of the file
 
@@ -56,7 +56,7 @@ fault_read (Some all) bytes (work_fault.TooMany n) is h = fault_of_text all byte
 
 -- where the log is not saved nothing goes out
 pub unsaved : (store : Store) (path : Option (Bor (List ℕ))) (out : Writing) (log : List ℕ) (text : Option (List ℕ)) (end f : Fate)
-    → IsSaved {X = ℕ} store path log (Err f) → WritesNothing out → IsDelivered store path out (record { file = Some log; text = text; end = end }) f
+    → IsSaved {X = ℕ} store path log (Err f) → WritesNothing out → IsDelivered store path out (record { saved = Some log; printed = text; fate = end }) f
 unsaved store path out log text end fate.CannotOpen h nothing = (h, nothing)
 unsaved store path out log text end fate.WriteFailed h nothing = inl (h, nothing)
 unsaved store path out log text end f h nothing = absurd h
@@ -66,15 +66,15 @@ pub plays_reads : (play : Play) (options : RunOptions) (program : Program) (answ
     → (store : Store) (path : Option (Bor (List ℕ))) (out : Writing) (f : Fate) → IsDelivered store path out answer f → failures_after f n ≡ n
 plays_reads play options program answer n is store path out f put = delivered_reads store path out answer n (by_end play is) f put
   where
-    of_end : (b : Bool) (certificate : Bool) (ended : Ending) (w : WorldState) → IsEndAnswer b program certificate ended w answer → failures_after answer.end n ≡ n
-    of_end true certificate ended w says = same_end answer _ n says refl
-    of_end false certificate ended w says = same_end answer _ n says.2.said refl
+    of_end : (b : Bool) (certificate : Bool) (ended : Ending) (w : WorldState) → IsRunReport b program certificate ended w answer → failures_after answer.fate n ≡ n
+    of_end true certificate ended w says = same_fate answer _ n says refl
+    of_end false certificate ended w says = same_fate answer _ n says.2.said refl
 
-    by_end : (play : Play) → IsRunAnswer play options program answer → failures_after answer.end n ≡ n
+    by_end : (play : Play) → IsRunAnswer play options program answer → failures_after answer.fate n ≡ n
     by_end play (inl played) = of_end (is_unreported played.ended) options.certificate played.ended played.world played.says
     by_end (ByTurns schedule) (inr (inl lost)) = absurd lost
-    by_end ByThreads (inr (inl lost)) = same_end answer (silent fate.Lost) n lost refl
-    by_end play (inr (inr lacks)) = same_end answer (silent fate.Memory) n lacks.1 refl
+    by_end ByThreads (inr (inl lost)) = same_fate answer (silent fate.Lost) n lost refl
+    by_end play (inr (inr lacks)) = same_fate answer (silent fate.Memory) n lacks.1 refl
 
 -- ---- the workload
 
@@ -91,8 +91,8 @@ pub opened : (disk : Disk) (path : List ℕ) (read : Reading) → disk.gives pat
 opened disk path read given (Ok program) text kept = record { read = read; given = given; is_text = text; no_failure = kept }
 opened disk path read given (Err f) text kept = tt
 
-pub not_opened : (disk : Disk) (options : RunOptions) (read : Reading) → disk.gives options.file.now read → (result : Result Program Fate) → IfErr result (IsUnread read.bytes)
-    → IfErr result (λ f. read.after ≡ failures_after f read.before) → IfErr result (OpensNoProgram disk options)
+pub not_opened : (disk : Disk) (options : RunOptions) (read : Reading) → disk.gives options.input.now read → (result : Result Program Fate) → IfErr result (IsUnread read.bytes)
+    → IfErr result (FailsAsTold read) → IfErr result (OpensNoProgram disk options)
 not_opened disk options read given (Ok program) unread failures = tt
 not_opened disk options read given (Err f) unread failures = inl (record { read = read; given = given; unread = unread; failures = failures })
 

@@ -27,7 +27,8 @@ use Rattle.velo_program.specs.declared.check.CheckFault.{CheckFault}
 use Rattle.velo_program.specs.declared.check.CheckFault.TheVariants.{Log, Refused, WrongValue, Write, Memory}
 use Rattle.velo_program.specs.declared.fate.Fate.TheVariants.{Check, Finished}
 use Rattle.velo_program.specs.Check.{Checks, ComesAbout, IsFaultOfInput, IsInput, IsOrderOrCycle, IsOutput, IsVerdict, WritesOutput}
-use Rattle.velo_program.specs.Delivery.{failures_after, saying, silent}
+use Rattle.velo_program.specs.Delivery.{printing, silent}
+use Rattle.velo_program.specs.Reading.{failures_after}
 use Rattle.velo_program.specs.Fate.{fate_of, is_alarm}
 use Rattle.velo_program.specs.Faults.{IsFaultOfLog}
 use Rattle.velo_program.specs.Writing.{BreaksOff, Writes, Writing, WritesNothing}
@@ -141,13 +142,13 @@ module _ (names : Names) (w : WorldState) where
 pub checked_by : (limit nodes : ℕ) (certificate : Bool) (read : Option (List ℕ)) (w : WorldState) (out : Writing) (result : Result Verdict CheckFault)
     → ComesAbout limit read w.config.bounds w.log → Shows certificate w out result → Checks limit nodes certificate read out (fate_of result)
 checked_by limit nodes certificate read w out (Ok answer) log shows = (
-  saying shows.1.0 (Finished Done (is_alarm answer)),
-  inl (record { bounds = w.config.bounds; trace = w.log; log = log; text = shows.1.0; output = shows.1.1; verdict = answer; is_verdict = shows.0; said = refl }),
+  printing shows.1.0 (Finished Done (is_alarm answer)),
+  inl (record { bounds = w.config.bounds; log = w.log; comes_about = log; text = shows.1.0; output = shows.1.1; verdict = answer; is_verdict = shows.0; said = refl }),
   (refl, shows.1.2),
 )
 checked_by limit nodes certificate read w out (Err Write) log shows = (
-  saying shows.1.0 (Finished Done (is_alarm shows.0.0)),
-  inl (record { bounds = w.config.bounds; trace = w.log; log = log; text = shows.1.0; output = shows.1.1; verdict = shows.0.0; is_verdict = shows.0.1; said = refl }),
+  printing shows.1.0 (Finished Done (is_alarm shows.0.0)),
+  inl (record { bounds = w.config.bounds; log = w.log; comes_about = log; text = shows.1.0; output = shows.1.1; verdict = shows.0.0; is_verdict = shows.0.1; said = refl }),
   shows.1.2,
 )
 checked_by limit nodes certificate read w out (Err Memory) log shows = (silent (Check Memory), inr (Memory, shows.0, refl), (refl, shows.1))

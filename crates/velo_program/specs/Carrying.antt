@@ -1,5 +1,5 @@
 -- What carrying a log over has to say, by the bytes of its input.
-use Rattle.std.specs.Prelude.{◌≡◌, ◌⊎◌, ℕ, false, List, Option, Result, Ok, Err}
+use Rattle.std.specs.Prelude.{◌≡◌, ◌⊎◌, ℕ, false, List, Option, Some, None, Result, Ok, Err}
 use Rattle.velo_events.specs.declared.config.Bounds.{Bounds}
 use Rattle.velo_events.specs.declared.event.Event.{Event}
 use Rattle.velo_logtext.specs.declared.fault.LogFault.{LogFault}
@@ -11,23 +11,30 @@ use Rattle.velo_program.specs.declared.check.CheckFault.TheVariants as check_fau
 use Rattle.velo_program.specs.declared.fate.Fate.{Fate}
 use Rattle.velo_program.specs.declared.fate.Fate.TheVariants.{Check, Finished, WriteFailed}
 use Rattle.velo_program.specs.Check.{IsFaultOfLogText, IsInput}
-use Rattle.velo_program.specs.Delivery.{Answer, IsTold, saying, silent}
+use Rattle.velo_program.specs.Delivery.{Answer, Takes, TakesPart, silent}
 use Rattle.velo_program.specs.Writing.{Writing}
 
+-- the text of version 2 is to be saved, and nothing is printed
 abbrev pub carried : Bounds → List Event → Answer
-carried bounds trace = saying (log_text bounds trace) (Finished Done false)
+carried bounds log =
+    record { saved = Some (log_text bounds log); printed = None; fate = Finished Done false }
 
 -- What is said of a log: its text of version 2; or nothing, because it could not be read.
 abbrev pub IsCarryAnswer : Option (List ℕ) → Answer → Type 0
 IsCarryAnswer read answer =
-    ((bounds : Bounds) × (trace : List Event) × IsInput read bounds trace
-    × (answer ≡ carried bounds trace))
+    ((bounds : Bounds) × (log : List Event) × IsInput read bounds log
+    × (answer ≡ carried bounds log))
     ⊎ ((fault : LogFault) × IsFaultOfLogText read fault
     × (answer ≡ silent (Check (check_fault.Log fault))))
 
--- an answer to what was read was told on the output
+-- the sink took what is to be saved, or a beginning of it; where there is nothing, nothing was written
+abbrev pub IsPut : Writing → Answer → Fate → Type 0
+IsPut sink answer WriteFailed = TakesPart sink answer.saved
+IsPut sink answer f = (f ≡ answer.fate) × Takes sink answer.saved
+
+-- an answer to what was read was put into the sink
 abbrev pub Carries : Option (List ℕ) → Writing → Fate → Type 0
-Carries read out f = (answer : Answer) × IsCarryAnswer read answer × IsTold out answer f
+Carries read sink f = (answer : Answer) × IsCarryAnswer read answer × IsPut sink answer f
 
 -- what carrying over came to
 abbrev pub fate_of_carrying : {X : Type 0} → Result X CarryFault → Fate

@@ -38,24 +38,26 @@ WorkByGrowth f = ⊤
 
 -- ---- of what the program comes to
 
--- the ending, if it comes to one, is so; else want of memory stands behind a refused growth
-abbrev pub ComesTo : (Ending → Type 0) → Fate → Type 0
-ComesTo EndsSo (fate.Finished ending alarm) = EndsSo ending
-ComesTo EndsSo (fate.Schedule f) = ScheduleByGrowth f
-ComesTo EndsSo (fate.Work f) = WorkByGrowth f
-ComesTo EndsSo (fate.Check f) = CheckByGrowth f
-ComesTo EndsSo fate.Memory = GrowthRefused
-ComesTo EndsSo f = ⊤
+-- what a command asks the system for: memory alone, or starts of threads too
+pub data Needs : Type 0 where
+  Growths : Needs
+  GrowthsAndStarts : Needs
 
--- want of memory stands behind a refused growth; that of a live run may stand behind the refused start of a thread
-abbrev pub ComesWithCause : Fate → Type 0
-ComesWithCause f = ComesTo EndsWithCause f
+-- a run that ends for want of memory does so behind a refusal of what was needed
+abbrev pub EndsByRefusal : Needs → Ending → Type 0
+EndsByRefusal Growths ending = EndsByGrowth ending
+EndsByRefusal GrowthsAndStarts ending = EndsWithCause ending
 
--- where no thread is started: behind a refused growth
-abbrev pub ComesByGrowth : Fate → Type 0
-ComesByGrowth f = ComesTo EndsByGrowth f
+-- want of memory stands behind a refused growth; but that of an ending behind a refusal of what was needed
+abbrev pub ComesByRefusal : Needs → Fate → Type 0
+ComesByRefusal needs (fate.Finished ending alarm) = EndsByRefusal needs ending
+ComesByRefusal needs (fate.Schedule f) = ScheduleByGrowth f
+ComesByRefusal needs (fate.Work f) = WorkByGrowth f
+ComesByRefusal needs (fate.Check f) = CheckByGrowth f
+ComesByRefusal needs fate.Memory = GrowthRefused
+ComesByRefusal needs f = ⊤
 
 -- of what each command comes to: a run alone starts threads
 abbrev pub AnswersWithCause : Request → Fate → Type 0
-AnswersWithCause (request.Run options) f = ComesWithCause f
-AnswersWithCause command f = ComesByGrowth f
+AnswersWithCause (request.Run options) f = ComesByRefusal GrowthsAndStarts f
+AnswersWithCause command f = ComesByRefusal Growths f

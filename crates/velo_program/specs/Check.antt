@@ -26,7 +26,7 @@ use Rattle.velo_program.specs.declared.check.CheckFault.{CheckFault}
 use Rattle.velo_program.specs.declared.check.CheckFault.TheVariants.{Log, Refused, WrongValue, Write, Memory}
 use Rattle.velo_program.specs.declared.fate.Fate.{Fate}
 use Rattle.velo_program.specs.declared.fate.Fate.TheVariants.{Check, Finished}
-use Rattle.velo_program.specs.Delivery.{Answer, IsTold, saying, silent}
+use Rattle.velo_program.specs.Delivery.{Answer, IsPrinted, printing, silent}
 use Rattle.velo_program.specs.Fate.{is_alarm}
 use Rattle.velo_program.specs.Writing.{Writing, Delivers}
 
@@ -96,8 +96,8 @@ IsCertified false log text = text ≡ []
 -- ---- the output and the verdict
 
 -- the report of a log, and then its certificate if that is asked for
-pub record IsOutput (names : Names) (certificate : Bool) (threads : ℕ) (log : List Event) (text : List ℕ)
-    : Type 0 where
+pub record IsOutput (names : Names) (certificate : Bool) (threads : ℕ) (log : List Event)
+    (text : List ℕ) : Type 0 where
   pub report : List ℕ
   pub is_report : IsReport names threads log report
   pub lines : List ℕ
@@ -112,17 +112,17 @@ pub record IsVerdict (trace : List Event) (answer : Verdict) : Type 0 where
 
 -- ---- the answer
 
--- the report by numbers of the log of the input, with its certificate if that is asked for, and the verdict as the end
+-- the report by numbers of the log of the input is printed, with its certificate if that is asked for; the fate has the verdict
 pub record IsChecked (limit : ℕ) (certificate : Bool) (read : Option (List ℕ)) (answer : Answer)
     : Type 0 where
   pub bounds : Bounds
-  pub trace : List Event
-  pub log : ComesAbout limit read bounds trace
+  pub log : List Event
+  pub comes_about : ComesAbout limit read bounds log
   pub text : List ℕ
-  pub output : IsOutput Numbers certificate bounds.threads trace text
+  pub output : IsOutput Numbers certificate bounds.threads log text
   pub verdict : Verdict
-  pub is_verdict : IsVerdict trace verdict
-  pub said : answer ≡ saying text (Finished Done (is_alarm verdict))
+  pub is_verdict : IsVerdict log verdict
+  pub said : answer ≡ printing text (Finished Done (is_alarm verdict))
 
 -- nothing is said of an input that has this fault
 abbrev pub IsUnchecked : ℕ → ℕ → Option (List ℕ) → Answer → Type 0
@@ -134,10 +134,10 @@ abbrev pub IsCheckAnswer : ℕ → ℕ → Bool → Option (List ℕ) → Answer
 IsCheckAnswer limit nodes certificate read answer =
     IsChecked limit certificate read answer ⊎ IsUnchecked limit nodes read answer
 
--- What a check came to: an answer to what was read was told on the output.
+-- What a check came to: an answer to what was read was printed on the sink.
 abbrev pub Checks : ℕ → ℕ → Bool → Option (List ℕ) → Writing → Fate → Type 0
-Checks limit nodes certificate read out f =
-    (answer : Answer) × IsCheckAnswer limit nodes certificate read answer × IsTold out answer f
+Checks limit nodes certificate read sink f =
+    (answer : Answer) × IsCheckAnswer limit nodes certificate read answer × IsPrinted sink answer f
 
 -- ---- what writes it
 
@@ -147,5 +147,5 @@ IsOutputOf names certificate w text = IsOutput names certificate w.config.bounds
 
 -- what writing it came to
 abbrev pub WritesOutput : {X F : Type 0} → Names → Bool → WorldState → Writing → Result X F → Type 0
-WritesOutput names certificate w out result =
-    (text : List ℕ) × IsOutputOf names certificate w text × Delivers out text result
+WritesOutput names certificate w sink result =
+    (text : List ℕ) × IsOutputOf names certificate w text × Delivers sink text result

@@ -1,93 +1,76 @@
 -- An answer, and what becomes of it on the way out.
-use Rattle.std.specs.Prelude.{◌≡◌, ◌⊎◌, ℕ, List, Option, Some, None, Result, Ok, Err}
+use Rattle.std.specs.Prelude.{◌≡◌, ◌⊎◌, ℕ, List, Option, Some, None}
 use Rattle.std.specs.Borrow.{Bor}
 use Rattle.velo_events.specs.Refusals.{GrowthRefused}
-use Rattle.velo_logtext.specs.declared.fault.LogFault.TheVariants.{Read}
-use Rattle.velo_logtext.specs.Device.{with_failure}
-use Rattle.velo_program.specs.declared.check.CheckFault.TheVariants.{Log}
-use Rattle.velo_program.specs.Disk.{Disk, Store}
+use Rattle.velo_program.specs.Disk.{Store, IsWritten}
 use Rattle.velo_program.specs.Writing.{Writing, Writes, BreaksOff, WritesNothing}
 use Rattle.velo_program.specs.declared.fate.Fate.{Fate}
-use Rattle.velo_program.specs.declared.fate.Fate.TheVariants.{CannotOpen, Check, Memory, ReadFailed, WriteFailed}
+use Rattle.velo_program.specs.declared.fate.Fate.TheVariants.{CannotOpen, Memory, WriteFailed}
 
--- What a command has to say: a text for the file that was asked for, if it has one; a text for the output, if it has one;
--- and how it ends.
+-- What a command has to say: a text to be saved at its target, if it has one; a text to be printed on standard output, if it has
+-- one; and what it comes to.
 pub record Answer : Type 0 where
-  pub file : Option (List ℕ)
-  pub text : Option (List ℕ)
-  pub end : Fate
+  pub saved : Option (List ℕ)
+  pub printed : Option (List ℕ)
+  pub fate : Fate
 
--- it ends so, and says nothing
+-- it comes to this, and says nothing
 abbrev pub silent : Fate → Answer
-silent end = record { file = None; text = None; end = end }
+silent fate = record { saved = None; printed = None; fate = fate }
 
--- it says this, has nothing for a file, and ends so
-abbrev pub saying : List ℕ → Fate → Answer
-saying text end = record { file = None; text = Some text; end = end }
+-- it prints this, has nothing to be saved, and comes to this
+abbrev pub printing : List ℕ → Fate → Answer
+printing text fate = record { saved = None; printed = Some text; fate = fate }
 
 -- a growth was refused, and nothing is said
 abbrev pub LacksMemory : Answer → Type 0
 LacksMemory answer = GrowthRefused × (answer ≡ silent Memory)
 
--- the count of failures of a source behind this end: once more where it is a failed read, and only there
-abbrev pub failures_after : Fate → ℕ → ℕ
-failures_after (Check (Log Read)) failures = with_failure failures
-failures_after ReadFailed failures = with_failure failures
-failures_after end failures = failures
-
--- ---- on the output
+-- ---- on one sink
 
 -- it took the text whole; where there is none, nothing was written
 abbrev pub Takes : Writing → Option (List ℕ) → Type 0
-Takes out None = WritesNothing out
-Takes out (Some text) = Writes out text
+Takes sink None = WritesNothing sink
+Takes sink (Some text) = Writes sink text
 
--- there is a text, and the output took a beginning of it, up to its failure
+-- there is a text, and the sink took a beginning of it, up to its failure
 abbrev pub TakesPart : Writing → Option (List ℕ) → Type 0
-TakesPart out None = ⊥
-TakesPart out (Some text) = BreaksOff out text
+TakesPart sink None = ⊥
+TakesPart sink (Some text) = BreaksOff sink text
 
--- what became of an answer that has nothing for a file
-abbrev pub IsTold : Writing → Answer → Fate → Type 0
-IsTold out answer WriteFailed = TakesPart out answer.text
-IsTold out answer end = (end ≡ answer.end) × Takes out answer.text
+-- what became of an answer that has nothing to be saved
+abbrev pub IsPrinted : Writing → Answer → Fate → Type 0
+IsPrinted stdout answer WriteFailed = TakesPart stdout answer.printed
+IsPrinted stdout answer f = (f ≡ answer.fate) × Takes stdout answer.printed
 
--- ---- in the file that was asked for
+-- ---- at the target, if there is one
 
--- it took the text; where no file is asked for, or there is no text for it, none was opened
+-- The file there was emptied, and has exactly the text. Without a target, or without a text for it, no file was opened.
 abbrev pub Saves : Store → Option (Bor (List ℕ)) → Option (List ℕ) → Type 0
-Saves store path None = store.is_kept
+Saves store target None = store.is_kept
 Saves store None (Some text) = store.is_kept
-Saves store (Some path) (Some text) =
-    (file : Writing) × store.disk.takes path.now file × Writes file text
+Saves store (Some target) (Some text) =
+    (file : Writing) × IsWritten store target.now file × Writes file text
 
--- it took a beginning of the text
-abbrev pub BreaksOffAt : Disk → Option (Bor (List ℕ)) → Option (List ℕ) → Type 0
-BreaksOffAt disk (Some path) (Some text) =
-    (file : Writing) × disk.takes path.now file × BreaksOff file text
-BreaksOffAt disk path text = ⊥
+-- the file there was emptied, and took a beginning of the text, up to its failure
+abbrev pub SavesPart : Store → Option (Bor (List ℕ)) → Option (List ℕ) → Type 0
+SavesPart store (Some target) (Some text) =
+    (file : Writing) × IsWritten store target.now file × BreaksOff file text
+SavesPart store target text = ⊥
 
--- it does not open
-abbrev pub FailsAt : Disk → Option (Bor (List ℕ)) → Option (List ℕ) → Type 0
-FailsAt disk (Some path) (Some text) = disk.fails path.now
-FailsAt disk path text = ⊥
+-- no file opens there, and the files are as they were
+abbrev pub FailsToSave : Store → Option (Bor (List ℕ)) → Option (List ℕ) → Type 0
+FailsToSave store (Some target) (Some text) = store.disk.fails target.now × store.is_kept
+FailsToSave store target text = ⊥
 
--- what writing the file came to
-abbrev pub IsSaved : {X : Type 0} → Store → Option (Bor (List ℕ)) → List ℕ → Result X Fate → Type 0
-IsSaved store path text (Ok x) = Saves store path (Some text)
-IsSaved store path text (Err CannotOpen) = FailsAt store.disk path (Some text)
-IsSaved store path text (Err WriteFailed) = BreaksOffAt store.disk path (Some text)
-IsSaved store path text (Err end) = ⊥
+-- ---- at both
 
--- ---- in both
-
--- What became of an answer. The file is written first: where it fails, nothing goes to the output. Where the answer has
--- nothing for a file, none is opened.
+-- What became of an answer. It is saved first: where this fails, nothing is printed.
 abbrev pub IsDelivered : Store → Option (Bor (List ℕ)) → Writing → Answer → Fate → Type 0
-IsDelivered store path out answer CannotOpen =
-    FailsAt store.disk path answer.file × WritesNothing out
-IsDelivered store path out answer WriteFailed =
-    (BreaksOffAt store.disk path answer.file × WritesNothing out)
-    ⊎ (Saves store path answer.file × TakesPart out answer.text)
-IsDelivered store path out answer end =
-    (end ≡ answer.end) × Saves store path answer.file × Takes out answer.text
+IsDelivered store target stdout answer CannotOpen =
+    FailsToSave store target answer.saved × WritesNothing stdout
+IsDelivered store target stdout answer WriteFailed =
+    (SavesPart store target answer.saved × WritesNothing stdout)
+    ⊎ (Saves store target answer.saved × TakesPart stdout answer.printed)
+IsDelivered store target stdout answer f =
+    (f ≡ answer.fate) × Saves store target answer.saved × Takes stdout answer.printed

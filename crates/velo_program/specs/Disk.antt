@@ -5,14 +5,19 @@ use Rattle.velo_program.specs.declared.fate.Fate.{Fate}
 use Rattle.velo_program.specs.declared.fate.Fate.TheVariants.{CannotOpen, OneFile}
 use Rattle.velo_program.specs.declared.request.Operand.{Operand}
 use Rattle.velo_program.specs.Reading.{Reading, reading}
-use Rattle.velo_program.specs.Writing.{Writing, writing}
+use Rattle.velo_program.specs.Writing.{Writing}
 
--- What is said of a path: how a file that opens there may be read; that none opens there; how one that opens there may be
--- written; and of two, that one file stands at both. The path `-` is that of standard input.
+-- What is said of a path at one time. The path `-` is that of standard input.
 pub record Disk : Type 1 where
+  -- a source that opens there may be read so
   pub gives : List ℕ → Reading → Type 0
+  -- no file opens there
   pub fails : List ℕ → Type 0
-  pub takes : List ℕ → Writing → Type 0
+  -- a file that opens there to be written has these bytes, where they are known, and has failed so often
+  pub empties : List ℕ → Option (List ℕ) → ℕ → Type 0
+  -- the last call on the files closed the file there, and left it with these bytes and failures
+  pub left : List ℕ → Option (List ℕ) → ℕ → Type 0
+  -- one file stands at both paths
   pub one : List ℕ → List ℕ → Type 0
 
 -- nothing is said
@@ -20,38 +25,47 @@ abbrev pub untold : Disk
 untold = record {
   gives = λ path read. ⊤;
   fails = λ path. ⊤;
-  takes = λ path file. ⊤;
-  one = λ input output. ⊤;
+  empties = λ path bytes failures. ⊤;
+  left = λ path bytes failures. ⊤;
+  one = λ input target. ⊤;
 }
 
--- What is said of the files, and that they are as they were: none was opened to be written.
+-- What a command found and what it left: the disk before it; how it left the file that it closed; and that the files are as they
+-- were, so that none was opened to be written.
 pub record Store : Type 1 where
   pub disk : Disk
+  pub left : List ℕ → Option (List ℕ) → ℕ → Type 0
   pub is_kept : Type 0
 
 abbrev pub store : {F : Type 0} → (F → Disk) → F → F → Store
-store disk old new = record { disk = disk old; is_kept = new ≡ old }
+store disk old new = record { disk = disk old; left = (disk new).left; is_kept = new ≡ old }
+
+-- ---- a file that is read
 
 -- no file opens at the path to be read
 abbrev pub FailsToOpen : Disk → List ℕ → Type 0
 FailsToOpen disk path = (path ≢ codes "-") × disk.fails path
 
--- the file that is asked for, if there is one, is the input
-abbrev pub AreOne : Disk → List ℕ → Option (Bor (List ℕ)) → Type 0
-AreOne disk input None = ⊥
-AreOne disk input (Some output) = disk.one input output.now
+-- The source was opened at the path: it is read there from this state to the one in which it is left, whichever that is.
+abbrev pub IsOpened : {S : Type 0} → Disk → List ℕ → (S → Option (List ℕ)) → (S → ℕ) → S → Type 0
+IsOpened {S = S} disk path remaining failures opened =
+    (left : S) → disk.gives path (reading remaining failures opened left)
 
--- why the input of this operand was not read: it does not open; or it is the file that is asked for
+-- the target, if there is one, is the file of the input
+abbrev pub IsTarget : Disk → List ℕ → Option (Bor (List ℕ)) → Type 0
+IsTarget disk input None = ⊥
+IsTarget disk input (Some target) = disk.one input target.now
+
+-- Why the input of this operand is not read: it does not open; or it opens, and is the target.
 abbrev pub IsBarred : Disk → Operand → List ℕ → Option (Bor (List ℕ)) → Fate → Type 0
-IsBarred disk operand input output f =
-    ((f ≡ CannotOpen) × FailsToOpen disk input) ⊎ ((f ≡ OneFile operand) × AreOne disk input output)
+IsBarred disk operand input target f =
+    ((f ≡ CannotOpen) × FailsToOpen disk input)
+    ⊎ ((f ≡ OneFile operand) × IsTarget disk input target
+    × ((read : Reading) × disk.gives input read))
 
--- however the source is read from now on, a file at the path is read so
-abbrev pub IsGiven : {S : Type 0} → Disk → List ℕ → (S → Option (List ℕ)) → (S → ℕ) → S → Type 0
-IsGiven {S = S} disk path remaining failures source =
-    (after : S) → disk.gives path (reading remaining failures source after)
+-- ---- a file that is written
 
--- however the sink is written from now on, a file at the path is written so
-abbrev pub IsTaken : {S : Type 0} → Disk → List ℕ → (S → Option (List ℕ)) → (S → ℕ) → S → Type 0
-IsTaken {S = S} disk path contents failures sink =
-    (after : S) → disk.takes path (writing contents failures sink after)
+-- the file at the path was emptied, written so, and closed; and nothing was done to the files behind this
+abbrev pub IsWritten : Store → List ℕ → Writing → Type 0
+IsWritten store path file =
+    store.disk.empties path file.old file.before × store.left path file.new file.after

@@ -1,4 +1,4 @@
--- How the program ends: its status, and the line on standard error, if there is one.
+-- How the program ends, by what it came to: its status, and the line on standard error, if there is one.
 use Rattle.std.specs.Prelude.{◌≡◌, ◌⊎◌, Bool, Some, None, ℕ, ◌++◌, [], List, decimal, codes, true, false, if◌then◌else◌, nat_le, Option, Result, Ok, Err}
 use Rattle.velo_events.specs.declared.refusal.Refusal.{Refusal}
 use Rattle.velo_events.specs.declared.refusal.Refusal.TheVariants.{Halted, NotLive, NoSuchVariable, NoSuchLock, NoSuchThread, Busy, AlreadyHeld, NotHolder, NoOpenBlock, TooDeep, AlreadyForked, NotForked, NotExited, AlreadyJoined, BlockOpen, LockHeld, LogFull, GraphFull, WouldDeadlock, RuntimeMemory, Foreign}
@@ -25,6 +25,7 @@ use Rattle.velo_program.specs.declared.fate.Fate.TheVariants as fate
 use Rattle.velo_program.specs.declared.request.Operand.{Operand}
 use Rattle.velo_program.specs.declared.request.Operand.TheVariants as operand
 
+-- the numbers of refusals
 abbrev pub number_of : Refusal → ℕ
 number_of Halted = 1
 number_of NotLive = 2
@@ -49,26 +50,32 @@ number_of WouldDeadlock = 20
 number_of RuntimeMemory = 21
 number_of Foreign = 22
 
--- 2 where the log is at fault, 4 where a limit was met, 5 where memory or a device failed
+-- ---- the status: 0 done, 2 bad input, 3 alarm, 4 not done to the end, 5 memory or a device failed
+
 abbrev pub status_of_log : LogFault → ℕ
 status_of_log Read = 5
 status_of_log log_fault.Memory = 5
 status_of_log _ = 2
 
+-- A refused event: 2 by the state before it (refusals 2 to 16), 4 by a limit of events or of nodes (17 and 18). No check tells
+-- another refusal.
+abbrev pub status_of_refused : Refusal → ℕ
+status_of_refused refusal = if nat_le (number_of LogFull) (number_of refusal) then 4 else 2
+
 abbrev pub status_of_check : CheckFault → ℕ
 status_of_check (Log fault) = status_of_log fault
-status_of_check (Refused position refusal) = if nat_le 17 (number_of refusal) then 4 else 2
+status_of_check (Refused position refusal) = status_of_refused refusal
 status_of_check (WrongValue position) = 2
 status_of_check Write = 5
 status_of_check Memory = 5
 
 -- 5 where memory was refused, 4 where the run could not go on; else 0 without an alarm, 3 with one
-abbrev pub status_of_end : Ending → Bool → ℕ
-status_of_end (ending.Refused thread refusal.Memory) alarm = 5
-status_of_end (ending.Refused thread RuntimeMemory) alarm = 5
-status_of_end (ending.Refused thread refused) alarm = 4
-status_of_end ending.Stuck alarm = 4
-status_of_end _ alarm = if alarm then 3 else 0
+abbrev pub status_of_ending : Ending → Bool → ℕ
+status_of_ending (ending.Refused thread refusal.Memory) alarm = 5
+status_of_ending (ending.Refused thread RuntimeMemory) alarm = 5
+status_of_ending (ending.Refused thread refused) alarm = 4
+status_of_ending ending.Stuck alarm = 4
+status_of_ending _ alarm = if alarm then 3 else 0
 
 abbrev pub status_of_schedule : ScheduleFault → ℕ
 status_of_schedule schedule_fault.Bad = 2
@@ -79,7 +86,7 @@ status_of_work work_fault.Memory = 5
 status_of_work _ = 2
 
 abbrev pub status_of : Fate → ℕ
-status_of (Finished how alarm) = status_of_end how alarm
+status_of (Finished how alarm) = status_of_ending how alarm
 status_of (Schedule fault) = status_of_schedule fault
 status_of (Work fault) = status_of_work fault
 status_of (Check fault) = status_of_check fault
@@ -89,6 +96,8 @@ status_of ReadFailed = 5
 status_of WriteFailed = 5
 status_of fate.Memory = 5
 status_of Lost = 5
+
+-- ---- the line on standard error
 
 abbrev pub line_of_log : LogFault → List ℕ
 line_of_log BadHeader = codes "log fault 1\n"
@@ -112,12 +121,12 @@ line_of_refused thread refusal =
     codes "refused " ++ decimal (number_of refusal)
     ++ codes " thread " ++ decimal thread.0 ++ codes "\n"
 
-abbrev pub line_of_end : Ending → List ℕ
-line_of_end (ending.Refused thread refusal.Memory) = codes "out of memory\n"
-line_of_end (ending.Refused thread RuntimeMemory) = codes "out of memory\n"
-line_of_end (ending.Refused thread refused) = line_of_refused thread refused
-line_of_end ending.Stuck = codes "stuck\n"
-line_of_end _ = []
+abbrev pub line_of_ending : Ending → List ℕ
+line_of_ending (ending.Refused thread refusal.Memory) = codes "out of memory\n"
+line_of_ending (ending.Refused thread RuntimeMemory) = codes "out of memory\n"
+line_of_ending (ending.Refused thread refused) = line_of_refused thread refused
+line_of_ending ending.Stuck = codes "stuck\n"
+line_of_ending _ = []
 
 abbrev pub line_of_schedule : ScheduleFault → List ℕ
 line_of_schedule schedule_fault.Bad = codes "bad schedule\n"
@@ -142,7 +151,7 @@ line_of_one_file operand.Log = codes "error: LOG and OUT are one file\n"
 line_of_one_file operand.File = codes "error: FILE and OUT are one file\n"
 
 abbrev pub line_of : Fate → List ℕ
-line_of (Finished how alarm) = line_of_end how
+line_of (Finished how alarm) = line_of_ending how
 line_of (Schedule fault) = line_of_schedule fault
 line_of (Work fault) = line_of_work (place_of_work fault)
 line_of (Check fault) = line_of_check fault
@@ -152,6 +161,8 @@ line_of ReadFailed = codes "read failed\n"
 line_of Lost = codes "seat lost\n"
 line_of WriteFailed = codes "write failed\n"
 line_of fate.Memory = codes "out of memory\n"
+
+-- ---- how they are used
 
 -- whether a verdict is an alarm
 abbrev pub is_alarm : Verdict → Bool
@@ -166,9 +177,10 @@ fate_of (Err fault) = Check fault
 
 -- the line went out and this is the status, or the device failed once and the status is 5
 abbrev pub Closes : ℕ → List ℕ → Writing → ℕ → Type 0
-Closes status line err result =
-    ((result ≡ status) × Writes err line) ⊎ ((result ≡ 5) × (err.after ≡ with_failure err.before))
+Closes status line stderr result =
+    ((result ≡ status) × Writes stderr line)
+    ⊎ ((result ≡ 5) × (stderr.after ≡ with_failure stderr.before))
 
--- the end is that of what the program came to
+-- the program ends as what it came to: with its line and its status
 abbrev pub Ends : Fate → Writing → ℕ → Type 0
-Ends fate err result = Closes (status_of fate) (line_of fate) err result
+Ends fate stderr result = Closes (status_of fate) (line_of fate) stderr result

@@ -33,13 +33,20 @@ abbrev pub IsTextOf : Option (List ℕ) → Program → Type 0
 IsTextOf read program =
     IfSome read (λ bytes. (length bytes ≤ MOST_WORKLOAD_BYTES) × (meaning_of bytes ≡ Ok program))
 
--- why bytes are the text of none: there are too many of them; or they are no text; or the text has this fault
+-- there are more bytes than a workload may have
+abbrev pub IsTooLong : List ℕ → WorkFault → Type 0
+IsTooLong bytes fault =
+    (MOST_WORKLOAD_BYTES < length bytes) × (fault ≡ work_fault.TooMany 0)
+
+-- they are not UTF-8; or they are, and this is the fault of the text
+abbrev pub HasFault : List ℕ → WorkFault → Type 0
+HasFault bytes fault =
+    ((¬ IsUtf8 bytes) × (fault ≡ work_fault.BadLine 0)) ⊎ ParsesAs (meaning_of bytes) (Err fault)
+
+-- why bytes are the text of no workload: there are too many; else by what they are
 abbrev pub IsFaultOfText : List ℕ → WorkFault → Type 0
 IsFaultOfText bytes fault =
-    ((MOST_WORKLOAD_BYTES < length bytes) × (fault ≡ work_fault.TooMany 0))
-    ⊎ ((length bytes ≤ MOST_WORKLOAD_BYTES)
-    × (((¬ IsUtf8 bytes) × (fault ≡ work_fault.BadLine 0))
-    ⊎ ParsesAs (meaning_of bytes) (Err fault)))
+    IsTooLong bytes fault ⊎ ((length bytes ≤ MOST_WORKLOAD_BYTES) × HasFault bytes fault)
 
 abbrev pub IsFaultOfWork : Option (List ℕ) → WorkFault → Type 0
 IsFaultOfWork read work_fault.Memory = GrowthRefused
@@ -102,13 +109,13 @@ AreNamesOf program (Words threads labels) =
 abbrev pub text_of_log : WorldState → List ℕ
 text_of_log w = log_text w.config.bounds w.log
 
--- what is said of the log of a world by this text and this verdict: its own text for the file, and the ending
+-- what is said of the log of a world by this report and this verdict: the text of the log is to be saved, the report printed
 abbrev pub reported : Ending → WorldState → List ℕ → Verdict → Answer
 reported ended w text verdict =
     record {
-      file = Some (text_of_log w);
-      text = Some text;
-      end = Finished ended (is_alarm verdict);
+      saved = Some (text_of_log w);
+      printed = Some text;
+      fate = Finished ended (is_alarm verdict);
     }
 
 -- the text is the report by these names, with its certificate if that is asked for, and the verdict is that of the log
@@ -121,9 +128,9 @@ pub record IsReported (names : Names) (certificate : Bool) (ended : Ending) (w :
   pub said : answer ≡ reported ended w text verdict
 
 -- without a report only the ending is said; else the names are the program's
-abbrev pub IsEndAnswer : Bool → Program → Bool → Ending → WorldState → Answer → Type 0
-IsEndAnswer true program certificate ended w answer = answer ≡ silent (Finished ended false)
-IsEndAnswer false program certificate ended w answer =
+abbrev pub IsRunReport : Bool → Program → Bool → Ending → WorldState → Answer → Type 0
+IsRunReport true program certificate ended w answer = answer ≡ silent (Finished ended false)
+IsRunReport false program certificate ended w answer =
     (names : Names) × AreNamesOf program names × IsReported names certificate ended w answer
 
 -- a run that came to an end, and what is said of it
@@ -132,7 +139,7 @@ pub record IsPlayed (play : Play) (options : RunOptions) (program : Program) (an
   pub ended : Ending
   pub world : WorldState
   pub is_run : IsRunOf play options program ended world
-  pub says : IsEndAnswer (is_unreported ended) program options.certificate ended world answer
+  pub says : IsRunReport (is_unreported ended) program options.certificate ended world answer
 
 -- a run by threads may lose a seat
 abbrev pub LosesSeat : Play → Answer → Type 0

@@ -1,110 +1,111 @@
--- What the program does with what it is asked for.
+-- What each command does: one definition a command, whose lines are its steps. Read this page first.
+--
+-- The store is the files that the command finds and leaves, stdout is standard output before and after, and f is what the
+-- command comes to. What an answer to the bytes of an input is, stands on the page that each command names.
 use Rattle.std.specs.Prelude.{◌≡◌, ◌⊎◌, ℕ, List, Option, Some, None}
 use Rattle.std.specs.Borrow.{Bor}
 use Rattle.velo_events.specs.declared.event.ThreadId.{ThreadId}
 use Rattle.velo_program.specs.declared.fate.Fate.{Fate}
 use Rattle.velo_program.specs.declared.fate.Fate.TheVariants.{CannotOpen, Schedule}
+use Rattle.velo_program.specs.declared.request.CarryOptions.{CarryOptions}
+use Rattle.velo_program.specs.declared.request.CheckOptions.{CheckOptions}
+use Rattle.velo_program.specs.declared.request.ExplainOptions.{ExplainOptions}
 use Rattle.velo_program.specs.declared.request.Operand.{Operand}
 use Rattle.velo_program.specs.declared.request.Operand.TheVariants.{File, Log}
 use Rattle.velo_program.specs.declared.request.ReplayOptions.{ReplayOptions}
 use Rattle.velo_program.specs.declared.request.Request.{Request}
 use Rattle.velo_program.specs.declared.request.Request.TheVariants.{Carry, Check, Explain, Replay, Run}
+use Rattle.velo_program.specs.declared.request.RunOptions.{RunOptions}
 use Rattle.velo_program.specs.declared.schedule.ScheduleFault.{ScheduleFault}
-use Rattle.velo_program.specs.Carrying.{IsCarryAnswer}
+use Rattle.velo_program.specs.Carrying.{IsCarryAnswer, IsPut}
 use Rattle.velo_program.specs.Check.{IsCheckAnswer}
-use Rattle.velo_program.specs.Delivery.{Answer, IsDelivered, IsTold, failures_after}
-use Rattle.velo_program.specs.Disk.{IsBarred, Store}
-use Rattle.velo_program.specs.Explaining.{ComesOut, IsExplanation}
-use Rattle.velo_program.specs.Playing.{ByThreads, ByTurns, IsPlayAnswer}
-use Rattle.velo_program.specs.Reading.{Reading}
+use Rattle.velo_program.specs.Delivery.{Answer, IsDelivered}
+use Rattle.velo_program.specs.Disk.{IsBarred, IsWritten, Store}
+use Rattle.velo_program.specs.Explaining.{IsExplanation}
+use Rattle.velo_program.specs.Playing.{ByThreads, ByTurns, IsPlayAnswer, Play}
+use Rattle.velo_program.specs.Reading.{FailsAsTold, Reading}
 use Rattle.velo_program.specs.Schedule.{IsFaultOfSchedule, IsSchedule}
 use Rattle.velo_program.specs.Writing.{Writing, WritesNothing}
 
--- ---- a request
+-- ---- what they share
 
--- the path of its input, and that of the file that it wants written
-abbrev pub input_of : Request → List ℕ
-input_of (Check options) = options.log.now
-input_of (Replay options) = options.run.file.now
-input_of (Run options) = options.file.now
-input_of (Explain options) = options.log.now
-input_of (Carry options) = options.log.now
+-- no file was opened to be written, and nothing went to standard output
+abbrev pub WritesNowhere : Store → Writing → Type 0
+WritesNowhere store stdout = store.is_kept × WritesNothing stdout
 
-abbrev pub file_of : Request → Option (Bor (List ℕ))
-file_of (Check options) = None
-file_of (Replay options) = options.run.log
-file_of (Run options) = options.log
-file_of (Explain options) = options.dot
-file_of (Carry options) = Some options.out
+-- the input does not open, or it is the target; and nothing was written
+abbrev pub DoesNotRead : Store → Operand → List ℕ → Option (Bor (List ℕ)) → Writing → Fate → Type 0
+DoesNotRead store operand input target stdout f =
+    IsBarred store.disk operand input target f × WritesNowhere store stdout
 
--- the word of the command line for its input
-abbrev pub operand_of : Request → Operand
-operand_of (Replay options) = File
-operand_of (Run options) = File
-operand_of request = Log
+-- ---- velodrome check LOG [--events N] [--nodes N] [--certificate]
 
--- the text of the schedule is that of this one
-abbrev pub IsScheduleOf : ReplayOptions → List ThreadId → Type 0
-IsScheduleOf options schedule = IsSchedule options.schedule.now schedule
+-- LOG is read whole. The report goes to standard output, and the certificate behind it; or nothing, for a reason (`Check`).
+abbrev pub DoesCheck : CheckOptions → Store → Writing → Fate → Type 0
+DoesCheck options store stdout f =
+    DoesNotRead store Log options.input.now None stdout f
+    ⊎ ((read : Reading) × (answer : Answer)
+    × store.disk.gives options.input.now read × FailsAsTold read f
+    × IsCheckAnswer options.limits.events options.limits.nodes options.certificate
+        read.bytes answer
+    × IsDelivered store None stdout answer f)
 
--- what it has to say of the bytes that were read, where they are known
-abbrev pub IsAnswer : Request → Option (List ℕ) → Answer → Type 0
-IsAnswer (Check options) read answer =
-    IsCheckAnswer options.limits.events options.limits.nodes options.certificate read answer
-IsAnswer (Replay options) read answer =
-    (schedule : List ThreadId) × IsScheduleOf options schedule
-    × IsPlayAnswer (ByTurns schedule) options.run read answer
-IsAnswer (Run options) read answer = IsPlayAnswer ByThreads options read answer
-IsAnswer (Explain options) read answer = IsExplanation read answer
-IsAnswer (Carry options) read answer = IsCarryAnswer read answer
+-- ---- velodrome explain LOG [--dot OUT]
 
--- ---- what was done
+-- LOG is read whole. The picture of the cycle is saved at OUT, if there is a cycle, and then the explanation goes to standard
+-- output; or nothing, for a reason (`Explaining`). Behind a log without a cycle OUT is untouched.
+abbrev pub DoesExplain : ExplainOptions → Store → Writing → Fate → Type 0
+DoesExplain options store stdout f =
+    DoesNotRead store Log options.input.now options.target stdout f
+    ⊎ ((read : Reading) × (answer : Answer)
+    × store.disk.gives options.input.now read × FailsAsTold read f
+    × IsExplanation read.bytes answer
+    × IsDelivered store options.target stdout answer f)
 
--- what became of the answer: that of carrying over goes to the file alone, which is opened before the input is read
-abbrev pub IsPut : Request → Store → Writing → Answer → Fate → Type 0
-IsPut (Explain options) store out answer f = ComesOut store options.dot out answer f
-IsPut (Carry options) store out answer f =
-    ((file : Writing) × store.disk.takes options.out.now file × IsTold file answer f)
-    × WritesNothing out
-IsPut request store out answer f = IsDelivered store (file_of request) out answer f
+-- ---- velodrome carry LOG --log OUT
 
--- an answer to what was read was delivered; and the source failed where this is told, and only there
-pub record IsAnswered (store : Store) (request : Request) (read : Reading) (out : Writing) (fate : Fate)
-    : Type 0 where
-  pub answer : Answer
-  pub is_answer : IsAnswer request read.bytes answer
-  pub put : IsPut request store out answer fate
-  pub failures : read.after ≡ failures_after fate read.before
+-- OUT is emptied, and LOG is read whole. Its text of version 2 is saved at OUT; or nothing, and then OUT is empty (`Carrying`).
+-- Nothing goes to standard output. Where OUT does not open, LOG is not read.
+abbrev pub DoesCarry : CarryOptions → Store → Writing → Fate → Type 0
+DoesCarry options store stdout f =
+    DoesNotRead store Log options.input.now (Some options.target) stdout f
+    ⊎ ((f ≡ CannotOpen) × store.disk.fails options.target.now × WritesNowhere store stdout)
+    ⊎ ((read : Reading) × (answer : Answer) × (file : Writing)
+    × store.disk.gives options.input.now read × FailsAsTold read f
+    × IsCarryAnswer read.bytes answer
+    × IsWritten store options.target.now file × IsPut file answer f × WritesNothing stdout)
 
--- nothing is read: the input does not open, or is the file that is asked for, and none is opened to be written; or that of
--- carrying over does not open
-abbrev pub HasNoInput : Store → Request → Fate → Type 0
-HasNoInput store (Carry options) f =
-    (IsBarred store.disk Log options.log.now (Some options.out) f × store.is_kept)
-    ⊎ ((f ≡ CannotOpen) × store.disk.fails options.out.now)
-HasNoInput store request f =
-    IsBarred store.disk (operand_of request) (input_of request) (file_of request) f × store.is_kept
+-- ---- velodrome run FILE [--stop] [--log OUT] [--events N] [--nodes N] [--certificate]
 
--- what stands at the path of the input was read and answered; or nothing was read, and nothing written
-abbrev pub Responds : Store → Request → Writing → Fate → Type 0
-Responds store request out f =
-    ((read : Reading) × store.disk.gives (input_of request) read
-    × IsAnswered store request read out f)
-    ⊎ (HasNoInput store request f × WritesNothing out)
+-- FILE is read whole, and its threads are played. The log of the run is saved at OUT, and then the report goes to standard
+-- output, and the certificate behind it; or nothing, for a reason (`Playing`).
+abbrev pub DoesPlay : Play → RunOptions → Store → Writing → Fate → Type 0
+DoesPlay play options store stdout f =
+    DoesNotRead store File options.input.now options.target stdout f
+    ⊎ ((read : Reading) × (answer : Answer)
+    × store.disk.gives options.input.now read × FailsAsTold read f
+    × IsPlayAnswer play options read.bytes answer
+    × IsDelivered store options.target stdout answer f)
 
--- the text of the schedule is none, which is told before any file is opened
-pub record HasBadSchedule (options : ReplayOptions) (store : Store) (out : Writing) (f : Fate)
-    : Type 0 where
-  pub fault : ScheduleFault
-  pub is_fault : IsFaultOfSchedule options.schedule.now fault
-  pub told : f ≡ Schedule fault
-  pub nothing : WritesNothing out
-  pub kept : store.is_kept
+abbrev pub DoesRun : RunOptions → Store → Writing → Fate → Type 0
+DoesRun options store stdout f = DoesPlay ByThreads options store stdout f
+
+-- ---- velodrome replay FILE [--schedule TEXT] and the options of run
+
+-- TEXT is no schedule, which is told before any file is opened; or FILE is played by the turns of this schedule.
+abbrev pub DoesReplay : ReplayOptions → Store → Writing → Fate → Type 0
+DoesReplay options store stdout f =
+    ((fault : ScheduleFault) × IsFaultOfSchedule options.schedule.now fault
+    × (f ≡ Schedule fault) × WritesNowhere store stdout)
+    ⊎ ((schedule : List ThreadId) × IsSchedule options.schedule.now schedule
+    × DoesPlay (ByTurns schedule) options.run store stdout f)
+
+-- ---- all of them
 
 -- What was asked for was done.
 abbrev pub Does : Store → Request → Writing → Fate → Type 0
-Does store (Replay options) out f =
-    HasBadSchedule options store out f
-    ⊎ (((schedule : List ThreadId) × IsScheduleOf options schedule)
-    × Responds store (Replay options) out f)
-Does store request out f = Responds store request out f
+Does store (Check options) stdout f = DoesCheck options store stdout f
+Does store (Explain options) stdout f = DoesExplain options store stdout f
+Does store (Carry options) stdout f = DoesCarry options store stdout f
+Does store (Run options) stdout f = DoesRun options store stdout f
+Does store (Replay options) stdout f = DoesReplay options store stdout f

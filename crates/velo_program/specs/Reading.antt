@@ -1,5 +1,10 @@
 -- What a command does to the source of its input, and what reading all of it gives.
-use Rattle.std.specs.Prelude.{ℕ, List, Option}
+use Rattle.std.specs.Prelude.{◌≡◌, ℕ, List, Option}
+use Rattle.velo_logtext.specs.Device.{with_failure}
+use Rattle.velo_logtext.specs.declared.fault.LogFault.TheVariants.{Read}
+use Rattle.velo_program.specs.declared.check.CheckFault.TheVariants.{Log}
+use Rattle.velo_program.specs.declared.fate.Fate.{Fate}
+use Rattle.velo_program.specs.declared.fate.Fate.TheVariants.{Check, ReadFailed}
 
 -- the bytes that a source still gives, where they are known, and how often it has failed, before and after
 pub record Reading : Type 0 where
@@ -10,3 +15,13 @@ pub record Reading : Type 0 where
 abbrev pub reading : {S : Type 0} → (S → Option (List ℕ)) → (S → ℕ) → S → S → Reading
 reading remaining failures old new =
     record { bytes = remaining old; before = failures old; after = failures new }
+
+-- the count of failures of a source behind this fate: once more where it is a failed read, and only there
+abbrev pub failures_after : Fate → ℕ → ℕ
+failures_after (Check (Log Read)) failures = with_failure failures
+failures_after ReadFailed failures = with_failure failures
+failures_after f failures = failures
+
+-- the source failed where the fate is a failed read, and only there
+abbrev pub FailsAsTold : Reading → Fate → Type 0
+FailsAsTold read f = read.after ≡ failures_after f read.before

@@ -4,8 +4,6 @@ use Rattle.std.specs.Io.KnownBytes.{Consumes, IsAtEnd}
 use Rattle.std.specs.Prelude.{◌≡◌, ◌≤◌, ◌⊎◌, ◌++◌, [], ⊤, ℕ, Bool, List, length, Option, Some, None, Result, Ok, Err}
 use Rattle.velo_events.specs.Refusals.{GrowthRefused}
 use Rattle.velo_events.specs.declared.event.Event.{Event}
-use Rattle.velo_explain.specs.declared.fault.ExplainFault.{ExplainFault}
-use Rattle.velo_explain.specs.declared.fault.ExplainFault.TheVariants as explain_fault
 use Rattle.velo_logtext.specs.Device.{with_failure}
 use Rattle.velo_report.specs.declared.names.Names.{Names}
 use Rattle.velo_report.specs.declared.names.Names.TheVariants.{Numbers}
@@ -20,17 +18,15 @@ use Rattle.velo_program.specs.declared.fate.Fate.{Fate}
 use Rattle.velo_program.specs.declared.fate.Fate.TheVariants.{CannotOpen, Memory, WriteFailed}
 use Rattle.velo_program.specs.declared.reading.ReadFault.{ReadFault}
 use Rattle.velo_program.specs.declared.reading.ReadFault.TheVariants as read_fault
-use Rattle.velo_program.specs.declared.request.Request.{Request}
 use Rattle.velo_program.specs.declared.request.Operand.TheVariants.{File}
 use Rattle.velo_program.specs.declared.request.RunOptions.{RunOptions}
 use Rattle.velo_program.specs.Carrying.{Carries}
 use Rattle.velo_program.specs.Check.{IsOutputOf, IsVerdict}
-use Rattle.velo_program.specs.Delivery.{Answer, IsDelivered, IsSaved, IsTold, LacksMemory, failures_after}
-use Rattle.velo_program.specs.Disk.{Disk, IsBarred, Store}
-use Rattle.velo_program.specs.Explaining.{ComesOut, ExplainsVerdict}
-use Rattle.velo_program.specs.Playing.{IsEndAnswer, IsReported, IsRunAnswer, IsTextOf, IsUnread, Play, is_unreported}
-use Rattle.velo_program.specs.Program.{IsAnswer}
-use Rattle.velo_program.specs.Reading.{Reading}
+use Rattle.velo_program.specs.Delivery.{Answer, FailsToSave, IsDelivered, IsPrinted, LacksMemory, Saves, SavesPart}
+use Rattle.velo_program.specs.Disk.{Disk, IsBarred, IsWritten, Store}
+use Rattle.velo_program.specs.Explaining.{ExplainsVerdict, IsExplanation}
+use Rattle.velo_program.specs.Playing.{IsRunReport, IsReported, IsRunAnswer, IsTextOf, IsUnread, Play, is_unreported}
+use Rattle.velo_program.specs.Reading.{FailsAsTold, Reading}
 use Rattle.velo_program.specs.Writing.{BreaksOff, Writes, WritesNothing, Writing}
 
 -- ---- reading a whole source
@@ -63,71 +59,83 @@ HasAlarm log = (alarm : Option Alarm) × AlarmOf log alarm
 
 -- what a world shows by numbers, and its verdict; or a growth was refused
 abbrev pub Shows : Bool → WorldState → Writing → Result Verdict CheckFault → Type 0
-Shows certificate w out (Ok answer) =
+Shows certificate w stdout (Ok answer) =
     IsVerdict w.log answer
-    × ((text : List ℕ) × IsOutputOf Numbers certificate w text × Writes out text)
-Shows certificate w out (Err check_fault.Write) =
+    × ((text : List ℕ) × IsOutputOf Numbers certificate w text × Writes stdout text)
+Shows certificate w stdout (Err check_fault.Write) =
     ((answer : Verdict) × IsVerdict w.log answer)
-    × ((text : List ℕ) × IsOutputOf Numbers certificate w text × BreaksOff out text)
-Shows certificate w out (Err check_fault.Memory) = GrowthRefused × WritesNothing out
-Shows certificate w out (Err fault) = ⊥
+    × ((text : List ℕ) × IsOutputOf Numbers certificate w text × BreaksOff stdout text)
+Shows certificate w stdout (Err check_fault.Memory) = GrowthRefused × WritesNothing stdout
+Shows certificate w stdout (Err fault) = ⊥
 
 -- ---- an explanation
 
--- what drawing the picture came to
-abbrev pub IsDrawn : {X : Type 0} → Store → Option (Bor (List ℕ)) → List ℕ → Result X Fate → Type 0
-IsDrawn store path picture (Err Memory) = GrowthRefused
-IsDrawn store path picture result = IsSaved store path picture result
+-- this answer was delivered, or printed; or a growth was refused, and nothing was written
+abbrev pub DeliversOrLacks : Answer → Store → Option (Bor (List ℕ)) → Writing → Fate → Type 0
+DeliversOrLacks answer store target stdout f =
+    IsDelivered store target stdout answer f
+    ⊎ (GrowthRefused × (f ≡ Memory) × store.is_kept × WritesNothing stdout)
 
--- the verdict of a log was explained, or memory was wanting
+abbrev pub PrintsOrLacks : Answer → Writing → Fate → Type 0
+PrintsOrLacks answer stdout f =
+    IsPrinted stdout answer f ⊎ (GrowthRefused × (f ≡ Memory) × WritesNothing stdout)
+
+-- what was made of a verdict was delivered: its explanation, or that memory was wanting
 abbrev pub Explains : List Event → Store → Option (Bor (List ℕ)) → Writing → Fate → Type 0
-Explains log store path out f =
+Explains log store target stdout f =
     (answer : Answer) × (ExplainsVerdict log answer ⊎ LacksMemory answer)
-    × ComesOut store path out answer f
+    × IsDelivered store target stdout answer f
 
--- what writing an explanation comes to
-abbrev pub fate_of_telling : {X : Type 0} → Result X ExplainFault → Fate → Fate
-fate_of_telling (Ok told) end = end
-fate_of_telling (Err explain_fault.Memory) end = Memory
-fate_of_telling (Err explain_fault.Write) end = WriteFailed
+-- what was made of an input was delivered
+abbrev pub ExplainsInput : Option (Bor (List ℕ)) → Store → Reading → Writing → Fate → Type 0
+ExplainsInput target store read stdout f =
+    FailsAsTold read f
+    × ((answer : Answer) × IsExplanation read.bytes answer
+    × IsDelivered store target stdout answer f)
+
+-- ---- the target
+
+-- what writing the file came to
+abbrev pub IsSaved : {X : Type 0} → Store → Option (Bor (List ℕ)) → List ℕ → Result X Fate
+    → Type 0
+IsSaved store target text (Ok x) = Saves store target (Some text)
+IsSaved store target text (Err CannotOpen) = FailsToSave store target (Some text)
+IsSaved store target text (Err WriteFailed) = SavesPart store target (Some text)
+IsSaved store target text (Err f) = ⊥
 
 -- ---- a run
 
 -- what writing a report came to, whose log was written before
 abbrev pub Reports : Names → Bool → Ending → WorldState
     → Store → Option (Bor (List ℕ)) → Writing → Fate → Type 0
-Reports names certificate ended w store path out f =
+Reports names certificate ended w store target stdout f =
     (answer : Answer) × (IsReported names certificate ended w answer ⊎ LacksMemory answer)
-    × IsDelivered store path out answer f
+    × IsDelivered store target stdout answer f
 
 -- what telling how a run ended came to
 abbrev pub TellsEnd : Program → Bool → Ending → WorldState
     → Store → Option (Bor (List ℕ)) → Writing → Fate → Type 0
-TellsEnd program certificate ended w store path out f =
+TellsEnd program certificate ended w store target stdout f =
     (answer : Answer)
-    × (IsEndAnswer (is_unreported ended) program certificate ended w answer ⊎ LacksMemory answer)
-    × IsDelivered store path out answer f
+    × (IsRunReport (is_unreported ended) program certificate ended w answer ⊎ LacksMemory answer)
+    × IsDelivered store target stdout answer f
 
 -- what playing a workload came to
 abbrev pub Plays : Play → RunOptions → Program → Store → Writing → Fate → Type 0
-Plays play options program store out f =
+Plays play options program store stdout f =
     (answer : Answer) × IsRunAnswer play options program answer
-    × IsDelivered store options.log out answer f
+    × IsDelivered store options.target stdout answer f
 
 -- ---- carrying over
 
 -- the file at the path does not open; or what was read was carried over to it
-abbrev pub CarriesTo : Disk → List ℕ → Reading → Fate → Type 0
-CarriesTo disk path read f =
-    ((f ≡ CannotOpen) × disk.fails path)
-    ⊎ ((file : Writing) × disk.takes path file × Carries read.bytes file f
-    × (read.after ≡ failures_after f read.before))
+abbrev pub CarriesTo : Store → List ℕ → Reading → Fate → Type 0
+CarriesTo store target read f =
+    ((f ≡ CannotOpen) × store.disk.fails target × store.is_kept)
+    ⊎ ((file : Writing) × IsWritten store target file × Carries read.bytes file f
+    × FailsAsTold read f)
 
--- ---- a request
-
--- an answer to what was read, which has nothing for a file, was told on the output
-abbrev pub Tells : Request → Option (List ℕ) → Writing → Fate → Type 0
-Tells request read out f = (answer : Answer) × IsAnswer request read answer × IsTold out answer f
+-- ---- a workload
 
 -- the workload that was opened at the path
 pub record OpensProgram (disk : Disk) (path : List ℕ) (program : Program) : Type 0 where
@@ -141,8 +149,8 @@ pub record IsNoWorkload (disk : Disk) (path : List ℕ) (fate : Fate) : Type 0 w
   pub read : Reading
   pub given : disk.gives path read
   pub unread : IsUnread read.bytes fate
-  pub failures : read.after ≡ failures_after fate read.before
+  pub failures : FailsAsTold read fate
 
 abbrev pub OpensNoProgram : Disk → RunOptions → Fate → Type 0
 OpensNoProgram disk options f =
-    IsNoWorkload disk options.file.now f ⊎ IsBarred disk File options.file.now options.log f
+    IsNoWorkload disk options.input.now f ⊎ IsBarred disk File options.input.now options.target f

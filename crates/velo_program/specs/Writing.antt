@@ -1,4 +1,4 @@
--- What a command does to the sink of its output.
+-- What a command does to a sink: to standard output, to standard error, or to a file that it writes.
 use Rattle.std.specs.Prelude.{◌≡◌, ℕ, List, Option, Result, Ok, Err}
 use Rattle.std.specs.Io.KnownBytes.{Appends}
 use Rattle.velo_logtext.specs.Device.{AppendsBeginning, with_failure}
@@ -16,16 +16,17 @@ writing contents failures old new =
 
 -- the text went out
 abbrev pub Writes : Writing → List ℕ → Type 0
-Writes out text = Appends out.old out.new text × (out.after ≡ out.before)
+Writes sink text = Appends sink.old sink.new text × (sink.after ≡ sink.before)
 
 -- a beginning of it went out, up to the sink's failure
 abbrev pub BreaksOff : Writing → List ℕ → Type 0
-BreaksOff out text = AppendsBeginning out.old out.new text × (out.after ≡ with_failure out.before)
+BreaksOff sink text =
+    AppendsBeginning sink.old sink.new text × (sink.after ≡ with_failure sink.before)
 
 abbrev pub WritesNothing : Writing → Type 0
-WritesNothing out = (out.new ≡ out.old) × (out.after ≡ out.before)
+WritesNothing sink = (sink.new ≡ sink.old) × (sink.after ≡ sink.before)
 
 -- what a writer of a text answers
 abbrev pub Delivers : {X F : Type 0} → Writing → List ℕ → Result X F → Type 0
-Delivers out text (Ok x) = Writes out text
-Delivers out text (Err f) = BreaksOff out text
+Delivers sink text (Ok x) = Writes sink text
+Delivers sink text (Err f) = BreaksOff sink text

@@ -1,12 +1,10 @@
 //! `velodrome carry`.
 ghost use Rattle.std.specs.Prelude.{◌≡◌};
 ghost use Rattle.velo_program.specs.Carrying.{Carries, fate_of_carrying};
-ghost use Rattle.velo_program.specs.Delivery.{failures_after};
-ghost use Rattle.velo_program.specs.Program.{Responds};
-ghost use Rattle.velo_program.specs.Reading.{reading};
+ghost use Rattle.velo_program.specs.Program.{DoesCarry};
+ghost use Rattle.velo_program.specs.Reading.{failures_after, reading};
 ghost use Rattle.velo_program.specs.Disk.{store};
 ghost use Rattle.velo_program.specs.Writing.{Writing, WritesNothing, writing};
-ghost use Rattle.velo_program.specs.declared.request.Request.TheVariants.{Carry};
 ghost use Rattle.velo_program.specs.Steps.{CarriesTo};
 
 use crate::check::CheckFault;
@@ -77,28 +75,27 @@ fn carry_log<I: Source, F: Files>(
     source: &mut I,
     files: &mut F,
 ) -> Fate
-    ensures { CarriesTo (F.disk files.old) options.now.out.now
+    ensures { CarriesTo (store F.disk files.old files.new) options.now.target.now
         (reading I.remaining I.failures source.old source.new) result }
 {
-    match files.create(options.out) {
-        Some(file) => {
-            let answer = carry_run(alloc, source, file);
-            fate_of_carrying(answer)
-        }
-        None => Fate::CannotOpen,
-    }
+    let Some(mut file) = files.create(options.target) else {
+        return Fate::CannotOpen;
+    };
+    let answer = carry_run(alloc, source, &mut file);
+    files.close(options.target, file);
+    fate_of_carrying(answer)
 }
 
 /// Carries the log that was asked for over.
 pub fn carry_file<F: Files>(alloc: Global, options: &CarryOptions, files: &mut F) -> Fate
-    ensures { (out : Writing) → WritesNothing out
-        → Responds (store F.disk files.old files.new) (Carry options.now) out result }
+    ensures { (stdout : Writing) → WritesNothing stdout
+        → DoesCarry options.now (store F.disk files.old files.new) stdout result }
 {
-    if is_standard_input(options.log) {
+    if is_standard_input(options.input) {
         let mut log = files.standard_input();
         return carry_log(alloc, options, &mut log, files);
     }
-    match open_input(files, Operand::Log, options.log, Some(options.out)) {
+    match open_input(files, Operand::Log, options.input, Some(options.target)) {
         Ok(mut log) => carry_log(alloc, options, &mut log, files),
         Err(fate) => fate,
     }

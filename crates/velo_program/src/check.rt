@@ -8,15 +8,14 @@ ghost use Rattle.velo_events.specs.declared.limits.TheConstants.{MOST_EVENTS, MO
 ghost use Rattle.velo_logtext.specs.Text.{AreBounds};
 ghost use Rattle.velo_world.specs.Faults.{world_of};
 ghost use Rattle.velo_program.specs.Check.{Checks, ComesAbout, IsFaultOfInput, IsOrderOrCycle, IsVerdict, WritesOutput};
-ghost use Rattle.velo_program.specs.Delivery.{failures_after};
-ghost use Rattle.velo_program.specs.Program.{Responds};
+ghost use Rattle.velo_program.specs.Program.{DoesCheck};
+ghost use Rattle.velo_program.specs.Reading.{failures_after};
 ghost use Rattle.velo_program.specs.Disk.{store};
 ghost use Rattle.velo_program.specs.Fate.{fate_of, is_alarm};
 ghost use Rattle.velo_program.specs.Faults.{check_fault_of, IsFaultOfLog};
 ghost use Rattle.velo_program.specs.Writing.{writing};
 ghost use Rattle.velo_program.specs.declared.fate.Fate.TheVariants as fate;
-ghost use Rattle.velo_program.specs.declared.request.Request.TheVariants.{Check};
-ghost use Rattle.velo_program.specs.Steps.{HasAlarm, Shows, Tells};
+ghost use Rattle.velo_program.specs.Steps.{HasAlarm, Shows};
 
 use crate::fate::Fate;
 use crate::files::{Files, is_standard_input, open_input};
@@ -329,7 +328,8 @@ fn check_log<I: Source, O: Sink>(
     log: &mut I,
     out: &mut O,
 ) -> Fate
-    ensures told { Tells (Check options.now) (I.remaining log.old)
+    ensures told { Checks options.now.limits.events options.now.limits.nodes
+        options.now.certificate (I.remaining log.old)
         (writing O.contents O.failures out.old out.new) result }
     ensures failures { I.failures log.new ≡ failures_after result (I.failures log.old) }
 {
@@ -351,13 +351,13 @@ pub fn check_file<F: Files, O: Sink>(
     files: &mut F,
     out: &mut O,
 ) -> Fate
-    ensures { Responds (store F.disk files.old files.new) (Check options.now)
+    ensures { DoesCheck options.now (store F.disk files.old files.new)
         (writing O.contents O.failures out.old out.new) result }
 {
-    if is_standard_input(options.log) {
+    if is_standard_input(options.input) {
         return check_log(alloc, options, &mut files.standard_input(), out);
     }
-    match open_input(files, Operand::Log, options.log, None) {
+    match open_input(files, Operand::Log, options.input, None) {
         Ok(mut log) => check_log(alloc, options, &mut log, out),
         Err(fate) => fate,
     }

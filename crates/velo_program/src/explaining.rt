@@ -1,17 +1,17 @@
 //! `velodrome explain`.
-ghost use Rattle.std.specs.Prelude.{◌≡◌, ◌≤◌, length};
+ghost use Rattle.std.specs.Prelude.{◌≤◌, Some, length};
+ghost use Rattle.velo_events.specs.Graph.{HasCycle};
 ghost use Rattle.velo_events.specs.declared.limits.TheConstants.{MOST_EVENTS};
 ghost use Rattle.velo_explain.specs.Evidence.{IsEvidenceAt};
-ghost use Rattle.velo_explain.specs.Picture.{picture_text};
 ghost use Rattle.velo_worker.specs.declared.ending.Ending.TheVariants.{Done};
-ghost use Rattle.velo_program.specs.Explaining.{ComesOut, explained};
-ghost use Rattle.velo_program.specs.Program.{IsAnswered, Responds};
+ghost use Rattle.velo_program.specs.Delivery.{IsPrinted, printing};
+ghost use Rattle.velo_program.specs.Explaining.{counted, explained};
+ghost use Rattle.velo_program.specs.Program.{DoesExplain};
 ghost use Rattle.velo_program.specs.Reading.{reading};
 ghost use Rattle.velo_program.specs.Disk.{store};
 ghost use Rattle.velo_program.specs.Writing.{writing};
 ghost use Rattle.velo_program.specs.declared.fate.Fate.TheVariants.{Finished};
-ghost use Rattle.velo_program.specs.declared.request.Request.TheVariants.{Explain};
-ghost use Rattle.velo_program.specs.Steps.{Explains, IsDrawn, fate_of_telling};
+ghost use Rattle.velo_program.specs.Steps.{DeliversOrLacks, Explains, ExplainsInput, IsSaved, PrintsOrLacks};
 
 use crate::check::do_input;
 use crate::fate::Fate;
@@ -19,73 +19,88 @@ use crate::files::{Files, is_standard_input, open_input};
 use crate::request::{ExplainOptions, Operand};
 use std::alloc::Global;
 use velo_certify::CertFault;
-use velo_events::{MOST_EVENTS, MOST_NODES};
-use velo_explain::{Evidence, ExplainFault, evidence_of, explain, explain_clean, picture};
-use velo_logtext::{Sink, Source};
+use velo_events::{MOST_EVENTS, MOST_NODES, Memory};
+use velo_explain::{Evidence, evidence_of, explain, explain_clean, picture};
+use velo_logtext::{Sink, Source, WriteFault, write_all};
 use velo_traces::Trace;
 use velo_worker::Ending;
 use velo_world::Closed;
 
-/// What an explanation came to.
-fn fate_of_telling(answer: Result<(), ExplainFault>, alarm: bool) -> Fate
-    ensures { result ≡ fate_of_telling answer (Finished Done alarm) }
+/// Saves a text at a path.
+///
+/// # Errors
+/// `CannotOpen` where no file opens there; `WriteFailed` where it failed, behind a beginning.
+fn save<F: Files>(text: &[u8], path: &str, files: &mut F) -> Result<(), Fate>
+    ensures { IsSaved (store F.disk files.old files.new) (Some path.entry) text.now result }
 {
-    match answer {
+    let Some(mut file) = files.create(path) else {
+        return Err(Fate::CannotOpen);
+    };
+    let written = write_all(&mut file, text);
+    files.close(path, file);
+    match written {
+        Ok(()) => Ok(()),
+        Err(WriteFault) => Err(Fate::WriteFailed),
+    }
+}
+
+/// Prints the words of a verdict.
+fn print<O: Sink>(words: &[u8], alarm: bool, out: &mut O) -> Fate
+    ensures { IsPrinted (writing O.contents O.failures out.old out.new)
+        (printing words.now (Finished Done alarm)) result }
+{
+    match write_all(out, words) {
         Ok(()) => Fate::Finished {
             ending: Ending::Done,
             alarm,
         },
-        Err(ExplainFault::Memory) => Fate::Memory,
-        Err(ExplainFault::Write) => Fate::WriteFailed,
+        Err(WriteFault) => Fate::WriteFailed,
     }
 }
 
-/// Writes the picture to the path, if there is one.
-fn draw<F: Files>(
-    alloc: Global,
-    log: &Trace,
-    position: usize,
-    evidence: &Evidence,
-    path: Option<&str>,
-    files: &mut F,
-) -> Result<(), Fate>
-    requires few { length log.now.events ≤ MOST_EVENTS }
-    requires evidence { IsEvidenceAt log.now.events position evidence.now }
-    ensures { IsDrawn (store F.disk files.old files.new) path.entry
-        (picture_text log.now.events evidence.now) result }
-{
-    let Some(path) = path else {
-        return Ok(());
-    };
-    let Some(file) = files.create(path) else {
-        return Err(Fate::CannotOpen);
-    };
-    match picture(alloc, log, position, evidence, file) {
-        Ok(()) => Ok(()),
-        Err(ExplainFault::Memory) => Err(Fate::Memory),
-        Err(ExplainFault::Write) => Err(Fate::WriteFailed),
-    }
-}
-
-/// Explains an alarm by its evidence. The picture is written first.
+/// Explains an alarm by its evidence: the picture is saved at the target, if there is one, and then the words are printed.
+/// Both are made before.
 fn explain_by<F: Files, O: Sink>(
     alloc: Global,
     log: &Trace,
     position: usize,
     evidence: &Evidence,
-    path: Option<&str>,
+    target: Option<&str>,
     files: &mut F,
     out: &mut O,
 ) -> Fate
     requires few { length log.now.events ≤ MOST_EVENTS }
     requires evidence { IsEvidenceAt log.now.events position evidence.now }
-    ensures { ComesOut (store F.disk files.old files.new) path.entry
-        (writing O.contents O.failures out.old out.new)
-        (explained log.now.events position evidence.now) result }
+    ensures { DeliversOrLacks (explained log.now.events position evidence.now)
+        (store F.disk files.old files.new) target.entry
+        (writing O.contents O.failures out.old out.new) result }
 {
-    match draw(alloc, log, position, evidence, path, files) {
-        Ok(()) => fate_of_telling(explain(alloc, log, position, evidence, out), true),
+    let words = match explain(alloc, log, position, evidence) {
+        Ok(words) => words,
+        Err(Memory) => return Fate::Memory,
+    };
+    let Some(path) = target else {
+        return print(words.as_slice(), true, out);
+    };
+    let drawing = match picture(alloc, log, position, evidence) {
+        Ok(drawing) => drawing,
+        Err(Memory) => return Fate::Memory,
+    };
+    match save(drawing.as_slice(), path, files) {
+        Ok(()) => print(words.as_slice(), true, out),
         Err(fate) => fate,
+    }
+}
+
+/// Explains that a log has no cycle.
+fn explain_without<O: Sink>(alloc: Global, log: &Trace, out: &mut O) -> Fate
+    requires { ¬ HasCycle log.now.events }
+    ensures { PrintsOrLacks (counted log.now.events)
+        (writing O.contents O.failures out.old out.new) result }
+{
+    match explain_clean(alloc, log) {
+        Ok(words) => print(words.as_slice(), false, out),
+        Err(Memory) => Fate::Memory,
     }
 }
 
@@ -93,22 +108,22 @@ fn explain_by<F: Files, O: Sink>(
 fn explain_closed<F: Files, O: Sink>(
     alloc: Global,
     closed: &Closed,
-    path: Option<&str>,
+    target: Option<&str>,
     files: &mut F,
     out: &mut O,
 ) -> Fate
     requires { length closed.now.log ≤ MOST_EVENTS }
-    ensures { Explains closed.now.log (store F.disk files.old files.new) path.entry
+    ensures { Explains closed.now.log (store F.disk files.old files.new) target.entry
         (writing O.contents O.failures out.old out.new) result }
 {
     let log = closed.log();
     let Some(alarm) = closed.alarm() else {
-        return fate_of_telling(explain_clean(alloc, log, out), false);
+        return explain_without(alloc, log, out);
     };
     let position = alarm.position;
     match evidence_of(alloc, log, position, alarm.blamed.as_slice()) {
         Ok(evidence) => {
-            let fate = explain_by(alloc, log, position, &evidence, path, files, out);
+            let fate = explain_by(alloc, log, position, &evidence, target, files, out);
             drop(evidence);
             fate
         }
@@ -126,13 +141,13 @@ fn explain_log<I: Source, F: Files, O: Sink>(
     files: &mut F,
     out: &mut O,
 ) -> Fate
-    ensures { IsAnswered (store F.disk files.old files.new) (Explain options.now)
+    ensures { ExplainsInput options.now.target (store F.disk files.old files.new)
         (reading I.remaining I.failures source.old source.new)
         (writing O.contents O.failures out.old out.new) result }
 {
     match do_input(alloc, source, MOST_EVENTS, MOST_NODES) {
         Ok(closed) => {
-            let fate = explain_closed(alloc, &closed, options.dot, files, out);
+            let fate = explain_closed(alloc, &closed, options.target, files, out);
             drop(closed);
             fate
         }
@@ -147,14 +162,14 @@ pub fn explain_file<F: Files, O: Sink>(
     files: &mut F,
     out: &mut O,
 ) -> Fate
-    ensures { Responds (store F.disk files.old files.new) (Explain options.now)
+    ensures { DoesExplain options.now (store F.disk files.old files.new)
         (writing O.contents O.failures out.old out.new) result }
 {
-    if is_standard_input(options.log) {
+    if is_standard_input(options.input) {
         let mut log = files.standard_input();
         return explain_log(alloc, options, &mut log, files, out);
     }
-    match open_input(files, Operand::Log, options.log, options.dot) {
+    match open_input(files, Operand::Log, options.input, options.target) {
         Ok(mut log) => explain_log(alloc, options, &mut log, files, out),
         Err(fate) => fate,
     }

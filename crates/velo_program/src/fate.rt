@@ -2,7 +2,7 @@
 ghost use Rattle.std.specs.Prelude.{◌≡◌, ◌≤◌, ◌++◌, [], codes, decimal, length, take, IfOk, OnOk, OnErr};
 ghost use Rattle.velo_logtext.specs.Device.{with_failure};
 ghost use Rattle.velo_program.specs.Writing.{Writes, writing};
-ghost use Rattle.velo_program.specs.Fate.{Ends, number_of, status_of, status_of_check, status_of_log, status_of_end, status_of_schedule, status_of_work, place_of_work, line_of, line_of_check, line_of_log, line_of_end, line_of_one_file, line_of_refused, line_of_schedule, line_of_work};
+ghost use Rattle.velo_program.specs.Fate.{Ends, number_of, status_of, status_of_check, status_of_log, status_of_refused, status_of_ending, status_of_schedule, status_of_work, place_of_work, line_of, line_of_check, line_of_log, line_of_ending, line_of_one_file, line_of_refused, line_of_schedule, line_of_work};
 
 use crate::check::CheckFault;
 use crate::request::Operand;
@@ -58,20 +58,30 @@ fn status_of_log(fault: LogFault) -> u8
     }
 }
 
+/// The status of a check whose log has an event that is refused.
+fn status_of_refused(refusal: Refusal) -> u8
+    ensures { result ≡ status_of_refused refusal }
+{
+    if number_of(refusal) >= number_of(Refusal::LogFull) {
+        INCOMPLETE
+    } else {
+        BAD_INPUT
+    }
+}
+
 fn status_of_check(fault: CheckFault) -> u8
     ensures { result ≡ status_of_check fault }
 {
     match fault {
         CheckFault::Log(fault) => status_of_log(fault),
-        CheckFault::Refused { refusal, .. } if number_of(refusal) >= number_of(Refusal::LogFull) =>
-            INCOMPLETE,
-        CheckFault::Refused { .. } | CheckFault::WrongValue { .. } => BAD_INPUT,
+        CheckFault::Refused { refusal, .. } => status_of_refused(refusal),
+        CheckFault::WrongValue { .. } => BAD_INPUT,
         CheckFault::Write | CheckFault::Memory => FAILED,
     }
 }
 
-fn status_of_end(ending: Ending, alarm: bool) -> u8
-    ensures { result ≡ status_of_end ending alarm }
+fn status_of_ending(ending: Ending, alarm: bool) -> u8
+    ensures { result ≡ status_of_ending ending alarm }
 {
     match ending {
         Ending::Refused(_, Refusal::Memory | Refusal::RuntimeMemory) => FAILED,
@@ -102,7 +112,7 @@ fn status_of(fate: Fate) -> u8
     ensures { result ≡ status_of fate }
 {
     match fate {
-        Fate::Finished { ending, alarm } => status_of_end(ending, alarm),
+        Fate::Finished { ending, alarm } => status_of_ending(ending, alarm),
         Fate::Schedule(fault) => status_of_schedule(fault),
         Fate::Work(fault) => status_of_work(fault),
         Fate::Check(fault) => status_of_check(fault),
@@ -165,7 +175,7 @@ fn put_check_fault(buffer: &mut [u8], fault: CheckFault) -> usize
 /// Puts the line of an ending at the front of a buffer, and answers where it ends: at 0 if there is none.
 fn put_ending(buffer: &mut [u8], ending: Ending) -> usize
     requires { 64 ≤ length buffer.old }
-    ensures text { take result buffer.new ≡ line_of_end ending }
+    ensures text { take result buffer.new ≡ line_of_ending ending }
     ensures end { result ≤ length buffer.new }
 {
     match ending {

@@ -1,6 +1,6 @@
 //! Files of the program.
 ghost use Rattle.std.specs.Prelude.{◌≡◌, ◌≢◌, ◌↔◌, codes, IfErr, IfOk, IfSome, IsNone, IsTrue};
-ghost use Rattle.velo_program.specs.Disk.{Disk, IsBarred, IsGiven, IsTaken, untold};
+ghost use Rattle.velo_program.specs.Disk.{Disk, IsBarred, IsOpened, untold};
 
 use crate::fate::Fate;
 use crate::request::Operand;
@@ -13,7 +13,7 @@ pub trait Files {
     /// Standard input.
     type StandardInput: Source + Drop;
     /// A file that was opened to be written.
-    type Output: Sink;
+    type Output: Sink + Drop;
 
     /// What is said of the files: nothing, unless an implementation says more.
     ghost disk: { Self → Disk } = { λ _. untold };
@@ -21,28 +21,34 @@ pub trait Files {
     /// Opens the file at a path to be read; none where this fails. The path `-` is that of standard input, and of no file.
     fn open(&self, path: &str) -> Option<Self::Input>
         requires { path.now ≢ codes "-" }
-        ensures some { IfSome result (IsGiven (disk self.now) path.now
+        ensures some { IfSome result (IsOpened (disk self.now) path.now
             Self.Input.remaining Self.Input.failures) }
         ensures none { IsNone result → (disk self.now).fails path.now };
 
     /// Standard input.
     fn standard_input(&self) -> Self::StandardInput
-        ensures { IsGiven (disk self.now) (codes "-")
+        ensures { IsOpened (disk self.now) (codes "-")
             Self.StandardInput.remaining Self.StandardInput.failures result };
 
     /// Whether the file that opened at a path to be read is the file at another one, which is to be emptied: where this is
     /// not known, it is another file.
-    fn are_one(&self, input: &str, output: &str) -> bool
-        ensures { IsTrue result → (disk self.now).one input.now output.now }
+    fn are_one(&self, input: &str, target: &str) -> bool
+        ensures { IsTrue result → (disk self.now).one input.now target.now }
     {
         false
     }
 
-    /// Opens the file at a path to be written, and empties it; none where this fails.
-    fn create(&mut self, path: &str) -> Option<&mut Self::Output>
-        ensures some { IfSome result (λ file. IsTaken (disk self.old) path.now
-            Self.Output.contents Self.Output.failures file.now) }
-        ensures none { IsNone result → (disk self.old).fails path.now };
+    /// Opens the file at a path to be written, and empties it; none where this fails, and then the files are as they were.
+    fn create(&mut self, path: &str) -> Option<Self::Output>
+        ensures some { IfSome result (λ file. (disk self.old).empties path.now
+            (Self.Output.contents file) (Self.Output.failures file)) }
+        ensures none { IsNone result → (disk self.old).fails path.now }
+        ensures kept { IsNone result → self.new ≡ self.old };
+
+    /// Closes the file that was opened at a path to be written.
+    fn close(&mut self, path: &str, file: Self::Output)
+        ensures { (disk self.new).left path.now
+            (Self.Output.contents file) (Self.Output.failures file) };
 }
 
 /// Whether the path stands for standard input.
@@ -52,26 +58,26 @@ pub fn is_standard_input(path: &str) -> bool
     path == "-"
 }
 
-/// Opens the file of a command's input. It may not be the file that the command is to empty, if there is one.
+/// Opens the file of a command's input. It may not be the command's target, which is to be emptied, if there is one.
 ///
 /// # Errors
-/// `CannotOpen` where it does not open; `OneFile` where it is the file to be emptied.
+/// `CannotOpen` where it does not open; else `OneFile` where it is the target.
 pub fn open_input<F: Files>(
     files: &F,
     operand: Operand,
     input: &str,
-    output: Option<&str>,
+    target: Option<&str>,
 ) -> Result<F::Input, Fate>
     requires { input.now ≢ codes "-" }
-    ensures given { IfOk result (IsGiven (F.disk files.now) input.now
+    ensures given { IfOk result (IsOpened (F.disk files.now) input.now
         F.Input.remaining F.Input.failures) }
-    ensures barred { IfErr result (IsBarred (F.disk files.now) operand input.now output.entry) }
+    ensures barred { IfErr result (IsBarred (F.disk files.now) operand input.now target.entry) }
 {
     let Some(file) = files.open(input) else {
         return Err(Fate::CannotOpen);
     };
-    match output {
-        Some(output) if files.are_one(input, output) => Err(Fate::OneFile(operand)),
+    match target {
+        Some(target) if files.are_one(input, target) => Err(Fate::OneFile(operand)),
         _ => Ok(file),
     }
 }

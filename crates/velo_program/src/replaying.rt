@@ -1,9 +1,8 @@
 //! `velodrome replay`.
 ghost use Rattle.velo_program.specs.Playing.{ByTurns};
-ghost use Rattle.velo_program.specs.Program.{Does, IsScheduleOf, Responds};
+ghost use Rattle.velo_program.specs.Program.{DoesPlay, DoesReplay};
 ghost use Rattle.velo_program.specs.Disk.{store};
 ghost use Rattle.velo_program.specs.Writing.{writing};
-ghost use Rattle.velo_program.specs.declared.request.Request.TheVariants.{Replay};
 ghost use Rattle.velo_program.specs.Steps.{Plays};
 
 use crate::fate::Fate;
@@ -41,17 +40,16 @@ fn replay_workload<F: Files, O: Sink>(
 fn replay_by<F: Files, O: Sink>(
     alloc: Global,
     schedule: &[ThreadId],
-    options: &ReplayOptions,
+    options: &RunOptions,
     files: &mut F,
     out: &mut O,
 ) -> Fate
-    requires { IsScheduleOf options.now schedule.now }
-    ensures { Responds (store F.disk files.old files.new) (Replay options.now)
+    ensures { DoesPlay (ByTurns schedule.now) options.now (store F.disk files.old files.new)
         (writing O.contents O.failures out.old out.new) result }
 {
-    match open_workload(alloc, &options.run, files) {
+    match open_workload(alloc, options, files) {
         Ok(workload) => {
-            let fate = replay_workload(alloc, &workload, schedule, &options.run, files, out);
+            let fate = replay_workload(alloc, &workload, schedule, options, files, out);
             drop(workload);
             fate
         }
@@ -67,12 +65,12 @@ pub fn replay_file<F: Files, O: Sink>(
     files: &mut F,
     out: &mut O,
 ) -> Fate
-    ensures { Does (store F.disk files.old files.new) (Replay options.now)
+    ensures { DoesReplay options.now (store F.disk files.old files.new)
         (writing O.contents O.failures out.old out.new) result }
 {
     match schedule_of(alloc, options.schedule) {
         Ok(schedule) => {
-            let fate = replay_by(alloc, &schedule, options, files, out);
+            let fate = replay_by(alloc, &schedule, &options.run, files, out);
             drop(schedule);
             fate
         }

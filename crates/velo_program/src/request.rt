@@ -19,7 +19,7 @@ pub struct Limits {
 #[derive(Clone, Copy, Debug)]
 pub struct CheckOptions<'a> {
     /// The path of the log, or `-`.
-    pub log: &'a str,
+    pub input: &'a str,
     /// The limits within which the log is checked.
     pub limits: Limits,
     /// Whether the certificate of the verdict is written behind the report.
@@ -30,11 +30,11 @@ pub struct CheckOptions<'a> {
 #[derive(Clone, Copy, Debug)]
 pub struct RunOptions<'a> {
     /// The path of the workload, or `-`.
-    pub file: &'a str,
+    pub input: &'a str,
     /// Whether the event that closes the first cycle ends the run.
     pub stop: bool,
-    /// The path where the log is written.
-    pub log: Option<&'a str>,
+    /// The path where the log of the run is saved.
+    pub target: Option<&'a str>,
     /// The limits of the run.
     pub limits: Limits,
     /// Whether the certificate of the verdict is written behind the report.
@@ -54,18 +54,18 @@ pub struct ReplayOptions<'a> {
 #[derive(Clone, Copy, Debug)]
 pub struct ExplainOptions<'a> {
     /// The path of the log, or `-`.
-    pub log: &'a str,
-    /// The path where the picture of the cycle is written.
-    pub dot: Option<&'a str>,
+    pub input: &'a str,
+    /// The path where the picture of the cycle is saved.
+    pub target: Option<&'a str>,
 }
 
 /// What `velodrome carry` was asked for.
 #[derive(Clone, Copy, Debug)]
 pub struct CarryOptions<'a> {
     /// The path of the log, or `-`.
-    pub log: &'a str,
-    /// The path where it is written.
-    pub out: &'a str,
+    pub input: &'a str,
+    /// The path where it is saved.
+    pub target: &'a str,
 }
 
 /// The word of the command line that names an input.

@@ -1,9 +1,8 @@
 //! `velodrome run`.
 ghost use Rattle.velo_program.specs.Playing.{ByThreads};
-ghost use Rattle.velo_program.specs.Program.{Responds};
+ghost use Rattle.velo_program.specs.Program.{DoesRun};
 ghost use Rattle.velo_program.specs.Disk.{store};
 ghost use Rattle.velo_program.specs.Writing.{writing};
-ghost use Rattle.velo_program.specs.declared.request.Request.TheVariants.{Run};
 ghost use Rattle.velo_program.specs.Steps.{Plays};
 
 use crate::fate::Fate;
@@ -45,7 +44,7 @@ pub fn run_file<R: Threads + Wait + Sync, F: Files, O: Sink>(
     files: &mut F,
     out: &mut O,
 ) -> Fate
-    ensures { Responds (store F.disk files.old files.new) (Run options.now)
+    ensures { DoesRun options.now (store F.disk files.old files.new)
         (writing O.contents O.failures out.old out.new) result }
 {
     match open_workload(alloc, options, files) {

@@ -1,11 +1,11 @@
 //! Workloads that run: where they are read, and what their runs show.
 ghost use Rattle.std.specs.Prelude.{◌≡◌, Some, IfOk, IfErr, IfSome, OnOk, is_some};
 ghost use Rattle.velo_program.specs.Check.{IsOrderOrCycle};
-ghost use Rattle.velo_program.specs.Delivery.{IsSaved, failures_after};
+ghost use Rattle.velo_program.specs.Reading.{failures_after};
 ghost use Rattle.velo_program.specs.Playing.{IsConfigOf, IsFaultOfWork, IsTextOf, IsUnread, is_unreported, text_of_log};
 ghost use Rattle.velo_program.specs.Disk.{store};
 ghost use Rattle.velo_program.specs.Writing.{writing};
-ghost use Rattle.velo_program.specs.Steps.{OpensNoProgram, OpensProgram, Reports, TellsEnd};
+ghost use Rattle.velo_program.specs.Steps.{IsSaved, OpensNoProgram, OpensProgram, Reports, TellsEnd};
 
 use crate::check::{is_alarm, order_or_cycle_of, verdict_of, write_output};
 use crate::fate::Fate;
@@ -59,13 +59,13 @@ pub fn open_workload<F: Files>(
     options: &RunOptions,
     files: &F,
 ) -> Result<Workload, Fate>
-    ensures some { IfOk result (OpensProgram (F.disk files.now) options.now.file.now) }
+    ensures some { IfOk result (OpensProgram (F.disk files.now) options.now.input.now) }
     ensures none { IfErr result (OpensNoProgram (F.disk files.now) options.now) }
 {
-    if is_standard_input(options.file) {
+    if is_standard_input(options.input) {
         return read_workload(alloc, &mut files.standard_input());
     }
-    match open_input(files, Operand::File, options.file, options.log) {
+    match open_input(files, Operand::File, options.input, options.target) {
         Ok(mut file) => read_workload(alloc, &mut file),
         Err(fate) => Err(fate),
     }
@@ -98,41 +98,43 @@ fn is_unreported(ending: Ending) -> bool
     )
 }
 
-/// Writes the log of a run to the path, if there is one.
-fn save_log<F: Files>(closed: &Closed, path: Option<&str>, files: &mut F) -> Result<(), Fate>
-    ensures { IsSaved (store F.disk files.old files.new) path.entry
+/// Saves the log of a run at the target, if there is one.
+fn save_log<F: Files>(closed: &Closed, target: Option<&str>, files: &mut F) -> Result<(), Fate>
+    ensures { IsSaved (store F.disk files.old files.new) target.entry
         (text_of_log closed.now) result }
 {
-    let Some(path) = path else {
+    let Some(path) = target else {
         return Ok(());
     };
-    let Some(file) = files.create(path) else {
+    let Some(mut file) = files.create(path) else {
         return Err(Fate::CannotOpen);
     };
-    match write_log(closed.bounds(), closed.log(), file) {
+    let written = write_log(closed.bounds(), closed.log(), &mut file);
+    files.close(path, file);
+    match written {
         Ok(()) => Ok(()),
         Err(WriteFault) => Err(Fate::WriteFailed),
     }
 }
 
-/// Writes the log of a run to the path, if there is one, then the report, and then the certificate, if there is an order or a
-/// cycle.
+/// Saves the log of a run at the target, if there is one, then writes the report, and then the certificate, if there is an
+/// order or a cycle.
 fn report_by<F: Files, O: Sink>(
     closed: &Closed,
     ending: Ending,
     names: &Names,
     list: Option<&[usize]>,
-    path: Option<&str>,
+    target: Option<&str>,
     files: &mut F,
     out: &mut O,
 ) -> Fate
     requires { IfSome list (λ list. IsOrderOrCycle closed.now.log list.now) }
     ensures { Reports names.now (is_some list.entry) ending closed.now
-        (store F.disk files.old files.new) path.entry
+        (store F.disk files.old files.new) target.entry
         (writing O.contents O.failures out.old out.new) result }
 {
     let verdict = verdict_of(closed);
-    match save_log(closed, path, files) {
+    match save_log(closed, target, files) {
         Ok(()) => {}
         Err(fate) => return fate,
     }
@@ -145,7 +147,7 @@ fn report_by<F: Files, O: Sink>(
     }
 }
 
-/// Writes what a run shows: its log to the path, if there is one, then the report, then the certificate, if that was asked
+/// Writes what a run shows: its log at the target, if there is one, then the report, then the certificate, if that was asked
 /// for. The certificate is made before anything is opened.
 fn tell<F: Files, O: Sink>(
     alloc: Global,
@@ -157,11 +159,11 @@ fn tell<F: Files, O: Sink>(
     out: &mut O,
 ) -> Fate
     ensures { Reports names.now options.now.certificate ending closed.now
-        (store F.disk files.old files.new) options.now.log
+        (store F.disk files.old files.new) options.now.target
         (writing O.contents O.failures out.old out.new) result }
 {
     if !options.certificate {
-        return report_by(closed, ending, names, None, options.log, files, out);
+        return report_by(closed, ending, names, None, options.target, files, out);
     }
     match order_or_cycle_of(alloc, closed) {
         Ok(list) => {
@@ -170,7 +172,7 @@ fn tell<F: Files, O: Sink>(
                 ending,
                 names,
                 Some(list.as_slice()),
-                options.log,
+                options.target,
                 files,
                 out,
             );
@@ -191,7 +193,7 @@ pub fn finish_run<F: Files, O: Sink>(
     out: &mut O,
 ) -> Fate
     ensures { TellsEnd workload.now options.now.certificate ended.1 ended.0
-        (store F.disk files.old files.new) options.now.log
+        (store F.disk files.old files.new) options.now.target
         (writing O.contents O.failures out.old out.new) result }
 {
     let (closed, ending) = ended;
@@ -211,7 +213,7 @@ fn show_run<F: Files, O: Sink>(
     out: &mut O,
 ) -> Fate
     ensures { TellsEnd workload.now options.now.certificate ending closed.now
-        (store F.disk files.old files.new) options.now.log
+        (store F.disk files.old files.new) options.now.target
         (writing O.contents O.failures out.old out.new) result }
 {
     if is_unreported(ending) {

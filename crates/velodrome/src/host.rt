@@ -6,17 +6,16 @@ use std::os::unix::fs::MetadataExt;
 use velo_logtext::{ReaderSource, WriterSink};
 use velo_program::Files;
 
-/// The files of the system, and the one that was opened last to be written.
+/// The files of the system.
 #[derive(Drop)]
 pub struct HostFiles<'a> {
     rt: &'a HostRuntime,
-    output: Option<WriterSink<File>>,
 }
 
 impl<'a> HostFiles<'a> {
-    /// The files of the system; none is opened to be written.
+    /// The files of the system.
     pub fn new(rt: &'a HostRuntime) -> HostFiles<'a> {
-        HostFiles { rt, output: None }
+        HostFiles { rt }
     }
 }
 
@@ -38,21 +37,24 @@ impl Files for HostFiles<'_> {
         ReaderSource::new(self.rt.stdin())
     }
 
-    fn are_one(&self, input: &str, output: &str) -> bool {
+    fn are_one(&self, input: &str, target: &str) -> bool {
         let input = fs::metadata(self.rt, input);
-        let output = fs::metadata(self.rt, output);
-        match (input, output) {
-            (Ok(input), Ok(output)) => is_same_file(&input, &output),
+        let target = fs::metadata(self.rt, target);
+        match (input, target) {
+            (Ok(input), Ok(target)) => is_same_file(&input, &target),
             _ => false,
         }
     }
 
-    fn create(&mut self, path: &str) -> Option<&mut WriterSink<File>> {
-        self.output = match File::create(self.rt, path) {
+    fn create(&mut self, path: &str) -> Option<WriterSink<File>> {
+        match File::create(self.rt, path) {
             Ok(file) => Some(WriterSink::new(file)),
             Err(_) => None,
-        };
-        self.output.as_mut()
+        }
+    }
+
+    fn close(&mut self, _path: &str, file: WriterSink<File>) {
+        drop(file);
     }
 }
 

@@ -38,7 +38,7 @@ struct Folder<'a> {
     alloc: Global,
     /// Whether a file was created.
     has_created: bool,
-    /// What was written to a file.
+    /// What a file was closed with.
     output: Text,
 }
 
@@ -87,16 +87,21 @@ impl<'a> Files for Folder<'a> {
         Bytes::new(log.as_bytes()).in_steps(self.step)
     }
 
-    fn create(&mut self, path: &str) -> Option<&mut Text> {
+    fn create(&mut self, path: &str) -> Option<Text> {
         if path == "nowhere" {
             return None;
         }
         let room = if path == "full" { 9 } else { usize::MAX };
         self.has_created = true;
-        self.output = Text::new(self.alloc)
-            .in_steps(self.step)
-            .failing_after(room);
-        Some(&mut self.output)
+        Some(
+            Text::new(self.alloc)
+                .in_steps(self.step)
+                .failing_after(room),
+        )
+    }
+
+    fn close(&mut self, _path: &str, file: Text) {
+        self.output = file;
     }
 }
 

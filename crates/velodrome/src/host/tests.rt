@@ -21,8 +21,8 @@ const PATHS: [(&str, &str, bool); 6] = [
 #[test]
 fn one_file_at_two_paths(rt: HostRuntime) {
     let files = HostFiles::new(&rt);
-    for (input, output, are_one) in PATHS {
-        assert_eq!(&rt; files.are_one(input, output), are_one, "{input} {output}");
+    for (input, target, are_one) in PATHS {
+        assert_eq!(&rt; files.are_one(input, target), are_one, "{input} {target}");
     }
     drop(files);
 }
@@ -32,7 +32,7 @@ const LOG: &str = "vlog 2 1 0 0\n0 begin 7\n0 end\n";
 /// A log at the path `log`, which is also at `again`; and whether a file was opened to be written.
 #[derive(Drop)]
 struct Linked {
-    output: Text,
+    alloc: Global,
     is_emptied: bool,
 }
 
@@ -55,13 +55,17 @@ impl Files for Linked {
         Bytes::new(LOG.as_bytes())
     }
 
-    fn are_one(&self, input: &str, output: &str) -> bool {
-        input == "log" && output == "again"
+    fn are_one(&self, input: &str, target: &str) -> bool {
+        input == "log" && target == "again"
     }
 
-    fn create(&mut self, _path: &str) -> Option<&mut Text> {
+    fn create(&mut self, _path: &str) -> Option<Text> {
         self.is_emptied = true;
-        Some(&mut self.output)
+        Some(Text::new(self.alloc))
+    }
+
+    fn close(&mut self, _path: &str, file: Text) {
+        drop(file);
     }
 }
 
@@ -136,7 +140,7 @@ static ROWS: [Row; 9] = [
 fn play<R: Threads + Wait + Abort + Sync>(rt: &R, alloc: Global, row: &Row) {
     let (words, line, status, is_emptied) = *row;
     let mut files = Linked {
-        output: Text::new(alloc),
+        alloc,
         is_emptied: false,
     };
     let mut out = Text::new(alloc);

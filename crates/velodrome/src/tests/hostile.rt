@@ -21,7 +21,7 @@ struct Devices<'a> {
     readable: usize,
     writable: usize,
     alloc: Global,
-    /// What was written to a file.
+    /// What a file was closed with.
     output: Text,
 }
 
@@ -52,9 +52,12 @@ impl<'a> Files for Devices<'a> {
         Bytes::new(self.text).failing_after(self.readable)
     }
 
-    fn create(&mut self, _path: &str) -> Option<&mut Text> {
-        self.output = Text::new(self.alloc).failing_after(self.writable);
-        Some(&mut self.output)
+    fn create(&mut self, _path: &str) -> Option<Text> {
+        Some(Text::new(self.alloc).failing_after(self.writable))
+    }
+
+    fn close(&mut self, _path: &str, file: Text) {
+        self.output = file;
     }
 }
 

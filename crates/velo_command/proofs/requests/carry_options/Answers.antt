@@ -13,8 +13,8 @@ returns-clause-some c =
 
 pub returns-in_err-get_str-clause-none : goal.returns-in_err-get_str-clause-none
 returns-in_err-get_str-clause-none c = on_none _ (IsCarrying (rows_of (found_of c.args.found.now))) (λ options asks.
-    no_word (found_of c.args.found.now) (codes "LOG") c.get_str.result options.log.now c.get_str.ensures c.in_err-get_str.was asks.0)
+    no_word (found_of c.args.found.now) (codes "LOG") c.get_str.result options.input.now c.get_str.ensures c.in_err-get_str.was asks.0)
 
 pub returns-in_err-get_str-2-clause-none : goal.returns-in_err-get_str-2-clause-none
 returns-in_err-get_str-2-clause-none c = on_none _ (IsCarrying (rows_of (found_of c.args.found.now))) (λ options asks.
-    no_word (found_of c.args.found.now) (codes "log") c.get_str-2.result options.out.now c.get_str-2.ensures c.in_err-get_str-2.was asks.1)
+    no_word (found_of c.args.found.now) (codes "log") c.get_str-2.result options.target.now c.get_str-2.ensures c.in_err-get_str-2.was asks.1)

@@ -14,7 +14,7 @@ returns-clause-some c =
 
 pub returns-in_err-get_str-clause-none : goal.returns-in_err-get_str-clause-none
 returns-in_err-get_str-clause-none c = on_none _ (IsCheck (rows_of (found_of c.args.found.now))) (λ options asks.
-    no_word (found_of c.args.found.now) (codes "LOG") c.get_str.result options.log.now c.get_str.ensures c.in_err-get_str.was asks.0)
+    no_word (found_of c.args.found.now) (codes "LOG") c.get_str.result options.input.now c.get_str.ensures c.in_err-get_str.was asks.0)
 
 pub returns-in_err-limits_of-clause-none : goal.returns-in_err-limits_of-clause-none
 returns-in_err-limits_of-clause-none c = on_none _ (IsCheck (rows_of (found_of c.args.found.now))) (λ options asks. c.in_err-limits_of.ensures.none options.limits asks.1)

@@ -13,4 +13,4 @@ returns-clause-some c =
 
 pub returns-in_err-get_str-clause-none : goal.returns-in_err-get_str-clause-none
 returns-in_err-get_str-clause-none c = on_none _ (IsExplanation (rows_of (found_of c.args.found.now))) (λ options asks.
-    no_word (found_of c.args.found.now) (codes "LOG") c.get_str.result options.log.now c.get_str.ensures c.in_err-get_str.was asks.0)
+    no_word (found_of c.args.found.now) (codes "LOG") c.get_str.result options.input.now c.get_str.ensures c.in_err-get_str.was asks.0)

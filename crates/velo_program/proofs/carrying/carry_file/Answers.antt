@@ -4,39 +4,41 @@ use Rattle.velo_program.specs.Reading.{reading}
 use Rattle.velo_program.proofs.carrying.carry_file.Goals as goal
 
 pub returns-then-is_standard_input : goal.returns-then-is_standard_input
-returns-then-is_standard_input g c out nothing =
-    let is : c.args.options.now.log.now ≡ codes "-" = search rules in
+returns-then-is_standard_input g c stdout nothing =
+    let is : c.args.options.now.input.now ≡ codes "-" = search rules in
     let disk = g.F.Files.disk c.args.files.now in
     let read = reading g.F.StandardInput.Source.remaining g.F.StandardInput.Source.failures c.standard_input-log.result c.carry_log.new.source in
-    ⊎_elim
-    (λ fails. inr (inr (fails.0, fails.1), nothing))
-    (λ carried. inl (
+    inr (⊎_elim
+    (λ fails. inl (fails.0, fails.1, (fails.2, nothing)))
+    (λ carried. inr (
       read,
+      carried.2.0,
+      carried.0,
       subst (λ (path : List ℕ). disk.gives path read) (sym is) (c.standard_input-log.ensures c.carry_log.new.source),
-      record {
-        answer = carried.2.0;
-        is_answer = carried.2.1;
-        put = ((carried.0, carried.1, carried.2.2), nothing);
-        failures = carried.3;
-      },
+      carried.3,
+      carried.2.1,
+      carried.1,
+      carried.2.2,
+      nothing,
     ))
-    c.carry_log.ensures
+    c.carry_log.ensures)
 
 pub returns-in-Ok : goal.returns-in-Ok
-returns-in-Ok g c out nothing =
-    ⊎_elim
-    (λ fails. inr (inr (fails.0, fails.1), nothing))
-    (λ carried. inl (
+returns-in-Ok g c stdout nothing =
+    inr (⊎_elim
+    (λ fails. inl (fails.0, fails.1, (fails.2, nothing)))
+    (λ carried. inr (
       _,
+      carried.2.0,
+      carried.0,
       c.in-Ok.ensures.given c.carry_log-in-Ok.new.source,
-      record {
-        answer = carried.2.0;
-        is_answer = carried.2.1;
-        put = ((carried.0, carried.1, carried.2.2), nothing);
-        failures = carried.3;
-      },
+      carried.3,
+      carried.2.1,
+      carried.1,
+      carried.2.2,
+      nothing,
     ))
-    c.carry_log-in-Ok.ensures
+    c.carry_log-in-Ok.ensures)
 
 pub returns-in-Err : goal.returns-in-Err
-returns-in-Err g c out nothing = inr (inl (c.in-Err.ensures.barred, refl), nothing)
+returns-in-Err g c stdout nothing = inl (c.in-Err.ensures.barred, (refl, nothing))

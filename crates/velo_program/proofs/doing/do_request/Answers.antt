@@ -6,16 +6,16 @@ use Rattle.velo_program.proofs.OnCauses.{of_done}
 use Rattle.velo_program.proofs.doing.do_request.Goals as goal
 
 pub returns-in-Check-clause-memory : goal.returns-in-Check-clause-memory
-returns-in-Check-clause-memory g c = rw c.in-Check.is (of_done (store g.F.Files.disk c.args.files.now c.check_file.new.files) (Check _) (writing g.O.Sink.contents g.O.Sink.failures c.args.out.now c.check_file.new.out) _ c.check_file.ensures)
+returns-in-Check-clause-memory g c = rw c.in-Check.is (of_done (store g.F.Files.disk c.args.files.now c.check_file.new.files) (Check c.in-Check.options) (writing g.O.Sink.contents g.O.Sink.failures c.args.out.now c.check_file.new.out) _ c.check_file.ensures)
 
 pub returns-in-Replay-clause-memory : goal.returns-in-Replay-clause-memory
-returns-in-Replay-clause-memory g c = rw c.in-Replay.is (of_done (store g.F.Files.disk c.args.files.now c.replay_file.new.files) (Replay _) (writing g.O.Sink.contents g.O.Sink.failures c.args.out.now c.replay_file.new.out) _ c.replay_file.ensures)
+returns-in-Replay-clause-memory g c = rw c.in-Replay.is (of_done (store g.F.Files.disk c.args.files.now c.replay_file.new.files) (Replay c.in-Replay.options) (writing g.O.Sink.contents g.O.Sink.failures c.args.out.now c.replay_file.new.out) _ c.replay_file.ensures)
 
 pub returns-in-Run-clause-memory : goal.returns-in-Run-clause-memory
-returns-in-Run-clause-memory g c = rw c.in-Run.is (of_done (store g.F.Files.disk c.args.files.now c.run_file.new.files) (Run _) (writing g.O.Sink.contents g.O.Sink.failures c.args.out.now c.run_file.new.out) _ c.run_file.ensures)
+returns-in-Run-clause-memory g c = rw c.in-Run.is (of_done (store g.F.Files.disk c.args.files.now c.run_file.new.files) (Run c.in-Run.options) (writing g.O.Sink.contents g.O.Sink.failures c.args.out.now c.run_file.new.out) _ c.run_file.ensures)
 
 pub returns-in-Explain-clause-memory : goal.returns-in-Explain-clause-memory
-returns-in-Explain-clause-memory g c = rw c.in-Explain.is (of_done (store g.F.Files.disk c.args.files.now c.explain_file.new.files) (Explain _) (writing g.O.Sink.contents g.O.Sink.failures c.args.out.now c.explain_file.new.out) _ c.explain_file.ensures)
+returns-in-Explain-clause-memory g c = rw c.in-Explain.is (of_done (store g.F.Files.disk c.args.files.now c.explain_file.new.files) (Explain c.in-Explain.options) (writing g.O.Sink.contents g.O.Sink.failures c.args.out.now c.explain_file.new.out) _ c.explain_file.ensures)
 
 pub returns-in-Carry-clause-done : goal.returns-in-Carry-clause-done
 returns-in-Carry-clause-done g c = rw c.in-Carry.is (c.carry_file.ensures (writing g.O.Sink.contents g.O.Sink.failures c.args.out.now c.args.out.now) (refl, refl))
@@ -23,4 +23,4 @@ returns-in-Carry-clause-done g c = rw c.in-Carry.is (c.carry_file.ensures (writi
 pub returns-in-Carry-clause-memory : goal.returns-in-Carry-clause-memory
 returns-in-Carry-clause-memory g c =
     let out = writing g.O.Sink.contents g.O.Sink.failures c.args.out.now c.args.out.now in
-    rw c.in-Carry.is (of_done (store g.F.Files.disk c.args.files.now c.carry_file.new.files) (Carry _) out _ (c.carry_file.ensures out (refl, refl)))
+    rw c.in-Carry.is (of_done (store g.F.Files.disk c.args.files.now c.carry_file.new.files) (Carry c.in-Carry.options) out _ (c.carry_file.ensures out (refl, refl)))

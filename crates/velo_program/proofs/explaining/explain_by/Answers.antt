@@ -1,25 +1,41 @@
-use Rattle.std.proofs.Common.{Some, refl, true}
+use Rattle.std.proofs.Common.{◌∙◌, List, None, Some, ap, inl, inr, refl, subst, sym, true}
 use Rattle.velo_explain.specs.Picture.{picture_text}
 use Rattle.velo_explain.specs.Text.{explanation_text}
 use Rattle.velo_worker.specs.declared.ending.Ending.TheVariants.{Done}
 use Rattle.velo_program.specs.declared.fate.Fate.TheVariants.{Finished}
 use Rattle.velo_program.specs.Disk.{store}
 use Rattle.velo_program.specs.Writing.{writing}
-use Rattle.velo_program.proofs.OnExplaining.{undrawn, written}
+use Rattle.velo_program.proofs.OnExplaining.{saved_text, undrawn, words_put}
 use Rattle.velo_program.proofs.explaining.explain_by.Goals as goal
 
-pub returns-in-Ok : goal.returns-in-Ok
-returns-in-Ok g c =
-    let log = c.args.log.now.events in
-    let evidence = c.args.evidence.now in
-    rw c.fate_of_telling.ensures
-    (written (store g.F.Files.disk c.args.files.now c.draw.new.files) c.args.path (writing g.O.Sink.contents g.O.Sink.failures c.args.out.now c.explain.new.sink)
-    (Some (picture_text log evidence)) (explanation_text log c.args.position evidence) true c.explain.result c.in-Ok.ensures
-    c.explain.ensures.ok c.explain.ensures.err c.explain.ensures.failures c.explain.ensures.memory)
-
 pub returns-in-Err : goal.returns-in-Err
-returns-in-Err g c =
+returns-in-Err g c = inr (c.in-Err.ensures.memory, refl, refl, (refl, refl))
+
+pub returns-in_default : goal.returns-in_default
+returns-in_default g c =
     let log = c.args.log.now.events in
     let evidence = c.args.evidence.now in
-    undrawn (store g.F.Files.disk c.args.files.now c.draw.new.files) c.args.path (writing g.O.Sink.contents g.O.Sink.failures c.args.out.now c.args.out.now)
-    (picture_text log evidence) (Some (explanation_text log c.args.position evidence)) (Finished Done true) c.in-Err.fate c.in-Err.ensures (refl, refl)
+    rw c.in_default.is
+    (inl (words_put (store g.F.Files.disk c.args.files.now c.args.files.now) None (writing g.O.Sink.contents g.O.Sink.failures c.args.out.now c.print.new.out)
+    (Some (picture_text log evidence)) c.as_slice.result.now (explanation_text log c.args.position evidence) true (c.as_slice.ensures ∙ c.in-Ok.ensures.ok) refl c.print.result c.print.ensures))
+
+pub returns-in-Err-picture : goal.returns-in-Err-picture
+returns-in-Err-picture g c = inr (c.in-Err-picture.ensures.memory, refl, refl, (refl, refl))
+
+pub returns-in-Ok-save : goal.returns-in-Ok-save
+returns-in-Ok-save g c =
+    let log = c.args.log.now.events in
+    let evidence = c.args.evidence.now in
+    rw c.in-Some.is
+    (inl (words_put (store g.F.Files.disk c.args.files.now c.save.new.files) (Some c.in-Some.path) (writing g.O.Sink.contents g.O.Sink.failures c.args.out.now c.print-in-Ok-save.new.out)
+    (Some (picture_text log evidence)) c.as_slice-in-Ok-save.result.now (explanation_text log c.args.position evidence) true (c.as_slice-in-Ok-save.ensures ∙ c.in-Ok.ensures.ok)
+    (saved_text (store g.F.Files.disk c.args.files.now c.save.new.files) (Some c.in-Some.path) (writing g.O.Sink.contents g.O.Sink.failures c.args.out.now c.args.out.now) _ _ (c.as_slice-2.ensures ∙ c.in-Ok-picture.ensures.ok) c.in-Ok-save.ensures)
+    c.print-in-Ok-save.result c.print-in-Ok-save.ensures))
+
+pub returns : goal.returns
+returns g c =
+    let log = c.args.log.now.events in
+    let evidence = c.args.evidence.now in
+    rw c.in-Some.is
+    (inl (undrawn (store g.F.Files.disk c.args.files.now c.save.new.files) (Some c.in-Some.path) (writing g.O.Sink.contents g.O.Sink.failures c.args.out.now c.args.out.now)
+    _ (picture_text log evidence) (explanation_text log c.args.position evidence) (Finished Done true) c.in-Err-save.fate (c.as_slice-2.ensures ∙ c.in-Ok-picture.ensures.ok) c.in-Err-save.ensures (refl, refl)))

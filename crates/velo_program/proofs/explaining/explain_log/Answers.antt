@@ -9,21 +9,19 @@ use Rattle.velo_program.proofs.explaining.explain_log.Goals as goal
 pub returns-in-Ok : goal.returns-in-Ok
 returns-in-Ok g c =
     let told = c.explain_closed-fate.ensures in
-    record {
-      answer = told.0;
-      is_answer = ⊎_elim
-          (λ verdict. inl (record { bounds = c.in-Ok.closed.config.bounds; trace = c.in-Ok.closed.log; log = c.in-Ok.ensures.ok; verdict = verdict }))
+    let stdout = writing g.O.Sink.contents g.O.Sink.failures c.args.out.now c.explain_closed-fate.new.out in (
+      c.in-Ok.ensures.read
+          ∙ sym (explains_reads (store g.F.Files.disk c.args.files.now c.explain_closed-fate.new.files) c.args.options.now.target stdout c.in-Ok.closed.log told.0 _ told.1 c.explain_closed-fate.result told.2),
+      (told.0,
+      ⊎_elim
+          (λ verdict. inl (record { bounds = c.in-Ok.closed.config.bounds; log = c.in-Ok.closed.log; comes_about = c.in-Ok.ensures.ok; verdict = verdict }))
           (λ lacks. inr (inr lacks))
-          told.1;
-      put = told.2;
-      failures = c.in-Ok.ensures.read
-          ∙ sym (explains_reads (store g.F.Files.disk c.args.files.now c.explain_closed-fate.new.files) c.args.options.now.dot (writing g.O.Sink.contents g.O.Sink.failures c.args.out.now c.explain_closed-fate.new.out) c.in-Ok.closed.log told.0 _ told.1 c.explain_closed-fate.result told.2);
-    }
+          told.1,
+      told.2),
+    )
 
 pub returns-in-Err : goal.returns-in-Err
-returns-in-Err g c = record {
-  answer = silent (Check c.in-Err.fault);
-  is_answer = inr (inl (c.in-Err.fault, c.in-Err.ensures.err, refl));
-  put = (refl, refl, (refl, refl));
-  failures = c.in-Err.ensures.failure;
-}
+returns-in-Err g c = (
+  c.in-Err.ensures.failure,
+  (silent (Check c.in-Err.fault), inr (inl (c.in-Err.fault, c.in-Err.ensures.err, refl)), (refl, refl, (refl, refl))),
+)

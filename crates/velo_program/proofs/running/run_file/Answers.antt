@@ -10,31 +10,27 @@ pub returns-in-Ok : goal.returns-in-Ok
 returns-in-Ok g c =
     let from = c.in-Ok.ensures.some in
     let played = c.run_workload-fate.ensures in
-    let out = writing g.O.Sink.contents g.O.Sink.failures c.args.out.now c.run_workload-fate.new.out in
-    inl (
+    let stdout = writing g.O.Sink.contents g.O.Sink.failures c.args.out.now c.run_workload-fate.new.out in
+    let files = store g.F.Files.disk c.args.files.now c.run_workload-fate.new.files in
+    inr (
       from.read,
+      played.0,
       from.given,
-      record {
-        answer = played.0;
-        is_answer = inl (c.in-Ok.workload, from.is_text, played.1);
-        put = played.2;
-        failures = from.no_failure
-            ∙ sym (plays_reads ByThreads c.args.options.now c.in-Ok.workload played.0 _ played.1 (store g.F.Files.disk c.args.files.now c.run_workload-fate.new.files) c.args.options.now.log out c.run_workload-fate.result played.2);
-      },
+      from.no_failure ∙ sym (plays_reads ByThreads c.args.options.now c.in-Ok.workload played.0 _ played.1 files c.args.options.now.target stdout c.run_workload-fate.result played.2),
+      inl (c.in-Ok.workload, from.is_text, played.1),
+      played.2,
     )
 
 pub returns-in-Err : goal.returns-in-Err
 returns-in-Err g c =
     ⊎_elim
-    (λ none. inl (
+    (λ none. inr (
       none.read,
+      silent c.in-Err.fate,
       none.given,
-      record {
-        answer = silent c.in-Err.fate;
-        is_answer = inr (c.in-Err.fate, none.unread, refl);
-        put = unread_put none.read.bytes c.in-Err.fate none.unread (store g.F.Files.disk c.args.files.now c.args.files.now) refl c.args.options.now.log (writing g.O.Sink.contents g.O.Sink.failures c.args.out.now c.args.out.now) (refl, refl);
-        failures = none.failures;
-      },
+      none.failures,
+      inr (c.in-Err.fate, none.unread, refl),
+      unread_put none.read.bytes c.in-Err.fate none.unread (store g.F.Files.disk c.args.files.now c.args.files.now) refl c.args.options.now.target (writing g.O.Sink.contents g.O.Sink.failures c.args.out.now c.args.out.now) (refl, refl),
     ))
-    (λ barred. inr ((barred, refl), (refl, refl)))
+    (λ barred. inl (barred, (refl, (refl, refl))))
     c.in-Err.ensures.none

@@ -15,7 +15,7 @@ returns-in-Err g c =
     let output = output_exists c.args.names.now w.config.bounds.threads w.log c.args.list c.requires judged.ensures.alarm in (
       reported c.args.ending w output.0 judged.result,
       inl (record { text = output.0; output = output.1; verdict = judged.result; is_verdict = judged.ensures.verdict; said = refl }),
-      unsaved (store g.F.Files.disk c.args.files.now c.save_log.new.files) c.args.path (writing g.O.Sink.contents g.O.Sink.failures c.args.out.now c.args.out.now)
+      unsaved (store g.F.Files.disk c.args.files.now c.save_log.new.files) c.args.target (writing g.O.Sink.contents g.O.Sink.failures c.args.out.now c.args.out.now)
           (text_of_log w) (Some output.0) (Finished c.args.ending (is_alarm judged.result)) c.in-Err.fate c.in-Err.ensures (refl, refl),
     )
 

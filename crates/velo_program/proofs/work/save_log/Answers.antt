@@ -13,9 +13,9 @@ returns-in-Ok g c =
     let text : log_text c.bounds.result c.log.result.now.events ≡ text_of_log c.args.closed.now =
     ap (λ bounds. log_text bounds c.log.result.now.events) c.bounds.ensures ∙ ap (log_text c.args.closed.now.config.bounds) c.log.ensures.events in
     rw c.in-Some.is (
-      writing contents g.F.Output.Sink.failures c.in-Some-create.file.now c.write_log.new.sink,
-      c.in-Some-create.ensures.some c.write_log.new.sink,
-      (subst (λ (t : List ℕ). Appends (contents c.in-Some-create.file.now) (contents c.write_log.new.sink) t) text c.in-Ok.ensures.ok, c.in-Ok.ensures.no_failure),
+      writing contents g.F.Output.Sink.failures c.in-Some-create.file c.write_log-written.new.sink,
+      (c.in-Some-create.ensures.some, c.close.ensures),
+      (subst (λ (t : List ℕ). Appends (contents c.in-Some-create.file) (contents c.write_log-written.new.sink) t) text c.in-Ok.ensures.ok, c.in-Ok.ensures.no_failure),
     )
 
 pub returns-in-Err : goal.returns-in-Err
@@ -24,7 +24,7 @@ returns-in-Err g c =
     let text : log_text c.bounds.result c.log.result.now.events ≡ text_of_log c.args.closed.now =
     ap (λ bounds. log_text bounds c.log.result.now.events) c.bounds.ensures ∙ ap (log_text c.args.closed.now.config.bounds) c.log.ensures.events in
     rw c.in-Some.is (
-      writing contents g.F.Output.Sink.failures c.in-Some-create.file.now c.write_log.new.sink,
-      c.in-Some-create.ensures.some c.write_log.new.sink,
-      (subst (λ (t : List ℕ). AppendsBeginning (contents c.in-Some-create.file.now) (contents c.write_log.new.sink) t) text c.in-Err.ensures.err, c.in-Err.ensures.failure),
+      writing contents g.F.Output.Sink.failures c.in-Some-create.file c.write_log-written.new.sink,
+      (c.in-Some-create.ensures.some, c.close.ensures),
+      (subst (λ (t : List ℕ). AppendsBeginning (contents c.in-Some-create.file) (contents c.write_log-written.new.sink) t) text c.in-Err.ensures.err, c.in-Err.ensures.failure),
     )

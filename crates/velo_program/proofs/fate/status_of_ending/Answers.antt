@@ -1,5 +1,5 @@
 use Rattle.std.proofs.Common.{rules}
-use Rattle.velo_program.proofs.fate.status_of_end.Goals as goal
+use Rattle.velo_program.proofs.fate.status_of_ending.Goals as goal
 
 pub returns-in-Stuck : goal.returns-in-Stuck
 returns-in-Stuck c = search rules
