@@ -47,7 +47,7 @@ DoesCheck options store stdout f =
     ⊎ ((read : Reading) × (answer : Answer)
     × store.disk.gives options.input.now read × FailsAsTold read f
     × IsCheckAnswer options.limits.events options.limits.nodes options.certificate
-        read.bytes answer
+    read.bytes answer
     × IsDelivered store None stdout answer f)
 
 -- ---- velodrome explain LOG [--dot OUT]

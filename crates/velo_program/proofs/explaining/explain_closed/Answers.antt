@@ -29,7 +29,7 @@ returns-in-Ok g c =
     explains_by (store g.F.Files.disk c.args.files.now c.explain_by-fate.new.files) c.args.target (writing g.O.Sink.contents g.O.Sink.failures c.args.out.now c.explain_by-fate.new.out)
     c.args.closed.now.log (explained c.log-log.result.now.events c.in-Some.alarm.now.position c.in-Ok.evidence) c.explain_by-fate.result
     (inl (of_evidence c.log-log.result.now.events c.args.closed.now.log c.log-log.ensures.events c.in-Some.alarm.now c.as_slice.result.now c.as_slice.ensures
-        c.in-Ok.evidence c.in-Some.ensures.some c.in-Ok.ensures.evidence c.in-Ok.ensures.reasons))
+    c.in-Ok.evidence c.in-Some.ensures.some c.in-Ok.ensures.evidence c.in-Ok.ensures.reasons))
     c.explain_by-fate.ensures
 
 pub returns-in-Err-Memory : goal.returns-in-Err-Memory

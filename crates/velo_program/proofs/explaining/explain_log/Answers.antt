@@ -12,12 +12,14 @@ returns-in-Ok g c =
     let stdout = writing g.O.Sink.contents g.O.Sink.failures c.args.out.now c.explain_closed-fate.new.out in (
       c.in-Ok.ensures.read
           ∙ sym (explains_reads (store g.F.Files.disk c.args.files.now c.explain_closed-fate.new.files) c.args.options.now.target stdout c.in-Ok.closed.log told.0 _ told.1 c.explain_closed-fate.result told.2),
-      (told.0,
-      ⊎_elim
-          (λ verdict. inl (record { bounds = c.in-Ok.closed.config.bounds; log = c.in-Ok.closed.log; comes_about = c.in-Ok.ensures.ok; verdict = verdict }))
-          (λ lacks. inr (inr lacks))
-          told.1,
-      told.2),
+      (
+        told.0,
+        ⊎_elim
+            (λ verdict. inl (record { bounds = c.in-Ok.closed.config.bounds; log = c.in-Ok.closed.log; comes_about = c.in-Ok.ensures.ok; verdict = verdict }))
+            (λ lacks. inr (inr lacks))
+            told.1,
+        told.2,
+      ),
     )
 
 pub returns-in-Err : goal.returns-in-Err
