@@ -2,4 +2,5 @@ pub mod OnLines
 pub mod OnLists
 pub mod OnNamings
 pub mod OnReading
+pub mod OnTexts
 pub mod OnWriting

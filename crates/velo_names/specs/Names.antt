@@ -1,6 +1,6 @@
 -- The mapping that a file of names says.
 use Rattle.std.specs.Prelude.{◌≡◌, ℕ, ◌+◌, ◌<◌, ◌≤◌, nat_eq, nat_lt, List, [], ◌∷◌, ◌++◌, length, map, filter, Option, Some, None, is_some, Result, Ok, Err, if◌then◌else◌}
-use Rattle.std.specs.List.{flat_map, enumerate_from}
+use Rattle.std.specs.List.{flat_map, enumerate_from, AllByRecursion}
 use Rattle.std.specs.Map.{lookup}
 use Rattle.std.specs.Option.{option_map_or, option_to_list}
 use Rattle.std.specs.Str.{IsUtf8, bytes_eq}
@@ -10,7 +10,7 @@ use Rattle.velo_names.specs.declared.fault.NamesFault.{NamesFault}
 use Rattle.velo_names.specs.declared.fault.NamesFault.TheVariants.{BadLine, NamedTwice, TooManyLines, TooManyBytes, NotText, Memory}
 use Rattle.velo_names.specs.declared.kind.NameKind.{NameKind}
 use Rattle.velo_names.specs.declared.kind.NameKind.TheVariants.{Thread, Variable, Lock, Label}
-use Rattle.velo_names.specs.Line.{Naming, naming_text, naming_of, is_silent, lines, is_number, whole_number}
+use Rattle.velo_names.specs.Line.{Naming, IsNaming, naming_text, naming_of, is_silent, lines, is_number, whole_number}
 
 -- numbers with their names, in the order of the lines
 abbrev pub NameList : Type 0
@@ -129,3 +129,25 @@ by_place names = enumerate_from 0 names
 -- the threads first, then variables, locks and labels
 abbrev pub names_text : NameLists → List ℕ
 names_text names = list_text Thread names.threads ++ (list_text Variable names.variables ++ (list_text Lock names.locks ++ list_text Label names.labels))
+
+-- ---- which mappings have a text
+
+abbrev pub FitsKind : NameKind → ℕ × List ℕ → Type 0
+FitsKind kind e = IsNaming (record { kind = kind; number = e.0; name = e.1 })
+
+-- no number of the list has a name in the one before it, and none is there twice
+abbrev pub AreFresh : NameList → NameList → Type 0
+AreFresh before [] = Unit {0}
+AreFresh before (e ∷ es) = (name_in before e.0 ≡ None) × AreFresh (before ++ e ∷ []) es
+
+pub record AreNames (kind : NameKind) (list : NameList) : Type 0 where
+  pub fit : AllByRecursion (FitsKind kind) list
+  pub fresh : AreFresh [] list
+
+-- names that may be said, each number of a kind once, and not too many
+pub record IsMapping (names : NameLists) : Type 0 where
+  pub threads : AreNames Thread names.threads
+  pub variables : AreNames Variable names.variables
+  pub locks : AreNames Lock names.locks
+  pub labels : AreNames Label names.labels
+  pub few : length names.threads + (length names.variables + (length names.locks + length names.labels)) ≤ MOST_NAME_LINES

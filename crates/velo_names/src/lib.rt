@@ -12,7 +12,7 @@ mod write;
 
 pub use fault::NamesFault;
 pub use kind::NameKind;
-pub use laws::one_line;
+pub use laws::{one_line, read_back};
 pub use limits::{MOST_NAME_BYTES, MOST_NAME_LINES, MOST_NAMES_BYTES};
 pub use names::Names;
 pub use write::append_names;
