@@ -61,8 +61,70 @@ int main(void) {
     expect("events", s.events, 12);
     expect("clean", s.alarmed, 0);
     expect("blamed", s.blamed, 0);
+
+    /* The log in pieces of each size is the text in one piece. */
+    uint8_t whole[1024], part[1024], joined[1024];
+    size_t count = 5, next = 6, length = 0;
+    expect("log", velodrome_log(&m, 0, whole, sizeof whole, &count, &next), 0);
+    expect("all events", next, 12);
+    length = count;
+    const char *text = "vlog 2 3 2 2\n0 fork 1\n0 wr 1 18446744073709551615\n1 rd 1 18446744073709551615\n0 acq 0\n0 rel 0\n0 acqs 1\n1 acqs 1\n1 rels 1\n1 begin 4294967295\n1 end\n1 exit\n0 join 1\n";
+    expect("length", length, strlen(text));
+    expect("text", memcmp(whole, text, length), 0);
+    for (size_t room = 36; room < 200; room++) {
+        size_t at = 0, from = 0;
+        while (from < 12) {
+            size_t before = from;
+            expect("piece", velodrome_log(&m, from, part, room, &count, &from), 0);
+            if (from == before || count > room) { expect("progress", 0, 1); break; }
+            memcpy(joined + at, part, count);
+            at += count;
+        }
+        expect("joined", at == length && memcmp(joined, whole, length) == 0, 1);
+    }
+    part[0] = 99;
+    expect("too short", velodrome_log(&m, 0, part, 21, &count, &next), VELODROME_TOO_SHORT);
+    expect("needed", count, 22);
+    expect("as it was", part[0], 99);
+    expect("next as it was", next, 12);
+    expect("beyond", velodrome_log(&m, 13, part, sizeof part, &count, &next), VELODROME_BAD_NUMBER);
+    expect("at the end", velodrome_log(&m, 12, part, 0, &count, &next), 0);
+    expect("nothing", count, 0);
+    velodrome_block blocks[VELODROME_MOST_BLAMED];
+    expect("blamed", velodrome_blamed(&m, blocks, 0, &count), 0);
+    expect("none", count, 0);
+
+    expect("name", velodrome_refusal(VELODROME_BUSY, part, sizeof part, &count), 0);
+    expect("lock busy", count == 9 && memcmp(part, "lock busy", 9) == 0, 1);
+    expect("no name", velodrome_refusal(23, part, sizeof part, &count), VELODROME_BAD_NUMBER);
+    expect("too short", velodrome_refusal(VELODROME_BUSY, part, 8, &count), VELODROME_TOO_SHORT);
+
     expect("close", velodrome_close(&m), 0);
     expect("close again", velodrome_close(&m), VELODROME_CLOSED);
+
+    /* Two blocks to blame, outermost first. */
+    velodrome_open(&m, 2, 1, 0, 100, 64);
+    velodrome_fork(&m, 0, 1, &a);
+    velodrome_begin(&m, 0, 7, &a);
+    velodrome_begin(&m, 0, 8, &a);
+    velodrome_read(&m, 0, 0, &a);
+    velodrome_write(&m, 1, 0, 5, &a);
+    expect("no alarm yet", a.alarmed, 0);
+    velodrome_write(&m, 0, 0, 1, &a);
+    expect("alarm", a.alarmed, 1);
+    velodrome_verdict(&m, &s);
+    expect("alarmed", s.alarmed, 1);
+    expect("alarm's position", s.position, 5);
+    expect("transaction", s.transaction, 1);
+    expect("two blocks", s.blamed, 2);
+    blocks[0].label = 55;
+    expect("too short", velodrome_blamed(&m, blocks, 1, &count), VELODROME_TOO_SHORT);
+    expect("needed", count, 2);
+    expect("as it was", blocks[0].label, 55);
+    expect("blamed", velodrome_blamed(&m, blocks, 2, &count), 0);
+    expect("outer", blocks[0].first * 100 + blocks[0].label, 107);
+    expect("inner", blocks[1].first * 100 + blocks[1].label, 208);
+    expect("close", velodrome_close(&m), 0);
 
     /* Opened and closed again and again: a checker of leaks sees what is left. */
     for (int i = 0; i < 1000; i++) {

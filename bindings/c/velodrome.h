@@ -117,6 +117,27 @@ uint32_t velodrome_exit(velodrome *monitor, uint8_t thread, velodrome_answer *an
 /* The verdict of the events so far: an alarm exactly where no serial order of the transactions explains them. */
 uint32_t velodrome_verdict(velodrome *monitor, velodrome_summary *summary);
 
+/* The blocks to blame, outermost first, and how many they are; none without an alarm. VELODROME_TOO_SHORT where there is no
+ * room for all: *count says how many they are, and the buffer is as it was. Room for 32 is always enough. */
+uint32_t velodrome_blamed(velodrome *monitor, velodrome_block *buffer, size_t room, size_t *count);
+
+/* The text of the log in pieces of whole lines: from the event `from` on, the header before the first. *count says how many
+ * bytes were put into the buffer, and *next the event to go on from; the number of events is the end. The pieces together are
+ * the text that `velodrome check` reads. VELODROME_TOO_SHORT where not even one line has room: *count says how many bytes it
+ * takes, and the buffer is as it was. Room for 180 bytes is always enough.
+ *
+ *     size_t from = 0, count;
+ *     do {
+ *         if (velodrome_log(&monitor, from, buffer, sizeof buffer, &count, &from)) break;
+ *         fwrite(buffer, 1, count, file);
+ *     } while (from < events);
+ */
+uint32_t velodrome_log(velodrome *monitor, size_t from, uint8_t *buffer, size_t room, size_t *count, size_t *next);
+
+/* The words of a refusal, 1 to 22, without a zero byte behind them; *count says how many bytes. VELODROME_BAD_NUMBER for another
+ * number; VELODROME_TOO_SHORT where there is no room, and *count says how much it takes. Room for 32 is always enough. */
+uint32_t velodrome_refusal(uint32_t number, uint8_t *buffer, size_t room, size_t *count);
+
 #ifdef __cplusplus
 }
 #endif

@@ -37,6 +37,11 @@ class Answer(ctypes.Structure):
     _fields_ = [('position', ctypes.c_uint64), ('value', ctypes.c_uint64), ('alarmed', ctypes.c_bool)]
 
 
+class Block(ctypes.Structure):
+    """A block to blame: the position of its begin, and the number of its label."""
+    _fields_ = [('first', ctypes.c_uint64), ('label', ctypes.c_uint32)]
+
+
 class Verdict(ctypes.Structure):
     """How many events; with an alarm its position, the first of its transaction, and how many blocks are to blame."""
     _fields_ = [('events', ctypes.c_uint64), ('position', ctypes.c_uint64), ('transaction', ctypes.c_uint64),
@@ -56,6 +61,9 @@ def _load():
                 'release_shared': [u16], 'begin': [u32], 'end': [], 'fork': [u8], 'join': [u8], 'exit': []}
     types = {name: [handle, u8, *operands, answer] for name, operands in of_event.items()}
     types |= {'open': [handle, u8, u16, u16, u32, u16], 'close': [handle], 'verdict': [handle, ctypes.POINTER(Verdict)]}
+    size = ctypes.c_size_t
+    types |= {'blamed': [handle, ctypes.POINTER(Block), size, ctypes.POINTER(size)],
+              'log': [handle, size, ctypes.c_char_p, size, ctypes.POINTER(size), ctypes.POINTER(size)]}
     for name, arguments in types.items():
         call = getattr(library, 'velodrome_' + name)
         call.argtypes, call.restype = arguments, u32
@@ -131,6 +139,25 @@ class Monitor:
         with self._lock:
             self._check(self._library.velodrome_verdict(self._handle, verdict))
         return verdict
+
+    def blamed(self):
+        """The blocks to blame, outermost first, each with its label's name."""
+        blocks, count = (Block * 32)(), ctypes.c_size_t()
+        with self._lock:
+            self._check(self._library.velodrome_blamed(self._handle, blocks, 32, count))
+            labels = {number: name for name, number in self._names['label'].items()}
+            return [(block.first, labels.get(block.label, block.label)) for block in blocks[:count.value]]
+
+    def write_log(self, file):
+        """Writes the text of the log, as `velodrome check` reads it, to a binary file."""
+        piece, count, next_event = ctypes.create_string_buffer(1 << 16), ctypes.c_size_t(), ctypes.c_size_t()
+        with self._lock:
+            events = self.verdict().events
+            while True:
+                self._check(self._library.velodrome_log(self._handle, next_event.value, piece, len(piece), count, next_event))
+                file.write(piece.raw[:count.value])
+                if next_event.value >= events:
+                    return
 
     @contextlib.contextmanager
     def atomic(self, label):

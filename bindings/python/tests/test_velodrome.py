@@ -1,4 +1,5 @@
 """What the library's contracts cannot say: names, threads, guards and errors of the binding."""
+import io
 import threading
 import unittest
 
@@ -32,6 +33,18 @@ class Binding(unittest.TestCase):
             with monitor.atomic('b'):
                 pass
             self.assertEqual(monitor.names(), 'label 0 b\nlabel 1 a\nvariable 0 x\nlock 0 m\n')
+
+    def test_log_and_blame(self):
+        with Monitor(threads=2, variables=1, locks=0) as monitor:
+            x = monitor.shared('x', 0)
+            with monitor.atomic('outer'), monitor.atomic('inner'):
+                before = x.get()
+                monitor.spawn(lambda: x.set(5)).join()
+                x.set(before)
+            self.assertEqual(monitor.blamed(), [(0, 'outer'), (1, 'inner')])
+            log = io.BytesIO()
+            monitor.write_log(log)
+            self.assertEqual(log.getvalue(), b'vlog 2 2 1 0\n0 begin 0\n0 begin 1\n0 rd 0 0\n0 fork 1\n1 wr 0 0\n1 exit\n0 join 1\n0 wr 0 0\n0 end\n0 end\n')
 
     def test_refusals_change_nothing(self):
         with Monitor(threads=1, variables=1, locks=1, events=2) as monitor:

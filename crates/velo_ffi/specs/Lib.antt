@@ -2,3 +2,5 @@ pub mod Watch
 pub mod Inside
 pub mod Kept
 pub mod Answers
+pub mod Pieces
+pub mod Names

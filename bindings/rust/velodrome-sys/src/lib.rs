@@ -41,6 +41,16 @@ pub struct Verdict {
     pub alarmed: bool,
 }
 
+/// A block to blame.
+#[repr(C)]
+#[derive(Clone, Copy, Debug, Default, PartialEq, Eq)]
+pub struct Block {
+    /// The position of its begin.
+    pub first: u64,
+    /// The number of its label.
+    pub label: u32,
+}
+
 extern "C" {
     pub fn velodrome_open(monitor: *mut Handle, threads: u8, variables: u16, locks: u16, events: u32, nodes: u16) -> u32;
     pub fn velodrome_close(monitor: *mut Handle) -> u32;
@@ -56,4 +66,6 @@ extern "C" {
     pub fn velodrome_join(monitor: *mut Handle, thread: u8, child: u8, answer: *mut Answer) -> u32;
     pub fn velodrome_exit(monitor: *mut Handle, thread: u8, answer: *mut Answer) -> u32;
     pub fn velodrome_verdict(monitor: *mut Handle, verdict: *mut Verdict) -> u32;
+    pub fn velodrome_blamed(monitor: *mut Handle, buffer: *mut Block, room: usize, count: *mut usize) -> u32;
+    pub fn velodrome_log(monitor: *mut Handle, from: usize, buffer: *mut u8, room: usize, count: *mut usize, next: *mut usize) -> u32;
 }

@@ -7,7 +7,7 @@ use std::collections::HashMap;
 use std::sync::{Arc, Mutex as StdMutex, MutexGuard as StdMutexGuard, RwLock as StdRwLock};
 use std::sync::{RwLockReadGuard as StdReadGuard, RwLockWriteGuard as StdWriteGuard};
 use velodrome_sys::{self as sys, Handle};
-pub use velodrome_sys::{Answer, Verdict};
+pub use velodrome_sys::{Answer, Block, Verdict};
 
 /// A call answered another status than 0. Nothing has changed.
 #[derive(Clone, Copy, Debug, PartialEq, Eq)]
@@ -121,6 +121,39 @@ impl Monitor {
             0 => Ok(verdict),
             status => Err(Refused(status)),
         }
+    }
+
+    /// The blocks to blame, outermost first.
+    pub fn blamed(&self) -> Result<Vec<Block>, Refused> {
+        let mut blocks = vec![Block::default(); 32];
+        let mut count = 0;
+        // SAFETY: the lock is held, and the buffer has the room that is said.
+        match unsafe { sys::velodrome_blamed(&mut self.room().handle, blocks.as_mut_ptr(), blocks.len(), &mut count) } {
+            0 => {
+                blocks.truncate(count);
+                Ok(blocks)
+            }
+            status => Err(Refused(status)),
+        }
+    }
+
+    /// Writes the text of the log, as `velodrome check` reads it.
+    pub fn write_log(&self, out: &mut impl std::io::Write) -> std::io::Result<()> {
+        let mut room = self.room();
+        let mut verdict = Verdict::default();
+        let mut piece = vec![0; 1 << 16];
+        let (mut from, mut count, mut next) = (0, 0, 0);
+        // SAFETY: the lock is held, and the buffer has the room that is said.
+        while unsafe { sys::velodrome_verdict(&mut room.handle, &mut verdict) } == 0
+            && unsafe { sys::velodrome_log(&mut room.handle, from, piece.as_mut_ptr(), piece.len(), &mut count, &mut next) } == 0
+        {
+            out.write_all(&piece[..count])?;
+            from = next;
+            if from as u64 >= verdict.events {
+                return Ok(());
+            }
+        }
+        Err(std::io::Error::other("velodrome: no log"))
     }
 
     /// The number of a `label`, `variable` or `lock` by its name, or a new one.

@@ -48,6 +48,25 @@ fn names() {
 }
 
 #[test]
+fn log_and_blame() {
+    let monitor = Monitor::open(2, 1, 0, 100, 64).unwrap();
+    let x = Arc::new(Shared::new(&monitor, "x", 0));
+    let theirs = x.clone();
+    let (outer, inner) = (monitor.atomic("outer"), monitor.atomic("inner"));
+    let before = x.get();
+    monitor.spawn(move || theirs.set(5)).unwrap().join().unwrap();
+    x.set(before);
+    drop(inner);
+    drop(outer);
+    let blamed: Vec<_> = monitor.blamed().unwrap().iter().map(|block| (block.first, block.label)).collect();
+    assert_eq!(blamed, [(0, 0), (1, 1)]);
+    let mut log = Vec::new();
+    monitor.write_log(&mut log).unwrap();
+    let text = "vlog 2 2 1 0\n0 begin 0\n0 begin 1\n0 rd 0 0\n0 fork 1\n1 wr 0 0\n1 exit\n0 join 1\n0 wr 0 0\n0 end\n0 end\n";
+    assert_eq!(String::from_utf8(log).unwrap(), text);
+}
+
+#[test]
 fn refusals() {
     let monitor = Monitor::open(1, 1, 1, 100, 64).unwrap();
     assert_eq!(monitor.event(Event::End, || ()).unwrap_err(), Refused(9));

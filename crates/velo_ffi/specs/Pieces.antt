@@ -1,0 +1,29 @@
+-- The text of a log in pieces of whole lines.
+use Rattle.std.specs.Prelude.{◌≡◌, ℕ, ◌-◌, ◌<◌, ◌≤◌, ◌==◌, true, if◌then◌else◌, List, [], ◌++◌, length, take, drop}
+use Rattle.velo_events.specs.declared.config.Bounds.{Bounds}
+use Rattle.velo_events.specs.declared.event.Event.{Event}
+use Rattle.velo_logtext.specs.Text.{event_lines, header_line}
+
+-- the header, before the first event
+abbrev pub head_at : Bounds → ℕ → List ℕ
+head_at bounds from = if from == 0 then header_line (true, bounds) else []
+
+-- the piece from one event up to another: their lines, and before the first event the header
+abbrev pub piece : Bounds → List Event → ℕ → ℕ → List ℕ
+piece bounds log from next = head_at bounds from ++ event_lines (take (next - from) (drop from log))
+
+-- the shortest piece from there: one line, if there is one
+abbrev pub first_piece : Bounds → List Event → ℕ → List ℕ
+first_piece bounds log from = head_at bounds from ++ event_lines (take 1 (drop from log))
+
+-- a piece was put at the front of the buffer: it ends at an event that is there, and nothing is said of the bytes behind it
+pub record PutsPiece (bounds : Bounds) (log : List Event) (from : ℕ) (buffer : List ℕ) (count next : ℕ) : Type 0 where
+  pub from_there : from ≤ next
+  pub there : next ≤ length log
+  pub within : count ≤ length buffer
+  pub text : take count buffer ≡ piece bounds log from next
+
+-- not even the shortest piece has room, and its length is told
+pub record LacksRoom (bounds : Bounds) (log : List Event) (from : ℕ) (buffer : List ℕ) (count : ℕ) : Type 0 where
+  pub short : length buffer < count
+  pub needed : count ≡ length (first_piece bounds log from)
