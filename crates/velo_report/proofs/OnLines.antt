@@ -19,7 +19,7 @@ module _ {X : Type 0} (text : X → List ℕ) where
   abbrev pub spaced_words : List X → List ℕ
   spaced_words words = flat_map spaced (map text words)
 
-  spaced_words-append : (xs ys : List X) → spaced_words (xs ++ ys) ≡ spaced_words xs ++ spaced_words ys
+  pub spaced_words-append : (xs ys : List X) → spaced_words (xs ++ ys) ≡ spaced_words xs ++ spaced_words ys
   spaced_words-append xs ys = ap (flat_map spaced) (map-append text xs ys) ∙ flat_map-append spaced (map text xs) (map text ys)
 
   -- a line with its first words

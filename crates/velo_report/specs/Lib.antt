@@ -1,3 +1,4 @@
+pub mod Alarm
 pub mod Certificate
 pub mod Lines
 pub mod Names

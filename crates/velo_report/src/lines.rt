@@ -92,7 +92,7 @@ impl Lines {
     }
 
     /// Adds bytes: they are gathered, and what is too long for that is written.
-    fn add<S: Sink>(&mut self, sink: &mut S, piece: &[u8]) -> Result<(), WriteFault>
+    pub fn add<S: Sink>(&mut self, sink: &mut S, piece: &[u8]) -> Result<(), WriteFault>
         ensures ok { OnOk result (Buffers (S.contents sink.old) (S.contents sink.new) self.old self.new piece.now) }
         ensures err { OnErr result (AppendsBeginning (S.contents sink.old) (S.contents sink.new) (self.old ++ piece.now)) }
         ensures no_failure { OnOk result (S.failures sink.new ≡ S.failures sink.old) }
@@ -111,7 +111,7 @@ impl Lines {
     }
 
     /// Adds a word.
-    fn add_word<S: Sink>(&mut self, sink: &mut S, word: Word) -> Result<(), WriteFault>
+    pub fn add_word<S: Sink>(&mut self, sink: &mut S, word: Word) -> Result<(), WriteFault>
         ensures ok { OnOk result (Buffers (S.contents sink.old) (S.contents sink.new) self.old self.new (word_text word.entry)) }
         ensures err { OnErr result (AppendsBeginning (S.contents sink.old) (S.contents sink.new) (self.old ++ word_text word.entry)) }
         ensures no_failure { OnOk result (S.failures sink.new ≡ S.failures sink.old) }
@@ -128,7 +128,7 @@ impl Lines {
     }
 
     /// Adds a space and a word.
-    fn add_spaced<S: Sink>(&mut self, sink: &mut S, word: Word) -> Result<(), WriteFault>
+    pub fn add_spaced<S: Sink>(&mut self, sink: &mut S, word: Word) -> Result<(), WriteFault>
         ensures ok { OnOk result (Buffers (S.contents sink.old) (S.contents sink.new) self.old self.new (spaced (word_text word.entry))) }
         ensures err { OnErr result (AppendsBeginning (S.contents sink.old) (S.contents sink.new) (self.old ++ spaced (word_text word.entry))) }
         ensures no_failure { OnOk result (S.failures sink.new ≡ S.failures sink.old) }
