@@ -9,3 +9,4 @@ pub mod OnEndings
 pub mod OnCauses
 pub mod OnDone
 pub mod OnBodies
+pub mod OnListing

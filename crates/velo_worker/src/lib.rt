@@ -6,6 +6,7 @@ mod cursor;
 mod ending;
 mod gate;
 mod growth;
+mod listing;
 mod living;
 mod outcome;
 mod progress;
@@ -15,7 +16,9 @@ mod starting;
 mod walk;
 mod worker;
 
+pub use counting::count_events;
 pub use ending::Ending;
 pub use gate::{Gate, OpenGate};
+pub use listing::list_events;
 pub use living::{LiveFault, live};
 pub use replaying::replay;

@@ -1,0 +1,45 @@
+//! The statements of a body that are events, in their order.
+ghost use Rattle.std.specs.Prelude.{◌≡◌, [], ◌∷◌, ◌++◌, filter, IfOk, OnOk, OnErr};
+ghost use Rattle.velo_events.specs.Refusals.{GrowthRefused};
+ghost use Rattle.velo_workload.specs.Bodies.{IsBody};
+ghost use Rattle.velo_worker.specs.Counts.{has_event};
+ghost use Rattle.velo_worker.specs.Walk.{walk_of};
+
+use crate::progress::is_quiet;
+use crate::walk::Walk;
+use std::alloc::Global;
+use velo_events::Memory;
+use velo_events::growth::reserve;
+use velo_workload::Statement;
+
+/// The statements of a body that are events, one after another, its repeats written out. [`count_events`](crate::count_events)
+/// tells how many there are, before any is listed.
+///
+/// # Errors
+/// `Memory` where a growth was refused.
+pub fn list_events(alloc: Global, body: &[Statement]) -> Result<Vec<Statement>, Memory>
+    requires { IsBody body.now }
+    ensures events { IfOk result (λ events. events.items ≡ filter has_event (walk_of body.now)) }
+    ensures memory { OnErr result GrowthRefused }
+{
+    let mut left = Walk::start(alloc, body)?;
+    let mut events = Vec::new(alloc);
+    while let Some(statement) = left.next() {
+        note_event(&mut events, statement)?;
+        left.advance();
+    }
+    Ok(events)
+}
+
+/// Puts a statement behind the others, if it is an event.
+fn note_event(events: &mut Vec<Statement>, statement: Statement) -> Result<(), Memory>
+    ensures noted { OnOk result (events.new.items ≡ events.old.items ++ filter has_event (statement ∷ [])) }
+    ensures memory { OnErr result GrowthRefused }
+{
+    if is_quiet(statement) {
+        return Ok(());
+    }
+    reserve(events, 1)?;
+    events.push_reserved(statement);
+    Ok(())
+}
