@@ -1,0 +1,3 @@
+pub mod OnPieces
+pub mod OnOpen
+pub mod OnLabels

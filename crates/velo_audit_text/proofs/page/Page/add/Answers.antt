@@ -1,0 +1,14 @@
+use Rattle.std.proofs.Common.{◌≡◌, ◌+◌, ◌++◌, ◌∷◌, [], List, ℕ, take, get_or, ap, ◌∙◌, append_assoc}
+use Rattle.std.proofs.lemmas.List.{take_more}
+use Rattle.velo_audit_text.specs.Pieces.{piece_text, pieces_text}
+use Rattle.velo_audit_text.proofs.OnPieces.{no_piece, pieces-more}
+use Rattle.velo_audit_text.proofs.page.Page.add.Goals as goal
+
+pub loop-piece-preserved : goal.loop-piece-preserved
+loop-piece-preserved c =
+    let pieces = c.args.pieces.now in let i = c.loop-piece.piece-index in let piece = get_or pieces i no_piece in
+    let more : take (i + 1) pieces ≡ take i pieces ++ piece ∷ [] = take_more pieces i no_piece c.loop-piece-test.true in
+    c.in_ok-add_piece.ensures.ok
+    ∙ ap (λ (t : List ℕ). t ++ piece_text piece) c.loop-piece.invariant
+    ∙ append_assoc c.args.self.now (pieces_text (take i pieces)) (piece_text piece)
+    ∙ ap (λ (t : List ℕ). c.args.self.now ++ t) (pieces-more pieces i piece more)

@@ -1,0 +1,46 @@
+-- The lines of what was asked for, of labels that are told, and of the counts.
+use Rattle.std.specs.Prelude.{ℕ, Bool, true, false, List, [], ◌∷◌, ◌++◌, codes, decimal}
+use Rattle.std.specs.List.{flat_map}
+use Rattle.velo_events.specs.declared.event.Label.{Label}
+use Rattle.velo_events.specs.declared.event.LockId.{LockId}
+use Rattle.velo_events.specs.declared.event.VarId.{VarId}
+use Rattle.velo_explain.specs.Pieces.{joined}
+use Rattle.velo_audit_text.specs.declared.words.Asked.{Asked}
+
+-- ---- what was asked for
+
+-- "left out label 7"
+unfoldable pub left_out_label_text : Label → List ℕ
+left_out_label_text l = joined (codes "left out label " ∷ decimal l.0 ∷ codes "\n" ∷ [])
+
+unfoldable pub left_out_lock_text : LockId → List ℕ
+left_out_lock_text m = joined (codes "left out lock " ∷ decimal m.0 ∷ codes "\n" ∷ [])
+
+unfoldable pub left_out_variable_text : VarId → List ℕ
+left_out_variable_text x = joined (codes "left out variable " ∷ decimal x.0 ∷ codes "\n" ∷ [])
+
+abbrev pub asked_text : Asked → List ℕ
+asked_text asked =
+    flat_map left_out_label_text asked.labels.now
+    ++ (flat_map left_out_lock_text asked.locks.now
+    ++ flat_map left_out_variable_text asked.variables.now)
+
+-- ---- labels
+
+-- "not atomic 7"
+unfoldable pub not_atomic_text : ℕ → List ℕ
+not_atomic_text l = joined (codes "not atomic " ∷ decimal l ∷ codes "\n" ∷ [])
+
+-- behind a label that is told because no block is to blame
+unfoldable pub nobody_text : List ℕ
+nobody_text = codes "  no block alone is to blame\n"
+
+abbrev pub mark_text : Bool → List ℕ
+mark_text true = []
+mark_text false = nobody_text
+
+-- ---- counts
+
+-- "atomic 3 labels", "rounds 2"
+unfoldable pub count_text : ℕ → ℕ → List ℕ
+count_text atomic rounds = joined (codes "atomic " ∷ decimal atomic ∷ codes " labels\nrounds " ∷ decimal rounds ∷ codes "\n" ∷ [])

@@ -1,0 +1,124 @@
+//! The whole text of an audit.
+ghost use Rattle.std.specs.Prelude.{◌≡◌, ◌≤◌, ◌++◌, length, map, All, IfOk, OnOk, OnErr};
+ghost use Rattle.std.specs.List.{flat_map};
+ghost use Rattle.velo_events.specs.Refusals.{GrowthRefused};
+ghost use Rattle.velo_events.specs.declared.limits.TheConstants.{MOST_EVENTS};
+ghost use Rattle.velo_thin.specs.Left.{is_listed};
+ghost use Rattle.velo_thin.specs.Thinned.{CanComeAbout};
+ghost use Rattle.velo_audit.specs.Audit.{TellsTruly};
+ghost use Rattle.velo_audit.specs.Rounds.{each_once};
+ghost use Rattle.velo_audit.specs.Witness.{IsWitnessWithin};
+ghost use Rattle.velo_audit_text.specs.Text.{optional_witness_text, told_text, audit_text};
+ghost use Rattle.velo_audit_text.specs.Witness.{FewAreOpen};
+ghost use Rattle.velo_audit_text.specs.Words.{not_atomic_text};
+
+use crate::page::Page;
+use crate::witness::add_witness;
+use crate::words::{Asked, add_asked, add_counts, add_mark, add_not_atomic};
+use std::alloc::Global;
+use velo_audit::Told;
+use velo_events::{Event, Label, Memory};
+use velo_explain::Evidence;
+use velo_traces::{Block, Trace};
+
+/// Whether one of the blocks has the label.
+fn is_label_of(blocks: &[Block], label: Label) -> bool
+    ensures { result ≡ is_listed (map (λ block. block.label.0) blocks.now) label.0 }
+{
+    for block in blocks {
+        if block.label == label {
+            return true;
+        }
+    }
+    false
+}
+
+/// Adds the labels of the blocks, each once.
+fn add_labels(page: &mut Page, blocks: &[Block]) -> Result<(), Memory>
+    ensures ok { OnOk result (page.new ≡ page.old ++ flat_map not_atomic_text (each_once (map (λ block. block.label.0) blocks.now))) }
+    ensures memory { OnErr result GrowthRefused }
+{
+    for k in 0..blocks.len() {
+        if !is_label_of(&blocks[..k], blocks[k].label) {
+            add_not_atomic(page, blocks[k].label.0)?;
+        }
+    }
+    Ok(())
+}
+
+/// Adds the witness of a round, if it has one.
+fn add_witness_if_any(
+    page: &mut Page,
+    alloc: Global,
+    events: &[Event],
+    closing: usize,
+    witness: &Option<Evidence>,
+) -> Result<(), Memory>
+    requires within { IsWitnessWithin (length events.now) closing witness.now }
+    requires few { length events.now ≤ MOST_EVENTS }
+    requires open { FewAreOpen events.now }
+    ensures ok { OnOk result (page.new ≡ page.old ++ optional_witness_text events.now closing witness.now) }
+    ensures memory { OnErr result GrowthRefused }
+{
+    match witness {
+        None => Ok(()),
+        Some(evidence) => add_witness(page, alloc, events, closing, evidence),
+    }
+}
+
+/// Adds what a round tells.
+fn add_told(page: &mut Page, alloc: Global, events: &[Event], told: &Told) -> Result<(), Memory>
+    requires within { IsWitnessWithin (length events.now) told.now.closing told.now.witness }
+    requires few { length events.now ≤ MOST_EVENTS }
+    requires open { FewAreOpen events.now }
+    ensures ok { OnOk result (page.new ≡ page.old ++ told_text events.now told.now) }
+    ensures memory { OnErr result GrowthRefused }
+{
+    add_labels(page, &told.blocks)?;
+    add_mark(page, told.to_blame)?;
+    add_witness_if_any(page, alloc, events, told.closing, &told.witness)
+}
+
+/// Adds what all rounds tell.
+fn add_rounds(
+    page: &mut Page,
+    alloc: Global,
+    events: &[Event],
+    rounds: &[Told],
+) -> Result<(), Memory>
+    requires truly { All (TellsTruly events.now) rounds.now }
+    requires few { length events.now ≤ MOST_EVENTS }
+    requires open { FewAreOpen events.now }
+    ensures ok { OnOk result (page.new ≡ page.old ++ flat_map (told_text events.now) rounds.now) }
+    ensures memory { OnErr result GrowthRefused }
+{
+    for told in rounds {
+        add_told(page, alloc, events, told)?;
+    }
+    Ok(())
+}
+
+/// What an audit tells, as text: what was to be left out, the labels and the witness of each round, how many labels are atomic, and
+/// how many rounds there were, the last one without an alarm. The rounds are as `audit` gives them for the log.
+///
+/// # Errors
+/// `Memory` where a growth was refused.
+pub fn audit_text(
+    alloc: Global,
+    log: &Trace,
+    asked: &Asked,
+    rounds: &[Told],
+    atomic: usize,
+) -> Result<Page, Memory>
+    requires few { length log.now.events ≤ MOST_EVENTS }
+    requires can_come_about { CanComeAbout log.now.events }
+    requires truly { All (TellsTruly log.now.events) rounds.now }
+    ensures text { IfOk result (λ page. page ≡ audit_text log.now.events asked.now rounds.now atomic) }
+    ensures memory { OnErr result GrowthRefused }
+{
+    let mut page = Page::new(alloc);
+    add_asked(&mut page, asked)?;
+    add_rounds(&mut page, alloc, log.as_slice(), rounds)?;
+    add_counts(&mut page, atomic, rounds.len() + 1)?;
+    Ok(page)
+}

@@ -1,0 +1,287 @@
+//! The witness of a round, in words.
+ghost use Rattle.std.specs.Prelude.{◌≡◌, ◌≤◌, ◌<◌, ◌++◌, length, OnOk, OnErr};
+ghost use Rattle.std.specs.List.{flat_map};
+ghost use Rattle.velo_events.specs.Refusals.{GrowthRefused};
+ghost use Rattle.velo_events.specs.declared.limits.TheConstants.{MOST_EVENTS};
+ghost use Rattle.velo_explain.specs.Evidence.{AreSpansWithin, AreEdgesWithin, AreBlamesWithin, IsWithin};
+ghost use Rattle.velo_explain.specs.Text.{line_of, numbered, next_number, member_text, blame_text};
+ghost use Rattle.velo_audit_text.specs.Witness.{closing_text, stack_at, in_block_text, event_line_text, event_in_blocks_text, order_text, edge_text, witness_text, FewAreOpen};
+
+use crate::page::{Page, Piece};
+use std::alloc::Global;
+use velo_certify::EdgeEvents;
+use velo_events::{Event, MOST_EVENTS, Memory};
+use velo_explain::{Blame, Evidence, Span};
+use velo_traces::{Block, open_blocks_in};
+
+/// The number of the line on which a position stands, behind the header on line 1.
+fn line_of(position: usize) -> u64
+    requires { position < MOST_EVENTS }
+    ensures { result ≡ line_of position }
+{
+    position as u64 + 2
+}
+
+/// The number of the transaction that comes after the one at a place of a cycle.
+fn next_number(count: usize, k: usize) -> u64
+    requires { k < count }
+    ensures { result ≡ next_number count k }
+{
+    if k + 1 < count { k as u64 + 2 } else { 1 }
+}
+
+/// Adds the closing event.
+#[tactic(auto, unfolding(crate::specs::Witness::closing_text))]
+fn add_closing(
+    page: &mut Page,
+    events: &[Event],
+    position: usize,
+    count: usize,
+) -> Result<(), Memory>
+    requires within { position < length events.now }
+    requires few { length events.now ≤ MOST_EVENTS }
+    ensures ok { OnOk result (page.new ≡ page.old ++ closing_text events.now position count) }
+    ensures memory { OnErr result GrowthRefused }
+{
+    page.add(&[
+        Piece::Text("  line "),
+        Piece::Number(line_of(position)),
+        Piece::Text(" `"),
+        Piece::Words(events[position]),
+        Piece::Text("` closes a cycle of "),
+        Piece::Number(count as u64),
+        Piece::Text(" transactions\n"),
+    ])
+}
+
+/// Adds a transaction of the cycle.
+#[tactic(auto, unfolding(velo_explain::specs::Text::member_text))]
+fn add_member(page: &mut Page, events: &[Event], k: usize, span: Span) -> Result<(), Memory>
+    requires first { span.first < length events.now }
+    requires last { span.last < length events.now }
+    requires few { length events.now ≤ MOST_EVENTS }
+    requires place { k < usize.MAX }
+    ensures ok { OnOk result (page.new ≡ page.old ++ member_text events.now k span) }
+    ensures memory { OnErr result GrowthRefused }
+{
+    let first = events[span.first];
+    page.add(&[
+        Piece::Text("  T"),
+        Piece::Number(k as u64 + 1),
+        Piece::Text(": thread "),
+        Piece::Number(u64::from(first.thread.0)),
+        Piece::Text(", "),
+        Piece::Block(first.kind),
+        Piece::Text(", "),
+        Piece::Lines(line_of(span.first), line_of(span.last)),
+        Piece::Text("\n"),
+    ])
+}
+
+/// Adds the transactions of the cycle.
+fn add_members(page: &mut Page, events: &[Event], spans: &[Span]) -> Result<(), Memory>
+    requires within { AreSpansWithin (length events.now) spans.now }
+    requires few { length events.now ≤ MOST_EVENTS }
+    ensures ok { OnOk result (page.new ≡ page.old ++ numbered (member_text events.now) 0 spans.now) }
+    ensures memory { OnErr result GrowthRefused }
+{
+    for k in 0..spans.len() {
+        add_member(page, events, k, spans[k])?;
+    }
+    Ok(())
+}
+
+/// Adds a block around an event.
+#[tactic(auto, unfolding(crate::specs::Witness::in_block_text))]
+fn add_in_block(page: &mut Page, block: Block) -> Result<(), Memory>
+    ensures ok { OnOk result (page.new ≡ page.old ++ in_block_text block) }
+    ensures memory { OnErr result GrowthRefused }
+{
+    page.add(&[
+        Piece::Text("      in block "),
+        Piece::Number(u64::from(block.label.0)),
+        Piece::Text("\n"),
+    ])
+}
+
+/// Adds blocks around an event.
+fn add_in_blocks(page: &mut Page, blocks: &[Block]) -> Result<(), Memory>
+    ensures ok { OnOk result (page.new ≡ page.old ++ flat_map in_block_text blocks.now) }
+    ensures memory { OnErr result GrowthRefused }
+{
+    for block in blocks {
+        add_in_block(page, *block)?;
+    }
+    Ok(())
+}
+
+/// Adds the blocks that the event's thread has open before it.
+fn add_stack(
+    page: &mut Page,
+    alloc: Global,
+    events: &[Event],
+    position: usize,
+) -> Result<(), Memory>
+    requires within { position < length events.now }
+    requires open { FewAreOpen events.now }
+    ensures ok { OnOk result (page.new ≡ page.old ++ flat_map in_block_text (stack_at events.now position)) }
+    ensures memory { OnErr result GrowthRefused }
+{
+    let blocks = open_blocks_in(&events[..position], events[position].thread, alloc);
+    add_in_blocks(page, blocks.as_slice())
+}
+
+/// Adds the line of an event.
+#[tactic(auto, unfolding(crate::specs::Witness::event_line_text))]
+fn add_event_line(page: &mut Page, events: &[Event], position: usize) -> Result<(), Memory>
+    requires within { position < length events.now }
+    requires few { length events.now ≤ MOST_EVENTS }
+    ensures ok { OnOk result (page.new ≡ page.old ++ event_line_text events.now position) }
+    ensures memory { OnErr result GrowthRefused }
+{
+    page.add(&[
+        Piece::Text("    line "),
+        Piece::Number(line_of(position)),
+        Piece::Text(" `"),
+        Piece::Words(events[position]),
+        Piece::Text("`\n"),
+    ])
+}
+
+/// Adds an event with the blocks around it.
+fn add_event(
+    page: &mut Page,
+    alloc: Global,
+    events: &[Event],
+    position: usize,
+) -> Result<(), Memory>
+    requires within { position < length events.now }
+    requires few { length events.now ≤ MOST_EVENTS }
+    requires open { FewAreOpen events.now }
+    ensures ok { OnOk result (page.new ≡ page.old ++ event_in_blocks_text events.now position) }
+    ensures memory { OnErr result GrowthRefused }
+{
+    add_event_line(page, events, position)?;
+    add_stack(page, alloc, events, position)
+}
+
+/// Adds which transaction comes before which.
+#[tactic(auto, unfolding(crate::specs::Witness::order_text))]
+fn add_order(page: &mut Page, count: usize, k: usize) -> Result<(), Memory>
+    requires place { k < count }
+    ensures ok { OnOk result (page.new ≡ page.old ++ order_text count k) }
+    ensures memory { OnErr result GrowthRefused }
+{
+    page.add(&[
+        Piece::Text("  T"),
+        Piece::Number(k as u64 + 1),
+        Piece::Text(" before T"),
+        Piece::Number(next_number(count, k)),
+        Piece::Text(":\n"),
+    ])
+}
+
+/// Adds the events behind an edge of the cycle.
+fn add_edge(
+    page: &mut Page,
+    alloc: Global,
+    events: &[Event],
+    count: usize,
+    k: usize,
+    edge: EdgeEvents,
+) -> Result<(), Memory>
+    requires from { edge.from < length events.now }
+    requires to { edge.to < length events.now }
+    requires few { length events.now ≤ MOST_EVENTS }
+    requires open { FewAreOpen events.now }
+    requires place { k < count }
+    ensures ok { OnOk result (page.new ≡ page.old ++ edge_text events.now count k edge) }
+    ensures memory { OnErr result GrowthRefused }
+{
+    add_order(page, count, k)?;
+    add_event(page, alloc, events, edge.from)?;
+    add_event(page, alloc, events, edge.to)
+}
+
+/// Adds the events behind the edges of the cycle.
+fn add_edges(
+    page: &mut Page,
+    alloc: Global,
+    events: &[Event],
+    edges: &[EdgeEvents],
+) -> Result<(), Memory>
+    requires within { AreEdgesWithin (length events.now) edges.now }
+    requires few { length events.now ≤ MOST_EVENTS }
+    requires open { FewAreOpen events.now }
+    ensures ok { OnOk result (page.new ≡ page.old ++ numbered (edge_text events.now (length edges.now)) 0 edges.now) }
+    ensures memory { OnErr result GrowthRefused }
+{
+    for k in 0..edges.len() {
+        add_edge(page, alloc, events, edges.len(), k, edges[k])?;
+    }
+    Ok(())
+}
+
+/// Adds a block to blame, and why.
+#[tactic(auto, unfolding(velo_explain::specs::Text::blame_text))]
+fn add_blame(page: &mut Page, events: &[Event], position: usize, blame: Blame) -> Result<(), Memory>
+    requires position { position < length events.now }
+    requires first { blame.block.first < length events.now }
+    requires witness { blame.witness < length events.now }
+    requires few { length events.now ≤ MOST_EVENTS }
+    ensures ok { OnOk result (page.new ≡ page.old ++ blame_text events.now position blame) }
+    ensures memory { OnErr result GrowthRefused }
+{
+    page.add(&[
+        Piece::Text("  block "),
+        Piece::Number(u64::from(blame.block.label.0)),
+        Piece::Text(", from line "),
+        Piece::Number(line_of(blame.block.first)),
+        Piece::Text(": line "),
+        Piece::Number(line_of(blame.witness)),
+        Piece::Text(" `"),
+        Piece::Words(events[blame.witness]),
+        Piece::Text("` must come after its begin and before line "),
+        Piece::Number(line_of(position)),
+        Piece::Text("\n"),
+    ])
+}
+
+/// Adds the blocks to blame.
+fn add_blames(
+    page: &mut Page,
+    events: &[Event],
+    position: usize,
+    blames: &[Blame],
+) -> Result<(), Memory>
+    requires position { position < length events.now }
+    requires within { AreBlamesWithin (length events.now) blames.now }
+    requires few { length events.now ≤ MOST_EVENTS }
+    ensures ok { OnOk result (page.new ≡ page.old ++ flat_map (blame_text events.now position) blames.now) }
+    ensures memory { OnErr result GrowthRefused }
+{
+    for k in 0..blames.len() {
+        add_blame(page, events, position, blames[k])?;
+    }
+    Ok(())
+}
+
+/// Adds the witness of a round whose closing event stands at the position.
+pub(crate) fn add_witness(
+    page: &mut Page,
+    alloc: Global,
+    events: &[Event],
+    position: usize,
+    evidence: &Evidence,
+) -> Result<(), Memory>
+    requires within { IsWithin (length events.now) position evidence.now }
+    requires few { length events.now ≤ MOST_EVENTS }
+    requires open { FewAreOpen events.now }
+    ensures ok { OnOk result (page.new ≡ page.old ++ witness_text events.now position evidence.now) }
+    ensures memory { OnErr result GrowthRefused }
+{
+    add_closing(page, events, position, evidence.spans.len())?;
+    add_members(page, events, &evidence.spans)?;
+    add_edges(page, alloc, events, &evidence.edges)?;
+    add_blames(page, events, position, &evidence.blames)
+}

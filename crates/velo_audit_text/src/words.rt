@@ -1,0 +1,141 @@
+//! The lines of what was asked for, and of the counts.
+ghost use Rattle.std.specs.Prelude.{◌≡◌, ◌++◌, OnOk, OnErr};
+ghost use Rattle.std.specs.List.{flat_map};
+ghost use Rattle.velo_events.specs.Refusals.{GrowthRefused};
+ghost use Rattle.velo_audit_text.specs.Words.{left_out_label_text, left_out_lock_text, left_out_variable_text, asked_text, count_text, not_atomic_text, nobody_text, mark_text};
+
+use crate::page::{Page, Piece};
+use velo_events::{Label, LockId, Memory, VarId};
+
+/// What was to be left out.
+#[derive(Clone, Copy, Debug)]
+pub struct Asked<'a> {
+    /// The labels.
+    pub labels: &'a [Label],
+    /// The locks.
+    pub locks: &'a [LockId],
+    /// The variables.
+    pub variables: &'a [VarId],
+}
+
+/// Adds a label that was to be left out.
+#[tactic(auto, unfolding(crate::specs::Words::left_out_label_text))]
+fn add_left_out_label(page: &mut Page, label: Label) -> Result<(), Memory>
+    ensures ok { OnOk result (page.new ≡ page.old ++ left_out_label_text label) }
+    ensures memory { OnErr result GrowthRefused }
+{
+    page.add(&[
+        Piece::Text("left out label "),
+        Piece::Number(u64::from(label.0)),
+        Piece::Text("\n"),
+    ])
+}
+
+/// Adds a lock that was to be left out.
+#[tactic(auto, unfolding(crate::specs::Words::left_out_lock_text))]
+fn add_left_out_lock(page: &mut Page, lock: LockId) -> Result<(), Memory>
+    ensures ok { OnOk result (page.new ≡ page.old ++ left_out_lock_text lock) }
+    ensures memory { OnErr result GrowthRefused }
+{
+    page.add(&[
+        Piece::Text("left out lock "),
+        Piece::Number(u64::from(lock.0)),
+        Piece::Text("\n"),
+    ])
+}
+
+/// Adds a variable that was to be left out.
+#[tactic(auto, unfolding(crate::specs::Words::left_out_variable_text))]
+fn add_left_out_variable(page: &mut Page, variable: VarId) -> Result<(), Memory>
+    ensures ok { OnOk result (page.new ≡ page.old ++ left_out_variable_text variable) }
+    ensures memory { OnErr result GrowthRefused }
+{
+    page.add(&[
+        Piece::Text("left out variable "),
+        Piece::Number(u64::from(variable.0)),
+        Piece::Text("\n"),
+    ])
+}
+
+/// Adds the labels that were to be left out.
+fn add_left_out_labels(page: &mut Page, labels: &[Label]) -> Result<(), Memory>
+    ensures ok { OnOk result (page.new ≡ page.old ++ flat_map left_out_label_text labels.now) }
+    ensures memory { OnErr result GrowthRefused }
+{
+    for label in labels {
+        add_left_out_label(page, *label)?;
+    }
+    Ok(())
+}
+
+/// Adds the locks that were to be left out.
+fn add_left_out_locks(page: &mut Page, locks: &[LockId]) -> Result<(), Memory>
+    ensures ok { OnOk result (page.new ≡ page.old ++ flat_map left_out_lock_text locks.now) }
+    ensures memory { OnErr result GrowthRefused }
+{
+    for lock in locks {
+        add_left_out_lock(page, *lock)?;
+    }
+    Ok(())
+}
+
+/// Adds the variables that were to be left out.
+fn add_left_out_variables(page: &mut Page, variables: &[VarId]) -> Result<(), Memory>
+    ensures ok { OnOk result (page.new ≡ page.old ++ flat_map left_out_variable_text variables.now) }
+    ensures memory { OnErr result GrowthRefused }
+{
+    for variable in variables {
+        add_left_out_variable(page, *variable)?;
+    }
+    Ok(())
+}
+
+/// Adds what was to be left out.
+pub(crate) fn add_asked(page: &mut Page, asked: &Asked) -> Result<(), Memory>
+    ensures ok { OnOk result (page.new ≡ page.old ++ asked_text asked.now) }
+    ensures memory { OnErr result GrowthRefused }
+{
+    add_left_out_labels(page, asked.labels)?;
+    add_left_out_locks(page, asked.locks)?;
+    add_left_out_variables(page, asked.variables)
+}
+
+/// Adds a label that is not atomic.
+#[tactic(auto, unfolding(crate::specs::Words::not_atomic_text))]
+pub(crate) fn add_not_atomic(page: &mut Page, label: u32) -> Result<(), Memory>
+    ensures ok { OnOk result (page.new ≡ page.old ++ not_atomic_text label) }
+    ensures memory { OnErr result GrowthRefused }
+{
+    page.add(&[
+        Piece::Text("not atomic "),
+        Piece::Number(u64::from(label)),
+        Piece::Text("\n"),
+    ])
+}
+
+/// Adds that no block is to blame, where none is.
+#[tactic(auto, unfolding(crate::specs::Words::nobody_text))]
+pub(crate) fn add_mark(page: &mut Page, to_blame: bool) -> Result<(), Memory>
+    ensures ok { OnOk result (page.new ≡ page.old ++ mark_text to_blame) }
+    ensures memory { OnErr result GrowthRefused }
+{
+    if to_blame {
+        return Ok(());
+    }
+    page.add(&[Piece::Text("  no block alone is to blame\n")])
+}
+
+/// Adds how many labels are atomic, and how many rounds there were.
+#[tactic(auto, unfolding(crate::specs::Words::count_text))]
+pub(crate) fn add_counts(page: &mut Page, atomic: usize, rounds: usize) -> Result<(), Memory>
+    ensures ok { OnOk result (page.new ≡ page.old ++ count_text atomic rounds) }
+    ensures memory { OnErr result GrowthRefused }
+{
+    page.add(&[
+        Piece::Text("atomic "),
+        Piece::Number(atomic as u64),
+        Piece::Text(" labels\nrounds "),
+        Piece::Number(rounds as u64),
+        Piece::Text("\n"),
+    ])
+}
