@@ -5,13 +5,8 @@ use Rattle.std.specs.List.{flat_map}
 use Rattle.std.proofs.lemmas.Grind.{flat_map-append}
 use Rattle.std.proofs.lemmas.List.{append-nil, map-append}
 use Rattle.velo_explain.specs.declared.pieces.Piece.{Piece}
-use Rattle.velo_explain.specs.declared.pieces.Piece.TheVariants.{Text}
 use Rattle.velo_explain.specs.Pieces.{joined, piece_text, pieces_text}
 use Rattle.velo_explain.specs.Text.{numbered}
-
--- what is read past the end of some pieces
-abbrev pub no_piece : Piece
-no_piece = Text (record { ref_ptr = (0, 0); now = [] })
 
 joined-append : (xs ys : List (List ℕ)) → joined (xs ++ ys) ≡ joined xs ++ joined ys
 joined-append [] ys = refl

@@ -3,9 +3,11 @@ use Rattle.std.specs.Prelude.{ℕ, ◌+◌, List, [], ◌∷◌, ◌++◌, lengt
 use Rattle.velo_events.specs.declared.event.Event.{Event}
 use Rattle.velo_certify.specs.declared.edges.EdgeEvents.{EdgeEvents}
 use Rattle.velo_certify.specs.Owners.{event_at}
+use Rattle.velo_names.specs.declared.kind.NameKind.TheVariants as of_name
+use Rattle.velo_names.specs.Names.{NameLists, no_names, name_of}
 use Rattle.velo_explain.specs.declared.spans.Span.{Span}
 use Rattle.velo_explain.specs.declared.evidence.Evidence.{Evidence}
-use Rattle.velo_explain.specs.Pieces.{event_text, block_text, lines_text, joined}
+use Rattle.velo_explain.specs.Pieces.{event_text, block_text, lines_text, joined, block_name, escaped_text}
 use Rattle.velo_explain.specs.Text.{line_of, numbered, next_number}
 
 unfoldable pub start_text : List ℕ
@@ -13,12 +15,14 @@ start_text = codes "digraph cycle {\n  rankdir=LR;\n  node [shape=box];\n"
 
 -- "  subgraph cluster_0 { label="thread 0"; T1 [label="T1: block 7\nlines 3 to 6"]; }". Boxes of one thread are put
 -- together, since clusters of one name are one.
-unfoldable pub box_text : List Event → ℕ → Span → List ℕ
-box_text trace k span = joined (
+unfoldable pub box_text : NameLists → List Event → ℕ → Span → List ℕ
+box_text names trace k span = joined (
     codes "  subgraph cluster_" ∷ decimal (event_at trace span.first).thread.0
     ∷ codes " { label=\"thread " ∷ decimal (event_at trace span.first).thread.0
+    ∷ escaped_text (name_of names of_name.Thread (event_at trace span.first).thread.0)
     ∷ codes "\"; T" ∷ decimal (k + 1) ∷ codes " [label=\"T" ∷ decimal (k + 1)
     ∷ codes ": " ∷ block_text (event_at trace span.first).kind
+    ∷ escaped_text (block_name names (event_at trace span.first).kind)
     ∷ codes "\\n" ∷ lines_text (line_of span.first) (line_of span.last) ∷ codes "\"]; }\n" ∷ [])
 
 -- "  T1 -> T2 [label="line 4: 0 rd 0 0\nline 5: 1 wr 0 5"];"
@@ -31,10 +35,14 @@ arrow_text trace count k edge = joined (
 unfoldable pub end_text : List ℕ
 end_text = codes "}\n"
 
--- the whole picture
-abbrev pub picture_text : List Event → Evidence → List ℕ
-picture_text trace evidence =
+-- the whole picture with names
+abbrev pub named_picture_text : NameLists → List Event → Evidence → List ℕ
+named_picture_text names trace evidence =
     start_text
-    ++ (numbered (box_text trace) 0 evidence.spans.items
+    ++ (numbered (box_text names trace) 0 evidence.spans.items
     ++ (numbered (arrow_text trace (length evidence.edges.items)) 0 evidence.edges.items
     ++ end_text))
+
+-- and without
+abbrev pub picture_text : List Event → Evidence → List ℕ
+picture_text trace evidence = named_picture_text no_names trace evidence

@@ -4,10 +4,13 @@ use Rattle.std.specs.List.{flat_map}
 use Rattle.velo_events.specs.declared.event.Event.{Event}
 use Rattle.velo_certify.specs.declared.edges.EdgeEvents.{EdgeEvents}
 use Rattle.velo_certify.specs.Owners.{event_at}
+use Rattle.velo_events.specs.declared.event.Kind.TheVariants.{Begin}
+use Rattle.velo_names.specs.declared.kind.NameKind.TheVariants as of_name
+use Rattle.velo_names.specs.Names.{NameLists, no_names, name_of}
 use Rattle.velo_explain.specs.declared.spans.Span.{Span}
 use Rattle.velo_explain.specs.declared.evidence.Blame.{Blame}
 use Rattle.velo_explain.specs.declared.evidence.Evidence.{Evidence}
-use Rattle.velo_explain.specs.Pieces.{event_text, block_text, lines_text, joined}
+use Rattle.velo_explain.specs.Pieces.{event_text, block_text, lines_text, joined, name_about, block_name, name_text}
 
 -- the number of the line on which a position stands, behind the header on line 1
 abbrev pub line_of : ℕ → ℕ
@@ -18,22 +21,25 @@ abbrev pub numbered : {X : Type 0} → (ℕ → X → List ℕ) → ℕ → List
 numbered text k [] = []
 numbered text k (x ∷ xs) = text k x ++ numbered text (k + 1) xs
 
--- ---- an alarm
+-- ---- an alarm. The names of what a line tells of, where there are any, are its last words
 
 -- "Line 6 `0 wr 0 1` closes a cycle of 2 transactions:"
-unfoldable pub heading_text : List Event → ℕ → ℕ → List ℕ
-heading_text trace p count = joined (
+unfoldable pub heading_text : NameLists → List Event → ℕ → ℕ → List ℕ
+heading_text names trace p count = joined (
     codes "The blocks of this log cannot be serialized.\nLine "
     ∷ decimal (line_of p) ∷ codes " `" ∷ event_text (event_at trace p)
-    ∷ codes "` closes a cycle of " ∷ decimal count ∷ codes " transactions:\n" ∷ [])
+    ∷ codes "` closes a cycle of " ∷ decimal count ∷ codes " transactions:"
+    ∷ name_text (name_about names (event_at trace p).kind) ∷ codes "\n" ∷ [])
 
 -- "  T1: thread 0, block 7, lines 3 to 6"
-unfoldable pub member_text : List Event → ℕ → Span → List ℕ
-member_text trace k span = joined (
+unfoldable pub member_text : NameLists → List Event → ℕ → Span → List ℕ
+member_text names trace k span = joined (
     codes "  T" ∷ decimal (k + 1)
     ∷ codes ": thread " ∷ decimal (event_at trace span.first).thread.0
     ∷ codes ", " ∷ block_text (event_at trace span.first).kind
-    ∷ codes ", " ∷ lines_text (line_of span.first) (line_of span.last) ∷ codes "\n" ∷ [])
+    ∷ codes ", " ∷ lines_text (line_of span.first) (line_of span.last)
+    ∷ name_text (name_of names of_name.Thread (event_at trace span.first).thread.0)
+    ∷ name_text (block_name names (event_at trace span.first).kind) ∷ codes "\n" ∷ [])
 
 unfoldable pub order_text : List ℕ
 order_text = codes "Each must come before the next, and the last before the first:\n"
@@ -43,38 +49,45 @@ abbrev pub next_number : ℕ → ℕ → ℕ
 next_number count k = if nat_lt (k + 1) count then k + 2 else 1
 
 -- "  T1 before T2: line 4 `0 rd 0 0`, then line 5 `1 wr 0 5`"
-unfoldable pub edge_text : List Event → ℕ → ℕ → EdgeEvents → List ℕ
-edge_text trace count k edge = joined (
+unfoldable pub edge_text : NameLists → List Event → ℕ → ℕ → EdgeEvents → List ℕ
+edge_text names trace count k edge = joined (
     codes "  T" ∷ decimal (k + 1) ∷ codes " before T" ∷ decimal (next_number count k)
     ∷ codes ": line " ∷ decimal (line_of edge.from) ∷ codes " `" ∷ event_text (event_at trace edge.from)
-    ∷ codes "`, then line " ∷ decimal (line_of edge.to) ∷ codes " `" ∷ event_text (event_at trace edge.to) ∷ codes "`\n" ∷ [])
+    ∷ codes "`, then line " ∷ decimal (line_of edge.to) ∷ codes " `" ∷ event_text (event_at trace edge.to) ∷ codes "`"
+    ∷ name_text (name_about names (event_at trace edge.to).kind) ∷ codes "\n" ∷ [])
 
 -- "  block 7, from line 3: line 5 `1 wr 0 5` must come after its begin and before line 6"
-unfoldable pub blame_text : List Event → ℕ → Blame → List ℕ
-blame_text trace p blame = joined (
+unfoldable pub blame_text : NameLists → List Event → ℕ → Blame → List ℕ
+blame_text names trace p blame = joined (
     codes "  block " ∷ decimal blame.block.label.0 ∷ codes ", from line " ∷ decimal (line_of blame.block.first)
     ∷ codes ": line " ∷ decimal (line_of blame.witness) ∷ codes " `" ∷ event_text (event_at trace blame.witness)
-    ∷ codes "` must come after its begin and before line " ∷ decimal (line_of p) ∷ codes "\n" ∷ [])
+    ∷ codes "` must come after its begin and before line " ∷ decimal (line_of p)
+    ∷ name_text (block_name names (Begin blame.block.label)) ∷ codes "\n" ∷ [])
 
 -- "To blame in thread 0:"
-unfoldable pub to_blame_text : List Event → ℕ → List ℕ
-to_blame_text trace p = joined (codes "To blame in thread " ∷ decimal (event_at trace p).thread.0 ∷ codes ":\n" ∷ [])
+unfoldable pub to_blame_text : NameLists → List Event → ℕ → List ℕ
+to_blame_text names trace p = joined (codes "To blame in thread " ∷ decimal (event_at trace p).thread.0 ∷ codes ":"
+    ∷ name_text (name_of names of_name.Thread (event_at trace p).thread.0) ∷ codes "\n" ∷ [])
 
 unfoldable pub nobody_text : List ℕ
 nobody_text = codes "No block alone is to blame: each can be brought together, but not all transactions at once.\n"
 
-abbrev pub blames_text : List Event → ℕ → List Blame → List ℕ
-blames_text trace p [] = nobody_text
-blames_text trace p (blame ∷ blames) = to_blame_text trace p ++ flat_map (blame_text trace p) (blame ∷ blames)
+abbrev pub blames_text : NameLists → List Event → ℕ → List Blame → List ℕ
+blames_text names trace p [] = nobody_text
+blames_text names trace p (blame ∷ blames) = to_blame_text names trace p ++ flat_map (blame_text names trace p) (blame ∷ blames)
 
--- what is written of an alarm at position p
-abbrev pub explanation_text : List Event → ℕ → Evidence → List ℕ
-explanation_text trace p evidence =
-    heading_text trace p (length evidence.spans.items)
-    ++ (numbered (member_text trace) 0 evidence.spans.items
+-- what is written of an alarm at position p with names
+abbrev pub named_explanation_text : NameLists → List Event → ℕ → Evidence → List ℕ
+named_explanation_text names trace p evidence =
+    heading_text names trace p (length evidence.spans.items)
+    ++ (numbered (member_text names trace) 0 evidence.spans.items
     ++ (order_text
-    ++ (numbered (edge_text trace (length evidence.edges.items)) 0 evidence.edges.items
-    ++ blames_text trace p evidence.blames.items)))
+    ++ (numbered (edge_text names trace (length evidence.edges.items)) 0 evidence.edges.items
+    ++ blames_text names trace p evidence.blames.items)))
+
+-- and without
+abbrev pub explanation_text : List Event → ℕ → Evidence → List ℕ
+explanation_text trace p evidence = named_explanation_text no_names trace p evidence
 
 -- ---- no alarm
 

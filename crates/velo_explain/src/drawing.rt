@@ -3,7 +3,7 @@ ghost use Rattle.std.specs.Prelude.{◌≡◌, ◌≤◌, ◌<◌, ◌++◌, len
 ghost use Rattle.velo_events.specs.Refusals.{GrowthRefused};
 ghost use Rattle.velo_events.specs.declared.limits.TheConstants.{MOST_EVENTS};
 ghost use Rattle.velo_explain.specs.Evidence.{AreSpansWithin, AreEdgesWithin, IsWithin};
-ghost use Rattle.velo_explain.specs.Picture.{start_text, box_text, arrow_text, end_text, picture_text};
+ghost use Rattle.velo_explain.specs.Picture.{start_text, box_text, arrow_text, end_text, named_picture_text};
 ghost use Rattle.velo_explain.specs.Text.{numbered};
 
 use crate::evidence::Evidence;
@@ -13,6 +13,7 @@ use crate::words::{line_of, next_number};
 use std::alloc::Global;
 use velo_certify::EdgeEvents;
 use velo_events::{Event, Memory};
+use velo_names::Names;
 
 /// Adds the start of a picture.
 #[tactic(auto, unfolding(crate::specs::Picture::start_text))]
@@ -36,12 +37,18 @@ fn add_end(page: &mut Page) -> Result<(), Memory>
 
 /// Adds the box of a transaction.
 #[tactic(auto, unfolding(crate::specs::Picture::box_text))]
-fn add_box(page: &mut Page, events: &[Event], k: usize, span: Span) -> Result<(), Memory>
+fn add_box(
+    page: &mut Page,
+    names: &Names,
+    events: &[Event],
+    k: usize,
+    span: Span,
+) -> Result<(), Memory>
     requires first { span.first < length events.now }
     requires last { span.last < length events.now }
     requires few { length events.now ≤ MOST_EVENTS }
     requires place { k < usize.MAX }
-    ensures ok { OnOk result (page.new ≡ page.old ++ box_text events.now k span) }
+    ensures ok { OnOk result (page.new ≡ page.old ++ box_text names.now events.now k span) }
     ensures memory { OnErr result GrowthRefused }
 {
     let first = events[span.first];
@@ -52,12 +59,14 @@ fn add_box(page: &mut Page, events: &[Event], k: usize, span: Span) -> Result<()
         thread,
         Piece::Text(" { label=\"thread "),
         thread,
+        Piece::EscapedThread(names, first.thread),
         Piece::Text("\"; T"),
         number,
         Piece::Text(" [label=\"T"),
         number,
         Piece::Text(": "),
         Piece::Block(first.kind),
+        Piece::EscapedBlock(names, first.kind),
         Piece::Text("\\n"),
         Piece::Lines(line_of(span.first), line_of(span.last)),
         Piece::Text("\"]; }\n"),
@@ -66,14 +75,14 @@ fn add_box(page: &mut Page, events: &[Event], k: usize, span: Span) -> Result<()
 }
 
 /// Adds the boxes of the transactions.
-fn add_boxes(page: &mut Page, events: &[Event], spans: &[Span]) -> Result<(), Memory>
+fn add_boxes(page: &mut Page, names: &Names, events: &[Event], spans: &[Span]) -> Result<(), Memory>
     requires within { AreSpansWithin (length events.now) spans.now }
     requires few { length events.now ≤ MOST_EVENTS }
-    ensures ok { OnOk result (page.new ≡ page.old ++ numbered (box_text events.now) 0 spans.now) }
+    ensures ok { OnOk result (page.new ≡ page.old ++ numbered (box_text names.now events.now) 0 spans.now) }
     ensures memory { OnErr result GrowthRefused }
 {
     for k in 0..spans.len() {
-        add_box(page, events, k, spans[k])?;
+        add_box(page, names, events, k, spans[k])?;
     }
     Ok(())
 }
@@ -131,18 +140,19 @@ fn add_arrows(page: &mut Page, events: &[Event], edges: &[EdgeEvents]) -> Result
 /// `Memory` where a growth was refused.
 pub(crate) fn picture_of(
     alloc: Global,
+    names: &Names,
     events: &[Event],
     position: usize,
     evidence: &Evidence,
 ) -> Result<Page, Memory>
     requires within { IsWithin (length events.now) position evidence.now }
     requires few { length events.now ≤ MOST_EVENTS }
-    ensures ok { IfOk result (λ page. page ≡ picture_text events.now evidence.now) }
+    ensures ok { IfOk result (λ page. page ≡ named_picture_text names.now events.now evidence.now) }
     ensures memory { OnErr result GrowthRefused }
 {
     let mut page = Page::new(alloc);
     add_start(&mut page)?;
-    add_boxes(&mut page, events, evidence.spans.as_slice())?;
+    add_boxes(&mut page, names, events, evidence.spans.as_slice())?;
     add_arrows(&mut page, events, evidence.edges.as_slice())?;
     add_end(&mut page)?;
     Ok(page)

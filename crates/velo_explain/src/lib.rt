@@ -13,4 +13,4 @@ mod writing;
 pub use evidence::{Blame, Evidence, evidence_of};
 pub use pieces::Page;
 pub use spans::Span;
-pub use writing::{explain, explain_clean, picture};
+pub use writing::{explain, explain_clean, explain_named, picture, picture_named};

@@ -2,13 +2,18 @@
 ghost use Rattle.std.specs.Prelude.{◌≡◌, ◌++◌, [], OnOk, OnErr, codes, decimal};
 ghost use Rattle.velo_events.specs.Refusals.{GrowthRefused};
 ghost use Rattle.velo_logtext.specs.Text.{kind_text};
-ghost use Rattle.velo_explain.specs.Pieces.{event_text, block_text, lines_text, piece_text, pieces_text};
+ghost use Rattle.velo_explain.specs.Pieces.{event_text, block_text, lines_text, piece_text, pieces_text, name_about, block_name, name_text, escape, escaped_text};
+ghost use Rattle.std.specs.Option.{option_copied};
+ghost use Rattle.std.specs.List.{flat_map};
+ghost use Rattle.velo_names.specs.Names.{name_of};
+ghost use Rattle.velo_names.specs.declared.kind.NameKind.TheVariants as of_name;
 
 use std::alloc::Global;
 use std::marker::Model;
 use velo_events::growth::reserve;
-use velo_events::{Event, Kind, Memory};
+use velo_events::{Event, Kind, Memory, ThreadId};
 use velo_logtext::{put_kind, put_number};
+use velo_names::{NameKind, Names};
 
 /// A piece of text.
 #[derive(Clone, Copy)]
@@ -23,6 +28,49 @@ pub(crate) enum Piece<'a> {
     Block(Kind),
     /// A first and a last line.
     Lines(u64, u64),
+    /// The name of a thread behind a space, if it has one.
+    ThreadName(&'a Names<'a>, ThreadId),
+    /// The name of what an operation is about behind a space, if it has one.
+    KindName(&'a Names<'a>, Kind),
+    /// The name of the label of the block that an operation begins behind a space, if there is one.
+    BlockName(&'a Names<'a>, Kind),
+    /// The name of a thread in a picture.
+    EscapedThread(&'a Names<'a>, ThreadId),
+    /// The name of the label of the block that an operation begins, in a picture.
+    EscapedBlock(&'a Names<'a>, Kind),
+}
+
+/// The name of a thread, if it has one.
+fn thread_name<'a>(names: &Names<'a>, thread: ThreadId) -> Option<&'a [u8]>
+    ensures { option_copied result ≡ name_of names.now of_name.Thread thread.0 }
+{
+    names.name_of(NameKind::Thread, u32::from(thread.0))
+}
+
+/// The name of what an operation is about, if it has one.
+fn name_about<'a>(names: &Names<'a>, kind: Kind) -> Option<&'a [u8]>
+    ensures { option_copied result ≡ name_about names.now kind }
+{
+    match kind {
+        Kind::Read(x, _) | Kind::Write(x, _) => names.name_of(NameKind::Variable, u32::from(x.0)),
+        Kind::Acquire(m) | Kind::Release(m) => names.name_of(NameKind::Lock, u32::from(m.0)),
+        Kind::AcquireShared(m) | Kind::ReleaseShared(m) => {
+            names.name_of(NameKind::Lock, u32::from(m.0))
+        }
+        Kind::Begin(label) => names.name_of(NameKind::Label, label.0),
+        Kind::Fork(thread) | Kind::Join(thread) => thread_name(names, thread),
+        Kind::End | Kind::Exit => None,
+    }
+}
+
+/// The name of the label of the block that an operation begins, if there is one.
+fn block_name<'a>(names: &Names<'a>, kind: Kind) -> Option<&'a [u8]>
+    ensures { option_copied result ≡ block_name names.now kind }
+{
+    match kind {
+        Kind::Begin(label) => names.name_of(NameKind::Label, label.0),
+        _ => None,
+    }
 }
 
 /// A whole text, which was made in memory.
@@ -123,6 +171,56 @@ impl Page {
         Ok(())
     }
 
+    /// Adds a name behind a space, if there is one.
+    fn add_name(&mut self, name: Option<&[u8]>) -> Result<(), Memory>
+        ensures ok { OnOk result (self.new ≡ self.old ++ name_text (option_copied name.entry)) }
+        ensures memory { OnErr result GrowthRefused }
+    {
+        match name {
+            None => Ok(()),
+            Some(name) => {
+                self.add_bytes(b" ")?;
+                self.add_bytes(name)
+            }
+        }
+    }
+
+    /// Adds a byte of a text in a picture.
+    fn add_escaped_byte(&mut self, byte: u8) -> Result<(), Memory>
+        ensures ok { OnOk result (self.new ≡ self.old ++ escape byte) }
+        ensures memory { OnErr result GrowthRefused }
+    {
+        if byte == b'"' || byte == b'\\' {
+            return self.add_bytes(&[b'\\', byte]);
+        }
+        self.add_bytes(&[byte])
+    }
+
+    /// Adds a text in a picture.
+    fn add_escaped_bytes(&mut self, text: &[u8]) -> Result<(), Memory>
+        ensures ok { OnOk result (self.new ≡ self.old ++ flat_map escape text.now) }
+        ensures memory { OnErr result GrowthRefused }
+    {
+        for byte in text {
+            self.add_escaped_byte(*byte)?;
+        }
+        Ok(())
+    }
+
+    /// Adds a name in a picture behind a space, if there is one.
+    fn add_escaped(&mut self, name: Option<&[u8]>) -> Result<(), Memory>
+        ensures ok { OnOk result (self.new ≡ self.old ++ escaped_text (option_copied name.entry)) }
+        ensures memory { OnErr result GrowthRefused }
+    {
+        match name {
+            None => Ok(()),
+            Some(name) => {
+                self.add_bytes(b" ")?;
+                self.add_escaped_bytes(name)
+            }
+        }
+    }
+
     /// Adds a piece.
     fn add_piece(&mut self, piece: Piece) -> Result<(), Memory>
         ensures ok { OnOk result (self.new ≡ self.old ++ piece_text piece.entry) }
@@ -134,6 +232,11 @@ impl Page {
             Piece::Words(event) => self.add_event(event),
             Piece::Block(kind) => self.add_block(kind),
             Piece::Lines(first, last) => self.add_lines(first, last),
+            Piece::ThreadName(names, thread) => self.add_name(thread_name(names, thread)),
+            Piece::KindName(names, kind) => self.add_name(name_about(names, kind)),
+            Piece::BlockName(names, kind) => self.add_name(block_name(names, kind)),
+            Piece::EscapedThread(names, thread) => self.add_escaped(thread_name(names, thread)),
+            Piece::EscapedBlock(names, kind) => self.add_escaped(block_name(names, kind)),
         }
     }
 

@@ -3,14 +3,15 @@ ghost use Rattle.std.specs.Prelude.{◌≡◌, ◌≤◌, ◌<◌, ◌++◌, len
 ghost use Rattle.velo_events.specs.Refusals.{GrowthRefused};
 ghost use Rattle.velo_events.specs.declared.limits.TheConstants.{MOST_EVENTS};
 ghost use Rattle.velo_explain.specs.Evidence.{AreSpansWithin, AreEdgesWithin, AreBlamesWithin, IsWithin};
-ghost use Rattle.velo_explain.specs.Text.{line_of, numbered, heading_text, member_text, next_number, edge_text, blame_text, to_blame_text, nobody_text, order_text, blames_text, explanation_text, clean_text};
+ghost use Rattle.velo_explain.specs.Text.{line_of, numbered, heading_text, member_text, next_number, edge_text, blame_text, to_blame_text, nobody_text, order_text, blames_text, named_explanation_text, clean_text};
 
 use crate::evidence::{Blame, Evidence};
 use crate::pieces::{Page, Piece};
 use crate::spans::Span;
 use std::alloc::Global;
 use velo_certify::EdgeEvents;
-use velo_events::{Event, MOST_EVENTS, Memory};
+use velo_events::{Event, Kind, MOST_EVENTS, Memory};
+use velo_names::Names;
 
 /// The number of the line on which a position stands, behind the header on line 1.
 pub(crate) fn line_of(position: usize) -> u64
@@ -32,13 +33,14 @@ pub(crate) fn next_number(count: usize, k: usize) -> u64
 #[tactic(auto, unfolding(crate::specs::Text::heading_text))]
 fn add_heading(
     page: &mut Page,
+    names: &Names,
     events: &[Event],
     position: usize,
     count: usize,
 ) -> Result<(), Memory>
     requires within { position < length events.now }
     requires few { length events.now ≤ MOST_EVENTS }
-    ensures ok { OnOk result (page.new ≡ page.old ++ heading_text events.now position count) }
+    ensures ok { OnOk result (page.new ≡ page.old ++ heading_text names.now events.now position count) }
     ensures memory { OnErr result GrowthRefused }
 {
     page.add(&[
@@ -48,18 +50,26 @@ fn add_heading(
         Piece::Words(events[position]),
         Piece::Text("` closes a cycle of "),
         Piece::Number(count as u64),
-        Piece::Text(" transactions:\n"),
+        Piece::Text(" transactions:"),
+        Piece::KindName(names, events[position].kind),
+        Piece::Text("\n"),
     ])
 }
 
 /// Adds a transaction of the cycle.
 #[tactic(auto, unfolding(crate::specs::Text::member_text))]
-fn add_member(page: &mut Page, events: &[Event], k: usize, span: Span) -> Result<(), Memory>
+fn add_member(
+    page: &mut Page,
+    names: &Names,
+    events: &[Event],
+    k: usize,
+    span: Span,
+) -> Result<(), Memory>
     requires first { span.first < length events.now }
     requires last { span.last < length events.now }
     requires few { length events.now ≤ MOST_EVENTS }
     requires place { k < usize.MAX }
-    ensures ok { OnOk result (page.new ≡ page.old ++ member_text events.now k span) }
+    ensures ok { OnOk result (page.new ≡ page.old ++ member_text names.now events.now k span) }
     ensures memory { OnErr result GrowthRefused }
 {
     let first = events[span.first];
@@ -72,19 +82,26 @@ fn add_member(page: &mut Page, events: &[Event], k: usize, span: Span) -> Result
         Piece::Block(first.kind),
         Piece::Text(", "),
         Piece::Lines(line_of(span.first), line_of(span.last)),
+        Piece::ThreadName(names, first.thread),
+        Piece::BlockName(names, first.kind),
         Piece::Text("\n"),
     ])
 }
 
 /// Adds the transactions of the cycle.
-fn add_members(page: &mut Page, events: &[Event], spans: &[Span]) -> Result<(), Memory>
+fn add_members(
+    page: &mut Page,
+    names: &Names,
+    events: &[Event],
+    spans: &[Span],
+) -> Result<(), Memory>
     requires within { AreSpansWithin (length events.now) spans.now }
     requires few { length events.now ≤ MOST_EVENTS }
-    ensures ok { OnOk result (page.new ≡ page.old ++ numbered (member_text events.now) 0 spans.now) }
+    ensures ok { OnOk result (page.new ≡ page.old ++ numbered (member_text names.now events.now) 0 spans.now) }
     ensures memory { OnErr result GrowthRefused }
 {
     for k in 0..spans.len() {
-        add_member(page, events, k, spans[k])?;
+        add_member(page, names, events, k, spans[k])?;
     }
     Ok(())
 }
@@ -93,6 +110,7 @@ fn add_members(page: &mut Page, events: &[Event], spans: &[Span]) -> Result<(), 
 #[tactic(auto, unfolding(crate::specs::Text::edge_text))]
 fn add_edge(
     page: &mut Page,
+    names: &Names,
     events: &[Event],
     count: usize,
     k: usize,
@@ -102,7 +120,7 @@ fn add_edge(
     requires to { edge.to < length events.now }
     requires few { length events.now ≤ MOST_EVENTS }
     requires place { k < count }
-    ensures ok { OnOk result (page.new ≡ page.old ++ edge_text events.now count k edge) }
+    ensures ok { OnOk result (page.new ≡ page.old ++ edge_text names.now events.now count k edge) }
     ensures memory { OnErr result GrowthRefused }
 {
     page.add(&[
@@ -118,31 +136,44 @@ fn add_edge(
         Piece::Number(line_of(edge.to)),
         Piece::Text(" `"),
         Piece::Words(events[edge.to]),
-        Piece::Text("`\n"),
+        Piece::Text("`"),
+        Piece::KindName(names, events[edge.to].kind),
+        Piece::Text("\n"),
     ])
 }
 
 /// Adds the events behind the edges of the cycle.
-fn add_edges(page: &mut Page, events: &[Event], edges: &[EdgeEvents]) -> Result<(), Memory>
+fn add_edges(
+    page: &mut Page,
+    names: &Names,
+    events: &[Event],
+    edges: &[EdgeEvents],
+) -> Result<(), Memory>
     requires within { AreEdgesWithin (length events.now) edges.now }
     requires few { length events.now ≤ MOST_EVENTS }
-    ensures ok { OnOk result (page.new ≡ page.old ++ numbered (edge_text events.now (length edges.now)) 0 edges.now) }
+    ensures ok { OnOk result (page.new ≡ page.old ++ numbered (edge_text names.now events.now (length edges.now)) 0 edges.now) }
     ensures memory { OnErr result GrowthRefused }
 {
     for k in 0..edges.len() {
-        add_edge(page, events, edges.len(), k, edges[k])?;
+        add_edge(page, names, events, edges.len(), k, edges[k])?;
     }
     Ok(())
 }
 
 /// Adds a block to blame, and why.
 #[tactic(auto, unfolding(crate::specs::Text::blame_text))]
-fn add_blame(page: &mut Page, events: &[Event], position: usize, blame: Blame) -> Result<(), Memory>
+fn add_blame(
+    page: &mut Page,
+    names: &Names,
+    events: &[Event],
+    position: usize,
+    blame: Blame,
+) -> Result<(), Memory>
     requires position { position < length events.now }
     requires first { blame.block.first < length events.now }
     requires witness { blame.witness < length events.now }
     requires few { length events.now ≤ MOST_EVENTS }
-    ensures ok { OnOk result (page.new ≡ page.old ++ blame_text events.now position blame) }
+    ensures ok { OnOk result (page.new ≡ page.old ++ blame_text names.now events.now position blame) }
     ensures memory { OnErr result GrowthRefused }
 {
     page.add(&[
@@ -156,6 +187,7 @@ fn add_blame(page: &mut Page, events: &[Event], position: usize, blame: Blame) -
         Piece::Words(events[blame.witness]),
         Piece::Text("` must come after its begin and before line "),
         Piece::Number(line_of(position)),
+        Piece::BlockName(names, Kind::Begin(blame.block.label)),
         Piece::Text("\n"),
     ])
 }
@@ -174,15 +206,22 @@ fn add_nobody(page: &mut Page) -> Result<(), Memory>
 
 /// Adds whose blocks are to blame.
 #[tactic(auto, unfolding(crate::specs::Text::to_blame_text))]
-fn add_to_blame(page: &mut Page, events: &[Event], position: usize) -> Result<(), Memory>
+fn add_to_blame(
+    page: &mut Page,
+    names: &Names,
+    events: &[Event],
+    position: usize,
+) -> Result<(), Memory>
     requires { position < length events.now }
-    ensures ok { OnOk result (page.new ≡ page.old ++ to_blame_text events.now position) }
+    ensures ok { OnOk result (page.new ≡ page.old ++ to_blame_text names.now events.now position) }
     ensures memory { OnErr result GrowthRefused }
 {
     page.add(&[
         Piece::Text("To blame in thread "),
         Piece::Number(u64::from(events[position].thread.0)),
-        Piece::Text(":\n"),
+        Piece::Text(":"),
+        Piece::ThreadName(names, events[position].thread),
+        Piece::Text("\n"),
     ])?;
     Ok(())
 }
@@ -200,6 +239,7 @@ fn add_order(page: &mut Page) -> Result<(), Memory>
 /// Adds the blocks to blame, or that there are none.
 fn add_blames(
     page: &mut Page,
+    names: &Names,
     events: &[Event],
     position: usize,
     blames: &[Blame],
@@ -207,15 +247,15 @@ fn add_blames(
     requires position { position < length events.now }
     requires within { AreBlamesWithin (length events.now) blames.now }
     requires few { length events.now ≤ MOST_EVENTS }
-    ensures ok { OnOk result (page.new ≡ page.old ++ blames_text events.now position blames.now) }
+    ensures ok { OnOk result (page.new ≡ page.old ++ blames_text names.now events.now position blames.now) }
     ensures memory { OnErr result GrowthRefused }
 {
     if blames.is_empty() {
         return add_nobody(page);
     }
-    add_to_blame(page, events, position)?;
+    add_to_blame(page, names, events, position)?;
     for k in 0..blames.len() {
-        add_blame(page, events, position, blames[k])?;
+        add_blame(page, names, events, position, blames[k])?;
     }
     Ok(())
 }
@@ -226,22 +266,23 @@ fn add_blames(
 /// `Memory` where a growth was refused.
 pub(crate) fn explanation(
     alloc: Global,
+    names: &Names,
     events: &[Event],
     position: usize,
     evidence: &Evidence,
 ) -> Result<Page, Memory>
     requires within { IsWithin (length events.now) position evidence.now }
     requires few { length events.now ≤ MOST_EVENTS }
-    ensures ok { IfOk result (λ page. page ≡ explanation_text events.now position evidence.now) }
+    ensures ok { IfOk result (λ page. page ≡ named_explanation_text names.now events.now position evidence.now) }
     ensures memory { OnErr result GrowthRefused }
 {
     let mut page = Page::new(alloc);
     let spans = evidence.spans.as_slice();
-    add_heading(&mut page, events, position, spans.len())?;
-    add_members(&mut page, events, spans)?;
+    add_heading(&mut page, names, events, position, spans.len())?;
+    add_members(&mut page, names, events, spans)?;
     add_order(&mut page)?;
-    add_edges(&mut page, events, &evidence.edges)?;
-    add_blames(&mut page, events, position, &evidence.blames)?;
+    add_edges(&mut page, names, events, &evidence.edges)?;
+    add_blames(&mut page, names, events, position, &evidence.blames)?;
     Ok(page)
 }
 

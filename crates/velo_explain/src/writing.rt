@@ -5,8 +5,8 @@ ghost use Rattle.velo_events.specs.Refusals.{GrowthRefused};
 ghost use Rattle.velo_events.specs.declared.limits.TheConstants.{MOST_EVENTS};
 ghost use Rattle.velo_explain.specs.Count.{transactions_of};
 ghost use Rattle.velo_explain.specs.Evidence.{IsEvidenceAt};
-ghost use Rattle.velo_explain.specs.Picture.{picture_text};
-ghost use Rattle.velo_explain.specs.Text.{explanation_text, clean_text};
+ghost use Rattle.velo_explain.specs.Picture.{picture_text, named_picture_text};
+ghost use Rattle.velo_explain.specs.Text.{explanation_text, named_explanation_text, clean_text};
 
 use crate::count::transactions_of;
 use crate::drawing::picture_of;
@@ -15,6 +15,7 @@ use crate::pieces::Page;
 use crate::words::{clean_explanation, explanation};
 use std::alloc::Global;
 use velo_events::Memory;
+use velo_names::Names;
 use velo_traces::Trace;
 
 /// What an alarm at the position means: the closing event, the transactions of the cycle with their threads, blocks and
@@ -38,7 +39,30 @@ pub fn explain(
         page ≡ explanation_text trace.now.events position evidence.now) }
     ensures memory { OnErr result GrowthRefused }
 {
-    explanation(alloc, trace.as_slice(), position, evidence)
+    let names = Names::new(alloc);
+    let told = explain_named(alloc, trace, position, evidence, &names);
+    drop(names);
+    told
+}
+
+/// The same with names: those of what a line tells of are its last words.
+///
+/// # Errors
+/// As `explain`.
+pub fn explain_named(
+    alloc: Global,
+    trace: &Trace,
+    position: usize,
+    evidence: &Evidence,
+    names: &Names,
+) -> Result<Page, Memory>
+    requires few { length trace.now.events ≤ MOST_EVENTS }
+    requires evidence { IsEvidenceAt trace.now.events position evidence.now }
+    ensures ok { IfOk result (λ page.
+        page ≡ named_explanation_text names.now trace.now.events position evidence.now) }
+    ensures memory { OnErr result GrowthRefused }
+{
+    explanation(alloc, names, trace.as_slice(), position, evidence)
 }
 
 /// The cycle of an alarm as a Graphviz picture: a column for each thread, a box for each transaction with its block and
@@ -57,7 +81,30 @@ pub fn picture(
     ensures ok { IfOk result (λ page. page ≡ picture_text trace.now.events evidence.now) }
     ensures memory { OnErr result GrowthRefused }
 {
-    picture_of(alloc, trace.as_slice(), position, evidence)
+    let names = Names::new(alloc);
+    let drawn = picture_named(alloc, trace, position, evidence, &names);
+    drop(names);
+    drawn
+}
+
+/// The same with the names of threads and labels, with quotes and backslashes escaped.
+///
+/// # Errors
+/// As `picture`.
+pub fn picture_named(
+    alloc: Global,
+    trace: &Trace,
+    position: usize,
+    evidence: &Evidence,
+    names: &Names,
+) -> Result<Page, Memory>
+    requires few { length trace.now.events ≤ MOST_EVENTS }
+    requires evidence { IsEvidenceAt trace.now.events position evidence.now }
+    ensures ok { IfOk result (λ page.
+        page ≡ named_picture_text names.now trace.now.events evidence.now) }
+    ensures memory { OnErr result GrowthRefused }
+{
+    picture_of(alloc, names, trace.as_slice(), position, evidence)
 }
 
 /// That the blocks of a log, which has to be without a cycle, can be serialized: how many events there are, and how many

@@ -9,7 +9,7 @@ use Rattle.velo_explain.proofs.drawing.add_boxes.Goals as goal
 pub loop-k-preserved : goal.loop-k-preserved
 loop-k-preserved c =
     let spans = c.args.spans.now in let k = c.loop-k.k in let nothing : Span = record { first = 0; last = 0 } in let item = get_or spans k nothing in
-    let text = box_text c.args.events.now in
+    let text = box_text c.args.names.now c.args.events.now in
     let more : take (k + 1) spans ≡ take k spans ++ item ∷ [] = take_more spans k nothing c.loop-k-test.true in
     c.in_ok-add_box.ensures.ok
     ∙ ap (λ (t : List ℕ). t ++ text k item) c.loop-k.invariant

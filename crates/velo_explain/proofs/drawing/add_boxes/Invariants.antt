@@ -4,4 +4,4 @@ use Rattle.velo_explain.specs.Picture.{box_text}
 use Rattle.velo_explain.proofs.drawing.add_boxes.Given as goal
 
 abbrev pub invariant-loop-k : goal.invariant-loop-k
-invariant-loop-k l = l.page ≡ (l.fn.page) ++ numbered (box_text l.events) 0 (take l.k l.spans)
+invariant-loop-k l = l.page ≡ (l.fn.page) ++ numbered (box_text l.names l.events) 0 (take l.k l.spans)

@@ -3,4 +3,4 @@ use Rattle.velo_explain.specs.Text.{numbered, member_text}
 use Rattle.velo_explain.proofs.words.add_members.Given as goal
 
 abbrev pub invariant-loop-k : goal.invariant-loop-k
-invariant-loop-k l = l.page ≡ (l.fn.page) ++ numbered (member_text l.events) 0 (take l.k l.spans)
+invariant-loop-k l = l.page ≡ (l.fn.page) ++ numbered (member_text l.names l.events) 0 (take l.k l.spans)
