@@ -7,7 +7,7 @@ use Rattle.velo_events.specs.declared.refusal.Refusal.TheVariants as refusal
 use Rattle.velo_events.specs.Refusals.{GrowthRefused}
 use Rattle.velo_logtext.specs.Text.{log_text}
 use Rattle.velo_report.specs.declared.names.Names.{Names}
-use Rattle.velo_report.specs.declared.names.Names.TheVariants.{Numbers, Words}
+use Rattle.velo_report.specs.declared.names.Names.TheVariants.{Listed, Numbers, Words}
 use Rattle.velo_worker.specs.declared.ending.Ending.{Ending}
 use Rattle.velo_worker.specs.declared.ending.Ending.TheVariants as ending
 use Rattle.velo_worker.specs.Causes.{EndsByGrowth, EndsWithCause}
@@ -101,6 +101,7 @@ is_unreported _ = false
 -- the names of threads and labels are the program's
 abbrev pub AreNamesOf : Program → Names → Type 0
 AreNamesOf program Numbers = ⊥
+AreNamesOf program (Listed names) = ⊥
 AreNamesOf program (Words threads labels) =
     (map string_bytes threads.now ≡ program.thread_names)
     × (map string_bytes labels.now ≡ program.label_names)
