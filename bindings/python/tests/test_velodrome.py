@@ -46,6 +46,15 @@ class Binding(unittest.TestCase):
             monitor.write_log(log)
             self.assertEqual(log.getvalue(), b'vlog 2 2 1 0\n0 begin 0\n0 begin 1\n0 rd 0 0\n0 fork 1\n1 wr 0 0\n1 exit\n0 join 1\n0 wr 0 0\n0 end\n0 end\n')
 
+    def test_log_in_pieces(self):
+        with Monitor(threads=1, variables=1, locks=0) as monitor:
+            x = monitor.shared('x', 0)
+            for _ in range(12000):
+                x.get()
+            log = io.BytesIO()
+            monitor.write_log(log)
+            self.assertEqual(log.getvalue(), b'vlog 2 1 1 0\n' + 12000 * b'0 rd 0 0\n')
+
     def test_refusals_change_nothing(self):
         with Monitor(threads=1, variables=1, locks=1, events=2) as monitor:
             for status, call in [(9, lambda: monitor.event('end')), (5, lambda: monitor.spawn(print)),

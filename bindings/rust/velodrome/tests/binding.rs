@@ -28,12 +28,15 @@ fn events_of_two_threads() {
 
 #[test]
 fn readers_share() {
-    let monitor = Monitor::open(1, 0, 1, 100, 64).unwrap();
-    let lock = RwLock::new(&monitor, "l", 7);
-    assert_eq!(*lock.read(), 7);
+    let monitor = Monitor::open(2, 0, 1, 100, 64).unwrap();
+    let lock = Arc::new(RwLock::new(&monitor, "l", 7));
+    let theirs = lock.clone();
+    let held = lock.read();
+    assert_eq!(monitor.spawn(move || *theirs.read()).unwrap().join().unwrap(), *held);
+    drop(held);
     *lock.write() = 8;
     assert_eq!(*lock.read(), 8);
-    assert_eq!(monitor.verdict().unwrap().events, 6);
+    assert_eq!(monitor.verdict().unwrap().events, 2 + 2 + 1 + 2 + 2 + 2);
     assert!(!monitor.verdict().unwrap().alarmed);
 }
 
