@@ -10,3 +10,4 @@ pub mod OnCauses
 pub mod OnDone
 pub mod OnBodies
 pub mod OnListing
+pub mod OnLogs

@@ -2,6 +2,7 @@ pub mod Walk
 pub mod Cursor
 pub mod Inside
 pub mod Progress
+pub mod Logs
 pub mod Schedule
 pub mod ReplayState
 pub mod Counts

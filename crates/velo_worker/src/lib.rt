@@ -12,6 +12,7 @@ mod outcome;
 mod progress;
 mod replay_state;
 mod replaying;
+mod retracing;
 mod starting;
 mod walk;
 mod worker;

@@ -6,12 +6,15 @@ ghost use Rattle.velo_worker.specs.declared.living.LiveFault.TheVariants as live
 ghost use Rattle.velo_worker.specs.declared.outcome.Outcome.TheVariants as outcome;
 ghost use Rattle.velo_worker.specs.Causes.{EndsWithCause};
 ghost use Rattle.velo_worker.specs.Live.{AllDone, EndsAs, HasDone};
+ghost use Rattle.velo_worker.specs.Logs.{IsLogOf};
 
 use crate::counting::count_events;
 use crate::ending::Ending;
 use crate::gate::Gate;
 use crate::growth::channel;
 use crate::outcome::{Ended, Outcome, ending_of};
+use crate::progress::threads_of;
+use crate::retracing::all_follow;
 use crate::starting::{Unstarted, start_worker};
 use crate::worker::{Birth, Message, Site};
 use crossbeam_channel::Receiver;
@@ -32,7 +35,7 @@ pub enum LiveFault {
     /// A growth was refused before the first event.
     #[error("out of memory")]
     Memory,
-    /// A seat did not come back, or is not that of a thread that did its body.
+    /// A seat did not come back, or is not that of a thread that did its body; or the log has an event that no body leads to.
     #[error("seat lost")]
     Lost,
 }
@@ -46,14 +49,16 @@ impl From<Memory> for LiveFault {
 }
 
 /// Lets each thread of a workload do its body in a thread of its own, and closes the world after the last has ended. It answers
-/// that world, and how the run ended. The configuration has to have the workload's bounds.
+/// that world, and how the run ended. The configuration has to have the workload's bounds. However the run ended, each thread's
+/// events are those that its body leads to, one after another: the log is retraced by the bodies at the end, in one pass.
 ///
 /// Before each of its events a thread asks the gate. One that the gate does not let pass, or whose action is refused, halts the
 /// world: what the others try after that is refused. It may wait for locks, for threads to join, and for the gate.
 ///
 /// # Errors
 /// `Memory` where a growth was refused before the first event; one that is refused later ends the run as `Refused`. `Lost` where
-/// a seat did not come back, or is not that of the body that its worker says was done.
+/// a seat did not come back, or is not that of the body that its worker says was done; and where the log would have an event
+/// that no body leads to.
 pub fn live<G: Gate + Sync, R: Threads + Wait + Sync>(
     rt: &R,
     alloc: Global,
@@ -62,6 +67,8 @@ pub fn live<G: Gate + Sync, R: Threads + Wait + Sync>(
     gate: &G,
 ) -> Result<(Closed, Ending), LiveFault>
     requires { config.bounds ≡ workload.now.bounds }
+    ensures config { IfOk result (λ run. run.0.config ≡ config) }
+    ensures log { IfOk result (λ run. IsLogOf workload.now run.0.log) }
     ensures done { IfOk result (λ run. run.1 ≡ ending.Done → AllDone workload.now run.0) }
     ensures cause { IfOk result (λ run. EndsWithCause run.1) }
     ensures memory { result ≡ Err live_fault.Memory → GrowthRefused }
@@ -73,6 +80,7 @@ pub fn live<G: Gate + Sync, R: Threads + Wait + Sync>(
     let (nursery, births) = channel(alloc)?;
     let mut ended = with_capacity(alloc, usize::from(config.bounds.threads))?;
     let seats = with_capacity(alloc, usize::from(config.bounds.threads))?;
+    let threads = threads_of(alloc, workload)?;
     let first = Birth {
         seat,
         messages: sender,
@@ -89,7 +97,11 @@ pub fn live<G: Gate + Sync, R: Threads + Wait + Sync>(
         births: &births,
     };
     run(rt, &site, &messages, &mut ended);
-    finish(workload, shared, ended, seats)
+    let (closed, ending) = finish(workload, shared, ended, seats)?;
+    if !all_follow(threads, closed.log().as_slice()) {
+        return Err(LiveFault::Lost);
+    }
+    Ok((closed, ending))
 }
 
 /// Has each thread that is born done by a worker, and returns once all have ended.
@@ -157,6 +169,7 @@ fn finish(
     seats: Vec<Seat>,
 ) -> Result<(Closed, Ending), LiveFault>
     requires { seats.items ≡ [] }
+    ensures config { IfOk result (λ run. run.0.config ≡ shared.config) }
     ensures ending { IfOk result (λ run. EndsAs ended.items run.1) }
     ensures done { IfOk result (λ run. run.1 ≡ ending.Done → AllDone workload.now run.0) }
     ensures cause { IfOk result (λ run. EndsWithCause run.1) }

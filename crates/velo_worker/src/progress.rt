@@ -1,13 +1,14 @@
 //! How far a thread has come in its body.
-ghost use Rattle.std.specs.Prelude.{◌≡◌, IfOk, OnErr};
+ghost use Rattle.std.specs.Prelude.{◌≡◌, map, IfOk, OnErr, length};
 ghost use Rattle.velo_events.specs.Refusals.{GrowthRefused};
 ghost use Rattle.velo_workload.specs.Bodies.{IsBody};
 ghost use Rattle.velo_worker.specs.Progress.{action_for, after_event, is_quiet, register_after, settled, start_of, wanted};
 
 use crate::walk::Walk;
 use std::alloc::Global;
-use velo_events::{Action, Memory};
-use velo_workload::Statement;
+use velo_events::growth::reserve;
+use velo_events::{Action, Memory, ThreadId};
+use velo_workload::{Statement, Workload};
 
 /// A thread's register, and what it has left to do.
 #[derive(Drop)]
@@ -71,6 +72,24 @@ impl<'a> Progress<'a> {
         }
         self.left.advance();
     }
+}
+
+/// The threads of a workload, each before its first statement.
+///
+/// # Errors
+/// `Memory` where a growth was refused.
+pub fn threads_of<'a>(alloc: Global, workload: &'a Workload) -> Result<Vec<Progress<'a>>, Memory>
+    ensures threads { IfOk result (λ threads. threads.items ≡ map start_of workload.now.bodies) }
+    ensures count { IfOk result (λ threads. length threads.items ≡ workload.now.bounds.threads) }
+    ensures memory { OnErr result GrowthRefused }
+{
+    let count = workload.bounds().threads;
+    let mut threads: Vec<Progress<'a>> = Vec::new(alloc);
+    reserve(&mut threads, usize::from(count))?;
+    for thread in 0..count {
+        threads.push_reserved(Progress::start(alloc, workload.body(ThreadId(thread)))?);
+    }
+    Ok(threads)
 }
 
 /// Whether the statement has no event.

@@ -1,16 +1,14 @@
 //! Replaying a workload by a schedule.
-ghost use Rattle.std.specs.Prelude.{◌≡◌, map, IfOk, OnErr, length};
+ghost use Rattle.std.specs.Prelude.{◌≡◌, IfOk, OnErr};
 ghost use Rattle.velo_events.specs.Refusals.{GrowthRefused};
 ghost use Rattle.velo_world.specs.World.{HoldsLiveShares, CompletesShares, opening};
 ghost use Rattle.velo_worker.specs.Causes.{EndsByGrowth};
-ghost use Rattle.velo_worker.specs.Progress.{start_of};
 ghost use Rattle.velo_worker.specs.Schedule.{Replays, ReplaysTo, start};
 
 use crate::ending::Ending;
-use crate::progress::Progress;
+use crate::progress::threads_of;
 use crate::replay_state::ReplayState;
 use std::alloc::Global;
-use velo_events::growth::reserve;
 use velo_events::{Config, Memory, ThreadId};
 use velo_ledger::Shares;
 use velo_workload::Workload;
@@ -84,19 +82,4 @@ fn open_world(alloc: Global, config: Config) -> Result<(World, Shares), Memory>
         unreachable!()
     }
     Ok((world, shares))
-}
-
-/// The threads of a workload, each before its first statement.
-fn threads_of<'a>(alloc: Global, workload: &'a Workload) -> Result<Vec<Progress<'a>>, Memory>
-    ensures threads { IfOk result (λ threads. threads.items ≡ map start_of workload.now.bodies) }
-    ensures count { IfOk result (λ threads. length threads.items ≡ workload.now.bounds.threads) }
-    ensures memory { OnErr result GrowthRefused }
-{
-    let count = workload.bounds().threads;
-    let mut threads: Vec<Progress<'a>> = Vec::new(alloc);
-    reserve(&mut threads, usize::from(count))?;
-    for thread in 0..count {
-        threads.push_reserved(Progress::start(alloc, workload.body(ThreadId(thread)))?);
-    }
-    Ok(threads)
 }

@@ -1,7 +1,7 @@
 use Rattle.std.proofs.Common.{◌≡◌, ◌≤◌, take, map, vec_len}
 use Rattle.std.specs.Prelude.{vec_capacity}
 use Rattle.velo_worker.specs.Progress.{start_of}
-use Rattle.velo_worker.proofs.replaying.threads_of.Given as goal
+use Rattle.velo_worker.proofs.progress.threads_of.Given as goal
 
 abbrev pub invariant-loop-thread : goal.invariant-loop-thread
 invariant-loop-thread l =
