@@ -1,3 +1,4 @@
+mod cache;
 mod growths;
 
 use std::alloc::Global;
