@@ -13,19 +13,23 @@ use crate::analysis::Analysis;
 use crate::logged_run::LoggedRun;
 use crate::world::{World, hand_over};
 use std::alloc::Global;
+use thiserror::Error;
 use velo_events::{Config, Event, Memory, Refusal, ThreadId};
 use velo_heap::Heap;
 use velo_ledger::{Book, Shares};
 use velo_traces::{Flaw, Trace};
 
 /// Why a recorded log can't come about again. Positions count the events from 0.
-#[derive(Clone, Copy, Debug, PartialEq, Eq)]
+#[derive(Clone, Copy, Debug, PartialEq, Eq, Error)]
 pub enum LogReplayFault {
     /// The event at the position is refused.
+    #[error("refused {} at {position}", *.refusal as u8)]
     Refused { position: usize, refusal: Refusal },
     /// The event at the position reads a value that the variable does not have.
+    #[error("wrong value at {position}")]
     WrongValue { position: usize },
     /// A growth was refused.
+    #[error("out of memory")]
     Memory,
 }
 
