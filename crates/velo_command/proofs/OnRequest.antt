@@ -58,7 +58,7 @@ a_check : (rows : List Row) → HasWord (codes "LOG") rows → HasLimits rows �
 unfolding a_path
 a_check rows word has =
     let limits = a_limits rows has in (
-      record { log = a_path word.0; limits = limits.0; certificate = is_true (one_of (codes "certificate") rows) },
+      record { input = a_path word.0; limits = limits.0; certificate = is_true (one_of (codes "certificate") rows) },
       (word.1, limits.1, is_flag (one_of (codes "certificate") rows)),
     )
 
@@ -67,9 +67,9 @@ unfolding a_path
 a_run rows word has =
     let limits = a_limits rows has in (
       record {
-        file = a_path word.0;
+        input = a_path word.0;
         stop = is_true (one_of (codes "stop") rows);
-        log = a_path_if (first_of (codes "log") rows);
+        target = a_path_if (first_of (codes "log") rows);
         limits = limits.0;
         certificate = is_true (one_of (codes "certificate") rows);
       },
@@ -91,11 +91,11 @@ a_replay rows word has =
 an_explanation : (rows : List Row) → HasWord (codes "LOG") rows → (options : ExplainOptions) × IsExplanation rows options
 unfolding a_path
 an_explanation rows word =
-    (record { log = a_path word.0; dot = a_path_if (first_of (codes "dot") rows) }, (word.1, path_of (first_of (codes "dot") rows)))
+    (record { input = a_path word.0; target = a_path_if (first_of (codes "dot") rows) }, (word.1, path_of (first_of (codes "dot") rows)))
 
 a_carrying : (rows : List Row) → HasWord (codes "LOG") rows → HasWord (codes "log") rows → (options : CarryOptions) × IsCarrying rows options
 unfolding a_path
-a_carrying rows word out = (record { log = a_path word.0; out = a_path out.0 }, (word.1, out.1))
+a_carrying rows word out = (record { input = a_path word.0; target = a_path out.0 }, (word.1, out.1))
 
 right_asks : (found : Text × List Row) → IsRight found → (request : Request) × AsksFor (Some found) request
 right_asks found (inl is) =
