@@ -1,11 +1,12 @@
 -- Labels of blocks, each once.
-use Rattle.std.proofs.Common.{◌≡◌, ℕ, ◌+◌, ◌<◌, Bool, true, false, List, [], ◌∷◌, ◌++◌, length, take, drop, map, get_or, refl, sym, ap, ◌∙◌, append_assoc}
-use Rattle.std.specs.Prelude.{◌||◌, ◌==◌, IsTrue, IsFalse}
+use Rattle.std.proofs.Common.{◌≡◌, ℕ, ◌+◌, ◌<◌, true, false, List, [], ◌∷◌, ◌++◌, length, take, drop, map, get_or, refl, sym, ap, ◌∙◌, append_assoc}
+use Rattle.std.specs.Prelude.{◌==◌, IsTrue, IsFalse}
 use Rattle.std.specs.List.{flat_map}
 use Rattle.std.proofs.lemmas.Bool.{or_from, or_left, or_right, eq-eqb, ne_eqb, eqb-true, false≢true}
 use Rattle.std.proofs.lemmas.Grind.{flat_map-append}
 use Rattle.std.proofs.lemmas.List.{append-nil, map-append, take_more, take-append-drop}
 use Rattle.velo_traces.specs.declared.block.Block.{Block}
+use Rattle.velo_names.specs.Names.{NameLists}
 use Rattle.velo_thin.specs.Left.{is_listed}
 use Rattle.velo_thin.proofs.OnTables.{is_listed-append}
 use Rattle.velo_audit.specs.Rounds.{each_once}
@@ -46,16 +47,16 @@ module _ (blocks : List Block) (i : ℕ) (d : Block) (within : i < length blocks
       here = ap (λ xs. is_listed xs n) labels-more ∙ (is_listed-append before (x ∷ []) n ∙ or_right _ _ (one-is x n match_is))
 
   -- its line, where it is new
-  pub labels-new : IsFalse (is_listed before x) → (start page page' : List ℕ) → page ≡ start ++ flat_map not_atomic_text (each_once before) → page' ≡ page ++ not_atomic_text x → page' ≡ start ++ flat_map not_atomic_text (each_once (map label (take (i + 1) blocks)))
-  labels-new new start page page' stood more =
-      more ∙ ap (λ (t : List ℕ). t ++ not_atomic_text x) stood
-      ∙ append_assoc start (flat_map not_atomic_text (each_once before)) (not_atomic_text x)
+  pub labels-new : (names : NameLists) → IsFalse (is_listed before x) → (start page page' : List ℕ) → page ≡ start ++ flat_map (not_atomic_text names) (each_once before) → page' ≡ page ++ not_atomic_text names x → page' ≡ start ++ flat_map (not_atomic_text names) (each_once (map label (take (i + 1) blocks)))
+  labels-new names new start page page' stood more =
+      more ∙ ap (λ (t : List ℕ). t ++ not_atomic_text names x) stood
+      ∙ append_assoc start (flat_map (not_atomic_text names) (each_once before)) (not_atomic_text names x)
       ∙ ap (λ (t : List ℕ). start ++ t)
-      (ap (λ (t : List ℕ). flat_map not_atomic_text (each_once before) ++ t) (sym (append-nil (not_atomic_text x)))
-      ∙ sym (flat_map-append not_atomic_text (each_once before) (x ∷ []))
-      ∙ ap (flat_map not_atomic_text) (sym (ap each_once labels-more ∙ each_once-new before x new)))
+      (ap (λ (t : List ℕ). flat_map (not_atomic_text names) (each_once before) ++ t) (sym (append-nil (not_atomic_text names x)))
+      ∙ sym (flat_map-append (not_atomic_text names) (each_once before) (x ∷ []))
+      ∙ ap (flat_map (not_atomic_text names)) (sym (ap each_once labels-more ∙ each_once-new before x new)))
 
   -- and none, where it was there
-  pub labels-again : IsTrue (is_listed before x) → (start page : List ℕ) → page ≡ start ++ flat_map not_atomic_text (each_once before) → page ≡ start ++ flat_map not_atomic_text (each_once (map label (take (i + 1) blocks)))
-  labels-again there start page stood =
-      stood ∙ ap (λ (xs : List ℕ). start ++ flat_map not_atomic_text xs) (sym (ap each_once labels-more ∙ each_once-again before x there))
+  pub labels-again : (names : NameLists) → IsTrue (is_listed before x) → (start page : List ℕ) → page ≡ start ++ flat_map (not_atomic_text names) (each_once before) → page ≡ start ++ flat_map (not_atomic_text names) (each_once (map label (take (i + 1) blocks)))
+  labels-again names there start page stood =
+      stood ∙ ap (λ (xs : List ℕ). start ++ flat_map (not_atomic_text names) xs) (sym (ap each_once labels-more ∙ each_once-again before x there))

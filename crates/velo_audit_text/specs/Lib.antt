@@ -1,3 +1,4 @@
+pub mod Names
 pub mod Pieces
 pub mod Words
 pub mod Witness

@@ -1,35 +1,38 @@
--- The lines of what was asked for, of labels that are told, and of the counts.
+-- The lines of what was asked for, of labels that are told, and of the counts. A number that has a name stands before it.
 use Rattle.std.specs.Prelude.{ℕ, Bool, true, false, List, [], ◌∷◌, ◌++◌, codes, decimal}
 use Rattle.std.specs.List.{flat_map}
 use Rattle.velo_events.specs.declared.event.Label.{Label}
 use Rattle.velo_events.specs.declared.event.LockId.{LockId}
 use Rattle.velo_events.specs.declared.event.VarId.{VarId}
+use Rattle.velo_names.specs.declared.kind.NameKind.TheVariants as kind
+use Rattle.velo_names.specs.Names.{NameLists}
 use Rattle.velo_explain.specs.Pieces.{joined}
 use Rattle.velo_audit_text.specs.declared.words.Asked.{Asked}
+use Rattle.velo_audit_text.specs.Names.{named}
 
 -- ---- what was asked for
 
--- "left out label 7"
-unfoldable pub left_out_label_text : Label → List ℕ
-left_out_label_text l = joined (codes "left out label " ∷ decimal l.0 ∷ codes "\n" ∷ [])
+-- "left out label 7 flush"
+unfoldable pub left_out_label_text : NameLists → Label → List ℕ
+left_out_label_text names l = joined (codes "left out label " ∷ decimal l.0 ∷ named names kind.Label l.0 ∷ codes "\n" ∷ [])
 
-unfoldable pub left_out_lock_text : LockId → List ℕ
-left_out_lock_text m = joined (codes "left out lock " ∷ decimal m.0 ∷ codes "\n" ∷ [])
+unfoldable pub left_out_lock_text : NameLists → LockId → List ℕ
+left_out_lock_text names m = joined (codes "left out lock " ∷ decimal m.0 ∷ named names kind.Lock m.0 ∷ codes "\n" ∷ [])
 
-unfoldable pub left_out_variable_text : VarId → List ℕ
-left_out_variable_text x = joined (codes "left out variable " ∷ decimal x.0 ∷ codes "\n" ∷ [])
+unfoldable pub left_out_variable_text : NameLists → VarId → List ℕ
+left_out_variable_text names x = joined (codes "left out variable " ∷ decimal x.0 ∷ named names kind.Variable x.0 ∷ codes "\n" ∷ [])
 
-abbrev pub asked_text : Asked → List ℕ
-asked_text asked =
-    flat_map left_out_label_text asked.labels.now
-    ++ (flat_map left_out_lock_text asked.locks.now
-    ++ flat_map left_out_variable_text asked.variables.now)
+abbrev pub asked_text : NameLists → Asked → List ℕ
+asked_text names asked =
+    flat_map (left_out_label_text names) asked.labels.now
+    ++ (flat_map (left_out_lock_text names) asked.locks.now
+    ++ flat_map (left_out_variable_text names) asked.variables.now)
 
 -- ---- labels
 
--- "not atomic 7"
-unfoldable pub not_atomic_text : ℕ → List ℕ
-not_atomic_text l = joined (codes "not atomic " ∷ decimal l ∷ codes "\n" ∷ [])
+-- "not atomic 7 flush"
+unfoldable pub not_atomic_text : NameLists → ℕ → List ℕ
+not_atomic_text names l = joined (codes "not atomic " ∷ decimal l ∷ named names kind.Label l ∷ codes "\n" ∷ [])
 
 -- behind a label that is told because no block is to blame
 unfoldable pub nobody_text : List ℕ

@@ -1,7 +1,9 @@
 //! Text that is put together in memory, piece by piece.
 ghost use Rattle.std.specs.Prelude.{◌≡◌, ◌++◌, [], OnOk, OnErr, decimal};
+ghost use Rattle.std.specs.Option.{option_copied};
 ghost use Rattle.velo_events.specs.Refusals.{GrowthRefused};
 ghost use Rattle.velo_explain.specs.Pieces.{event_text, block_text, lines_text};
+ghost use Rattle.velo_audit_text.specs.Names.{name_text};
 ghost use Rattle.velo_audit_text.specs.Pieces.{piece_text, pieces_text};
 
 use std::alloc::Global;
@@ -17,6 +19,8 @@ pub(crate) enum Piece<'a> {
     Text(&'a str),
     /// The digits of a number.
     Number(u64),
+    /// A name behind a space, if there is one.
+    Name(Option<&'a [u8]>),
     /// An event as it stands in the log.
     Words(Event),
     /// What a transaction is, by its first operation.
@@ -78,6 +82,21 @@ impl Page {
         self.add_bytes(&buffer[..end])
     }
 
+    /// Adds a name behind a space, if there is one.
+    fn add_name(&mut self, name: Option<&[u8]>) -> Result<(), Memory>
+        ensures ok { OnOk result (self.new ≡ self.old ++ name_text (option_copied name.entry)) }
+        ensures memory { OnErr result GrowthRefused }
+    {
+        match name {
+            None => Ok(()),
+            Some(name) => {
+                self.add_bytes(b" ")?;
+                self.add_bytes(name)?;
+                Ok(())
+            }
+        }
+    }
+
     /// Adds an event as it stands in the log.
     fn add_event(&mut self, event: Event) -> Result<(), Memory>
         ensures ok { OnOk result (self.new ≡ self.old ++ event_text event) }
@@ -131,6 +150,7 @@ impl Page {
         match piece {
             Piece::Text(text) => self.add_bytes(text.as_bytes()),
             Piece::Number(number) => self.add_number(number),
+            Piece::Name(name) => self.add_name(name),
             Piece::Words(event) => self.add_event(event),
             Piece::Block(kind) => self.add_block(kind),
             Piece::Lines(first, last) => self.add_lines(first, last),

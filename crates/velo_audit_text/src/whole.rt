@@ -19,6 +19,7 @@ use std::alloc::Global;
 use velo_audit::Told;
 use velo_events::{Event, Label, Memory};
 use velo_explain::Evidence;
+use velo_names::Names;
 use velo_traces::{Block, Trace};
 
 /// Whether one of the blocks has the label.
@@ -34,13 +35,13 @@ fn is_label_of(blocks: &[Block], label: Label) -> bool
 }
 
 /// Adds the labels of the blocks, each once.
-fn add_labels(page: &mut Page, blocks: &[Block]) -> Result<(), Memory>
-    ensures ok { OnOk result (page.new ≡ page.old ++ flat_map not_atomic_text (each_once (map (λ block. block.label.0) blocks.now))) }
+fn add_labels(page: &mut Page, names: &Names, blocks: &[Block]) -> Result<(), Memory>
+    ensures ok { OnOk result (page.new ≡ page.old ++ flat_map (not_atomic_text names.now) (each_once (map (λ block. block.label.0) blocks.now))) }
     ensures memory { OnErr result GrowthRefused }
 {
     for k in 0..blocks.len() {
         if !is_label_of(&blocks[..k], blocks[k].label) {
-            add_not_atomic(page, blocks[k].label.0)?;
+            add_not_atomic(page, names, blocks[k].label.0)?;
         }
     }
     Ok(())
@@ -49,6 +50,7 @@ fn add_labels(page: &mut Page, blocks: &[Block]) -> Result<(), Memory>
 /// Adds the witness of a round, if it has one.
 fn add_witness_if_any(
     page: &mut Page,
+    names: &Names,
     alloc: Global,
     events: &[Event],
     closing: usize,
@@ -57,31 +59,38 @@ fn add_witness_if_any(
     requires within { IsWitnessWithin (length events.now) closing witness.now }
     requires few { length events.now ≤ MOST_EVENTS }
     requires open { FewAreOpen events.now }
-    ensures ok { OnOk result (page.new ≡ page.old ++ optional_witness_text events.now closing witness.now) }
+    ensures ok { OnOk result (page.new ≡ page.old ++ optional_witness_text names.now events.now closing witness.now) }
     ensures memory { OnErr result GrowthRefused }
 {
     match witness {
         None => Ok(()),
-        Some(evidence) => add_witness(page, alloc, events, closing, evidence),
+        Some(evidence) => add_witness(page, names, alloc, events, closing, evidence),
     }
 }
 
 /// Adds what a round tells.
-fn add_told(page: &mut Page, alloc: Global, events: &[Event], told: &Told) -> Result<(), Memory>
+fn add_told(
+    page: &mut Page,
+    names: &Names,
+    alloc: Global,
+    events: &[Event],
+    told: &Told,
+) -> Result<(), Memory>
     requires within { IsWitnessWithin (length events.now) told.now.closing told.now.witness }
     requires few { length events.now ≤ MOST_EVENTS }
     requires open { FewAreOpen events.now }
-    ensures ok { OnOk result (page.new ≡ page.old ++ told_text events.now told.now) }
+    ensures ok { OnOk result (page.new ≡ page.old ++ told_text names.now events.now told.now) }
     ensures memory { OnErr result GrowthRefused }
 {
-    add_labels(page, &told.blocks)?;
+    add_labels(page, names, &told.blocks)?;
     add_mark(page, told.to_blame)?;
-    add_witness_if_any(page, alloc, events, told.closing, &told.witness)
+    add_witness_if_any(page, names, alloc, events, told.closing, &told.witness)
 }
 
 /// Adds what all rounds tell.
 fn add_rounds(
     page: &mut Page,
+    names: &Names,
     alloc: Global,
     events: &[Event],
     rounds: &[Told],
@@ -89,22 +98,24 @@ fn add_rounds(
     requires truly { All (TellsTruly events.now) rounds.now }
     requires few { length events.now ≤ MOST_EVENTS }
     requires open { FewAreOpen events.now }
-    ensures ok { OnOk result (page.new ≡ page.old ++ flat_map (told_text events.now) rounds.now) }
+    ensures ok { OnOk result (page.new ≡ page.old ++ flat_map (told_text names.now events.now) rounds.now) }
     ensures memory { OnErr result GrowthRefused }
 {
     for told in rounds {
-        add_told(page, alloc, events, told)?;
+        add_told(page, names, alloc, events, told)?;
     }
     Ok(())
 }
 
 /// What an audit tells, as text: what was to be left out, the labels and the witness of each round, how many labels are atomic, and
-/// how many rounds there were, the last one without an alarm. The rounds are as `audit` gives them for the log.
+/// how many rounds there were, the last one without an alarm. The rounds are as `audit` gives them for the log. A number that has
+/// a name stands before it.
 ///
 /// # Errors
 /// `Memory` where a growth was refused.
 pub fn audit_text(
     alloc: Global,
+    names: &Names,
     log: &Trace,
     asked: &Asked,
     rounds: &[Told],
@@ -113,12 +124,12 @@ pub fn audit_text(
     requires few { length log.now.events ≤ MOST_EVENTS }
     requires can_come_about { CanComeAbout log.now.events }
     requires truly { All (TellsTruly log.now.events) rounds.now }
-    ensures text { IfOk result (λ page. page ≡ audit_text log.now.events asked.now rounds.now atomic) }
+    ensures text { IfOk result (λ page. page ≡ audit_text names.now log.now.events asked.now rounds.now atomic) }
     ensures memory { OnErr result GrowthRefused }
 {
     let mut page = Page::new(alloc);
-    add_asked(&mut page, asked)?;
-    add_rounds(&mut page, alloc, log.as_slice(), rounds)?;
+    add_asked(&mut page, names, asked)?;
+    add_rounds(&mut page, names, alloc, log.as_slice(), rounds)?;
     add_counts(&mut page, atomic, rounds.len() + 1)?;
     Ok(page)
 }

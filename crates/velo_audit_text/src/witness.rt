@@ -4,14 +4,17 @@ ghost use Rattle.std.specs.List.{flat_map};
 ghost use Rattle.velo_events.specs.Refusals.{GrowthRefused};
 ghost use Rattle.velo_events.specs.declared.limits.TheConstants.{MOST_EVENTS};
 ghost use Rattle.velo_explain.specs.Evidence.{AreSpansWithin, AreEdgesWithin, AreBlamesWithin, IsWithin};
-ghost use Rattle.velo_explain.specs.Text.{line_of, numbered, next_number, member_text, blame_text};
-ghost use Rattle.velo_audit_text.specs.Witness.{closing_text, stack_at, in_block_text, event_line_text, event_in_blocks_text, order_text, edge_text, witness_text, FewAreOpen};
+ghost use Rattle.velo_explain.specs.Text.{line_of, numbered, next_number};
+ghost use Rattle.std.specs.Option.{option_copied};
+ghost use Rattle.velo_audit_text.specs.Names.{block_name};
+ghost use Rattle.velo_audit_text.specs.Witness.{closing_text, member_text, stack_at, in_block_text, event_line_text, event_in_blocks_text, order_text, edge_text, blame_text, witness_text, FewAreOpen};
 
 use crate::page::{Page, Piece};
 use std::alloc::Global;
 use velo_certify::EdgeEvents;
-use velo_events::{Event, MOST_EVENTS, Memory};
+use velo_events::{Event, Kind, MOST_EVENTS, Memory};
 use velo_explain::{Blame, Evidence, Span};
+use velo_names::{NameKind, Names};
 use velo_traces::{Block, open_blocks_in};
 
 /// The number of the line on which a position stands, behind the header on line 1.
@@ -54,14 +57,30 @@ fn add_closing(
     ])
 }
 
+/// The name of a transaction, by its first operation, if it is a block that has one.
+fn block_name<'a>(names: &Names<'a>, kind: Kind) -> Option<&'a [u8]>
+    ensures { option_copied result ≡ block_name names.now kind }
+{
+    match kind {
+        Kind::Begin(label) => names.name_of(NameKind::Label, label.0),
+        _ => None,
+    }
+}
+
 /// Adds a transaction of the cycle.
-#[tactic(auto, unfolding(velo_explain::specs::Text::member_text))]
-fn add_member(page: &mut Page, events: &[Event], k: usize, span: Span) -> Result<(), Memory>
+#[tactic(auto, unfolding(crate::specs::Witness::member_text))]
+fn add_member(
+    page: &mut Page,
+    names: &Names,
+    events: &[Event],
+    k: usize,
+    span: Span,
+) -> Result<(), Memory>
     requires first { span.first < length events.now }
     requires last { span.last < length events.now }
     requires few { length events.now ≤ MOST_EVENTS }
     requires place { k < usize.MAX }
-    ensures ok { OnOk result (page.new ≡ page.old ++ member_text events.now k span) }
+    ensures ok { OnOk result (page.new ≡ page.old ++ member_text names.now events.now k span) }
     ensures memory { OnErr result GrowthRefused }
 {
     let first = events[span.first];
@@ -70,8 +89,10 @@ fn add_member(page: &mut Page, events: &[Event], k: usize, span: Span) -> Result
         Piece::Number(k as u64 + 1),
         Piece::Text(": thread "),
         Piece::Number(u64::from(first.thread.0)),
+        Piece::Name(names.name_of(NameKind::Thread, u32::from(first.thread.0))),
         Piece::Text(", "),
         Piece::Block(first.kind),
+        Piece::Name(block_name(names, first.kind)),
         Piece::Text(", "),
         Piece::Lines(line_of(span.first), line_of(span.last)),
         Piece::Text("\n"),
@@ -79,38 +100,44 @@ fn add_member(page: &mut Page, events: &[Event], k: usize, span: Span) -> Result
 }
 
 /// Adds the transactions of the cycle.
-fn add_members(page: &mut Page, events: &[Event], spans: &[Span]) -> Result<(), Memory>
+fn add_members(
+    page: &mut Page,
+    names: &Names,
+    events: &[Event],
+    spans: &[Span],
+) -> Result<(), Memory>
     requires within { AreSpansWithin (length events.now) spans.now }
     requires few { length events.now ≤ MOST_EVENTS }
-    ensures ok { OnOk result (page.new ≡ page.old ++ numbered (member_text events.now) 0 spans.now) }
+    ensures ok { OnOk result (page.new ≡ page.old ++ numbered (member_text names.now events.now) 0 spans.now) }
     ensures memory { OnErr result GrowthRefused }
 {
     for k in 0..spans.len() {
-        add_member(page, events, k, spans[k])?;
+        add_member(page, names, events, k, spans[k])?;
     }
     Ok(())
 }
 
 /// Adds a block around an event.
 #[tactic(auto, unfolding(crate::specs::Witness::in_block_text))]
-fn add_in_block(page: &mut Page, block: Block) -> Result<(), Memory>
-    ensures ok { OnOk result (page.new ≡ page.old ++ in_block_text block) }
+fn add_in_block(page: &mut Page, names: &Names, block: Block) -> Result<(), Memory>
+    ensures ok { OnOk result (page.new ≡ page.old ++ in_block_text names.now block) }
     ensures memory { OnErr result GrowthRefused }
 {
     page.add(&[
         Piece::Text("      in block "),
         Piece::Number(u64::from(block.label.0)),
+        Piece::Name(names.name_of(NameKind::Label, block.label.0)),
         Piece::Text("\n"),
     ])
 }
 
 /// Adds blocks around an event.
-fn add_in_blocks(page: &mut Page, blocks: &[Block]) -> Result<(), Memory>
-    ensures ok { OnOk result (page.new ≡ page.old ++ flat_map in_block_text blocks.now) }
+fn add_in_blocks(page: &mut Page, names: &Names, blocks: &[Block]) -> Result<(), Memory>
+    ensures ok { OnOk result (page.new ≡ page.old ++ flat_map (in_block_text names.now) blocks.now) }
     ensures memory { OnErr result GrowthRefused }
 {
     for block in blocks {
-        add_in_block(page, *block)?;
+        add_in_block(page, names, *block)?;
     }
     Ok(())
 }
@@ -118,17 +145,18 @@ fn add_in_blocks(page: &mut Page, blocks: &[Block]) -> Result<(), Memory>
 /// Adds the blocks that the event's thread has open before it.
 fn add_stack(
     page: &mut Page,
+    names: &Names,
     alloc: Global,
     events: &[Event],
     position: usize,
 ) -> Result<(), Memory>
     requires within { position < length events.now }
     requires open { FewAreOpen events.now }
-    ensures ok { OnOk result (page.new ≡ page.old ++ flat_map in_block_text (stack_at events.now position)) }
+    ensures ok { OnOk result (page.new ≡ page.old ++ flat_map (in_block_text names.now) (stack_at events.now position)) }
     ensures memory { OnErr result GrowthRefused }
 {
     let blocks = open_blocks_in(&events[..position], events[position].thread, alloc);
-    add_in_blocks(page, blocks.as_slice())
+    add_in_blocks(page, names, blocks.as_slice())
 }
 
 /// Adds the line of an event.
@@ -151,6 +179,7 @@ fn add_event_line(page: &mut Page, events: &[Event], position: usize) -> Result<
 /// Adds an event with the blocks around it.
 fn add_event(
     page: &mut Page,
+    names: &Names,
     alloc: Global,
     events: &[Event],
     position: usize,
@@ -158,11 +187,11 @@ fn add_event(
     requires within { position < length events.now }
     requires few { length events.now ≤ MOST_EVENTS }
     requires open { FewAreOpen events.now }
-    ensures ok { OnOk result (page.new ≡ page.old ++ event_in_blocks_text events.now position) }
+    ensures ok { OnOk result (page.new ≡ page.old ++ event_in_blocks_text names.now events.now position) }
     ensures memory { OnErr result GrowthRefused }
 {
     add_event_line(page, events, position)?;
-    add_stack(page, alloc, events, position)
+    add_stack(page, names, alloc, events, position)
 }
 
 /// Adds which transaction comes before which.
@@ -184,6 +213,7 @@ fn add_order(page: &mut Page, count: usize, k: usize) -> Result<(), Memory>
 /// Adds the events behind an edge of the cycle.
 fn add_edge(
     page: &mut Page,
+    names: &Names,
     alloc: Global,
     events: &[Event],
     count: usize,
@@ -195,17 +225,18 @@ fn add_edge(
     requires few { length events.now ≤ MOST_EVENTS }
     requires open { FewAreOpen events.now }
     requires place { k < count }
-    ensures ok { OnOk result (page.new ≡ page.old ++ edge_text events.now count k edge) }
+    ensures ok { OnOk result (page.new ≡ page.old ++ edge_text names.now events.now count k edge) }
     ensures memory { OnErr result GrowthRefused }
 {
     add_order(page, count, k)?;
-    add_event(page, alloc, events, edge.from)?;
-    add_event(page, alloc, events, edge.to)
+    add_event(page, names, alloc, events, edge.from)?;
+    add_event(page, names, alloc, events, edge.to)
 }
 
 /// Adds the events behind the edges of the cycle.
 fn add_edges(
     page: &mut Page,
+    names: &Names,
     alloc: Global,
     events: &[Event],
     edges: &[EdgeEvents],
@@ -213,28 +244,35 @@ fn add_edges(
     requires within { AreEdgesWithin (length events.now) edges.now }
     requires few { length events.now ≤ MOST_EVENTS }
     requires open { FewAreOpen events.now }
-    ensures ok { OnOk result (page.new ≡ page.old ++ numbered (edge_text events.now (length edges.now)) 0 edges.now) }
+    ensures ok { OnOk result (page.new ≡ page.old ++ numbered (edge_text names.now events.now (length edges.now)) 0 edges.now) }
     ensures memory { OnErr result GrowthRefused }
 {
     for k in 0..edges.len() {
-        add_edge(page, alloc, events, edges.len(), k, edges[k])?;
+        add_edge(page, names, alloc, events, edges.len(), k, edges[k])?;
     }
     Ok(())
 }
 
 /// Adds a block to blame, and why.
-#[tactic(auto, unfolding(velo_explain::specs::Text::blame_text))]
-fn add_blame(page: &mut Page, events: &[Event], position: usize, blame: Blame) -> Result<(), Memory>
+#[tactic(auto, unfolding(crate::specs::Witness::blame_text))]
+fn add_blame(
+    page: &mut Page,
+    names: &Names,
+    events: &[Event],
+    position: usize,
+    blame: Blame,
+) -> Result<(), Memory>
     requires position { position < length events.now }
     requires first { blame.block.first < length events.now }
     requires witness { blame.witness < length events.now }
     requires few { length events.now ≤ MOST_EVENTS }
-    ensures ok { OnOk result (page.new ≡ page.old ++ blame_text events.now position blame) }
+    ensures ok { OnOk result (page.new ≡ page.old ++ blame_text names.now events.now position blame) }
     ensures memory { OnErr result GrowthRefused }
 {
     page.add(&[
         Piece::Text("  block "),
         Piece::Number(u64::from(blame.block.label.0)),
+        Piece::Name(names.name_of(NameKind::Label, blame.block.label.0)),
         Piece::Text(", from line "),
         Piece::Number(line_of(blame.block.first)),
         Piece::Text(": line "),
@@ -250,6 +288,7 @@ fn add_blame(page: &mut Page, events: &[Event], position: usize, blame: Blame) -
 /// Adds the blocks to blame.
 fn add_blames(
     page: &mut Page,
+    names: &Names,
     events: &[Event],
     position: usize,
     blames: &[Blame],
@@ -257,11 +296,11 @@ fn add_blames(
     requires position { position < length events.now }
     requires within { AreBlamesWithin (length events.now) blames.now }
     requires few { length events.now ≤ MOST_EVENTS }
-    ensures ok { OnOk result (page.new ≡ page.old ++ flat_map (blame_text events.now position) blames.now) }
+    ensures ok { OnOk result (page.new ≡ page.old ++ flat_map (blame_text names.now events.now position) blames.now) }
     ensures memory { OnErr result GrowthRefused }
 {
     for k in 0..blames.len() {
-        add_blame(page, events, position, blames[k])?;
+        add_blame(page, names, events, position, blames[k])?;
     }
     Ok(())
 }
@@ -269,6 +308,7 @@ fn add_blames(
 /// Adds the witness of a round whose closing event stands at the position.
 pub(crate) fn add_witness(
     page: &mut Page,
+    names: &Names,
     alloc: Global,
     events: &[Event],
     position: usize,
@@ -277,11 +317,11 @@ pub(crate) fn add_witness(
     requires within { IsWithin (length events.now) position evidence.now }
     requires few { length events.now ≤ MOST_EVENTS }
     requires open { FewAreOpen events.now }
-    ensures ok { OnOk result (page.new ≡ page.old ++ witness_text events.now position evidence.now) }
+    ensures ok { OnOk result (page.new ≡ page.old ++ witness_text names.now events.now position evidence.now) }
     ensures memory { OnErr result GrowthRefused }
 {
     add_closing(page, events, position, evidence.spans.len())?;
-    add_members(page, events, &evidence.spans)?;
-    add_edges(page, alloc, events, &evidence.edges)?;
-    add_blames(page, events, position, &evidence.blames)
+    add_members(page, names, events, &evidence.spans)?;
+    add_edges(page, names, alloc, events, &evidence.edges)?;
+    add_blames(page, names, events, position, &evidence.blames)
 }

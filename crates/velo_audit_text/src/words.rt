@@ -6,6 +6,7 @@ ghost use Rattle.velo_audit_text.specs.Words.{left_out_label_text, left_out_lock
 
 use crate::page::{Page, Piece};
 use velo_events::{Label, LockId, Memory, VarId};
+use velo_names::{NameKind, Names};
 
 /// What was to be left out.
 #[derive(Clone, Copy, Debug)]
@@ -20,95 +21,99 @@ pub struct Asked<'a> {
 
 /// Adds a label that was to be left out.
 #[tactic(auto, unfolding(crate::specs::Words::left_out_label_text))]
-fn add_left_out_label(page: &mut Page, label: Label) -> Result<(), Memory>
-    ensures ok { OnOk result (page.new ≡ page.old ++ left_out_label_text label) }
+fn add_left_out_label(page: &mut Page, names: &Names, label: Label) -> Result<(), Memory>
+    ensures ok { OnOk result (page.new ≡ page.old ++ left_out_label_text names.now label) }
     ensures memory { OnErr result GrowthRefused }
 {
     page.add(&[
         Piece::Text("left out label "),
         Piece::Number(u64::from(label.0)),
+        Piece::Name(names.name_of(NameKind::Label, label.0)),
         Piece::Text("\n"),
     ])
 }
 
 /// Adds a lock that was to be left out.
 #[tactic(auto, unfolding(crate::specs::Words::left_out_lock_text))]
-fn add_left_out_lock(page: &mut Page, lock: LockId) -> Result<(), Memory>
-    ensures ok { OnOk result (page.new ≡ page.old ++ left_out_lock_text lock) }
+fn add_left_out_lock(page: &mut Page, names: &Names, lock: LockId) -> Result<(), Memory>
+    ensures ok { OnOk result (page.new ≡ page.old ++ left_out_lock_text names.now lock) }
     ensures memory { OnErr result GrowthRefused }
 {
     page.add(&[
         Piece::Text("left out lock "),
         Piece::Number(u64::from(lock.0)),
+        Piece::Name(names.name_of(NameKind::Lock, u32::from(lock.0))),
         Piece::Text("\n"),
     ])
 }
 
 /// Adds a variable that was to be left out.
 #[tactic(auto, unfolding(crate::specs::Words::left_out_variable_text))]
-fn add_left_out_variable(page: &mut Page, variable: VarId) -> Result<(), Memory>
-    ensures ok { OnOk result (page.new ≡ page.old ++ left_out_variable_text variable) }
+fn add_left_out_variable(page: &mut Page, names: &Names, variable: VarId) -> Result<(), Memory>
+    ensures ok { OnOk result (page.new ≡ page.old ++ left_out_variable_text names.now variable) }
     ensures memory { OnErr result GrowthRefused }
 {
     page.add(&[
         Piece::Text("left out variable "),
         Piece::Number(u64::from(variable.0)),
+        Piece::Name(names.name_of(NameKind::Variable, u32::from(variable.0))),
         Piece::Text("\n"),
     ])
 }
 
 /// Adds the labels that were to be left out.
-fn add_left_out_labels(page: &mut Page, labels: &[Label]) -> Result<(), Memory>
-    ensures ok { OnOk result (page.new ≡ page.old ++ flat_map left_out_label_text labels.now) }
+fn add_left_out_labels(page: &mut Page, names: &Names, labels: &[Label]) -> Result<(), Memory>
+    ensures ok { OnOk result (page.new ≡ page.old ++ flat_map (left_out_label_text names.now) labels.now) }
     ensures memory { OnErr result GrowthRefused }
 {
     for label in labels {
-        add_left_out_label(page, *label)?;
+        add_left_out_label(page, names, *label)?;
     }
     Ok(())
 }
 
 /// Adds the locks that were to be left out.
-fn add_left_out_locks(page: &mut Page, locks: &[LockId]) -> Result<(), Memory>
-    ensures ok { OnOk result (page.new ≡ page.old ++ flat_map left_out_lock_text locks.now) }
+fn add_left_out_locks(page: &mut Page, names: &Names, locks: &[LockId]) -> Result<(), Memory>
+    ensures ok { OnOk result (page.new ≡ page.old ++ flat_map (left_out_lock_text names.now) locks.now) }
     ensures memory { OnErr result GrowthRefused }
 {
     for lock in locks {
-        add_left_out_lock(page, *lock)?;
+        add_left_out_lock(page, names, *lock)?;
     }
     Ok(())
 }
 
 /// Adds the variables that were to be left out.
-fn add_left_out_variables(page: &mut Page, variables: &[VarId]) -> Result<(), Memory>
-    ensures ok { OnOk result (page.new ≡ page.old ++ flat_map left_out_variable_text variables.now) }
+fn add_left_out_variables(page: &mut Page, names: &Names, variables: &[VarId]) -> Result<(), Memory>
+    ensures ok { OnOk result (page.new ≡ page.old ++ flat_map (left_out_variable_text names.now) variables.now) }
     ensures memory { OnErr result GrowthRefused }
 {
     for variable in variables {
-        add_left_out_variable(page, *variable)?;
+        add_left_out_variable(page, names, *variable)?;
     }
     Ok(())
 }
 
 /// Adds what was to be left out.
-pub(crate) fn add_asked(page: &mut Page, asked: &Asked) -> Result<(), Memory>
-    ensures ok { OnOk result (page.new ≡ page.old ++ asked_text asked.now) }
+pub(crate) fn add_asked(page: &mut Page, names: &Names, asked: &Asked) -> Result<(), Memory>
+    ensures ok { OnOk result (page.new ≡ page.old ++ asked_text names.now asked.now) }
     ensures memory { OnErr result GrowthRefused }
 {
-    add_left_out_labels(page, asked.labels)?;
-    add_left_out_locks(page, asked.locks)?;
-    add_left_out_variables(page, asked.variables)
+    add_left_out_labels(page, names, asked.labels)?;
+    add_left_out_locks(page, names, asked.locks)?;
+    add_left_out_variables(page, names, asked.variables)
 }
 
 /// Adds a label that is not atomic.
 #[tactic(auto, unfolding(crate::specs::Words::not_atomic_text))]
-pub(crate) fn add_not_atomic(page: &mut Page, label: u32) -> Result<(), Memory>
-    ensures ok { OnOk result (page.new ≡ page.old ++ not_atomic_text label) }
+pub(crate) fn add_not_atomic(page: &mut Page, names: &Names, label: u32) -> Result<(), Memory>
+    ensures ok { OnOk result (page.new ≡ page.old ++ not_atomic_text names.now label) }
     ensures memory { OnErr result GrowthRefused }
 {
     page.add(&[
         Piece::Text("not atomic "),
         Piece::Number(u64::from(label)),
+        Piece::Name(names.name_of(NameKind::Label, label)),
         Piece::Text("\n"),
     ])
 }

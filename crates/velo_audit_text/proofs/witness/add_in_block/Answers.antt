@@ -3,4 +3,4 @@ use Rattle.velo_audit_text.proofs.witness.add_in_block.Goals as goal
 
 pub returns-clause-ok : goal.returns-clause-ok
 unfolding in_block_text
-returns-clause-ok c = rw c.from.ensures at c.add.ensures.ok
+returns-clause-ok c = rw (c.from.ensures, c.name_of.ensures) at c.add.ensures.ok

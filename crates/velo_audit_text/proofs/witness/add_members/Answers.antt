@@ -1,7 +1,8 @@
-use Rattle.std.proofs.Common.{◌≡◌, ◌+◌, ◌++◌, ◌∷◌, [], ℕ, List, take, get_or, length, ap, ◌∙◌, append_assoc, arith}
+use Rattle.std.proofs.Common.{◌≡◌, ◌+◌, ◌++◌, ◌∷◌, [], ℕ, List, take, get_or, ap, ◌∙◌, append_assoc, arith}
 use Rattle.std.proofs.lemmas.List.{take_more, length-take-le}
 use Rattle.velo_explain.specs.declared.spans.Span.{Span}
-use Rattle.velo_explain.specs.Text.{numbered, member_text}
+use Rattle.velo_explain.specs.Text.{numbered}
+use Rattle.velo_audit_text.specs.Witness.{member_text}
 use Rattle.velo_explain.proofs.OnPieces.{numbered-more}
 use Rattle.velo_audit_text.proofs.witness.add_members.Goals as goal
 
@@ -11,7 +12,7 @@ none = record { first = 0; last = 0 }
 pub loop-k-preserved : goal.loop-k-preserved
 loop-k-preserved c =
     let xs = c.args.spans.now in let k = c.loop-k.k in let item = get_or xs k none in
-    let text = member_text c.args.events.now in
+    let text = member_text c.args.names.now c.args.events.now in
     let more : take (k + 1) xs ≡ take k xs ++ item ∷ [] = take_more xs k none c.loop-k-test.true in
     c.in_ok-add_member.ensures.ok
     ∙ ap (λ (t : List ℕ). t ++ text k item) c.loop-k.invariant
