@@ -78,7 +78,7 @@ impl Heap {
     /// The heap at the start of a run: thread 0 is live and no other is born, all variables are 0, all locks are free.
     ///
     /// # Errors
-    /// `Memory` where a growth was refused. No later call takes memory.
+    /// `Memory` where a growth was refused. No later call but `copy` takes memory.
     pub fn new(alloc: Global, config: &Config) -> Result<Heap, Memory>
         ensures bounds { IfOk result (λ h. bounds_of h ≡ config.now.bounds) }
         ensures start { IfOk result (λ h. IsHeapOf h []) }
