@@ -39,7 +39,7 @@ use Rattle.velo_program.specs.Check.{IsCheckAnswer, IsFaultOfInput}
 use Rattle.velo_program.specs.Delivery.{Answer, IsDelivered, LacksMemory, silent}
 use Rattle.velo_program.specs.Disk.{Disk, IsBarred, Store}
 use Rattle.velo_program.specs.Explaining.{IsExplanation}
-use Rattle.velo_program.specs.Playing.{ByThreads, ByTurns, IsRunReport, IsPlayAnswer, IsRunOf, IsUnread, Play, is_unreported}
+use Rattle.velo_program.specs.Playing.{ByThreads, ByTurns, IsPlayAnswer, IsRunOf, IsSaidOfRun, IsUnread, Play}
 use Rattle.velo_program.specs.Program.{Does, DoesPlay}
 use Rattle.velo_program.specs.Schedule.{IsFaultOfSchedule}
 use Rattle.velo_program.specs.Writing.{Writing}
@@ -122,14 +122,14 @@ module _ (needs : Needs) where
   of_unread read fate.Memory h = h
   of_unread read _ h = absurd h
 
-  of_end : (b : Bool) (program : Program) (certificate : Bool) (ended : Ending) (w : WorldState) (answer : Answer) → IsRunReport b program certificate ended w answer → EndsByRefusal needs ended → HasCause answer
-  of_end true program certificate ended w answer is cause = said answer _ is cause
-  of_end false program certificate ended w answer is cause = said answer _ is.2.said cause
+  of_end : (program : Program) (certificate : Bool) (ended : Ending) (w : WorldState) (answer : Answer) → IsSaidOfRun program certificate ended w answer → EndsByRefusal needs ended → HasCause answer
+  of_end program certificate ended w answer (inl is) cause = said answer _ is.1 cause
+  of_end program certificate ended w answer (inr is) cause = said answer _ is.1.2.said cause
 
   of_play : (play : Play) (options : RunOptions) (read : Option (List ℕ)) (answer : Answer) → ((program : Program) (ended : Ending) (w : WorldState) → IsRunOf play options program ended w → EndsByRefusal needs ended)
       → IsPlayAnswer play options read answer → HasCause answer
   of_play play options read answer so (inl (program, text, inl played)) =
-      of_end (is_unreported played.ended) program options.certificate played.ended played.world answer played.says (so program played.ended played.world played.is_run)
+      of_end program options.certificate played.ended played.world answer played.says (so program played.ended played.world played.is_run)
   of_play (ByTurns schedule) options read answer so (inl (program, text, inr (inl lost))) = absurd lost
   of_play ByThreads options read answer so (inl (program, text, inr (inl lost))) = said answer (silent fate.Lost) lost tt
   of_play play options read answer so (inl (program, text, inr (inr lacks))) = of_lack answer lacks

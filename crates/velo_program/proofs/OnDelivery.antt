@@ -7,7 +7,7 @@ use Rattle.velo_program.specs.declared.fate.Fate.TheVariants as fate
 use Rattle.velo_program.specs.Check.{IsCheckAnswer}
 use Rattle.velo_program.specs.Delivery.{Answer, IsDelivered, IsPrinted, Saves}
 use Rattle.velo_program.specs.Disk.{Store}
-use Rattle.velo_program.specs.Reading.{failures_after}
+use Rattle.velo_program.specs.Reading.{failures_told}
 use Rattle.velo_program.specs.Writing.{Writing}
 
 module _ (store : Store) (target : Option (Bor (List ℕ))) (stdout : Writing) where
@@ -30,11 +30,11 @@ module _ (store : Store) (target : Option (Bor (List ℕ))) (stdout : Writing) w
   check_put limit nodes certificate read answer (inr c) kept f told = put_of answer _ _ kept c.2 (λ e. cc) f told
 
   -- an answer whose fate is no failed read is delivered with none
-  pub delivered_reads : (answer : Answer) (n : ℕ) → failures_after answer.fate n ≡ n → (f : Fate) → IsDelivered store target stdout answer f → failures_after f n ≡ n
+  pub delivered_reads : (answer : Answer) (n : ℕ) → failures_told answer.fate n ≡ n → (f : Fate) → IsDelivered store target stdout answer f → failures_told f n ≡ n
   delivered_reads answer n none fate.CannotOpen put = refl
   delivered_reads answer n none fate.WriteFailed put = refl
-  delivered_reads answer n none f put = ap (λ (f : Fate). failures_after f n) put.0 ∙ none
+  delivered_reads answer n none f put = ap (λ (f : Fate). failures_told f n) put.0 ∙ none
 
 -- an answer comes to what it is
-pub same_fate : (answer there : Answer) (n : ℕ) → answer ≡ there → failures_after there.fate n ≡ n → failures_after answer.fate n ≡ n
-same_fate answer there n is none = subst (λ (a : Answer). failures_after a.fate n ≡ n) (sym is) none
+pub same_fate : (answer there : Answer) (n : ℕ) → answer ≡ there → failures_told there.fate n ≡ n → failures_told answer.fate n ≡ n
+same_fate answer there n is none = subst (λ (a : Answer). failures_told a.fate n ≡ n) (sym is) none

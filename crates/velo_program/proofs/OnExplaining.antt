@@ -15,7 +15,7 @@ use Rattle.velo_program.specs.declared.fate.Fate.TheVariants as fate
 use Rattle.velo_program.specs.Delivery.{Answer, IsDelivered, IsPrinted, LacksMemory, Saves, printing, silent}
 use Rattle.velo_program.specs.Disk.{Store}
 use Rattle.velo_program.specs.Explaining.{ExplainsAlarm, ExplainsVerdict, counted, explained}
-use Rattle.velo_program.specs.Reading.{failures_after}
+use Rattle.velo_program.specs.Reading.{failures_told}
 use Rattle.velo_program.specs.Writing.{Writing, WritesNothing}
 use Rattle.velo_program.specs.Steps.{DeliversOrLacks, Explains, IsSaved, PrintsOrLacks}
 use Rattle.velo_program.proofs.OnDelivery.{delivered_reads, printed_put, same_fate}
@@ -44,10 +44,10 @@ module _ (store : Store) (target : Option (Bor (List ℕ))) (stdout : Writing) w
       printed_put store target stdout saved None (Some text) _ kept (λ e. cc) f (subst (λ (t : List ℕ). IsPrinted stdout (printing t (fate.Finished ending.Done alarm)) f) is told)
 
   -- no explanation is told as a failed read
-  pub explains_reads : (log : List Event) (answer : Answer) (n : ℕ) → ExplainsVerdict log answer ⊎ LacksMemory answer → (f : Fate) → IsDelivered store target stdout answer f → failures_after f n ≡ n
+  pub explains_reads : (log : List Event) (answer : Answer) (n : ℕ) → ExplainsVerdict log answer ⊎ LacksMemory answer → (f : Fate) → IsDelivered store target stdout answer f → failures_told f n ≡ n
   explains_reads log answer n is f h = delivered_reads store target stdout answer n (by_fate is) f h
     where
-      by_fate : ExplainsVerdict log answer ⊎ LacksMemory answer → failures_after answer.fate n ≡ n
+      by_fate : ExplainsVerdict log answer ⊎ LacksMemory answer → failures_told answer.fate n ≡ n
       by_fate (inl (inl alarm)) = same_fate answer _ n alarm.said refl
       by_fate (inl (inr clean)) = same_fate answer _ n clean.1 refl
       by_fate (inr lacks) = same_fate answer _ n lacks.1 refl

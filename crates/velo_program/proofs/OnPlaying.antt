@@ -1,7 +1,7 @@
 -- What replaying or running a workload comes to.
 use Rattle.std.proofs.Common.{◌≡◌, ◌∙◌, ◌≤◌, ◌++◌, refl, sym, ap, subst, inl, inr, arith}
 use Rattle.std.proofs.lemmas.List.{append-nil, length-append}
-use Rattle.std.specs.Prelude.{[], ℕ, Bool, true, false, List, length, Option, Some, None, Result, Ok, Err, IfErr, IfOk, OnOk}
+use Rattle.std.specs.Prelude.{[], ℕ, Bool, List, length, Option, Some, None, Result, Ok, Err, IfErr, IfOk, OnOk}
 use Rattle.std.specs.Borrow.{Bor}
 use Rattle.velo_events.specs.declared.event.ThreadId.{ThreadId}
 use Rattle.velo_worker.specs.declared.ending.Ending.{Ending}
@@ -15,8 +15,8 @@ use Rattle.velo_program.specs.declared.fate.Fate.TheVariants as fate
 use Rattle.velo_program.specs.declared.request.RunOptions.{RunOptions}
 use Rattle.velo_program.specs.Delivery.{Answer, IsDelivered, silent}
 use Rattle.velo_program.specs.Disk.{Disk, Store}
-use Rattle.velo_program.specs.Playing.{ByThreads, ByTurns, IsRunReport, IsFaultOfText, IsFaultOfWork, IsRunAnswer, IsTextOf, IsUnread, Play, is_unreported}
-use Rattle.velo_program.specs.Reading.{FailsAsTold, Reading, failures_after}
+use Rattle.velo_program.specs.Playing.{ByThreads, ByTurns, IsFaultOfText, IsFaultOfWork, IsRunAnswer, IsSaidOfRun, IsTextOf, IsUnread, Play}
+use Rattle.velo_program.specs.Reading.{FailuresAsTold, Reading, failures_told}
 use Rattle.velo_program.specs.Schedule.{IsSchedule}
 use Rattle.velo_program.specs.Writing.{Writing, WritesNothing}
 use Rattle.velo_program.specs.Steps.{IsReadOf, IsSaved, OpensNoProgram, OpensProgram}
@@ -63,15 +63,15 @@ unsaved store path out log text end f h nothing = absurd h
 
 -- no run is told as a failed read
 pub plays_reads : (play : Play) (options : RunOptions) (program : Program) (answer : Answer) (n : ℕ) → IsRunAnswer play options program answer
-    → (store : Store) (path : Option (Bor (List ℕ))) (out : Writing) (f : Fate) → IsDelivered store path out answer f → failures_after f n ≡ n
+    → (store : Store) (path : Option (Bor (List ℕ))) (out : Writing) (f : Fate) → IsDelivered store path out answer f → failures_told f n ≡ n
 plays_reads play options program answer n is store path out f put = delivered_reads store path out answer n (by_end play is) f put
   where
-    of_end : (b : Bool) (certificate : Bool) (ended : Ending) (w : WorldState) → IsRunReport b program certificate ended w answer → failures_after answer.fate n ≡ n
-    of_end true certificate ended w says = same_fate answer _ n says refl
-    of_end false certificate ended w says = same_fate answer _ n says.2.said refl
+    of_end : (certificate : Bool) (ended : Ending) (w : WorldState) → IsSaidOfRun program certificate ended w answer → failures_told answer.fate n ≡ n
+    of_end certificate ended w (inl says) = same_fate answer _ n says.1 refl
+    of_end certificate ended w (inr says) = same_fate answer _ n says.1.2.said refl
 
-    by_end : (play : Play) → IsRunAnswer play options program answer → failures_after answer.fate n ≡ n
-    by_end play (inl played) = of_end (is_unreported played.ended) options.certificate played.ended played.world played.says
+    by_end : (play : Play) → IsRunAnswer play options program answer → failures_told answer.fate n ≡ n
+    by_end play (inl played) = of_end options.certificate played.ended played.world played.says
     by_end (ByTurns schedule) (inr (inl lost)) = absurd lost
     by_end ByThreads (inr (inl lost)) = same_fate answer (silent fate.Lost) n lost refl
     by_end play (inr (inr lacks)) = same_fate answer (silent fate.Memory) n lacks.1 refl
@@ -87,12 +87,12 @@ unread_put read f unread store kept path out nothing = (refl, kept, nothing)
 
 -- a program that was read was opened; else there is none
 pub opened : (disk : Disk) (path : List ℕ) (read : Reading) → disk.gives path read → (result : Result Program Fate) → IfOk result (IsTextOf read.bytes)
-    → OnOk result (read.after ≡ read.before) → IfOk result (OpensProgram disk path)
+    → OnOk result (read.failures_after ≡ read.failures_before) → IfOk result (OpensProgram disk path)
 opened disk path read given (Ok program) text kept = record { read = read; given = given; is_text = text; no_failure = kept }
 opened disk path read given (Err f) text kept = tt
 
 pub not_opened : (disk : Disk) (options : RunOptions) (read : Reading) → disk.gives options.input.now read → (result : Result Program Fate) → IfErr result (IsUnread read.bytes)
-    → IfErr result (FailsAsTold read) → IfErr result (OpensNoProgram disk options)
+    → IfErr result (FailuresAsTold read) → IfErr result (OpensNoProgram disk options)
 not_opened disk options read given (Ok program) unread failures = tt
 not_opened disk options read given (Err f) unread failures = inl (record { read = read; given = given; unread = unread; failures = failures })
 

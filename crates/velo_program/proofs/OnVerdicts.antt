@@ -28,7 +28,7 @@ use Rattle.velo_program.specs.declared.check.CheckFault.TheVariants.{Log, Refuse
 use Rattle.velo_program.specs.declared.fate.Fate.TheVariants.{Check, Finished}
 use Rattle.velo_program.specs.Check.{Checks, ComesAbout, IsFaultOfInput, IsInput, IsOrderOrCycle, IsOutput, IsVerdict, WritesOutput}
 use Rattle.velo_program.specs.Delivery.{printing, silent}
-use Rattle.velo_program.specs.Reading.{failures_after}
+use Rattle.velo_program.specs.Reading.{failures_told}
 use Rattle.velo_program.specs.Fate.{fate_of, is_alarm}
 use Rattle.velo_program.specs.Faults.{IsFaultOfLog}
 use Rattle.velo_program.specs.Writing.{BreaksOff, Writes, Writing, WritesNothing}
@@ -108,23 +108,23 @@ module _ (names : Names) (w : WorldState) where
 
   -- the report broke off
   pub report_breaks : (list : Option (Bor (List ℕ))) → MayCertify w.log list → (out : Writing)
-      → AppendsPartOfReport out.old out.new names threads w.log → out.after ≡ with_failure out.before
+      → AppendsPartOfReport out.old out.new names threads w.log → out.failures_after ≡ with_failure out.failures_before
       → (text : List ℕ) × IsOutput names (is_some list) threads w.log text × BreaksOff out text
   report_breaks list certifies out part failed =
       let output = output_of names threads w.log list certifies part.text part.is_report in
       (part.text ++ output.0, output.1, (beginning_then out.old out.old out.new [] part.text output.0 (part.text ++ output.0) (appends_nothing out.old) part.appends refl, failed))
 
   -- the report is all
-  pub report_alone : (out : Writing) → AppendsReport out.old out.new names threads w.log → out.after ≡ out.before
+  pub report_alone : (out : Writing) → AppendsReport out.old out.new names threads w.log → out.failures_after ≡ out.failures_before
       → (text : List ℕ) × IsOutput names false threads w.log text × Writes out text
   report_alone out whole kept =
       (whole.text, record { report = whole.text; is_report = whole.is_report; lines = []; certified = refl; whole = sym (append-nil whole.text) }, (whole.appends, kept))
 
   -- the certificate went out behind the report, or a beginning of it
   pub behind_report : {X F : Type 0} (list : List ℕ) → IsOrderOrCycle w.log list → (out : Writing) (middle : Option (List ℕ)) (count : ℕ)
-      → AppendsReport out.old middle names threads w.log → count ≡ out.before → (result : Result X F)
+      → AppendsReport out.old middle names threads w.log → count ≡ out.failures_before → (result : Result X F)
       → OnOk result (AppendsCertificate middle out.new w.log list) → OnErr result (AppendsPartOfCertificate middle out.new w.log list)
-      → OnOk result (out.after ≡ count) → OnErr result (out.after ≡ with_failure count) → WritesOutput names true w out result
+      → OnOk result (out.failures_after ≡ count) → OnErr result (out.failures_after ≡ with_failure count) → WritesOutput names true w out result
   behind_report list certifies out middle count report kept (Ok x) whole part ok err =
       (report.text ++ whole.text, output whole.text whole.is_certificate, (appends_then out.old middle out.new report.text whole.text report.appends whole.appends, ok ∙ kept))
     where
@@ -155,7 +155,7 @@ checked_by limit nodes certificate read w out (Err Memory) log shows = (silent (
 checked_by limit nodes certificate read w out (Err fault) log shows = absurd shows
 
 -- writing it reads nothing
-pub reads_nothing : (certificate : Bool) (w : WorldState) (out : Writing) (result : Result Verdict CheckFault) (n : ℕ) → Shows certificate w out result → failures_after (fate_of result) n ≡ n
+pub reads_nothing : (certificate : Bool) (w : WorldState) (out : Writing) (result : Result Verdict CheckFault) (n : ℕ) → Shows certificate w out result → failures_told (fate_of result) n ≡ n
 reads_nothing certificate w out (Err (Log fault)) n shows = absurd shows
 reads_nothing certificate w out result n shows = refl
 
@@ -167,14 +167,14 @@ faulty limit nodes certificate read out fault is nothing = (silent (Check fault)
 
 -- the source's failures behind a fault
 pub failures_so : (limit nodes : ℕ) (read : Option (List ℕ)) (fault : CheckFault) (after before : ℕ) → IsFaultOfInput limit nodes read fault
-    → after ≡ failures_after (Check fault) before → after ≡ failures_after (fate_of (Err fault)) before
+    → after ≡ failures_told (Check fault) before → after ≡ failures_told (fate_of (Err fault)) before
 failures_so limit nodes read Write after before is h = h
 failures_so limit nodes read fault after before is h = h
 
 -- ---- the log of an input
 
 -- what the reader says of its failures
-pub read_failed : (fault : LogFault) (after before : ℕ) → after ≡ reader.failures_after {X = ℕ} (Err fault) before → after ≡ failures_after (Check (Log fault)) before
+pub read_failed : (fault : LogFault) (after before : ℕ) → after ≡ reader.failures_after {X = ℕ} (Err fault) before → after ≡ failures_told (Check (Log fault)) before
 read_failed log_fault.Read after before h = h
 read_failed fault after before h = h
 
@@ -188,7 +188,7 @@ undone limit nodes read config log events few input (WrongValue p) is =
 undone limit nodes read config log events few input Memory is = is
 undone limit nodes read config log events few input fault is = absurd is
 
-pub undone_reads_nothing : (config : Config) (log : List Event) (fault : CheckFault) (n : ℕ) → IsFaultOfLog config log fault → failures_after (Check fault) n ≡ n
+pub undone_reads_nothing : (config : Config) (log : List Event) (fault : CheckFault) (n : ℕ) → IsFaultOfLog config log fault → failures_told (Check fault) n ≡ n
 undone_reads_nothing config log (Log fault) n is = absurd is
 undone_reads_nothing config log fault n is = refl
 

@@ -11,7 +11,7 @@ use Rattle.velo_program.specs.declared.check.CheckFault.TheVariants as check_fau
 use Rattle.velo_program.specs.declared.fate.Fate.{Fate}
 use Rattle.velo_program.specs.declared.fate.Fate.TheVariants.{Check, Finished, WriteFailed}
 use Rattle.velo_program.specs.Check.{IsFaultOfLogText, IsInput}
-use Rattle.velo_program.specs.Delivery.{Answer, Takes, TakesPart, silent}
+use Rattle.velo_program.specs.Delivery.{Answer, IsTaken, silent}
 use Rattle.velo_program.specs.Writing.{Writing}
 
 -- the text of version 2 is to be saved, and nothing is printed
@@ -27,10 +27,10 @@ IsCarryAnswer read answer =
     ⊎ ((fault : LogFault) × IsFaultOfLogText read fault
     × (answer ≡ silent (Check (check_fault.Log fault))))
 
--- the sink took what is to be saved, or a beginning of it; where there is nothing, nothing was written
+-- the sink took what is to be saved, or a beginning of it; where there is nothing, nothing was
+-- written
 abbrev pub IsPut : Writing → Answer → Fate → Type 0
-IsPut sink answer WriteFailed = TakesPart sink answer.saved
-IsPut sink answer f = (f ≡ answer.fate) × Takes sink answer.saved
+IsPut sink answer f = IsTaken sink answer.saved answer.fate f
 
 -- an answer to what was read was put into the sink
 abbrev pub Carries : Option (List ℕ) → Writing → Fate → Type 0

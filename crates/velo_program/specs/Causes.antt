@@ -48,7 +48,8 @@ abbrev pub EndsByRefusal : Needs → Ending → Type 0
 EndsByRefusal Growths ending = EndsByGrowth ending
 EndsByRefusal GrowthsAndStarts ending = EndsWithCause ending
 
--- want of memory stands behind a refused growth; but that of an ending behind a refusal of what was needed
+-- want of memory stands behind a refused growth; but that of an ending behind a refusal of what was
+-- needed
 abbrev pub ComesByRefusal : Needs → Fate → Type 0
 ComesByRefusal needs (fate.Finished ending alarm) = EndsByRefusal needs ending
 ComesByRefusal needs (fate.Schedule f) = ScheduleByGrowth f

@@ -21,7 +21,7 @@ use Rattle.velo_report.specs.Certificate.{IsCertificate}
 use Rattle.velo_report.specs.Report.{IsReport}
 use Rattle.velo_worker.specs.declared.ending.Ending.TheVariants.{Done}
 use Rattle.velo_program.specs.declared.check.Verdict.{Verdict}
-use Rattle.velo_program.specs.declared.check.Verdict.TheVariants as verdict
+use Rattle.velo_program.specs.declared.check.Verdict.TheVariants.{Alarm, Clean}
 use Rattle.velo_program.specs.declared.check.CheckFault.{CheckFault}
 use Rattle.velo_program.specs.declared.check.CheckFault.TheVariants.{Log, Refused, WrongValue, Write, Memory}
 use Rattle.velo_program.specs.declared.fate.Fate.{Fate}
@@ -32,7 +32,7 @@ use Rattle.velo_program.specs.Writing.{Writing, Delivers}
 
 -- ---- the log of an input
 
--- the bytes, where they are known, are the text of these bounds and events
+-- the bytes are the text of these bounds and events; where they are not known nothing is said
 abbrev pub IsInput : Option (List ℕ) → Bounds → List Event → Type 0
 IsInput read bounds trace = IfSome read (λ bytes. IsLogText bytes bounds trace)
 
@@ -59,7 +59,9 @@ pub record IsWrongValue (limit : ℕ) (read : Option (List ℕ)) (p : ℕ) : Typ
   pub input : IsInput read bounds trace
   pub reason : IsWrongValueAt limit bounds trace p
 
--- the bytes are the text of no log, by their first wrong line; or the source failed, or a growth was refused
+-- Why there is no log: by its first wrong line, or because the source failed (both in `ReadsAs`;
+-- that it failed stands in `FailuresAsTold`), or because a growth was refused. Where the bytes are
+-- not known, only the last is said.
 abbrev pub IsFaultOfLogText : Option (List ℕ) → LogFault → Type 0
 IsFaultOfLogText read fault =
     IfSome read (λ bytes. ReadsAs MOST_EVENTS bytes (Err fault))
@@ -79,7 +81,7 @@ pub record HasOrder (log : List Event) (order : List ℕ) : Type 0 where
   pub no_cycle : ¬ HasCycle log
   pub serial : IsSerialOrder log order
 
--- a log with one, and a shortest cycle at its first closing event
+-- a log with a cycle, and a shortest one at its first closing event
 pub record HasShortestCycle (log : List Event) (cycle : List ℕ) : Type 0 where
   pub position : ℕ
   pub closing : IsClosing log position
@@ -104,15 +106,17 @@ pub record IsOutput (names : Names) (certificate : Bool) (threads : ℕ) (log : 
   pub certified : IsCertified certificate log lines
   pub whole : text ≡ report ++ lines
 
--- an alarm exactly where the graph of the trace has a cycle, which is where no serial reordering of it exists
-pub record IsVerdict (trace : List Event) (answer : Verdict) : Type 0 where
-  pub cycle : (answer ≡ verdict.Alarm) ↔ HasCycle trace
-  pub no_order : (answer ≡ verdict.Alarm) ↔ (¬ IsSerializable trace)
-  pub order : (answer ≡ verdict.Clean) ↔ IsSerializable trace
+-- an alarm exactly where the graph of the trace has a cycle, which is where no serial reordering of
+-- it exists
+pub record IsVerdict (trace : List Event) (verdict : Verdict) : Type 0 where
+  pub cycle : (verdict ≡ Alarm) ↔ HasCycle trace
+  pub no_order : (verdict ≡ Alarm) ↔ (¬ IsSerializable trace)
+  pub order : (verdict ≡ Clean) ↔ IsSerializable trace
 
 -- ---- the answer
 
--- the report by numbers of the log of the input is printed, with its certificate if that is asked for; the fate has the verdict
+-- the report by numbers of the log of the input is printed, with its certificate if that is asked
+-- for; the fate has the verdict
 pub record IsChecked (limit : ℕ) (certificate : Bool) (read : Option (List ℕ)) (answer : Answer)
     : Type 0 where
   pub bounds : Bounds

@@ -7,8 +7,9 @@ use Rattle.velo_program.specs.Writing.{Writing, Writes, BreaksOff, WritesNothing
 use Rattle.velo_program.specs.declared.fate.Fate.{Fate}
 use Rattle.velo_program.specs.declared.fate.Fate.TheVariants.{CannotOpen, Memory, WriteFailed}
 
--- What a command has to say: a text to be saved at its target, if it has one; a text to be printed on standard output, if it has
--- one; and what it comes to.
+-- What a command has to say: a text to be saved at its target, if it has one; a text to be printed
+-- on standard output, if it has one; and what it comes to. This is never `CannotOpen` nor
+-- `WriteFailed`: they come on the way out alone.
 pub record Answer : Type 0 where
   pub saved : Option (List ℕ)
   pub printed : Option (List ℕ)
@@ -38,29 +39,35 @@ abbrev pub TakesPart : Writing → Option (List ℕ) → Type 0
 TakesPart sink None = ⊥
 TakesPart sink (Some text) = BreaksOff sink text
 
+-- The sink took the text, and it comes to what was said; or it took a part of it, and it comes to a
+-- failed write.
+abbrev pub IsTaken : Writing → Option (List ℕ) → Fate → Fate → Type 0
+IsTaken sink text said WriteFailed = TakesPart sink text
+IsTaken sink text said f = (f ≡ said) × Takes sink text
+
 -- what became of an answer that has nothing to be saved
 abbrev pub IsPrinted : Writing → Answer → Fate → Type 0
-IsPrinted stdout answer WriteFailed = TakesPart stdout answer.printed
-IsPrinted stdout answer f = (f ≡ answer.fate) × Takes stdout answer.printed
+IsPrinted stdout answer f = IsTaken stdout answer.printed answer.fate f
 
 -- ---- at the target, if there is one
 
--- The file there was emptied, and has exactly the text. Without a target, or without a text for it, no file was opened.
+-- The file that was opened there took exactly the text. Without a target, or without a text for it,
+-- no file was opened.
 abbrev pub Saves : Store → Option (Bor (List ℕ)) → Option (List ℕ) → Type 0
 Saves store target None = store.is_kept
 Saves store None (Some text) = store.is_kept
 Saves store (Some target) (Some text) =
     (file : Writing) × IsWritten store target.now file × Writes file text
 
--- the file there was emptied, and took a beginning of the text, up to its failure
+-- the file that was opened there took a beginning of the text, up to its failure
 abbrev pub SavesPart : Store → Option (Bor (List ℕ)) → Option (List ℕ) → Type 0
 SavesPart store (Some target) (Some text) =
     (file : Writing) × IsWritten store target.now file × BreaksOff file text
 SavesPart store target text = ⊥
 
--- no file opens there, and the files are as they were
+-- no file opened there, and the files are as they were
 abbrev pub FailsToSave : Store → Option (Bor (List ℕ)) → Option (List ℕ) → Type 0
-FailsToSave store (Some target) (Some text) = store.disk.fails target.now × store.is_kept
+FailsToSave store (Some target) (Some text) = store.disk.fails_to_write target.now × store.is_kept
 FailsToSave store target text = ⊥
 
 -- ---- at both

@@ -11,12 +11,15 @@ use Rattle.velo_program.specs.Writing.{Writing}
 pub record Disk : Type 1 where
   -- a source that opens there may be read so
   pub gives : List ℕ → Reading → Type 0
-  -- no file opens there
-  pub fails : List ℕ → Type 0
-  -- a file that opens there to be written has these bytes, where they are known, and has failed so often
+  -- an opening there to read may fail
+  pub fails_to_read : List ℕ → Type 0
+  -- an opening there to write may fail
+  pub fails_to_write : List ℕ → Type 0
+  -- a file that opens there to be written has these bytes, where they are known, and has failed so
+  -- often
   pub empties : List ℕ → Option (List ℕ) → ℕ → Type 0
   -- the last call on the files closed the file there, and left it with these bytes and failures
-  pub left : List ℕ → Option (List ℕ) → ℕ → Type 0
+  pub closed : List ℕ → Option (List ℕ) → ℕ → Type 0
   -- one file stands at both paths
   pub one : List ℕ → List ℕ → Type 0
 
@@ -24,39 +27,42 @@ pub record Disk : Type 1 where
 abbrev pub untold : Disk
 untold = record {
   gives = λ path read. ⊤;
-  fails = λ path. ⊤;
+  fails_to_read = λ path. ⊤;
+  fails_to_write = λ path. ⊤;
   empties = λ path bytes failures. ⊤;
-  left = λ path bytes failures. ⊤;
+  closed = λ path bytes failures. ⊤;
   one = λ input target. ⊤;
 }
 
--- What a command found and what it left: the disk before it; how it left the file that it closed; and that the files are as they
--- were, so that none was opened to be written.
+-- What a command found and what it left: the disk before it; how it left the file that it closed;
+-- and that the files are as they were, so that none was opened to be written.
 pub record Store : Type 1 where
   pub disk : Disk
-  pub left : List ℕ → Option (List ℕ) → ℕ → Type 0
+  pub closed : List ℕ → Option (List ℕ) → ℕ → Type 0
   pub is_kept : Type 0
 
 abbrev pub store : {F : Type 0} → (F → Disk) → F → F → Store
-store disk old new = record { disk = disk old; left = (disk new).left; is_kept = new ≡ old }
+store disk old new = record { disk = disk old; closed = (disk new).closed; is_kept = new ≡ old }
 
 -- ---- a file that is read
 
 -- no file opens at the path to be read
 abbrev pub FailsToOpen : Disk → List ℕ → Type 0
-FailsToOpen disk path = (path ≢ codes "-") × disk.fails path
+FailsToOpen disk path = (path ≢ codes "-") × disk.fails_to_read path
 
--- The source was opened at the path: it is read there from this state to the one in which it is left, whichever that is.
+-- The source was opened at the path: it is read there from this state to the one in which its
+-- reading ends, whichever that is.
 abbrev pub IsOpened : {S : Type 0} → Disk → List ℕ → (S → Option (List ℕ)) → (S → ℕ) → S → Type 0
 IsOpened {S = S} disk path remaining failures opened =
-    (left : S) → disk.gives path (reading remaining failures opened left)
+    (end : S) → disk.gives path (reading remaining failures opened end)
 
 -- the target, if there is one, is the file of the input
 abbrev pub IsTarget : Disk → List ℕ → Option (Bor (List ℕ)) → Type 0
 IsTarget disk input None = ⊥
 IsTarget disk input (Some target) = disk.one input target.now
 
--- Why the input of this operand is not read: it does not open; or it opens, and is the target.
+-- Why the input of this operand is not read: it does not open; or it opens, and is the target, of
+-- which nothing but this is asked.
 abbrev pub IsBarred : Disk → Operand → List ℕ → Option (Bor (List ℕ)) → Fate → Type 0
 IsBarred disk operand input target f =
     ((f ≡ CannotOpen) × FailsToOpen disk input)
@@ -65,7 +71,8 @@ IsBarred disk operand input target f =
 
 -- ---- a file that is written
 
--- the file at the path was emptied, written so, and closed; and nothing was done to the files behind this
+-- A file was opened at the path to be written, written so, and closed; and nothing was done to the
+-- files behind this. What it has when it opens, where this is known, the disk says (`empties`).
 abbrev pub IsWritten : Store → List ℕ → Writing → Type 0
 IsWritten store path file =
-    store.disk.empties path file.old file.before × store.left path file.new file.after
+    store.disk.empties path file.old file.failures_before × store.closed path file.new file.failures_after

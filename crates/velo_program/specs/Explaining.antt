@@ -18,7 +18,8 @@ use Rattle.velo_program.specs.Delivery.{Answer, LacksMemory, printing}
 
 -- ---- the words of a verdict
 
--- what is said of an alarm at position p by its evidence: the picture of its cycle is to be saved, and its words printed
+-- what is said of an alarm at position p by its evidence: the picture of its cycle is to be saved,
+-- and its words printed
 abbrev pub explained : List Event → ℕ → Evidence → Answer
 explained log p evidence =
     record {
@@ -27,12 +28,14 @@ explained log p evidence =
       fate = Finished Done true;
     }
 
--- what is said of a log without a cycle: how many events and how many transactions it has; there is nothing to be saved
+-- what is said of a log without a cycle: how many events and how many transactions it has; there is
+-- nothing to be saved
 abbrev pub counted : List Event → Answer
 counted log = printing (clean_text (length log) (transactions_of log)) (Finished Done false)
 
--- The answer explains an alarm of the log, which is at the first event that closes a cycle and blames exactly the blocks to
--- blame: by a shortest cycle there, and by a reason for each of these blocks.
+-- The answer explains an alarm of the log, which is at the first event that closes a cycle and
+-- blames exactly the blocks to blame: by a shortest cycle there, and by a reason for each of these
+-- blocks.
 pub record ExplainsAlarm (log : List Event) (answer : Answer) : Type 0 where
   pub alarm : Alarm
   pub is_alarm : IsAlarm log alarm
@@ -53,7 +56,8 @@ pub record IsExplained (read : Option (List ℕ)) (answer : Answer) : Type 0 whe
   pub comes_about : ComesAbout MOST_EVENTS read bounds log
   pub verdict : ExplainsVerdict log answer
 
--- What an explanation has to say: the verdict in words, and the cycle of an alarm; or nothing, for a reason.
+-- What an explanation has to say: the verdict in words, and the cycle of an alarm; or nothing, for
+-- a reason.
 abbrev pub IsExplanation : Option (List ℕ) → Answer → Type 0
 IsExplanation read answer =
     IsExplained read answer ⊎ (IsUnchecked MOST_EVENTS MOST_NODES read answer ⊎ LacksMemory answer)

@@ -1,18 +1,18 @@
--- How the program ends, by what it came to: its status, and the line on standard error, if there is one.
-use Rattle.std.specs.Prelude.{◌≡◌, ◌⊎◌, Bool, Some, None, ℕ, ◌++◌, [], List, decimal, codes, true, false, if◌then◌else◌, nat_le, Option, Result, Ok, Err}
+-- How the program ends, by what it came to: its status, and the line on standard error, if there is
+-- one.
+use Rattle.std.specs.Prelude.{◌≡◌, ◌⊎◌, Bool, Some, None, ℕ, ◌++◌, [], List, decimal, codes, true, false, if◌then◌else◌, Option, Result, Ok, Err}
 use Rattle.velo_events.specs.declared.refusal.Refusal.{Refusal}
 use Rattle.velo_events.specs.declared.refusal.Refusal.TheVariants.{Halted, NotLive, NoSuchVariable, NoSuchLock, NoSuchThread, Busy, AlreadyHeld, NotHolder, NoOpenBlock, TooDeep, AlreadyForked, NotForked, NotExited, AlreadyJoined, BlockOpen, LockHeld, LogFull, GraphFull, WouldDeadlock, RuntimeMemory, Foreign}
 use Rattle.velo_events.specs.declared.refusal.Refusal.TheVariants as refusal
 use Rattle.velo_logtext.specs.declared.fault.LogFault.{LogFault}
 use Rattle.velo_logtext.specs.declared.fault.LogFault.TheVariants.{BadHeader, BadLine, Truncated, TooLong, Read}
 use Rattle.velo_logtext.specs.declared.fault.LogFault.TheVariants as log_fault
-use Rattle.velo_logtext.specs.Device.{with_failure}
 use Rattle.velo_events.specs.declared.event.ThreadId.{ThreadId}
 use Rattle.velo_worker.specs.declared.ending.Ending.{Ending}
 use Rattle.velo_worker.specs.declared.ending.Ending.TheVariants as ending
 use Rattle.velo_workload.specs.declared.fault.WorkFault.{WorkFault}
 use Rattle.velo_workload.specs.declared.fault.WorkFault.TheVariants as work_fault
-use Rattle.velo_program.specs.Writing.{Writing, Writes}
+use Rattle.velo_program.specs.Writing.{BreaksOff, Writing, Writes}
 use Rattle.velo_program.specs.declared.schedule.ScheduleFault.{ScheduleFault}
 use Rattle.velo_program.specs.declared.schedule.ScheduleFault.TheVariants as schedule_fault
 use Rattle.velo_program.specs.declared.check.Verdict.{Verdict}
@@ -57,10 +57,12 @@ status_of_log Read = 5
 status_of_log log_fault.Memory = 5
 status_of_log _ = 2
 
--- A refused event: 2 by the state before it (refusals 2 to 16), 4 by a limit of events or of nodes (17 and 18). No check tells
--- another refusal.
+-- A refused event: 4 by a limit of events or of nodes, else 2. A check tells refusals 2 to 18
+-- alone.
 abbrev pub status_of_refused : Refusal → ℕ
-status_of_refused refusal = if nat_le (number_of LogFull) (number_of refusal) then 4 else 2
+status_of_refused LogFull = 4
+status_of_refused GraphFull = 4
+status_of_refused _ = 2
 
 abbrev pub status_of_check : CheckFault → ℕ
 status_of_check (Log fault) = status_of_log fault
@@ -175,12 +177,14 @@ fate_of (Ok answer) = Finished ending.Done (is_alarm answer)
 fate_of (Err Write) = WriteFailed
 fate_of (Err fault) = Check fault
 
--- the line went out and this is the status, or the device failed once and the status is 5
+-- the line went out, and this is the status; or it broke off, and the status is 5
 abbrev pub Closes : ℕ → List ℕ → Writing → ℕ → Type 0
 Closes status line stderr result =
-    ((result ≡ status) × Writes stderr line)
-    ⊎ ((result ≡ 5) × (stderr.after ≡ with_failure stderr.before))
+    ((result ≡ status) × Writes stderr line) ⊎ ((result ≡ 5) × BreaksOff stderr line)
 
--- the program ends as what it came to: with its line and its status
+-- The program ends as what it came to: with its line and its status. Where there is no line, none
+-- breaks off.
 abbrev pub Ends : Fate → Writing → ℕ → Type 0
-Ends fate stderr result = Closes (status_of fate) (line_of fate) stderr result
+Ends fate stderr result =
+    Closes (status_of fate) (line_of fate) stderr result
+    × (line_of fate ≡ [] → result ≡ status_of fate)

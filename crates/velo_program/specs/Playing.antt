@@ -12,6 +12,7 @@ use Rattle.velo_worker.specs.declared.ending.Ending.{Ending}
 use Rattle.velo_worker.specs.declared.ending.Ending.TheVariants as ending
 use Rattle.velo_worker.specs.Causes.{EndsByGrowth, EndsWithCause}
 use Rattle.velo_worker.specs.Live.{AllDone}
+use Rattle.velo_worker.specs.Logs.{IsLogOf}
 use Rattle.velo_worker.specs.Schedule.{Replays}
 use Rattle.velo_workload.specs.declared.fault.WorkFault.{WorkFault}
 use Rattle.velo_workload.specs.declared.fault.WorkFault.TheVariants as work_fault
@@ -28,7 +29,7 @@ use Rattle.velo_program.specs.Fate.{is_alarm}
 
 -- ---- the workload of an input
 
--- the bytes, where they are known, are the text of this program
+-- the bytes are the text of this program; where they are not known nothing is said
 abbrev pub IsTextOf : Option (List ℕ) → Program → Type 0
 IsTextOf read program =
     IfSome read (λ bytes. (length bytes ≤ MOST_WORKLOAD_BYTES) × (meaning_of bytes ≡ Ok program))
@@ -38,7 +39,7 @@ abbrev pub IsTooLong : List ℕ → WorkFault → Type 0
 IsTooLong bytes fault =
     (MOST_WORKLOAD_BYTES < length bytes) × (fault ≡ work_fault.TooMany 0)
 
--- they are not UTF-8; or they are, and this is the fault of the text
+-- they are not UTF-8; or this is the fault of the text that they are
 abbrev pub HasFault : List ℕ → WorkFault → Type 0
 HasFault bytes fault =
     ((¬ IsUtf8 bytes) × (fault ≡ work_fault.BadLine 0)) ⊎ ParsesAs (meaning_of bytes) (Err fault)
@@ -52,7 +53,8 @@ abbrev pub IsFaultOfWork : Option (List ℕ) → WorkFault → Type 0
 IsFaultOfWork read work_fault.Memory = GrowthRefused
 IsFaultOfWork read fault = IfSome read (λ bytes. IsFaultOfText bytes fault)
 
--- why there is no workload: the bytes are the text of none, or the source failed, or a growth was refused
+-- Why there is no workload: the bytes are the text of none, or the source failed, or a growth was
+-- refused. That the source failed stands in `FailuresAsTold`.
 abbrev pub IsUnread : Option (List ℕ) → Fate → Type 0
 IsUnread read (Work fault) = IsFaultOfWork read fault
 IsUnread read ReadFailed = ⊤
@@ -81,18 +83,22 @@ pub record IsReplayOf (schedule : List ThreadId) (options : RunOptions) (program
   pub replays : Replays program schedule config ended w
   pub cause : EndsByGrowth ended
 
--- a run of the program by threads of its own: where it is done, each thread that was born did its body
-pub record IsLiveRunOf (program : Program) (ended : Ending) (w : WorldState) : Type 0 where
+-- a run of the program by threads of its own: it is configured as was asked for, and its log is one
+-- of the program's; where it is done, each thread that was born did its body
+pub record IsLiveRunOf (options : RunOptions) (program : Program) (ended : Ending) (w : WorldState)
+    : Type 0 where
+  pub configured : IsConfigOf program options w.config
+  pub log : IsLogOf program w.log
   pub done : ended ≡ ending.Done → AllDone program w
   pub cause : EndsWithCause ended
 
 abbrev pub IsRunOf : Play → RunOptions → Program → Ending → WorldState → Type 0
 IsRunOf (ByTurns schedule) options program ended w = IsReplayOf schedule options program ended w
-IsRunOf ByThreads options program ended w = IsLiveRunOf program ended w
+IsRunOf ByThreads options program ended w = IsLiveRunOf options program ended w
 
 -- ---- what a run has to say
 
--- a run that ends so has no report: a growth was refused
+-- a run that ends so has no report: memory, or the start of a thread, was refused
 abbrev pub is_unreported : Ending → Bool
 is_unreported (ending.Refused t refusal.Memory) = true
 is_unreported (ending.Refused t refusal.RuntimeMemory) = true
@@ -101,7 +107,7 @@ is_unreported _ = false
 -- the names of threads and labels are the program's
 abbrev pub AreNamesOf : Program → Names → Type 0
 AreNamesOf program Numbers = ⊥
-AreNamesOf program (Listed names) = ⊥
+AreNamesOf program (Listed _) = ⊥
 AreNamesOf program (Words threads labels) =
     (map string_bytes threads.now ≡ program.thread_names)
     × (map string_bytes labels.now ≡ program.label_names)
@@ -110,7 +116,8 @@ AreNamesOf program (Words threads labels) =
 abbrev pub text_of_log : WorldState → List ℕ
 text_of_log w = log_text w.config.bounds w.log
 
--- what is said of the log of a world by this report and this verdict: the text of the log is to be saved, the report printed
+-- what is said of the log of a world by this report and this verdict: the text of the log is to be
+-- saved, the report printed
 abbrev pub reported : Ending → WorldState → List ℕ → Verdict → Answer
 reported ended w text verdict =
     record {
@@ -119,7 +126,8 @@ reported ended w text verdict =
       fate = Finished ended (is_alarm verdict);
     }
 
--- the text is the report by these names, with its certificate if that is asked for, and the verdict is that of the log
+-- the text is the report by these names, with its certificate if that is asked for, and the verdict
+-- is that of the log
 pub record IsReported (names : Names) (certificate : Bool) (ended : Ending) (w : WorldState)
     (answer : Answer) : Type 0 where
   pub text : List ℕ
@@ -128,11 +136,20 @@ pub record IsReported (names : Names) (certificate : Bool) (ended : Ending) (w :
   pub is_verdict : IsVerdict w.log verdict
   pub said : answer ≡ reported ended w text verdict
 
--- without a report only the ending is said; else the names are the program's
-abbrev pub IsRunReport : Bool → Program → Bool → Ending → WorldState → Answer → Type 0
-IsRunReport true program certificate ended w answer = answer ≡ silent (Finished ended false)
-IsRunReport false program certificate ended w answer =
+-- only the ending is said
+abbrev pub IsSilentEnding : Ending → Answer → Type 0
+IsSilentEnding ended answer = answer ≡ silent (Finished ended false)
+
+-- the log is reported by the program's names
+abbrev pub IsRunReport : Program → Bool → Ending → WorldState → Answer → Type 0
+IsRunReport program certificate ended w answer =
     (names : Names) × AreNamesOf program names × IsReported names certificate ended w answer
+
+-- what is said of a run, by whether its ending has a report
+abbrev pub IsSaidOfRun : Program → Bool → Ending → WorldState → Answer → Type 0
+IsSaidOfRun program certificate ended w answer =
+    ((is_unreported ended ≡ true) × IsSilentEnding ended answer)
+    ⊎ ((is_unreported ended ≡ false) × IsRunReport program certificate ended w answer)
 
 -- a run that came to an end, and what is said of it
 pub record IsPlayed (play : Play) (options : RunOptions) (program : Program) (answer : Answer)
@@ -140,9 +157,9 @@ pub record IsPlayed (play : Play) (options : RunOptions) (program : Program) (an
   pub ended : Ending
   pub world : WorldState
   pub is_run : IsRunOf play options program ended world
-  pub says : IsRunReport (is_unreported ended) program options.certificate ended world answer
+  pub says : IsSaidOfRun program options.certificate ended world answer
 
--- a run by threads may lose a seat
+-- a run by threads may lose a seat; nothing is said of why
 abbrev pub LosesSeat : Play → Answer → Type 0
 LosesSeat (ByTurns schedule) answer = ⊥
 LosesSeat ByThreads answer = answer ≡ silent Lost
@@ -151,7 +168,8 @@ abbrev pub IsRunAnswer : Play → RunOptions → Program → Answer → Type 0
 IsRunAnswer play options program answer =
     IsPlayed play options program answer ⊎ (LosesSeat play answer ⊎ LacksMemory answer)
 
--- What a run of the workload that was read has to say; or nothing, for the reason that there is none.
+-- What a run of the workload that was read has to say; or nothing, for the reason that there is
+-- none.
 abbrev pub IsPlayAnswer : Play → RunOptions → Option (List ℕ) → Answer → Type 0
 IsPlayAnswer play options read answer =
     ((program : Program) × IsTextOf read program × IsRunAnswer play options program answer)

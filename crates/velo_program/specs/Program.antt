@@ -1,7 +1,9 @@
--- What each command does: one definition a command, whose lines are its steps. Read this page first.
+-- What each command does: one definition a command, whose lines are its steps. Read this page
+-- first.
 --
--- The store is the files that the command finds and leaves, stdout is standard output before and after, and f is what the
--- command comes to. What an answer to the bytes of an input is, stands on the page that each command names.
+-- The store is the files that the command finds and leaves, stdout is standard output before and
+-- after, and f is what the command comes to. Each command names in parentheses the page that says
+-- how it answers the bytes of its input.
 use Rattle.std.specs.Prelude.{◌≡◌, ◌⊎◌, ℕ, List, Option, Some, None}
 use Rattle.std.specs.Borrow.{Bor}
 use Rattle.velo_events.specs.declared.event.ThreadId.{ThreadId}
@@ -23,7 +25,7 @@ use Rattle.velo_program.specs.Delivery.{Answer, IsDelivered}
 use Rattle.velo_program.specs.Disk.{IsBarred, IsWritten, Store}
 use Rattle.velo_program.specs.Explaining.{IsExplanation}
 use Rattle.velo_program.specs.Playing.{ByThreads, ByTurns, IsPlayAnswer, Play}
-use Rattle.velo_program.specs.Reading.{FailsAsTold, Reading}
+use Rattle.velo_program.specs.Reading.{FailuresAsTold, Reading}
 use Rattle.velo_program.specs.Schedule.{IsFaultOfSchedule, IsSchedule}
 use Rattle.velo_program.specs.Writing.{Writing, WritesNothing}
 
@@ -33,57 +35,62 @@ use Rattle.velo_program.specs.Writing.{Writing, WritesNothing}
 abbrev pub WritesNowhere : Store → Writing → Type 0
 WritesNowhere store stdout = store.is_kept × WritesNothing stdout
 
--- the input does not open, or it is the target; and nothing was written
+-- the input does not open, or it is the target; no file was opened to be written, nothing was
+-- printed
 abbrev pub DoesNotRead : Store → Operand → List ℕ → Option (Bor (List ℕ)) → Writing → Fate → Type 0
 DoesNotRead store operand input target stdout f =
     IsBarred store.disk operand input target f × WritesNowhere store stdout
 
 -- ---- velodrome check LOG [--events N] [--nodes N] [--certificate]
 
--- LOG is read whole. The report goes to standard output, and the certificate behind it; or nothing, for a reason (`Check`).
+-- LOG is read whole. The report goes to standard output, and the certificate behind it; or nothing,
+-- for a reason (`Check`).
 abbrev pub DoesCheck : CheckOptions → Store → Writing → Fate → Type 0
 DoesCheck options store stdout f =
     DoesNotRead store Log options.input.now None stdout f
     ⊎ ((read : Reading) × (answer : Answer)
-    × store.disk.gives options.input.now read × FailsAsTold read f
+    × store.disk.gives options.input.now read × FailuresAsTold read f
     × IsCheckAnswer options.limits.events options.limits.nodes options.certificate
     read.bytes answer
     × IsDelivered store None stdout answer f)
 
 -- ---- velodrome explain LOG [--dot OUT]
 
--- LOG is read whole. The picture of the cycle is saved at OUT, if there is a cycle, and then the explanation goes to standard
--- output; or nothing, for a reason (`Explaining`). Behind a log without a cycle OUT is untouched.
+-- LOG is read whole. The picture of the cycle is saved at OUT, if there is a cycle, and then the
+-- explanation goes to standard output; or nothing, for a reason (`Explaining`). Behind a log
+-- without a cycle OUT is untouched.
 abbrev pub DoesExplain : ExplainOptions → Store → Writing → Fate → Type 0
 DoesExplain options store stdout f =
     DoesNotRead store Log options.input.now options.target stdout f
     ⊎ ((read : Reading) × (answer : Answer)
-    × store.disk.gives options.input.now read × FailsAsTold read f
+    × store.disk.gives options.input.now read × FailuresAsTold read f
     × IsExplanation read.bytes answer
     × IsDelivered store options.target stdout answer f)
 
 -- ---- velodrome carry LOG --log OUT
 
--- OUT is emptied, and LOG is read whole. Its text of version 2 is saved at OUT; or nothing, and then OUT is empty (`Carrying`).
--- Nothing goes to standard output. Where OUT does not open, LOG is not read.
+-- OUT is opened to be written, and LOG is read whole. Its text of version 2 goes to OUT; or
+-- nothing, for a reason, and then OUT stays as it opened (`Carrying`). Nothing goes to standard
+-- output. Where OUT does not open nothing is written anywhere.
 abbrev pub DoesCarry : CarryOptions → Store → Writing → Fate → Type 0
 DoesCarry options store stdout f =
     DoesNotRead store Log options.input.now (Some options.target) stdout f
-    ⊎ ((f ≡ CannotOpen) × store.disk.fails options.target.now × WritesNowhere store stdout)
+    ⊎ ((f ≡ CannotOpen) × store.disk.fails_to_write options.target.now × WritesNowhere store stdout)
     ⊎ ((read : Reading) × (answer : Answer) × (file : Writing)
-    × store.disk.gives options.input.now read × FailsAsTold read f
+    × store.disk.gives options.input.now read × FailuresAsTold read f
     × IsCarryAnswer read.bytes answer
     × IsWritten store options.target.now file × IsPut file answer f × WritesNothing stdout)
 
 -- ---- velodrome run FILE [--stop] [--log OUT] [--events N] [--nodes N] [--certificate]
 
--- FILE is read whole, and its threads are played. The log of the run is saved at OUT, and then the report goes to standard
--- output, and the certificate behind it; or nothing, for a reason (`Playing`).
+-- FILE is read whole, and its threads are played. The log of the run is saved at OUT, and then the
+-- report goes to standard output, and the certificate behind it; or nothing, for a reason
+-- (`Playing`).
 abbrev pub DoesPlay : Play → RunOptions → Store → Writing → Fate → Type 0
 DoesPlay play options store stdout f =
     DoesNotRead store File options.input.now options.target stdout f
     ⊎ ((read : Reading) × (answer : Answer)
-    × store.disk.gives options.input.now read × FailsAsTold read f
+    × store.disk.gives options.input.now read × FailuresAsTold read f
     × IsPlayAnswer play options read.bytes answer
     × IsDelivered store options.target stdout answer f)
 
@@ -92,7 +99,8 @@ DoesRun options store stdout f = DoesPlay ByThreads options store stdout f
 
 -- ---- velodrome replay FILE [--schedule TEXT] and the options of run
 
--- TEXT is no schedule, which is told before any file is opened; or FILE is played by the turns of this schedule.
+-- TEXT is no schedule, and no file was opened to be written; or FILE is played by the turns of this
+-- schedule (`Schedule`, `Playing`).
 abbrev pub DoesReplay : ReplayOptions → Store → Writing → Fate → Type 0
 DoesReplay options store stdout f =
     ((fault : ScheduleFault) × IsFaultOfSchedule options.schedule.now fault

@@ -6,22 +6,27 @@ use Rattle.velo_program.specs.declared.check.CheckFault.TheVariants.{Log}
 use Rattle.velo_program.specs.declared.fate.Fate.{Fate}
 use Rattle.velo_program.specs.declared.fate.Fate.TheVariants.{Check, ReadFailed}
 
--- the bytes that a source still gives, where they are known, and how often it has failed, before and after
+-- the bytes that a source still gives, where they are known, and how often it has failed
 pub record Reading : Type 0 where
   pub bytes : Option (List ℕ)
-  pub before : ℕ
-  pub after : ℕ
+  pub failures_before : ℕ
+  pub failures_after : ℕ
 
 abbrev pub reading : {S : Type 0} → (S → Option (List ℕ)) → (S → ℕ) → S → S → Reading
 reading remaining failures old new =
-    record { bytes = remaining old; before = failures old; after = failures new }
+    record {
+      bytes = remaining old;
+      failures_before = failures old;
+      failures_after = failures new;
+    }
 
--- the count of failures of a source behind this fate: once more where it is a failed read, and only there
-abbrev pub failures_after : Fate → ℕ → ℕ
-failures_after (Check (Log Read)) failures = with_failure failures
-failures_after ReadFailed failures = with_failure failures
-failures_after f failures = failures
+-- the count of failures of a source behind this fate: once more where it is a failed read, and only
+-- there
+abbrev pub failures_told : Fate → ℕ → ℕ
+failures_told (Check (Log Read)) failures = with_failure failures
+failures_told ReadFailed failures = with_failure failures
+failures_told f failures = failures
 
--- the source failed where the fate is a failed read, and only there
-abbrev pub FailsAsTold : Reading → Fate → Type 0
-FailsAsTold read f = read.after ≡ failures_after f read.before
+-- the source failed once more if the fate is a failed read, and else not
+abbrev pub FailuresAsTold : Reading → Fate → Type 0
+FailuresAsTold read f = read.failures_after ≡ failures_told f read.failures_before

@@ -1,4 +1,5 @@
--- Words of the contracts within the crate: how far each step has come. What the program does is said without them.
+-- Words of the contracts within the crate: how far each step has come. What the program does is
+-- said without them.
 use Rattle.std.specs.Borrow.{Bor}
 use Rattle.std.specs.Io.KnownBytes.{Consumes, IsAtEnd}
 use Rattle.std.specs.Prelude.{◌≡◌, ◌≤◌, ◌⊎◌, ◌++◌, [], ⊤, ℕ, Bool, List, length, Option, Some, None, Result, Ok, Err}
@@ -25,13 +26,14 @@ use Rattle.velo_program.specs.Check.{IsOutputOf, IsVerdict}
 use Rattle.velo_program.specs.Delivery.{Answer, FailsToSave, IsDelivered, IsPrinted, LacksMemory, Saves, SavesPart}
 use Rattle.velo_program.specs.Disk.{Disk, IsBarred, IsWritten, Store}
 use Rattle.velo_program.specs.Explaining.{ExplainsVerdict, IsExplanation}
-use Rattle.velo_program.specs.Playing.{IsRunReport, IsReported, IsRunAnswer, IsTextOf, IsUnread, Play, is_unreported}
-use Rattle.velo_program.specs.Reading.{FailsAsTold, Reading}
+use Rattle.velo_program.specs.Playing.{IsReported, IsRunAnswer, IsSaidOfRun, IsTextOf, IsUnread, Play}
+use Rattle.velo_program.specs.Reading.{FailuresAsTold, Reading}
 use Rattle.velo_program.specs.Writing.{BreaksOff, Writes, WritesNothing, Writing}
 
 -- ---- reading a whole source
 
--- the bytes are all that the source gives, where they are known; or they are more than the most that are wanted, and a beginning
+-- the bytes are all that the source gives, where they are known; or they are more than the most
+-- that are wanted, and a beginning
 abbrev pub IsReadOf : ℕ → Option (List ℕ) → List ℕ → Type 0
 IsReadOf most None bytes = ⊤
 IsReadOf most (Some all) bytes =
@@ -59,11 +61,11 @@ HasAlarm log = (alarm : Option Alarm) × AlarmOf log alarm
 
 -- what a world shows by numbers, and its verdict; or a growth was refused
 abbrev pub Shows : Bool → WorldState → Writing → Result Verdict CheckFault → Type 0
-Shows certificate w stdout (Ok answer) =
-    IsVerdict w.log answer
+Shows certificate w stdout (Ok verdict) =
+    IsVerdict w.log verdict
     × ((text : List ℕ) × IsOutputOf Numbers certificate w text × Writes stdout text)
 Shows certificate w stdout (Err check_fault.Write) =
-    ((answer : Verdict) × IsVerdict w.log answer)
+    ((verdict : Verdict) × IsVerdict w.log verdict)
     × ((text : List ℕ) × IsOutputOf Numbers certificate w text × BreaksOff stdout text)
 Shows certificate w stdout (Err check_fault.Memory) = GrowthRefused × WritesNothing stdout
 Shows certificate w stdout (Err fault) = ⊥
@@ -89,7 +91,7 @@ Explains log store target stdout f =
 -- what was made of an input was delivered
 abbrev pub ExplainsInput : Option (Bor (List ℕ)) → Store → Reading → Writing → Fate → Type 0
 ExplainsInput target store read stdout f =
-    FailsAsTold read f
+    FailuresAsTold read f
     × ((answer : Answer) × IsExplanation read.bytes answer
     × IsDelivered store target stdout answer f)
 
@@ -117,7 +119,7 @@ abbrev pub TellsEnd : Program → Bool → Ending → WorldState
     → Store → Option (Bor (List ℕ)) → Writing → Fate → Type 0
 TellsEnd program certificate ended w store target stdout f =
     (answer : Answer)
-    × (IsRunReport (is_unreported ended) program certificate ended w answer ⊎ LacksMemory answer)
+    × (IsSaidOfRun program certificate ended w answer ⊎ LacksMemory answer)
     × IsDelivered store target stdout answer f
 
 -- what playing a workload came to
@@ -128,12 +130,12 @@ Plays play options program store stdout f =
 
 -- ---- carrying over
 
--- the file at the path does not open; or what was read was carried over to it
+-- no file opened at the path; or what was read was carried over to it
 abbrev pub CarriesTo : Store → List ℕ → Reading → Fate → Type 0
 CarriesTo store target read f =
-    ((f ≡ CannotOpen) × store.disk.fails target × store.is_kept)
+    ((f ≡ CannotOpen) × store.disk.fails_to_write target × store.is_kept)
     ⊎ ((file : Writing) × IsWritten store target file × Carries read.bytes file f
-    × FailsAsTold read f)
+    × FailuresAsTold read f)
 
 -- ---- a workload
 
@@ -142,14 +144,14 @@ pub record OpensProgram (disk : Disk) (path : List ℕ) (program : Program) : Ty
   pub read : Reading
   pub given : disk.gives path read
   pub is_text : IsTextOf read.bytes program
-  pub no_failure : read.after ≡ read.before
+  pub no_failure : read.failures_after ≡ read.failures_before
 
 -- why there is none
 pub record IsNoWorkload (disk : Disk) (path : List ℕ) (fate : Fate) : Type 0 where
   pub read : Reading
   pub given : disk.gives path read
   pub unread : IsUnread read.bytes fate
-  pub failures : FailsAsTold read fate
+  pub failures : FailuresAsTold read fate
 
 abbrev pub OpensNoProgram : Disk → RunOptions → Fate → Type 0
 OpensNoProgram disk options f =

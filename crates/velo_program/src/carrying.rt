@@ -2,7 +2,7 @@
 ghost use Rattle.std.specs.Prelude.{◌≡◌};
 ghost use Rattle.velo_program.specs.Carrying.{Carries, fate_of_carrying};
 ghost use Rattle.velo_program.specs.Program.{DoesCarry};
-ghost use Rattle.velo_program.specs.Reading.{failures_after, reading};
+ghost use Rattle.velo_program.specs.Reading.{failures_told, reading};
 ghost use Rattle.velo_program.specs.Disk.{store};
 ghost use Rattle.velo_program.specs.Writing.{Writing, WritesNothing, writing};
 ghost use Rattle.velo_program.specs.Steps.{CarriesTo};
@@ -39,7 +39,7 @@ pub fn carry_run<I: Source, O: Sink>(
 ) -> Result<(), CarryFault>
     ensures answer { Carries (I.remaining source.old)
         (writing O.contents O.failures sink.old sink.new) (fate_of_carrying result) }
-    ensures read { I.failures source.new ≡ failures_after (fate_of_carrying result)
+    ensures read { I.failures source.new ≡ failures_told (fate_of_carrying result)
         (I.failures source.old) }
 {
     let (bounds, log) = match read_log(alloc, source) {

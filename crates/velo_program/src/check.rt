@@ -9,7 +9,7 @@ ghost use Rattle.velo_logtext.specs.Text.{AreBounds};
 ghost use Rattle.velo_world.specs.Faults.{world_of};
 ghost use Rattle.velo_program.specs.Check.{Checks, ComesAbout, IsFaultOfInput, IsOrderOrCycle, IsVerdict, WritesOutput};
 ghost use Rattle.velo_program.specs.Program.{DoesCheck};
-ghost use Rattle.velo_program.specs.Reading.{failures_after};
+ghost use Rattle.velo_program.specs.Reading.{failures_told};
 ghost use Rattle.velo_program.specs.Disk.{store};
 ghost use Rattle.velo_program.specs.Fate.{fate_of, is_alarm};
 ghost use Rattle.velo_program.specs.Faults.{check_fault_of, IsFaultOfLog};
@@ -265,7 +265,7 @@ pub fn do_input<I: Source>(
     ensures err { IfErr result (IsFaultOfInput events nodes (I.remaining source.old)) }
     ensures read { OnOk result (I.failures source.new ≡ I.failures source.old) }
     ensures failure { IfErr result (λ fault. I.failures source.new
-        ≡ failures_after (fate.Check fault) (I.failures source.old)) }
+        ≡ failures_told (fate.Check fault) (I.failures source.old)) }
 {
     let (bounds, log) = match read_log(alloc, source) {
         Ok(read) => read,
@@ -299,7 +299,7 @@ pub fn check_run<I: Source, O: Sink>(
     requires nodes { (1 ≤ nodes) × (nodes ≤ MOST_NODES) }
     ensures answer { Checks events nodes certificate (I.remaining source.old)
         (writing O.contents O.failures sink.old sink.new) (fate_of result) }
-    ensures read { I.failures source.new ≡ failures_after (fate_of result) (I.failures source.old) }
+    ensures read { I.failures source.new ≡ failures_told (fate_of result) (I.failures source.old) }
 {
     match do_input(alloc, source, events, nodes) {
         Ok(closed) => finish(alloc, closed, certificate, sink),
@@ -331,7 +331,7 @@ fn check_log<I: Source, O: Sink>(
     ensures told { Checks options.now.limits.events options.now.limits.nodes
         options.now.certificate (I.remaining log.old)
         (writing O.contents O.failures out.old out.new) result }
-    ensures failures { I.failures log.new ≡ failures_after result (I.failures log.old) }
+    ensures failures { I.failures log.new ≡ failures_told result (I.failures log.old) }
 {
     let answer = check_run(
         alloc,

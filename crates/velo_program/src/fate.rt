@@ -1,7 +1,6 @@
 //! How the program ends: its status, and the line on standard error.
-ghost use Rattle.std.specs.Prelude.{◌≡◌, ◌≤◌, ◌++◌, [], codes, decimal, length, take, IfOk, OnOk, OnErr};
-ghost use Rattle.velo_logtext.specs.Device.{with_failure};
-ghost use Rattle.velo_program.specs.Writing.{Writes, writing};
+ghost use Rattle.std.specs.Prelude.{◌≡◌, ◌≢◌, ◌≤◌, ◌++◌, [], codes, decimal, length, take, IfOk, OnOk, OnErr};
+ghost use Rattle.velo_program.specs.Writing.{BreaksOff, Writes, writing};
 ghost use Rattle.velo_program.specs.Fate.{Ends, number_of, status_of, status_of_check, status_of_log, status_of_refused, status_of_ending, status_of_schedule, status_of_work, place_of_work, line_of, line_of_check, line_of_log, line_of_ending, line_of_one_file, line_of_refused, line_of_schedule, line_of_work};
 
 use crate::check::CheckFault;
@@ -62,10 +61,9 @@ fn status_of_log(fault: LogFault) -> u8
 fn status_of_refused(refusal: Refusal) -> u8
     ensures { result ≡ status_of_refused refusal }
 {
-    if number_of(refusal) >= number_of(Refusal::LogFull) {
-        INCOMPLETE
-    } else {
-        BAD_INPUT
+    match refusal {
+        Refusal::LogFull | Refusal::GraphFull => INCOMPLETE,
+        _ => BAD_INPUT,
     }
 }
 
@@ -286,11 +284,15 @@ pub fn end_line<S: Sink>(fate: &Fate, sink: &mut S) -> Result<u8, WriteFault>
     ensures status { IfOk result (λ status. status ≡ status_of fate.now) }
     ensures text { OnOk result (Writes
         (writing S.contents S.failures sink.old sink.new) (line_of fate.now)) }
-    ensures err { OnErr result (S.failures sink.new ≡ with_failure (S.failures sink.old)) }
+    ensures err { OnErr result (BreaksOff
+        (writing S.contents S.failures sink.old sink.new) (line_of fate.now)) }
+    ensures line { OnErr result (line_of fate.now ≢ []) }
 {
     let mut buffer = [0u8; LINE_ROOM];
     let end = put_line(&mut buffer, *fate);
-    write_all(sink, &buffer[..end])?;
+    if end > 0 {
+        write_all(sink, &buffer[..end])?;
+    }
     Ok(status_of(*fate))
 }
 

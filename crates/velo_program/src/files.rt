@@ -23,7 +23,7 @@ pub trait Files {
         requires { path.now ≢ codes "-" }
         ensures some { IfSome result (IsOpened (disk self.now) path.now
             Self.Input.remaining Self.Input.failures) }
-        ensures none { IsNone result → (disk self.now).fails path.now };
+        ensures none { IsNone result → (disk self.now).fails_to_read path.now };
 
     /// Standard input.
     fn standard_input(&self) -> Self::StandardInput
@@ -42,12 +42,12 @@ pub trait Files {
     fn create(&mut self, path: &str) -> Option<Self::Output>
         ensures some { IfSome result (λ file. (disk self.old).empties path.now
             (Self.Output.contents file) (Self.Output.failures file)) }
-        ensures none { IsNone result → (disk self.old).fails path.now }
+        ensures none { IsNone result → (disk self.old).fails_to_write path.now }
         ensures kept { IsNone result → self.new ≡ self.old };
 
     /// Closes the file that was opened at a path to be written.
     fn close(&mut self, path: &str, file: Self::Output)
-        ensures { (disk self.new).left path.now
+        ensures { (disk self.new).closed path.now
             (Self.Output.contents file) (Self.Output.failures file) };
 }
 

@@ -1,7 +1,7 @@
 //! Workloads that run: where they are read, and what their runs show.
 ghost use Rattle.std.specs.Prelude.{◌≡◌, Some, IfOk, IfErr, IfSome, OnOk, is_some};
 ghost use Rattle.velo_program.specs.Check.{IsOrderOrCycle};
-ghost use Rattle.velo_program.specs.Reading.{failures_after};
+ghost use Rattle.velo_program.specs.Reading.{failures_told};
 ghost use Rattle.velo_program.specs.Playing.{IsConfigOf, IsFaultOfWork, IsTextOf, IsUnread, is_unreported, text_of_log};
 ghost use Rattle.velo_program.specs.Disk.{store};
 ghost use Rattle.velo_program.specs.Writing.{writing};
@@ -25,7 +25,7 @@ fn read_workload<I: Source>(alloc: Global, source: &mut I) -> Result<Workload, F
     ensures some { IfOk result (IsTextOf (I.remaining source.old)) }
     ensures none { IfErr result (IsUnread (I.remaining source.old)) }
     ensures read { OnOk result (I.failures source.new ≡ I.failures source.old) }
-    ensures failure { IfErr result (λ fate. I.failures source.new ≡ failures_after fate
+    ensures failure { IfErr result (λ fate. I.failures source.new ≡ failures_told fate
         (I.failures source.old)) }
 {
     match read_whole(alloc, source, MOST_WORKLOAD_BYTES) {

@@ -1,6 +1,7 @@
-use Rattle.std.proofs.Common.{inl, inr, refl, ⊎_elim}
+use Rattle.std.proofs.Common.{inl, inr, refl, subst, sym, ⊎_elim}
 use Rattle.velo_program.specs.declared.fate.Fate.TheVariants.{Lost, Memory}
 use Rattle.velo_program.specs.Delivery.{silent}
+use Rattle.velo_program.specs.Playing.{IsConfigOf}
 use Rattle.velo_program.proofs.running.run_workload.Goals as goal
 
 pub returns-in-Ok : goal.returns-in-Ok
@@ -11,7 +12,12 @@ returns-in-Ok g c =
           (λ says. inl (record {
             ended = c.in-Ok.ended.1;
             world = c.in-Ok.ended.0;
-            is_run = record { done = c.in-Ok.ensures.done; cause = c.in-Ok.ensures.cause };
+            is_run = record {
+              configured = subst (IsConfigOf c.args.workload.now c.args.options.now) (sym c.in-Ok.ensures.config) c.config_of_run-config.ensures;
+              log = c.in-Ok.ensures.log;
+              done = c.in-Ok.ensures.done;
+              cause = c.in-Ok.ensures.cause;
+            };
             says = says;
           }))
           (λ lacks. inr (inr lacks))

@@ -1,14 +1,12 @@
-use Rattle.std.proofs.Common.{◌∙◌, Bool, false, inl, inr, refl, subst, sym, ⊎_elim}
+use Rattle.std.proofs.Common.{◌∙◌, false, inl, inr, refl, sym, ⊎_elim}
 use Rattle.velo_program.specs.declared.fate.Fate.TheVariants.{Finished}
 use Rattle.velo_program.specs.Delivery.{silent}
-use Rattle.velo_program.specs.Playing.{IsRunReport}
 use Rattle.velo_program.proofs.work.show_run.Goals as goal
 
 pub returns-then-is_unreported : goal.returns-then-is_unreported
 returns-then-is_unreported g c = (
   silent (Finished c.args.ending false),
-  inl (subst (λ (b : Bool). IsRunReport b c.args.workload.now c.args.options.now.certificate c.args.ending c.args.closed.now (silent (Finished c.args.ending false)))
-      (sym (sym c.is_unreported.ensures ∙ c.if-is_unreported.true)) refl),
+  inl (inl (sym c.is_unreported.ensures ∙ c.if-is_unreported.true, refl)),
   (refl, refl, (refl, refl)),
 )
 
@@ -17,8 +15,7 @@ returns g c =
     let told = c.tell.ensures in (
       told.0,
       ⊎_elim
-          (λ reported. inl (subst (λ (b : Bool). IsRunReport b c.args.workload.now c.args.options.now.certificate c.args.ending c.args.closed.now told.0)
-          (sym (sym c.is_unreported.ensures ∙ c.if-is_unreported.false)) (_, (c.thread_names.ensures, c.label_names.ensures), reported)))
+          (λ reported. inl (inr (sym c.is_unreported.ensures ∙ c.if-is_unreported.false, (_, (c.thread_names.ensures, c.label_names.ensures), reported))))
           (λ lacks. inr lacks)
           told.1,
       told.2,
