@@ -10,7 +10,8 @@ on standard error and nothing on standard output.
 With `--tests WORD` the program is the tests of a crate, as `rt test` leaves it. Each test whose name has the word is run by
 itself, and each run of it has to succeed.
 
-With `--starts` before all else the start of one thread is refused each time in place of a growth.
+With `--starts` before all else the start of one thread is refused each time in place of a growth. Then a run has to end with
+status 5 and `out of memory`, and at least one start has to be refused.
 """
 import os
 import subprocess
@@ -54,6 +55,13 @@ def kind_of(got, plain):
     return "OTHER"
 
 
+def ends_well(kinds, variable):
+    """A run whose thread did not start has to tell of it, by nothing but want of memory: its seat is not lost."""
+    if variable == "REFUSE":
+        return "OTHER" not in kinds
+    return set(kinds) == {"out of memory"}
+
+
 def sweep(refusal, command):
     plain = run(refusal, command, 0)
     kinds = {}
@@ -69,7 +77,7 @@ def sweep(refusal, command):
             print(f"number {number}: status {got[0]}, {len(got[1])} bytes out, {got[2][:80]!r}")
     what = "growths" if refusal[1] == "REFUSE" else "starts"
     print(f"{number - 1} {what} refused: {kinds}; without a refusal status {plain[0]}")
-    return "OTHER" not in kinds and kind_of(got, plain) != "OTHER"
+    return ends_well(kinds, refusal[1]) and kind_of(got, plain) != "OTHER"
 
 
 def tests_of(program, word):
