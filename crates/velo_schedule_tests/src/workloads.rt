@@ -1,0 +1,214 @@
+//! Workloads, and what all their schedules come to.
+use std::alloc::Global;
+use velo_events::Config;
+use velo_schedules::{Exploration, Finding, RefusalFinding, explore};
+use velo_workload::parse;
+
+/// What is known of a fault.
+#[derive(Clone, Copy, Debug, PartialEq, Eq)]
+enum Known {
+    Shown,
+    Never,
+    Open,
+}
+
+/// A workload, how many states a model of the search looked at, if it was tried there, and what is told of alarms,
+/// deadlocks and refusals.
+struct Row<'a> {
+    text: &'a str,
+    states: Option<u64>,
+    alarm: Known,
+    stuck: Known,
+    refused: Known,
+}
+
+/// What was told, in numbers and words.
+#[derive(Clone, Copy, Debug, PartialEq, Eq)]
+struct Told {
+    states: u64,
+    alarm: Known,
+    stuck: Known,
+    refused: Known,
+}
+
+fn known(finding: &Finding) -> Known {
+    match finding {
+        Finding::Shown(_) => Known::Shown,
+        Finding::Never => Known::Never,
+        Finding::Open => Known::Open,
+    }
+}
+
+fn known_refusal(finding: &RefusalFinding) -> Known {
+    match finding {
+        RefusalFinding::Shown(_) => Known::Shown,
+        RefusalFinding::Never => Known::Never,
+        RefusalFinding::Open => Known::Open,
+    }
+}
+
+fn told(exploration: &Exploration) -> Told {
+    Told {
+        states: exploration.states,
+        alarm: known(&exploration.alarm),
+        stuck: known(&exploration.stuck),
+        refused: known_refusal(&exploration.refused),
+    }
+}
+
+fn explored(alloc: Global, text: &str, most_states: u64) -> Option<Told> {
+    let workload = parse(alloc, text).ok()?;
+    let config = Config::new(1, workload.bounds(), 10_000, 64, false).ok()?;
+    let exploration = explore(alloc, &workload, most_states, config).ok()?;
+    Some(told(&exploration))
+}
+
+static ROWS: [Row<'static>; 14] = [
+    // lost update, two threads once
+    Row {
+        text: "var x\nthread main\nfork a\nfork b\njoin a\njoin b\nthread a\nbegin inc\nread x\nadd 1\nwrite x\nend\nthread b\nbegin inc\nread x\nadd 1\nwrite x\nend\n",
+        states: Some(78),
+        alarm: Known::Shown,
+        stuck: Known::Never,
+        refused: Known::Never,
+    },
+    // and three times
+    Row {
+        text: "var x\nthread main\nfork a\nfork b\njoin a\njoin b\nthread a\nrepeat 3\nbegin inc\nread x\nadd 1\nwrite x\nend\ndone\nthread b\nrepeat 3\nbegin inc\nread x\nadd 1\nwrite x\nend\ndone\n",
+        states: Some(490),
+        alarm: Known::Shown,
+        stuck: Known::Never,
+        refused: Known::Never,
+    },
+    // the same under a lock
+    Row {
+        text: "var x\nlock m\nthread main\nfork a\nfork b\njoin a\njoin b\nthread a\nrepeat 3\nbegin inc\nacquire m\nread x\nadd 1\nwrite x\nrelease m\nend\ndone\nthread b\nrepeat 3\nbegin inc\nacquire m\nread x\nadd 1\nwrite x\nrelease m\nend\ndone\n",
+        states: Some(434),
+        alarm: Known::Never,
+        stuck: Known::Never,
+        refused: Known::Never,
+    },
+    // both read what the other wrote
+    Row {
+        text: "var x\nvar y\nthread main\nfork a\nfork b\njoin a\njoin b\nthread a\nbegin one\nwrite x\nread y\nend\nthread b\nbegin two\nwrite y\nread x\nend\n",
+        states: Some(78),
+        alarm: Known::Shown,
+        stuck: Known::Never,
+        refused: Known::Never,
+    },
+    // nested blocks
+    Row {
+        text: "var x\nthread main\nfork a\nfork b\njoin a\njoin b\nthread a\nbegin one\nbegin two\nread x\nend\nbegin three\nwrite x\nend\nend\nthread b\nwrite x\n",
+        states: Some(68),
+        alarm: Known::Shown,
+        stuck: Known::Never,
+        refused: Known::Never,
+    },
+    // a fork within a block
+    Row {
+        text: "var x\nthread main\nbegin one\nfork a\nread x\nend\njoin a\nthread a\nwrite x\n",
+        states: Some(19),
+        alarm: Known::Shown,
+        stuck: Known::Never,
+        refused: Known::Never,
+    },
+    // two fork one thread
+    Row {
+        text: "var x\nthread main\nfork a\nfork b\nthread a\nfork c\nthread b\nfork c\nthread c\nread x\n",
+        states: Some(34),
+        alarm: Known::Never,
+        stuck: Known::Never,
+        refused: Known::Shown,
+    },
+    // joined before its fork
+    Row {
+        text: "var x\nthread main\nfork a\nfork b\nthread a\nwrite x\nfork c\nthread b\nread x\njoin c\nthread c\n",
+        states: Some(39),
+        alarm: Known::Never,
+        stuck: Known::Never,
+        refused: Known::Shown,
+    },
+    // two locks in both orders
+    Row {
+        text: "lock m\nlock n\nthread main\nfork a\nacquire m\nacquire n\nrelease n\nrelease m\nthread a\nacquire n\nacquire m\nrelease m\nrelease n\n",
+        states: None,
+        alarm: Known::Never,
+        stuck: Known::Shown,
+        refused: Known::Never,
+    },
+    // two sharers of a lock
+    Row {
+        text: "lock m\nthread main\nfork a\nshare m\nunshare m\njoin a\nthread a\nshare m\nunshare m\n",
+        states: None,
+        alarm: Known::Never,
+        stuck: Known::Never,
+        refused: Known::Never,
+    },
+    // a block that shares a lock twice, and a writer that has it alone
+    Row {
+        text: "var x\nlock m\nthread main\nfork a\nbegin look\nshare m\nread x\nunshare m\nshare m\nread x\nunshare m\nend\njoin a\nthread a\nacquire m\nset 1\nwrite x\nrelease m\n",
+        states: None,
+        alarm: Known::Shown,
+        stuck: Known::Never,
+        refused: Known::Never,
+    },
+    // and a reader that shares it
+    Row {
+        text: "var x\nlock m\nthread main\nfork a\nbegin look\nshare m\nread x\nunshare m\nshare m\nread x\nunshare m\nend\njoin a\nthread a\nshare m\nread x\nunshare m\n",
+        states: None,
+        alarm: Known::Never,
+        stuck: Known::Never,
+        refused: Known::Never,
+    },
+    // a share that waits for a share of another lock
+    Row {
+        text: "lock m\nlock n\nthread main\nfork a\nshare m\nacquire n\nrelease n\nunshare m\nthread a\nshare n\nacquire m\nrelease m\nunshare n\n",
+        states: None,
+        alarm: Known::Never,
+        stuck: Known::Shown,
+        refused: Known::Never,
+    },
+    // an exit that holds a lock
+    Row {
+        text: "lock m\nthread main\nfork a\njoin a\nthread a\nacquire m\n",
+        states: None,
+        alarm: Known::Never,
+        stuck: Known::Never,
+        refused: Known::Shown,
+    },
+];
+
+/// Whether all schedules of the row's workload come to what it says.
+fn is_told(alloc: Global, row: &Row<'_>) -> Option<bool> {
+    let told = explored(alloc, row.text, 100_000)?;
+    let wanted = Told {
+        states: row.states.unwrap_or(told.states),
+        alarm: row.alarm,
+        stuck: row.stuck,
+        refused: row.refused,
+    };
+    Some(told == wanted)
+}
+
+#[test]
+fn all_schedules_are_told(rt: HostRuntime) {
+    for row in &ROWS {
+        assert_eq!(rt; is_told(rt.alloc(), row), Some(true), "{}", row.text);
+    }
+}
+
+#[test]
+fn a_budget_leaves_open(rt: HostRuntime) {
+    let text = ROWS[2].text;
+    let exact = Told {
+        states: 434,
+        alarm: Known::Never,
+        stuck: Known::Never,
+        refused: Known::Never,
+    };
+    assert_eq!(rt; explored(rt.alloc(), text, 434), Some(exact));
+    let short = explored(rt.alloc(), text, 433);
+    assert_eq!(rt; short.map(|told| told.alarm), Some(Known::Open));
+    assert_eq!(rt; short.map(|told| told.stuck), Some(Known::Open));
+    assert_eq!(rt; short.map(|told| told.refused), Some(Known::Open));
+}

@@ -1,0 +1,9 @@
+pub mod OnReplays
+pub mod OnEndings
+pub mod OnBodyScripts
+pub mod OnRunsOfScripts
+pub mod OnPlainLogs
+pub mod OnSearched
+pub mod OnTold
+pub mod OnCounting
+pub mod OnShown

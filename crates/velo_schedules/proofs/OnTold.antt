@@ -1,0 +1,64 @@
+-- What holds of all runs of a program's scripts holds of all its replays.
+use Rattle.std.proofs.Common.{◌≡◌, ℕ, ◌+◌, ◌^◌, ◌<◌, ◌≤◌, List, [], ◌∷◌, length, length-append, map, Option, Some, None, refl, sym, ap, ◌∙◌, subst, arith}
+use Rattle.std.specs.Prelude.{filter, slice_get, sum_by}
+use Rattle.std.proofs.lemmas.List.{length-map}
+use Rattle.std.proofs.lemmas.List.Sums.{length-filter, get_or-le-sum_by}
+use Rattle.std.proofs.lemmas.Option.{slice_get_within, get_or_from_slice_get}
+use Rattle.velo_events.specs.declared.config.Bounds.{Bounds}
+use Rattle.velo_events.specs.declared.event.Kind.{Kind}
+use Rattle.velo_events.specs.declared.event.Kind.TheVariants.{Exit}
+use Rattle.velo_workload.specs.declared.statement.Statement.{Statement}
+use Rattle.velo_workload.specs.Program.{Program}
+use Rattle.velo_worker.specs.Counts.{has_event, body_events}
+use Rattle.velo_worker.specs.Walk.{walk_of}
+use Rattle.velo_explore.specs.Faults.{Cycle, Stuck, Refusing, IsFault}
+use Rattle.velo_explore.specs.Runs.{script_of, Never}
+use Rattle.velo_explore.specs.Search.{ArePlain, AreShort}
+use Rattle.velo_schedules.specs.Logs.{AlwaysSerializable, NeverStuck, NeverRefused}
+use Rattle.velo_schedules.specs.Bodies.{operation, operations_of, operations_by, scripts, all_scripts}
+use Rattle.velo_schedules.proofs.OnPlainLogs.{script_in, ArePlain-bodies, AlwaysSerializable-runs, NeverStuck-runs, NeverRefused-runs}
+use Rattle.velo_schedules.proofs.OnSearched.{searched-stuck, searched-refused}
+
+-- ---- the scripts may be searched
+
+length-operations : (body : List Statement) → length (operations_of (walk_of body)) ≡ body_events body
+length-operations body =
+    length-append (map operation (filter has_event (walk_of body))) (Exit ∷ [])
+    ∙ ap (λ n. n + 1) (length-map (filter has_event (walk_of body)) operation ∙ length-filter has_event (walk_of body))
+
+pub AreShort-bodies : (program : Program) (limit : ℕ) → sum_by body_events program.bodies ≤ limit → limit < 2 ^ 32 → AreShort (all_scripts program)
+AreShort-bodies program limit few small t = at (slice_get program.bodies t) refl
+  where
+    at : (o : Option (List Statement)) → slice_get program.bodies t ≡ o → length (script_of (all_scripts program) t) < 2 ^ 32
+    at None is = subst (λ ks. length ks < 2 ^ 32) (sym (script_in program t ∙ ap operations_by is)) (omega arith)
+    at (Some body) is =
+        let within = slice_get_within program.bodies t body is in
+        let here : body_events body ≤ sum_by body_events program.bodies =
+        subst (λ b. body_events b ≤ sum_by body_events program.bodies) (get_or_from_slice_get program.bodies t body body is) (get_or-le-sum_by body_events program.bodies t body within) in
+        subst (λ ks. length ks < 2 ^ 32) (sym (script_in program t ∙ ap operations_by is)) (omega (arith, length-operations body, here, few, small))
+
+module _ (program : Program) (bounds : Bounds) (same : bounds ≡ program.bounds) (list : List (List Kind)) (is : list ≡ all_scripts program) where
+  pub plain-scripts : ArePlain list
+  plain-scripts = subst ArePlain (sym is) (ArePlain-bodies program)
+
+  pub short-scripts : (limit : ℕ) → sum_by body_events program.bodies ≤ limit → limit < 2 ^ 32 → AreShort list
+  short-scripts limit few small = subst AreShort (sym is) (AreShort-bodies program limit few small)
+
+  -- ---- no run has the fault, so no replay has
+
+  pub alarm-ruled_out : Never (IsFault bounds list Cycle) bounds list [] → AlwaysSerializable program
+  alarm-ruled_out never = AlwaysSerializable-runs program (subst (λ ks. Never (IsFault program.bounds ks Cycle) program.bounds ks []) is (subst (λ b. Never (IsFault b list Cycle) b list []) same never))
+
+  module _ (count : length program.bodies ≡ program.bounds.threads) where
+    few_scripts : length (all_scripts program) ≤ program.bounds.threads
+    few_scripts = let long = length-map program.bodies (λ body. operations_of (walk_of body)) in omega (arith, long, count)
+
+    pub stuck-ruled_out : Never (IsFault bounds list Stuck) bounds list [] → NeverStuck program
+    stuck-ruled_out never =
+        let none = subst (λ ks. Never (IsFault program.bounds ks Stuck) program.bounds ks []) is (subst (λ b. Never (IsFault b list Stuck) b list []) same never) in
+        NeverStuck-runs program (λ more run stuck. none more run (searched-stuck program.bounds (all_scripts program) few_scripts more stuck))
+
+    pub refusal-ruled_out : Never (IsFault bounds list Refusing) bounds list [] → NeverRefused program
+    refusal-ruled_out never =
+        let none = subst (λ ks. Never (IsFault program.bounds ks Refusing) program.bounds ks []) is (subst (λ b. Never (IsFault b list Refusing) b list []) same never) in
+        NeverRefused-runs program (λ more run refused. none more run (searched-refused program.bounds (all_scripts program) few_scripts more refused))

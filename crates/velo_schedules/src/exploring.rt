@@ -1,0 +1,93 @@
+//! All schedules of a workload at once.
+ghost use Rattle.std.specs.Prelude.{◌≡◌, ◌≤◌, ◌-◌, ◌^◌, true, false, min, sum_by, IfOk, OnErr};
+ghost use Rattle.velo_events.specs.Refusals.{GrowthRefused};
+ghost use Rattle.velo_worker.specs.Counts.{body_events};
+ghost use Rattle.velo_schedules.specs.Logs.{AlwaysSerializable, NeverStuck, NeverRefused};
+ghost use Rattle.velo_schedules.specs.Told.{AlarmTold, StuckTold, RefusalTold};
+
+use crate::exploration::Exploration;
+use crate::finding::{Finding, RefusalFinding};
+use crate::scripts::{count_all, scripts_of};
+use crate::showing::{tell_alarm, tell_refused, tell_stuck};
+use std::alloc::Global;
+use velo_events::{Config, Memory};
+use velo_explore::{Schedules, Searched, search};
+use velo_workload::Workload;
+
+/// Tries all schedules of a workload, as long as no more than so many states are to be looked at, and tells whether some
+/// schedule leads to a log that is not serializable, to a deadlock or to a refusal. The configuration has to have the
+/// workload's bounds. Where its bodies have more events than the configuration lets a log have, nothing is tried.
+///
+/// What is shown was replayed. What is said never to be is so by no schedule. Of what is open nothing is said.
+///
+/// # Errors
+/// `Memory` where a growth was refused.
+pub fn explore(
+    alloc: Global,
+    workload: &Workload,
+    most_states: u64,
+    config: Config,
+) -> Result<Exploration, Memory>
+    requires bounds { config.bounds ≡ workload.now.bounds }
+    ensures events { IfOk result (λ x. x.events ≡ min (sum_by body_events workload.now.bodies) (2 ^ 64 - 1)) }
+    ensures states { IfOk result (λ x. x.states ≤ most_states) }
+    ensures alarm { IfOk result (λ x. AlarmTold workload.now config x.alarm) }
+    ensures stuck { IfOk result (λ x. StuckTold workload.now config x.stuck) }
+    ensures refused { IfOk result (λ x. RefusalTold workload.now config x.refused) }
+    ensures memory { OnErr result GrowthRefused }
+{
+    let events = count_all(workload);
+    if events > u64::from(config.events) {
+        return Ok(Exploration {
+            events,
+            states: 0,
+            alarm: Finding::Open,
+            stuck: Finding::Open,
+            refused: RefusalFinding::Open,
+        });
+    }
+    let Searched {
+        found,
+        schedules,
+        states,
+        whole,
+    } = search_all(alloc, workload, most_states, &config)?;
+    let Schedules {
+        alarm: to_alarm,
+        stuck: to_stuck,
+        refused: to_refusal,
+    } = schedules;
+    let alarm_ruled_out = whole && !found.alarm;
+    let alarm = tell_alarm(alloc, workload, config, alarm_ruled_out, to_alarm)?;
+    let stuck_ruled_out = whole && !found.stuck;
+    let stuck = tell_stuck(alloc, workload, config, stuck_ruled_out, to_stuck)?;
+    let refusal_ruled_out = whole && !found.refused;
+    let refused = tell_refused(alloc, workload, config, refusal_ruled_out, to_refusal)?;
+    Ok(Exploration {
+        events,
+        states,
+        alarm,
+        stuck,
+        refused,
+    })
+}
+
+/// Searches the runs of the workload's scripts.
+fn search_all(
+    alloc: Global,
+    workload: &Workload,
+    most_states: u64,
+    config: &Config,
+) -> Result<Searched, Memory>
+    requires bounds { config.now.bounds ≡ workload.now.bounds }
+    requires few { sum_by body_events workload.now.bodies ≤ config.now.events }
+    ensures alarm { IfOk result (λ x. x.whole ≡ true → x.found.alarm ≡ false → AlwaysSerializable workload.now) }
+    ensures stuck { IfOk result (λ x. x.whole ≡ true → x.found.stuck ≡ false → NeverStuck workload.now) }
+    ensures refused { IfOk result (λ x. x.whole ≡ true → x.found.refused ≡ false → NeverRefused workload.now) }
+    ensures states { IfOk result (λ x. x.states ≤ most_states) }
+    ensures memory { OnErr result GrowthRefused }
+{
+    let scripts = scripts_of(alloc, workload)?;
+    let searched = search(alloc, config, &scripts, most_states)?;
+    Ok(searched)
+}

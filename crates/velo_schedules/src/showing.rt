@@ -1,0 +1,177 @@
+//! What was found is replayed before it is told.
+ghost use Rattle.std.specs.Prelude.{◌≡◌, true, IsFalse, IfOk, IfSome, OnErr};
+ghost use Rattle.velo_events.specs.Refusals.{GrowthRefused};
+ghost use Rattle.velo_worker.specs.declared.ending.Ending.TheVariants.{Refused};
+ghost use Rattle.velo_worker.specs.Schedule.{Replays};
+ghost use Rattle.velo_schedules.specs.Logs.{AlwaysSerializable, NeverStuck, NeverRefused, is_for_room};
+ghost use Rattle.velo_schedules.specs.Told.{AlarmTold, StuckTold, RefusalTold, ShowsRefusal};
+
+use crate::finding::{Finding, RefusalFinding, RefusedRun};
+use std::alloc::Global;
+use velo_events::growth::reserve;
+use velo_events::{Config, Memory, Refusal, ThreadId};
+use velo_worker::{Ending, replay};
+use velo_workload::Workload;
+use velo_world::Closed;
+
+/// The replay by a schedule. One that ends for want of memory is none.
+fn replayed(
+    alloc: Global,
+    workload: &Workload,
+    schedule: &[ThreadId],
+    config: Config,
+) -> Result<(Closed, Ending), Memory>
+    requires { config.bounds ≡ workload.now.bounds }
+    ensures replays { IfOk result (λ run. Replays workload.now schedule.now config run.1 run.0) }
+    ensures memory { OnErr result GrowthRefused }
+{
+    let (closed, ending) = replay(alloc, workload, schedule, config)?;
+    match ending {
+        Ending::Refused(_, Refusal::Memory) => Err(Memory),
+        _ => Ok((closed, ending)),
+    }
+}
+
+/// What is told of alarms: that there are none, or the schedule that was found, if its replay has one.
+pub(crate) fn tell_alarm(
+    alloc: Global,
+    workload: &Workload,
+    config: Config,
+    ruled_out: bool,
+    found: Option<Vec<ThreadId>>,
+) -> Result<Finding, Memory>
+    requires bounds { config.bounds ≡ workload.now.bounds }
+    requires ruled_out { ruled_out ≡ true → AlwaysSerializable workload.now }
+    ensures told { IfOk result (AlarmTold workload.now config) }
+    ensures memory { OnErr result GrowthRefused }
+{
+    if ruled_out {
+        return Ok(Finding::Never);
+    }
+    let Some(schedule) = found else {
+        return Ok(Finding::Open);
+    };
+    let (closed, _) = replayed(alloc, workload, &schedule, config)?;
+    if closed.alarm().is_some() {
+        Ok(Finding::Shown(schedule))
+    } else {
+        Ok(Finding::Open)
+    }
+}
+
+/// What is told of deadlocks: that there are none, or the schedule that was found, if its replay is stuck.
+pub(crate) fn tell_stuck(
+    alloc: Global,
+    workload: &Workload,
+    config: Config,
+    ruled_out: bool,
+    found: Option<Vec<ThreadId>>,
+) -> Result<Finding, Memory>
+    requires bounds { config.bounds ≡ workload.now.bounds }
+    requires ruled_out { ruled_out ≡ true → NeverStuck workload.now }
+    ensures told { IfOk result (StuckTold workload.now config) }
+    ensures memory { OnErr result GrowthRefused }
+{
+    if ruled_out {
+        return Ok(Finding::Never);
+    }
+    let Some(schedule) = found else {
+        return Ok(Finding::Open);
+    };
+    let (_, ending) = replayed(alloc, workload, &schedule, config)?;
+    match ending {
+        Ending::Stuck => Ok(Finding::Shown(schedule)),
+        _ => Ok(Finding::Open),
+    }
+}
+
+/// The thread that was refused, and why, where a run ended so and not for want of room.
+fn lasting_refusal(ending: Ending) -> Option<(ThreadId, Refusal)>
+    ensures ending { IfSome result (λ last. ending ≡ Refused last.0 last.1) }
+    ensures lasting { IfSome result (λ last. IsFalse (is_for_room last.1)) }
+{
+    match ending {
+        Ending::Refused(thread, refusal) if !is_for_room(refusal) => Some((thread, refusal)),
+        _ => None,
+    }
+}
+
+/// Whether a refusal is for want of room.
+fn is_for_room(refusal: Refusal) -> bool
+    ensures { result ≡ is_for_room refusal }
+{
+    matches!(
+        refusal,
+        Refusal::LogFull | Refusal::Memory | Refusal::GraphFull
+    )
+}
+
+/// The schedule, and a turn of the thread behind it.
+fn with_turn(
+    alloc: Global,
+    schedule: &[ThreadId],
+    thread: ThreadId,
+) -> Result<Vec<ThreadId>, Memory>
+    ensures memory { OnErr result GrowthRefused }
+{
+    let mut longer = Vec::new(alloc);
+    for turn in schedule {
+        reserve(&mut longer, 1)?;
+        longer.push_reserved(*turn);
+    }
+    reserve(&mut longer, 1)?;
+    longer.push_reserved(thread);
+    Ok(longer)
+}
+
+/// The replay by the schedule and then a turn of the thread, if it ends as a thread is refused, and not for want of room.
+fn refused_run(
+    alloc: Global,
+    workload: &Workload,
+    config: Config,
+    schedule: &[ThreadId],
+    thread: ThreadId,
+) -> Result<Option<RefusedRun>, Memory>
+    requires { config.bounds ≡ workload.now.bounds }
+    ensures shows { IfOk result (λ run. IfSome run (ShowsRefusal workload.now config)) }
+    ensures memory { OnErr result GrowthRefused }
+{
+    let schedule = with_turn(alloc, schedule, thread)?;
+    let (_, ending) = replayed(alloc, workload, &schedule, config)?;
+    match lasting_refusal(ending) {
+        Some((thread, refusal)) => Ok(Some(RefusedRun {
+            schedule,
+            thread,
+            refusal,
+        })),
+        None => Ok(None),
+    }
+}
+
+/// What is told of refusals: that there are none, or the schedule that was found and a turn of the thread that is refused
+/// then, if its replay ends so.
+pub(crate) fn tell_refused(
+    alloc: Global,
+    workload: &Workload,
+    config: Config,
+    ruled_out: bool,
+    found: Option<Vec<ThreadId>>,
+) -> Result<RefusalFinding, Memory>
+    requires bounds { config.bounds ≡ workload.now.bounds }
+    requires ruled_out { ruled_out ≡ true → NeverRefused workload.now }
+    ensures told { IfOk result (RefusalTold workload.now config) }
+    ensures memory { OnErr result GrowthRefused }
+{
+    if ruled_out {
+        return Ok(RefusalFinding::Never);
+    }
+    let Some(schedule) = found else {
+        return Ok(RefusalFinding::Open);
+    };
+    for thread in 0..workload.bounds().threads {
+        if let Some(run) = refused_run(alloc, workload, config, &schedule, ThreadId(thread))? {
+            return Ok(RefusalFinding::Shown(run));
+        }
+    }
+    Ok(RefusalFinding::Open)
+}
