@@ -31,7 +31,7 @@ struct Told {
     refused: Known,
 }
 
-fn known(finding: &Finding) -> Known {
+fn known_of(finding: &Finding) -> Known {
     match finding {
         Finding::Shown(_) => Known::Shown,
         Finding::Never => Known::Never,
@@ -47,11 +47,11 @@ fn known_refusal(finding: &RefusalFinding) -> Known {
     }
 }
 
-fn told(exploration: &Exploration) -> Told {
+fn told_of(exploration: &Exploration) -> Told {
     Told {
         states: exploration.states,
-        alarm: known(&exploration.alarm),
-        stuck: known(&exploration.stuck),
+        alarm: known_of(&exploration.alarm),
+        stuck: known_of(&exploration.stuck),
         refused: known_refusal(&exploration.refused),
     }
 }
@@ -60,7 +60,7 @@ fn explored(alloc: Global, text: &str, most_states: u64) -> Option<Told> {
     let workload = parse(alloc, text).ok()?;
     let config = Config::new(1, workload.bounds(), 10_000, 64, false).ok()?;
     let exploration = explore(alloc, &workload, most_states, config).ok()?;
-    Some(told(&exploration))
+    Some(told_of(&exploration))
 }
 
 static ROWS: [Row<'static>; 14] = [
