@@ -1,0 +1,76 @@
+-- A watch on its way, and what its next step comes to.
+use Rattle.std.specs.Prelude.{◌≡◌, ℕ, ◌+◌, [], ◌∷◌, ◌++◌, Bool, true, false, List, length, Option, IfSome, Result, Ok, Err}
+use Rattle.std.specs.Io.KnownBytes.{Appends}
+use Rattle.velo_events.specs.declared.event.Event.{Event}
+use Rattle.velo_events.specs.declared.limits.TheConstants.{MOST_EVENTS}
+use Rattle.velo_events.specs.Graph.{HasCycle}
+use Rattle.velo_events.specs.Refusals.{GrowthRefused}
+use Rattle.velo_logtext.specs.Device.{AppendsBeginning, with_failure}
+use Rattle.velo_logtext.specs.Finding.{ReadsAs}
+use Rattle.velo_logtext.specs.Reader.{HasGiven}
+use Rattle.velo_logtext.specs.declared.fault.LogFault.TheVariants.{Read}
+use Rattle.velo_logtext.specs.Text.{IsLogText}
+use Rattle.velo_world.specs.declared.analysis.Alarm.{Alarm}
+use Rattle.velo_world.specs.declared.log_replay.LogReplayFault.TheVariants.{Memory}
+use Rattle.velo_world.specs.Faults.{IsFaultOfLog}
+use Rattle.velo_world.specs.World.{WorldState, IsAlarm, CompletesShares, HoldsLiveShares}
+use Rattle.velo_report.specs.Alarm.{alarm_line}
+use Rattle.velo_watch.specs.declared.state.Watch.{Watch}
+use Rattle.velo_watch.specs.declared.fault.WatchFault.{WatchFault}
+use Rattle.velo_watch.specs.declared.fault.WatchFault.TheVariants.{Log, Replay, Write}
+use Rattle.velo_watch.specs.Watch.{IsFront, Tells}
+
+-- whether the alarm of these events was told, by which the output grew: without an alarm nothing was
+abbrev pub HasTold : Bool → Option (List ℕ) → Option (List ℕ) → List Event → Type 0
+HasTold false old new log = (¬ HasCycle log) × Appends old new []
+HasTold true old new log = (alarm : Alarm) × IsAlarm log alarm × Appends old new (alarm_line alarm)
+
+-- a beginning of the alarm's line went out
+abbrev pub TellsPart : Option (List ℕ) → Option (List ℕ) → List Event → Type 0
+TellsPart old new log = (alarm : Alarm) × IsAlarm log alarm × AppendsBeginning old new (alarm_line alarm)
+
+-- nobody has halted the world, and it goes on after an alarm; the shares of the threads that were born stand at their places
+pub record CanGoOn (watch : Watch) : Type 0 where
+  pub live : watch.world.halted ≡ false
+  pub goes_on : watch.world.config.stop ≡ false
+  pub ready : HoldsLiveShares watch.world watch.shares
+  pub complete : CompletesShares watch.world watch.shares
+
+-- of the input, the events of the world were given; and the output grew by what is told of them
+pub record IsUnderWay (read remaining old new : Option (List ℕ)) (watch : Watch) : Type 0 where
+  pub given : HasGiven read watch.world.log watch.reader remaining
+  pub bounds : watch.world.config.bounds ≡ watch.reader.bounds
+  pub told : HasTold watch.told old new watch.world.log
+
+-- why there is no next event behind the log of the world, whose alarm is told
+abbrev pub FailsAfter : Option (List ℕ) → Option (List ℕ) → Option (List ℕ) → WorldState → WatchFault → Type 0
+FailsAfter read old new w (Log fault) = Tells old new w.log × IfSome read (λ bytes. ReadsAs MOST_EVENTS bytes (Err fault))
+FailsAfter read old new w (Replay fault) =
+    Tells old new w.log × ((e : Event) × IsFront read w.config.bounds (w.log ++ e ∷ []) × IsFaultOfLog w.config (w.log ++ e ∷ []) fault)
+FailsAfter read old new w Write = (e : Event) × TellsPart old new (w.log ++ e ∷ [])
+
+-- the next event came about, and its alarm is told; or the input is at its end, and is the log of the world; or neither
+abbrev pub Steps : Option (List ℕ) → Option (List ℕ) → Watch → Result Bool WatchFault → Watch → Option (List ℕ) → Option (List ℕ) → Type 0
+Steps read old watch (Ok true) watch' remaining new =
+    IsUnderWay read remaining old new watch' × ((e : Event) × (watch'.world.log ≡ watch.world.log ++ e ∷ []))
+Steps read old watch (Ok false) watch' remaining new =
+    (watch'.world ≡ watch.world) × HasTold watch'.told old new watch'.world.log × IfSome read (λ bytes. IsLogText bytes watch'.world.config.bounds watch'.world.log)
+Steps read old watch (Err fault) watch' remaining new = FailsAfter read old new watch.world fault
+
+-- why there is no watch: the header, or a growth that was refused
+abbrev pub IsFaultOfOpening : Option (List ℕ) → WatchFault → Type 0
+IsFaultOfOpening read (Log fault) = IfSome read (λ bytes. ReadsAs MOST_EVENTS bytes (Err fault))
+IsFaultOfOpening read (Replay Memory) = GrowthRefused
+IsFaultOfOpening read _ = ⊥
+
+-- the source's count of failures after a call: one more exactly where it failed
+abbrev pub read_failures : {X : Type 0} → Result X WatchFault → ℕ → ℕ
+read_failures (Err (Log Read)) failures = with_failure failures
+read_failures (Ok x) failures = failures
+read_failures (Err fault) failures = failures
+
+-- the sink's
+abbrev pub write_failures : {X : Type 0} → Result X WatchFault → ℕ → ℕ
+write_failures (Err Write) failures = with_failure failures
+write_failures (Ok x) failures = failures
+write_failures (Err fault) failures = failures

@@ -1,0 +1,144 @@
+//! A log that is watched as it comes, event by event.
+ghost use Rattle.std.specs.Prelude.{◌≡◌, ◌≤◌, List, ℕ, false, [], Option, IfOk, IfErr, OnOk, OnErr};
+ghost use Rattle.velo_events.specs.declared.limits.TheConstants.{MOST_EVENTS, MOST_NODES};
+ghost use Rattle.velo_logtext.specs.Device.{with_failure};
+ghost use Rattle.velo_logtext.specs.Reader.{HasWholeLine};
+ghost use Rattle.velo_logtext.specs.Text.{AreBounds};
+ghost use Rattle.velo_watch.specs.declared.fault.WatchFault.TheVariants as watch_fault;
+ghost use Rattle.velo_watch.specs.UnderWay.{HasTold, TellsPart, CanGoOn, IsUnderWay, IsFaultOfOpening, Steps, read_failures, write_failures};
+
+use crate::fault::WatchFault;
+use crate::state::Watch;
+use std::alloc::Global;
+use velo_events::{Bounds, Config};
+use velo_logtext::{LogReader, Sink, Source, WriteFault};
+use velo_report::alarm_line;
+use velo_traces::Trace;
+use velo_world::{Closed, LogReplayFault, World};
+
+impl Watch {
+    /// Reads the header of a log, and opens its world, without events. The limits are the most events that the log may have
+    /// and the most nodes that the graph may have at one time.
+    ///
+    /// # Errors
+    /// `Log` where the header is wrong or could not be read, and where a growth for the reader was refused; `Replay` with
+    /// `Memory` where a growth for the world was refused.
+    pub fn open<I: Source>(
+        alloc: Global,
+        source: &mut I,
+        events: u32,
+        nodes: u16,
+    ) -> Result<Watch, WatchFault>
+        requires events { (1 ≤ events) × (events ≤ MOST_EVENTS) }
+        requires nodes { (1 ≤ nodes) × (nodes ≤ MOST_NODES) }
+        ensures ok { IfOk result (λ watch. (contents : Option (List ℕ)) → IsUnderWay (I.remaining source.old) (I.remaining source.new) contents contents watch) }
+        ensures goes_on { IfOk result CanGoOn }
+        ensures no_events { IfOk result (λ watch. watch.world.log ≡ []) }
+        ensures events { IfOk result (λ watch. watch.world.config.events ≡ events) }
+        ensures nodes { IfOk result (λ watch. watch.world.config.nodes ≡ nodes) }
+        ensures fault { IfErr result (IsFaultOfOpening (I.remaining source.old)) }
+        ensures reads { I.failures source.new ≡ read_failures result (I.failures source.old) }
+    {
+        let reader = match LogReader::open(alloc, source) {
+            Ok(reader) => reader,
+            Err(fault) => return Err(WatchFault::Log(fault)),
+        };
+        let config = config_of(reader.bounds(), events, nodes);
+        let (world, shares) = match World::from_log(alloc, config, Trace::new(alloc)) {
+            Ok(opened) => opened,
+            Err(LogReplayFault::Memory) => return Err(WatchFault::Replay(LogReplayFault::Memory)),
+            Err(_) => unreachable!(),
+        };
+        Ok(Watch {
+            reader,
+            world,
+            shares,
+            told: false,
+        })
+    }
+
+    /// Lets the next event of the log come about, and tells the alarm if it raises one, before anything behind it is read.
+    /// Without a next event the answer is false.
+    ///
+    /// # Errors
+    /// `Log` for the first wrong line, or where the source failed; `Replay` where the next event can't come about; `Write`
+    /// where the sink failed. An alarm before it was told.
+    pub fn step<I: Source, O: Sink>(
+        &mut self,
+        source: &mut I,
+        sink: &mut O,
+    ) -> Result<bool, WatchFault>
+        requires { CanGoOn self.old }
+        ensures goes_on { CanGoOn self.new }
+        ensures steps { (read old : Option (List ℕ)) → IsUnderWay read (I.remaining source.old) old (O.contents sink.old) self.old → Steps read old self.old result self.new (I.remaining source.new) (O.contents sink.new) }
+        ensures config { OnOk result (self.new.world.config ≡ self.old.world.config) }
+        ensures unread { HasWholeLine self.old.reader.held → source.new ≡ source.old }
+        ensures reads { I.failures source.new ≡ read_failures result (I.failures source.old) }
+        ensures writes { O.failures sink.new ≡ write_failures result (O.failures sink.old) }
+    {
+        let event = match self.reader.next(source) {
+            Ok(Some(event)) => event,
+            Ok(None) => return Ok(false),
+            Err(fault) => return Err(WatchFault::Log(fault)),
+        };
+        match self.world.replay(&mut self.shares, &event) {
+            Ok(_) => {}
+            Err(fault) => return Err(WatchFault::Replay(fault)),
+        }
+        if !self.told {
+            self.told = tell(&self.world, sink)?;
+        }
+        Ok(true)
+    }
+
+    /// Whether an alarm was told.
+    pub fn has_told(&self) -> bool
+        ensures { result ≡ self.now.told }
+    {
+        self.told
+    }
+
+    /// The world of the events so far, after its end.
+    pub fn close(self) -> Closed
+        requires { CanGoOn self }
+        ensures { result ≡ self.world }
+    {
+        match self.world.close(self.shares) {
+            Ok(closed) => closed,
+            Err(_) => unreachable!(),
+        }
+    }
+}
+
+/// The configuration of a watch, which goes on after an alarm.
+fn config_of(bounds: Bounds, events: u32, nodes: u16) -> Config
+    requires bounds { AreBounds bounds }
+    requires events { (1 ≤ events) × (events ≤ MOST_EVENTS) }
+    requires nodes { (1 ≤ nodes) × (nodes ≤ MOST_NODES) }
+    ensures bounds { result.bounds ≡ bounds }
+    ensures events { result.events ≡ events }
+    ensures nodes { result.nodes ≡ nodes }
+    ensures goes_on { result.stop ≡ false }
+{
+    match Config::new(0, bounds, events, nodes, false) {
+        Ok(config) => config,
+        Err(_) => unreachable!(),
+    }
+}
+
+/// Tells the alarm of a world, if there is one, and answers whether there is.
+fn tell<O: Sink>(world: &World, sink: &mut O) -> Result<bool, WatchFault>
+    ensures ok { IfOk result (λ told. HasTold told (O.contents sink.old) (O.contents sink.new) world.now.log) }
+    ensures err { IfErr result (λ fault. fault ≡ watch_fault.Write) }
+    ensures part { OnErr result (TellsPart (O.contents sink.old) (O.contents sink.new) world.now.log) }
+    ensures no_failure { OnOk result (O.failures sink.new ≡ O.failures sink.old) }
+    ensures failure { OnErr result (O.failures sink.new ≡ with_failure (O.failures sink.old)) }
+{
+    match world.alarm() {
+        None => Ok(false),
+        Some(alarm) => match alarm_line(alarm, sink) {
+            Ok(()) => Ok(true),
+            Err(WriteFault) => Err(WatchFault::Write),
+        },
+    }
+}
