@@ -143,36 +143,36 @@ front_finds bytes events r remaining h none room (b ∷ bs) ended true held-is e
 front_finds bytes events r remaining h none room (b ∷ bs) true false held-is ended-is whole-is = cut_stands bytes events r remaining h room (omega (arith, ap length held-is)) whole-is ended-is
 front_finds bytes events r remaining h none room (b ∷ bs) false false held-is ended-is whole-is = tt
 
-front_takes : (r : ReaderState) (line : ℕ) (held : List ℕ) (ended whole : Bool) → r.held ≡ held → r.ended ≡ ended → is_whole r.held ≡ whole → Takes r (judged held ended whole line) r
+front_takes : (r : ReaderState) (held : List ℕ) (ended whole : Bool) → r.held ≡ held → r.ended ≡ ended → is_whole r.held ≡ whole → Takes r (judged held ended whole (r.given + 2)) r
 unfolding judged
-front_takes r line [] true whole held-is ended-is whole-is = refl
-front_takes r line [] false whole held-is ended-is whole-is = (refl, ended-is, ap is_whole held-is)
-front_takes r line (b ∷ bs) ended true held-is ended-is whole-is = (refl, tt)
-front_takes r line (b ∷ bs) true false held-is ended-is whole-is = (refl, tt)
-front_takes r line (b ∷ bs) false false held-is ended-is whole-is = (refl, ended-is, whole-is)
+front_takes r [] true whole held-is ended-is whole-is = refl
+front_takes r [] false whole held-is ended-is whole-is = (refl, ended-is, ap is_whole held-is)
+front_takes r (b ∷ bs) ended true held-is ended-is whole-is = (refl, tt, refl)
+front_takes r (b ∷ bs) true false held-is ended-is whole-is = (refl, tt, refl)
+front_takes r (b ∷ bs) false false held-is ended-is whole-is = (refl, ended-is, whole-is)
 
 pub finds_front : (bytes : Option (List ℕ)) (events : List Event) (r : ReaderState) (remaining : Option (List ℕ)) → HasGiven bytes events r remaining → event_in r.shares r.held ≡ None → r.given < MOST_EVENTS → Finds bytes events (judged_front r.held r.ended (r.given + 2)) r remaining
 finds_front bytes events r remaining h none room =
     subst (λ (f : Result Front LogFault). Finds bytes events f r remaining) (judged_is r.held r.ended (r.given + 2)) (front_finds bytes events r remaining h none room r.held r.ended (is_whole r.held) refl refl refl)
 
-pub takes_front : (r : ReaderState) (line : ℕ) → Takes r (judged_front r.held r.ended line) r
-takes_front r line = subst (λ (f : Result Front LogFault). Takes r f r) (judged_is r.held r.ended line) (front_takes r line r.held r.ended (is_whole r.held) refl refl refl)
+pub takes_front : (r : ReaderState) → Takes r (judged_front r.held r.ended (r.given + 2)) r
+takes_front r = subst (λ (f : Result Front LogFault). Takes r f r) (judged_is r.held r.ended (r.given + 2)) (front_takes r r.held r.ended (is_whole r.held) refl refl refl)
 
 full_finds : (bytes : Option (List ℕ)) (events : List Event) (r : ReaderState) (remaining : Option (List ℕ)) → HasGiven bytes events r remaining → r.given ≡ MOST_EVENTS → (held : List ℕ) (ended : Bool) → r.held ≡ held → r.ended ≡ ended → Finds bytes events (judged_full held ended) r remaining
 full_finds bytes events r remaining h full [] true held-is ended-is = end_stands bytes events r remaining h held-is ended-is
 full_finds bytes events r remaining h full [] false held-is ended-is = tt
 full_finds bytes events r remaining h full (b ∷ bs) ended held-is ended-is = too_long_stands bytes events r remaining h (omega (arith, ap length held-is)) full
 
-full_takes : (r : ReaderState) (held : List ℕ) (ended : Bool) → r.held ≡ held → r.ended ≡ ended → Takes r (judged_full held ended) r
-full_takes r [] true held-is ended-is = refl
-full_takes r [] false held-is ended-is = (refl, ended-is, ap is_whole held-is)
-full_takes r (b ∷ bs) ended held-is ended-is = (refl, tt)
+full_takes : (r : ReaderState) (held : List ℕ) (ended : Bool) → r.given ≡ MOST_EVENTS → r.held ≡ held → r.ended ≡ ended → Takes r (judged_full held ended) r
+full_takes r [] true full held-is ended-is = refl
+full_takes r [] false full held-is ended-is = (refl, ended-is, ap is_whole held-is)
+full_takes r (b ∷ bs) ended full held-is ended-is = (refl, tt, full)
 
 pub finds_full : (bytes : Option (List ℕ)) (events : List Event) (r : ReaderState) (remaining : Option (List ℕ)) → HasGiven bytes events r remaining → r.given ≡ MOST_EVENTS → Finds bytes events (judged_full r.held r.ended) r remaining
 finds_full bytes events r remaining h full = full_finds bytes events r remaining h full r.held r.ended refl refl
 
-pub takes_full : (r : ReaderState) → Takes r (judged_full r.held r.ended) r
-takes_full r = full_takes r r.held r.ended refl refl
+pub takes_full : (r : ReaderState) → r.given ≡ MOST_EVENTS → Takes r (judged_full r.held r.ended) r
+takes_full r full = full_takes r r.held r.ended full refl refl
 
 -- ---- faults
 

@@ -8,7 +8,7 @@ use Rattle.velo_logtext.specs.declared.fault.LogFault.TheVariants.{BadLine, Trun
 use Rattle.velo_logtext.specs.declared.reader.Front.{Front}
 use Rattle.velo_logtext.specs.declared.reader.Front.TheVariants.{Line, Open, End}
 use Rattle.velo_logtext.specs.Finding.{Stands}
-use Rattle.velo_logtext.specs.Reader.{ReaderState, HasGiven}
+use Rattle.velo_logtext.specs.Reader.{ReaderState, HasGiven, IsMetBehind}
 
 -- bytes that were read and not taken yet, and whether the source has told its end
 pub record Window : Type 0 where
@@ -41,7 +41,7 @@ abbrev pub Takes : ReaderState → Result Front LogFault → ReaderState → Typ
 Takes old (Ok (Line e)) new = new.bounds ≡ old.bounds
 Takes old (Ok End) new = new ≡ old
 Takes old (Ok Open) new = (new ≡ old) × (old.ended ≡ false) × (is_whole old.held ≡ false)
-Takes old (Err fault) new = (new ≡ old) × IsOfText fault
+Takes old (Err fault) new = (new ≡ old) × IsOfText fault × IsMetBehind old.given fault
 
 -- and what it says of the bytes, of which these events were given
 abbrev pub Finds : Option (List ℕ) → List Event → Result Front LogFault → ReaderState → Option (List ℕ) → Type 0

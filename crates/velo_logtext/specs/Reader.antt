@@ -1,10 +1,12 @@
 -- A reader that gives the events of a log one by one, as their lines come.
-use Rattle.std.specs.Prelude.{◌≡◌, ℕ, ◌≤◌, ◌<◌, ◌⊎◌, Bool, List, [], ◌∷◌, ◌++◌, length, Contains, IfSome, IsTrue, Option, Some, None, Result, Ok, Err}
+use Rattle.std.specs.Prelude.{◌≡◌, ℕ, ◌+◌, ◌≤◌, ◌<◌, ◌⊎◌, Bool, List, [], ◌∷◌, ◌++◌, length, Contains, IfSome, IsTrue, Option, Some, None, Result, Ok, Err}
 use Rattle.std.specs.Io.KnownBytes.{Keeps, prepend_known, IsAtEnd}
 use Rattle.velo_events.specs.declared.config.Bounds.{Bounds}
 use Rattle.velo_events.specs.declared.event.Event.{Event}
 use Rattle.velo_events.specs.declared.limits.TheConstants.{MOST_EVENTS}
+use Rattle.velo_events.specs.Refusals.{GrowthRefused}
 use Rattle.velo_logtext.specs.declared.fault.LogFault.{LogFault}
+use Rattle.velo_logtext.specs.declared.fault.LogFault.TheVariants.{BadHeader, BadLine, Truncated, TooLong, Read, Memory}
 use Rattle.velo_logtext.specs.Text.{AreBounds, AreEventsIn, text_in}
 use Rattle.velo_logtext.specs.Finding.{Stands, ReadsAs}
 
@@ -39,3 +41,18 @@ Gives bytes events (Err fault) reader remaining = IfSome bytes (λ all. ReadsAs 
 -- a newline stands in the bytes, or they are more than a line may have
 abbrev pub HasWholeLine : List ℕ → Type 0
 HasWholeLine held = Contains held 10 ⊎ (64 < length held)
+
+-- where a fault is met: in the header
+abbrev pub IsMetInHeader : LogFault → Type 0
+IsMetInHeader BadHeader = Unit {0}
+IsMetInHeader Read = Unit {0}
+IsMetInHeader Memory = GrowthRefused
+IsMetInHeader _ = ⊥
+
+-- or behind so many events, in the line that comes next; no memory is asked for there
+abbrev pub IsMetBehind : ℕ → LogFault → Type 0
+IsMetBehind given (BadLine n) = n ≡ given + 2
+IsMetBehind given (Truncated n) = n ≡ given + 2
+IsMetBehind given TooLong = given ≡ MOST_EVENTS
+IsMetBehind given Read = Unit {0}
+IsMetBehind given _ = ⊥

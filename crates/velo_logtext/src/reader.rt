@@ -7,7 +7,7 @@ ghost use Rattle.velo_events.specs.declared.limits.TheConstants.{MOST_EVENTS};
 ghost use Rattle.velo_logtext.specs.declared.fault.LogFault.TheVariants as log_fault;
 ghost use Rattle.velo_logtext.specs.Device.{with_failure};
 ghost use Rattle.velo_logtext.specs.Finding.{ReadsAs, failures_after};
-ghost use Rattle.velo_logtext.specs.Reader.{HasGiven, Gives, HasWholeLine};
+ghost use Rattle.velo_logtext.specs.Reader.{HasGiven, Gives, HasWholeLine, IsMetBehind, IsMetInHeader};
 ghost use Rattle.velo_logtext.specs.Front.{is_whole, judged_front, judged_full, Takes, Finds};
 
 use crate::device::{Failed, Source};
@@ -201,6 +201,7 @@ impl LogReader {
         ensures fault { IfErr result (λ fault. IfSome (S.remaining source.old) (λ bytes. ReadsAs MOST_EVENTS bytes (Err fault))) }
         ensures failures { S.failures source.new ≡ failures_after result (S.failures source.old) }
         ensures memory { result ≡ Err log_fault.Memory → GrowthRefused }
+        ensures place { IfErr result IsMetInHeader }
     {
         let mut window = Window::new(alloc)?;
         loop {
@@ -231,12 +232,14 @@ impl LogReader {
     /// The next event, or none at the end of the log. Nothing is read from the source while a whole line is at hand.
     ///
     /// # Errors
-    /// `BadLine`, `Truncated` or `TooLong` for the first line that is wrong; `Read` only where the source failed in this call.
+    /// `BadLine`, `Truncated` or `TooLong` for the first line that is wrong, which is the next one; `Read` only where the source
+    /// failed in this call.
     pub fn next<S: Source>(&mut self, source: &mut S) -> Result<Option<Event>, LogFault>
         ensures gives { (bytes : Option (List ℕ)) (events : List EventOf) → HasGiven bytes events self.old (S.remaining source.old) → Gives bytes events result self.new (S.remaining source.new) }
         ensures bounds { self.new.bounds ≡ self.old.bounds }
         ensures unread { HasWholeLine self.old.held → source.new ≡ source.old }
         ensures failures { S.failures source.new ≡ failures_after result (S.failures source.old) }
+        ensures place { IfErr result (IsMetBehind self.old.given) }
     {
         loop {
             match self.take_front() {

@@ -39,7 +39,7 @@ returns-in-None c =
     let room : r.given < MOST_EVENTS = omega (arith, c.if-self.false, c.self.invariant) in
     let is : judged_front held r.window.ended (r.given + 2) ≡ c.judge_front.result = sym (c.judge_front.ensures ∙ rw (c.bytes-held.ensures, c.is_ended-in-None.ensures) refl) in
     record {
-      takes = subst (λ (x : ReaderState). Takes x c.judge_front.result x) c.self.view_is (subst (λ f. Takes v f v) is (takes_front v (r.given + 2)));
+      takes = subst (λ (x : ReaderState). Takes x c.judge_front.result x) c.self.view_is (subst (λ f. Takes v f v) is (takes_front v));
       finds = λ bytes remaining events h.
           let old = subst (λ (x : ReaderState). HasGiven bytes events x remaining) (sym c.self.view_is) h in
           subst (λ (x : ReaderState). Finds bytes events c.judge_front.result x remaining) c.self.view_is (subst (λ f. Finds bytes events f v remaining) is (finds_front bytes events v remaining old none room));
