@@ -1,11 +1,12 @@
 -- What a watch has told, event by event.
-use Rattle.std.proofs.Common.{◌≡◌, ℕ, ◌<◌, Bool, true, false, List, [], ◌∷◌, ◌++◌, Option, Some, None, Result, Ok, Err, refl, sym, ap, ◌∙◌, subst, append_assoc, arith}
+use Rattle.std.proofs.Common.{◌≡◌, ℕ, ◌<◌, ◌≤◌, length, Bool, true, false, List, [], ◌∷◌, ◌++◌, Option, Some, None, Result, Ok, Err, refl, sym, ap, ◌∙◌, subst, append_assoc, arith}
 use Rattle.std.proofs.lemmas.List.{append-nil}
 use Rattle.std.specs.Io.KnownBytes.{Appends}
 use Rattle.velo_events.specs.declared.config.Config.{Config}
 use Rattle.velo_events.specs.declared.config.Bounds.{Bounds}
 use Rattle.velo_events.specs.declared.event.Event.{Event}
 use Rattle.velo_events.specs.Graph.{Edge, IsCycle, HasCycle}
+use Rattle.velo_events.specs.WellFormed.{IsWellFormed}
 use Rattle.velo_logtext.specs.declared.fault.LogFault.{LogFault}
 use Rattle.velo_logtext.specs.declared.fault.LogFault.TheVariants.{BadHeader, BadLine, Truncated, TooLong, Read, Memory}
 use Rattle.velo_logtext.specs.Finding.{failures_after}
@@ -17,7 +18,8 @@ use Rattle.velo_report.specs.Alarm.{alarm_line}
 use Rattle.velo_watch.specs.declared.state.Watch.{Watch}
 use Rattle.velo_watch.specs.declared.fault.WatchFault.{WatchFault}
 use Rattle.velo_watch.specs.declared.fault.WatchFault.TheVariants.{Log, Replay, Write}
-use Rattle.velo_watch.specs.UnderWay.{HasTold, TellsPart, IsUnderWay, FailsAfter, Steps, read_failures}
+use Rattle.velo_watch.specs.UnderWay.{CameAbout, HasTold, TellsPart, IsUnderWay, FailsAfter, FailsToTell, Steps, read_failures}
+use Rattle.velo_world.specs.World.{WorldState}
 use Rattle.velo_watch.specs.Watch.{IsFront, Tells}
 
 -- ---- no events
@@ -93,10 +95,27 @@ part_then : (old between new : Option (List ℕ)) (log log' : List Event) → Ha
 part_then old between new log log' p q =
     (q.0, q.1, beginning_then old between new [] (alarm_line q.0) [] (alarm_line q.0) p.1 q.2 (sym (append-nil (alarm_line q.0))))
 
-pub fails_writing : (read remaining remaining' old between new : Option (List ℕ)) (watch watch' : Watch) (r : Result Bool WatchFault) (log : List Event) (e : Event) → r ≡ Err Write → IsUnderWay read remaining old between watch → watch.told ≡ false → log ≡ watch.world.log ++ e ∷ [] → TellsPart between new log → Steps read old watch r watch' remaining' new
-fails_writing read remaining remaining' old between new watch watch' r log e fails h untold is part =
-    let all : FailsAfter read old new watch.world Write =
-    (e, subst (λ (l : List Event). TellsPart old new l) is (part_then old between new watch.world.log log (subst (λ (t : Bool). HasTold t old between watch.world.log) untold h.told) part)) in
+-- the event came about with those before it
+pub came_next : (w w' : WorldState) (e : Event) → w'.config ≡ w.config → w'.log ≡ w.log ++ e ∷ [] → CameAbout w' → CameAbout (record w { log = w.log ++ e ∷ [] })
+came_next w w' e config is came =
+    record {
+      well_formed = subst (λ (c : Config). IsWellFormed c.bounds (w.log ++ e ∷ [])) config (subst (λ (l : List Event). IsWellFormed w'.config.bounds l) is came.well_formed);
+      room = subst (λ (c : Config). length (w.log ++ e ∷ []) ≤ c.events) config (subst (λ (l : List Event). length l ≤ w'.config.events) is came.room);
+    }
+
+pub fails_writing : (read remaining remaining' old between new : Option (List ℕ)) (watch watch' : Watch) (r : Result Bool WatchFault) (w : WorldState) (e : Event) → r ≡ Err Write → IsUnderWay read remaining old between watch
+    → IsFront read watch.world.config.bounds (watch.world.log ++ e ∷ []) → watch.told ≡ false → w.config ≡ watch.world.config → w.log ≡ watch.world.log ++ e ∷ [] → CameAbout w → TellsPart between new w.log → Steps read old watch r watch' remaining' new
+fails_writing read remaining remaining' old between new watch watch' r w e fails h front untold config is came part =
+    let before : HasTold false old between watch.world.log = subst (λ (t : Bool). HasTold t old between watch.world.log) untold h.told in
+    let all : FailsAfter read old new watch.world Write = (
+      e,
+      record {
+        front = front;
+        came = came_next watch.world w e config is came;
+        no_cycle = before.0;
+        part = subst (λ (l : List Event). TellsPart old new l) is (part_then old between new watch.world.log w.log before part);
+      },
+    ) in
     subst (λ (x : Result Bool WatchFault). Steps read old watch x watch' remaining' new) (sym fails) all
 
 -- ---- failures

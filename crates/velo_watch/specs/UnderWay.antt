@@ -1,13 +1,14 @@
 -- A watch on its way, and what its next step comes to.
-use Rattle.std.specs.Prelude.{◌≡◌, ℕ, ◌+◌, [], ◌∷◌, ◌++◌, Bool, true, false, List, length, Option, IfSome, Result, Ok, Err}
+use Rattle.std.specs.Prelude.{◌≡◌, ◌≤◌, ℕ, [], ◌∷◌, ◌++◌, Bool, true, false, List, length, Option, IfSome, Result, Ok, Err}
 use Rattle.std.specs.Io.KnownBytes.{Appends}
 use Rattle.velo_events.specs.declared.event.Event.{Event}
 use Rattle.velo_events.specs.declared.limits.TheConstants.{MOST_EVENTS}
 use Rattle.velo_events.specs.Graph.{HasCycle}
 use Rattle.velo_events.specs.Refusals.{GrowthRefused}
+use Rattle.velo_events.specs.WellFormed.{IsWellFormed}
 use Rattle.velo_logtext.specs.Device.{AppendsBeginning, with_failure}
 use Rattle.velo_logtext.specs.Finding.{ReadsAs}
-use Rattle.velo_logtext.specs.Reader.{HasGiven}
+use Rattle.velo_logtext.specs.Reader.{HasGiven, IsMetBehind, IsMetInHeader}
 use Rattle.velo_logtext.specs.declared.fault.LogFault.TheVariants.{Read}
 use Rattle.velo_logtext.specs.Text.{IsLogText}
 use Rattle.velo_world.specs.declared.analysis.Alarm.{Alarm}
@@ -42,12 +43,30 @@ pub record IsUnderWay (read remaining old new : Option (List ℕ)) (watch : Watc
   pub bounds : watch.world.config.bounds ≡ watch.reader.bounds
   pub told : HasTold watch.told old new watch.world.log
 
--- why there is no next event behind the log of the world, whose alarm is told
+-- the events of the world came about, within its limit of events
+pub record CameAbout (w : WorldState) : Type 0 where
+  pub well_formed : IsWellFormed w.config.bounds w.log
+  pub room : length w.log ≤ w.config.events
+
+-- whether one event more came about
+abbrev pub Advances : WorldState → Bool → WorldState → Type 0
+Advances w true w' = CameAbout w' × ((e : Event) × (w'.log ≡ w.log ++ e ∷ []))
+Advances w false w' = CameAbout w' × (w' ≡ w)
+
+-- the line of the alarm broke off, which the last of these events of the input raised
+pub record FailsToTell (read old new : Option (List ℕ)) (w : WorldState) (e : Event) : Type 0 where
+  pub front : IsFront read w.config.bounds (w.log ++ e ∷ [])
+  pub came : CameAbout (record w { log = w.log ++ e ∷ [] })
+  pub no_cycle : ¬ HasCycle w.log
+  pub part : TellsPart old new (w.log ++ e ∷ [])
+
+-- why there is no next event behind the log of the world, which came about and whose alarm is told
 abbrev pub FailsAfter : Option (List ℕ) → Option (List ℕ) → Option (List ℕ) → WorldState → WatchFault → Type 0
-FailsAfter read old new w (Log fault) = Tells old new w.log × IfSome read (λ bytes. ReadsAs MOST_EVENTS bytes (Err fault))
+FailsAfter read old new w (Log fault) =
+    CameAbout w × Tells old new w.log × IsMetBehind (length w.log) fault × IfSome read (λ bytes. ReadsAs MOST_EVENTS bytes (Err fault))
 FailsAfter read old new w (Replay fault) =
-    Tells old new w.log × ((e : Event) × IsFront read w.config.bounds (w.log ++ e ∷ []) × IsFaultOfLog w.config (w.log ++ e ∷ []) fault)
-FailsAfter read old new w Write = (e : Event) × TellsPart old new (w.log ++ e ∷ [])
+    CameAbout w × Tells old new w.log × ((e : Event) × IsFront read w.config.bounds (w.log ++ e ∷ []) × IsFaultOfLog w.config (w.log ++ e ∷ []) fault)
+FailsAfter read old new w Write = (e : Event) × FailsToTell read old new w e
 
 -- the next event came about, and its alarm is told; or the input is at its end, and is the log of the world; or neither
 abbrev pub Steps : Option (List ℕ) → Option (List ℕ) → Watch → Result Bool WatchFault → Watch → Option (List ℕ) → Option (List ℕ) → Type 0
@@ -59,7 +78,7 @@ Steps read old watch (Err fault) watch' remaining new = FailsAfter read old new 
 
 -- why there is no watch: the header, or a growth that was refused
 abbrev pub IsFaultOfOpening : Option (List ℕ) → WatchFault → Type 0
-IsFaultOfOpening read (Log fault) = IfSome read (λ bytes. ReadsAs MOST_EVENTS bytes (Err fault))
+IsFaultOfOpening read (Log fault) = IsMetInHeader fault × IfSome read (λ bytes. ReadsAs MOST_EVENTS bytes (Err fault))
 IsFaultOfOpening read (Replay Memory) = GrowthRefused
 IsFaultOfOpening read _ = ⊥
 

@@ -5,7 +5,7 @@ ghost use Rattle.velo_logtext.specs.Device.{with_failure};
 ghost use Rattle.velo_logtext.specs.Reader.{HasWholeLine};
 ghost use Rattle.velo_logtext.specs.Text.{AreBounds};
 ghost use Rattle.velo_watch.specs.declared.fault.WatchFault.TheVariants as watch_fault;
-ghost use Rattle.velo_watch.specs.UnderWay.{HasTold, TellsPart, CanGoOn, IsUnderWay, IsFaultOfOpening, Steps, read_failures, write_failures};
+ghost use Rattle.velo_watch.specs.UnderWay.{Advances, HasTold, TellsPart, CanGoOn, IsUnderWay, IsFaultOfOpening, Steps, read_failures, write_failures};
 
 use crate::fault::WatchFault;
 use crate::state::Watch;
@@ -34,6 +34,7 @@ impl Watch {
         ensures ok { IfOk result (λ watch. (contents : Option (List ℕ)) → IsUnderWay (I.remaining source.old) (I.remaining source.new) contents contents watch) }
         ensures goes_on { IfOk result CanGoOn }
         ensures no_events { IfOk result (λ watch. watch.world.log ≡ []) }
+        ensures untold { IfOk result (λ watch. watch.told ≡ false) }
         ensures events { IfOk result (λ watch. watch.world.config.events ≡ events) }
         ensures nodes { IfOk result (λ watch. watch.world.config.nodes ≡ nodes) }
         ensures fault { IfErr result (IsFaultOfOpening (I.remaining source.old)) }
@@ -71,11 +72,13 @@ impl Watch {
         requires { CanGoOn self.old }
         ensures goes_on { CanGoOn self.new }
         ensures steps { (read old : Option (List ℕ)) → IsUnderWay read (I.remaining source.old) old (O.contents sink.old) self.old → Steps read old self.old result self.new (I.remaining source.new) (O.contents sink.new) }
+        ensures advances { IfOk result (λ more. Advances self.old.world more self.new.world) }
         ensures config { OnOk result (self.new.world.config ≡ self.old.world.config) }
         ensures unread { HasWholeLine self.old.reader.held → source.new ≡ source.old }
         ensures reads { I.failures source.new ≡ read_failures result (I.failures source.old) }
         ensures writes { O.failures sink.new ≡ write_failures result (O.failures sink.old) }
     {
+        prove!(self.world.log().len() <= self.world.config().events as usize);
         let event = match self.reader.next(source) {
             Ok(Some(event)) => event,
             Ok(None) => return Ok(false),
@@ -85,6 +88,7 @@ impl Watch {
             Ok(_) => {}
             Err(fault) => return Err(WatchFault::Replay(fault)),
         }
+        prove!(self.world.log().len() <= self.world.config().events as usize);
         if !self.told {
             self.told = tell(&self.world, sink)?;
         }

@@ -1,17 +1,18 @@
 use Rattle.std.proofs.Common.{◌≡◌, ◌∷◌, ◌++◌, [], ◌∙◌, Bool, true, false, Ok, Err, Result, Option, Some, List, ℕ, ap, sym, subst, rules}
 use Rattle.std.proofs.lemmas.Result.{err_from_is_err_and}
 use Rattle.velo_events.specs.declared.event.Event.{Event}
-use Rattle.velo_logtext.specs.Reader.{HasGiven, Gives}
+use Rattle.velo_logtext.specs.Reader.{HasGiven, Gives, IsMetBehind}
 use Rattle.velo_watch.specs.declared.fault.WatchFault.{WatchFault}
 use Rattle.velo_watch.specs.declared.fault.WatchFault.TheVariants as watch_fault
-use Rattle.velo_watch.specs.UnderWay.{read_failures, write_failures}
+use Rattle.velo_watch.specs.UnderWay.{CameAbout, read_failures, write_failures}
 use Rattle.velo_watch.proofs.OnWatches.{tells, front_next, told_with, told_still, steps_on, fails_writing, failed_reads}
 use Rattle.velo_watch.proofs.state.Watch.step.Goals as goal
 
 pub returns-in-Err-clause-steps : goal.returns-in-Err-clause-steps
 returns-in-Err-clause-steps g c read old h =
     let w = c.args.self.now in
-    (tells w.told old _ w.world.log h.told, c.in-Err.ensures.gives read w.world.log h.given)
+    let came : CameAbout w.world = record { well_formed = c.log.ensures.well_formed; room = c.log.ensures.limit } in
+    (came, tells w.told old _ w.world.log h.told, subst (λ (n : ℕ). IsMetBehind n c.in-Err.fault) h.given.count c.in-Err.ensures.place, c.in-Err.ensures.gives read w.world.log h.given)
 
 pub returns-in-Err-replay-clause-steps : goal.returns-in-Err-replay-clause-steps
 returns-in-Err-replay-clause-steps g c read old h =
@@ -19,14 +20,21 @@ returns-in-Err-replay-clause-steps g c read old h =
     let e = c.in-Ok-Some.event in
     let given : HasGiven read (w.world.log ++ e ∷ []) c.next.new.self (g.I.Source.remaining c.next.new.source) =
     subst (λ (x : Option Event). Gives read w.world.log (Ok x) c.next.new.self (g.I.Source.remaining c.next.new.source)) c.in-Ok-Some.field-0-is (c.in-Ok-Some.ensures.gives read w.world.log h.given) in
-    (tells w.told old _ w.world.log h.told, (e, front_next read _ _ old _ w c.next.new.self e h given c.next.ensures.bounds, c.in-Err-replay.ensures.outcome.0))
+    let came : CameAbout w.world = record { well_formed = c.log.ensures.well_formed; room = c.log.ensures.limit } in
+    (came, tells w.told old _ w.world.log h.told, (e, front_next read _ _ old _ w c.next.new.self e h given c.next.ensures.bounds, c.in-Err-replay.ensures.outcome.0))
 
 pub returns-in_err-self-clause-steps : goal.returns-in_err-self-clause-steps
 returns-in_err-self-clause-steps g c read old h =
     let failed = err_from_is_err_and c.from_residual.result c.from_residual.ensures.1 in
-    let untold : c.args.self.now.told ≡ false = search rules in
-    fails_writing read _ _ old _ _ c.args.self.now (record { reader = c.next.new.self; world = c.replay.new.self; shares = c.replay.new.shares; told = c.args.self.now.told }) c.from_residual.result c.replay.new.self.log c.in-Ok-Some.event
-    (failed.1 ∙ ap (λ (f : WatchFault). Err f) (failed.2 ∙ c.in_err-self.ensures.err)) h untold c.in-Ok.ensures.outcome.1 c.in_err-self.ensures.part
+    let w = c.args.self.now in
+    let e = c.in-Ok-Some.event in
+    let given : HasGiven read (w.world.log ++ e ∷ []) c.next.new.self (g.I.Source.remaining c.next.new.source) =
+    subst (λ (x : Option Event). Gives read w.world.log (Ok x) c.next.new.self (g.I.Source.remaining c.next.new.source)) c.in-Ok-Some.field-0-is (c.in-Ok-Some.ensures.gives read w.world.log h.given) in
+    let front = front_next read _ _ old _ w c.next.new.self e h given c.next.ensures.bounds in
+    let untold : w.told ≡ false = search rules in
+    let came : CameAbout c.replay.new.self = record { well_formed = c.log-2.ensures.well_formed; room = c.log-2.ensures.limit } in
+    fails_writing read _ _ old _ _ w (record { reader = c.next.new.self; world = c.replay.new.self; shares = c.replay.new.shares; told = w.told }) c.from_residual.result c.replay.new.self e
+    (failed.1 ∙ ap (λ (f : WatchFault). Err f) (failed.2 ∙ c.in_err-self.ensures.err)) h front untold c.in-Ok.ensures.outcome.0.acts.1.config c.in-Ok.ensures.outcome.1 came c.in_err-self.ensures.part
 
 pub returns-in_ok-self-clause-steps : goal.returns-in_ok-self-clause-steps
 returns-in_ok-self-clause-steps g c read old h =
