@@ -4,4 +4,5 @@ mod OnDelivery
 mod OnExplaining
 mod OnPlaying
 mod OnSchedules
+mod OnWatching
 mod OnReading

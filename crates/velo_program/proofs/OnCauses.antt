@@ -24,6 +24,7 @@ use Rattle.velo_program.specs.declared.request.Operand.TheVariants.{File, Log}
 use Rattle.velo_program.specs.declared.request.ReplayOptions.{ReplayOptions}
 use Rattle.velo_program.specs.declared.request.RunOptions.{RunOptions}
 use Rattle.velo_program.specs.declared.request.Request.{Request}
+use Rattle.velo_program.specs.declared.request.WatchOptions.{WatchOptions}
 use Rattle.velo_program.specs.declared.request.Request.TheVariants as request
 use Rattle.velo_program.specs.declared.schedule.ScheduleFault.{ScheduleFault}
 use Rattle.velo_program.specs.declared.schedule.ScheduleFault.TheVariants as schedule_fault
@@ -36,12 +37,13 @@ use Rattle.velo_world.specs.World.{WorldState}
 use Rattle.velo_program.specs.Causes.{AnswersWithCause, CheckByGrowth, ComesByRefusal, EndsByRefusal, Growths, GrowthsAndStarts, LogByGrowth, Needs, ScheduleByGrowth}
 use Rattle.velo_program.specs.Carrying.{IsCarryAnswer, IsPut}
 use Rattle.velo_program.specs.Check.{IsCheckAnswer, IsFaultOfInput}
-use Rattle.velo_program.specs.Delivery.{Answer, IsDelivered, LacksMemory, silent}
+use Rattle.velo_program.specs.Delivery.{Answer, IsDelivered, IsPrinted, LacksMemory, silent}
 use Rattle.velo_program.specs.Disk.{Disk, IsBarred, Store}
 use Rattle.velo_program.specs.Explaining.{IsExplanation}
 use Rattle.velo_program.specs.Playing.{ByThreads, ByTurns, IsPlayAnswer, IsRunOf, IsSaidOfRun, IsUnread, Play}
 use Rattle.velo_program.specs.Program.{Does, DoesPlay}
 use Rattle.velo_program.specs.Schedule.{IsFaultOfSchedule}
+use Rattle.velo_program.specs.Watching.{EndsBehind, IsFaultOfHeader, IsWatchAnswer, Watches}
 use Rattle.velo_program.specs.Writing.{Writing}
 
 -- ---- by what it means no event is refused for want of memory
@@ -145,6 +147,10 @@ module _ (needs : Needs) where
   of_put sink answer fate.WriteFailed cause put = tt
   of_put sink answer f cause put = subst (ComesByRefusal needs) (sym put.0) cause
 
+  of_printed : (sink : Writing) (answer : Answer) (f : Fate) → HasCause answer → IsPrinted sink answer f → ComesByRefusal needs f
+  of_printed sink answer fate.WriteFailed cause put = tt
+  of_printed sink answer f cause put = subst (ComesByRefusal needs) (sym put.0) cause
+
 -- ---- by what was done
 
 of_schedule : (options : ReplayOptions) (fault : ScheduleFault) → IsFaultOfSchedule options.schedule.now fault → ScheduleByGrowth fault
@@ -162,6 +168,31 @@ played : (needs : Needs) (play : Play) (options : RunOptions) (store : Store) (s
 played needs play options store stdout f so (inl h) = unread needs store.disk File options.input.now options.target f h.0
 played needs play options store stdout f so (inr h) = of_delivered needs store options.target stdout h.1 f (of_play needs play options h.0.bytes h.1 so h.4) h.5
 
+-- of a log that was watched
+of_end_behind : (limit nodes : ℕ) (read : Option (List ℕ)) (bounds : Bounds) (log : List Event) (f : CheckFault) → EndsBehind limit nodes read bounds log f → CheckByGrowth f
+of_end_behind limit nodes read bounds log (check_fault.Log f) is = of_log f is.0.1
+of_end_behind limit nodes read bounds log (check_fault.Refused p r) is = of_refused limit nodes bounds _ p r is.2
+of_end_behind limit nodes read bounds log (check_fault.WrongValue p) is = tt
+of_end_behind limit nodes read bounds log check_fault.Write is = absurd is
+of_end_behind limit nodes read bounds log check_fault.Memory is = absurd is
+
+of_header : (read : Option (List ℕ)) (f : CheckFault) → IsFaultOfHeader read f → CheckByGrowth f
+of_header read (check_fault.Log f) is = of_log f is.0.1
+of_header read check_fault.Memory is = is
+of_header read (check_fault.Refused p r) is = absurd is
+of_header read (check_fault.WrongValue p) is = absurd is
+of_header read check_fault.Write is = absurd is
+
+of_watch_answer : (options : WatchOptions) (read : Option (List ℕ)) (answer : Answer) → IsWatchAnswer options read answer → ComesByRefusal Growths answer.fate
+of_watch_answer options read answer (inl w) = said Growths answer _ w.said tt
+of_watch_answer options read answer (inr (inl c)) =
+    said Growths answer _ c.said (⊎_elim (λ h. of_end_behind _ _ read c.bounds c.log c.fault h.1) (λ h. subst CheckByGrowth (sym h.0) h.1) c.reason)
+of_watch_answer options read answer (inr (inr u)) = said Growths answer (silent (fate.Check u.0)) u.2 (of_header read u.0 u.1)
+
+of_watch : (options : WatchOptions) (read : Option (List ℕ)) (out : Writing) (f : Fate) → Watches options read out f → ComesByRefusal Growths f
+of_watch options read out f (inl h) = of_printed Growths out h.0 f (of_watch_answer options read h.0 h.1) h.2
+of_watch options read out f (inr h) = subst (ComesByRefusal Growths) (sym h.0) tt
+
 pub of_done : (store : Store) (asked : Request) (stdout : Writing) (f : Fate) → Does store asked stdout f → AnswersWithCause asked f
 of_done store (request.Check options) stdout f (inl h) = unread Growths store.disk Log options.input.now None f h.0
 of_done store (request.Check options) stdout f (inr h) = of_delivered Growths store None stdout h.1 f (of_check Growths _ _ _ h.0.bytes h.1 tt h.4) h.5
@@ -174,5 +205,6 @@ of_done store (request.Run options) stdout f h = played GrowthsAndStarts ByThrea
 of_done store (request.Replay options) stdout f (inl bad) = subst (ComesByRefusal Growths) (sym bad.2) (of_schedule options bad.0 bad.1)
 of_done store (request.Replay options) stdout f (inr h) = played Growths (ByTurns h.0) options.run store stdout f (λ program ended w run. run.cause) h.2
 of_done store (request.Explore options) stdout f h = subst (ComesByRefusal Growths) (sym h) tt
-of_done store (request.Watch options) stdout f h = subst (ComesByRefusal Growths) (sym h) tt
+of_done store (request.Watch options) stdout f (inl h) = unread Growths store.disk Log options.input.now None f h.0
+of_done store (request.Watch options) stdout f (inr h) = of_watch options h.0.bytes stdout f h.3
 of_done store (request.Audit options) stdout f h = subst (ComesByRefusal Growths) (sym h) tt

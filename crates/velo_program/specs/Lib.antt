@@ -11,4 +11,5 @@ pub mod Program
 pub mod Reading
 pub mod Schedule
 pub mod Steps
+pub mod Watching
 pub mod Writing

@@ -18,6 +18,7 @@ use Rattle.velo_program.specs.declared.request.ReplayOptions.{ReplayOptions}
 use Rattle.velo_program.specs.declared.request.Request.{Request}
 use Rattle.velo_program.specs.declared.request.Request.TheVariants.{Audit, Carry, Check, Explain, Explore, Replay, Run, Watch}
 use Rattle.velo_program.specs.declared.request.RunOptions.{RunOptions}
+use Rattle.velo_program.specs.declared.request.WatchOptions.{WatchOptions}
 use Rattle.velo_program.specs.declared.schedule.ScheduleFault.{ScheduleFault}
 use Rattle.velo_program.specs.Carrying.{IsCarryAnswer, IsPut}
 use Rattle.velo_program.specs.Check.{IsCheckAnswer}
@@ -27,6 +28,7 @@ use Rattle.velo_program.specs.Explaining.{IsExplanation}
 use Rattle.velo_program.specs.Playing.{ByThreads, ByTurns, IsPlayAnswer, Play}
 use Rattle.velo_program.specs.Reading.{FailuresAsTold, Reading}
 use Rattle.velo_program.specs.Schedule.{IsFaultOfSchedule, IsSchedule}
+use Rattle.velo_program.specs.Watching.{Watches}
 use Rattle.velo_program.specs.Writing.{Writing, WritesNothing}
 
 -- ---- what they share
@@ -108,6 +110,19 @@ DoesReplay options store stdout f =
     ⊎ ((schedule : List ThreadId) × IsSchedule options.schedule.now schedule
     × DoesPlay (ByTurns schedule) options.run store stdout f)
 
+-- ---- velodrome watch LOG [--stop] [--events N] [--nodes N] [--certificate]
+
+-- LOG is read line by line, to its end, or with --stop up to the event that raises the alarm. The
+-- line of the alarm goes to standard output, then the report of the events that were read, and the
+-- certificate behind it; or behind the line of the alarm nothing, for a reason, which is the first
+-- in the order of the text (`Watching`). No file is opened to be written.
+abbrev pub DoesWatch : WatchOptions → Store → Writing → Fate → Type 0
+DoesWatch options store stdout f =
+    DoesNotRead store Log options.input.now None stdout f
+    ⊎ ((read : Reading)
+    × store.disk.gives options.input.now read × FailuresAsTold read f
+    × Watches options read.bytes stdout f × store.is_kept)
+
 -- ---- all of them
 
 -- What was asked for was done.
@@ -118,5 +133,5 @@ Does store (Carry options) stdout f = DoesCarry options store stdout f
 Does store (Run options) stdout f = DoesRun options store stdout f
 Does store (Replay options) stdout f = DoesReplay options store stdout f
 Does store (Explore options) stdout f = f ≡ Lost
-Does store (Watch options) stdout f = f ≡ Lost
+Does store (Watch options) stdout f = DoesWatch options store stdout f
 Does store (Audit options) stdout f = f ≡ Lost

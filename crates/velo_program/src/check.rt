@@ -67,7 +67,7 @@ pub enum CheckFault {
 }
 
 /// The same fault of a check.
-fn fault_of(fault: LogReplayFault) -> CheckFault
+pub fn fault_of(fault: LogReplayFault) -> CheckFault
     ensures { result ≡ check_fault_of fault }
 {
     match fault {
@@ -235,7 +235,7 @@ fn write_answer<O: Sink>(
 }
 
 /// Writes what a closed world shows, and lets go of it.
-fn finish<O: Sink>(
+pub fn finish<O: Sink>(
     alloc: Global,
     closed: Closed,
     certificate: bool,

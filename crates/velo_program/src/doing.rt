@@ -12,6 +12,7 @@ use crate::files::Files;
 use crate::replaying::replay_file;
 use crate::request::Request;
 use crate::running::run_file;
+use crate::watching::watch_file;
 use std::alloc::Global;
 use std::sync::Wait;
 use std::thread::Threads;
@@ -37,7 +38,7 @@ pub fn do_request<R: Threads + Wait + Sync, F: Files, O: Sink>(
         Request::Explain(options) => explain_file(alloc, options, files, out),
         Request::Carry(options) => carry_file(alloc, options, files),
         Request::Explore(_) => Fate::Lost,
-        Request::Watch(_) => Fate::Lost,
+        Request::Watch(options) => watch_file(alloc, options, files, out),
         Request::Audit(_) => Fate::Lost,
     }
 }

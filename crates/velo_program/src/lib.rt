@@ -13,6 +13,7 @@ mod request;
 mod running;
 mod schedule;
 pub mod status;
+mod watching;
 mod work;
 
 pub use carrying::{CarryFault, carry_run};

@@ -1,0 +1,116 @@
+//! `velodrome watch`: a log that is checked as it comes.
+ghost use Rattle.std.specs.Prelude.{◌≡◌, List, ℕ, Option, Err, IfOk, IfErr, OnOk, false};
+ghost use Rattle.velo_watch.specs.UnderWay.{CanGoOn, IsUnderWay, read_failures, write_failures};
+ghost use Rattle.velo_program.specs.Disk.{store};
+ghost use Rattle.velo_program.specs.Fate.{fate_of};
+ghost use Rattle.velo_program.specs.Program.{DoesWatch};
+ghost use Rattle.velo_program.specs.Reading.{failures_told};
+ghost use Rattle.velo_program.specs.Watching.{check_fault_by, Follows, HasWatched, Watches};
+ghost use Rattle.velo_program.specs.Writing.{writing};
+
+use crate::check::{CheckFault, Verdict, fate_of, fault_of, finish};
+use crate::fate::Fate;
+use crate::files::{Files, is_standard_input, open_input};
+use crate::request::{Operand, WatchOptions};
+use std::alloc::Global;
+use velo_logtext::{Sink, Source};
+use velo_watch::{Watch, WatchFault};
+use velo_world::Closed;
+
+/// The same fault of a check.
+fn fault_of_watch(fault: WatchFault) -> CheckFault
+    ensures { result ≡ check_fault_by fault }
+{
+    match fault {
+        WatchFault::Log(fault) => CheckFault::Log(fault),
+        WatchFault::Replay(fault) => fault_of(fault),
+        WatchFault::Write => CheckFault::Write,
+    }
+}
+
+/// Lets the events of a log come about, up to its end, or where that is asked for up to the event that closes the first cycle.
+/// This is told as soon as it has come.
+fn follow<I: Source, O: Sink>(
+    watch: &mut Watch,
+    stop: bool,
+    log: &mut I,
+    out: &mut O,
+) -> Result<(), WatchFault>
+    requires goes_on { CanGoOn watch.old }
+    requires untold { watch.old.told ≡ false }
+    ensures goes_on { CanGoOn watch.new }
+    ensures follows { (read old : Option (List ℕ)) →
+        IsUnderWay read (I.remaining log.old) old (O.contents out.old) watch.old
+        → Follows stop read old (O.contents out.new) watch.old.world.config result watch.new.world }
+    ensures reads { I.failures log.new ≡ read_failures result (I.failures log.old) }
+    ensures writes { O.failures out.new ≡ write_failures result (O.failures out.old) }
+{
+    while watch.step(log, out)? {
+        if stop && watch.has_told() {
+            return Ok(());
+        }
+    }
+    Ok(())
+}
+
+/// The world of the events that were read, after its end; the line of their alarm, if they have one, was written.
+fn watch_input<I: Source, O: Sink>(
+    alloc: Global,
+    options: &WatchOptions,
+    log: &mut I,
+    out: &mut O,
+) -> Result<Closed, CheckFault>
+    ensures ok { IfOk result (HasWatched options.now (I.remaining log.old)
+        (writing O.contents O.failures out.old out.new)) }
+    ensures err { IfErr result (λ fault. Watches options.now (I.remaining log.old)
+        (writing O.contents O.failures out.old out.new) (fate_of (Err fault))) }
+    ensures read { OnOk result (I.failures log.new ≡ I.failures log.old) }
+    ensures failure { IfErr result (λ fault. I.failures log.new
+        ≡ failures_told (fate_of (Err fault)) (I.failures log.old)) }
+{
+    let mut watch = match Watch::open(alloc, log, options.limits.events, options.limits.nodes) {
+        Ok(watch) => watch,
+        Err(fault) => return Err(fault_of_watch(fault)),
+    };
+    match follow(&mut watch, options.stop, log, out) {
+        Ok(()) => Ok(watch.close()),
+        Err(fault) => Err(fault_of_watch(fault)),
+    }
+}
+
+/// Watches a log: its alarm is told at once, and its report at the end, with its certificate if that was asked for.
+fn watch_log<I: Source, O: Sink>(
+    alloc: Global,
+    options: &WatchOptions,
+    log: &mut I,
+    out: &mut O,
+) -> Fate
+    ensures told { Watches options.now (I.remaining log.old)
+        (writing O.contents O.failures out.old out.new) result }
+    ensures failures { I.failures log.new ≡ failures_told result (I.failures log.old) }
+{
+    let answer = match watch_input(alloc, options, log, out) {
+        Ok(closed) => finish(alloc, closed, options.certificate, out),
+        Err(fault) => Err(fault),
+    };
+    fate_of(answer)
+}
+
+/// Watches the log that was asked for.
+pub fn watch_file<F: Files, O: Sink>(
+    alloc: Global,
+    options: &WatchOptions,
+    files: &mut F,
+    out: &mut O,
+) -> Fate
+    ensures { DoesWatch options.now (store F.disk files.old files.new)
+        (writing O.contents O.failures out.old out.new) result }
+{
+    if is_standard_input(options.input) {
+        return watch_log(alloc, options, &mut files.standard_input(), out);
+    }
+    match open_input(files, Operand::Log, options.input, None) {
+        Ok(mut log) => watch_log(alloc, options, &mut log, out),
+        Err(fate) => fate,
+    }
+}
