@@ -10,7 +10,7 @@ import subprocess
 import sys
 
 ROOT = os.path.dirname(os.path.dirname(os.path.abspath(__file__)))
-COMMANDS = ("check", "explain", "replay", "run", "carry")
+COMMANDS = ("check", "explain", "audit", "watch", "replay", "run", "explore", "carry")
 
 
 def numbers_in(text):
@@ -36,12 +36,12 @@ def rows_of(page, title):
 
 def options_in_page(page, command):
     rows = [row for row in rows_of(page, "## Options") if f"`{command}`" in row[1] or row[1] == "all"]
-    return {re.search(r"--\w+", row[0]).group(): (numbers_in(row[2]), numbers_in(row[3])) for row in rows}
+    return {re.search(r"--[\w-]+", row[0]).group(): (numbers_in(row[2]), numbers_in(row[3])) for row in rows}
 
 
 def options_in_help(text):
     found = {}
-    for name, meaning in re.findall(r"^ +(--\w+)(?: <\w+>)? {2,}(.*)$", section_of(text, "Options:", r"^\S"), re.MULTILINE):
+    for name, meaning in re.findall(r"^ +(--[\w-]+)(?: <\w+>)? {2,}(.*)$", section_of(text, "Options:", r"^\S"), re.MULTILINE):
         span, _, default = meaning.partition("[default:")
         found[name] = (numbers_in(span), numbers_in(default))
     return found
@@ -72,7 +72,7 @@ def differences(page, command, text):
     compared = [("options", options_in_page(page, command), options_in_help(text))]
     if "\nStatuses" in text:
         compared.append(("statuses", statuses_in_page(page, command), statuses_in_help(text)))
-    for title in ("Log faults", "Workload faults", "Refusals"):
+    for title in ("Log faults", "Names faults", "Workload faults", "Refusals"):
         told = numbered_in_help(text, title)
         if told:
             compared.append((title, numbered_in_page(page, f"## {title}"), told))

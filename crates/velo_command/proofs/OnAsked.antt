@@ -1,10 +1,10 @@
 -- What the getters of `clap` give, by the rows of the matches.
-use Rattle.std.proofs.Common.{◌≡◌, ◌∙◌, ap, sym, refl, subst, ℕ, Bool, true, false, List, Option, Some, None, Result, Ok, Err, codes, Bor}
+use Rattle.std.proofs.Common.{◌≡◌, ◌∙◌, ap, sym, refl, subst, ℕ, Bool, true, false, not, List, map, Option, Some, None, Result, Ok, Err, codes, Bor}
 use Rattle.std.specs.Prelude.{[], IfNone, option_map, unwrap_or}
 use Rattle.std.specs.Str.Parse.{ParsesUnsigned}
-use Rattle.clap.specs.Words.{ReadsOne, Text, first_of, first_value, one_of, one_text, rows_of}
+use Rattle.clap.specs.Words.{ReadsOne, Text, all_of, first_of, first_value, matched_of, one_of, one_text, raw_values, rows_of}
 use Rattle.clap.specs.declared.parser.matches.Found.{Found}
-use Rattle.clap.proofs.WalkLemmas.{first_value-rows, one_text-rows}
+use Rattle.clap.proofs.WalkLemmas.{first_value-rows, one_text-rows, raw_values-rows}
 use Rattle.velo_command.specs.Asked.{IsFlag, WritesNumber}
 
 pub option_read : (f : Found) (id : Text) (r : Option (Bor Text)) → option_map (λ s. s.now) r ≡ first_value f id
@@ -20,6 +20,16 @@ pub flag_read : (f : Found) (id : Text) (flag : Bool) → (one_text f id ≡ Non
     → IsFlag (one_of id (rows_of f)) flag
 flag_read f id flag none set unset =
     (λ e. set (one_text-rows f id ∙ e), λ e. unset (one_text-rows f id ∙ e), λ e. none (one_text-rows f id ∙ e))
+
+-- a flag that says the opposite
+pub flag_turned : (f : Found) (id : Text) (flag : Bool) → (one_text f id ≡ None → flag ≡ false)
+    → (one_text f id ≡ Some (codes "true") → flag ≡ true) → (one_text f id ≡ Some (codes "false") → flag ≡ false)
+    → IsFlag (one_of id (rows_of f)) (not (not flag))
+flag_turned f id flag none set unset = subst (IsFlag (one_of id (rows_of f))) (not_not flag) (flag_read f id flag none set unset)
+  where
+    not_not : (b : Bool) → b ≡ not (not b)
+    not_not true = refl
+    not_not false = refl
 
 pub number_read : (E : Type 0) (G : List ℕ → Result ℕ E → Type 0) (bits : ℕ) (f : Found) (id : Text) (r : Option ℕ) (n : ℕ)
     → ((t : List ℕ) (x : Result ℕ E) → G t x → ParsesUnsigned bits 10 t x)
@@ -49,6 +59,19 @@ pub word_or_empty : (f : Found) (id : Text) (r : Option (Bor Text)) (empty word 
     → word ≡ unwrap_or r empty → empty.now ≡ [] → unwrap_or (first_of id (rows_of f)) [] ≡ word.now
 word_or_empty f id r empty word read is none =
     ap (λ (t : Option Text). unwrap_or t []) (option_read f id r read) ∙ or_empty r empty none ∙ ap (λ (s : Bor Text). s.now) (sym is)
+
+or_none : (r : Option (Bor (List (Bor Text)))) (none : Bor (List (Bor Text))) → none.now ≡ []
+    → unwrap_or (option_map (λ s. map (λ w. w.now) s.now) r) [] ≡ map (λ w. w.now) (unwrap_or r none).now
+or_none None none empty = ap (map (λ (w : Bor Text). w.now)) (sym empty)
+or_none (Some words) none empty = refl
+
+-- the words of an option that may be given again and again
+pub words_read : (f : Found) (id : Text) (r : Option (Bor (List (Bor Text)))) (none words : Bor (List (Bor Text)))
+    → option_map (λ s. map (λ w. w.now) s.now) r ≡ option_map raw_values (matched_of f id)
+    → words ≡ unwrap_or r none → none.now ≡ [] → unwrap_or (all_of id (rows_of f)) [] ≡ map (λ w. w.now) words.now
+words_read f id r none words read is empty =
+    ap (λ (t : Option (List Text)). unwrap_or t []) (sym (raw_values-rows f id) ∙ sym read) ∙ or_none r none empty
+    ∙ ap (λ (s : Bor (List (Bor Text))). map (λ w. w.now) s.now) (sym is)
 
 -- ---- where nothing is asked for
 

@@ -1,21 +1,24 @@
 -- The request that right words ask for.
-use Rattle.std.proofs.Common.{◌≡◌, ◌≤◌, ◌<◌, ◌^◌, Bool, false, refl, sym, ap, arith, subst, inl, inr, List, [], Option, Some, None, codes, Bor}
+use Rattle.std.proofs.Common.{◌≡◌, ◌≤◌, ◌<◌, ◌^◌, Bool, true, false, not, refl, sym, ap, ap₂, arith, subst, inl, inr, List, [], ◌∷◌, map, Option, Some, None, codes, Bor}
 use Rattle.std.specs.Prelude.{option_map, unwrap_or}
 use Rattle.std.specs.Option.{option_map_or}
 use Rattle.std.specs.Str.{bytes_eq}
 use Rattle.std.specs.Str.Parse.{digits_value, without_leading_plus}
-use Rattle.clap.specs.Words.{Row, Text, first_of, one_of}
+use Rattle.clap.specs.Words.{Row, Text, all_of, first_of, one_of}
 use Rattle.velo_program.specs.declared.request.Limits.{Limits}
+use Rattle.velo_program.specs.declared.request.AuditOptions.{AuditOptions}
 use Rattle.velo_program.specs.declared.request.CarryOptions.{CarryOptions}
 use Rattle.velo_program.specs.declared.request.CheckOptions.{CheckOptions}
 use Rattle.velo_program.specs.declared.request.RunOptions.{RunOptions}
 use Rattle.velo_program.specs.declared.request.ReplayOptions.{ReplayOptions}
 use Rattle.velo_program.specs.declared.request.ExplainOptions.{ExplainOptions}
+use Rattle.velo_program.specs.declared.request.ExploreOptions.{ExploreOptions}
+use Rattle.velo_program.specs.declared.request.WatchOptions.{WatchOptions}
 use Rattle.velo_program.specs.declared.request.Request.{Request}
-use Rattle.velo_program.specs.declared.request.Request.TheVariants.{Carry, Check, Replay, Run, Explain}
-use Rattle.velo_command.specs.Asked.{AreLimits, AsksFor, AsksForNothing, IsCarrying, IsCheck, IsExplanation, IsFlag, IsReplay, IsRun, WritesNumber}
+use Rattle.velo_program.specs.declared.request.Request.TheVariants.{Audit, Carry, Check, Explain, Explore, Replay, Run, Watch}
+use Rattle.velo_command.specs.Asked.{AreLimits, AreWords, AsksFor, AsksForNothing, IsAudit, IsCarrying, IsCheck, IsExplanation, IsExploring, IsFlag, IsReplay, IsRun, IsWatch, WritesNumber}
 use Rattle.velo_command.specs.CommandLine.{asked_by, faults_of}
-use Rattle.velo_command.proofs.OnLimits.{HasWord}
+use Rattle.velo_command.proofs.OnLimits.{HasLimit, HasWord}
 use Rattle.velo_command.proofs.OnRight.{HasLimits, IsRight, faultless_is_right}
 
 -- ---- the parts of a request
@@ -31,11 +34,26 @@ unfolding a_path a_path_if
 path_of None = refl
 path_of (Some text) = refl
 
+a_list : List Text → Bor (List (Bor Text))
+a_list texts = record { ref_ptr = (0, 0); now = map a_path texts }
+
+words_of : (texts : List Text) → texts ≡ map (λ w. w.now) (a_list texts).now
+unfolding a_path a_list
+words_of [] = refl
+words_of (text ∷ rest) = ap (λ ts. text ∷ ts) (words_of rest)
+
 abbrev is_true : Option Text → Bool
 is_true text = option_map_or (λ t. bytes_eq t (codes "true")) text false
 
 is_flag : (text : Option Text) → IsFlag text (is_true text)
 is_flag text = (λ e. ap is_true e, λ e. ap is_true e, λ e. ap is_true e)
+
+not_not : (b : Bool) → b ≡ not (not b)
+not_not true = refl
+not_not false = refl
+
+is_flag_turned : (text : Option Text) → IsFlag text (not (not (is_true text)))
+is_flag_turned text = subst (IsFlag text) (not_not (is_true text)) (is_flag text)
 
 a_limits : (rows : List Row) → HasLimits rows → (limits : Limits) × AreLimits rows limits
 a_limits rows has =
@@ -58,8 +76,13 @@ a_check : (rows : List Row) → HasWord (codes "LOG") rows → HasLimits rows �
 unfolding a_path
 a_check rows word has =
     let limits = a_limits rows has in (
-      record { input = a_path word.0; limits = limits.0; certificate = is_true (one_of (codes "certificate") rows) },
-      (word.1, limits.1, is_flag (one_of (codes "certificate") rows)),
+      record {
+        input = a_path word.0;
+        limits = limits.0;
+        certificate = is_true (one_of (codes "certificate") rows);
+        names = a_path_if (first_of (codes "names") rows);
+      },
+      (word.1, limits.1, is_flag (one_of (codes "certificate") rows), path_of (first_of (codes "names") rows)),
     )
 
 a_run : (rows : List Row) → HasWord (codes "FILE") rows → HasLimits rows → (options : RunOptions) × IsRun rows options
@@ -72,6 +95,7 @@ a_run rows word has =
         target = a_path_if (first_of (codes "log") rows);
         limits = limits.0;
         certificate = is_true (one_of (codes "certificate") rows);
+        names_target = a_path_if (first_of (codes "names-out") rows);
       },
       (
         word.1,
@@ -79,6 +103,7 @@ a_run rows word has =
         path_of (first_of (codes "log") rows),
         limits.1,
         is_flag (one_of (codes "certificate") rows),
+        path_of (first_of (codes "names-out") rows),
       ),
     )
 
@@ -90,12 +115,90 @@ a_replay rows word has =
 
 an_explanation : (rows : List Row) → HasWord (codes "LOG") rows → (options : ExplainOptions) × IsExplanation rows options
 unfolding a_path
-an_explanation rows word =
-    (record { input = a_path word.0; target = a_path_if (first_of (codes "dot") rows) }, (word.1, path_of (first_of (codes "dot") rows)))
+an_explanation rows word = (
+  record {
+    input = a_path word.0;
+    target = a_path_if (first_of (codes "dot") rows);
+    names = a_path_if (first_of (codes "names") rows);
+  },
+  (word.1, path_of (first_of (codes "dot") rows), path_of (first_of (codes "names") rows)),
+)
 
 a_carrying : (rows : List Row) → HasWord (codes "LOG") rows → HasWord (codes "log") rows → (options : CarryOptions) × IsCarrying rows options
 unfolding a_path
 a_carrying rows word out = (record { input = a_path word.0; target = a_path out.0 }, (word.1, out.1))
+
+an_exploring : (rows : List Row) → HasWord (codes "FILE") rows → HasLimit (codes "states") 16777216 rows → HasLimits rows
+    → (options : ExploreOptions) × IsExploring rows options
+unfolding a_path
+an_exploring rows word has_states has =
+    let limits = a_limits rows has in
+    let states = digits_value 10 (without_leading_plus has_states.0) in
+    let few_states : states ≤ 16777216 = has_states.2.2 in
+    let states_fit : states < 2 ^ 32 = omega arith in (
+      record {
+        input = a_path word.0;
+        states = states;
+        first = is_true (one_of (codes "first") rows);
+        target = a_path_if (first_of (codes "log") rows);
+        limits = limits.0;
+        certificate = is_true (one_of (codes "certificate") rows);
+        some_state = has_states.2.1;
+        few_states = few_states;
+      },
+      (
+        word.1,
+        subst (λ text. WritesNumber 32 text states) (sym has_states.1) (has_states.2.0, states_fit, refl),
+        is_flag (one_of (codes "first") rows),
+        path_of (first_of (codes "log") rows),
+        limits.1,
+        is_flag (one_of (codes "certificate") rows),
+      ),
+    )
+
+a_watch : (rows : List Row) → HasWord (codes "LOG") rows → HasLimits rows → (options : WatchOptions) × IsWatch rows options
+unfolding a_path
+a_watch rows word has =
+    let limits = a_limits rows has in (
+      record {
+        input = a_path word.0;
+        stop = is_true (one_of (codes "stop") rows);
+        limits = limits.0;
+        certificate = is_true (one_of (codes "certificate") rows);
+        names = a_path_if (first_of (codes "names") rows);
+      },
+      (
+        word.1,
+        is_flag (one_of (codes "stop") rows),
+        limits.1,
+        is_flag (one_of (codes "certificate") rows),
+        path_of (first_of (codes "names") rows),
+      ),
+    )
+
+an_audit : (rows : List Row) → HasWord (codes "LOG") rows → HasLimits rows → (options : AuditOptions) × IsAudit rows options
+unfolding a_path
+an_audit rows word has =
+    let limits = a_limits rows has in (
+      record {
+        input = a_path word.0;
+        names = a_path_if (first_of (codes "names") rows);
+        not_atomic = a_path_if (first_of (codes "not-atomic") rows);
+        ignored_locks = a_list (unwrap_or (all_of (codes "ignore-lock") rows) []);
+        ignored_variables = a_list (unwrap_or (all_of (codes "ignore-variable") rows) []);
+        witness = not (is_true (one_of (codes "no-witness") rows));
+        limits = limits.0;
+      },
+      (
+        word.1,
+        path_of (first_of (codes "names") rows),
+        path_of (first_of (codes "not-atomic") rows),
+        words_of (unwrap_or (all_of (codes "ignore-lock") rows) []),
+        words_of (unwrap_or (all_of (codes "ignore-variable") rows) []),
+        is_flag_turned (one_of (codes "no-witness") rows),
+        limits.1,
+      ),
+    )
 
 right_asks : (found : Text × List Row) → IsRight found → (request : Request) × AsksFor (Some found) request
 right_asks found (inl is) =
@@ -110,9 +213,18 @@ right_asks found (inr (inr (inl is))) =
 right_asks found (inr (inr (inr (inl is)))) =
     let options = an_explanation found.1 is.1 in
     (Explain options.0, (is.0, options.1))
-right_asks found (inr (inr (inr (inr is)))) =
+right_asks found (inr (inr (inr (inr (inl is))))) =
     let options = a_carrying found.1 is.1 is.2 in
     (Carry options.0, (is.0, options.1))
+right_asks found (inr (inr (inr (inr (inr (inl is)))))) =
+    let options = an_exploring found.1 is.1 is.2.0 is.2.1 in
+    (Explore options.0, (is.0, options.1))
+right_asks found (inr (inr (inr (inr (inr (inr (inl is))))))) =
+    let options = a_watch found.1 is.1 is.2 in
+    (Watch options.0, (is.0, options.1))
+right_asks found (inr (inr (inr (inr (inr (inr (inr is))))))) =
+    let options = an_audit found.1 is.1 is.2 in
+    (Audit options.0, (is.0, options.1))
 
 -- words without a fault ask for a request
 pub faultless_asks : (words : List Text) → faults_of words ≡ [] → ¬ AsksForNothing (asked_by words)

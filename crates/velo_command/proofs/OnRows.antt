@@ -6,7 +6,7 @@ use Rattle.std.specs.Option.{option_map_or}
 use Rattle.std.specs.Str.{bytes_eq}
 use Rattle.std.proofs.lemmas.Slice.Eq.{bytes_eq-Decides}
 use Rattle.clap.specs.Facts.{explicit_source, unwrap_or_range}
-use Rattle.clap.specs.Walk.{Row, Rule, Text, action_of, at_row, default_rows, has_row, is_empty, more_values, most_values, reading_by, used, used_as, values_or_missing, with_default, with_values, without}
+use Rattle.clap.specs.Walk.{Row, Rule, Text, action_of, at_row, default_rows, has_row, is_append, is_empty, more_values, most_values, reading_by, stronger, used, used_as, values_or_missing, with_default, with_values, without}
 use Rattle.clap.specs.Simple.{Shape}
 use Rattle.clap.specs.Takes.{is_given}
 use Rattle.clap.specs.Kinds.{Kinds, check_kinds, range_kinds, request_kinds}
@@ -100,11 +100,11 @@ abbrev is_plain_as : ArgAction → Rule → Bool
 is_plain_as Set a = fills a
 is_plain_as SetTrue a = fills a
 is_plain_as SetFalse a = fills a
-is_plain_as Append a = false
+is_plain_as Append a = fills a
 is_plain_as Count a = false
 is_plain_as _ a = true
 
--- the argument has one use, with a value, or it asks for help or the version
+-- each use of the argument has a value, or it asks for help or the version; there may be more uses than one with Append alone
 abbrev pub is_plain : Rule → Bool
 is_plain a = is_plain_as (action_of a) a
 
@@ -133,10 +133,26 @@ no_row again id rows once e = go (has_row id rows) (subst (λ b. repeat_fault b 
         let bad : ◌≡◌ {A = Kinds} (ArgumentConflict ∷ []) [] = e in
         cc
 
--- a plain argument, whose rows have P where they have a value and the values are accepted
+-- a row with more values
+abbrev pub more_row : Row → List Text → Row
+more_row r values = record r { values = r.values ++ values; source = Some (stronger r.source CommandLine) }
+
+-- a plain argument, whose rows have P where they have a value and the values are accepted; also behind more uses
 abbrev pub MakesRows : (Row → Type 0) → Rule → Type 0
 MakesRows P a = (is_plain a ≡ true)
     × ((source : ValueSource) (values : List Text) → IsFilled values → values_fault a values ≡ [] → P (new_row a.id (reading_by a) source values))
+    × (is_append (action_of a) ≡ true → (r : Row) (values : List Text) → bytes_eq r.id a.id ≡ true → P r → P (more_row r values))
+
+-- more values of an id keep what each row has
+values_keep : (P : Row → Type 0) (id : Text) (how : Reading) (values : List Text) (rows : List Row) → P (new_row id how CommandLine values)
+    → ((r : Row) → bytes_eq r.id id ≡ true → P r → P (more_row r values)) → Each P rows → Each P (with_values id how CommandLine values rows)
+values_keep P id how values [] new more all = (new, tt)
+values_keep P id how values (r ∷ rs) new more all = go (bytes_eq r.id id) refl (values_keep P id how values rs new more all.1)
+  where
+    go : (b : Bool) → bytes_eq r.id id ≡ b → Each P (with_values id how CommandLine values rs)
+        → Each P (cond b (more_values CommandLine values r ++ rs) (r ∷ with_values id how CommandLine values rs))
+    go true same rest = (more r same all.0, all.1)
+    go false apart rest = (all.0, rest)
 
 module _ (P : Row → Type 0) where
   -- a use without a fault keeps what each row has
@@ -144,27 +160,31 @@ module _ (P : Row → Type 0) where
       → Each P rows → Each P (used a values rows)
   used_keeps again once a makes values rows e all =
       let parts = neither (range_kinds (unwrap_or_range a.range).start_inclusive (most_values a) (length values)) _ e in
-      go (action_of a) makes.0 parts.0 parts.1
+      go (action_of a) refl makes.0 parts.0 parts.1
     where
       set : fills a ≡ true → range_kinds (unwrap_or_range a.range).start_inclusive (most_values a) (length values) ≡ []
           → set_fault again a (values_or_missing a values) rows ≡ []
           → Each P (with_values a.id (reading_by a) CommandLine (values_or_missing a values) (without a.id rows))
       set some range e =
           let parts = neither (repeat_fault again a.id rows) _ e in
-          let row = makes.1 CommandLine (values_or_missing a values) (filled a values some range) parts.1 in
+          let row = makes.1.0 CommandLine (values_or_missing a values) (filled a values some range) parts.1 in
           subst (Each P) (sym (added_anew a.id (reading_by a) CommandLine (values_or_missing a values) rows (no_row again a.id rows once parts.0))) (each_more P rows _ all row)
 
-      go : (x : ArgAction) → is_plain_as x a ≡ true → range_kinds (unwrap_or_range a.range).start_inclusive (most_values a) (length values) ≡ []
+      go : (x : ArgAction) → action_of a ≡ x → is_plain_as x a ≡ true → range_kinds (unwrap_or_range a.range).start_inclusive (most_values a) (length values) ≡ []
           → action_fault x again a (values_or_missing a values) rows ≡ [] → Each P (used_as x a.id (reading_by a) (values_or_missing a values) rows)
-      go Set plain range e = set plain range e
-      go SetTrue plain range e = set plain range e
-      go SetFalse plain range e = set plain range e
-      go Append plain range e = absurd (true≢false (sym plain))
-      go Count plain range e = absurd (true≢false (sym plain))
-      go Help plain range e = all
-      go HelpShort plain range e = all
-      go HelpLong plain range e = all
-      go Version plain range e = all
+      go Set is plain range e = set plain range e
+      go SetTrue is plain range e = set plain range e
+      go SetFalse is plain range e = set plain range e
+      go Append is plain range e =
+          let more = makes.1.1 (ap is_append is) in
+          values_keep P a.id (reading_by a) (values_or_missing a values) rows
+          (makes.1.0 CommandLine (values_or_missing a values) (filled a values plain range) e)
+          (λ r same holds. more r (values_or_missing a values) same holds) all
+      go Count is plain range e = absurd (true≢false (sym plain))
+      go Help is plain range e = all
+      go HelpShort is plain range e = all
+      go HelpLong is plain range e = all
+      go Version is plain range e = all
 
   -- and so does a default without a fault
   pub default_keeps : (a : Rule) → MakesRows P a → (rows : List Row) → default_fault rows a ≡ [] → Each P rows → Each P (with_default rows a)
@@ -175,7 +195,7 @@ module _ (P : Row → Type 0) where
       defaults (v ∷ vs) none e =
           let some : is_empty (v ∷ vs) ≡ false = ne_eqb _ _ (λ z. omega arith) in
           let fault : given_default_fault a (v ∷ vs) ≡ [] = rw some at e in
-          let row = makes.1 DefaultValue (v ∷ vs) tt (neither (request_kinds (action_of a)) _ fault).1 in
+          let row = makes.1.0 DefaultValue (v ∷ vs) tt (neither (request_kinds (action_of a)) _ fault).1 in
           subst (Each P) (sym (added a.id (reading_by a) DefaultValue (v ∷ vs) rows none)) (each_more P rows _ all row)
 
       go : (b : Bool) → has_row a.id rows ≡ b → cond (b || is_empty a.defaults) [] (given_default_fault a a.defaults) ≡ []

@@ -7,7 +7,7 @@ use Rattle.clap.specs.declared.parser.matches.ArgMatches.{ArgMatches}
 use Rattle.velo_program.specs.Disk.{Store}
 use Rattle.velo_command.specs.Asked.{Asked, AsksForNothing}
 use Rattle.velo_command.specs.CommandLine.{asked_by, command_line, faults_of}
-use Rattle.velo_command.specs.Running.{DoesRequest, Runs}
+use Rattle.velo_command.specs.Running.{Answers, Runs}
 use Rattle.velo_command.specs.Usage.{Console, Tells, TellsError}
 use Rattle.velo_command.proofs.OnCommandLine.{line_is_simple, line_is_simple_and_free}
 use Rattle.velo_command.proofs.OnRequest.{faultless_asks}
@@ -22,17 +22,17 @@ matches_ask line words m is matches faultless nothing =
     faultless_asks words (subst (λ (x : App). is_simple_and_free x ≡ true → fault_of x words ≡ []) is faultless line_is_simple_and_free)
     (subst AsksForNothing same nothing)
 
--- the words were taken, and what they ask for was done
+-- the words were taken, and what they ask for was answered
 pub runs_asked : (line : App) (words : List Text) (m : ArgMatches) (store : Store) (console : Console)
     → line ≡ command_line → HasMatchesOf line words m → (is_simple_and_free line ≡ true → fault_of line words ≡ [])
-    → DoesRequest (subcommand_rows_of m) store console → Runs words store console
+    → Answers (subcommand_rows_of m) store console → Runs words store console
 unfolding faults_of asked_by
 runs_asked line words m store console is matches faultless does =
     let same : subcommand_rows_of m ≡ subcommand_of command_line words =
     (subst (λ (x : App). HasMatchesOf x words m) is matches line_is_simple).1 in
     inl (
       subst (λ (x : App). is_simple_and_free x ≡ true → fault_of x words ≡ []) is faultless line_is_simple_and_free,
-      subst (λ (asked : Asked). DoesRequest asked store console) same does,
+      subst (λ (asked : Asked). Answers asked store console) same does,
     )
 
 -- the words were refused, and the reason was told

@@ -1,16 +1,19 @@
 -- What some command lines ask for, and why others ask for nothing: by computing.
-use Rattle.std.proofs.Common.{◌≡◌, ◌∷◌, [], refl, sym, ap, codes, true, false, List, rules}
+use Rattle.std.proofs.Common.{◌≡◌, ◌∷◌, [], refl, sym, ap, codes, true, false, List, map, rules}
 use Rattle.std.specs.Prelude.{Some, None, option_map}
 use Rattle.clap.specs.Faults.{defaults_fault, walk_fault}
 use Rattle.clap.specs.Walk.{walked}
 use Rattle.clap.specs.Words.{Text}
-use Rattle.clap.specs.declared.error.kind.ErrorKind.TheVariants.{DisplayHelp, DisplayVersion, InvalidSubcommand, MissingRequiredArgument, MissingSubcommand, UnknownArgument, ValueValidation}
+use Rattle.clap.specs.declared.error.kind.ErrorKind.TheVariants.{ArgumentConflict, DisplayHelp, DisplayVersion, InvalidSubcommand, MissingRequiredArgument, MissingSubcommand, UnknownArgument, ValueValidation}
+use Rattle.velo_program.specs.declared.request.AuditOptions.{AuditOptions}
 use Rattle.velo_program.specs.declared.request.CarryOptions.{CarryOptions}
 use Rattle.velo_program.specs.declared.request.CheckOptions.{CheckOptions}
 use Rattle.velo_program.specs.declared.request.ExplainOptions.{ExplainOptions}
 use Rattle.velo_program.specs.declared.request.ReplayOptions.{ReplayOptions}
 use Rattle.velo_program.specs.declared.request.RunOptions.{RunOptions}
-use Rattle.velo_program.specs.declared.request.Request.TheVariants.{Carry, Check, Explain, Replay, Run}
+use Rattle.velo_program.specs.declared.request.ExploreOptions.{ExploreOptions}
+use Rattle.velo_program.specs.declared.request.WatchOptions.{WatchOptions}
+use Rattle.velo_program.specs.declared.request.Request.TheVariants.{Audit, Carry, Check, Explain, Explore, Replay, Run, Watch}
 use Rattle.velo_command.specs.Asked.{AsksFor}
 use Rattle.velo_command.specs.CommandLine.{asked_by, faults_of}
 
@@ -25,22 +28,25 @@ unfolding faults_of walk_fault walked defaults_fault
 check_is_right = refl
 
 check_asks : (options : CheckOptions) → options.input.now ≡ codes "a" → options.limits.events ≡ 1048576 → options.limits.nodes ≡ 1024 → options.certificate ≡ false
-    → AsksFor (asked_by check_words) (Check options)
+    → options.names ≡ None → AsksFor (asked_by check_words) (Check options)
 unfolding asked_by walked
-check_asks options log events nodes certificate = (refl, (ap Some (sym log), search rules, search rules))
+check_asks options log events nodes certificate names =
+    (refl, (ap Some (sym log), search rules, search rules, ap (option_map (λ path. path.now)) (sym names)))
 
 -- a workload with all options
 abbrev run_words : List Text
-run_words = codes "velodrome" ∷ codes "run" ∷ codes "--events=5" ∷ codes "w" ∷ codes "--nodes" ∷ codes "+2" ∷ codes "--log" ∷ codes "o" ∷ codes "--stop" ∷ codes "--certificate" ∷ []
+run_words = codes "velodrome" ∷ codes "run" ∷ codes "--events=5" ∷ codes "w" ∷ codes "--nodes" ∷ codes "+2" ∷ codes "--log" ∷ codes "o" ∷ codes "--stop" ∷ codes "--certificate" ∷ codes "--names-out" ∷ codes "n" ∷ []
 
 run_is_right : faults_of run_words ≡ []
 unfolding faults_of walk_fault walked defaults_fault
 run_is_right = refl
 
 run_asks : (options : RunOptions) → options.input.now ≡ codes "w" → options.stop ≡ true → option_map (λ path. path.now) options.target ≡ Some (codes "o")
-    → options.limits.events ≡ 5 → options.limits.nodes ≡ 2 → options.certificate ≡ true → AsksFor (asked_by run_words) (Run options)
+    → options.limits.events ≡ 5 → options.limits.nodes ≡ 2 → options.certificate ≡ true
+    → option_map (λ path. path.now) options.names_target ≡ Some (codes "n") → AsksFor (asked_by run_words) (Run options)
 unfolding asked_by walked
-run_asks options file stop log events nodes certificate = (refl, (ap Some (sym file), search rules, sym log, search rules, search rules))
+run_asks options file stop log events nodes certificate names =
+    (refl, (ap Some (sym file), search rules, sym log, search rules, search rules, sym names))
 
 -- a schedule is one word, and none is the empty one
 abbrev replay_words : List Text
@@ -52,25 +58,25 @@ replay_is_right = refl
 
 replay_asks : (options : ReplayOptions) → options.schedule.now ≡ codes "0 1" → options.run.input.now ≡ codes "-" → options.run.stop ≡ false → options.run.target ≡ None
     → options.run.limits.events ≡ 1048576 → options.run.limits.nodes ≡ 1024 → options.run.certificate ≡ false
-    → AsksFor (asked_by replay_words) (Replay options)
+    → options.run.names_target ≡ None → AsksFor (asked_by replay_words) (Replay options)
 unfolding asked_by walked
-replay_asks options schedule file stop log events nodes certificate = (
+replay_asks options schedule file stop log events nodes certificate names = (
   refl,
-  (sym schedule, (ap Some (sym file), search rules, ap (option_map (λ path. path.now)) (sym log), search rules, search rules)),
+  (sym schedule, (ap Some (sym file), search rules, ap (option_map (λ path. path.now)) (sym log), search rules, search rules, ap (option_map (λ path. path.now)) (sym names))),
 )
 
 -- a log and a picture
 abbrev explain_words : List Text
-explain_words = codes "velodrome" ∷ codes "explain" ∷ codes "a" ∷ codes "--dot" ∷ codes "p" ∷ []
+explain_words = codes "velodrome" ∷ codes "explain" ∷ codes "a" ∷ codes "--dot" ∷ codes "p" ∷ codes "--names=n" ∷ []
 
 explain_is_right : faults_of explain_words ≡ []
 unfolding faults_of walk_fault walked defaults_fault
 explain_is_right = refl
 
 explain_asks : (options : ExplainOptions) → options.input.now ≡ codes "a" → option_map (λ path. path.now) options.target ≡ Some (codes "p")
-    → AsksFor (asked_by explain_words) (Explain options)
+    → option_map (λ path. path.now) options.names ≡ Some (codes "n") → AsksFor (asked_by explain_words) (Explain options)
 unfolding asked_by walked
-explain_asks options log dot = (refl, (ap Some (sym log), sym dot))
+explain_asks options log dot names = (refl, (ap Some (sym log), sym dot, sym names))
 
 -- a log, and the file for it
 abbrev carry_words : List Text
@@ -83,6 +89,51 @@ carry_is_right = refl
 carry_asks : (options : CarryOptions) → options.input.now ≡ codes "a" → options.target.now ≡ codes "b" → AsksFor (asked_by carry_words) (Carry options)
 unfolding asked_by walked
 carry_asks options log out = (refl, (ap Some (sym log), ap Some (sym out)))
+
+-- a workload, with the states and limits that are there by default
+abbrev explore_words : List Text
+explore_words = codes "velodrome" ∷ codes "explore" ∷ codes "w" ∷ []
+
+explore_is_right : faults_of explore_words ≡ []
+unfolding faults_of walk_fault walked defaults_fault
+explore_is_right = refl
+
+explore_asks : (options : ExploreOptions) → options.input.now ≡ codes "w" → options.states ≡ 2097152 → options.first ≡ false → options.target ≡ None
+    → options.limits.events ≡ 1048576 → options.limits.nodes ≡ 1024 → options.certificate ≡ false → AsksFor (asked_by explore_words) (Explore options)
+unfolding asked_by walked
+explore_asks options file states first log events nodes certificate =
+    (refl, (ap Some (sym file), search rules, search rules, ap (option_map (λ path. path.now)) (sym log), search rules, search rules))
+
+-- a log that is watched
+abbrev watch_words : List Text
+watch_words = codes "velodrome" ∷ codes "watch" ∷ codes "--stop" ∷ codes "-" ∷ codes "--names" ∷ codes "n" ∷ []
+
+watch_is_right : faults_of watch_words ≡ []
+unfolding faults_of walk_fault walked defaults_fault
+watch_is_right = refl
+
+watch_asks : (options : WatchOptions) → options.input.now ≡ codes "-" → options.stop ≡ true → options.limits.events ≡ 1048576 → options.limits.nodes ≡ 1024
+    → options.certificate ≡ false → option_map (λ path. path.now) options.names ≡ Some (codes "n") → AsksFor (asked_by watch_words) (Watch options)
+unfolding asked_by walked
+watch_asks options log stop events nodes certificate names =
+    (refl, (ap Some (sym log), search rules, search rules, search rules, sym names))
+
+-- a log that is audited, without two locks; the limits are the greatest ones by default
+abbrev audit_words : List Text
+audit_words = codes "velodrome" ∷ codes "audit" ∷ codes "a" ∷ codes "--ignore-lock" ∷ codes "3" ∷ codes "--no-witness" ∷ codes "--ignore-lock=m" ∷ codes "--not-atomic" ∷ codes "l" ∷ []
+
+audit_is_right : faults_of audit_words ≡ []
+unfolding faults_of walk_fault walked defaults_fault
+audit_is_right = refl
+
+audit_asks : (options : AuditOptions) → options.input.now ≡ codes "a" → options.names ≡ None → option_map (λ path. path.now) options.not_atomic ≡ Some (codes "l")
+    → map (λ w. w.now) options.ignored_locks.now ≡ codes "3" ∷ codes "m" ∷ [] → map (λ w. w.now) options.ignored_variables.now ≡ [] → options.witness ≡ false
+    → options.limits.events ≡ 16777216 → options.limits.nodes ≡ 4096 → AsksFor (asked_by audit_words) (Audit options)
+unfolding asked_by walked
+audit_asks options log names not_atomic locks variables witness events nodes = (
+  refl,
+  (ap Some (sym log), ap (option_map (λ path. path.now)) (sym names), sym not_atomic, sym locks, sym variables, search rules, search rules),
+)
 
 -- ---- wrong words, and words that ask for help
 
@@ -109,6 +160,14 @@ no_such_option = refl
 too_many_nodes : faults_of (codes "velodrome" ∷ codes "check" ∷ codes "a" ∷ codes "--nodes" ∷ codes "4097" ∷ []) ≡ ValueValidation ∷ []
 unfolding faults_of walk_fault walked defaults_fault
 too_many_nodes = refl
+
+too_many_states : faults_of (codes "velodrome" ∷ codes "explore" ∷ codes "w" ∷ codes "--states" ∷ codes "16777217" ∷ []) ≡ ValueValidation ∷ []
+unfolding faults_of walk_fault walked defaults_fault
+too_many_states = refl
+
+names_twice : faults_of (codes "velodrome" ∷ codes "audit" ∷ codes "a" ∷ codes "--names" ∷ codes "m" ∷ codes "--names" ∷ codes "n" ∷ []) ≡ ArgumentConflict ∷ []
+unfolding faults_of walk_fault walked defaults_fault
+names_twice = refl
 
 help : faults_of (codes "velodrome" ∷ codes "check" ∷ codes "--help" ∷ []) ≡ DisplayHelp ∷ []
 unfolding faults_of walk_fault walked defaults_fault

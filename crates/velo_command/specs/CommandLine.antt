@@ -2,12 +2,13 @@
 use Rattle.std.specs.Prelude.{◌≡◌, List, [], ◌∷◌, Option, Some, true, false, pos, codes, fold}
 use Rattle.clap.specs.Words.{App, Kinds, Row, Rule, Shape, Text, app_of, fault_of, new_rule, rule_of, shape_of, subcommand_of, with_rule}
 use Rattle.clap.specs.Simple.{new_shape}
-use Rattle.clap.specs.declared.builder.action.ArgAction.TheVariants.{Set, SetTrue}
+use Rattle.clap.specs.declared.builder.action.ArgAction.TheVariants.{Append, Set, SetTrue}
 use Rattle.clap.specs.declared.builder.arg.Arg.{Arg}
 use Rattle.clap.specs.declared.builder.command.Command.{Command}
 use Rattle.clap.specs.declared.builder.command.Command.TheViews.{out-Command}
 use Rattle.clap.specs.declared.builder.value_parser.ValueParser.TheVariants.{Signed}
 use Rattle.velo_events.specs.declared.limits.TheConstants.{MOST_EVENTS, MOST_NODES}
+use Rattle.velo_program.specs.declared.request.TheConstants.{MOST_STATES}
 
 -- ---- the arguments
 
@@ -23,31 +24,44 @@ valued name = record (new_rule name) { long = Some name; value_names = 1 }
 abbrev pub needed : Text → Rule
 needed name = record (valued name) { required = true }
 
+-- an option with a value that may be given again and again
+abbrev pub repeated : Text → Rule
+repeated name = record (valued name) { action = Some Append }
+
 -- an option without a value, under its name
 abbrev pub flag : Text → Rule
 flag name = record (new_rule name) { long = Some name; action = Some SetTrue }
 
--- the most events of a log
-abbrev pub events : Rule
-events = record (valued (codes "events")) {
+-- the most events of a log, so many by default
+abbrev pub events : Text → Rule
+events default = record (valued (codes "events")) {
   parser = Some (Signed (pos 1) (pos MOST_EVENTS));
-  defaults = codes "1048576" ∷ [];
+  defaults = default ∷ [];
 }
 
--- the most nodes of a graph
-abbrev pub nodes : Rule
-nodes = record (valued (codes "nodes")) {
+-- the most nodes of a graph, so many by default
+abbrev pub nodes : Text → Rule
+nodes default = record (valued (codes "nodes")) {
   parser = Some (Signed (pos 1) (pos MOST_NODES));
-  defaults = codes "1024" ∷ [];
+  defaults = default ∷ [];
+}
+
+-- the most states of a search
+abbrev pub states : Rule
+states = record (valued (codes "states")) {
+  parser = Some (Signed (pos 1) (pos MOST_STATES));
+  defaults = codes "2097152" ∷ [];
 }
 
 -- the options of each command that keeps a graph
 abbrev pub graph_options : List Rule
-graph_options = events ∷ nodes ∷ flag (codes "certificate") ∷ []
+graph_options =
+    events (codes "1048576") ∷ nodes (codes "1024") ∷ flag (codes "certificate") ∷ []
 
 -- the options of each command that runs a workload
 abbrev pub run_options : List Rule
-run_options = flag (codes "stop") ∷ valued (codes "log") ∷ graph_options
+run_options =
+    flag (codes "stop") ∷ valued (codes "log") ∷ valued (codes "names-out") ∷ graph_options
 
 -- ---- the subcommands
 
@@ -55,7 +69,7 @@ abbrev pub subcommand : Text → List Rule → Shape
 subcommand name rules = record (new_shape name) { rules = rules }
 
 abbrev pub check : Shape
-check = subcommand (codes "check") (word (codes "LOG") ∷ graph_options)
+check = subcommand (codes "check") (word (codes "LOG") ∷ valued (codes "names") ∷ graph_options)
 
 abbrev pub replay : Shape
 replay = subcommand (codes "replay") (word (codes "FILE") ∷ valued (codes "schedule") ∷ run_options)
@@ -64,10 +78,27 @@ abbrev pub run : Shape
 run = subcommand (codes "run") (word (codes "FILE") ∷ run_options)
 
 abbrev pub explain : Shape
-explain = subcommand (codes "explain") (word (codes "LOG") ∷ valued (codes "dot") ∷ [])
+explain = subcommand (codes "explain")
+    (word (codes "LOG") ∷ valued (codes "dot") ∷ valued (codes "names") ∷ [])
 
 abbrev pub carry : Shape
 carry = subcommand (codes "carry") (word (codes "LOG") ∷ needed (codes "log") ∷ [])
+
+abbrev pub explore : Shape
+explore = subcommand (codes "explore")
+    (word (codes "FILE") ∷ states ∷ flag (codes "first") ∷ valued (codes "log") ∷ graph_options)
+
+abbrev pub watch : Shape
+watch = subcommand (codes "watch")
+    (word (codes "LOG") ∷ flag (codes "stop") ∷ valued (codes "names") ∷ graph_options)
+
+-- the greatest limits by default
+abbrev pub audit : Shape
+audit = subcommand (codes "audit")
+    (word (codes "LOG") ∷ valued (codes "names") ∷ valued (codes "not-atomic")
+    ∷ repeated (codes "ignore-lock") ∷ repeated (codes "ignore-variable")
+    ∷ flag (codes "no-witness")
+    ∷ events (codes "16777216") ∷ nodes (codes "4096") ∷ [])
 
 -- the program: one of its subcommands has to be named, and it has a version
 abbrev pub command_line : App
@@ -77,7 +108,7 @@ command_line = record {
     has_version = true;
     subcommand_required = true;
   };
-  subs = check ∷ replay ∷ run ∷ explain ∷ carry ∷ [];
+  subs = check ∷ replay ∷ run ∷ explain ∷ carry ∷ explore ∷ watch ∷ audit ∷ [];
 }
 
 -- ---- what it makes of words

@@ -1,4 +1,5 @@
 pub mod Asked
 pub mod CommandLine
 pub mod Running
+pub mod Together
 pub mod Usage

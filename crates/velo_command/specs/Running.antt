@@ -1,25 +1,43 @@
 -- What the program does with the words of its command line.
-use Rattle.std.specs.Prelude.{◌≡◌, ◌⊎◌, ℕ, List, []}
+use Rattle.std.specs.Prelude.{◌≡◌, ◌⊎◌, ℕ, List, [], Some, None}
 use Rattle.clap.specs.Words.{IsAmong, Text}
 use Rattle.clap.specs.declared.error.kind.ErrorKind.{ErrorKind}
 use Rattle.velo_program.specs.Causes.{AnswersWithCause}
 use Rattle.velo_program.specs.Disk.{Store}
-use Rattle.velo_program.specs.Fate.{Ends}
+use Rattle.velo_program.specs.Fate.{Closes, Ends}
 use Rattle.velo_program.specs.Program.{Does}
 use Rattle.velo_program.specs.declared.fate.Fate.{Fate}
 use Rattle.velo_program.specs.declared.request.Request.{Request}
 use Rattle.velo_command.specs.Asked.{AsksFor, Asked}
 use Rattle.velo_command.specs.CommandLine.{asked_by, faults_of}
-use Rattle.velo_command.specs.Usage.{Console, LacksMemory, TellsError}
+use Rattle.velo_command.specs.Together.{clash_of, line_of_clash}
+use Rattle.velo_command.specs.Usage.{Console, LacksMemory, TellsError, bad_usage}
+use Rattle.velo_command.specs.declared.together.Clash.{Clash}
 
--- a request that was asked for was done, and the end is that of what it came to
+-- a request that was asked for was done, and the end is that of what it came to; its options go together
 pub record DoesRequest (asked : Asked) (store : Store) (console : Console) : Type 0 where
   pub request : Request
   pub fate : Fate
   pub asks : AsksFor asked request
+  pub together : clash_of request ≡ None
   pub done : Does store request console.stdout fate
   pub cause : AnswersWithCause request fate
   pub ended : Ends fate console.stderr console.status
+
+-- a request was asked for whose options do not go together, and this was told: standard output is as it was, and the end is
+-- that of bad usage
+pub record TellsClash (asked : Asked) (console : Console) : Type 0 where
+  pub request : Request
+  pub clash : Clash
+  pub asks : AsksFor asked request
+  pub apart : clash_of request ≡ Some clash
+  pub kept : console.is_kept
+  pub told : Closes bad_usage (line_of_clash clash) console.stderr console.status
+
+-- what was asked for was done; or its options do not go together, and the files are as they were
+abbrev pub Answers : Asked → Store → Console → Type 0
+Answers asked store console =
+    DoesRequest asked store console ⊎ (store.is_kept × TellsClash asked console)
 
 -- one of the faults of the words was told, by some text; help and the version are among them
 pub record TellsFault (words : List Text) (console : Console) : Type 0 where
@@ -28,9 +46,9 @@ pub record TellsFault (words : List Text) (console : Console) : Type 0 where
   pub text : List ℕ
   pub told : TellsError kind text console
 
--- The words have no fault, and what they ask for was done; or the files are as they were, and one of the faults was told,
+-- The words have no fault, and what they ask for was answered; or the files are as they were, and one of the faults was told,
 -- or memory ran out before.
 abbrev pub Runs : List Text → Store → Console → Type 0
 Runs words store console =
-    ((faults_of words ≡ []) × DoesRequest (asked_by words) store console)
+    ((faults_of words ≡ []) × Answers (asked_by words) store console)
     ⊎ (store.is_kept × (TellsFault words console ⊎ LacksMemory console))

@@ -2,18 +2,20 @@
 ghost use Rattle.std.specs.Prelude.{◌≡◌, IfOk, OnErr, codes};
 ghost use Rattle.clap.specs.Words.{app_of};
 ghost use Rattle.velo_events.specs.Refusals.{GrowthRefused};
-ghost use Rattle.velo_command.specs.CommandLine.{AddsRules, IsArgument, IsSubcommand, carry, check, command_line, events, explain, flag, graph_options, needed, nodes, replay, run, run_options, valued, word};
+ghost use Rattle.velo_command.specs.CommandLine.{AddsRules, IsArgument, IsSubcommand, audit, carry, check, command_line, events, explain, explore, flag, graph_options, needed, nodes, repeated, replay, run, run_options, states, valued, watch, word};
 
 use crate::growth::{with_argument, with_subcommand};
 use crate::help;
 use clap::{Arg, ArgAction, Command, value_parser};
 use std::alloc::Global;
 use velo_events::{MOST_EVENTS, MOST_NODES, Memory};
+use velo_program::MOST_STATES;
 
 /// The command line of the program, as [`run`](crate::run) reads its words: the subcommands `check`, `replay`, `run`,
-/// `explain` and `carry`, each with its operand and its options. A word of no subcommand, or a limit out of its range, is a
-/// fault of usage: `--events` is 1 to [`MOST_EVENTS`], and 1,048,576 where it is not given; `--nodes` is 1 to [`MOST_NODES`],
-/// and 1,024.
+/// `explain`, `carry`, `explore`, `watch` and `audit`, each with its operand and its options. A word of no subcommand, or a
+/// limit out of its range, is a fault of usage: `--events` is 1 to [`MOST_EVENTS`], and 1,048,576 where it is not given;
+/// `--nodes` is 1 to [`MOST_NODES`], and 1,024; for `audit` both are the greatest where they are not given. `--states` is 1 to
+/// [`MOST_STATES`], and 2,097,152.
 ///
 /// # Errors
 /// `Memory` where a growth was refused.
@@ -30,7 +32,10 @@ pub fn command<'a>(alloc: Global) -> Result<Command<'a>, Memory>
     let program = with_subcommand(program, replay(alloc)?)?;
     let program = with_subcommand(program, run(alloc)?)?;
     let program = with_subcommand(program, explain(alloc)?)?;
-    with_subcommand(program, carry(alloc)?)
+    let program = with_subcommand(program, carry(alloc)?)?;
+    let program = with_subcommand(program, explore(alloc)?)?;
+    let program = with_subcommand(program, watch(alloc)?)?;
+    with_subcommand(program, audit(alloc)?)
 }
 
 fn check<'a>(alloc: Global) -> Result<Command<'a>, Memory>
@@ -41,6 +46,7 @@ fn check<'a>(alloc: Global) -> Result<Command<'a>, Memory>
         .about("Reads a recorded log and reports the verdict")
         .after_help(help::OF_CHECK);
     let command = with_argument(command, log(alloc))?;
+    let command = with_argument(command, names(alloc))?;
     with_graph_options(alloc, command)
 }
 
@@ -75,7 +81,8 @@ fn explain<'a>(alloc: Global) -> Result<Command<'a>, Memory>
         .about("Reads a recorded log and explains the verdict in words")
         .after_help(help::OF_EXPLAIN);
     let command = with_argument(command, log(alloc))?;
-    with_argument(command, dot(alloc))
+    let command = with_argument(command, dot(alloc))?;
+    with_argument(command, names(alloc))
 }
 
 fn carry<'a>(alloc: Global) -> Result<Command<'a>, Memory>
@@ -89,6 +96,50 @@ fn carry<'a>(alloc: Global) -> Result<Command<'a>, Memory>
     with_argument(command, carried(alloc))
 }
 
+fn explore<'a>(alloc: Global) -> Result<Command<'a>, Memory>
+    ensures reads { IfOk result (IsSubcommand explore) }
+    ensures memory { OnErr result GrowthRefused }
+{
+    let command = Command::new(alloc, "explore")
+        .about("Tries every schedule of a workload and reports what it finds")
+        .after_help(help::OF_EXPLORE);
+    let command = with_argument(command, file(alloc))?;
+    let command = with_argument(command, states_argument(alloc))?;
+    let command = with_argument(command, first(alloc))?;
+    let command = with_argument(command, found_log(alloc))?;
+    with_graph_options(alloc, command)
+}
+
+fn watch<'a>(alloc: Global) -> Result<Command<'a>, Memory>
+    ensures reads { IfOk result (IsSubcommand watch) }
+    ensures memory { OnErr result GrowthRefused }
+{
+    let command = Command::new(alloc, "watch")
+        .about("Reads a log as it comes, tells its alarm at once, and reports the verdict")
+        .after_help(help::OF_WATCH);
+    let command = with_argument(command, log(alloc))?;
+    let command = with_argument(command, stop_of_watch(alloc))?;
+    let command = with_argument(command, names(alloc))?;
+    with_graph_options(alloc, command)
+}
+
+fn audit<'a>(alloc: Global) -> Result<Command<'a>, Memory>
+    ensures reads { IfOk result (IsSubcommand audit) }
+    ensures memory { OnErr result GrowthRefused }
+{
+    let command = Command::new(alloc, "audit")
+        .about("Reads a recorded log and lists the labels whose blocks are not atomic")
+        .after_help(help::OF_AUDIT);
+    let command = with_argument(command, log(alloc))?;
+    let command = with_argument(command, names(alloc))?;
+    let command = with_argument(command, not_atomic(alloc))?;
+    let command = with_argument(command, ignored_locks(alloc))?;
+    let command = with_argument(command, ignored_variables(alloc))?;
+    let command = with_argument(command, no_witness(alloc))?;
+    let command = with_argument(command, events_argument(alloc, "16777216"))?;
+    with_argument(command, nodes_argument(alloc, "4096"))
+}
+
 /// The command with the options of each command that runs a workload.
 fn with_run_options<'a>(alloc: Global, command: Command<'a>) -> Result<Command<'a>, Memory>
     ensures adds { IfOk result (AddsRules run_options command.entry) }
@@ -96,6 +147,7 @@ fn with_run_options<'a>(alloc: Global, command: Command<'a>) -> Result<Command<'
 {
     let command = with_argument(command, stop(alloc))?;
     let command = with_argument(command, out(alloc))?;
+    let command = with_argument(command, names_out(alloc))?;
     with_graph_options(alloc, command)
 }
 
@@ -104,8 +156,8 @@ fn with_graph_options<'a>(alloc: Global, command: Command<'a>) -> Result<Command
     ensures adds { IfOk result (AddsRules graph_options command.entry) }
     ensures memory { OnErr result GrowthRefused }
 {
-    let command = with_argument(command, events_argument(alloc))?;
-    let command = with_argument(command, nodes_argument(alloc))?;
+    let command = with_argument(command, events_argument(alloc, "1048576"))?;
+    let command = with_argument(command, nodes_argument(alloc, "1024"))?;
     with_argument(command, certificate(alloc))
 }
 
@@ -151,6 +203,92 @@ fn out<'a>(alloc: Global) -> Arg<'a>
         "OUT",
         "Write the log of the run to this path, before the report",
     )
+}
+
+fn names_out<'a>(alloc: Global) -> Arg<'a>
+    ensures { IsArgument (valued (codes "names-out")) result }
+{
+    valued(
+        alloc,
+        "names-out",
+        "OUT",
+        "Write the names of the workload to this path, behind the log of --log",
+    )
+}
+
+fn names<'a>(alloc: Global) -> Arg<'a>
+    ensures { IsArgument (valued (codes "names")) result }
+{
+    valued(
+        alloc,
+        "names",
+        "FILE",
+        "The path of the names of threads, variables, locks and labels, or -",
+    )
+}
+
+fn first<'a>(alloc: Global) -> Arg<'a>
+    ensures { IsArgument (flag (codes "first")) result }
+{
+    flag(alloc, "first", "End the search at the first finding")
+}
+
+fn found_log<'a>(alloc: Global) -> Arg<'a>
+    ensures { IsArgument (valued (codes "log")) result }
+{
+    valued(
+        alloc,
+        "log",
+        "OUT",
+        "Write the log of the replay that is reported to this path, before the report",
+    )
+}
+
+fn stop_of_watch<'a>(alloc: Global) -> Arg<'a>
+    ensures { IsArgument (flag (codes "stop")) result }
+{
+    flag(alloc, "stop", "End the watch at an alarm")
+}
+
+fn not_atomic<'a>(alloc: Global) -> Arg<'a>
+    ensures { IsArgument (valued (codes "not-atomic")) result }
+{
+    valued(
+        alloc,
+        "not-atomic",
+        "FILE",
+        "The path of a list of labels to leave out, or -",
+    )
+}
+
+fn ignored_locks<'a>(alloc: Global) -> Arg<'a>
+    ensures { IsArgument (repeated (codes "ignore-lock")) result }
+{
+    valued(
+        alloc,
+        "ignore-lock",
+        "N",
+        "Leave out the events on this lock, a number or a name; may be given again",
+    )
+    .action(ArgAction::Append)
+}
+
+fn ignored_variables<'a>(alloc: Global) -> Arg<'a>
+    ensures { IsArgument (repeated (codes "ignore-variable")) result }
+{
+    valued(
+        alloc,
+        "ignore-variable",
+        "N",
+        "Leave out the events on this variable, a number or a name; may be given again",
+    )
+    .action(ArgAction::Append)
+}
+
+fn no_witness<'a>(alloc: Global) -> Arg<'a>
+    ensures { IsArgument (flag (codes "no-witness")) result }
+{
+    flag(alloc, "no-witness", "Leave out the witnesses of the rounds")
 }
 
 fn carried<'a>(alloc: Global) -> Arg<'a>
@@ -217,25 +355,37 @@ fn flag<'a>(alloc: Global, name: &'a str, help: &'a str) -> Arg<'a>
 }
 
 /// The most events of a log.
-fn events_argument<'a>(alloc: Global) -> Arg<'a>
-    ensures { IsArgument events result }
+fn events_argument<'a>(alloc: Global, default: &'a str) -> Arg<'a>
+    ensures { IsArgument (events default.entry.now) result }
 {
     Arg::new(alloc, "events")
         .long("events")
         .value_name("N")
         .help("The most events that the log may have, 1 to 16777216")
         .value_parser(value_parser!(u32).range(1..=i64::from(MOST_EVENTS)))
-        .default_value("1048576")
+        .default_value(default)
 }
 
 /// The most nodes of a graph.
-fn nodes_argument<'a>(alloc: Global) -> Arg<'a>
-    ensures { IsArgument nodes result }
+fn nodes_argument<'a>(alloc: Global, default: &'a str) -> Arg<'a>
+    ensures { IsArgument (nodes default.entry.now) result }
 {
     Arg::new(alloc, "nodes")
         .long("nodes")
         .value_name("N")
         .help("The most nodes that the graph may have at one time, 1 to 4096")
         .value_parser(value_parser!(u16).range(1..=i64::from(MOST_NODES)))
-        .default_value("1024")
+        .default_value(default)
+}
+
+/// The most states of a search.
+fn states_argument<'a>(alloc: Global) -> Arg<'a>
+    ensures { IsArgument states result }
+{
+    Arg::new(alloc, "states")
+        .long("states")
+        .value_name("N")
+        .help("The most states that the search may look at, 1 to 16777216")
+        .value_parser(value_parser!(u32).range(1..=i64::from(MOST_STATES)))
+        .default_value("2097152")
 }

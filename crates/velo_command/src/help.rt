@@ -12,7 +12,7 @@ Statuses:
   0  no alarm, or help
   2  usage, or the input is at fault
   3  an alarm: no serial reordering of the run exists
-  4  a limit was met, or the run could not go on
+  4  a limit was met, a run could not go on, or a search is open
   5  memory or a device failed
 
 The help of each command has an example, its statuses with the lines on standard error, and what their numbers mean.
@@ -30,10 +30,14 @@ event: 't rd x v', 't wr x v', 't acq m', 't rel m', 't acqs m', 't rels m' (a s
 't begin l', 't end', 't fork u', 't join u' or 't exit'. A log that begins 'vlog 1' has no 'acqs' and no 'rels'.
 docs/REFERENCE.md describes it whole, and the report.
 
+The names: each line is 'thread N NAME', 'variable N NAME', 'lock N NAME' or 'label N NAME', an empty one, or a comment
+that begins with '#'. With --names they are read first, and the report has the names of threads and labels behind their
+numbers. One of LOG and FILE can be -.
+
 Statuses, each with the lines on standard error:
   0  no alarm, or help
-  2  usage; the text is no log: 'log fault K', 'log fault K line N'; an event can't come about: 'refused K at P',
-     'wrong value at P'
+  2  usage; 'error: standard input can be read once'; the text is no log: 'log fault K', 'log fault K line N'; an event
+     can't come about: 'refused K at P', 'wrong value at P'; the names are at fault: 'names fault K line N'
   3  an alarm: no serial reordering of the log exists
   4  a limit was met: 'refused 17 at P', 'refused 18 at P'
   5  memory or a device failed: 'out of memory', 'read failed', 'write failed', 'cannot open'
@@ -43,6 +47,12 @@ Log faults:
    2  bad line
    3  the last line is cut off
    4  too many events
+
+Names faults, line 0 for the whole text:
+   1  bad line
+   2  number named twice
+   3  too many
+   4  not UTF-8
 
 Refusals:
    2  thread not live
@@ -77,11 +87,14 @@ are forked. docs/REFERENCE.md describes it whole, and the report.
 The schedule: in its turn a thread goes up to its next event and tries that; it passes where it must wait. After the
 turns of the schedule all threads have turns in rounds, up to the end.
 
+With --log, --names-out writes the names of the workload for that log, as 'velodrome check --names' reads them.
+
 FILE and OUT are two files: where they are one, nothing is done to it. With - for FILE this is not tested.
 
 Statuses, each with the lines on standard error:
   0  done without an alarm, or help
-  2  usage; 'bad schedule'; 'error: FILE and OUT are one file'; the text is no workload: 'workload fault K line N'
+  2  usage; 'bad schedule'; 'error: --names-out needs --log'; 'error: FILE and OUT are one file'; the text is no workload:
+     'workload fault K line N'
   3  an alarm: no serial reordering of the run exists
   4  the run could not go on: 'stuck', 'refused K thread T'; the report is written all the same
   5  memory or a device failed: 'out of memory', 'read failed', 'write failed', 'cannot open'
@@ -105,11 +118,14 @@ Each thread of the workload is a thread of the system, and they run at once: two
 logs and in their verdicts. 'velodrome replay --help' describes the workload. A thread waits for a lock that another one
 holds, and for the end of a thread that it joins; where that chain of waits comes back to it, the run ends as 'stuck'.
 
+With --log, --names-out writes the names of the workload for that log, as 'velodrome check --names' reads them.
+
 FILE and OUT are two files: where they are one, nothing is done to it. With - for FILE this is not tested.
 
 Statuses, each with the lines on standard error:
   0  done without an alarm, or help
-  2  usage; 'error: FILE and OUT are one file'; the text is no workload: 'workload fault K line N'
+  2  usage; 'error: --names-out needs --log'; 'error: FILE and OUT are one file'; the text is no workload:
+     'workload fault K line N'
   3  an alarm: no serial reordering of the run exists
   4  the run could not go on: 'stuck', 'refused K thread T'; the report is written all the same
   5  memory or a device failed: 'out of memory', 'read failed', 'write failed', 'cannot open'; or a thread was lost for
@@ -123,13 +139,14 @@ Example, a lost update:
   printf 'vlog 1 2 1 0\\n0 fork 1\\n0 begin 7\\n0 rd 0 0\\n1 wr 0 5\\n0 wr 0 1\\n' | velodrome explain -
 It tells which event closes a cycle, which transactions are on the cycle, which two events stand behind each of its
 edges, which blocks are to blame and why, each with its line of the log. Of a log without an alarm it tells how many
-transactions a serial order has; there is no picture then, and OUT is not opened.
+transactions a serial order has; there is no picture then, and OUT is not opened. With --names the words and the picture
+have names behind the numbers.
 
 LOG and OUT are two files: where they are one, nothing is done to it: 'error: LOG and OUT are one file', with status 2.
 With - for LOG this is not tested.
 
-The log, the other statuses and what their numbers mean are those of 'velodrome check --help'. A log has as many events
-and nodes as any check may have.";
+The log, the names, the other statuses and what their numbers mean are those of 'velodrome check --help'. A log has as
+many events and nodes as any check may have.";
 
 /// Behind the help of `carry`.
 pub const OF_CARRY: &str = "\
@@ -147,3 +164,83 @@ Statuses, each with the lines on standard error:
   5  memory or a device failed: 'out of memory', 'read failed', 'write failed', 'cannot open'
 
 Log faults: see 'velodrome check --help'.";
+
+/// Behind the help of `explore`.
+pub const OF_EXPLORE: &str = "\
+Example, two threads that add to one counter, each in a block:
+  printf 'var x\\nthread main\\nfork a\\nbegin inc\\nread x\\nadd 1\\nwrite x\\nend\\njoin a\\nthread a\\nbegin inc\\nread x\\nadd 1\\nwrite x\\nend\\n' | velodrome explore -
+It finds a schedule with an alarm, no deadlock and no refusal, and reports that schedule's replay, with status 3.
+
+It writes 'events N', those of all threads together, and 'states N', how many the search looked at; then three findings:
+  'alarm TURNS', 'stuck TURNS', 'refused K thread T NAME TURNS'
+                  a schedule that leads there: TURNS is what 'velodrome replay --schedule' takes
+  'alarm none', 'stuck none', 'refused none'
+                  every schedule was tried, and none leads there
+  'alarm open', 'stuck open', 'refused open'
+                  the search ended before its end: at --states, or with --first at a finding; nothing is said
+Behind them is the report of the replay by the schedule of the alarm, else of the deadlock, else of the refusal, as
+'velodrome replay' writes it; --certificate and --log are about that replay. Where no schedule was found, there is none, and
+OUT is not opened. A workload with more events than --events is not searched: 'states 0', and all three are open.
+
+FILE and OUT are two files: where they are one, nothing is done to it. With - for FILE this is not tested.
+
+Statuses, each with the lines on standard error:
+  0  every schedule was tried, and nothing was found; or help
+  2  usage; 'error: FILE and OUT are one file'; the text is no workload: 'workload fault K line N'
+  3  an alarm was found: by that schedule no serial reordering of the run exists
+  4  no alarm was found, but a deadlock, a refusal, or the search is open: 'stuck', 'refused K thread T', 'open'
+  5  memory or a device failed: 'out of memory', 'read failed', 'write failed', 'cannot open'
+
+Workload and its faults: see 'velodrome replay --help'. Refusals: see 'velodrome check --help'.";
+
+/// Behind the help of `watch`.
+pub const OF_WATCH: &str = "\
+Example, a lost update:
+  printf 'vlog 1 2 1 0\\n0 fork 1\\n0 begin 7\\n0 rd 0 0\\n1 wr 0 5\\n0 wr 0 1\\n' | velodrome watch -
+It writes 'alarm 4 blame 1 7' as soon as the last line has come, and behind the end of the log the report of 'velodrome
+check', with status 3.
+
+Each line is judged as soon as its newline has come. At the first alarm one line goes out at once: 'alarm P', and for each
+block to blame, outermost first, 'blame B L', or 'blame none'. Then the watch goes on to the end of the log; with --stop it
+ends there, reports the events so far, and leaves the rest unread. It ends without a report at the first line that is wrong,
+is refused or reads a wrong value, with the line and the status of 'velodrome check'; an alarm before that is out already.
+
+LOG is a pipe, a FIFO or a file, which ends at its end. One that grows: tail -c +1 -f LOG | velodrome watch -
+
+Statuses, each with the lines on standard error:
+  0  no alarm, or help
+  2  usage; 'error: standard input can be read once'; the text is no log: 'log fault K', 'log fault K line N'; an event
+     can't come about: 'refused K at P', 'wrong value at P'; the names are at fault: 'names fault K line N'
+  3  an alarm: no serial reordering of the log exists
+  4  a limit was met: 'refused 17 at P', 'refused 18 at P'
+  5  memory or a device failed: 'out of memory', 'read failed', 'write failed', 'cannot open'
+
+Log, names, faults and refusals: see 'velodrome check --help'.";
+
+/// Behind the help of `audit`.
+pub const OF_AUDIT: &str = "\
+Example, a lost update:
+  printf 'vlog 1 2 1 0\\n0 fork 1\\n0 begin 7\\n0 rd 0 0\\n1 wr 0 5\\n0 wr 0 1\\n' | velodrome audit -
+It finds the blocks of label 7 not atomic and tells a witness, with status 3.
+
+The log is read and judged whole first, as by 'velodrome check'. Then what was asked for is left out, and rounds begin: what
+is left is checked, the labels of the blocks to blame at its first alarm are not atomic, and their begins and ends are left
+out too. Where no block is to blame, it is the label of the outermost block that the closing event stands in. The last round
+has no alarm. All positions and lines are those of the log as it is.
+
+It writes 'left out label L', 'left out lock N', 'left out variable N' for what was asked for; 'not atomic L' for each label
+that was found, and the witness of its round, without --no-witness; then 'atomic N labels' and 'rounds R'. With --names each
+number has its name behind it.
+
+The list of --not-atomic has a label a line: a number, a name, or a line that this command wrote, so that its output is a
+list for the next log. --ignore-lock and --ignore-variable take a number or a name, and each may be given again.
+
+Statuses, each with the lines on standard error:
+  0  no label was found, or help
+  2  usage; 'error: standard input can be read once'; the text is no log: 'log fault K', 'log fault K line N'; an event
+     can't come about: 'refused K at P', 'wrong value at P'; the names are at fault: 'names fault K line N'
+  3  a label was found whose blocks are not atomic
+  4  a limit was met: 'refused 17 at P', 'refused 18 at P'
+  5  memory or a device failed: 'out of memory', 'read failed', 'write failed', 'cannot open'
+
+Log, names, faults and refusals: see 'velodrome check --help'.";

@@ -7,6 +7,7 @@ pub mod help;
 mod program;
 mod requests;
 mod telling;
+mod together;
 
 pub use arguments::command;
 pub use program::{end_without_words, run};

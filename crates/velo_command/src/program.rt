@@ -7,13 +7,14 @@ ghost use Rattle.velo_program.specs.Fate.{Closes, Ends};
 ghost use Rattle.velo_program.specs.Writing.{writing};
 ghost use Rattle.velo_program.specs.declared.fate.Fate.TheVariants as fate;
 ghost use Rattle.velo_command.specs.Asked.{AsksForNothing};
-ghost use Rattle.velo_command.specs.Running.{DoesRequest, Runs};
+ghost use Rattle.velo_command.specs.Running.{Answers, Runs};
 ghost use Rattle.velo_command.specs.Usage.{bad_usage, console_of, not_utf8};
 
 use crate::arguments::command;
 use crate::growth::matches_of;
 use crate::requests::request_of;
 use crate::telling::{tell_error, tell_fault};
+use crate::together::{clash_of, tell_clash};
 use clap::ArgMatches;
 use std::alloc::Global;
 use std::convert::AsStr;
@@ -57,7 +58,8 @@ pub fn run<R: Threads + Wait + Sync, F: Files, W: AsStr, O: Sink, E: Sink>(
     }
 }
 
-/// Does what the matches ask for, and answers the status to end with. Behind words without a fault they ask for something.
+/// Does what the matches ask for, if its options go together, and answers the status to end with. Behind words without a
+/// fault they ask for something.
 fn do_asked<R: Threads + Wait + Sync, F: Files, O: Sink, E: Sink>(
     rt: &R,
     alloc: Global,
@@ -67,13 +69,16 @@ fn do_asked<R: Threads + Wait + Sync, F: Files, O: Sink, E: Sink>(
     err: &mut E,
 ) -> u8
     requires { ¬ AsksForNothing (subcommand_rows_of matches.now) }
-    ensures { DoesRequest (subcommand_rows_of matches.now) (store F.disk files.old files.new)
+    ensures { Answers (subcommand_rows_of matches.now) (store F.disk files.old files.new)
         (console_of (out.new ≡ out.old)
         (writing O.contents O.failures out.old out.new)
         (writing E.contents E.failures err.old err.new) result) }
 {
     match request_of(matches) {
-        Some(request) => end_with(&do_request(rt, alloc, &request, files, out), err),
+        Some(request) => match clash_of(&request) {
+            Some(clash) => tell_clash(clash, err),
+            None => end_with(&do_request(rt, alloc, &request, files, out), err),
+        },
         None => unreachable!(),
     }
 }

@@ -1,18 +1,23 @@
 //! What the matches of the command line ask for.
-ghost use Rattle.std.specs.Prelude.{IfNone, IfSome};
-ghost use Rattle.clap.specs.Words.{found_of, rows_of, subcommand_rows_of};
+ghost use Rattle.std.specs.Prelude.{◌≤◌, ℕ, codes, IfNone, IfSome};
+ghost use Rattle.clap.specs.Words.{found_of, one_of, rows_of, subcommand_rows_of};
 ghost use Rattle.velo_program.specs.declared.request.Limits.{Limits};
+ghost use Rattle.velo_program.specs.declared.request.AuditOptions.{AuditOptions};
 ghost use Rattle.velo_program.specs.declared.request.CarryOptions.{CarryOptions};
 ghost use Rattle.velo_program.specs.declared.request.CheckOptions.{CheckOptions};
 ghost use Rattle.velo_program.specs.declared.request.ExplainOptions.{ExplainOptions};
+ghost use Rattle.velo_program.specs.declared.request.ExploreOptions.{ExploreOptions};
 ghost use Rattle.velo_program.specs.declared.request.ReplayOptions.{ReplayOptions};
 ghost use Rattle.velo_program.specs.declared.request.RunOptions.{RunOptions};
-ghost use Rattle.velo_command.specs.Asked.{AreLimits, AsksFor, AsksForNothing, IsCarrying, IsCheck, IsExplanation, IsReplay, IsRun};
+ghost use Rattle.velo_program.specs.declared.request.TheConstants.{MOST_STATES};
+ghost use Rattle.velo_program.specs.declared.request.WatchOptions.{WatchOptions};
+ghost use Rattle.velo_command.specs.Asked.{AreLimits, AsksFor, AsksForNothing, IsAudit, IsCarrying, IsCheck, IsExplanation, IsExploring, IsReplay, IsRun, IsWatch, WritesNumber};
 
 use clap::ArgMatches;
 use velo_events::{MOST_EVENTS, MOST_NODES};
 use velo_program::{
-    CarryOptions, CheckOptions, ExplainOptions, Limits, ReplayOptions, Request, RunOptions,
+    AuditOptions, CarryOptions, CheckOptions, ExplainOptions, ExploreOptions, Limits, MOST_STATES,
+    ReplayOptions, Request, RunOptions, WatchOptions,
 };
 
 /// Reads the limits from the matches of a subcommand; none where one is out of its range.
@@ -38,6 +43,7 @@ fn check_options<'a>(found: &ArgMatches<'a>) -> Option<CheckOptions<'a>>
         input: found.get_str("LOG")?,
         limits: limits_of(found)?,
         certificate: found.get_flag("certificate"),
+        names: found.get_str("names"),
     })
 }
 
@@ -63,6 +69,7 @@ fn run_options<'a>(found: &ArgMatches<'a>) -> Option<RunOptions<'a>>
         target: found.get_str("log"),
         limits: limits_of(found)?,
         certificate: found.get_flag("certificate"),
+        names_target: found.get_str("names-out"),
     })
 }
 
@@ -74,6 +81,7 @@ fn explain_options<'a>(found: &ArgMatches<'a>) -> Option<ExplainOptions<'a>>
     Some(ExplainOptions {
         input: found.get_str("LOG")?,
         target: found.get_str("dot"),
+        names: found.get_str("names"),
     })
 }
 
@@ -88,9 +96,68 @@ fn carry_options<'a>(found: &ArgMatches<'a>) -> Option<CarryOptions<'a>>
     })
 }
 
+/// Reads the most states of a search; none where it is out of its range.
+fn states_of(found: &ArgMatches) -> Option<u32>
+    ensures some { IfSome result (λ states. (1 ≤ states) × (states ≤ MOST_STATES)
+        × WritesNumber 32 (one_of (codes "states") (rows_of (found_of found.now))) states) }
+    ensures none { IfNone result ((states : ℕ) → 1 ≤ states → states ≤ MOST_STATES
+        → ¬ WritesNumber 32 (one_of (codes "states") (rows_of (found_of found.now))) states) }
+{
+    let states = found.get_one::<u32>("states")?;
+    if states < 1 || states > MOST_STATES {
+        return None;
+    }
+    Some(states)
+}
+
+fn explore_options<'a>(found: &ArgMatches<'a>) -> Option<ExploreOptions<'a>>
+    ensures some { IfSome result (IsExploring (rows_of (found_of found.now))) }
+    ensures none { IfNone result ((options : ExploreOptions)
+        → ¬ IsExploring (rows_of (found_of found.now)) options) }
+{
+    Some(ExploreOptions {
+        input: found.get_str("FILE")?,
+        states: states_of(found)?,
+        first: found.get_flag("first"),
+        target: found.get_str("log"),
+        limits: limits_of(found)?,
+        certificate: found.get_flag("certificate"),
+    })
+}
+
+fn watch_options<'a>(found: &ArgMatches<'a>) -> Option<WatchOptions<'a>>
+    ensures some { IfSome result (IsWatch (rows_of (found_of found.now))) }
+    ensures none { IfNone result ((options : WatchOptions)
+        → ¬ IsWatch (rows_of (found_of found.now)) options) }
+{
+    Some(WatchOptions {
+        input: found.get_str("LOG")?,
+        stop: found.get_flag("stop"),
+        limits: limits_of(found)?,
+        certificate: found.get_flag("certificate"),
+        names: found.get_str("names"),
+    })
+}
+
+fn audit_options<'a>(found: &'a ArgMatches) -> Option<AuditOptions<'a>>
+    ensures some { IfSome result (IsAudit (rows_of (found_of found.now))) }
+    ensures none { IfNone result ((options : AuditOptions)
+        → ¬ IsAudit (rows_of (found_of found.now)) options) }
+{
+    Some(AuditOptions {
+        input: found.get_str("LOG")?,
+        names: found.get_str("names"),
+        not_atomic: found.get_str("not-atomic"),
+        ignored_locks: found.get_strs("ignore-lock").unwrap_or(&[]),
+        ignored_variables: found.get_strs("ignore-variable").unwrap_or(&[]),
+        witness: !found.get_flag("no-witness"),
+        limits: limits_of(found)?,
+    })
+}
+
 /// What the matches of the command ask for; none where a word is missing or a number is out of its range, which the
 /// command has refused already.
-pub fn request_of<'a>(matches: &ArgMatches<'a>) -> Option<Request<'a>>
+pub fn request_of<'a>(matches: &'a ArgMatches) -> Option<Request<'a>>
     ensures some { IfSome result (AsksFor (subcommand_rows_of matches.now)) }
     ensures none { IfNone result (AsksForNothing (subcommand_rows_of matches.now)) }
 {
@@ -101,6 +168,9 @@ pub fn request_of<'a>(matches: &ArgMatches<'a>) -> Option<Request<'a>>
         "run" => Some(Request::Run(run_options(found)?)),
         "explain" => Some(Request::Explain(explain_options(found)?)),
         "carry" => Some(Request::Carry(carry_options(found)?)),
+        "explore" => Some(Request::Explore(explore_options(found)?)),
+        "watch" => Some(Request::Watch(watch_options(found)?)),
+        "audit" => Some(Request::Audit(audit_options(found)?)),
         _ => None,
     }
 }
