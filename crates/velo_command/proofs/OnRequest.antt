@@ -1,5 +1,5 @@
 -- The request that right words ask for.
-use Rattle.std.proofs.Common.{◌≡◌, ◌≤◌, ◌<◌, ◌^◌, Bool, true, false, not, refl, sym, ap, ap₂, arith, subst, inl, inr, List, [], ◌∷◌, map, Option, Some, None, codes, Bor}
+use Rattle.std.proofs.Common.{◌≡◌, ◌≤◌, ◌<◌, ◌^◌, Bool, true, false, not, refl, sym, ap, arith, subst, inl, inr, List, [], ◌∷◌, map, Option, Some, None, codes, Bor}
 use Rattle.std.specs.Prelude.{option_map, unwrap_or}
 use Rattle.std.specs.Option.{option_map_or}
 use Rattle.std.specs.Str.{bytes_eq}
@@ -217,7 +217,7 @@ right_asks found (inr (inr (inr (inr (inl is))))) =
     let options = a_carrying found.1 is.1 is.2 in
     (Carry options.0, (is.0, options.1))
 right_asks found (inr (inr (inr (inr (inr (inl is)))))) =
-    let options = an_exploring found.1 is.1 is.2.0 is.2.1 in
+    let options = an_exploring found.1 is.1 is.2 is.3 in
     (Explore options.0, (is.0, options.1))
 right_asks found (inr (inr (inr (inr (inr (inr (inl is))))))) =
     let options = a_watch found.1 is.1 is.2 in

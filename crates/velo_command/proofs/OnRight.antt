@@ -66,14 +66,14 @@ filled_more (x ∷ xs) ys some = tt
 -- a plain argument that suits the limits
 makes : (limits : List Rule) (a : Rule) → is_plain a ≡ true → Each (Suits a) limits → MakesRows (Passes limits) a
 makes limits a plain each =
-    (plain, (λ source values some fault. (some, go source values fault limits each), λ again r values same passes. (filled_more r.values values passes.0, more again r values same limits each)))
+    (plain, λ source values some fault. (some, go source values fault limits each), λ again r values same passes. (filled_more r.values values passes.0, more again r values same limits each))
   where
     one : (source : ValueSource) (values : List Text) → values_fault a values ≡ [] → (l : Rule) → Suits a l
         → IsAccepted l (new_row a.id (reading_by a) source values)
     one source values fault l (inl apart) same = absurd (true≢false (sym same ∙ apart))
     one source values fault l (inr is) same = (
       ap (λ p. reading_of (parser_of_value p)) is.0,
-      subst (λ c. values_kinds c (parser_of_value l.parser) values ≡ []) is.1.0 (subst (λ p. values_kinds a.ignore_case (parser_of_value p) values ≡ []) is.0 fault),
+      subst (λ c. values_kinds c (parser_of_value l.parser) values ≡ []) is.1 (subst (λ p. values_kinds a.ignore_case (parser_of_value p) values ≡ []) is.0 fault),
     )
 
     go : (source : ValueSource) (values : List Text) → values_fault a values ≡ [] → (ls : List Rule) → Each (Suits a) ls
@@ -86,7 +86,7 @@ makes limits a plain each =
     another again r values same l (inl apart) hit =
         let is : r.id ≡ a.id = (bytes_eq-Decides r.id a.id).0 same in
         absurd (true≢false (sym hit ∙ ap (λ id. bytes_eq id l.id) is ∙ apart))
-    another again r values same l (inr is) hit = absurd (true≢false (sym again ∙ is.1.1))
+    another again r values same l (inr is) hit = absurd (true≢false (sym again ∙ is.2))
 
     more : is_append (action_of a) ≡ true → (r : Row) (values : List Text) → bytes_eq r.id a.id ≡ true → (ls : List Rule) → Each (Suits a) ls
         → Each (λ l. IsAccepted l (more_row r values)) ls
@@ -164,13 +164,13 @@ makes_flag : (name : Text) → is_other name ≡ true → MakesRows (Passes limi
 makes_flag name other = makes limits (filled (flag name)) refl (others (filled (flag name)) other)
 
 makes_events : (default : Text) → MakesRows (Passes limits) (filled (events default))
-makes_events default = makes limits (filled (events default)) refl (inr (refl, (refl, refl)), (inl refl, (inl refl, tt)))
+makes_events default = makes limits (filled (events default)) refl (inr (refl, refl, refl), (inl refl, (inl refl, tt)))
 
 makes_nodes : (default : Text) → MakesRows (Passes limits) (filled (nodes default))
-makes_nodes default = makes limits (filled (nodes default)) refl (inl refl, (inr (refl, (refl, refl)), (inl refl, tt)))
+makes_nodes default = makes limits (filled (nodes default)) refl (inl refl, (inr (refl, refl, refl), (inl refl, tt)))
 
 makes_states : MakesRows (Passes limits) (filled states)
-makes_states = makes limits (filled states) refl (inl refl, (inl refl, (inr (refl, (refl, refl)), tt)))
+makes_states = makes limits (filled states) refl (inl refl, (inl refl, (inr (refl, refl, refl), tt)))
 
 makes_help : MakesRows (Passes limits) (filled help_rule)
 makes_help = makes limits (filled help_rule) refl (others (filled help_rule) refl)
@@ -216,7 +216,7 @@ explore_right : (words : List Text) → level_fault (leaf explore) [] nothing_he
     → HasWord (codes "FILE") (rows_of_leaf explore words) × HasLimit (codes "states") MOST_STATES (rows_of_leaf explore words) × HasLimits (rows_of_leaf explore words)
 explore_right words e =
     let level = level_has limits (leaf explore) words refl (makes_word (codes "FILE") refl, (makes_states, (makes_flag (codes "first") refl, (makes_valued (codes "log") refl, (makes_events (codes "1048576"), (makes_nodes (codes "1024"), (makes_flag (codes "certificate") refl, (makes_help, tt)))))))) e in
-    (word_there (codes "FILE") (rows_of_leaf explore words) level.passes (level.given.0 refl), (states_there (rows_of_leaf explore words) level.passes (level.defaults.1.0 tt), limits_there (rows_of_leaf explore words) level.passes (level.defaults.1.1.1.1.0 tt) (level.defaults.1.1.1.1.1.0 tt)))
+    (word_there (codes "FILE") (rows_of_leaf explore words) level.passes (level.given.0 refl), states_there (rows_of_leaf explore words) level.passes (level.defaults.1.0 tt), limits_there (rows_of_leaf explore words) level.passes (level.defaults.1.1.1.1.0 tt) (level.defaults.1.1.1.1.1.0 tt))
 
 watch_right : (words : List Text) → level_fault (leaf watch) [] nothing_held words false [] ≡ []
     → HasWord (codes "LOG") (rows_of_leaf watch words) × HasLimits (rows_of_leaf watch words)
@@ -255,7 +255,7 @@ not_help name apart hit = true≢false (sym ((bytes_eq-Decides name (codes "help
     alone false e = e
 
 each_right : (name : Text) (words : List Text) → bytes_eq name (codes "help") ≡ false → Each (IsRightAt name words) (built command_line).subs
-each_right name words apart = (λ hit e. inl (refl, check_right words e), (λ hit e. inr (inl (refl, replay_right words e)), (λ hit e. inr (inr (inl (refl, run_right words e))), (λ hit e. inr (inr (inr (inl (refl, explain_right words e)))), (λ hit e. inr (inr (inr (inr (inl (refl, carry_right words e))))), (λ hit e. inr (inr (inr (inr (inr (inl (refl, explore_right words e)))))), (λ hit e. inr (inr (inr (inr (inr (inr (inl (refl, watch_right words e))))))), (λ hit e. inr (inr (inr (inr (inr (inr (inr ((refl, audit_right words e)))))))), (λ hit e. absurd (not_help name apart hit), tt)))))))))
+each_right name words apart = (λ hit e. inl (refl, (check_right words e).0, (check_right words e).1), (λ hit e. inr (inl (refl, (replay_right words e).0, (replay_right words e).1)), (λ hit e. inr (inr (inl (refl, (run_right words e).0, (run_right words e).1))), (λ hit e. inr (inr (inr (inl (refl, explain_right words e)))), (λ hit e. inr (inr (inr (inr (inl (refl, (carry_right words e).0, (carry_right words e).1))))), (λ hit e. inr (inr (inr (inr (inr (inl (refl, (explore_right words e).0, (explore_right words e).1, (explore_right words e).2)))))), (λ hit e. inr (inr (inr (inr (inr (inr (inl (refl, (watch_right words e).0, (watch_right words e).1))))))), (λ hit e. inr (inr (inr (inr (inr (inr (inr ((refl, (audit_right words e).0, (audit_right words e).1)))))))), (λ hit e. absurd (not_help name apart hit), tt)))))))))
 
 -- words without a fault ask for a request
 pub faultless_is_right : (words : List Text) → fault_of command_line words ≡ []

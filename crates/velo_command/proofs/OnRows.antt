@@ -167,7 +167,7 @@ module _ (P : Row → Type 0) where
           → Each P (with_values a.id (reading_by a) CommandLine (values_or_missing a values) (without a.id rows))
       set some range e =
           let parts = neither (repeat_fault again a.id rows) _ e in
-          let row = makes.1.0 CommandLine (values_or_missing a values) (filled a values some range) parts.1 in
+          let row = makes.1 CommandLine (values_or_missing a values) (filled a values some range) parts.1 in
           subst (Each P) (sym (added_anew a.id (reading_by a) CommandLine (values_or_missing a values) rows (no_row again a.id rows once parts.0))) (each_more P rows _ all row)
 
       go : (x : ArgAction) → action_of a ≡ x → is_plain_as x a ≡ true → range_kinds (unwrap_or_range a.range).start_inclusive (most_values a) (length values) ≡ []
@@ -176,9 +176,9 @@ module _ (P : Row → Type 0) where
       go SetTrue is plain range e = set plain range e
       go SetFalse is plain range e = set plain range e
       go Append is plain range e =
-          let more = makes.1.1 (ap is_append is) in
+          let more = makes.2 (ap is_append is) in
           values_keep P a.id (reading_by a) (values_or_missing a values) rows
-          (makes.1.0 CommandLine (values_or_missing a values) (filled a values plain range) e)
+          (makes.1 CommandLine (values_or_missing a values) (filled a values plain range) e)
           (λ r same holds. more r (values_or_missing a values) same holds) all
       go Count is plain range e = absurd (true≢false (sym plain))
       go Help is plain range e = all
@@ -195,7 +195,7 @@ module _ (P : Row → Type 0) where
       defaults (v ∷ vs) none e =
           let some : is_empty (v ∷ vs) ≡ false = ne_eqb _ _ (λ z. omega arith) in
           let fault : given_default_fault a (v ∷ vs) ≡ [] = rw some at e in
-          let row = makes.1.0 DefaultValue (v ∷ vs) tt (neither (request_kinds (action_of a)) _ fault).1 in
+          let row = makes.1 DefaultValue (v ∷ vs) tt (neither (request_kinds (action_of a)) _ fault).1 in
           subst (Each P) (sym (added a.id (reading_by a) DefaultValue (v ∷ vs) rows none)) (each_more P rows _ all row)
 
       go : (b : Bool) → has_row a.id rows ≡ b → cond (b || is_empty a.defaults) [] (given_default_fault a a.defaults) ≡ []

@@ -14,7 +14,8 @@ use Rattle.velo_command.specs.Together.{clash_of, line_of_clash}
 use Rattle.velo_command.specs.Usage.{Console, LacksMemory, TellsError, bad_usage}
 use Rattle.velo_command.specs.declared.together.Clash.{Clash}
 
--- a request that was asked for was done, and the end is that of what it came to; its options go together
+-- a request that was asked for, whose options go together, was done, and the end is that of what
+-- it came to
 pub record DoesRequest (asked : Asked) (store : Store) (console : Console) : Type 0 where
   pub request : Request
   pub fate : Fate
@@ -24,8 +25,8 @@ pub record DoesRequest (asked : Asked) (store : Store) (console : Console) : Typ
   pub cause : AnswersWithCause request fate
   pub ended : Ends fate console.stderr console.status
 
--- a request was asked for whose options do not go together, and this was told: standard output is as it was, and the end is
--- that of bad usage
+-- a request was asked for whose options do not go together, and this was told: standard output is
+-- as it was, and the end is that of bad usage
 pub record TellsClash (asked : Asked) (console : Console) : Type 0 where
   pub request : Request
   pub clash : Clash
@@ -46,8 +47,8 @@ pub record TellsFault (words : List Text) (console : Console) : Type 0 where
   pub text : List ℕ
   pub told : TellsError kind text console
 
--- The words have no fault, and what they ask for was answered; or the files are as they were, and one of the faults was told,
--- or memory ran out before.
+-- The words have no fault, and what they ask for was answered; or the files are as they were, and
+-- one of the faults was told, or memory ran out before.
 abbrev pub Runs : List Text → Store → Console → Type 0
 Runs words store console =
     ((faults_of words ≡ []) × Answers (asked_by words) store console)
