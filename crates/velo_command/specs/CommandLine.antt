@@ -100,6 +100,13 @@ audit = subcommand (codes "audit")
     ∷ flag (codes "no-witness")
     ∷ events (codes "16777216") ∷ nodes (codes "4096") ∷ [])
 
+-- the program before it has its subcommands
+abbrev pub bare : App
+bare = record {
+  top = record (new_shape (codes "velodrome")) { has_version = true; subcommand_required = true };
+  subs = [];
+}
+
 -- the program: one of its subcommands has to be named, and it has a version
 abbrev pub command_line : App
 command_line = record {

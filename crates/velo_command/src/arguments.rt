@@ -2,7 +2,7 @@
 ghost use Rattle.std.specs.Prelude.{◌≡◌, IfOk, OnErr, codes};
 ghost use Rattle.clap.specs.Words.{app_of};
 ghost use Rattle.velo_events.specs.Refusals.{GrowthRefused};
-ghost use Rattle.velo_command.specs.CommandLine.{AddsRules, IsArgument, IsSubcommand, audit, carry, check, command_line, events, explain, explore, flag, graph_options, needed, nodes, repeated, replay, run, run_options, states, valued, watch, word};
+ghost use Rattle.velo_command.specs.CommandLine.{AddsRules, IsArgument, IsSubcommand, audit, bare, carry, check, command_line, events, explain, explore, flag, graph_options, needed, nodes, repeated, replay, run, run_options, states, valued, watch, word};
 
 use crate::growth::{with_argument, with_subcommand};
 use crate::help;
@@ -23,12 +23,7 @@ pub fn command<'a>(alloc: Global) -> Result<Command<'a>, Memory>
     ensures reads { IfOk result (λ c. app_of c ≡ command_line) }
     ensures memory { OnErr result GrowthRefused }
 {
-    let program = Command::new(alloc, "velodrome")
-        .about("Tells whether the atomic blocks of an observed run can be serialized")
-        .version(help::VERSION)
-        .after_help(help::OF_PROGRAM)
-        .subcommand_required(true);
-    let program = with_subcommand(program, check(alloc)?)?;
+    let program = with_subcommand(bare(alloc), check(alloc)?)?;
     let program = with_subcommand(program, replay(alloc)?)?;
     let program = with_subcommand(program, run(alloc)?)?;
     let program = with_subcommand(program, explain(alloc)?)?;
@@ -36,6 +31,17 @@ pub fn command<'a>(alloc: Global) -> Result<Command<'a>, Memory>
     let program = with_subcommand(program, explore(alloc)?)?;
     let program = with_subcommand(program, watch(alloc)?)?;
     with_subcommand(program, audit(alloc)?)
+}
+
+/// The program before it has its subcommands.
+fn bare<'a>(alloc: Global) -> Command<'a>
+    ensures { app_of result ≡ bare }
+{
+    Command::new(alloc, "velodrome")
+        .about("Tells whether the atomic blocks of an observed run can be serialized")
+        .version(help::VERSION)
+        .after_help(help::OF_PROGRAM)
+        .subcommand_required(true)
 }
 
 fn check<'a>(alloc: Global) -> Result<Command<'a>, Memory>

@@ -1,21 +1,10 @@
-use Rattle.std.proofs.Common.{◌≡◌, [], rules, true, codes}
 use Rattle.std.proofs.lemmas.Result.{IfOk-weaker}
-use Rattle.clap.specs.Simple.{new_shape}
-use Rattle.clap.specs.Words.{App, app_of}
 use Rattle.velo_command.proofs.OnBuilding.{adds_subcommand}
 use Rattle.velo_command.proofs.arguments.command.Goals as goal
 
--- the program before its subcommands
-abbrev program : App
-program = record {
-  top = record (new_shape (codes "velodrome")) { has_version = true; subcommand_required = true };
-  subs = [];
-}
-
 pub returns-clause-reads : goal.returns-clause-reads
 returns-clause-reads c =
-    let is_program : app_of c.subcommand_required-program.result ≡ program = search rules in
-    let with_check = adds_subcommand _ _ _ _ _ is_program c.in_ok-check.ensures.reads c.in_ok-program.ensures.adds in
+    let with_check = adds_subcommand _ _ _ _ _ c.bare.ensures c.in_ok-check.ensures.reads c.in_ok-program.ensures.adds in
     let with_replay = adds_subcommand _ _ _ _ _ with_check c.in_ok-replay.ensures.reads c.in_ok-program-2.ensures.adds in
     let with_run = adds_subcommand _ _ _ _ _ with_replay c.in_ok-run.ensures.reads c.in_ok-program-3.ensures.adds in
     let with_explain = adds_subcommand _ _ _ _ _ with_run c.in_ok-explain.ensures.reads c.in_ok-program-4.ensures.adds in
