@@ -6,3 +6,5 @@ mod OnPlaying
 mod OnSchedules
 mod OnWatching
 mod OnReading
+mod OnNaming
+mod OnAuditing

@@ -15,10 +15,16 @@ use Rattle.velo_logtext.specs.declared.fault.LogFault.TheVariants as log_fault
 use Rattle.velo_traces.specs.declared.judge.Flaw.TheVariants as flaw
 use Rattle.velo_traces.specs.Flaws.{flaw_of, flaw_by}
 use Rattle.velo_world.specs.Faults.{IsRefusedAt}
+use Rattle.velo_names.specs.declared.fault.NamesFault.{NamesFault}
+use Rattle.velo_names.specs.declared.fault.NamesFault.TheVariants as names_fault
+use Rattle.velo_names.specs.Names.{NameLists}
+use Rattle.velo_audit_text.specs.declared.words.Asked.{Asked}
+use Rattle.velo_report.specs.declared.names.Names.{Names}
 use Rattle.velo_program.specs.declared.check.CheckFault.{CheckFault}
 use Rattle.velo_program.specs.declared.check.CheckFault.TheVariants as check_fault
 use Rattle.velo_program.specs.declared.fate.Fate.{Fate}
 use Rattle.velo_program.specs.declared.fate.Fate.TheVariants as fate
+use Rattle.velo_program.specs.declared.request.AuditOptions.{AuditOptions}
 use Rattle.velo_program.specs.declared.request.Operand.{Operand}
 use Rattle.velo_program.specs.declared.request.Operand.TheVariants.{File, Log}
 use Rattle.velo_program.specs.declared.request.ReplayOptions.{ReplayOptions}
@@ -34,12 +40,14 @@ use Rattle.velo_worker.specs.Causes.{RefusedByGrowth}
 use Rattle.velo_workload.specs.Program.{Program}
 use Rattle.velo_workload.specs.declared.fault.WorkFault.TheVariants as work_fault
 use Rattle.velo_world.specs.World.{WorldState}
-use Rattle.velo_program.specs.Causes.{AnswersWithCause, CheckByGrowth, ComesByRefusal, EndsByRefusal, Growths, GrowthsAndStarts, LogByGrowth, Needs, ScheduleByGrowth}
+use Rattle.velo_program.specs.Causes.{AnswersWithCause, CheckByGrowth, ComesByRefusal, EndsByRefusal, Growths, GrowthsAndStarts, LogByGrowth, NamesByGrowth, Needs, ScheduleByGrowth}
+use Rattle.velo_program.specs.Auditing.{IsAuditAnswer}
 use Rattle.velo_program.specs.Carrying.{IsCarryAnswer, IsPut}
 use Rattle.velo_program.specs.Check.{IsCheckAnswer, IsFaultOfInput}
 use Rattle.velo_program.specs.Delivery.{Answer, IsDelivered, IsPrinted, LacksMemory, silent}
 use Rattle.velo_program.specs.Disk.{Disk, IsBarred, Store}
 use Rattle.velo_program.specs.Explaining.{IsExplanation}
+use Rattle.velo_program.specs.Naming.{HaveFaultOfNames, LacksNames, SayNoNames}
 use Rattle.velo_program.specs.Playing.{ByThreads, ByTurns, IsPlayAnswer, IsRunOf, IsSaidOfRun, IsUnread, Play}
 use Rattle.velo_program.specs.Program.{Does, DoesPlay}
 use Rattle.velo_program.specs.Schedule.{IsFaultOfSchedule}
@@ -100,14 +108,20 @@ module _ (needs : Needs) where
   of_lack : (answer : Answer) → LacksMemory answer → HasCause answer
   of_lack answer lacks = said answer (silent fate.Memory) lacks.1 lacks.0
 
-  of_check : (limit nodes : ℕ) (certificate : Bool) (read : Option (List ℕ)) (answer : Answer) → EndsByRefusal needs ending.Done → IsCheckAnswer limit nodes certificate read answer → HasCause answer
-  of_check limit nodes certificate read answer done (inl c) = said answer _ c.said done
-  of_check limit nodes certificate read answer done (inr f) = said answer (silent (fate.Check f.0)) f.2 (of_fault limit nodes read f.0 f.1)
+  of_check : (names : Names) (limit nodes : ℕ) (certificate : Bool) (read : Option (List ℕ)) (answer : Answer) → EndsByRefusal needs ending.Done → IsCheckAnswer names limit nodes certificate read answer → HasCause answer
+  of_check names limit nodes certificate read answer done (inl c) = said answer _ c.said done
+  of_check names limit nodes certificate read answer done (inr f) = said answer (silent (fate.Check f.0)) f.2 (of_fault limit nodes read f.0 f.1)
 
-  of_explanation : (read : Option (List ℕ)) (answer : Answer) → EndsByRefusal needs ending.Done → IsExplanation read answer → HasCause answer
-  of_explanation read answer done (inl e) = ⊎_elim (λ alarm. said answer _ alarm.said done) (λ clean. said answer _ clean.1 done) e.verdict
-  of_explanation read answer done (inr (inl f)) = said answer (silent (fate.Check f.0)) f.2 (of_fault _ _ read f.0 f.1)
-  of_explanation read answer done (inr (inr lacks)) = of_lack answer lacks
+  of_explanation : (names : NameLists) (read : Option (List ℕ)) (answer : Answer) → EndsByRefusal needs ending.Done → IsExplanation names read answer → HasCause answer
+  of_explanation names read answer done (inl e) = ⊎_elim (λ alarm. said answer _ alarm.said done) (λ clean. said answer _ clean.1 done) e.verdict
+  of_explanation names read answer done (inr (inl f)) = said answer (silent (fate.Check f.0)) f.2 (of_fault _ _ read f.0 f.1)
+  of_explanation names read answer done (inr (inr lacks)) = of_lack answer lacks
+
+  of_audit : (names : NameLists) (asked : Asked) (options : AuditOptions) (read : Option (List ℕ)) (answer : Answer) → EndsByRefusal needs ending.Done → IsAuditAnswer names asked options read answer
+      → HasCause answer
+  of_audit names asked options read answer done (inl is) = ⊎_elim (λ tells. said answer _ tells.said done) (λ full. said answer _ full.said tt) is.verdict
+  of_audit names asked options read answer done (inr (inl f)) = said answer (silent (fate.Check f.0)) f.2 (of_fault _ _ read f.0 f.1)
+  of_audit names asked options read answer done (inr (inr lacks)) = of_lack answer lacks
 
   of_carry : (read : Option (List ℕ)) (answer : Answer) → EndsByRefusal needs ending.Done → IsCarryAnswer read answer → HasCause answer
   of_carry read answer done (inl c) = said answer _ c.3 done
@@ -162,6 +176,26 @@ unread : (needs : Needs) (disk : Disk) (operand : Operand) (input : List ℕ) (t
 unread needs disk operand input target f (inl closed) = subst (ComesByRefusal needs) (sym closed.0) tt
 unread needs disk operand input target f (inr one) = subst (ComesByRefusal needs) (sym one.0) tt
 
+-- nor names
+of_names : (read : Option (List ℕ)) (f : NamesFault) → HaveFaultOfNames read f → NamesByGrowth f
+of_names read names_fault.Memory is = is
+of_names read (names_fault.BadLine n) is = tt
+of_names read (names_fault.NamedTwice n) is = tt
+of_names read names_fault.TooManyLines is = tt
+of_names read names_fault.TooManyBytes is = tt
+of_names read names_fault.NotText is = tt
+
+unsaid : (needs : Needs) (read : Option (List ℕ)) (f : Fate) → SayNoNames read f → ComesByRefusal needs f
+unsaid needs read (fate.Names fault) is = of_names read fault is
+unsaid needs read fate.ReadFailed is = tt
+unsaid needs read fate.Memory is = is
+unsaid needs read f is = absurd is
+
+pub unnamed : (needs : Needs) (disk : Disk) (path : Option (Bor (List ℕ))) (f : Fate) → LacksNames disk path f → ComesByRefusal needs f
+unnamed needs disk None f lacks = absurd lacks
+unnamed needs disk (Some path) f (inl closed) = subst (ComesByRefusal needs) (sym closed.0) tt
+unnamed needs disk (Some path) f (inr broken) = unsaid needs broken.read.bytes f broken.unsaid
+
 -- of a workload that was played
 played : (needs : Needs) (play : Play) (options : RunOptions) (store : Store) (stdout : Writing) (f : Fate)
     → ((program : Program) (ended : Ending) (w : WorldState) → IsRunOf play options program ended w → EndsByRefusal needs ended) → DoesPlay play options store stdout f → ComesByRefusal needs f
@@ -194,10 +228,12 @@ of_watch options read out f (inl h) = of_printed Growths out h.0 f (of_watch_ans
 of_watch options read out f (inr h) = subst (ComesByRefusal Growths) (sym h.0) tt
 
 pub of_done : (store : Store) (asked : Request) (stdout : Writing) (f : Fate) → Does store asked stdout f → AnswersWithCause asked f
-of_done store (request.Check options) stdout f (inl h) = unread Growths store.disk Log options.input.now None f h.0
-of_done store (request.Check options) stdout f (inr h) = of_delivered Growths store None stdout h.1 f (of_check Growths _ _ _ h.0.bytes h.1 tt h.4) h.5
-of_done store (request.Explain options) stdout f (inl h) = unread Growths store.disk Log options.input.now options.target f h.0
-of_done store (request.Explain options) stdout f (inr h) = of_delivered Growths store options.target stdout h.1 f (of_explanation Growths h.0.bytes h.1 tt h.4) h.5
+of_done store (request.Check options) stdout f (inl h) = unnamed Growths store.disk options.names f h.0
+of_done store (request.Check options) stdout f (inr (names, read, (shown, are, inl h))) = unread Growths store.disk Log options.input.now None f h.0
+of_done store (request.Check options) stdout f (inr (names, read, (shown, are, inr h))) = of_delivered Growths store None stdout h.1 f (of_check Growths shown _ _ _ h.0.bytes h.1 tt h.4) h.5
+of_done store (request.Explain options) stdout f (inl h) = unnamed Growths store.disk options.names f h.0
+of_done store (request.Explain options) stdout f (inr (names, read, inl h)) = unread Growths store.disk Log options.input.now options.target f h.0
+of_done store (request.Explain options) stdout f (inr (names, read, inr h)) = of_delivered Growths store options.target stdout h.1 f (of_explanation Growths names h.0.bytes h.1 tt h.4) h.5
 of_done store (request.Carry options) stdout f (inl h) = unread Growths store.disk Log options.input.now (Some options.target) f h.0
 of_done store (request.Carry options) stdout f (inr (inl h)) = subst (ComesByRefusal Growths) (sym h.0) tt
 of_done store (request.Carry options) stdout f (inr (inr h)) = of_put Growths h.2 h.1 f (of_carry Growths h.0.bytes h.1 tt h.5) h.7
@@ -207,4 +243,6 @@ of_done store (request.Replay options) stdout f (inr h) = played Growths (ByTurn
 of_done store (request.Explore options) stdout f h = subst (ComesByRefusal Growths) (sym h) tt
 of_done store (request.Watch options) stdout f (inl h) = unread Growths store.disk Log options.input.now None f h.0
 of_done store (request.Watch options) stdout f (inr h) = of_watch options h.0.bytes stdout f h.3
-of_done store (request.Audit options) stdout f h = subst (ComesByRefusal Growths) (sym h) tt
+of_done store (request.Audit options) stdout f (inl h) = unnamed Growths store.disk options.names f h.0
+of_done store (request.Audit options) stdout f (inr (names, asked, read, asks, inl h)) = unread Growths store.disk Log options.input.now None f h.0
+of_done store (request.Audit options) stdout f (inr (names, asked, read, asks, inr h)) = of_delivered Growths store None stdout h.1 f (of_audit Growths names asked options h.0.bytes h.1 tt h.4) h.5

@@ -7,6 +7,7 @@ use Rattle.velo_events.specs.Graph.{HasCycle}
 use Rattle.velo_traces.specs.declared.block.Block.{Block}
 use Rattle.velo_world.specs.declared.analysis.Alarm.{Alarm}
 use Rattle.velo_world.specs.World.{IsAlarm}
+use Rattle.velo_names.specs.Names.{NameLists}
 use Rattle.velo_explain.specs.declared.evidence.Evidence.{Evidence}
 use Rattle.velo_explain.specs.Evidence.{IsEvidence, HaveReasons}
 use Rattle.velo_worker.specs.declared.ending.Ending.TheVariants as ending
@@ -44,32 +45,32 @@ module _ (store : Store) (target : Option (Bor (List ℕ))) (stdout : Writing) w
       printed_put store target stdout saved None (Some text) _ kept (λ e. cc) f (subst (λ (t : List ℕ). IsPrinted stdout (printing t (fate.Finished ending.Done alarm)) f) is told)
 
   -- no explanation is told as a failed read
-  pub explains_reads : (log : List Event) (answer : Answer) (n : ℕ) → ExplainsVerdict log answer ⊎ LacksMemory answer → (f : Fate) → IsDelivered store target stdout answer f → failures_told f n ≡ n
-  explains_reads log answer n is f h = delivered_reads store target stdout answer n (by_fate is) f h
+  pub explains_reads : (names : NameLists) (log : List Event) (answer : Answer) (n : ℕ) → ExplainsVerdict names log answer ⊎ LacksMemory answer → (f : Fate) → IsDelivered store target stdout answer f → failures_told f n ≡ n
+  explains_reads names log answer n is f h = delivered_reads store target stdout answer n (by_fate is) f h
     where
-      by_fate : ExplainsVerdict log answer ⊎ LacksMemory answer → failures_told answer.fate n ≡ n
+      by_fate : ExplainsVerdict names log answer ⊎ LacksMemory answer → failures_told answer.fate n ≡ n
       by_fate (inl (inl alarm)) = same_fate answer _ n alarm.said refl
       by_fate (inl (inr clean)) = same_fate answer _ n clean.1 refl
       by_fate (inr lacks) = same_fate answer _ n lacks.1 refl
 
   -- this answer explains the log; or memory was wanting, and nothing is said
-  pub explains_by : (log : List Event) (answer : Answer) (f : Fate) → ExplainsVerdict log answer → DeliversOrLacks answer store target stdout f → Explains log store target stdout f
-  explains_by log answer f explains (inl put) = (answer, inl explains, put)
-  explains_by log answer f explains (inr lacks) =
+  pub explains_by : (names : NameLists) (log : List Event) (answer : Answer) (f : Fate) → ExplainsVerdict names log answer → DeliversOrLacks answer store target stdout f → Explains names log store target stdout f
+  explains_by names log answer f explains (inl put) = (answer, inl explains, put)
+  explains_by names log answer f explains (inr lacks) =
       (silent fate.Memory, inr (lacks.0, refl), subst (λ (f : Fate). IsDelivered store target stdout (silent fate.Memory) f) (sym lacks.1) (refl, lacks.2, lacks.3))
 
   -- words alone leave the files as they were
-  pub explains_clean : (log : List Event) (f : Fate) → ¬ HasCycle log → store.is_kept → PrintsOrLacks (counted log) stdout f → Explains log store target stdout f
-  explains_clean log f none kept (inl told) = (counted log, inl (inr (none, refl)), printed_put store target stdout None None (counted log).printed (fate.Finished ending.Done false) kept (λ e. cc) f told)
-  explains_clean log f none kept (inr lacks) =
+  pub explains_clean : (names : NameLists) (log : List Event) (f : Fate) → ¬ HasCycle log → store.is_kept → PrintsOrLacks (counted log) stdout f → Explains names log store target stdout f
+  explains_clean names log f none kept (inl told) = (counted log, inl (inr (none, refl)), printed_put store target stdout None None (counted log).printed (fate.Finished ending.Done false) kept (λ e. cc) f told)
+  explains_clean names log f none kept (inr lacks) =
       (silent fate.Memory, inr (lacks.0, refl), subst (λ (f : Fate). IsDelivered store target stdout (silent fate.Memory) f) (sym lacks.1) (refl, kept, lacks.2))
 
 -- an alarm is explained by its evidence, whichever list of its events the evidence is of
-pub of_evidence : (events log : List Event) → events ≡ log → (a : Alarm) (blamed : List Block) → blamed ≡ a.blamed.items → (evidence : Evidence)
+pub of_evidence : (names : NameLists) (events log : List Event) → events ≡ log → (a : Alarm) (blamed : List Block) → blamed ≡ a.blamed.items → (evidence : Evidence)
     → IsAlarm log a → IsEvidence events a.position blamed evidence
     → (¬ HasCycle (take a.position events) → HaveReasons events a.position blamed evidence)
-    → ExplainsAlarm log (explained events a.position evidence)
-of_evidence events log is a blamed same evidence is_alarm is_evidence reasons =
+    → ExplainsAlarm names log (explained names events a.position evidence)
+of_evidence names events log is a blamed same evidence is_alarm is_evidence reasons =
     record {
       alarm = a;
       is_alarm = is_alarm;
@@ -79,5 +80,5 @@ of_evidence events log is a blamed same evidence is_alarm is_evidence reasons =
       reasons = subst (λ (l : List Event). HaveReasons l a.position a.blamed.items evidence) is
           (subst (λ (b : List Block). HaveReasons events a.position b evidence) same
           (reasons (subst (λ (l : List Event). ¬ HasCycle (take a.position l)) (sym is) (no_cycle_before log a.position is_alarm.closing))));
-      said = ap (λ (l : List Event). explained l a.position evidence) is;
+      said = ap (λ (l : List Event). explained names l a.position evidence) is;
     }

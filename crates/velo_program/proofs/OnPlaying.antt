@@ -24,10 +24,10 @@ use Rattle.velo_program.proofs.OnDelivery.{delivered_reads, same_fate}
 
 -- ---- from the bytes that were read to those of the file
 
-whole : (all bytes rest : List ℕ) → all ≡ bytes ++ rest → rest ≡ [] → bytes ≡ all
+pub whole : (all bytes rest : List ℕ) → all ≡ bytes ++ rest → rest ≡ [] → bytes ≡ all
 whole all bytes rest is none = sym (is ∙ ap (λ r. bytes ++ r) none ∙ append-nil bytes)
 
-longer : (all bytes rest : List ℕ) → all ≡ bytes ++ rest → length bytes ≤ length all
+pub longer : (all bytes rest : List ℕ) → all ≡ bytes ++ rest → length bytes ≤ length all
 longer all bytes rest is = let n = ap length is in omega (arith, n, length-append bytes rest)
 
 pub text_read : (read : Option (List ℕ)) (bytes : List ℕ) (program : Program) → IsReadOf MOST_WORKLOAD_BYTES read bytes → IsTextOf (Some bytes) program → IsTextOf read program

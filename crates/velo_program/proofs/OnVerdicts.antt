@@ -139,31 +139,31 @@ module _ (names : Names) (w : WorldState) where
 -- ---- the answer of a check
 
 -- what is shown of the world of a log that came about is the answer to the input
-pub checked_by : (limit nodes : ℕ) (certificate : Bool) (read : Option (List ℕ)) (w : WorldState) (out : Writing) (result : Result Verdict CheckFault)
-    → ComesAbout limit read w.config.bounds w.log → Shows certificate w out result → Checks limit nodes certificate read out (fate_of result)
-checked_by limit nodes certificate read w out (Ok answer) log shows = (
+pub checked_by : (names : Names) (limit nodes : ℕ) (certificate : Bool) (read : Option (List ℕ)) (w : WorldState) (out : Writing) (result : Result Verdict CheckFault)
+    → ComesAbout limit read w.config.bounds w.log → Shows names certificate w out result → Checks names limit nodes certificate read out (fate_of result)
+checked_by names limit nodes certificate read w out (Ok answer) log shows = (
   printing shows.1.0 (Finished Done (is_alarm answer)),
   inl (record { bounds = w.config.bounds; log = w.log; comes_about = log; text = shows.1.0; output = shows.1.1; verdict = answer; is_verdict = shows.0; said = refl }),
   (refl, shows.1.2),
 )
-checked_by limit nodes certificate read w out (Err Write) log shows = (
+checked_by names limit nodes certificate read w out (Err Write) log shows = (
   printing shows.1.0 (Finished Done (is_alarm shows.0.0)),
   inl (record { bounds = w.config.bounds; log = w.log; comes_about = log; text = shows.1.0; output = shows.1.1; verdict = shows.0.0; is_verdict = shows.0.1; said = refl }),
   shows.1.2,
 )
-checked_by limit nodes certificate read w out (Err Memory) log shows = (silent (Check Memory), inr (Memory, shows.0, refl), (refl, shows.1))
-checked_by limit nodes certificate read w out (Err fault) log shows = absurd shows
+checked_by names limit nodes certificate read w out (Err Memory) log shows = (silent (Check Memory), inr (Memory, shows.0, refl), (refl, shows.1))
+checked_by names limit nodes certificate read w out (Err fault) log shows = absurd shows
 
 -- writing it reads nothing
-pub reads_nothing : (certificate : Bool) (w : WorldState) (out : Writing) (result : Result Verdict CheckFault) (n : ℕ) → Shows certificate w out result → failures_told (fate_of result) n ≡ n
-reads_nothing certificate w out (Err (Log fault)) n shows = absurd shows
-reads_nothing certificate w out result n shows = refl
+pub reads_nothing : (names : Names) (certificate : Bool) (w : WorldState) (out : Writing) (result : Result Verdict CheckFault) (n : ℕ) → Shows names certificate w out result → failures_told (fate_of result) n ≡ n
+reads_nothing names certificate w out (Err (Log fault)) n shows = absurd shows
+reads_nothing names certificate w out result n shows = refl
 
 -- a fault of the input is told, with nothing written
-pub faulty : (limit nodes : ℕ) (certificate : Bool) (read : Option (List ℕ)) (out : Writing) (fault : CheckFault) → IsFaultOfInput limit nodes read fault
-    → WritesNothing out → Checks limit nodes certificate read out (fate_of (Err fault))
-faulty limit nodes certificate read out Write is nothing = absurd is
-faulty limit nodes certificate read out fault is nothing = (silent (Check fault), inr (fault, is, refl), (refl, nothing))
+pub faulty : (names : Names) (limit nodes : ℕ) (certificate : Bool) (read : Option (List ℕ)) (out : Writing) (fault : CheckFault) → IsFaultOfInput limit nodes read fault
+    → WritesNothing out → Checks names limit nodes certificate read out (fate_of (Err fault))
+faulty names limit nodes certificate read out Write is nothing = absurd is
+faulty names limit nodes certificate read out fault is nothing = (silent (Check fault), inr (fault, is, refl), (refl, nothing))
 
 -- the source's failures behind a fault
 pub failures_so : (limit nodes : ℕ) (read : Option (List ℕ)) (fault : CheckFault) (after before : ℕ) → IsFaultOfInput limit nodes read fault

@@ -33,6 +33,7 @@ use Rattle.velo_program.specs.Check.{IsFaultOfLogText}
 use Rattle.velo_program.specs.Delivery.{printing, silent}
 use Rattle.velo_program.specs.Fate.{fate_of, is_alarm}
 use Rattle.velo_program.specs.Reading.{failures_told}
+use Rattle.velo_report.specs.declared.names.Names.TheVariants.{Numbers}
 use Rattle.velo_program.specs.Steps.{Shows}
 use Rattle.velo_program.specs.Watching.{check_fault_by, EndsBehind, Follows, GoesOn, HasWatched, IsSoFar, Watches}
 use Rattle.velo_program.specs.Writing.{Writing, WritesNothing}
@@ -176,7 +177,7 @@ reads_told X watch_fault.Write n = refl
 
 -- what is shown behind the line of the alarm is the answer
 pub shown : (options : WatchOptions) (read : Option (List ℕ)) (w : WorldState) (before after all : Writing) (result : Result Verdict CheckFault)
-    → HasWatched options read before w → Shows options.certificate w after result
+    → HasWatched options read before w → Shows Numbers options.certificate w after result
     → all.old ≡ before.old → before.new ≡ after.old → all.new ≡ after.new → all.failures_before ≡ before.failures_before → before.failures_after ≡ after.failures_before → all.failures_after ≡ after.failures_after
     → Watches options read all (fate_of result)
 shown options read w before after all (Ok verdict) has shows o m n fb fm fa =

@@ -3,6 +3,8 @@ use Rattle.std.specs.Prelude.{⊤}
 use Rattle.velo_events.specs.Refusals.{GrowthRefused}
 use Rattle.velo_logtext.specs.declared.fault.LogFault.{LogFault}
 use Rattle.velo_logtext.specs.declared.fault.LogFault.TheVariants as log_fault
+use Rattle.velo_names.specs.declared.fault.NamesFault.{NamesFault}
+use Rattle.velo_names.specs.declared.fault.NamesFault.TheVariants as names_fault
 use Rattle.velo_worker.specs.declared.ending.Ending.{Ending}
 use Rattle.velo_worker.specs.Causes.{RefusedByGrowth, EndsByGrowth, EndsWithCause}
 use Rattle.velo_workload.specs.declared.fault.WorkFault.{WorkFault}
@@ -36,6 +38,10 @@ abbrev pub WorkByGrowth : WorkFault → Type 0
 WorkByGrowth work_fault.Memory = GrowthRefused
 WorkByGrowth f = ⊤
 
+abbrev pub NamesByGrowth : NamesFault → Type 0
+NamesByGrowth names_fault.Memory = GrowthRefused
+NamesByGrowth f = ⊤
+
 -- ---- of what the program comes to
 
 -- what a command asks the system for: memory alone, or starts of threads too
@@ -54,6 +60,7 @@ abbrev pub ComesByRefusal : Needs → Fate → Type 0
 ComesByRefusal needs (fate.Finished ending alarm) = EndsByRefusal needs ending
 ComesByRefusal needs (fate.Schedule f) = ScheduleByGrowth f
 ComesByRefusal needs (fate.Work f) = WorkByGrowth f
+ComesByRefusal needs (fate.Names f) = NamesByGrowth f
 ComesByRefusal needs (fate.Check f) = CheckByGrowth f
 ComesByRefusal needs fate.Memory = GrowthRefused
 ComesByRefusal needs f = ⊤

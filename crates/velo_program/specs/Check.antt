@@ -16,7 +16,6 @@ use Rattle.velo_logtext.specs.Finding.{ReadsAs}
 use Rattle.velo_world.specs.World.{WorldState}
 use Rattle.velo_world.specs.Faults.{IsRefusedAt, IsWrongValueAt}
 use Rattle.velo_report.specs.declared.names.Names.{Names}
-use Rattle.velo_report.specs.declared.names.Names.TheVariants.{Numbers}
 use Rattle.velo_report.specs.Certificate.{IsCertificate}
 use Rattle.velo_report.specs.Report.{IsReport}
 use Rattle.velo_worker.specs.declared.ending.Ending.TheVariants.{Done}
@@ -115,15 +114,15 @@ pub record IsVerdict (trace : List Event) (verdict : Verdict) : Type 0 where
 
 -- ---- the answer
 
--- the report by numbers of the log of the input is printed, with its certificate if that is asked
--- for; the fate has the verdict
-pub record IsChecked (limit : ℕ) (certificate : Bool) (read : Option (List ℕ)) (answer : Answer)
-    : Type 0 where
+-- the report of the log of the input by these names is printed, with its certificate if that is
+-- asked for; the fate has the verdict
+pub record IsChecked (names : Names) (limit : ℕ) (certificate : Bool) (read : Option (List ℕ))
+    (answer : Answer) : Type 0 where
   pub bounds : Bounds
   pub log : List Event
   pub comes_about : ComesAbout limit read bounds log
   pub text : List ℕ
-  pub output : IsOutput Numbers certificate bounds.threads log text
+  pub output : IsOutput names certificate bounds.threads log text
   pub verdict : Verdict
   pub is_verdict : IsVerdict log verdict
   pub said : answer ≡ printing text (Finished Done (is_alarm verdict))
@@ -134,14 +133,15 @@ IsUnchecked limit nodes read answer =
     (fault : CheckFault) × IsFaultOfInput limit nodes read fault × (answer ≡ silent (Check fault))
 
 -- What a check has to say: the report and the verdict; or nothing, for a reason.
-abbrev pub IsCheckAnswer : ℕ → ℕ → Bool → Option (List ℕ) → Answer → Type 0
-IsCheckAnswer limit nodes certificate read answer =
-    IsChecked limit certificate read answer ⊎ IsUnchecked limit nodes read answer
+abbrev pub IsCheckAnswer : Names → ℕ → ℕ → Bool → Option (List ℕ) → Answer → Type 0
+IsCheckAnswer names limit nodes certificate read answer =
+    IsChecked names limit certificate read answer ⊎ IsUnchecked limit nodes read answer
 
 -- What a check came to: an answer to what was read was printed on the sink.
-abbrev pub Checks : ℕ → ℕ → Bool → Option (List ℕ) → Writing → Fate → Type 0
-Checks limit nodes certificate read sink f =
-    (answer : Answer) × IsCheckAnswer limit nodes certificate read answer × IsPrinted sink answer f
+abbrev pub Checks : Names → ℕ → ℕ → Bool → Option (List ℕ) → Writing → Fate → Type 0
+Checks names limit nodes certificate read sink f =
+    (answer : Answer) × IsCheckAnswer names limit nodes certificate read answer
+    × IsPrinted sink answer f
 
 -- ---- what writes it
 

@@ -6,11 +6,12 @@ use Rattle.velo_events.specs.declared.limits.TheConstants.{MOST_EVENTS, MOST_NOD
 use Rattle.velo_events.specs.Graph.{HasCycle}
 use Rattle.velo_world.specs.declared.analysis.Alarm.{Alarm}
 use Rattle.velo_world.specs.World.{IsAlarm}
+use Rattle.velo_names.specs.Names.{NameLists}
 use Rattle.velo_explain.specs.declared.evidence.Evidence.{Evidence}
 use Rattle.velo_explain.specs.Count.{transactions_of}
 use Rattle.velo_explain.specs.Evidence.{IsEvidence, HaveReasons}
-use Rattle.velo_explain.specs.Picture.{picture_text}
-use Rattle.velo_explain.specs.Text.{explanation_text, clean_text}
+use Rattle.velo_explain.specs.Picture.{named_picture_text}
+use Rattle.velo_explain.specs.Text.{clean_text, named_explanation_text}
 use Rattle.velo_worker.specs.declared.ending.Ending.TheVariants.{Done}
 use Rattle.velo_program.specs.declared.fate.Fate.TheVariants.{Finished}
 use Rattle.velo_program.specs.Check.{ComesAbout, IsUnchecked}
@@ -19,12 +20,12 @@ use Rattle.velo_program.specs.Delivery.{Answer, LacksMemory, printing}
 -- ---- the words of a verdict
 
 -- what is said of an alarm at position p by its evidence: the picture of its cycle is to be saved,
--- and its words printed
-abbrev pub explained : List Event → ℕ → Evidence → Answer
-explained log p evidence =
+-- and its words printed, both by these names
+abbrev pub explained : NameLists → List Event → ℕ → Evidence → Answer
+explained names log p evidence =
     record {
-      saved = Some (picture_text log evidence);
-      printed = Some (explanation_text log p evidence);
+      saved = Some (named_picture_text names log evidence);
+      printed = Some (named_explanation_text names log p evidence);
       fate = Finished Done true;
     }
 
@@ -36,28 +37,31 @@ counted log = printing (clean_text (length log) (transactions_of log)) (Finished
 -- The answer explains an alarm of the log, which is at the first event that closes a cycle and
 -- blames exactly the blocks to blame: by a shortest cycle there, and by a reason for each of these
 -- blocks.
-pub record ExplainsAlarm (log : List Event) (answer : Answer) : Type 0 where
+pub record ExplainsAlarm (names : NameLists) (log : List Event) (answer : Answer) : Type 0 where
   pub alarm : Alarm
   pub is_alarm : IsAlarm log alarm
   pub evidence : Evidence
   pub is_evidence : IsEvidence log alarm.position alarm.blamed.items evidence
   pub reasons : HaveReasons log alarm.position alarm.blamed.items evidence
-  pub said : answer ≡ explained log alarm.position evidence
+  pub said : answer ≡ explained names log alarm.position evidence
 
-abbrev pub ExplainsVerdict : List Event → Answer → Type 0
-ExplainsVerdict log answer = ExplainsAlarm log answer ⊎ ((¬ HasCycle log) × (answer ≡ counted log))
+abbrev pub ExplainsVerdict : NameLists → List Event → Answer → Type 0
+ExplainsVerdict names log answer =
+    ExplainsAlarm names log answer ⊎ ((¬ HasCycle log) × (answer ≡ counted log))
 
 -- ---- the answer
 
 -- the verdict of the log of the input; the limits are the greatest that a check can have
-pub record IsExplained (read : Option (List ℕ)) (answer : Answer) : Type 0 where
+pub record IsExplained (names : NameLists) (read : Option (List ℕ)) (answer : Answer)
+    : Type 0 where
   pub bounds : Bounds
   pub log : List Event
   pub comes_about : ComesAbout MOST_EVENTS read bounds log
-  pub verdict : ExplainsVerdict log answer
+  pub verdict : ExplainsVerdict names log answer
 
 -- What an explanation has to say: the verdict in words, and the cycle of an alarm; or nothing, for
 -- a reason.
-abbrev pub IsExplanation : Option (List ℕ) → Answer → Type 0
-IsExplanation read answer =
-    IsExplained read answer ⊎ (IsUnchecked MOST_EVENTS MOST_NODES read answer ⊎ LacksMemory answer)
+abbrev pub IsExplanation : NameLists → Option (List ℕ) → Answer → Type 0
+IsExplanation names read answer =
+    IsExplained names read answer
+    ⊎ (IsUnchecked MOST_EVENTS MOST_NODES read answer ⊎ LacksMemory answer)

@@ -8,6 +8,9 @@ use Rattle.velo_logtext.specs.declared.fault.LogFault.{LogFault}
 use Rattle.velo_logtext.specs.declared.fault.LogFault.TheVariants.{BadHeader, BadLine, Truncated, TooLong, Read}
 use Rattle.velo_logtext.specs.declared.fault.LogFault.TheVariants as log_fault
 use Rattle.velo_events.specs.declared.event.ThreadId.{ThreadId}
+use Rattle.velo_names.specs.declared.fault.NamesFault.{NamesFault}
+use Rattle.velo_names.specs.declared.fault.NamesFault.TheVariants as names_fault
+use Rattle.velo_names.specs.Fault.{fault_line, fault_number}
 use Rattle.velo_worker.specs.declared.ending.Ending.{Ending}
 use Rattle.velo_worker.specs.declared.ending.Ending.TheVariants as ending
 use Rattle.velo_workload.specs.declared.fault.WorkFault.{WorkFault}
@@ -20,7 +23,7 @@ use Rattle.velo_program.specs.declared.check.Verdict.TheVariants as verdict
 use Rattle.velo_program.specs.declared.check.CheckFault.{CheckFault}
 use Rattle.velo_program.specs.declared.check.CheckFault.TheVariants.{Log, Refused, WrongValue, Write, Memory}
 use Rattle.velo_program.specs.declared.fate.Fate.{Fate}
-use Rattle.velo_program.specs.declared.fate.Fate.TheVariants.{Finished, Schedule, Work, Check, CannotOpen, OneFile, ReadFailed, WriteFailed, Lost}
+use Rattle.velo_program.specs.declared.fate.Fate.TheVariants.{Finished, Schedule, Work, Names, Check, CannotOpen, OneFile, ReadFailed, WriteFailed, Lost}
 use Rattle.velo_program.specs.declared.fate.Fate.TheVariants as fate
 use Rattle.velo_program.specs.declared.request.Operand.{Operand}
 use Rattle.velo_program.specs.declared.request.Operand.TheVariants as operand
@@ -87,10 +90,15 @@ abbrev pub status_of_work : WorkFault → ℕ
 status_of_work work_fault.Memory = 5
 status_of_work _ = 2
 
+abbrev pub status_of_names : NamesFault → ℕ
+status_of_names names_fault.Memory = 5
+status_of_names _ = 2
+
 abbrev pub status_of : Fate → ℕ
 status_of (Finished how alarm) = status_of_ending how alarm
 status_of (Schedule fault) = status_of_schedule fault
 status_of (Work fault) = status_of_work fault
+status_of (Names fault) = status_of_names fault
 status_of (Check fault) = status_of_check fault
 status_of CannotOpen = 5
 status_of (OneFile operand) = 2
@@ -148,6 +156,12 @@ line_of_work (Some (number, n)) =
     codes "workload fault " ++ decimal number ++ codes " line " ++ decimal n ++ codes "\n"
 line_of_work None = codes "out of memory\n"
 
+-- by the number of the fault, if it is one of the file, and its line
+abbrev pub line_of_names : Option ℕ → ℕ → List ℕ
+line_of_names (Some number) n =
+    codes "names fault " ++ decimal number ++ codes " line " ++ decimal n ++ codes "\n"
+line_of_names None n = codes "out of memory\n"
+
 abbrev pub line_of_one_file : Operand → List ℕ
 line_of_one_file operand.Log = codes "error: LOG and OUT are one file\n"
 line_of_one_file operand.File = codes "error: FILE and OUT are one file\n"
@@ -156,6 +170,7 @@ abbrev pub line_of : Fate → List ℕ
 line_of (Finished how alarm) = line_of_ending how
 line_of (Schedule fault) = line_of_schedule fault
 line_of (Work fault) = line_of_work (place_of_work fault)
+line_of (Names fault) = line_of_names (fault_number fault) (fault_line fault)
 line_of (Check fault) = line_of_check fault
 line_of CannotOpen = codes "cannot open\n"
 line_of (OneFile operand) = line_of_one_file operand

@@ -1,3 +1,4 @@
+pub mod Auditing
 pub mod Carrying
 pub mod Causes
 pub mod Check
@@ -6,6 +7,7 @@ pub mod Disk
 pub mod Explaining
 pub mod Fate
 pub mod Faults
+pub mod Naming
 pub mod Playing
 pub mod Program
 pub mod Reading

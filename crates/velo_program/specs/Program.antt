@@ -7,8 +7,12 @@
 use Rattle.std.specs.Prelude.{◌≡◌, ◌⊎◌, ℕ, List, Option, Some, None}
 use Rattle.std.specs.Borrow.{Bor}
 use Rattle.velo_events.specs.declared.event.ThreadId.{ThreadId}
+use Rattle.velo_names.specs.Names.{NameLists}
+use Rattle.velo_audit_text.specs.declared.words.Asked.{Asked}
+use Rattle.velo_report.specs.declared.names.Names.{Names}
 use Rattle.velo_program.specs.declared.fate.Fate.{Fate}
 use Rattle.velo_program.specs.declared.fate.Fate.TheVariants.{CannotOpen, Lost, Schedule}
+use Rattle.velo_program.specs.declared.request.AuditOptions.{AuditOptions}
 use Rattle.velo_program.specs.declared.request.CarryOptions.{CarryOptions}
 use Rattle.velo_program.specs.declared.request.CheckOptions.{CheckOptions}
 use Rattle.velo_program.specs.declared.request.ExplainOptions.{ExplainOptions}
@@ -20,11 +24,13 @@ use Rattle.velo_program.specs.declared.request.Request.TheVariants.{Audit, Carry
 use Rattle.velo_program.specs.declared.request.RunOptions.{RunOptions}
 use Rattle.velo_program.specs.declared.request.WatchOptions.{WatchOptions}
 use Rattle.velo_program.specs.declared.schedule.ScheduleFault.{ScheduleFault}
+use Rattle.velo_program.specs.Auditing.{AsksNothing, IsAuditAnswer}
 use Rattle.velo_program.specs.Carrying.{IsCarryAnswer, IsPut}
 use Rattle.velo_program.specs.Check.{IsCheckAnswer}
 use Rattle.velo_program.specs.Delivery.{Answer, IsDelivered}
 use Rattle.velo_program.specs.Disk.{IsBarred, IsWritten, Store}
 use Rattle.velo_program.specs.Explaining.{IsExplanation}
+use Rattle.velo_program.specs.Naming.{AreNamesOf, AreShown, LacksNames}
 use Rattle.velo_program.specs.Playing.{ByThreads, ByTurns, IsPlayAnswer, Play}
 use Rattle.velo_program.specs.Reading.{FailuresAsTold, Reading}
 use Rattle.velo_program.specs.Schedule.{IsFaultOfSchedule, IsSchedule}
@@ -43,31 +49,55 @@ abbrev pub DoesNotRead : Store → Operand → List ℕ → Option (Bor (List �
 DoesNotRead store operand input target stdout f =
     IsBarred store.disk operand input target f × WritesNowhere store stdout
 
--- ---- velodrome check LOG [--events N] [--nodes N] [--certificate]
+-- the file of names at the path is not read, or says none; no file was opened to be written, nothing
+-- was printed
+abbrev pub DoesNotName : Store → Option (Bor (List ℕ)) → Writing → Fate → Type 0
+DoesNotName store path stdout f = LacksNames store.disk path f × WritesNowhere store stdout
 
--- LOG is read whole. The report goes to standard output, and the certificate behind it; or nothing,
--- for a reason (`Check`).
-abbrev pub DoesCheck : CheckOptions → Store → Writing → Fate → Type 0
-DoesCheck options store stdout f =
+-- ---- velodrome check LOG [--names FILE] [--events N] [--nodes N] [--certificate]
+
+-- LOG is read whole. The report by these names goes to standard output, and the certificate behind
+-- it; or nothing, for a reason (`Check`).
+abbrev pub ChecksLog : Names → CheckOptions → Store → Writing → Fate → Type 0
+ChecksLog shown options store stdout f =
     DoesNotRead store Log options.input.now None stdout f
     ⊎ ((read : Reading) × (answer : Answer)
     × store.disk.gives options.input.now read × FailuresAsTold read f
-    × IsCheckAnswer options.limits.events options.limits.nodes options.certificate
+    × IsCheckAnswer shown options.limits.events options.limits.nodes options.certificate
     read.bytes answer
     × IsDelivered store None stdout answer f)
 
--- ---- velodrome explain LOG [--dot OUT]
+-- where a file of names is given its report is by these names, and else by numbers
+abbrev pub ChecksBy : NameLists → CheckOptions → Store → Writing → Fate → Type 0
+ChecksBy names options store stdout f =
+    (shown : Names) × AreShown options.names names shown × ChecksLog shown options store stdout f
+
+-- The names are read first (`Naming`), where a file of them is given, and then LOG is checked.
+abbrev pub DoesCheck : CheckOptions → Store → Writing → Fate → Type 0
+DoesCheck options store stdout f =
+    DoesNotName store options.names stdout f
+    ⊎ ((names : NameLists) × AreNamesOf store.disk options.names names
+    × ChecksBy names options store stdout f)
+
+-- ---- velodrome explain LOG [--names FILE] [--dot OUT]
 
 -- LOG is read whole. The picture of the cycle is saved at OUT, if there is a cycle, and then the
--- explanation goes to standard output; or nothing, for a reason (`Explaining`). Behind a log
--- without a cycle OUT is untouched.
-abbrev pub DoesExplain : ExplainOptions → Store → Writing → Fate → Type 0
-DoesExplain options store stdout f =
+-- explanation goes to standard output, both by these names; or nothing, for a reason
+-- (`Explaining`). Behind a log without a cycle OUT is untouched.
+abbrev pub ExplainsLog : NameLists → ExplainOptions → Store → Writing → Fate → Type 0
+ExplainsLog names options store stdout f =
     DoesNotRead store Log options.input.now options.target stdout f
     ⊎ ((read : Reading) × (answer : Answer)
     × store.disk.gives options.input.now read × FailuresAsTold read f
-    × IsExplanation read.bytes answer
+    × IsExplanation names read.bytes answer
     × IsDelivered store options.target stdout answer f)
+
+-- The names are read first, where a file of them is given, and else there are none.
+abbrev pub DoesExplain : ExplainOptions → Store → Writing → Fate → Type 0
+DoesExplain options store stdout f =
+    DoesNotName store options.names stdout f
+    ⊎ ((names : NameLists) × AreNamesOf store.disk options.names names
+    × ExplainsLog names options store stdout f)
 
 -- ---- velodrome carry LOG --log OUT
 
@@ -123,6 +153,26 @@ DoesWatch options store stdout f =
     × store.disk.gives options.input.now read × FailuresAsTold read f
     × Watches options read.bytes stdout f × store.is_kept)
 
+-- ---- velodrome audit LOG [--names FILE] [--no-witness] [--events N] [--nodes N]
+
+-- LOG is read whole and judged as by a check, and then audited, where this is left out. What the
+-- rounds tell goes to standard output, by these names; or nothing, for a reason (`Auditing`).
+abbrev pub AuditsLog : NameLists → Asked → AuditOptions → Store → Writing → Fate → Type 0
+AuditsLog names asked options store stdout f =
+    DoesNotRead store Log options.input.now None stdout f
+    ⊎ ((read : Reading) × (answer : Answer)
+    × store.disk.gives options.input.now read × FailuresAsTold read f
+    × IsAuditAnswer names asked options read.bytes answer
+    × IsDelivered store None stdout answer f)
+
+-- The names are read first, where a file of them is given, and else there are none.
+abbrev pub DoesAudit : AuditOptions → Store → Writing → Fate → Type 0
+DoesAudit options store stdout f =
+    DoesNotName store options.names stdout f
+    ⊎ ((names : NameLists) × (asked : Asked)
+    × AreNamesOf store.disk options.names names × AsksNothing asked
+    × AuditsLog names asked options store stdout f)
+
 -- ---- all of them
 
 -- What was asked for was done.
@@ -134,4 +184,4 @@ Does store (Run options) stdout f = DoesRun options store stdout f
 Does store (Replay options) stdout f = DoesReplay options store stdout f
 Does store (Explore options) stdout f = f ≡ Lost
 Does store (Watch options) stdout f = DoesWatch options store stdout f
-Does store (Audit options) stdout f = f ≡ Lost
+Does store (Audit options) stdout f = DoesAudit options store stdout f

@@ -6,8 +6,8 @@ use Rattle.std.specs.Prelude.{◌≡◌, ◌≤◌, ◌⊎◌, ◌++◌, [], ⊤
 use Rattle.velo_events.specs.Refusals.{GrowthRefused}
 use Rattle.velo_events.specs.declared.event.Event.{Event}
 use Rattle.velo_logtext.specs.Device.{with_failure}
+use Rattle.velo_names.specs.Names.{NameLists}
 use Rattle.velo_report.specs.declared.names.Names.{Names}
-use Rattle.velo_report.specs.declared.names.Names.TheVariants.{Numbers}
 use Rattle.velo_worker.specs.declared.ending.Ending.{Ending}
 use Rattle.velo_workload.specs.Program.{Program}
 use Rattle.velo_world.specs.World.{AlarmOf, WorldState}
@@ -59,16 +59,16 @@ failures_by (Err read_fault.Memory) failures = failures
 abbrev pub HasAlarm : List Event → Type 0
 HasAlarm log = (alarm : Option Alarm) × AlarmOf log alarm
 
--- what a world shows by numbers, and its verdict; or a growth was refused
-abbrev pub Shows : Bool → WorldState → Writing → Result Verdict CheckFault → Type 0
-Shows certificate w stdout (Ok verdict) =
+-- what a world shows by these names, and its verdict; or a growth was refused
+abbrev pub Shows : Names → Bool → WorldState → Writing → Result Verdict CheckFault → Type 0
+Shows names certificate w stdout (Ok verdict) =
     IsVerdict w.log verdict
-    × ((text : List ℕ) × IsOutputOf Numbers certificate w text × Writes stdout text)
-Shows certificate w stdout (Err check_fault.Write) =
+    × ((text : List ℕ) × IsOutputOf names certificate w text × Writes stdout text)
+Shows names certificate w stdout (Err check_fault.Write) =
     ((verdict : Verdict) × IsVerdict w.log verdict)
-    × ((text : List ℕ) × IsOutputOf Numbers certificate w text × BreaksOff stdout text)
-Shows certificate w stdout (Err check_fault.Memory) = GrowthRefused × WritesNothing stdout
-Shows certificate w stdout (Err fault) = ⊥
+    × ((text : List ℕ) × IsOutputOf names certificate w text × BreaksOff stdout text)
+Shows names certificate w stdout (Err check_fault.Memory) = GrowthRefused × WritesNothing stdout
+Shows names certificate w stdout (Err fault) = ⊥
 
 -- ---- an explanation
 
@@ -83,16 +83,18 @@ PrintsOrLacks answer stdout f =
     IsPrinted stdout answer f ⊎ (GrowthRefused × (f ≡ Memory) × WritesNothing stdout)
 
 -- what was made of a verdict was delivered: its explanation, or that memory was wanting
-abbrev pub Explains : List Event → Store → Option (Bor (List ℕ)) → Writing → Fate → Type 0
-Explains log store target stdout f =
-    (answer : Answer) × (ExplainsVerdict log answer ⊎ LacksMemory answer)
+abbrev pub Explains : NameLists → List Event → Store → Option (Bor (List ℕ)) → Writing → Fate
+    → Type 0
+Explains names log store target stdout f =
+    (answer : Answer) × (ExplainsVerdict names log answer ⊎ LacksMemory answer)
     × IsDelivered store target stdout answer f
 
 -- what was made of an input was delivered
-abbrev pub ExplainsInput : Option (Bor (List ℕ)) → Store → Reading → Writing → Fate → Type 0
-ExplainsInput target store read stdout f =
+abbrev pub ExplainsInput : NameLists → Option (Bor (List ℕ)) → Store → Reading → Writing → Fate
+    → Type 0
+ExplainsInput names target store read stdout f =
     FailuresAsTold read f
-    × ((answer : Answer) × IsExplanation read.bytes answer
+    × ((answer : Answer) × IsExplanation names read.bytes answer
     × IsDelivered store target stdout answer f)
 
 -- ---- the target

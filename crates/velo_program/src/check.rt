@@ -6,9 +6,10 @@ ghost use Rattle.velo_events.specs.WellFormed.{IsWellFormed};
 ghost use Rattle.velo_events.specs.Refusals.{GrowthRefused};
 ghost use Rattle.velo_events.specs.declared.limits.TheConstants.{MOST_EVENTS, MOST_NODES};
 ghost use Rattle.velo_logtext.specs.Text.{AreBounds};
+ghost use Rattle.velo_report.specs.declared.names.Names.TheVariants.{Numbers};
 ghost use Rattle.velo_world.specs.Faults.{world_of};
 ghost use Rattle.velo_program.specs.Check.{Checks, ComesAbout, IsFaultOfInput, IsOrderOrCycle, IsVerdict, WritesOutput};
-ghost use Rattle.velo_program.specs.Program.{DoesCheck};
+ghost use Rattle.velo_program.specs.Program.{ChecksBy, ChecksLog, DoesCheck};
 ghost use Rattle.velo_program.specs.Reading.{failures_told};
 ghost use Rattle.velo_program.specs.Disk.{store};
 ghost use Rattle.velo_program.specs.Fate.{fate_of, is_alarm};
@@ -19,12 +20,14 @@ ghost use Rattle.velo_program.specs.Steps.{HasAlarm, Shows};
 
 use crate::fate::Fate;
 use crate::files::{Files, is_standard_input, open_input};
+use crate::naming::{names_in, read_given, shown_by};
 use crate::request::{CheckOptions, Operand};
 use std::alloc::Global;
 use thiserror::Error;
 use velo_certify::{CertFault, cycle_of, serial_order};
 use velo_events::{Bounds, Config, Memory, Refusal};
 use velo_logtext::{LogFault, Sink, Source, WriteFault, read_log};
+use velo_names::MOST_NAMES_BYTES;
 use velo_report::{Names, certificate_lines, report};
 use velo_traces::Trace;
 use velo_worker::Ending;
@@ -198,18 +201,19 @@ pub fn write_output<O: Sink>(
     }
 }
 
-/// Writes what a closed world shows by numbers, and answers its verdict.
+/// Writes what a closed world shows by the names, and answers its verdict.
 fn show<O: Sink>(
     closed: &Closed,
+    names: &Names,
     list: Option<&[usize]>,
     sink: &mut O,
 ) -> Result<Verdict, CheckFault>
     requires { IfSome list (λ list. IsOrderOrCycle closed.now.log list.now) }
-    ensures { Shows (is_some list.entry) closed.now
+    ensures { Shows names.now (is_some list.entry) closed.now
         (writing O.contents O.failures sink.old sink.new) result }
 {
     let verdict = verdict_of(closed);
-    match write_output(closed, &Names::Numbers, list, sink) {
+    match write_output(closed, names, list, sink) {
         Ok(()) => Ok(verdict),
         Err(WriteFault) => Err(CheckFault::Write),
     }
@@ -219,17 +223,18 @@ fn show<O: Sink>(
 fn write_answer<O: Sink>(
     alloc: Global,
     closed: &Closed,
+    names: &Names,
     certificate: bool,
     sink: &mut O,
 ) -> Result<Verdict, CheckFault>
-    ensures { Shows certificate closed.now
+    ensures { Shows names.now certificate closed.now
         (writing O.contents O.failures sink.old sink.new) result }
 {
     if !certificate {
-        return show(closed, None, sink);
+        return show(closed, names, None, sink);
     }
     match order_or_cycle_of(alloc, closed) {
-        Ok(list) => show(closed, Some(list.as_slice()), sink),
+        Ok(list) => show(closed, names, Some(list.as_slice()), sink),
         Err(Memory) => Err(CheckFault::Memory),
     }
 }
@@ -238,12 +243,14 @@ fn write_answer<O: Sink>(
 pub fn finish<O: Sink>(
     alloc: Global,
     closed: Closed,
+    names: &Names,
     certificate: bool,
     sink: &mut O,
 ) -> Result<Verdict, CheckFault>
-    ensures { Shows certificate closed (writing O.contents O.failures sink.old sink.new) result }
+    ensures { Shows names.now certificate closed
+        (writing O.contents O.failures sink.old sink.new) result }
 {
-    let answer = write_answer(alloc, &closed, certificate, sink);
+    let answer = write_answer(alloc, &closed, names, certificate, sink);
     drop(closed);
     answer
 }
@@ -297,12 +304,12 @@ pub fn check_run<I: Source, O: Sink>(
 ) -> Result<Verdict, CheckFault>
     requires events { (1 ≤ events) × (events ≤ MOST_EVENTS) }
     requires nodes { (1 ≤ nodes) × (nodes ≤ MOST_NODES) }
-    ensures answer { Checks events nodes certificate (I.remaining source.old)
+    ensures answer { Checks Numbers events nodes certificate (I.remaining source.old)
         (writing O.contents O.failures sink.old sink.new) (fate_of result) }
     ensures read { I.failures source.new ≡ failures_told (fate_of result) (I.failures source.old) }
 {
     match do_input(alloc, source, events, nodes) {
-        Ok(closed) => finish(alloc, closed, certificate, sink),
+        Ok(closed) => finish(alloc, closed, &Names::Numbers, certificate, sink),
         Err(fault) => Err(fault),
     }
 }
@@ -321,30 +328,62 @@ pub fn fate_of(answer: Result<Verdict, CheckFault>) -> Fate
     }
 }
 
-/// Checks a log within the limits that were asked for, and writes the report, with its certificate if that was asked for.
+/// Checks a log within the limits that were asked for, and writes the report by the names, with its certificate if that was
+/// asked for.
 fn check_log<I: Source, O: Sink>(
     alloc: Global,
     options: &CheckOptions,
+    names: &Names,
     log: &mut I,
     out: &mut O,
 ) -> Fate
-    ensures told { Checks options.now.limits.events options.now.limits.nodes
+    ensures told { Checks names.now options.now.limits.events options.now.limits.nodes
         options.now.certificate (I.remaining log.old)
         (writing O.contents O.failures out.old out.new) result }
     ensures failures { I.failures log.new ≡ failures_told result (I.failures log.old) }
 {
-    let answer = check_run(
-        alloc,
-        log,
-        out,
-        options.limits.events,
-        options.limits.nodes,
-        options.certificate,
-    );
-    fate_of(answer)
+    match do_input(alloc, log, options.limits.events, options.limits.nodes) {
+        Ok(closed) => fate_of(finish(alloc, closed, names, options.certificate, out)),
+        Err(fault) => fate_of(Err(fault)),
+    }
 }
 
-/// Checks the log that was asked for.
+/// Checks the log that was asked for, and tells it by the names.
+fn check_named<F: Files, O: Sink>(
+    alloc: Global,
+    options: &CheckOptions,
+    names: &Names,
+    files: &F,
+    out: &mut O,
+) -> Fate
+    ensures { ChecksLog names.now options.now (store F.disk files.now files.now)
+        (writing O.contents O.failures out.old out.new) result }
+{
+    if is_standard_input(options.input) {
+        return check_log(alloc, options, names, &mut files.standard_input(), out);
+    }
+    match open_input(files, Operand::Log, options.input, None) {
+        Ok(mut log) => check_log(alloc, options, names, &mut log, out),
+        Err(fate) => fate,
+    }
+}
+
+/// Checks the log that was asked for, and tells it by the names of a file, if one was given.
+fn check_by<F: Files, O: Sink>(
+    alloc: Global,
+    options: &CheckOptions,
+    names: &velo_names::Names,
+    files: &F,
+    out: &mut O,
+) -> Fate
+    ensures { ChecksBy names.now options.now (store F.disk files.now files.now)
+        (writing O.contents O.failures out.old out.new) result }
+{
+    let shown = shown_by(options.names, names);
+    check_named(alloc, options, &shown, files, out)
+}
+
+/// Checks the log that was asked for. The names are read first.
 pub fn check_file<F: Files, O: Sink>(
     alloc: Global,
     options: &CheckOptions,
@@ -354,11 +393,18 @@ pub fn check_file<F: Files, O: Sink>(
     ensures { DoesCheck options.now (store F.disk files.old files.new)
         (writing O.contents O.failures out.old out.new) result }
 {
-    if is_standard_input(options.input) {
-        return check_log(alloc, options, &mut files.standard_input(), out);
-    }
-    match open_input(files, Operand::Log, options.input, None) {
-        Ok(mut log) => check_log(alloc, options, &mut log, out),
+    let bytes = match read_given(alloc, options.names, MOST_NAMES_BYTES, files) {
+        Ok(bytes) => bytes,
+        Err(fate) => return fate,
+    };
+    let fate = match names_in(alloc, options.names, &bytes) {
+        Ok(names) => {
+            let fate = check_by(alloc, options, &names, files, out);
+            drop(names);
+            fate
+        }
         Err(fate) => fate,
-    }
+    };
+    drop(bytes);
+    fate
 }

@@ -4,6 +4,7 @@ ghost use Rattle.velo_program.specs.Program.{Does};
 ghost use Rattle.velo_program.specs.Disk.{store};
 ghost use Rattle.velo_program.specs.Writing.{writing};
 
+use crate::auditing::audit_file;
 use crate::carrying::carry_file;
 use crate::check::check_file;
 use crate::explaining::explain_file;
@@ -39,6 +40,6 @@ pub fn do_request<R: Threads + Wait + Sync, F: Files, O: Sink>(
         Request::Carry(options) => carry_file(alloc, options, files),
         Request::Explore(_) => Fate::Lost,
         Request::Watch(options) => watch_file(alloc, options, files, out),
-        Request::Audit(_) => Fate::Lost,
+        Request::Audit(options) => audit_file(alloc, options, files, out),
     }
 }

@@ -6,7 +6,7 @@ ghost use Rattle.velo_explain.specs.Evidence.{IsEvidenceAt};
 ghost use Rattle.velo_worker.specs.declared.ending.Ending.TheVariants.{Done};
 ghost use Rattle.velo_program.specs.Delivery.{IsPrinted, printing};
 ghost use Rattle.velo_program.specs.Explaining.{counted, explained};
-ghost use Rattle.velo_program.specs.Program.{DoesExplain};
+ghost use Rattle.velo_program.specs.Program.{DoesExplain, ExplainsLog};
 ghost use Rattle.velo_program.specs.Reading.{reading};
 ghost use Rattle.velo_program.specs.Disk.{store};
 ghost use Rattle.velo_program.specs.Writing.{writing};
@@ -16,12 +16,14 @@ ghost use Rattle.velo_program.specs.Steps.{DeliversOrLacks, Explains, ExplainsIn
 use crate::check::do_input;
 use crate::fate::Fate;
 use crate::files::{Files, is_standard_input, open_input};
+use crate::naming::{names_in, read_given};
 use crate::request::{ExplainOptions, Operand};
 use std::alloc::Global;
 use velo_certify::CertFault;
 use velo_events::{MOST_EVENTS, MOST_NODES, Memory};
-use velo_explain::{Evidence, evidence_of, explain, explain_clean, picture};
+use velo_explain::{Evidence, evidence_of, explain_clean, explain_named, picture_named};
 use velo_logtext::{Sink, Source, WriteFault, write_all};
+use velo_names::{MOST_NAMES_BYTES, Names};
 use velo_traces::Trace;
 use velo_worker::Ending;
 use velo_world::Closed;
@@ -45,7 +47,7 @@ fn save<F: Files>(text: &[u8], path: &str, files: &mut F) -> Result<(), Fate>
 }
 
 /// Prints the words of a verdict.
-fn print<O: Sink>(words: &[u8], alarm: bool, out: &mut O) -> Fate
+pub fn print<O: Sink>(words: &[u8], alarm: bool, out: &mut O) -> Fate
     ensures { IsPrinted (writing O.contents O.failures out.old out.new)
         (printing words.now (Finished Done alarm)) result }
 {
@@ -58,31 +60,32 @@ fn print<O: Sink>(words: &[u8], alarm: bool, out: &mut O) -> Fate
     }
 }
 
-/// Explains an alarm by its evidence: the picture is saved at the target, if there is one, and then the words are printed.
+/// Explains an alarm by its evidence and the names: the picture is saved at the target, if there is one, and then the words are printed.
 /// Both are made before.
 fn explain_by<F: Files, O: Sink>(
     alloc: Global,
     log: &Trace,
     position: usize,
     evidence: &Evidence,
+    names: &Names,
     target: Option<&str>,
     files: &mut F,
     out: &mut O,
 ) -> Fate
     requires few { length log.now.events ≤ MOST_EVENTS }
     requires evidence { IsEvidenceAt log.now.events position evidence.now }
-    ensures { DeliversOrLacks (explained log.now.events position evidence.now)
+    ensures { DeliversOrLacks (explained names.now log.now.events position evidence.now)
         (store F.disk files.old files.new) target.entry
         (writing O.contents O.failures out.old out.new) result }
 {
-    let words = match explain(alloc, log, position, evidence) {
+    let words = match explain_named(alloc, log, position, evidence, names) {
         Ok(words) => words,
         Err(Memory) => return Fate::Memory,
     };
     let Some(path) = target else {
         return print(words.as_slice(), true, out);
     };
-    let drawing = match picture(alloc, log, position, evidence) {
+    let drawing = match picture_named(alloc, log, position, evidence, names) {
         Ok(drawing) => drawing,
         Err(Memory) => return Fate::Memory,
     };
@@ -108,12 +111,13 @@ fn explain_without<O: Sink>(alloc: Global, log: &Trace, out: &mut O) -> Fate
 fn explain_closed<F: Files, O: Sink>(
     alloc: Global,
     closed: &Closed,
+    names: &Names,
     target: Option<&str>,
     files: &mut F,
     out: &mut O,
 ) -> Fate
     requires { length closed.now.log ≤ MOST_EVENTS }
-    ensures { Explains closed.now.log (store F.disk files.old files.new) target.entry
+    ensures { Explains names.now closed.now.log (store F.disk files.old files.new) target.entry
         (writing O.contents O.failures out.old out.new) result }
 {
     let log = closed.log();
@@ -123,7 +127,7 @@ fn explain_closed<F: Files, O: Sink>(
     let position = alarm.position;
     match evidence_of(alloc, log, position, alarm.blamed.as_slice()) {
         Ok(evidence) => {
-            let fate = explain_by(alloc, log, position, &evidence, target, files, out);
+            let fate = explain_by(alloc, log, position, &evidence, names, target, files, out);
             drop(evidence);
             fate
         }
@@ -137,17 +141,18 @@ fn explain_closed<F: Files, O: Sink>(
 fn explain_log<I: Source, F: Files, O: Sink>(
     alloc: Global,
     options: &ExplainOptions,
+    names: &Names,
     source: &mut I,
     files: &mut F,
     out: &mut O,
 ) -> Fate
-    ensures { ExplainsInput options.now.target (store F.disk files.old files.new)
+    ensures { ExplainsInput names.now options.now.target (store F.disk files.old files.new)
         (reading I.remaining I.failures source.old source.new)
         (writing O.contents O.failures out.old out.new) result }
 {
     match do_input(alloc, source, MOST_EVENTS, MOST_NODES) {
         Ok(closed) => {
-            let fate = explain_closed(alloc, &closed, options.target, files, out);
+            let fate = explain_closed(alloc, &closed, names, options.target, files, out);
             drop(closed);
             fate
         }
@@ -155,7 +160,28 @@ fn explain_log<I: Source, F: Files, O: Sink>(
     }
 }
 
-/// Explains the log that was asked for.
+/// Explains the log that was asked for by the names.
+fn explain_input<F: Files, O: Sink>(
+    alloc: Global,
+    options: &ExplainOptions,
+    names: &Names,
+    files: &mut F,
+    out: &mut O,
+) -> Fate
+    ensures { ExplainsLog names.now options.now (store F.disk files.old files.new)
+        (writing O.contents O.failures out.old out.new) result }
+{
+    if is_standard_input(options.input) {
+        let mut log = files.standard_input();
+        return explain_log(alloc, options, names, &mut log, files, out);
+    }
+    match open_input(files, Operand::Log, options.input, options.target) {
+        Ok(mut log) => explain_log(alloc, options, names, &mut log, files, out),
+        Err(fate) => fate,
+    }
+}
+
+/// Explains the log that was asked for. The names are read first.
 pub fn explain_file<F: Files, O: Sink>(
     alloc: Global,
     options: &ExplainOptions,
@@ -165,12 +191,18 @@ pub fn explain_file<F: Files, O: Sink>(
     ensures { DoesExplain options.now (store F.disk files.old files.new)
         (writing O.contents O.failures out.old out.new) result }
 {
-    if is_standard_input(options.input) {
-        let mut log = files.standard_input();
-        return explain_log(alloc, options, &mut log, files, out);
-    }
-    match open_input(files, Operand::Log, options.input, options.target) {
-        Ok(mut log) => explain_log(alloc, options, &mut log, files, out),
+    let bytes = match read_given(alloc, options.names, MOST_NAMES_BYTES, files) {
+        Ok(bytes) => bytes,
+        Err(fate) => return fate,
+    };
+    let fate = match names_in(alloc, options.names, &bytes) {
+        Ok(names) => {
+            let fate = explain_input(alloc, options, &names, files, out);
+            drop(names);
+            fate
+        }
         Err(fate) => fate,
-    }
+    };
+    drop(bytes);
+    fate
 }

@@ -1,7 +1,8 @@
 //! How the program ends: its status, and the line on standard error.
 ghost use Rattle.std.specs.Prelude.{◌≡◌, ◌≢◌, ◌≤◌, ◌++◌, [], codes, decimal, length, take, IfOk, OnOk, OnErr};
+ghost use Rattle.velo_names.specs.Fault.{fault_line, fault_number};
 ghost use Rattle.velo_program.specs.Writing.{BreaksOff, Writes, writing};
-ghost use Rattle.velo_program.specs.Fate.{Ends, number_of, status_of, status_of_check, status_of_log, status_of_refused, status_of_ending, status_of_schedule, status_of_work, place_of_work, line_of, line_of_check, line_of_log, line_of_ending, line_of_one_file, line_of_refused, line_of_schedule, line_of_work};
+ghost use Rattle.velo_program.specs.Fate.{Ends, number_of, status_of, status_of_check, status_of_log, status_of_refused, status_of_ending, status_of_names, status_of_schedule, status_of_work, place_of_work, line_of, line_of_check, line_of_log, line_of_ending, line_of_names, line_of_one_file, line_of_refused, line_of_schedule, line_of_work};
 
 use crate::check::CheckFault;
 use crate::request::Operand;
@@ -9,6 +10,7 @@ use crate::schedule::ScheduleFault;
 use crate::status::{ALARM, BAD_INPUT, DONE, FAILED, INCOMPLETE};
 use velo_events::{Refusal, ThreadId};
 use velo_logtext::{LogFault, Sink, WriteFault, put_bytes, put_number, write_all};
+use velo_names::NamesFault;
 use velo_worker::Ending;
 use velo_workload::WorkFault;
 
@@ -24,6 +26,8 @@ pub enum Fate {
     Schedule(ScheduleFault),
     /// The text is no workload.
     Work(WorkFault),
+    /// The file of names says none.
+    Names(NamesFault),
     /// The check met a fault.
     Check(CheckFault),
     /// A file could not be opened.
@@ -106,6 +110,15 @@ fn status_of_work(fault: WorkFault) -> u8
     }
 }
 
+fn status_of_names(fault: NamesFault) -> u8
+    ensures { result ≡ status_of_names fault }
+{
+    match fault {
+        NamesFault::Memory => FAILED,
+        _ => BAD_INPUT,
+    }
+}
+
 fn status_of(fate: Fate) -> u8
     ensures { result ≡ status_of fate }
 {
@@ -113,6 +126,7 @@ fn status_of(fate: Fate) -> u8
         Fate::Finished { ending, alarm } => status_of_ending(ending, alarm),
         Fate::Schedule(fault) => status_of_schedule(fault),
         Fate::Work(fault) => status_of_work(fault),
+        Fate::Names(fault) => status_of_names(fault),
         Fate::Check(fault) => status_of_check(fault),
         Fate::OneFile(_) => BAD_INPUT,
         Fate::CannotOpen | Fate::ReadFailed | Fate::WriteFailed | Fate::Memory | Fate::Lost => {
@@ -243,6 +257,24 @@ fn put_work_fault(buffer: &mut [u8], fault: WorkFault) -> usize
     }
 }
 
+/// Puts the line of a fault of names at the front of a buffer, and answers where it ends.
+fn put_names_fault(buffer: &mut [u8], fault: NamesFault) -> usize
+    requires { 64 ≤ length buffer.old }
+    ensures text { take result buffer.new ≡ line_of_names (fault_number fault) (fault_line fault) }
+    ensures end { result ≤ length buffer.new }
+{
+    match fault.number() {
+        Some(number) => {
+            let at = put_bytes(buffer, 0, b"names fault ");
+            let at = put_number(buffer, at, u64::from(number));
+            let at = put_bytes(buffer, at, b" line ");
+            let at = put_number(buffer, at, fault.line() as u64);
+            put_bytes(buffer, at, b"\n")
+        }
+        None => put_bytes(buffer, 0, b"out of memory\n"),
+    }
+}
+
 /// Puts the line of an input that is the file to be written at the front of a buffer, and answers where it ends.
 fn put_one_file(buffer: &mut [u8], operand: Operand) -> usize
     requires { 64 ≤ length buffer.old }
@@ -265,6 +297,7 @@ fn put_line(buffer: &mut [u8], fate: Fate) -> usize
         Fate::Finished { ending, .. } => put_ending(buffer, ending),
         Fate::Schedule(fault) => put_schedule_fault(buffer, fault),
         Fate::Work(fault) => put_work_fault(buffer, fault),
+        Fate::Names(fault) => put_names_fault(buffer, fault),
         Fate::Check(fault) => put_check_fault(buffer, fault),
         Fate::CannotOpen => put_bytes(buffer, 0, b"cannot open\n"),
         Fate::OneFile(operand) => put_one_file(buffer, operand),

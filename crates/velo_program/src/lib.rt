@@ -1,12 +1,14 @@
 //! What the program does, whatever its command line, its files and its outputs are.
 #![tactic(auto)]
 
+mod auditing;
 mod carrying;
 mod check;
 mod doing;
 mod explaining;
 mod fate;
 mod files;
+mod naming;
 mod reading;
 mod replaying;
 mod request;

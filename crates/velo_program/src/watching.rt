@@ -14,6 +14,7 @@ use crate::files::{Files, is_standard_input, open_input};
 use crate::request::{Operand, WatchOptions};
 use std::alloc::Global;
 use velo_logtext::{Sink, Source};
+use velo_report::Names;
 use velo_watch::{Watch, WatchFault};
 use velo_world::Closed;
 
@@ -90,7 +91,7 @@ fn watch_log<I: Source, O: Sink>(
     ensures failures { I.failures log.new ≡ failures_told result (I.failures log.old) }
 {
     let answer = match watch_input(alloc, options, log, out) {
-        Ok(closed) => finish(alloc, closed, options.certificate, out),
+        Ok(closed) => finish(alloc, closed, &Names::Numbers, options.certificate, out),
         Err(fault) => Err(fault),
     };
     fate_of(answer)

@@ -1,4 +1,5 @@
 //! The program over logs and devices in memory.
+mod audits;
 mod carried;
 mod chance;
 mod command_lines;

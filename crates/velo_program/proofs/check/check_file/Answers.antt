@@ -1,41 +1,19 @@
-use Rattle.std.proofs.Common.{◌≡◌, inl, inr, refl, rules, subst, sym, codes}
-use Rattle.std.specs.Prelude.{ℕ, List, None}
+use Rattle.std.proofs.Common.{inl, inr, refl, subst, sym}
 use Rattle.velo_program.specs.Disk.{store}
-use Rattle.velo_program.specs.Reading.{reading}
+use Rattle.velo_program.specs.Program.{DoesCheck}
 use Rattle.velo_program.specs.Writing.{writing}
-use Rattle.velo_program.proofs.OnDelivery.{check_put}
+use Rattle.velo_program.specs.declared.fate.Fate.{Fate}
+use Rattle.velo_program.proofs.OnNaming.{names_found, names_lacking}
 use Rattle.velo_program.proofs.check.check_file.Goals as goal
+use Rattle.velo_program.proofs.check.check_file.Goals.{in-Ok-names_in, in-Err-names_in}
 
-pub returns-then-is_standard_input : goal.returns-then-is_standard_input
-returns-then-is_standard_input g c =
-    let is : c.args.options.now.input.now ≡ codes "-" = search rules in
+pub returns : goal.returns
+returns g c =
+    let options = c.args.options.now in
     let disk = g.F.Files.disk c.args.files.now in
-    let kept = store g.F.Files.disk c.args.files.now c.args.files.now in
-    let read = reading g.F.StandardInput.Source.remaining g.F.StandardInput.Source.failures c.standard_input.result c.check_log.new.log in
-    let stdout = writing g.O.Sink.contents g.O.Sink.failures c.args.out.now c.check_log.new.out in
-    let told = c.check_log.ensures.told in
-    inr (
-      read,
-      told.0,
-      subst (λ (path : List ℕ). disk.gives path read) (sym is) (c.standard_input.ensures c.check_log.new.log),
-      c.check_log.ensures.failures,
-      told.1,
-      check_put kept None stdout _ _ _ _ told.0 told.1 refl c.check_log.result told.2,
-    )
-
-pub returns-in-Ok : goal.returns-in-Ok
-returns-in-Ok g c =
-    let kept = store g.F.Files.disk c.args.files.now c.args.files.now in
-    let stdout = writing g.O.Sink.contents g.O.Sink.failures c.args.out.now c.check_log-in-Ok.new.out in
-    let told = c.check_log-in-Ok.ensures.told in
-    inr (
-      _,
-      told.0,
-      c.in-Ok.ensures.given c.check_log-in-Ok.new.log,
-      c.check_log-in-Ok.ensures.failures,
-      told.1,
-      check_put kept None stdout _ _ _ _ told.0 told.1 refl c.check_log-in-Ok.result told.2,
-    )
-
-pub returns-in-Err : goal.returns-in-Err
-returns-in-Err g c = inl (c.in-Err.ensures.barred, (refl, (refl, refl)))
+    let read = c.in-Ok.ensures.bytes in
+    let bytes = c.deref.result.now in
+    elim c.match-names_in.branch [
+      | in-Ok-names_in w ↦ rw (w.out-is, w.fate-is) (inr (_, names_found disk options.names bytes _ (rw (← c.deref.ensures.value) at read) w.in-Ok-names_in.ensures.names, w.check_by-fate.ensures))
+      | in-Err-names_in w ↦ rw (w.out-is, w.fate-is) (inl (names_lacking disk options.names bytes _ (rw (← c.deref.ensures.value) at read) w.in-Err-names_in.ensures.fault, (refl, (refl, refl))))
+    ]

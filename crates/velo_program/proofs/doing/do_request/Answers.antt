@@ -1,5 +1,5 @@
 use Rattle.std.proofs.Common.{refl}
-use Rattle.velo_program.specs.declared.request.Request.TheVariants.{Carry, Check, Explain, Replay, Run, Watch}
+use Rattle.velo_program.specs.declared.request.Request.TheVariants.{Audit, Carry, Check, Explain, Replay, Run, Watch}
 use Rattle.velo_program.specs.Disk.{store}
 use Rattle.velo_program.specs.Writing.{writing}
 use Rattle.velo_program.proofs.OnCauses.{of_done}
@@ -34,8 +34,5 @@ returns-in-Explore-clause-memory g c = rw c.in-Explore.is tt
 pub returns-in-Watch-clause-memory : goal.returns-in-Watch-clause-memory
 returns-in-Watch-clause-memory g c = rw c.in-Watch.is (of_done (store g.F.Files.disk c.args.files.now c.watch_file.new.files) (Watch c.in-Watch.options) (writing g.O.Sink.contents g.O.Sink.failures c.args.out.now c.watch_file.new.out) _ c.watch_file.ensures)
 
-pub returns-in-Audit-clause-done : goal.returns-in-Audit-clause-done
-returns-in-Audit-clause-done g c = rw c.in-Audit.is refl
-
 pub returns-in-Audit-clause-memory : goal.returns-in-Audit-clause-memory
-returns-in-Audit-clause-memory g c = rw c.in-Audit.is tt
+returns-in-Audit-clause-memory g c = rw c.in-Audit.is (of_done (store g.F.Files.disk c.args.files.now c.audit_file.new.files) (Audit c.in-Audit.options) (writing g.O.Sink.contents g.O.Sink.failures c.args.out.now c.audit_file.new.out) _ c.audit_file.ensures)

@@ -1,6 +1,6 @@
 use Rattle.std.proofs.Common.{◌∙◌, List, None, Some, ap, inl, inr, refl, subst, sym, true}
-use Rattle.velo_explain.specs.Picture.{picture_text}
-use Rattle.velo_explain.specs.Text.{explanation_text}
+use Rattle.velo_explain.specs.Picture.{named_picture_text}
+use Rattle.velo_explain.specs.Text.{named_explanation_text}
 use Rattle.velo_worker.specs.declared.ending.Ending.TheVariants.{Done}
 use Rattle.velo_program.specs.declared.fate.Fate.TheVariants.{Finished}
 use Rattle.velo_program.specs.Disk.{store}
@@ -17,10 +17,10 @@ returns-in_default g c =
     let evidence = c.args.evidence.now in
     rw c.in_default.is
     (inl (words_put (store g.F.Files.disk c.args.files.now c.args.files.now) None (writing g.O.Sink.contents g.O.Sink.failures c.args.out.now c.print.new.out)
-    (Some (picture_text log evidence)) c.as_slice.result.now (explanation_text log c.args.position evidence) true (c.as_slice.ensures ∙ c.in-Ok.ensures.ok) refl c.print.result c.print.ensures))
+    (Some (named_picture_text c.args.names.now log evidence)) c.as_slice.result.now (named_explanation_text c.args.names.now log c.args.position evidence) true (c.as_slice.ensures ∙ c.in-Ok.ensures.ok) refl c.print.result c.print.ensures))
 
-pub returns-in-Err-picture : goal.returns-in-Err-picture
-returns-in-Err-picture g c = inr (c.in-Err-picture.ensures.memory, refl, refl, (refl, refl))
+pub returns-in-Err-picture_named : goal.returns-in-Err-picture_named
+returns-in-Err-picture_named g c = inr (c.in-Err-picture_named.ensures.memory, refl, refl, (refl, refl))
 
 pub returns-in-Ok-save : goal.returns-in-Ok-save
 returns-in-Ok-save g c =
@@ -28,8 +28,8 @@ returns-in-Ok-save g c =
     let evidence = c.args.evidence.now in
     rw c.in-Some.is
     (inl (words_put (store g.F.Files.disk c.args.files.now c.save.new.files) (Some c.in-Some.path) (writing g.O.Sink.contents g.O.Sink.failures c.args.out.now c.print-in-Ok-save.new.out)
-    (Some (picture_text log evidence)) c.as_slice-in-Ok-save.result.now (explanation_text log c.args.position evidence) true (c.as_slice-in-Ok-save.ensures ∙ c.in-Ok.ensures.ok)
-    (saved_text (store g.F.Files.disk c.args.files.now c.save.new.files) (Some c.in-Some.path) (writing g.O.Sink.contents g.O.Sink.failures c.args.out.now c.args.out.now) _ _ (c.as_slice-2.ensures ∙ c.in-Ok-picture.ensures.ok) c.in-Ok-save.ensures)
+    (Some (named_picture_text c.args.names.now log evidence)) c.as_slice-in-Ok-save.result.now (named_explanation_text c.args.names.now log c.args.position evidence) true (c.as_slice-in-Ok-save.ensures ∙ c.in-Ok.ensures.ok)
+    (saved_text (store g.F.Files.disk c.args.files.now c.save.new.files) (Some c.in-Some.path) (writing g.O.Sink.contents g.O.Sink.failures c.args.out.now c.args.out.now) _ _ (c.as_slice-2.ensures ∙ c.in-Ok-picture_named.ensures.ok) c.in-Ok-save.ensures)
     c.print-in-Ok-save.result c.print-in-Ok-save.ensures))
 
 pub returns : goal.returns
@@ -38,4 +38,4 @@ returns g c =
     let evidence = c.args.evidence.now in
     rw c.in-Some.is
     (inl (undrawn (store g.F.Files.disk c.args.files.now c.save.new.files) (Some c.in-Some.path) (writing g.O.Sink.contents g.O.Sink.failures c.args.out.now c.args.out.now)
-    _ (picture_text log evidence) (explanation_text log c.args.position evidence) (Finished Done true) c.in-Err-save.fate (c.as_slice-2.ensures ∙ c.in-Ok-picture.ensures.ok) c.in-Err-save.ensures (refl, refl)))
+    _ (named_picture_text c.args.names.now log evidence) (named_explanation_text c.args.names.now log c.args.position evidence) (Finished Done true) c.in-Err-save.fate (c.as_slice-2.ensures ∙ c.in-Ok-picture_named.ensures.ok) c.in-Err-save.ensures (refl, refl)))

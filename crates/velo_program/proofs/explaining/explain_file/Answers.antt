@@ -1,20 +1,19 @@
-use Rattle.std.proofs.Common.{◌≡◌, inl, inr, refl, rules, subst, sym, codes}
-use Rattle.std.specs.Prelude.{ℕ, List}
-use Rattle.velo_program.specs.Reading.{reading}
+use Rattle.std.proofs.Common.{inl, inr, refl, subst, sym}
+use Rattle.velo_program.specs.Disk.{store}
+use Rattle.velo_program.specs.Program.{DoesExplain}
+use Rattle.velo_program.specs.Writing.{writing}
+use Rattle.velo_program.specs.declared.fate.Fate.{Fate}
+use Rattle.velo_program.proofs.OnNaming.{names_found, names_lacking}
 use Rattle.velo_program.proofs.explaining.explain_file.Goals as goal
+use Rattle.velo_program.proofs.explaining.explain_file.Goals.{in-Ok-names_in, in-Err-names_in}
 
-pub returns-then-is_standard_input : goal.returns-then-is_standard_input
-returns-then-is_standard_input g c =
-    let is : c.args.options.now.input.now ≡ codes "-" = search rules in
+pub returns : goal.returns
+returns g c =
+    let options = c.args.options.now in
     let disk = g.F.Files.disk c.args.files.now in
-    let read = reading g.F.StandardInput.Source.remaining g.F.StandardInput.Source.failures c.standard_input-log.result c.explain_log.new.source in
-    let done = c.explain_log.ensures in
-    inr (read, done.1.0, subst (λ (path : List ℕ). disk.gives path read) (sym is) (c.standard_input-log.ensures c.explain_log.new.source), done.0, done.1.1, done.1.2)
-
-pub returns-in-Ok : goal.returns-in-Ok
-returns-in-Ok g c =
-    let done = c.explain_log-in-Ok.ensures in
-    inr (_, done.1.0, c.in-Ok.ensures.given c.explain_log-in-Ok.new.source, done.0, done.1.1, done.1.2)
-
-pub returns-in-Err : goal.returns-in-Err
-returns-in-Err g c = inl (c.in-Err.ensures.barred, (refl, (refl, refl)))
+    let read = c.in-Ok.ensures.bytes in
+    let bytes = c.deref.result.now in
+    elim c.match-names_in.branch [
+      | in-Ok-names_in w ↦ rw (w.files-is, w.out-is, w.fate-is) (inr (_, names_found disk options.names bytes _ (rw (← c.deref.ensures.value) at read) w.in-Ok-names_in.ensures.names, w.explain_input-fate.ensures))
+      | in-Err-names_in w ↦ rw (w.files-is, w.out-is, w.fate-is) (inl (names_lacking disk options.names bytes _ (rw (← c.deref.ensures.value) at read) w.in-Err-names_in.ensures.fault, (refl, (refl, refl))))
+    ]

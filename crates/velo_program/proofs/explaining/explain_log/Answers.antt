@@ -11,7 +11,7 @@ returns-in-Ok g c =
     let told = c.explain_closed-fate.ensures in
     let stdout = writing g.O.Sink.contents g.O.Sink.failures c.args.out.now c.explain_closed-fate.new.out in (
       c.in-Ok.ensures.read
-          ∙ sym (explains_reads (store g.F.Files.disk c.args.files.now c.explain_closed-fate.new.files) c.args.options.now.target stdout c.in-Ok.closed.log told.0 _ told.1 c.explain_closed-fate.result told.2),
+          ∙ sym (explains_reads (store g.F.Files.disk c.args.files.now c.explain_closed-fate.new.files) c.args.options.now.target stdout c.args.names.now c.in-Ok.closed.log told.0 _ told.1 c.explain_closed-fate.result told.2),
       (
         told.0,
         ⊎_elim

@@ -1,0 +1,93 @@
+//! Files of names, and other files that are read whole beside a command's input.
+ghost use Rattle.std.specs.Prelude.{◌≡◌, IfErr, IfOk, OnOk};
+ghost use Rattle.velo_names.specs.declared.limits.TheConstants.{MOST_NAMES_BYTES};
+ghost use Rattle.velo_program.specs.Naming.{AreBytesOf, AreNamesIn, AreNoBytesOf, AreNoNamesIn, AreShown, IsFailure, IsFileRead, IsFileUnread};
+ghost use Rattle.velo_program.specs.Reading.{failures_told};
+ghost use Rattle.velo_program.specs.Steps.{IsReadOf};
+
+use crate::fate::Fate;
+use crate::files::{Files, is_standard_input};
+use crate::reading::{ReadFault, read_whole};
+use std::alloc::Global;
+use velo_logtext::Source;
+use velo_names::Names;
+use velo_report::Names as ReportNames;
+
+/// All bytes of a source; or where there are more than the most that are wanted, more than so many of them.
+fn read_source<I: Source>(alloc: Global, source: &mut I, most: usize) -> Result<Vec<u8>, Fate>
+    ensures bytes { IfOk result (λ bytes. IsReadOf most (I.remaining source.old) bytes.items) }
+    ensures failed { IfErr result IsFailure }
+    ensures read { OnOk result (I.failures source.new ≡ I.failures source.old) }
+    ensures failure { IfErr result (λ fate. I.failures source.new ≡ failures_told fate
+        (I.failures source.old)) }
+{
+    match read_whole(alloc, source, most) {
+        Ok(bytes) => Ok(bytes),
+        Err(ReadFault::Failed) => Err(Fate::ReadFailed),
+        Err(ReadFault::Memory) => Err(Fate::Memory),
+    }
+}
+
+/// All bytes of the file at a path, or of standard input; or where there are more than the most that are wanted, more than so
+/// many of them.
+///
+/// # Errors
+/// `CannotOpen` where it does not open, `ReadFailed` where it failed, `Memory` where a growth was refused.
+fn read_file<F: Files>(alloc: Global, path: &str, most: usize, files: &F) -> Result<Vec<u8>, Fate>
+    ensures bytes { IfOk result (λ bytes. IsFileRead (F.disk files.now) path.now most bytes.items) }
+    ensures unread { IfErr result (IsFileUnread (F.disk files.now) path.now) }
+{
+    if is_standard_input(path) {
+        return read_source(alloc, &mut files.standard_input(), most);
+    }
+    match files.open(path) {
+        Some(mut file) => read_source(alloc, &mut file, most),
+        None => Err(Fate::CannotOpen),
+    }
+}
+
+/// The bytes of the file at a path, as `read_file`; none without a path.
+///
+/// # Errors
+/// As `read_file`.
+pub fn read_given<F: Files>(
+    alloc: Global,
+    path: Option<&str>,
+    most: usize,
+    files: &F,
+) -> Result<Vec<u8>, Fate>
+    ensures bytes { IfOk result (λ bytes. AreBytesOf (F.disk files.now) most path.entry bytes.items) }
+    ensures unread { IfErr result (AreNoBytesOf (F.disk files.now) path.entry) }
+{
+    match path {
+        Some(path) => read_file(alloc, path, most, files),
+        None => Ok(Vec::new(alloc)),
+    }
+}
+
+/// The names that the bytes of a file say, if one was given, and else none.
+///
+/// # Errors
+/// `Names` with the fault for which they say none.
+pub fn names_in<'a>(alloc: Global, path: Option<&str>, bytes: &'a [u8]) -> Result<Names<'a>, Fate>
+    ensures names { IfOk result (AreNamesIn path.entry bytes.now) }
+    ensures fault { IfErr result (AreNoNamesIn path.entry bytes.now) }
+{
+    if path.is_none() {
+        return Ok(Names::new(alloc));
+    }
+    match Names::parse(alloc, bytes) {
+        Ok(names) => Ok(names),
+        Err(fault) => Err(Fate::Names(fault)),
+    }
+}
+
+/// What a report calls threads and labels by the names of a file, if one was given.
+pub fn shown_by<'a>(path: Option<&str>, names: &'a Names<'a>) -> ReportNames<'a>
+    ensures { AreShown path.entry names.now result }
+{
+    match path {
+        Some(_) => ReportNames::Listed(names),
+        None => ReportNames::Numbers,
+    }
+}
