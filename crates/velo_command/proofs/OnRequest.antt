@@ -16,7 +16,7 @@ use Rattle.velo_program.specs.declared.request.ExploreOptions.{ExploreOptions}
 use Rattle.velo_program.specs.declared.request.WatchOptions.{WatchOptions}
 use Rattle.velo_program.specs.declared.request.Request.{Request}
 use Rattle.velo_program.specs.declared.request.Request.TheVariants.{Audit, Carry, Check, Explain, Explore, Replay, Run, Watch}
-use Rattle.velo_command.specs.Asked.{AreLimits, AreWords, AsksFor, AsksForNothing, IsAudit, IsCarrying, IsCheck, IsExplanation, IsExploring, IsFlag, IsReplay, IsRun, IsWatch, WritesNumber}
+use Rattle.velo_command.specs.Asked.{AreLimits, AsksFor, AsksForNothing, IsAudit, IsCarrying, IsCheck, IsExplanation, IsExploring, IsFlag, IsReplay, IsRun, IsWatch, WritesNumber}
 use Rattle.velo_command.specs.CommandLine.{asked_by, faults_of}
 use Rattle.velo_command.proofs.OnLimits.{HasLimit, HasWord}
 use Rattle.velo_command.proofs.OnRight.{HasLimits, IsRight, faultless_is_right}
