@@ -72,7 +72,7 @@ def differences(page, command, text):
     compared = [("options", options_in_page(page, command), options_in_help(text))]
     if "\nStatuses" in text:
         compared.append(("statuses", statuses_in_page(page, command), statuses_in_help(text)))
-    for title in ("Log faults", "Names faults", "Workload faults", "Refusals"):
+    for title in ("Log faults", "Names faults", "Ignored faults", "Workload faults", "Refusals"):
         told = numbered_in_help(text, title)
         if told:
             compared.append((title, numbered_in_page(page, f"## {title}"), told))

@@ -235,10 +235,15 @@ number has its name behind it.
 The list of --not-atomic has a label a line: a number, a name, or a line that this command wrote, so that its output is a
 list for the next log. --ignore-lock and --ignore-variable take a number or a name, and each may be given again.
 
+Ignored faults, where such a word is no number up to 65535 and no name:
+   1  no such lock
+   2  no such variable
+
 Statuses, each with the lines on standard error:
   0  no label was found, or help
   2  usage; 'error: standard input can be read once'; the text is no log: 'log fault K', 'log fault K line N'; an event
-     can't come about: 'refused K at P', 'wrong value at P'; the names are at fault: 'names fault K line N'
+     can't come about: 'refused K at P', 'wrong value at P'; the names are at fault: 'names fault K line N';
+     a word of --ignore-lock or --ignore-variable means nothing: 'ignored fault K'
   3  a label was found whose blocks are not atomic
   4  a limit was met: 'refused 17 at P', 'refused 18 at P'
   5  memory or a device failed: 'out of memory', 'read failed', 'write failed', 'cannot open'
