@@ -95,7 +95,6 @@ a_run rows word has =
         target = a_path_if (first_of (codes "log") rows);
         limits = limits.0;
         certificate = is_true (one_of (codes "certificate") rows);
-        names_target = a_path_if (first_of (codes "names-out") rows);
       },
       (
         word.1,
@@ -103,7 +102,6 @@ a_run rows word has =
         path_of (first_of (codes "log") rows),
         limits.1,
         is_flag (one_of (codes "certificate") rows),
-        path_of (first_of (codes "names-out") rows),
       ),
     )
 
@@ -165,14 +163,12 @@ a_watch rows word has =
         stop = is_true (one_of (codes "stop") rows);
         limits = limits.0;
         certificate = is_true (one_of (codes "certificate") rows);
-        names = a_path_if (first_of (codes "names") rows);
       },
       (
         word.1,
         is_flag (one_of (codes "stop") rows),
         limits.1,
         is_flag (one_of (codes "certificate") rows),
-        path_of (first_of (codes "names") rows),
       ),
     )
 
@@ -183,7 +179,6 @@ an_audit rows word has =
       record {
         input = a_path word.0;
         names = a_path_if (first_of (codes "names") rows);
-        not_atomic = a_path_if (first_of (codes "not-atomic") rows);
         ignored_locks = a_list (unwrap_or (all_of (codes "ignore-lock") rows) []);
         ignored_variables = a_list (unwrap_or (all_of (codes "ignore-variable") rows) []);
         witness = not (is_true (one_of (codes "no-witness") rows));
@@ -192,7 +187,6 @@ an_audit rows word has =
       (
         word.1,
         path_of (first_of (codes "names") rows),
-        path_of (first_of (codes "not-atomic") rows),
         words_of (unwrap_or (all_of (codes "ignore-lock") rows) []),
         words_of (unwrap_or (all_of (codes "ignore-variable") rows) []),
         is_flag_turned (one_of (codes "no-witness") rows),

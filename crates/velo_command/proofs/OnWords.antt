@@ -35,7 +35,7 @@ check_asks options log events nodes certificate names =
 
 -- a workload with all options
 abbrev run_words : List Text
-run_words = codes "velodrome" ∷ codes "run" ∷ codes "--events=5" ∷ codes "w" ∷ codes "--nodes" ∷ codes "+2" ∷ codes "--log" ∷ codes "o" ∷ codes "--stop" ∷ codes "--certificate" ∷ codes "--names-out" ∷ codes "n" ∷ []
+run_words = codes "velodrome" ∷ codes "run" ∷ codes "--events=5" ∷ codes "w" ∷ codes "--nodes" ∷ codes "+2" ∷ codes "--log" ∷ codes "o" ∷ codes "--stop" ∷ codes "--certificate" ∷ []
 
 run_is_right : faults_of run_words ≡ []
 unfolding faults_of walk_fault walked defaults_fault
@@ -43,10 +43,10 @@ run_is_right = refl
 
 run_asks : (options : RunOptions) → options.input.now ≡ codes "w" → options.stop ≡ true → option_map (λ path. path.now) options.target ≡ Some (codes "o")
     → options.limits.events ≡ 5 → options.limits.nodes ≡ 2 → options.certificate ≡ true
-    → option_map (λ path. path.now) options.names_target ≡ Some (codes "n") → AsksFor (asked_by run_words) (Run options)
+    → AsksFor (asked_by run_words) (Run options)
 unfolding asked_by walked
-run_asks options file stop log events nodes certificate names =
-    (refl, (ap Some (sym file), search rules, sym log, search rules, search rules, sym names))
+run_asks options file stop log events nodes certificate =
+    (refl, (ap Some (sym file), search rules, sym log, search rules, search rules))
 
 -- a schedule is one word, and none is the empty one
 abbrev replay_words : List Text
@@ -58,11 +58,11 @@ replay_is_right = refl
 
 replay_asks : (options : ReplayOptions) → options.schedule.now ≡ codes "0 1" → options.run.input.now ≡ codes "-" → options.run.stop ≡ false → options.run.target ≡ None
     → options.run.limits.events ≡ 1048576 → options.run.limits.nodes ≡ 1024 → options.run.certificate ≡ false
-    → options.run.names_target ≡ None → AsksFor (asked_by replay_words) (Replay options)
+    → AsksFor (asked_by replay_words) (Replay options)
 unfolding asked_by walked
-replay_asks options schedule file stop log events nodes certificate names = (
+replay_asks options schedule file stop log events nodes certificate = (
   refl,
-  (sym schedule, (ap Some (sym file), search rules, ap (option_map (λ path. path.now)) (sym log), search rules, search rules, ap (option_map (λ path. path.now)) (sym names))),
+  (sym schedule, (ap Some (sym file), search rules, ap (option_map (λ path. path.now)) (sym log), search rules, search rules)),
 )
 
 -- a log and a picture
@@ -106,33 +106,33 @@ explore_asks options file states first log events nodes certificate =
 
 -- a log that is watched
 abbrev watch_words : List Text
-watch_words = codes "velodrome" ∷ codes "watch" ∷ codes "--stop" ∷ codes "-" ∷ codes "--names" ∷ codes "n" ∷ []
+watch_words = codes "velodrome" ∷ codes "watch" ∷ codes "--stop" ∷ codes "-" ∷ []
 
 watch_is_right : faults_of watch_words ≡ []
 unfolding faults_of walk_fault walked defaults_fault
 watch_is_right = refl
 
 watch_asks : (options : WatchOptions) → options.input.now ≡ codes "-" → options.stop ≡ true → options.limits.events ≡ 1048576 → options.limits.nodes ≡ 1024
-    → options.certificate ≡ false → option_map (λ path. path.now) options.names ≡ Some (codes "n") → AsksFor (asked_by watch_words) (Watch options)
+    → options.certificate ≡ false → AsksFor (asked_by watch_words) (Watch options)
 unfolding asked_by walked
-watch_asks options log stop events nodes certificate names =
-    (refl, (ap Some (sym log), search rules, search rules, search rules, sym names))
+watch_asks options log stop events nodes certificate =
+    (refl, (ap Some (sym log), search rules, search rules, search rules))
 
 -- a log that is audited, without two locks; the limits are the greatest ones by default
 abbrev audit_words : List Text
-audit_words = codes "velodrome" ∷ codes "audit" ∷ codes "a" ∷ codes "--ignore-lock" ∷ codes "3" ∷ codes "--no-witness" ∷ codes "--ignore-lock=m" ∷ codes "--not-atomic" ∷ codes "l" ∷ []
+audit_words = codes "velodrome" ∷ codes "audit" ∷ codes "a" ∷ codes "--ignore-lock" ∷ codes "3" ∷ codes "--no-witness" ∷ codes "--ignore-lock=m" ∷ []
 
 audit_is_right : faults_of audit_words ≡ []
 unfolding faults_of walk_fault walked defaults_fault
 audit_is_right = refl
 
-audit_asks : (options : AuditOptions) → options.input.now ≡ codes "a" → options.names ≡ None → option_map (λ path. path.now) options.not_atomic ≡ Some (codes "l")
+audit_asks : (options : AuditOptions) → options.input.now ≡ codes "a" → options.names ≡ None
     → map (λ w. w.now) options.ignored_locks.now ≡ codes "3" ∷ codes "m" ∷ [] → map (λ w. w.now) options.ignored_variables.now ≡ [] → options.witness ≡ false
     → options.limits.events ≡ 16777216 → options.limits.nodes ≡ 4096 → AsksFor (asked_by audit_words) (Audit options)
 unfolding asked_by walked
-audit_asks options log names not_atomic locks variables witness events nodes = (
+audit_asks options log names locks variables witness events nodes = (
   refl,
-  (ap Some (sym log), ap (option_map (λ path. path.now)) (sym names), sym not_atomic, sym locks, sym variables, search rules, search rules),
+  (ap Some (sym log), ap (option_map (λ path. path.now)) (sym names), sym locks, sym variables, search rules, search rules),
 )
 
 -- ---- wrong words, and words that ask for help

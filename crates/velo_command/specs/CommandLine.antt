@@ -60,8 +60,7 @@ graph_options =
 
 -- the options of each command that runs a workload
 abbrev pub run_options : List Rule
-run_options =
-    flag (codes "stop") ∷ valued (codes "log") ∷ valued (codes "names-out") ∷ graph_options
+run_options = flag (codes "stop") ∷ valued (codes "log") ∷ graph_options
 
 -- ---- the subcommands
 
@@ -89,13 +88,12 @@ explore = subcommand (codes "explore")
     (word (codes "FILE") ∷ states ∷ flag (codes "first") ∷ valued (codes "log") ∷ graph_options)
 
 abbrev pub watch : Shape
-watch = subcommand (codes "watch")
-    (word (codes "LOG") ∷ flag (codes "stop") ∷ valued (codes "names") ∷ graph_options)
+watch = subcommand (codes "watch") (word (codes "LOG") ∷ flag (codes "stop") ∷ graph_options)
 
 -- the greatest limits by default
 abbrev pub audit : Shape
 audit = subcommand (codes "audit")
-    (word (codes "LOG") ∷ valued (codes "names") ∷ valued (codes "not-atomic")
+    (word (codes "LOG") ∷ valued (codes "names")
     ∷ repeated (codes "ignore-lock") ∷ repeated (codes "ignore-variable")
     ∷ flag (codes "no-witness")
     ∷ events (codes "16777216") ∷ nodes (codes "4096") ∷ [])

@@ -125,7 +125,6 @@ fn watch<'a>(alloc: Global) -> Result<Command<'a>, Memory>
         .after_help(help::OF_WATCH);
     let command = with_argument(command, log(alloc))?;
     let command = with_argument(command, stop_of_watch(alloc))?;
-    let command = with_argument(command, names(alloc))?;
     with_graph_options(alloc, command)
 }
 
@@ -138,7 +137,6 @@ fn audit<'a>(alloc: Global) -> Result<Command<'a>, Memory>
         .after_help(help::OF_AUDIT);
     let command = with_argument(command, log(alloc))?;
     let command = with_argument(command, names(alloc))?;
-    let command = with_argument(command, not_atomic(alloc))?;
     let command = with_argument(command, ignored_locks(alloc))?;
     let command = with_argument(command, ignored_variables(alloc))?;
     let command = with_argument(command, no_witness(alloc))?;
@@ -153,7 +151,6 @@ fn with_run_options<'a>(alloc: Global, command: Command<'a>) -> Result<Command<'
 {
     let command = with_argument(command, stop(alloc))?;
     let command = with_argument(command, out(alloc))?;
-    let command = with_argument(command, names_out(alloc))?;
     with_graph_options(alloc, command)
 }
 
@@ -211,17 +208,6 @@ fn out<'a>(alloc: Global) -> Arg<'a>
     )
 }
 
-fn names_out<'a>(alloc: Global) -> Arg<'a>
-    ensures { IsArgument (valued (codes "names-out")) result }
-{
-    valued(
-        alloc,
-        "names-out",
-        "OUT",
-        "Write the names of the workload to this path, behind the log of --log",
-    )
-}
-
 fn names<'a>(alloc: Global) -> Arg<'a>
     ensures { IsArgument (valued (codes "names")) result }
 {
@@ -254,17 +240,6 @@ fn stop_of_watch<'a>(alloc: Global) -> Arg<'a>
     ensures { IsArgument (flag (codes "stop")) result }
 {
     flag(alloc, "stop", "End the watch at an alarm")
-}
-
-fn not_atomic<'a>(alloc: Global) -> Arg<'a>
-    ensures { IsArgument (valued (codes "not-atomic")) result }
-{
-    valued(
-        alloc,
-        "not-atomic",
-        "FILE",
-        "The path of a list of labels to leave out, or -",
-    )
 }
 
 fn ignored_locks<'a>(alloc: Global) -> Arg<'a>

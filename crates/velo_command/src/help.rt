@@ -87,13 +87,11 @@ are forked. docs/REFERENCE.md describes it whole, and the report.
 The schedule: in its turn a thread goes up to its next event and tries that; it passes where it must wait. After the
 turns of the schedule all threads have turns in rounds, up to the end.
 
-With --log, --names-out writes the names of the workload for that log, as 'velodrome check --names' reads them.
-
 FILE and OUT are two files: where they are one, nothing is done to it. With - for FILE this is not tested.
 
 Statuses, each with the lines on standard error:
   0  done without an alarm, or help
-  2  usage; 'bad schedule'; 'error: --names-out needs --log'; 'error: FILE and OUT are one file'; the text is no workload:
+  2  usage; 'bad schedule'; 'error: FILE and OUT are one file'; the text is no workload:
      'workload fault K line N'
   3  an alarm: no serial reordering of the run exists
   4  the run could not go on: 'stuck', 'refused K thread T'; the report is written all the same
@@ -118,13 +116,11 @@ Each thread of the workload is a thread of the system, and they run at once: two
 logs and in their verdicts. 'velodrome replay --help' describes the workload. A thread waits for a lock that another one
 holds, and for the end of a thread that it joins; where that chain of waits comes back to it, the run ends as 'stuck'.
 
-With --log, --names-out writes the names of the workload for that log, as 'velodrome check --names' reads them.
-
 FILE and OUT are two files: where they are one, nothing is done to it. With - for FILE this is not tested.
 
 Statuses, each with the lines on standard error:
   0  done without an alarm, or help
-  2  usage; 'error: --names-out needs --log'; 'error: FILE and OUT are one file'; the text is no workload:
+  2  usage; 'error: FILE and OUT are one file'; the text is no workload:
      'workload fault K line N'
   3  an alarm: no serial reordering of the run exists
   4  the run could not go on: 'stuck', 'refused K thread T'; the report is written all the same
@@ -209,13 +205,13 @@ LOG is a pipe, a FIFO or a file, which ends at its end. One that grows: tail -c 
 
 Statuses, each with the lines on standard error:
   0  no alarm, or help
-  2  usage; 'error: standard input can be read once'; the text is no log: 'log fault K', 'log fault K line N'; an event
-     can't come about: 'refused K at P', 'wrong value at P'; the names are at fault: 'names fault K line N'
+  2  usage; the text is no log: 'log fault K', 'log fault K line N'; an event
+     can't come about: 'refused K at P', 'wrong value at P'
   3  an alarm: no serial reordering of the log exists
   4  a limit was met: 'refused 17 at P', 'refused 18 at P'
   5  memory or a device failed: 'out of memory', 'read failed', 'write failed', 'cannot open'
 
-Log, names, faults and refusals: see 'velodrome check --help'.";
+Log, faults and refusals: see 'velodrome check --help'.";
 
 /// Behind the help of `audit`.
 pub const OF_AUDIT: &str = "\
@@ -232,8 +228,7 @@ It writes 'left out label L', 'left out lock N', 'left out variable N' for what 
 that was found, and the witness of its round, without --no-witness; then 'atomic N labels' and 'rounds R'. With --names each
 number has its name behind it.
 
-The list of --not-atomic has a label a line: a number, a name, or a line that this command wrote, so that its output is a
-list for the next log. --ignore-lock and --ignore-variable take a number or a name, and each may be given again.
+--ignore-lock and --ignore-variable take a number or a name, and each may be given again.
 
 Ignored faults, where such a word is no number up to 65535 and no name:
    1  no such lock

@@ -42,8 +42,6 @@ pub struct RunOptions<'a> {
     pub limits: Limits,
     /// Whether the certificate of the verdict is written behind the report.
     pub certificate: bool,
-    /// The path where the names of the workload are saved for its log.
-    pub names_target: Option<&'a str>,
 }
 
 /// What `velodrome replay` was asked for.
@@ -108,8 +106,6 @@ pub struct WatchOptions<'a> {
     pub limits: Limits,
     /// Whether the certificate of the verdict is written behind the report.
     pub certificate: bool,
-    /// The path of the names that the report tells, or `-`.
-    pub names: Option<&'a str>,
 }
 
 /// What `velodrome audit` was asked for.
@@ -119,8 +115,6 @@ pub struct AuditOptions<'a> {
     pub input: &'a str,
     /// The path of the names that are told, or `-`.
     pub names: Option<&'a str>,
-    /// The path of the list of labels that are left out, or `-`.
-    pub not_atomic: Option<&'a str>,
     /// The locks that are left out, each a number or a name.
     pub ignored_locks: &'a [&'a str],
     /// The variables that are left out, each a number or a name.

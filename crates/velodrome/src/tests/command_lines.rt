@@ -100,20 +100,20 @@ const WRONG_WORDS: [&[&str]; 29] = [
     &["velodrome", "watch"],
     &["velodrome", "watch", "a.log", "--dot", "o.dot"],
     &["velodrome", "audit", "a.log", "--certificate"],
-    &["velodrome", "audit", "a.log", "--names", "n", "--names", "n"],
+    &[
+        "velodrome",
+        "audit",
+        "a.log",
+        "--names",
+        "n",
+        "--names",
+        "n",
+    ],
     &["velodrome", "audit", "a.log", "--ignore-lock"],
 ];
 
 /// Right words that do not go together, with the line that says so.
-const WORDS_APART: [(&[&str], &str); 8] = [
-    (
-        &["velodrome", "run", "w", "--names-out", "n"],
-        "error: --names-out needs --log\n",
-    ),
-    (
-        &["velodrome", "replay", "-", "--names-out", "n"],
-        "error: --names-out needs --log\n",
-    ),
+const WORDS_APART: [(&[&str], &str); 3] = [
     (
         &["velodrome", "check", "-", "--names", "-"],
         "error: standard input can be read once\n",
@@ -123,19 +123,7 @@ const WORDS_APART: [(&[&str], &str); 8] = [
         "error: standard input can be read once\n",
     ),
     (
-        &["velodrome", "watch", "-", "--names", "-"],
-        "error: standard input can be read once\n",
-    ),
-    (
         &["velodrome", "audit", "-", "--names", "-"],
-        "error: standard input can be read once\n",
-    ),
-    (
-        &["velodrome", "audit", "-", "--not-atomic", "-"],
-        "error: standard input can be read once\n",
-    ),
-    (
-        &["velodrome", "audit", "a.log", "--names=-", "--not-atomic=-"],
         "error: standard input can be read once\n",
     ),
 ];
