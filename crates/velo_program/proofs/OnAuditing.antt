@@ -1,7 +1,6 @@
 -- What an audit leaves out, and what becomes of its answer.
 use Rattle.std.proofs.Common.{◌≡◌, ◌∙◌, ◌++◌, ◌∷◌, [], Bool, true, false, List, ap, inl, inr, map, refl, subst, sym}
 use Rattle.std.specs.Prelude.{◌||◌, ◌==◌, ◌⊎◌, ◌+◌, ◌≤◌, ℕ, All, None, Option, length}
-use Rattle.std.specs.Borrow.{Bor}
 use Rattle.velo_events.specs.declared.config.Bounds.{Bounds}
 use Rattle.velo_events.specs.declared.config.Config.{Config}
 use Rattle.velo_events.specs.declared.event.Event.{Event}

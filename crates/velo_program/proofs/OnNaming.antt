@@ -1,6 +1,6 @@
 -- Names that are read from a file.
-use Rattle.std.proofs.Common.{◌≡◌, ◌≤◌, ◌<◌, ◌++◌, arith, inl, inr, refl, subst, sym}
-use Rattle.std.specs.Prelude.{[], ℕ, List, length, Option, Some, None, Result, Ok, Err, IfOk, IfErr, OnOk}
+use Rattle.std.proofs.Common.{◌≡◌, arith, inl, inr, subst}
+use Rattle.std.specs.Prelude.{ℕ, List, Option, Some, None, Result, Ok, Err, IfOk, IfErr, OnOk}
 use Rattle.std.specs.Borrow.{Bor}
 use Rattle.velo_names.specs.declared.fault.NamesFault.{NamesFault}
 use Rattle.velo_names.specs.declared.fault.NamesFault.TheVariants as names_fault
@@ -10,7 +10,7 @@ use Rattle.velo_program.specs.declared.fate.Fate.{Fate}
 use Rattle.velo_program.specs.declared.fate.Fate.TheVariants as fate
 use Rattle.velo_program.specs.Disk.{Disk}
 use Rattle.velo_program.specs.Naming.{AreBytesOf, AreNamesIn, AreNamesOf, AreNoBytesOf, AreNoNamesIn, HaveFaultOfNames, IsFailure, IsFileRead, IsFileUnread, LacksNames, SayNames, SayNoNames}
-use Rattle.velo_program.specs.Reading.{FailuresAsTold, Reading, failures_told}
+use Rattle.velo_program.specs.Reading.{FailuresAsTold, Reading}
 use Rattle.velo_program.specs.Steps.{IsReadOf}
 use Rattle.velo_program.proofs.OnPlaying.{longer, whole}
 

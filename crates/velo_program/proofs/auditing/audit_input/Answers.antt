@@ -1,5 +1,5 @@
 use Rattle.std.proofs.Common.{◌≡◌, inl, inr, refl, rules, subst, sym, codes}
-use Rattle.std.specs.Prelude.{ℕ, List, None}
+use Rattle.std.specs.Prelude.{ℕ, List}
 use Rattle.velo_program.specs.Disk.{store}
 use Rattle.velo_program.specs.Reading.{reading}
 use Rattle.velo_program.specs.Writing.{writing}

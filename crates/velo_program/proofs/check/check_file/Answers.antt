@@ -1,8 +1,4 @@
-use Rattle.std.proofs.Common.{inl, inr, refl, subst, sym}
-use Rattle.velo_program.specs.Disk.{store}
-use Rattle.velo_program.specs.Program.{DoesCheck}
-use Rattle.velo_program.specs.Writing.{writing}
-use Rattle.velo_program.specs.declared.fate.Fate.{Fate}
+use Rattle.std.proofs.Common.{inl, inr, refl}
 use Rattle.velo_program.proofs.OnNaming.{names_found, names_lacking}
 use Rattle.velo_program.proofs.check.check_file.Goals as goal
 use Rattle.velo_program.proofs.check.check_file.Goals.{in-Ok-names_in, in-Err-names_in}

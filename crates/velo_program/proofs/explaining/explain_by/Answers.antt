@@ -1,4 +1,4 @@
-use Rattle.std.proofs.Common.{◌∙◌, List, None, Some, ap, inl, inr, refl, subst, sym, true}
+use Rattle.std.proofs.Common.{◌∙◌, None, Some, inl, inr, refl, true}
 use Rattle.velo_explain.specs.Picture.{named_picture_text}
 use Rattle.velo_explain.specs.Text.{named_explanation_text}
 use Rattle.velo_worker.specs.declared.ending.Ending.TheVariants.{Done}

@@ -1,4 +1,4 @@
-use Rattle.std.proofs.Common.{◌≡◌, inr, refl, rules, subst, sym, codes}
+use Rattle.std.proofs.Common.{◌≡◌, inr, rules, subst, sym, codes}
 use Rattle.std.specs.Prelude.{ℕ, List}
 use Rattle.velo_program.specs.Reading.{reading}
 use Rattle.velo_program.proofs.OnPlaying.{not_opened, opened}
