@@ -165,7 +165,8 @@ AuditsLog names asked options store stdout f =
     × IsAuditAnswer names asked options read.bytes answer
     × IsDelivered store None stdout answer f)
 
--- The names are read first, where a file of them is given, and else there are none.
+-- The names are read first, where a file of them is given, and else there are none. Whatever its
+-- options say of labels, locks and variables, nothing is left out at first: they are not regarded.
 abbrev pub DoesAudit : AuditOptions → Store → Writing → Fate → Type 0
 DoesAudit options store stdout f =
     DoesNotName store options.names stdout f
