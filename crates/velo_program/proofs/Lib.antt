@@ -8,3 +8,4 @@ mod OnWatching
 mod OnReading
 mod OnNaming
 mod OnAuditing
+mod OnIgnoring

@@ -25,6 +25,8 @@ use Rattle.velo_program.specs.declared.check.CheckFault.TheVariants as check_fau
 use Rattle.velo_program.specs.declared.fate.Fate.{Fate}
 use Rattle.velo_program.specs.declared.fate.Fate.TheVariants as fate
 use Rattle.velo_program.specs.declared.request.AuditOptions.{AuditOptions}
+use Rattle.velo_program.specs.declared.request.Ignorable.{Ignorable}
+use Rattle.velo_program.specs.declared.request.Ignorable.TheVariants.{Lock, Variable}
 use Rattle.velo_program.specs.declared.request.Operand.{Operand}
 use Rattle.velo_program.specs.declared.request.Operand.TheVariants.{File, Log}
 use Rattle.velo_program.specs.declared.request.ReplayOptions.{ReplayOptions}
@@ -47,6 +49,7 @@ use Rattle.velo_program.specs.Check.{IsCheckAnswer, IsFaultOfInput}
 use Rattle.velo_program.specs.Delivery.{Answer, IsDelivered, IsPrinted, LacksMemory, silent}
 use Rattle.velo_program.specs.Disk.{Disk, IsBarred, Store}
 use Rattle.velo_program.specs.Explaining.{IsExplanation}
+use Rattle.velo_program.specs.Ignoring.{AsksInVain, MeanNothing}
 use Rattle.velo_program.specs.Naming.{HaveFaultOfNames, LacksNames, SayNoNames}
 use Rattle.velo_program.specs.Playing.{ByThreads, ByTurns, IsPlayAnswer, IsRunOf, IsSaidOfRun, IsUnread, Play}
 use Rattle.velo_program.specs.Program.{Does, DoesPlay}
@@ -196,6 +199,16 @@ unnamed needs disk None f lacks = absurd lacks
 unnamed needs disk (Some path) f (inl closed) = subst (ComesByRefusal needs) (sym closed.0) tt
 unnamed needs disk (Some path) f (inr broken) = unsaid needs broken.read.bytes f broken.unsaid
 
+-- nor what is to be ignored
+of_words : (needs : Needs) (names : NameLists) (what : Ignorable) (words : List (Bor (List ℕ))) (f : Fate) → MeanNothing names what words f → ComesByRefusal needs f
+of_words needs names what words (fate.Ignored it) is = tt
+of_words needs names what words fate.Memory is = is
+of_words needs names what words f is = absurd is
+
+unmeant : (needs : Needs) (names : NameLists) (options : AuditOptions) (f : Fate) → AsksInVain names options f → ComesByRefusal needs f
+unmeant needs names options f (inl locks) = of_words needs names Lock options.ignored_locks.now f locks
+unmeant needs names options f (inr variables) = of_words needs names Variable options.ignored_variables.now f variables.1
+
 -- of a workload that was played
 played : (needs : Needs) (play : Play) (options : RunOptions) (store : Store) (stdout : Writing) (f : Fate)
     → ((program : Program) (ended : Ending) (w : WorldState) → IsRunOf play options program ended w → EndsByRefusal needs ended) → DoesPlay play options store stdout f → ComesByRefusal needs f
@@ -244,5 +257,6 @@ of_done store (request.Explore options) stdout f h = subst (ComesByRefusal Growt
 of_done store (request.Watch options) stdout f (inl h) = unread Growths store.disk Log options.input.now None f h.0
 of_done store (request.Watch options) stdout f (inr h) = of_watch options h.0.bytes stdout f h.3
 of_done store (request.Audit options) stdout f (inl h) = unnamed Growths store.disk options.names f h.0
-of_done store (request.Audit options) stdout f (inr (names, asked, read, asks, inl h)) = unread Growths store.disk Log options.input.now None f h.0
-of_done store (request.Audit options) stdout f (inr (names, asked, read, asks, inr h)) = of_delivered Growths store None stdout h.1 f (of_audit Growths names asked options h.0.bytes h.1 tt h.4) h.5
+of_done store (request.Audit options) stdout f (inr (names, read, inl h)) = unmeant Growths names options f h.0
+of_done store (request.Audit options) stdout f (inr (names, read, inr (asked, asks, inl h))) = unread Growths store.disk Log options.input.now None f h.0
+of_done store (request.Audit options) stdout f (inr (names, read, inr (asked, asks, inr h))) = of_delivered Growths store None stdout h.1 f (of_audit Growths names asked options h.0.bytes h.1 tt h.4) h.5

@@ -28,12 +28,6 @@ use Rattle.velo_program.specs.Writing.{Writing}
 
 -- ---- what is left out
 
--- nothing was asked for
-pub record AsksNothing (asked : Asked) : Type 0 where
-  pub labels : asked.labels.now ≡ []
-  pub locks : asked.locks.now ≡ []
-  pub variables : asked.variables.now ≡ []
-
 -- at first: the labels, the locks and the variables that were asked for
 abbrev pub left_at_first : Asked → Left
 left_at_first asked =

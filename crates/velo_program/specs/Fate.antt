@@ -25,6 +25,8 @@ use Rattle.velo_program.specs.declared.check.CheckFault.TheVariants.{Log, Refuse
 use Rattle.velo_program.specs.declared.fate.Fate.{Fate}
 use Rattle.velo_program.specs.declared.fate.Fate.TheVariants.{Finished, Schedule, Work, Names, Check, CannotOpen, OneFile, ReadFailed, WriteFailed, Lost}
 use Rattle.velo_program.specs.declared.fate.Fate.TheVariants as fate
+use Rattle.velo_program.specs.declared.request.Ignorable.{Ignorable}
+use Rattle.velo_program.specs.declared.request.Ignorable.TheVariants as ignorable
 use Rattle.velo_program.specs.declared.request.Operand.{Operand}
 use Rattle.velo_program.specs.declared.request.Operand.TheVariants as operand
 
@@ -101,6 +103,7 @@ status_of (Work fault) = status_of_work fault
 status_of (Names fault) = status_of_names fault
 status_of (Check fault) = status_of_check fault
 status_of CannotOpen = 5
+status_of (fate.Ignored what) = 2
 status_of (OneFile operand) = 2
 status_of ReadFailed = 5
 status_of WriteFailed = 5
@@ -162,6 +165,11 @@ line_of_names (Some number) n =
     codes "names fault " ++ decimal number ++ codes " line " ++ decimal n ++ codes "\n"
 line_of_names None n = codes "out of memory\n"
 
+-- by what was to be ignored and means nothing
+abbrev pub line_of_ignored : Ignorable → List ℕ
+line_of_ignored ignorable.Lock = codes "ignored fault 1\n"
+line_of_ignored ignorable.Variable = codes "ignored fault 2\n"
+
 abbrev pub line_of_one_file : Operand → List ℕ
 line_of_one_file operand.Log = codes "error: LOG and OUT are one file\n"
 line_of_one_file operand.File = codes "error: FILE and OUT are one file\n"
@@ -171,6 +179,7 @@ line_of (Finished how alarm) = line_of_ending how
 line_of (Schedule fault) = line_of_schedule fault
 line_of (Work fault) = line_of_work (place_of_work fault)
 line_of (Names fault) = line_of_names (fault_number fault) (fault_line fault)
+line_of (fate.Ignored what) = line_of_ignored what
 line_of (Check fault) = line_of_check fault
 line_of CannotOpen = codes "cannot open\n"
 line_of (OneFile operand) = line_of_one_file operand

@@ -7,6 +7,7 @@ pub mod Disk
 pub mod Explaining
 pub mod Fate
 pub mod Faults
+pub mod Ignoring
 pub mod Naming
 pub mod Playing
 pub mod Program

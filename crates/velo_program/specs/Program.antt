@@ -24,12 +24,13 @@ use Rattle.velo_program.specs.declared.request.Request.TheVariants.{Audit, Carry
 use Rattle.velo_program.specs.declared.request.RunOptions.{RunOptions}
 use Rattle.velo_program.specs.declared.request.WatchOptions.{WatchOptions}
 use Rattle.velo_program.specs.declared.schedule.ScheduleFault.{ScheduleFault}
-use Rattle.velo_program.specs.Auditing.{AsksNothing, IsAuditAnswer}
+use Rattle.velo_program.specs.Auditing.{IsAuditAnswer}
 use Rattle.velo_program.specs.Carrying.{IsCarryAnswer, IsPut}
 use Rattle.velo_program.specs.Check.{IsCheckAnswer}
 use Rattle.velo_program.specs.Delivery.{Answer, IsDelivered}
 use Rattle.velo_program.specs.Disk.{IsBarred, IsWritten, Store}
 use Rattle.velo_program.specs.Explaining.{IsExplanation}
+use Rattle.velo_program.specs.Ignoring.{AsksInVain, IsAsked}
 use Rattle.velo_program.specs.Naming.{AreNamesOf, AreShown, LacksNames}
 use Rattle.velo_program.specs.Playing.{ByThreads, ByTurns, IsPlayAnswer, Play}
 use Rattle.velo_program.specs.Reading.{FailuresAsTold, Reading}
@@ -165,14 +166,19 @@ AuditsLog names asked options store stdout f =
     × IsAuditAnswer names asked options read.bytes answer
     × IsDelivered store None stdout answer f)
 
--- The names are read first, where a file of them is given, and else there are none. Whatever its
--- options say of labels, locks and variables, nothing is left out at first: they are not regarded.
+-- What is to be ignored is judged by these names (`Ignoring`) before LOG is opened.
+abbrev pub AuditsNamed : NameLists → AuditOptions → Store → Writing → Fate → Type 0
+AuditsNamed names options store stdout f =
+    (AsksInVain names options f × WritesNowhere store stdout)
+    ⊎ ((asked : Asked) × IsAsked names options asked
+    × AuditsLog names asked options store stdout f)
+
+-- The names are read first, where a file of them is given, and else there are none.
 abbrev pub DoesAudit : AuditOptions → Store → Writing → Fate → Type 0
 DoesAudit options store stdout f =
     DoesNotName store options.names stdout f
-    ⊎ ((names : NameLists) × (asked : Asked)
-    × AreNamesOf store.disk options.names names × AsksNothing asked
-    × AuditsLog names asked options store stdout f)
+    ⊎ ((names : NameLists) × AreNamesOf store.disk options.names names
+    × AuditsNamed names options store stdout f)
 
 -- ---- all of them
 

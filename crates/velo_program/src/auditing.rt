@@ -11,7 +11,7 @@ ghost use Rattle.velo_thin.specs.Thinned.{CanComeAbout};
 ghost use Rattle.velo_audit.specs.Audit.{TellsTruly};
 ghost use Rattle.velo_program.specs.Auditing.{Audits, AuditsInput, audited, is_found, left_at_first, left_at_last, with_locks, with_variables};
 ghost use Rattle.velo_program.specs.Disk.{store};
-ghost use Rattle.velo_program.specs.Program.{AuditsLog, DoesAudit};
+ghost use Rattle.velo_program.specs.Program.{AuditsLog, AuditsNamed, DoesAudit};
 ghost use Rattle.velo_program.specs.Reading.{reading};
 ghost use Rattle.velo_program.specs.Steps.{PrintsOrLacks};
 ghost use Rattle.velo_program.specs.Writing.{writing};
@@ -20,6 +20,7 @@ use crate::check::{CheckFault, do_input};
 use crate::explaining::print;
 use crate::fate::Fate;
 use crate::files::{Files, is_standard_input, open_input};
+use crate::ignoring::{ignored_locks, ignored_variables};
 use crate::naming::{names_in, read_given};
 use crate::request::{AuditOptions, Limits, Operand};
 use std::alloc::Global;
@@ -230,6 +231,33 @@ fn audit_input<F: Files, O: Sink>(
     }
 }
 
+/// Audits the log that was asked for, without what is to be ignored by the names.
+fn audit_named<F: Files, O: Sink>(
+    alloc: Global,
+    options: &AuditOptions,
+    names: &Names,
+    files: &F,
+    out: &mut O,
+) -> Fate
+    ensures { AuditsNamed names.now options.now (store F.disk files.now files.now)
+        (writing O.contents O.failures out.old out.new) result }
+{
+    let locks = match ignored_locks(alloc, names, options.ignored_locks) {
+        Ok(locks) => locks,
+        Err(fate) => return fate,
+    };
+    let variables = match ignored_variables(alloc, names, options.ignored_variables) {
+        Ok(variables) => variables,
+        Err(fate) => return fate,
+    };
+    let asked = Asked {
+        labels: &[],
+        locks: &locks,
+        variables: &variables,
+    };
+    audit_input(alloc, options, names, &asked, files, out)
+}
+
 /// Audits the log that was asked for. The names are read first.
 pub fn audit_file<F: Files, O: Sink>(
     alloc: Global,
@@ -246,12 +274,7 @@ pub fn audit_file<F: Files, O: Sink>(
     };
     let fate = match names_in(alloc, options.names, &bytes) {
         Ok(names) => {
-            let asked = Asked {
-                labels: &[],
-                locks: &[],
-                variables: &[],
-            };
-            let fate = audit_input(alloc, options, &names, &asked, files, out);
+            let fate = audit_named(alloc, options, &names, files, out);
             drop(names);
             fate
         }

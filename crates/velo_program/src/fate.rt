@@ -2,10 +2,10 @@
 ghost use Rattle.std.specs.Prelude.{◌≡◌, ◌≢◌, ◌≤◌, ◌++◌, [], codes, decimal, length, take, IfOk, OnOk, OnErr};
 ghost use Rattle.velo_names.specs.Fault.{fault_line, fault_number};
 ghost use Rattle.velo_program.specs.Writing.{BreaksOff, Writes, writing};
-ghost use Rattle.velo_program.specs.Fate.{Ends, number_of, status_of, status_of_check, status_of_log, status_of_refused, status_of_ending, status_of_names, status_of_schedule, status_of_work, place_of_work, line_of, line_of_check, line_of_log, line_of_ending, line_of_names, line_of_one_file, line_of_refused, line_of_schedule, line_of_work};
+ghost use Rattle.velo_program.specs.Fate.{Ends, number_of, status_of, status_of_check, status_of_log, status_of_refused, status_of_ending, status_of_names, status_of_schedule, status_of_work, place_of_work, line_of, line_of_check, line_of_log, line_of_ending, line_of_ignored, line_of_names, line_of_one_file, line_of_refused, line_of_schedule, line_of_work};
 
 use crate::check::CheckFault;
-use crate::request::Operand;
+use crate::request::{Ignorable, Operand};
 use crate::schedule::ScheduleFault;
 use crate::status::{ALARM, BAD_INPUT, DONE, FAILED, INCOMPLETE};
 use velo_events::{Refusal, ThreadId};
@@ -28,6 +28,8 @@ pub enum Fate {
     Work(WorkFault),
     /// The file of names says none.
     Names(NamesFault),
+    /// Nothing is meant by what was to be ignored.
+    Ignored(Ignorable),
     /// The check met a fault.
     Check(CheckFault),
     /// A file could not be opened.
@@ -128,6 +130,7 @@ fn status_of(fate: Fate) -> u8
         Fate::Work(fault) => status_of_work(fault),
         Fate::Names(fault) => status_of_names(fault),
         Fate::Check(fault) => status_of_check(fault),
+        Fate::Ignored(_) => BAD_INPUT,
         Fate::OneFile(_) => BAD_INPUT,
         Fate::CannotOpen | Fate::ReadFailed | Fate::WriteFailed | Fate::Memory | Fate::Lost => {
             FAILED
@@ -275,6 +278,18 @@ fn put_names_fault(buffer: &mut [u8], fault: NamesFault) -> usize
     }
 }
 
+/// Puts the line of what was to be ignored and means nothing at the front of a buffer, and answers where it ends.
+fn put_ignored(buffer: &mut [u8], what: Ignorable) -> usize
+    requires { 64 ≤ length buffer.old }
+    ensures text { take result buffer.new ≡ line_of_ignored what }
+    ensures end { result ≤ length buffer.new }
+{
+    match what {
+        Ignorable::Lock => put_bytes(buffer, 0, b"ignored fault 1\n"),
+        Ignorable::Variable => put_bytes(buffer, 0, b"ignored fault 2\n"),
+    }
+}
+
 /// Puts the line of an input that is the file to be written at the front of a buffer, and answers where it ends.
 fn put_one_file(buffer: &mut [u8], operand: Operand) -> usize
     requires { 64 ≤ length buffer.old }
@@ -298,6 +313,7 @@ fn put_line(buffer: &mut [u8], fate: Fate) -> usize
         Fate::Schedule(fault) => put_schedule_fault(buffer, fault),
         Fate::Work(fault) => put_work_fault(buffer, fault),
         Fate::Names(fault) => put_names_fault(buffer, fault),
+        Fate::Ignored(what) => put_ignored(buffer, what),
         Fate::Check(fault) => put_check_fault(buffer, fault),
         Fate::CannotOpen => put_bytes(buffer, 0, b"cannot open\n"),
         Fate::OneFile(operand) => put_one_file(buffer, operand),

@@ -134,6 +134,15 @@ pub enum Operand {
     File,
 }
 
+/// What events can be ignored by.
+#[derive(Clone, Copy, Debug, PartialEq, Eq)]
+pub enum Ignorable {
+    /// A lock.
+    Lock,
+    /// A variable.
+    Variable,
+}
+
 /// What the program was asked for.
 #[derive(Clone, Copy, Debug)]
 pub enum Request<'a> {

@@ -10,6 +10,6 @@ returns g c =
     let read = c.in-Ok.ensures.bytes in
     let bytes = c.deref.result.now in
     elim c.match-names_in.branch [
-      | in-Ok-names_in w ↦ rw (w.out-is, w.fate-is) (inr (_, _, names_found disk options.names bytes _ (rw (← c.deref.ensures.value) at read) w.in-Ok-names_in.ensures.names, record { labels = refl; locks = refl; variables = refl }, w.audit_input-fate.ensures))
+      | in-Ok-names_in w ↦ rw (w.out-is, w.fate-is) (inr (_, names_found disk options.names bytes _ (rw (← c.deref.ensures.value) at read) w.in-Ok-names_in.ensures.names, w.audit_named-fate.ensures))
       | in-Err-names_in w ↦ rw (w.out-is, w.fate-is) (inl (names_lacking disk options.names bytes _ (rw (← c.deref.ensures.value) at read) w.in-Err-names_in.ensures.fault, (refl, (refl, refl))))
     ]
