@@ -1,5 +1,5 @@
 -- What is to be ignored, one word after another.
-use Rattle.std.proofs.Common.{◌≡◌, ◌≢◌, ◌∙◌, ◌++◌, ◌∷◌, ◌<◌, ◌≤◌, [], List, ap, append-nil, append_assoc, arith, drop, drop-cons, get_or, length, refl, sym, take}
+use Rattle.std.proofs.Common.{◌≡◌, ◌≢◌, ◌∙◌, ◌++◌, ◌∷◌, ◌<◌, ◌≤◌, [], List, ap, append-nil, append_assoc, arith, drop, drop-cons, get_or, length, refl, suc, sym, zero}
 use Rattle.std.specs.Prelude.{ℕ, ◌+◌, None, Option, Some, option_map}
 use Rattle.std.specs.Borrow.{Bor}
 use Rattle.velo_names.specs.Names.{NameLists}
@@ -44,13 +44,13 @@ none_left (x ∷ xs) zero h = absurd (omega (arith, h))
 none_left (x ∷ xs) (suc i) h = none_left xs i (omega (arith, h))
 
 module _ (names : NameLists) (what : Ignorable) (words : List (Bor (List ℕ))) (i : ℕ) (d : Bor (List ℕ)) (ids : List ℕ) where
-  whole : Option (List ℕ)
+  abbrev whole : Option (List ℕ)
   whole = ids_by names what words
 
-  these : List ℕ
+  abbrev these : List ℕ
   these = ids_meant names what (get_or words i d).now
 
-  others : Option (List ℕ)
+  abbrev others : Option (List ℕ)
   others = ids_by names what (drop (i + 1) words)
 
   next : i < length words → ids_by names what (drop i words) ≡ before_others these others
