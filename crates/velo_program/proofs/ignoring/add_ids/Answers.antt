@@ -1,4 +1,4 @@
-use Rattle.std.proofs.Common.{ℕ, ◌∷◌, [], List, ap, append_assoc, append-nil, sym, ◌∙◌, ◌++◌, take, get_or}
+use Rattle.std.proofs.Common.{ℕ, ◌∷◌, [], List, ap, append_assoc, sym, ◌∙◌, ◌++◌, take, get_or}
 use Rattle.std.specs.Prelude.{nat_le}
 use Rattle.std.proofs.lemmas.List.{take_more}
 use Rattle.std.proofs.lemmas.List.Elements.{filter-append}
