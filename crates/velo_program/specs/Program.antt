@@ -11,7 +11,7 @@ use Rattle.velo_names.specs.Names.{NameLists}
 use Rattle.velo_audit_text.specs.declared.words.Asked.{Asked}
 use Rattle.velo_report.specs.declared.names.Names.{Names}
 use Rattle.velo_program.specs.declared.fate.Fate.{Fate}
-use Rattle.velo_program.specs.declared.fate.Fate.TheVariants.{CannotOpen, Lost, Schedule}
+use Rattle.velo_program.specs.declared.fate.Fate.TheVariants.{CannotOpen, Schedule}
 use Rattle.velo_program.specs.declared.request.AuditOptions.{AuditOptions}
 use Rattle.velo_program.specs.declared.request.CarryOptions.{CarryOptions}
 use Rattle.velo_program.specs.declared.request.CheckOptions.{CheckOptions}
@@ -20,7 +20,7 @@ use Rattle.velo_program.specs.declared.request.Operand.{Operand}
 use Rattle.velo_program.specs.declared.request.Operand.TheVariants.{File, Log}
 use Rattle.velo_program.specs.declared.request.ReplayOptions.{ReplayOptions}
 use Rattle.velo_program.specs.declared.request.Request.{Request}
-use Rattle.velo_program.specs.declared.request.Request.TheVariants.{Audit, Carry, Check, Explain, Explore, Replay, Run, Watch}
+use Rattle.velo_program.specs.declared.request.Request.TheVariants.{Audit, Carry, Check, Explain, Replay, Run, Watch}
 use Rattle.velo_program.specs.declared.request.RunOptions.{RunOptions}
 use Rattle.velo_program.specs.declared.request.WatchOptions.{WatchOptions}
 use Rattle.velo_program.specs.declared.schedule.ScheduleFault.{ScheduleFault}
@@ -189,6 +189,5 @@ Does store (Explain options) stdout f = DoesExplain options store stdout f
 Does store (Carry options) stdout f = DoesCarry options store stdout f
 Does store (Run options) stdout f = DoesRun options store stdout f
 Does store (Replay options) stdout f = DoesReplay options store stdout f
-Does store (Explore options) stdout f = f ≡ Lost
 Does store (Watch options) stdout f = DoesWatch options store stdout f
 Does store (Audit options) stdout f = DoesAudit options store stdout f

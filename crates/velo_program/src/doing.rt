@@ -38,7 +38,6 @@ pub fn do_request<R: Threads + Wait + Sync, F: Files, O: Sink>(
         Request::Run(options) => run_file(rt, alloc, options, files, out),
         Request::Explain(options) => explain_file(alloc, options, files, out),
         Request::Carry(options) => carry_file(alloc, options, files),
-        Request::Explore(_) => Fate::Lost,
         Request::Watch(options) => watch_file(alloc, options, files, out),
         Request::Audit(options) => audit_file(alloc, options, files, out),
     }

@@ -27,7 +27,7 @@ pub use doing::do_request;
 pub use fate::{Fate, end_line, end_with};
 pub use files::Files;
 pub use request::{
-    AuditOptions, CarryOptions, CheckOptions, ExplainOptions, ExploreOptions, Ignorable, Limits,
-    MOST_STATES, Operand, ReplayOptions, Request, RunOptions, WatchOptions,
+    AuditOptions, CarryOptions, CheckOptions, ExplainOptions, Ignorable, Limits, Operand,
+    ReplayOptions, Request, RunOptions, WatchOptions,
 };
 pub use schedule::{MOST_TURNS, ScheduleFault, schedule_of};

@@ -25,12 +25,6 @@ returns-in-Carry-clause-memory g c =
     let out = writing g.O.Sink.contents g.O.Sink.failures c.args.out.now c.args.out.now in
     rw c.in-Carry.is (of_done (store g.F.Files.disk c.args.files.now c.carry_file.new.files) (Carry c.in-Carry.options) out _ (c.carry_file.ensures out (refl, refl)))
 
-pub returns-in-Explore-clause-done : goal.returns-in-Explore-clause-done
-returns-in-Explore-clause-done g c = rw c.in-Explore.is refl
-
-pub returns-in-Explore-clause-memory : goal.returns-in-Explore-clause-memory
-returns-in-Explore-clause-memory g c = rw c.in-Explore.is tt
-
 pub returns-in-Watch-clause-memory : goal.returns-in-Watch-clause-memory
 returns-in-Watch-clause-memory g c = rw c.in-Watch.is (of_done (store g.F.Files.disk c.args.files.now c.watch_file.new.files) (Watch c.in-Watch.options) (writing g.O.Sink.contents g.O.Sink.failures c.args.out.now c.watch_file.new.out) _ c.watch_file.ensures)
 
