@@ -77,7 +77,6 @@ fn asked(stop: bool, certificate: bool, events: u32) -> Request<'static> {
         stop,
         limits: Limits { events, nodes: 64 },
         certificate,
-        names: None,
     })
 }
 
