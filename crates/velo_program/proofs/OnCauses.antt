@@ -173,3 +173,6 @@ of_done store (request.Carry options) stdout f (inr (inr h)) = of_put Growths h.
 of_done store (request.Run options) stdout f h = played GrowthsAndStarts ByThreads options store stdout f (λ program ended w run. run.cause) h
 of_done store (request.Replay options) stdout f (inl bad) = subst (ComesByRefusal Growths) (sym bad.2) (of_schedule options bad.0 bad.1)
 of_done store (request.Replay options) stdout f (inr h) = played Growths (ByTurns h.0) options.run store stdout f (λ program ended w run. run.cause) h.2
+of_done store (request.Explore options) stdout f h = subst (ComesByRefusal Growths) (sym h) tt
+of_done store (request.Watch options) stdout f h = subst (ComesByRefusal Growths) (sym h) tt
+of_done store (request.Audit options) stdout f h = subst (ComesByRefusal Growths) (sym h) tt

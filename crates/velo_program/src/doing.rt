@@ -36,5 +36,8 @@ pub fn do_request<R: Threads + Wait + Sync, F: Files, O: Sink>(
         Request::Run(options) => run_file(rt, alloc, options, files, out),
         Request::Explain(options) => explain_file(alloc, options, files, out),
         Request::Carry(options) => carry_file(alloc, options, files),
+        Request::Explore(_) => Fate::Lost,
+        Request::Watch(_) => Fate::Lost,
+        Request::Audit(_) => Fate::Lost,
     }
 }

@@ -23,6 +23,7 @@ pub use doing::do_request;
 pub use fate::{Fate, end_line, end_with};
 pub use files::Files;
 pub use request::{
-    CarryOptions, CheckOptions, ExplainOptions, Limits, Operand, ReplayOptions, Request, RunOptions,
+    AuditOptions, CarryOptions, CheckOptions, ExplainOptions, ExploreOptions, Limits, MOST_STATES,
+    Operand, ReplayOptions, Request, RunOptions, WatchOptions,
 };
 pub use schedule::{MOST_TURNS, ScheduleFault, schedule_of};

@@ -1,6 +1,7 @@
 //! What the program can be asked for.
 ghost use Rattle.std.specs.Prelude.{◌≤◌};
 ghost use Rattle.velo_events.specs.declared.limits.TheConstants.{MOST_EVENTS, MOST_NODES};
+ghost use Rattle.velo_program.specs.declared.request.TheConstants.{MOST_STATES};
 
 /// The limits of a run.
 #[derive(Clone, Copy, Debug)]
@@ -24,6 +25,8 @@ pub struct CheckOptions<'a> {
     pub limits: Limits,
     /// Whether the certificate of the verdict is written behind the report.
     pub certificate: bool,
+    /// The path of the names that the report tells, or `-`.
+    pub names: Option<&'a str>,
 }
 
 /// What a run of a workload was asked for; `velodrome run` is asked for nothing else.
@@ -39,6 +42,8 @@ pub struct RunOptions<'a> {
     pub limits: Limits,
     /// Whether the certificate of the verdict is written behind the report.
     pub certificate: bool,
+    /// The path where the names of the workload are saved for its log.
+    pub names_target: Option<&'a str>,
 }
 
 /// What `velodrome replay` was asked for.
@@ -57,6 +62,8 @@ pub struct ExplainOptions<'a> {
     pub input: &'a str,
     /// The path where the picture of the cycle is saved.
     pub target: Option<&'a str>,
+    /// The path of the names that the words tell, or `-`.
+    pub names: Option<&'a str>,
 }
 
 /// What `velodrome carry` was asked for.
@@ -66,6 +73,62 @@ pub struct CarryOptions<'a> {
     pub input: &'a str,
     /// The path where it is saved.
     pub target: &'a str,
+}
+
+/// The most states that a search may look at.
+pub const MOST_STATES: u32 = 16_777_216;
+
+/// What `velodrome explore` was asked for.
+#[derive(Clone, Copy, Debug)]
+pub struct ExploreOptions<'a> {
+    /// The path of the workload, or `-`.
+    pub input: &'a str,
+    /// The most states that are looked at, 1 to [`MOST_STATES`].
+    pub states: u32,
+    /// Whether the first finding ends the search.
+    pub first: bool,
+    /// The path where the log of the replay that is told is saved.
+    pub target: Option<&'a str>,
+    /// The limits of a replay.
+    pub limits: Limits,
+    /// Whether the certificate of the verdict is written behind the report.
+    pub certificate: bool,
+    ghost some_state: { 1 ≤ states },
+    ghost few_states: { states ≤ MOST_STATES },
+}
+
+/// What `velodrome watch` was asked for.
+#[derive(Clone, Copy, Debug)]
+pub struct WatchOptions<'a> {
+    /// The path of the log, or `-`.
+    pub input: &'a str,
+    /// Whether the event that closes the first cycle ends the watch.
+    pub stop: bool,
+    /// The limits within which the log is checked.
+    pub limits: Limits,
+    /// Whether the certificate of the verdict is written behind the report.
+    pub certificate: bool,
+    /// The path of the names that the report tells, or `-`.
+    pub names: Option<&'a str>,
+}
+
+/// What `velodrome audit` was asked for.
+#[derive(Clone, Copy, Debug)]
+pub struct AuditOptions<'a> {
+    /// The path of the log, or `-`.
+    pub input: &'a str,
+    /// The path of the names that are told, or `-`.
+    pub names: Option<&'a str>,
+    /// The path of the list of labels that are left out, or `-`.
+    pub not_atomic: Option<&'a str>,
+    /// The locks that are left out, each a number or a name.
+    pub ignored_locks: &'a [&'a str],
+    /// The variables that are left out, each a number or a name.
+    pub ignored_variables: &'a [&'a str],
+    /// Whether the witness of each round is told.
+    pub witness: bool,
+    /// The limits within which the log is checked.
+    pub limits: Limits,
 }
 
 /// The word of the command line that names an input.
@@ -90,4 +153,10 @@ pub enum Request<'a> {
     Explain(ExplainOptions<'a>),
     /// To carry a recorded log over to the newest version of its text.
     Carry(CarryOptions<'a>),
+    /// To try every schedule of a workload.
+    Explore(ExploreOptions<'a>),
+    /// To check a log as it comes.
+    Watch(WatchOptions<'a>),
+    /// To list the labels of a recorded log whose blocks are not atomic.
+    Audit(AuditOptions<'a>),
 }

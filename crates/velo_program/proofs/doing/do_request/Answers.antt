@@ -24,3 +24,21 @@ pub returns-in-Carry-clause-memory : goal.returns-in-Carry-clause-memory
 returns-in-Carry-clause-memory g c =
     let out = writing g.O.Sink.contents g.O.Sink.failures c.args.out.now c.args.out.now in
     rw c.in-Carry.is (of_done (store g.F.Files.disk c.args.files.now c.carry_file.new.files) (Carry c.in-Carry.options) out _ (c.carry_file.ensures out (refl, refl)))
+
+pub returns-in-Explore-clause-done : goal.returns-in-Explore-clause-done
+returns-in-Explore-clause-done g c = rw c.in-Explore.is refl
+
+pub returns-in-Explore-clause-memory : goal.returns-in-Explore-clause-memory
+returns-in-Explore-clause-memory g c = rw c.in-Explore.is tt
+
+pub returns-in-Watch-clause-done : goal.returns-in-Watch-clause-done
+returns-in-Watch-clause-done g c = rw c.in-Watch.is refl
+
+pub returns-in-Watch-clause-memory : goal.returns-in-Watch-clause-memory
+returns-in-Watch-clause-memory g c = rw c.in-Watch.is tt
+
+pub returns-in-Audit-clause-done : goal.returns-in-Audit-clause-done
+returns-in-Audit-clause-done g c = rw c.in-Audit.is refl
+
+pub returns-in-Audit-clause-memory : goal.returns-in-Audit-clause-memory
+returns-in-Audit-clause-memory g c = rw c.in-Audit.is tt
