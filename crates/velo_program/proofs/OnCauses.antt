@@ -19,6 +19,7 @@ use Rattle.velo_program.specs.declared.check.CheckFault.{CheckFault}
 use Rattle.velo_program.specs.declared.check.CheckFault.TheVariants as check_fault
 use Rattle.velo_program.specs.declared.fate.Fate.{Fate}
 use Rattle.velo_program.specs.declared.fate.Fate.TheVariants as fate
+use Rattle.velo_program.specs.declared.request.ExploreOptions.{ExploreOptions}
 use Rattle.velo_program.specs.declared.request.Operand.{Operand}
 use Rattle.velo_program.specs.declared.request.Operand.TheVariants.{File, Log}
 use Rattle.velo_program.specs.declared.request.ReplayOptions.{ReplayOptions}
@@ -39,10 +40,12 @@ use Rattle.velo_program.specs.Check.{IsCheckAnswer, IsFaultOfInput}
 use Rattle.velo_program.specs.Delivery.{Answer, IsDelivered, LacksMemory, silent}
 use Rattle.velo_program.specs.Disk.{Disk, IsBarred, Store}
 use Rattle.velo_program.specs.Explaining.{IsExplanation}
+use Rattle.velo_program.specs.Exploring.{IsExploreAnswer}
 use Rattle.velo_program.specs.Playing.{ByThreads, ByTurns, IsPlayAnswer, IsRunOf, IsSaidOfRun, IsUnread, Play}
 use Rattle.velo_program.specs.Program.{Does, DoesPlay}
 use Rattle.velo_program.specs.Schedule.{IsFaultOfSchedule}
 use Rattle.velo_program.specs.Writing.{Writing}
+use Rattle.velo_program.proofs.OnFindings.{caused}
 
 -- ---- by what it means no event is refused for want of memory
 
@@ -145,6 +148,11 @@ module _ (needs : Needs) where
   of_put sink answer fate.WriteFailed cause put = tt
   of_put sink answer f cause put = subst (ComesByRefusal needs) (sym put.0) cause
 
+of_exploration : (options : ExploreOptions) (read : Option (List ℕ)) (answer : Answer) → IsExploreAnswer options read answer → HasCause Growths answer
+of_exploration options read answer (inl (program, text, inl explored)) = caused options program answer explored
+of_exploration options read answer (inl (program, text, inr lacks)) = of_lack Growths answer lacks
+of_exploration options read answer (inr (f, unread, is)) = said Growths answer (silent f) is (of_unread Growths read f unread)
+
 -- ---- by what was done
 
 of_schedule : (options : ReplayOptions) (fault : ScheduleFault) → IsFaultOfSchedule options.schedule.now fault → ScheduleByGrowth fault
@@ -173,6 +181,7 @@ of_done store (request.Carry options) stdout f (inr (inr h)) = of_put Growths h.
 of_done store (request.Run options) stdout f h = played GrowthsAndStarts ByThreads options store stdout f (λ program ended w run. run.cause) h
 of_done store (request.Replay options) stdout f (inl bad) = subst (ComesByRefusal Growths) (sym bad.2) (of_schedule options bad.0 bad.1)
 of_done store (request.Replay options) stdout f (inr h) = played Growths (ByTurns h.0) options.run store stdout f (λ program ended w run. run.cause) h.2
-of_done store (request.Explore options) stdout f h = subst (ComesByRefusal Growths) (sym h) tt
+of_done store (request.Explore options) stdout f (inl h) = unread Growths store.disk File options.input.now options.target f h.0
+of_done store (request.Explore options) stdout f (inr h) = of_delivered Growths store options.target stdout h.1 f (of_exploration options h.0.bytes h.1 h.4) h.5
 of_done store (request.Watch options) stdout f h = subst (ComesByRefusal Growths) (sym h) tt
 of_done store (request.Audit options) stdout f h = subst (ComesByRefusal Growths) (sym h) tt

@@ -20,7 +20,7 @@ use Rattle.velo_program.specs.declared.check.Verdict.TheVariants as verdict
 use Rattle.velo_program.specs.declared.check.CheckFault.{CheckFault}
 use Rattle.velo_program.specs.declared.check.CheckFault.TheVariants.{Log, Refused, WrongValue, Write, Memory}
 use Rattle.velo_program.specs.declared.fate.Fate.{Fate}
-use Rattle.velo_program.specs.declared.fate.Fate.TheVariants.{Finished, Schedule, Work, Check, CannotOpen, OneFile, ReadFailed, WriteFailed, Lost}
+use Rattle.velo_program.specs.declared.fate.Fate.TheVariants.{Finished, Schedule, Work, Check, CannotOpen, OneFile, ReadFailed, WriteFailed, Lost, Open}
 use Rattle.velo_program.specs.declared.fate.Fate.TheVariants as fate
 use Rattle.velo_program.specs.declared.request.Operand.{Operand}
 use Rattle.velo_program.specs.declared.request.Operand.TheVariants as operand
@@ -98,6 +98,7 @@ status_of ReadFailed = 5
 status_of WriteFailed = 5
 status_of fate.Memory = 5
 status_of Lost = 5
+status_of Open = 4
 
 -- ---- the line on standard error
 
@@ -163,6 +164,7 @@ line_of ReadFailed = codes "read failed\n"
 line_of Lost = codes "seat lost\n"
 line_of WriteFailed = codes "write failed\n"
 line_of fate.Memory = codes "out of memory\n"
+line_of Open = codes "open\n"
 
 -- ---- how they are used
 

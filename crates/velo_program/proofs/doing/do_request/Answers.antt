@@ -1,5 +1,5 @@
 use Rattle.std.proofs.Common.{refl}
-use Rattle.velo_program.specs.declared.request.Request.TheVariants.{Carry, Check, Explain, Replay, Run}
+use Rattle.velo_program.specs.declared.request.Request.TheVariants.{Carry, Check, Explain, Explore, Replay, Run}
 use Rattle.velo_program.specs.Disk.{store}
 use Rattle.velo_program.specs.Writing.{writing}
 use Rattle.velo_program.proofs.OnCauses.{of_done}
@@ -25,11 +25,8 @@ returns-in-Carry-clause-memory g c =
     let out = writing g.O.Sink.contents g.O.Sink.failures c.args.out.now c.args.out.now in
     rw c.in-Carry.is (of_done (store g.F.Files.disk c.args.files.now c.carry_file.new.files) (Carry c.in-Carry.options) out _ (c.carry_file.ensures out (refl, refl)))
 
-pub returns-in-Explore-clause-done : goal.returns-in-Explore-clause-done
-returns-in-Explore-clause-done g c = rw c.in-Explore.is refl
-
 pub returns-in-Explore-clause-memory : goal.returns-in-Explore-clause-memory
-returns-in-Explore-clause-memory g c = rw c.in-Explore.is tt
+returns-in-Explore-clause-memory g c = rw c.in-Explore.is (of_done (store g.F.Files.disk c.args.files.now c.explore_file.new.files) (Explore c.in-Explore.options) (writing g.O.Sink.contents g.O.Sink.failures c.args.out.now c.explore_file.new.out) _ c.explore_file.ensures)
 
 pub returns-in-Watch-clause-done : goal.returns-in-Watch-clause-done
 returns-in-Watch-clause-done g c = rw c.in-Watch.is refl
