@@ -3,11 +3,14 @@ use Rattle.std.proofs.Common.{◌≡◌, ◌∙◌, ap, append_assoc, inl, inr, 
 use Rattle.std.proofs.lemmas.List.{append-nil}
 use Rattle.std.proofs.lemmas.Grind.{flat_map-append}
 use Rattle.std.specs.List.{flat_map}
-use Rattle.std.specs.Prelude.{◌≢◌, ◌×◌, ◌⊎◌, ◌+◌, ◌≤◌, ◌<◌, ◌++◌, ◌∷◌, [], ⊤, ℕ, Bool, All, List, decimal, length, Option, Some, None, Result, Ok, Err}
+use Rattle.std.specs.Prelude.{◌≢◌, ◌⊎◌, ◌+◌, ◌≤◌, ◌<◌, ◌++◌, ◌∷◌, [], ⊤, ℕ, Bool, All, List, decimal, length, Option, Some, None, Result, Ok, Err, IfSome, OnOk, is_some}
+use Rattle.std.specs.Io.KnownBytes.{Appends}
 use Rattle.std.specs.Borrow.{Bor}
 use Rattle.velo_events.specs.declared.config.Config.{Config}
 use Rattle.velo_events.specs.declared.event.ThreadId.{ThreadId}
 use Rattle.velo_events.specs.declared.limits.TheConstants.{MOST_THREADS}
+use Rattle.velo_logtext.proofs.OnDevices.{appends_nothing, appends_then, beginning_then}
+use Rattle.velo_logtext.specs.Device.{with_failure}
 use Rattle.velo_report.specs.declared.names.Names.{Names}
 use Rattle.velo_schedules.specs.declared.exploration.Exploration.{Exploration}
 use Rattle.velo_schedules.specs.declared.finding.Finding.{Finding}
@@ -24,15 +27,18 @@ use Rattle.velo_program.specs.declared.fate.Fate.TheVariants as fate
 use Rattle.velo_program.specs.declared.request.ExploreOptions.{ExploreOptions}
 use Rattle.velo_program.specs.declared.schedule.TheConstants.{MOST_TURNS}
 use Rattle.velo_program.specs.Causes.{ComesByRefusal, Growths}
-use Rattle.velo_program.specs.Delivery.{Answer, IsDelivered, LacksMemory, silent}
+use Rattle.velo_program.specs.Check.{IsOrderOrCycle, WritesOutput}
+use Rattle.velo_program.specs.Delivery.{Answer, IsDelivered, LacksMemory, printing, silent}
 use Rattle.velo_program.specs.Disk.{Store}
-use Rattle.velo_program.specs.Exploring.{HasFirst, IsExplorationOf, IsExplored, IsFirstReplay, IsPrintedAlone, IsSayable, IsSayableFinding, IsSayableRefusal, fate_by, ReportsReplay, fate_of_exploration, first_schedule, turns_text}
-use Rattle.velo_program.specs.Findings.{IsNoMoreThan, IsReplayBy, IsRefusalSaidFor, IsSaidFor, IsUnshown, Lacks, Puts, ShowsAlarm, ShowsRefusal, ShowsStuck, spaced, unshown, unshown_refusal}
+use Rattle.velo_program.specs.Exploring.{HasFirst, IsExplorationOf, IsExplored, IsFirstReplay, IsPrintedAlone, IsSayable, IsSayableFinding, IsSayableRefusal, fate_by, ReportsReplay, exploration_text, fate_of_exploration, first_schedule, run_of, turns_text}
+use Rattle.velo_program.specs.Findings.{Explores, IsNoMoreThan, IsReplayBy, IsRunOfFirst, IsRefusalSaidFor, IsSaidFor, IsUnshown, Lacks, Puts, ShowsAlarm, ShowsRefusal, ShowsStuck, TellsRun, WritesBehind, spaced, unshown, unshown_refusal}
+use Rattle.velo_program.specs.Playing.{IsConfigOf, text_of_log}
 use Rattle.velo_program.specs.Reading.{failures_told}
 use Rattle.velo_program.specs.Schedule.{schedule_text}
 use Rattle.velo_program.specs.Steps.{HasAlarm}
-use Rattle.velo_program.specs.Writing.{Writing}
+use Rattle.velo_program.specs.Writing.{BreaksOff, Writing}
 use Rattle.velo_program.proofs.OnDelivery.{delivered_reads, same_fate}
+use Rattle.velo_program.proofs.OnVerdicts.{output_exists}
 
 -- ---- the text of a schedule
 
@@ -59,6 +65,14 @@ spaced-next xs i t start before middle after is stood space digits =
     ∙ ap (λ (l : List ℕ). start ++ l)
     (ap (λ (l : List ℕ). spaced (take i xs) ++ l) (sym (append-nil (32 ∷ decimal t.0)))
     ∙ sym (spaced-append (take i xs) (t ∷ [])) ∙ ap spaced (sym is))
+
+-- one part more behind those that are there
+pub behind : (start before after parts part : List ℕ) → before ≡ start ++ parts → after ≡ before ++ part → after ≡ start ++ (parts ++ part)
+behind start before after parts part is more = more ∙ ap (λ (l : List ℕ). l ++ part) is ∙ append_assoc start parts part
+
+pub on_ok : {A E : Type 0} {P Q : Type 0} (r : Result A E) → (P → Q) → OnOk r P → OnOk r Q
+on_ok (Ok x) f h = f h
+on_ok (Err e) f h = tt
 
 -- ---- what can be told
 
@@ -246,13 +260,29 @@ plain_fate Open Open refusals.Open = plain_open
 
 -- ---- what goes out
 
+-- the report went out behind the text, or a beginning of it
+pub behind_text : {X F : Type 0} (text : List ℕ) (names : Names) (certificate : Bool) (w : WorldState) (out : Writing) (middle : Option (List ℕ)) (count : ℕ)
+    → Appends out.old middle text → count ≡ out.failures_before → (result : Result X F)
+    → WritesOutput names certificate w (record { old = middle; new = out.new; failures_before = count; failures_after = out.failures_after }) result → WritesBehind text names certificate w out result
+behind_text text names certificate w out middle count first kept (Ok x) h =
+    (h.0, h.1, (appends_then out.old middle out.new text h.0 first h.2.0, h.2.1 ∙ kept))
+behind_text text names certificate w out middle count first kept (Err f) h =
+    (h.0, h.1, (beginning_then out.old middle out.new text h.0 [] (text ++ h.0) first h.2.0 (sym (append-nil (text ++ h.0))), h.2.1 ∙ ap with_failure kept))
+
+-- the text broke off
+pub text_breaks : {X F : Type 0} (text : List ℕ) (names : Names) (w : WorldState) (list : Option (Bor (List ℕ))) → IfSome list (λ list. IsOrderOrCycle w.log list.now) → HasAlarm w.log
+    → (out : Writing) (f : F) → BreaksOff out text → WritesBehind text names (is_some list) w out (Err {A = X} f)
+text_breaks text names w list certifies alarm out f broke =
+    let output = output_exists names w.config.bounds.threads w.log list certifies alarm in
+    (output.0, output.1, (beginning_then out.old out.old out.new [] text output.0 (text ++ output.0) (appends_nothing out.old) broke.0 refl, broke.1))
+
 -- what telling came to, as a fate
 abbrev pub fate_behind : {X : Type 0} → Fate → Result X Fate → Fate
 fate_behind f (Ok x) = f
 fate_behind f (Err other) = other
 
 module _ (store : Store) (target : Option (Bor (List ℕ))) (stdout : Writing) where
-  delivered : (saved : Option (List ℕ)) (printed : List ℕ) (f : Fate) → IsPlain f → {X : Type 0} (x : X) → Puts store target stdout saved printed (Ok {E = Fate} x)
+  delivered : (saved : Option (List ℕ)) (printed : List ℕ) (f : Fate) → IsPlain f → {X : Type 0} (x : X) → Puts store target stdout saved printed (Ok x)
       → IsDelivered store target stdout (record { saved = saved; printed = Some printed; fate = f }) f
   delivered saved printed fate.CannotOpen plain x h = absurd (plain.opened refl)
   delivered saved printed fate.WriteFailed plain x h = absurd (plain.written refl)
@@ -282,6 +312,32 @@ module _ (store : Store) (target : Option (Bor (List ℕ))) (stdout : Writing) w
       by_fate : IsExplored options program answer ⊎ LacksMemory answer → failures_told answer.fate n ≡ n
       by_fate (inl e) = of_said e.config e.exploration (plain_fate e.exploration.alarm e.exploration.stuck e.exploration.refused) e.says
       by_fate (inr lacks) = same_fate answer _ n lacks.1 refl
+
+-- what was told is an answer to the program that was read
+pub explored : {X : Type 0} (options : ExploreOptions) (program : Program) (config : Config) (x : Exploration) (run : Option (WorldState × Ending)) (text : List ℕ) (store : Store) (stdout : Writing) (result : Result X Fate)
+    → IsConfigOf program (run_of options) config → IsExplorationOf program config options.states x → IsRunOfFirst program config x run → text ≡ exploration_text program x
+    → TellsRun program text options.certificate run store options.target stdout result → Explores options program store stdout (fate_behind (fate_of_exploration x) result)
+explored options program config x None text store stdout result configured so none is told = (
+  printing (exploration_text program x) (fate_of_exploration x),
+  inl (record { config = config; configured = configured; exploration = x; is_so = so; says = inr (none, refl) }),
+  put store options.target stdout None (exploration_text program x) (fate_of_exploration x) (plain_fate x.alarm x.stuck x.refused) result
+      (subst (λ (t : List ℕ). Puts store options.target stdout None t result) is told),
+)
+explored options program config x (Some run) text store stdout result configured so first is (inl told) = (
+  record { saved = Some (text_of_log run.0); printed = Some (exploration_text program x ++ told.2); fate = fate_of_exploration x },
+  inl (record {
+    config = config;
+    configured = configured;
+    exploration = x;
+    is_so = so;
+    says = inl (record { ended = run.1; world = run.0; replay = first.0; names = told.0; are_names = told.1; report = told.2; is_report = told.3; said = refl });
+  }),
+  put store options.target stdout (Some (text_of_log run.0)) (exploration_text program x ++ told.2) (fate_of_exploration x) (plain_fate x.alarm x.stuck x.refused) result
+      (subst (λ (t : List ℕ). Puts store options.target stdout (Some (text_of_log run.0)) (t ++ told.2) result) is told.4),
+)
+explored options program config x (Some run) text store stdout result configured so first is (inr lacks) =
+    let lack = lacked store options.target stdout (fate_of_exploration x) result lacks in
+    (lack.0, inr lack.1, lack.2)
 
 -- ---- want of memory
 
