@@ -56,10 +56,10 @@ fn told_of(exploration: &Exploration) -> Told {
     }
 }
 
-fn explored(alloc: Global, text: &str, most_states: u64) -> Option<Told> {
+fn explored(alloc: Global, text: &str, most_states: u64, first: bool) -> Option<Told> {
     let workload = parse(alloc, text).ok()?;
     let config = Config::new(1, workload.bounds(), 10_000, 64, false).ok()?;
-    let exploration = explore(alloc, &workload, most_states, config).ok()?;
+    let exploration = explore(alloc, &workload, most_states, first, config).ok()?;
     Some(told_of(&exploration))
 }
 
@@ -180,7 +180,7 @@ static ROWS: [Row<'static>; 14] = [
 
 /// Whether all schedules of the row's workload come to what it says.
 fn is_told(alloc: Global, row: &Row<'_>) -> Option<bool> {
-    let told = explored(alloc, row.text, 100_000)?;
+    let told = explored(alloc, row.text, 100_000, false)?;
     let wanted = Told {
         states: row.states.unwrap_or(told.states),
         alarm: row.alarm,
@@ -206,9 +206,49 @@ fn a_budget_leaves_open(rt: HostRuntime) {
         stuck: Known::Never,
         refused: Known::Never,
     };
-    assert_eq!(rt; explored(rt.alloc(), text, 434), Some(exact));
-    let short = explored(rt.alloc(), text, 433);
+    assert_eq!(rt; explored(rt.alloc(), text, 434, false), Some(exact));
+    let short = explored(rt.alloc(), text, 433, false);
     assert_eq!(rt; short.map(|told| told.alarm), Some(Known::Open));
     assert_eq!(rt; short.map(|told| told.stuck), Some(Known::Open));
     assert_eq!(rt; short.map(|told| told.refused), Some(Known::Open));
+}
+
+/// Whether a search that ends at the first finding shows this one, and tells the others as open.
+fn is_first(told: Option<Told>, alarm: Known, stuck: Known, refused: Known) -> bool {
+    match told {
+        Some(told) => told.alarm == alarm && told.stuck == stuck && told.refused == refused,
+        None => false,
+    }
+}
+
+#[test]
+fn the_first_finding_ends_it(rt: HostRuntime) {
+    let alarm = explored(rt.alloc(), ROWS[1].text, 100_000, true);
+    assert!(rt; is_first(alarm, Known::Shown, Known::Open, Known::Open));
+    let fewer = alarm.map(|told| told.states < 490);
+    assert_eq!(rt; fewer, Some(true));
+    let stuck = explored(rt.alloc(), ROWS[8].text, 100_000, true);
+    assert!(rt; is_first(stuck, Known::Open, Known::Shown, Known::Open));
+    let refused = explored(rt.alloc(), ROWS[7].text, 100_000, true);
+    assert!(rt; is_first(refused, Known::Open, Known::Open, Known::Shown));
+}
+
+#[test]
+fn an_alarm_comes_before_a_refusal(rt: HostRuntime) {
+    let text = "lock m\nthread main\nbegin one\nfork a\njoin a\nrelease m\nend\nthread a\n";
+    let all = explored(rt.alloc(), text, 100_000, false);
+    assert!(rt; is_first(all, Known::Shown, Known::Never, Known::Shown));
+    let first = explored(rt.alloc(), text, 100_000, true);
+    assert!(rt; is_first(first, Known::Shown, Known::Open, Known::Open));
+}
+
+#[test]
+fn without_a_finding_all_is_tried(rt: HostRuntime) {
+    let exact = Told {
+        states: 434,
+        alarm: Known::Never,
+        stuck: Known::Never,
+        refused: Known::Never,
+    };
+    assert_eq!(rt; explored(rt.alloc(), ROWS[2].text, 434, true), Some(exact));
 }

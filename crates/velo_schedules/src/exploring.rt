@@ -18,6 +18,8 @@ use velo_workload::Workload;
 /// schedule leads to a log that is not serializable, to a deadlock or to a refusal. The configuration has to have the
 /// workload's bounds. Where its bodies have more events than the configuration lets a log have, nothing is tried.
 ///
+/// With `first` it ends as soon as it finds one of the three, and tells the others as open.
+///
 /// What is shown was replayed. What is said never to be is so by no schedule. Of what is open nothing is said.
 ///
 /// # Errors
@@ -26,6 +28,7 @@ pub fn explore(
     alloc: Global,
     workload: &Workload,
     most_states: u64,
+    first: bool,
     config: Config,
 ) -> Result<Exploration, Memory>
     requires bounds { config.bounds ≡ workload.now.bounds }
@@ -51,7 +54,7 @@ pub fn explore(
         schedules,
         states,
         whole,
-    } = search_all(alloc, workload, most_states, &config)?;
+    } = search_all(alloc, workload, most_states, first, &config)?;
     let Schedules {
         alarm: to_alarm,
         stuck: to_stuck,
@@ -77,6 +80,7 @@ fn search_all(
     alloc: Global,
     workload: &Workload,
     most_states: u64,
+    first: bool,
     config: &Config,
 ) -> Result<Searched, Memory>
     requires bounds { config.now.bounds ≡ workload.now.bounds }
@@ -88,6 +92,6 @@ fn search_all(
     ensures memory { OnErr result GrowthRefused }
 {
     let scripts = scripts_of(alloc, workload)?;
-    let searched = search(alloc, config, &scripts, most_states)?;
+    let searched = search(alloc, config, &scripts, most_states, first)?;
     Ok(searched)
 }

@@ -1,0 +1,8 @@
+use crate::found::Found;
+
+/// What was found once states of a level were looked at, and how many of them were.
+#[derive(Clone, Copy, Debug)]
+pub struct Looked {
+    pub found: Found,
+    pub states: usize,
+}
