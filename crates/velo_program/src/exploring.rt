@@ -177,7 +177,8 @@ fn explore_workload<F: Files, O: Sink>(
         (writing O.contents O.failures out.old out.new) result }
 {
     let config = config_of_run(workload, &run_of(options));
-    let (found, run) = match findings_of(alloc, workload, options.states, config) {
+    let (states, first) = (options.states, options.first);
+    let (found, run) = match findings_of(alloc, workload, states, first, config) {
         Ok(told) => told,
         Err(Memory) => return Fate::Memory,
     };

@@ -74,6 +74,7 @@ fn explore_all(
     alloc: Global,
     workload: &Workload,
     most_states: u32,
+    first: bool,
     config: Config,
 ) -> Result<Exploration, Memory>
     requires { config.bounds ≡ workload.now.bounds }
@@ -86,7 +87,7 @@ fn explore_all(
         alarm,
         stuck,
         refused,
-    } = explore(alloc, workload, u64::from(most_states), config)?;
+    } = explore(alloc, workload, u64::from(most_states), first, config)?;
     Ok(Exploration {
         events,
         states,
@@ -279,7 +280,8 @@ fn refusal_replay(
 }
 
 /// What all schedules of the workload come to, and the replay of the first finding, if there is one: of an alarm, else of a
-/// deadlock, else of a refusal. The configuration has to have the workload's bounds.
+/// deadlock, else of a refusal. With `first` the first finding ends the search. The configuration
+/// has to have the workload's bounds.
 ///
 /// # Errors
 /// `Memory` where a growth was refused.
@@ -287,6 +289,7 @@ pub fn findings_of(
     alloc: Global,
     workload: &Workload,
     most_states: u32,
+    first: bool,
     config: Config,
 ) -> Result<(Exploration, Option<(Closed, Ending)>), Memory>
     requires { config.bounds ≡ workload.now.bounds }
@@ -294,6 +297,6 @@ pub fn findings_of(
     ensures run { IfOk result (λ told. IsRunOfFirst workload.now config told.0 told.1) }
     ensures memory { OnErr result GrowthRefused }
 {
-    let found = explore_all(alloc, workload, most_states, config)?;
+    let found = explore_all(alloc, workload, most_states, first, config)?;
     first_replay(alloc, workload, config, found)
 }

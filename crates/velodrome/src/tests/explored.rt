@@ -31,6 +31,7 @@ struct Row {
     workload: &'static str,
     states: u32,
     events: u32,
+    first: bool,
     target: Option<&'static str>,
     certificate: bool,
     out: &'static str,
@@ -43,6 +44,7 @@ const ASKED: Row = Row {
     workload: LOST_UPDATE,
     states: 1_000,
     events: 1_000,
+    first: false,
     target: None,
     certificate: false,
     out: "",
@@ -51,7 +53,7 @@ const ASKED: Row = Row {
     status: 0,
 };
 
-static ROWS: [Row; 15] = [
+static ROWS: [Row; 16] = [
     Row {
         target: Some("o"),
         out: "events 9\nstates 28\nalarm 0 0 0 1 0\nstuck none\nrefused none\nevents 9\nthread 0 main 7\nthread 1 a 2\nverdict alarm 4\ntransaction 1\nblame 1 inc\n",
@@ -96,6 +98,13 @@ static ROWS: [Row; 15] = [
     Row {
         workload: BOTH,
         out: "events 16\nstates 113\nalarm 0 0 0 1 0\nstuck 0 0 0 0 0 0 1 1\nrefused none\nevents 8\nthread 0 main 6\nthread 1 a 2\nverdict alarm 4\ntransaction 1\nblame 1 inc\n",
+        status: 3,
+        ..ASKED
+    },
+    Row {
+        workload: BOTH,
+        first: true,
+        out: "",
         status: 3,
         ..ASKED
     },
@@ -173,7 +182,7 @@ fn explore_it<R: Threads + Wait + Abort + Sync>(rt: &R, alloc: Global, row: &Row
     let request = Request::Explore(ExploreOptions {
         input: "w",
         states: row.states,
-        first: false,
+        first: row.first,
         target: row.target,
         limits: Limits {
             events: row.events,
