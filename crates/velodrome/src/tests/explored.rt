@@ -104,7 +104,7 @@ static ROWS: [Row; 16] = [
     Row {
         workload: BOTH,
         first: true,
-        out: "",
+        out: "events 16\nstates 15\nalarm 0 0 0 1 0\nstuck open\nrefused open\nevents 8\nthread 0 main 6\nthread 1 a 2\nverdict alarm 4\ntransaction 1\nblame 1 inc\n",
         status: 3,
         ..ASKED
     },
