@@ -190,6 +190,13 @@ impl Marks {
         })
     }
 
+    /// How many threads there are.
+    pub fn threads(&self) -> u8
+        ensures { result ≡ self.now.bounds.threads }
+    {
+        self.bounds.threads
+    }
+
     /// Whether the marks are the same.
     pub fn is_same(&self, other: &Marks) -> bool
         ensures { result ≡ true → summary_of self.now ≡ summary_of other.now }

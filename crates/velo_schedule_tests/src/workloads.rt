@@ -67,7 +67,7 @@ static ROWS: [Row<'static>; 14] = [
     // lost update, two threads once
     Row {
         text: "var x\nthread main\nfork a\nfork b\njoin a\njoin b\nthread a\nbegin inc\nread x\nadd 1\nwrite x\nend\nthread b\nbegin inc\nread x\nadd 1\nwrite x\nend\n",
-        states: Some(78),
+        states: Some(23),
         alarm: Known::Shown,
         stuck: Known::Never,
         refused: Known::Never,
@@ -75,7 +75,7 @@ static ROWS: [Row<'static>; 14] = [
     // and three times
     Row {
         text: "var x\nthread main\nfork a\nfork b\njoin a\njoin b\nthread a\nrepeat 3\nbegin inc\nread x\nadd 1\nwrite x\nend\ndone\nthread b\nrepeat 3\nbegin inc\nread x\nadd 1\nwrite x\nend\ndone\n",
-        states: Some(490),
+        states: Some(129),
         alarm: Known::Shown,
         stuck: Known::Never,
         refused: Known::Never,
@@ -83,7 +83,7 @@ static ROWS: [Row<'static>; 14] = [
     // the same under a lock
     Row {
         text: "var x\nlock m\nthread main\nfork a\nfork b\njoin a\njoin b\nthread a\nrepeat 3\nbegin inc\nacquire m\nread x\nadd 1\nwrite x\nrelease m\nend\ndone\nthread b\nrepeat 3\nbegin inc\nacquire m\nread x\nadd 1\nwrite x\nrelease m\nend\ndone\n",
-        states: Some(434),
+        states: Some(86),
         alarm: Known::Never,
         stuck: Known::Never,
         refused: Known::Never,
@@ -91,7 +91,7 @@ static ROWS: [Row<'static>; 14] = [
     // both read what the other wrote
     Row {
         text: "var x\nvar y\nthread main\nfork a\nfork b\njoin a\njoin b\nthread a\nbegin one\nwrite x\nread y\nend\nthread b\nbegin two\nwrite y\nread x\nend\n",
-        states: Some(78),
+        states: Some(23),
         alarm: Known::Shown,
         stuck: Known::Never,
         refused: Known::Never,
@@ -99,7 +99,7 @@ static ROWS: [Row<'static>; 14] = [
     // nested blocks
     Row {
         text: "var x\nthread main\nfork a\nfork b\njoin a\njoin b\nthread a\nbegin one\nbegin two\nread x\nend\nbegin three\nwrite x\nend\nend\nthread b\nwrite x\n",
-        states: Some(68),
+        states: Some(17),
         alarm: Known::Shown,
         stuck: Known::Never,
         refused: Known::Never,
@@ -107,7 +107,7 @@ static ROWS: [Row<'static>; 14] = [
     // a fork within a block
     Row {
         text: "var x\nthread main\nbegin one\nfork a\nread x\nend\njoin a\nthread a\nwrite x\n",
-        states: Some(19),
+        states: Some(8),
         alarm: Known::Shown,
         stuck: Known::Never,
         refused: Known::Never,
@@ -115,7 +115,7 @@ static ROWS: [Row<'static>; 14] = [
     // two fork one thread
     Row {
         text: "var x\nthread main\nfork a\nfork b\nthread a\nfork c\nthread b\nfork c\nthread c\nread x\n",
-        states: Some(34),
+        states: Some(9),
         alarm: Known::Never,
         stuck: Known::Never,
         refused: Known::Shown,
@@ -123,7 +123,7 @@ static ROWS: [Row<'static>; 14] = [
     // joined before its fork
     Row {
         text: "var x\nthread main\nfork a\nfork b\nthread a\nwrite x\nfork c\nthread b\nread x\njoin c\nthread c\n",
-        states: Some(39),
+        states: Some(11),
         alarm: Known::Never,
         stuck: Known::Never,
         refused: Known::Shown,
@@ -131,7 +131,7 @@ static ROWS: [Row<'static>; 14] = [
     // two locks in both orders
     Row {
         text: "lock m\nlock n\nthread main\nfork a\nacquire m\nacquire n\nrelease n\nrelease m\nthread a\nacquire n\nacquire m\nrelease m\nrelease n\n",
-        states: None,
+        states: Some(10),
         alarm: Known::Never,
         stuck: Known::Shown,
         refused: Known::Never,
@@ -171,7 +171,7 @@ static ROWS: [Row<'static>; 14] = [
     // an exit that holds a lock
     Row {
         text: "lock m\nthread main\nfork a\njoin a\nthread a\nacquire m\n",
-        states: None,
+        states: Some(3),
         alarm: Known::Never,
         stuck: Known::Never,
         refused: Known::Shown,
@@ -201,13 +201,13 @@ fn all_schedules_are_told(rt: HostRuntime) {
 fn a_budget_leaves_open(rt: HostRuntime) {
     let text = ROWS[2].text;
     let exact = Told {
-        states: 434,
+        states: 86,
         alarm: Known::Never,
         stuck: Known::Never,
         refused: Known::Never,
     };
-    assert_eq!(rt; explored(rt.alloc(), text, 434, false), Some(exact));
-    let short = explored(rt.alloc(), text, 433, false);
+    assert_eq!(rt; explored(rt.alloc(), text, 86, false), Some(exact));
+    let short = explored(rt.alloc(), text, 85, false);
     assert_eq!(rt; short.map(|told| told.alarm), Some(Known::Open));
     assert_eq!(rt; short.map(|told| told.stuck), Some(Known::Open));
     assert_eq!(rt; short.map(|told| told.refused), Some(Known::Open));
@@ -225,7 +225,7 @@ fn is_first(told: Option<Told>, alarm: Known, stuck: Known, refused: Known) -> b
 fn the_first_finding_ends_it(rt: HostRuntime) {
     let alarm = explored(rt.alloc(), ROWS[1].text, 100_000, true);
     assert!(rt; is_first(alarm, Known::Shown, Known::Open, Known::Open));
-    let fewer = alarm.map(|told| told.states < 490);
+    let fewer = alarm.map(|told| told.states < 129);
     assert_eq!(rt; fewer, Some(true));
     let stuck = explored(rt.alloc(), ROWS[8].text, 100_000, true);
     assert!(rt; is_first(stuck, Known::Open, Known::Shown, Known::Open));
@@ -245,10 +245,10 @@ fn an_alarm_comes_before_a_refusal(rt: HostRuntime) {
 #[test]
 fn without_a_finding_all_is_tried(rt: HostRuntime) {
     let exact = Told {
-        states: 434,
+        states: 86,
         alarm: Known::Never,
         stuck: Known::Never,
         refused: Known::Never,
     };
-    assert_eq!(rt; explored(rt.alloc(), ROWS[2].text, 434, true), Some(exact));
+    assert_eq!(rt; explored(rt.alloc(), ROWS[2].text, 86, true), Some(exact));
 }

@@ -1,9 +1,7 @@
 pub mod OnReplays
 pub mod OnEndings
 pub mod OnBodyScripts
-pub mod OnRunsOfScripts
 pub mod OnPlainLogs
-pub mod OnSearched
 pub mod OnTold
 pub mod OnCounting
 pub mod OnShown

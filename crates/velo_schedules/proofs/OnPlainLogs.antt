@@ -33,7 +33,7 @@ use Rattle.velo_schedules.specs.Bodies.{operation, operations_of, operations_by,
 use Rattle.velo_schedules.proofs.OnBodyScripts.{HaveScripts-bodies, scripts-done}
 use Rattle.velo_schedules.proofs.OnReplays.{IsLogOf-replays}
 use Rattle.velo_schedules.proofs.OnEndings.{IsStuck-replays, HasRefusal-replays}
-use Rattle.velo_schedules.proofs.OnRunsOfScripts.{same_plain, wants_by, NeverComes, length-own}
+use Rattle.velo_explore.proofs.OnRunsOfScripts.{same_plain, wants_by, NeverComes, length-own}
 
 -- ---- the events of a thread, without values
 

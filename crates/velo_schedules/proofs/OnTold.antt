@@ -17,7 +17,7 @@ use Rattle.velo_explore.specs.Search.{ArePlain, AreShort}
 use Rattle.velo_schedules.specs.Logs.{AlwaysSerializable, NeverStuck, NeverRefused}
 use Rattle.velo_schedules.specs.Bodies.{operation, operations_of, operations_by, scripts, all_scripts}
 use Rattle.velo_schedules.proofs.OnPlainLogs.{script_in, ArePlain-bodies, AlwaysSerializable-runs, NeverStuck-runs, NeverRefused-runs}
-use Rattle.velo_schedules.proofs.OnSearched.{searched-stuck, searched-refused}
+use Rattle.velo_explore.proofs.OnWanted.{known-few, searched-stuck, searched-refused}
 
 -- ---- the scripts may be searched
 
@@ -56,9 +56,9 @@ module _ (program : Program) (bounds : Bounds) (same : bounds ≡ program.bounds
     pub stuck-ruled_out : Never (IsFault bounds list Stuck) bounds list [] → NeverStuck program
     stuck-ruled_out never =
         let none = subst (λ ks. Never (IsFault program.bounds ks Stuck) program.bounds ks []) is (subst (λ b. Never (IsFault b list Stuck) b list []) same never) in
-        NeverStuck-runs program (λ more run stuck. none more run (searched-stuck program.bounds (all_scripts program) few_scripts more stuck))
+        NeverStuck-runs program (λ more run stuck. none more run (searched-stuck program.bounds (all_scripts program) more (known-few program.bounds (all_scripts program) few_scripts more) stuck))
 
     pub refusal-ruled_out : Never (IsFault bounds list Refusing) bounds list [] → NeverRefused program
     refusal-ruled_out never =
         let none = subst (λ ks. Never (IsFault program.bounds ks Refusing) program.bounds ks []) is (subst (λ b. Never (IsFault b list Refusing) b list []) same never) in
-        NeverRefused-runs program (λ more run refused. none more run (searched-refused program.bounds (all_scripts program) few_scripts more refused))
+        NeverRefused-runs program (λ more run refused. none more run (searched-refused program.bounds (all_scripts program) more (known-few program.bounds (all_scripts program) few_scripts more) refused))
