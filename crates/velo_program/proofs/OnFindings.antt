@@ -1,9 +1,8 @@
 -- What an exploration comes to.
 use Rattle.std.proofs.Common.{◌≡◌, ◌∙◌, ap, append_assoc, inl, inr, refl, subst, sym, take}
 use Rattle.std.proofs.lemmas.List.{append-nil}
-use Rattle.std.proofs.lemmas.Grind.{flat_map-append}
-use Rattle.std.specs.List.{flat_map}
-use Rattle.std.specs.Prelude.{◌≢◌, ◌⊎◌, ◌+◌, ◌≤◌, ◌<◌, ◌++◌, ◌∷◌, [], ⊤, ℕ, Bool, All, List, decimal, length, Option, Some, None, Result, Ok, Err, IfSome, OnOk, is_some}
+use Rattle.std.proofs.lemmas.Bool.{false≢true}
+use Rattle.std.specs.Prelude.{◌≢◌, ◌⊎◌, ◌+◌, ◌-◌, ◌^◌, ◌≤◌, ◌<◌, ◌++◌, ◌∷◌, [], ⊤, ℕ, Bool, true, All, List, decimal, length, min, sum_by, Option, Some, None, Result, Ok, Err, IfOk, IfSome, OnOk, is_some}
 use Rattle.std.specs.Io.KnownBytes.{Appends}
 use Rattle.std.specs.Borrow.{Bor}
 use Rattle.velo_events.specs.declared.config.Config.{Config}
@@ -18,7 +17,13 @@ use Rattle.velo_schedules.specs.declared.finding.Finding.TheVariants.{Shown, Nev
 use Rattle.velo_schedules.specs.declared.finding.RefusalFinding.{RefusalFinding}
 use Rattle.velo_schedules.specs.declared.finding.RefusalFinding.TheVariants as refusals
 use Rattle.velo_schedules.specs.Told.{AlarmTold, RefusalTold, StuckTold}
+use Rattle.velo_events.specs.declared.event.Event.{Event}
+use Rattle.velo_events.specs.declared.refusal.Refusal.TheVariants as refusal
+use Rattle.velo_events.specs.Graph.{HasCycle}
+use Rattle.velo_events.specs.Refusals.{GrowthRefused}
 use Rattle.velo_worker.specs.declared.ending.Ending.{Ending}
+use Rattle.velo_worker.specs.declared.ending.Ending.TheVariants as ending
+use Rattle.velo_worker.specs.Counts.{body_events}
 use Rattle.velo_worker.specs.Causes.{EndsByGrowth}
 use Rattle.velo_workload.specs.Program.{Program}
 use Rattle.velo_world.specs.World.{WorldState}
@@ -27,16 +32,19 @@ use Rattle.velo_program.specs.declared.fate.Fate.TheVariants as fate
 use Rattle.velo_program.specs.declared.request.ExploreOptions.{ExploreOptions}
 use Rattle.velo_program.specs.declared.schedule.TheConstants.{MOST_TURNS}
 use Rattle.velo_program.specs.Causes.{ComesByRefusal, Growths}
-use Rattle.velo_program.specs.Check.{IsOrderOrCycle, WritesOutput}
+use Rattle.velo_program.specs.Check.{IsOrderOrCycle, IsVerdict, WritesOutput}
 use Rattle.velo_program.specs.Delivery.{Answer, IsDelivered, LacksMemory, printing, silent}
 use Rattle.velo_program.specs.Disk.{Store}
 use Rattle.velo_program.specs.Exploring.{HasFirst, IsExplorationOf, IsExplored, IsFirstReplay, IsPrintedAlone, IsSayable, IsSayableFinding, IsSayableRefusal, fate_by, ReportsReplay, exploration_text, fate_of_exploration, first_schedule, run_of, turns_text}
-use Rattle.velo_program.specs.Findings.{Explores, IsNoMoreThan, IsReplayBy, IsRunOfFirst, IsRefusalSaidFor, IsSaidFor, IsUnshown, Lacks, Puts, ShowsAlarm, ShowsRefusal, ShowsStuck, TellsRun, WritesBehind, spaced, unshown, unshown_refusal}
-use Rattle.velo_program.specs.Playing.{IsConfigOf, text_of_log}
+use Rattle.velo_program.specs.declared.check.Verdict.{Verdict}
+use Rattle.velo_program.specs.declared.check.Verdict.TheVariants as verdict
+use Rattle.velo_program.specs.Fate.{is_alarm}
+use Rattle.velo_program.specs.Findings.{Explores, IsNoMoreThan, IsReplayBy, IsRunOfFirst, IsRefusalSaidFor, IsSaidFor, IsUnshown, Lacks, Puts, ReportsOrLacks, ShowsAlarm, ShowsRefusal, ShowsStuck, TellsReplay, TellsRun, WritesBehind, spaced, unshown, unshown_refusal}
+use Rattle.velo_program.specs.Playing.{AreNamesOf, IsConfigOf, is_unreported, text_of_log}
 use Rattle.velo_program.specs.Reading.{failures_told}
 use Rattle.velo_program.specs.Schedule.{schedule_text}
-use Rattle.velo_program.specs.Steps.{HasAlarm}
-use Rattle.velo_program.specs.Writing.{BreaksOff, Writing}
+use Rattle.velo_program.specs.Steps.{HasAlarm, IsSaved}
+use Rattle.velo_program.specs.Writing.{BreaksOff, Writing, WritesNothing}
 use Rattle.velo_program.proofs.OnDelivery.{delivered_reads, same_fate}
 use Rattle.velo_program.proofs.OnVerdicts.{output_exists}
 
@@ -79,6 +87,28 @@ on_ok (Err e) f h = tt
 pub sayable_by : (schedule : List ThreadId) → length schedule ≤ MOST_TURNS → All (λ t. t.0 < MOST_THREADS) schedule → IsSayable schedule
 sayable_by schedule few threads = record { whole = refl; threads = threads; few = few }
 
+-- what is told can be said
+said_sayable : (finding said : Finding) → IsSaidFor finding said → IsSayableFinding said
+said_sayable finding said (inl same) = subst IsSayableFinding (sym same.1) same.0
+said_sayable finding said (inr none) = subst IsSayableFinding (sym none.1) tt
+
+said_sayable_refusal : (finding said : RefusalFinding) → IsRefusalSaidFor finding said → IsSayableRefusal said
+said_sayable_refusal finding said (inl same) = subst IsSayableRefusal (sym same.1) same.0
+said_sayable_refusal finding said (inr none) = subst IsSayableRefusal (sym none.1) tt
+
+-- ---- a replay
+
+-- a run without a report is one in which a growth was refused
+pub unreported_growth : (ended : Ending) → EndsByGrowth ended → is_unreported ended ≡ true → GrowthRefused
+unreported_growth (ending.Refused t refusal.Memory) cause is = cause
+unreported_growth (ending.Refused t refusal.RuntimeMemory) cause is = cause
+unreported_growth ended cause is = absurd (false≢true is)
+
+-- the log of an alarm has a cycle
+pub alarm_cycle : (log : List Event) (said : Verdict) → IsVerdict log said → is_alarm said ≡ true → HasCycle log
+alarm_cycle log verdict.Alarm is alarm = is.cycle.0 refl
+alarm_cycle log verdict.Clean is alarm = absurd (false≢true alarm)
+
 module _ (program : Program) (config : Config) where
   pub said_alarm : (finding said : Finding) → IsSaidFor finding said → AlarmTold program config finding → AlarmTold program config said
   said_alarm finding said (inl same) told = subst (AlarmTold program config) (sym same.1) told
@@ -91,6 +121,23 @@ module _ (program : Program) (config : Config) where
   pub said_refusal : (finding said : RefusalFinding) → IsRefusalSaidFor finding said → RefusalTold program config finding → RefusalTold program config said
   said_refusal finding said (inl same) told = subst (RefusalTold program config) (sym same.1) told
   said_refusal finding said (inr none) told = subst (RefusalTold program config) (sym none.1) tt
+
+  -- what is told of all schedules is so
+  pub all_told : (most : ℕ) (x y : Exploration) → x.events ≡ min (sum_by body_events program.bodies) (2 ^ 64 - 1) → x.states ≤ most
+      → AlarmTold program config x.alarm → StuckTold program config x.stuck → RefusalTold program config x.refused
+      → y.events ≡ x.events → y.states ≡ x.states → IsSaidFor x.alarm y.alarm → IsSaidFor x.stuck y.stuck → IsRefusalSaidFor x.refused y.refused
+      → IsExplorationOf program config most y
+  all_told most x y events states alarm stuck refused same_events same_states said_a said_s said_r =
+      record {
+        events = same_events ∙ events;
+        states = subst (λ (n : ℕ). n ≤ most) (sym same_states) states;
+        alarm = said_alarm x.alarm y.alarm said_a alarm;
+        stuck = said_stuck x.stuck y.stuck said_s stuck;
+        refused = said_refusal x.refused y.refused said_r refused;
+        alarm_sayable = said_sayable x.alarm y.alarm said_a;
+        stuck_sayable = said_sayable x.stuck y.stuck said_s;
+        refused_sayable = said_sayable_refusal x.refused y.refused said_r;
+      }
 
   -- ---- a finding that is not shown again
 
@@ -181,14 +228,14 @@ module _ (program : Program) (config : Config) where
   stuck_first alarm Open refused ended w none shows = absurd shows
 
   refusal_first : (alarm stuck : Finding) (refused : RefusalFinding) (ended : Ending) (w : WorldState) → IsUnshown alarm → IsUnshown stuck → ShowsRefusal program config refused ended w → IsFirst alarm stuck refused ended w
-  refusal_first (Shown schedule) stuck refused ended w none no shows = absurd none
-  refusal_first alarm (Shown schedule) refused ended w none no shows = absurd no
-  refusal_first Never Never (refusals.Shown run) ended w none no shows = (run.schedule.items, refl, shows.1, shows.0)
-  refusal_first Never Open (refusals.Shown run) ended w none no shows = (run.schedule.items, refl, shows.1, shows.0)
-  refusal_first Open Never (refusals.Shown run) ended w none no shows = (run.schedule.items, refl, shows.1, shows.0)
-  refusal_first Open Open (refusals.Shown run) ended w none no shows = (run.schedule.items, refl, shows.1, shows.0)
-  refusal_first alarm stuck refusals.Never ended w none no shows = absurd shows
-  refusal_first alarm stuck refusals.Open ended w none no shows = absurd shows
+  refusal_first (Shown schedule) stuck refused ended w none nor shows = absurd none
+  refusal_first alarm (Shown schedule) refused ended w none nor shows = absurd nor
+  refusal_first Never Never (refusals.Shown run) ended w none nor shows = (run.schedule.items, refl, shows.1, shows.0)
+  refusal_first Never Open (refusals.Shown run) ended w none nor shows = (run.schedule.items, refl, shows.1, shows.0)
+  refusal_first Open Never (refusals.Shown run) ended w none nor shows = (run.schedule.items, refl, shows.1, shows.0)
+  refusal_first Open Open (refusals.Shown run) ended w none nor shows = (run.schedule.items, refl, shows.1, shows.0)
+  refusal_first alarm stuck refusals.Never ended w none nor shows = absurd shows
+  refusal_first alarm stuck refusals.Open ended w none nor shows = absurd shows
 
   is_first : (x : Exploration) (ended : Ending) (w : WorldState) → IsFirst x.alarm x.stuck x.refused ended w → IsFirstReplay program config x ended w × HasAlarm w.log
   is_first x ended w h =
@@ -201,7 +248,35 @@ module _ (program : Program) (config : Config) where
   first_by_stuck x ended w none shows = is_first x ended w (stuck_first x.alarm x.stuck x.refused ended w none shows)
 
   pub first_by_refusal : (x : Exploration) (ended : Ending) (w : WorldState) → IsUnshown x.alarm → IsUnshown x.stuck → ShowsRefusal program config x.refused ended w → IsFirstReplay program config x ended w × HasAlarm w.log
-  first_by_refusal x ended w none no shows = is_first x ended w (refusal_first x.alarm x.stuck x.refused ended w none no shows)
+  first_by_refusal x ended w none nor shows = is_first x ended w (refusal_first x.alarm x.stuck x.refused ended w none nor shows)
+
+  -- the run of the first finding
+  pub run_by_alarm : (x : Exploration) (run : Option (WorldState × Ending)) → is_some run ≡ true
+      → IfSome run (λ run. ShowsAlarm program config x.alarm run.1 run.0) → IsRunOfFirst program config x run
+  run_by_alarm x None is shows = absurd (false≢true is)
+  run_by_alarm x (Some run) is shows = first_by_alarm x run.1 run.0 shows
+
+  pub run_by_stuck : (x : Exploration) (run : Option (WorldState × Ending)) → IsUnshown x.alarm → is_some run ≡ true
+      → IfSome run (λ run. ShowsStuck program config x.stuck run.1 run.0) → IsRunOfFirst program config x run
+  run_by_stuck x None none is shows = absurd (false≢true is)
+  run_by_stuck x (Some run) none is shows = first_by_stuck x run.1 run.0 none shows
+
+  pub run_by_refusal : (x : Exploration) (run : Option (WorldState × Ending)) → IsUnshown x.alarm → IsUnshown x.stuck → is_some run ≡ true
+      → IfSome run (λ run. ShowsRefusal program config x.refused run.1 run.0) → IsRunOfFirst program config x run
+  run_by_refusal x None none nor is shows = absurd (false≢true is)
+  run_by_refusal x (Some run) none nor is shows = first_by_refusal x run.1 run.0 none nor shows
+
+  -- what is no more than what is no more
+  pub told_less : (x y : Exploration) → IsNoMoreThan program config x y → {A F : Type 0} (told : A → Exploration) (result : Result A F)
+      → IfOk result (λ a. IsNoMoreThan program config y (told a)) → IfOk result (λ a. IsNoMoreThan program config x (told a))
+  told_less x y less told (Ok a) h = λ most so. h most (less most so)
+  told_less x y less told (Err f) h = tt
+
+  -- what was told of all schedules, told again with no more
+  pub told_all : (most : ℕ) (x : Exploration) → IsExplorationOf program config most x → {A F : Type 0} (told : A → Exploration) (result : Result A F)
+      → IfOk result (λ a. IsNoMoreThan program config x (told a)) → IfOk result (λ a. IsExplorationOf program config most (told a))
+  told_all most x so told (Ok a) h = h most so
+  told_all most x so told (Err f) h = tt
 
 pub is_unshown : (finding said : Finding) → said ≡ unshown finding → IsUnshown said
 is_unshown Never said is = subst IsUnshown (sym is) tt
@@ -209,23 +284,23 @@ is_unshown Open said is = subst IsUnshown (sym is) tt
 is_unshown (Shown schedule) said is = subst IsUnshown (sym is) tt
 
 pub none_first : (alarm stuck : Finding) (refused said : RefusalFinding) → IsUnshown alarm → IsUnshown stuck → said ≡ unshown_refusal refused → first_schedule alarm stuck said ≡ None
-none_first alarm stuck refused said none no is = ap (first_schedule alarm stuck) is ∙ so alarm stuck refused none no
+none_first alarm stuck refused said none nor is = ap (first_schedule alarm stuck) is ∙ so alarm stuck refused none nor
   where
     so : (alarm stuck : Finding) (refused : RefusalFinding) → IsUnshown alarm → IsUnshown stuck → first_schedule alarm stuck (unshown_refusal refused) ≡ None
-    so (Shown schedule) stuck refused none no = absurd none
-    so alarm (Shown schedule) refused none no = absurd no
-    so Never Never refusals.Never none no = refl
-    so Never Never refusals.Open none no = refl
-    so Never Never (refusals.Shown run) none no = refl
-    so Never Open refusals.Never none no = refl
-    so Never Open refusals.Open none no = refl
-    so Never Open (refusals.Shown run) none no = refl
-    so Open Never refusals.Never none no = refl
-    so Open Never refusals.Open none no = refl
-    so Open Never (refusals.Shown run) none no = refl
-    so Open Open refusals.Never none no = refl
-    so Open Open refusals.Open none no = refl
-    so Open Open (refusals.Shown run) none no = refl
+    so (Shown schedule) stuck refused none nor = absurd none
+    so alarm (Shown schedule) refused none nor = absurd nor
+    so Never Never refusals.Never none nor = refl
+    so Never Never refusals.Open none nor = refl
+    so Never Never (refusals.Shown run) none nor = refl
+    so Never Open refusals.Never none nor = refl
+    so Never Open refusals.Open none nor = refl
+    so Never Open (refusals.Shown run) none nor = refl
+    so Open Never refusals.Never none nor = refl
+    so Open Never refusals.Open none nor = refl
+    so Open Never (refusals.Shown run) none nor = refl
+    so Open Open refusals.Never none nor = refl
+    so Open Open refusals.Open none nor = refl
+    so Open Open (refusals.Shown run) none nor = refl
 
 -- ---- the fate
 
@@ -270,11 +345,25 @@ behind_text text names certificate w out middle count first kept (Err f) h =
     (h.0, h.1, (beginning_then out.old middle out.new text h.0 [] (text ++ h.0) first h.2.0 (sym (append-nil (text ++ h.0))), h.2.1 ∙ ap with_failure kept))
 
 -- the text broke off
-pub text_breaks : {X F : Type 0} (text : List ℕ) (names : Names) (w : WorldState) (list : Option (Bor (List ℕ))) → IfSome list (λ list. IsOrderOrCycle w.log list.now) → HasAlarm w.log
-    → (out : Writing) (f : F) → BreaksOff out text → WritesBehind text names (is_some list) w out (Err {A = X} f)
+pub text_breaks : {F : Type 0} (text : List ℕ) (names : Names) (w : WorldState) (list : Option (Bor (List ℕ))) → IfSome list (λ list. IsOrderOrCycle w.log list.now) → HasAlarm w.log
+    → (out : Writing) (f : F) → BreaksOff out text → WritesBehind {X = ℕ} {F = F} text names (is_some list) w out (Err f)
 text_breaks text names w list certifies alarm out f broke =
     let output = output_exists names w.config.bounds.threads w.log list certifies alarm in
     (output.0, output.1, (beginning_then out.old out.old out.new [] text output.0 (text ++ output.0) (appends_nothing out.old) broke.0 refl, broke.1))
+
+-- where the log is not saved nothing goes out
+pub unsaved_puts : (store : Store) (target : Option (Bor (List ℕ))) (out : Writing) (log text : List ℕ) (f : Fate)
+    → IsSaved {X = ℕ} store target log (Err f) → WritesNothing out → Puts {X = ℕ} store target out (Some log) text (Err f)
+unsaved_puts store target out log text fate.CannotOpen h nothing = (h, nothing)
+unsaved_puts store target out log text fate.WriteFailed h nothing = inl (h, nothing)
+unsaved_puts store target out log text f h nothing = absurd h
+
+-- by the program's names, and with the certificate that was asked for
+pub reported_by : {X : Type 0} (program : Program) (text : List ℕ) (names : Names) (given certificate : Bool) (w : WorldState)
+    (store : Store) (target : Option (Bor (List ℕ))) (out : Writing) (result : Result X Fate)
+    → TellsReplay text names given w store target out result → certificate ≡ given → AreNamesOf program names → ReportsOrLacks program text certificate w store target out result
+reported_by program text names given certificate w store target out result told is are =
+    inl (names, are, subst (λ (b : Bool). TellsReplay text names b w store target out result) (sym is) told)
 
 -- what telling came to, as a fate
 abbrev pub fate_behind : {X : Type 0} → Fate → Result X Fate → Fate
@@ -324,16 +413,16 @@ explored options program config x None text store stdout result configured so no
       (subst (λ (t : List ℕ). Puts store options.target stdout None t result) is told),
 )
 explored options program config x (Some run) text store stdout result configured so first is (inl told) = (
-  record { saved = Some (text_of_log run.0); printed = Some (exploration_text program x ++ told.2); fate = fate_of_exploration x },
+  record { saved = Some (text_of_log run.0); printed = Some (exploration_text program x ++ told.2.0); fate = fate_of_exploration x },
   inl (record {
     config = config;
     configured = configured;
     exploration = x;
     is_so = so;
-    says = inl (record { ended = run.1; world = run.0; replay = first.0; names = told.0; are_names = told.1; report = told.2; is_report = told.3; said = refl });
+    says = inl (record { ended = run.1; world = run.0; replay = first.0; names = told.0; are_names = told.1; report = told.2.0; is_report = told.2.1; said = refl });
   }),
-  put store options.target stdout (Some (text_of_log run.0)) (exploration_text program x ++ told.2) (fate_of_exploration x) (plain_fate x.alarm x.stuck x.refused) result
-      (subst (λ (t : List ℕ). Puts store options.target stdout (Some (text_of_log run.0)) (t ++ told.2) result) is told.4),
+  put store options.target stdout (Some (text_of_log run.0)) (exploration_text program x ++ told.2.0) (fate_of_exploration x) (plain_fate x.alarm x.stuck x.refused) result
+      (subst (λ (t : List ℕ). Puts store options.target stdout (Some (text_of_log run.0)) (t ++ told.2.0) result) is told.2.2),
 )
 explored options program config x (Some run) text store stdout result configured so first is (inr lacks) =
     let lack = lacked store options.target stdout (fate_of_exploration x) result lacks in

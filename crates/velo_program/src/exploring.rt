@@ -82,8 +82,10 @@ fn write_behind<O: Sink>(
     ensures { WritesBehind text.now names.now (is_some list.entry) closed.now
         (writing O.contents O.failures out.old out.new) result }
 {
-    write_all(out, text)?;
-    write_output(closed, names, list, out)
+    match write_all(out, text) {
+        Ok(()) => write_output(closed, names, list, out),
+        Err(fault) => Err(fault),
+    }
 }
 
 /// Saves the log of a replay at the target, if there is one, then writes the text, and behind it the report.
@@ -102,7 +104,10 @@ fn report_by<F: Files, O: Sink>(
         (store F.disk files.old files.new) target.entry
         (writing O.contents O.failures out.old out.new) result }
 {
-    save_log(closed, target, files)?;
+    match save_log(closed, target, files) {
+        Ok(()) => {}
+        Err(fate) => return Err(fate),
+    }
     match write_behind(text, closed, names, list, out) {
         Ok(()) => Ok(()),
         Err(WriteFault) => Err(Fate::WriteFailed),
