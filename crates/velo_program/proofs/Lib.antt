@@ -1,6 +1,7 @@
 pub mod OnCauses
 pub mod OnVerdicts
 mod OnDelivery
+mod OnEndings
 mod OnExplaining
 mod OnFindings
 mod OnPlaying

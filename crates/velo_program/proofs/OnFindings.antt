@@ -2,7 +2,7 @@
 use Rattle.std.proofs.Common.{◌≡◌, ◌∙◌, ap, append_assoc, inl, inr, refl, subst, sym, take}
 use Rattle.std.proofs.lemmas.List.{append-nil}
 use Rattle.std.proofs.lemmas.Bool.{false≢true}
-use Rattle.std.specs.Prelude.{◌≢◌, ◌⊎◌, ◌+◌, ◌-◌, ◌^◌, ◌≤◌, ◌<◌, ◌++◌, ◌∷◌, [], ⊤, ℕ, Bool, true, All, List, decimal, length, min, sum_by, Option, Some, None, Result, Ok, Err, IfOk, IfSome, OnOk, is_some}
+use Rattle.std.specs.Prelude.{◌≢◌, ◌↔◌, ◌⊎◌, ◌+◌, ◌-◌, ◌^◌, ◌≤◌, ◌<◌, ◌++◌, ◌∷◌, [], ⊤, ℕ, Bool, true, false, All, List, decimal, length, min, sum_by, Option, Some, None, Result, Ok, Err, IfOk, IfSome, IsTrue, OnOk, is_some}
 use Rattle.std.specs.Io.KnownBytes.{Appends}
 use Rattle.std.specs.Borrow.{Bor}
 use Rattle.velo_events.specs.declared.config.Config.{Config}
@@ -86,6 +86,9 @@ on_ok (Err e) f h = tt
 
 pub sayable_by : (schedule : List ThreadId) → length schedule ≤ MOST_TURNS → All (λ t. t.0 < MOST_THREADS) schedule → IsSayable schedule
 sayable_by schedule few threads = record { whole = refl; threads = threads; few = few }
+
+pub not_sayable : (result : Bool) (schedule lent : List ThreadId) → IsTrue result ↔ IsSayable lent → lent ≡ schedule → result ≡ false → ¬ IsSayable schedule
+not_sayable result schedule lent is same none = λ h. false≢true (sym none ∙ is.1 (subst IsSayable (sym same) h))
 
 -- what is told can be said
 said_sayable : (finding said : Finding) → IsSaidFor finding said → IsSayableFinding said

@@ -1,4 +1,4 @@
-use Rattle.std.proofs.Common.{◌×◌, Option}
+use Rattle.std.proofs.Common.{Option}
 use Rattle.velo_schedules.specs.declared.exploration.Exploration.{Exploration}
 use Rattle.velo_worker.specs.declared.ending.Ending.{Ending}
 use Rattle.velo_world.specs.World.{WorldState}

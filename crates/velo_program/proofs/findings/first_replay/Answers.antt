@@ -1,4 +1,4 @@
-use Rattle.std.proofs.Common.{◌×◌, ◌∙◌, sym, Option}
+use Rattle.std.proofs.Common.{◌∙◌, sym, Option}
 use Rattle.velo_schedules.specs.declared.exploration.Exploration.{Exploration}
 use Rattle.velo_worker.specs.declared.ending.Ending.{Ending}
 use Rattle.velo_world.specs.World.{WorldState}
@@ -9,7 +9,7 @@ pub returns-then-is_some-clause-told : goal.returns-then-is_some-clause-told
 returns-then-is_some-clause-told c = λ most so. so
 
 pub returns-then-is_some-clause-run : goal.returns-then-is_some-clause-run
-returns-then-is_some-clause-run c = run_by_alarm c.args.workload.now c.args.config c.args.found c.in_ok-run.run (sym c.is_some.ensures ∙ c.if-is_some.true) c.in_ok-run.ensures.run
+returns-then-is_some-clause-run c = run_by_alarm c.args.workload.now c.args.config c.args.found c.in_ok-run.run' (sym c.is_some.ensures ∙ c.if-is_some.true) c.in_ok-run.ensures.run
 
 pub first_replay_but_alarm-requires-clause-no_alarm : goal.first_replay_but_alarm-requires-clause-no_alarm
 first_replay_but_alarm-requires-clause-no_alarm c = is_unshown c.args.found.alarm _ c.unshown.ensures

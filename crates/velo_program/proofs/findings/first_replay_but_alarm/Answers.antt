@@ -1,4 +1,4 @@
-use Rattle.std.proofs.Common.{◌×◌, ◌∙◌, sym, Option}
+use Rattle.std.proofs.Common.{◌∙◌, sym, Option}
 use Rattle.velo_schedules.specs.declared.exploration.Exploration.{Exploration}
 use Rattle.velo_worker.specs.declared.ending.Ending.{Ending}
 use Rattle.velo_world.specs.World.{WorldState}
@@ -10,7 +10,7 @@ returns-then-is_some-clause-told c = λ most so. so
 
 pub returns-then-is_some-clause-run : goal.returns-then-is_some-clause-run
 returns-then-is_some-clause-run c =
-    run_by_stuck c.args.workload.now c.args.config c.args.found c.in_ok-run.run c.requires.no_alarm (sym c.is_some.ensures ∙ c.if-is_some.true) c.in_ok-run.ensures.run
+    run_by_stuck c.args.workload.now c.args.config c.args.found c.in_ok-run.run' c.requires.no_alarm (sym c.is_some.ensures ∙ c.if-is_some.true) c.in_ok-run.ensures.run
 
 pub refusal_replay-requires-clause-no_deadlock : goal.refusal_replay-requires-clause-no_deadlock
 refusal_replay-requires-clause-no_deadlock c = is_unshown c.args.found.stuck _ c.unshown.ensures

@@ -7,7 +7,7 @@ returns-then-is_some-clause-told c = λ most so. so
 
 pub returns-then-is_some-clause-run : goal.returns-then-is_some-clause-run
 returns-then-is_some-clause-run c =
-    run_by_refusal c.args.workload.now c.args.config c.args.found c.in_ok-run.run c.requires.no_alarm c.requires.no_deadlock (sym c.is_some.ensures ∙ c.if-is_some.true) c.in_ok-run.ensures.run
+    run_by_refusal c.args.workload.now c.args.config c.args.found c.in_ok-run.run' c.requires.no_alarm c.requires.no_deadlock (sym c.is_some.ensures ∙ c.if-is_some.true) c.in_ok-run.ensures.run
 
 pub returns-clause-told : goal.returns-clause-told
 returns-clause-told c = without_refusal c.args.workload.now c.args.config c.args.found _ c.unshown_refusal.ensures
