@@ -7,8 +7,8 @@ report-requires g c = rw c.in-Some.is at c.requires
 pub returns-in-Some : goal.returns-in-Some
 returns-in-Some g c = rw c.in-Some.is c.report.ensures
 
-pub returns-in-None-in-Ok : goal.returns-in-None-in-Ok
-returns-in-None-in-Ok g c = rw c.in-None.is (refl, (c.in-Ok.ensures.ok, c.in-Ok.ensures.no_failure))
+pub returns-in-Ok : goal.returns-in-Ok
+returns-in-Ok g c = rw c.in-None.is (refl, (c.in-Ok.ensures.ok, c.in-Ok.ensures.no_failure))
 
-pub returns-in-None-in-Err : goal.returns-in-None-in-Err
-returns-in-None-in-Err g c = rw c.in-None.is (inr (refl, (c.in-Err.ensures.err, c.in-Err.ensures.failure)))
+pub returns-in-Err : goal.returns-in-Err
+returns-in-Err g c = rw c.in-None.is (inr (refl, (c.in-Err.ensures.err, c.in-Err.ensures.failure)))
