@@ -3,6 +3,7 @@ pub mod OnVerdicts
 mod OnDelivery
 mod OnEndings
 mod OnExplaining
+mod OnFates
 mod OnFindings
 mod OnPlaying
 mod OnSchedules

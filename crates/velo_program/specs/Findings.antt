@@ -152,3 +152,16 @@ abbrev pub Explores : ExploreOptions → Program → Store → Writing → Fate 
 Explores options program store stdout f =
     (answer : Answer) × (IsExplored options program answer ⊎ LacksMemory answer)
     × IsDelivered store options.target stdout answer f
+
+-- ---- what it comes to, finding by finding
+
+abbrev pub fate_of_refusal : RefusalFinding → Fate → Fate
+fate_of_refusal (refusals.Shown run) otherwise =
+    fate.Finished (Refused run.thread run.refusal) false
+fate_of_refusal refusals.Never otherwise = otherwise
+fate_of_refusal refusals.Open otherwise = fate.Open
+
+abbrev pub fate_without_alarm : Finding → RefusalFinding → Fate → Fate
+fate_without_alarm (Shown schedule) refused otherwise = fate.Finished Stuck false
+fate_without_alarm Never refused otherwise = fate_of_refusal refused otherwise
+fate_without_alarm Open refused otherwise = fate_of_refusal refused fate.Open

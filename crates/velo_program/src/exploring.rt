@@ -3,7 +3,7 @@ ghost use Rattle.std.specs.Prelude.{◌≡◌, IfSome, is_some};
 ghost use Rattle.velo_program.specs.Check.{IsOrderOrCycle};
 ghost use Rattle.velo_program.specs.Disk.{store};
 ghost use Rattle.velo_program.specs.Exploring.{fate_of_exploration, run_of};
-ghost use Rattle.velo_program.specs.Findings.{Explores, ReportsOrLacks, TellsReplay, TellsRun, WritesBehind};
+ghost use Rattle.velo_program.specs.Findings.{Explores, ReportsOrLacks, TellsReplay, TellsRun, WritesBehind, fate_of_refusal, fate_without_alarm};
 ghost use Rattle.velo_program.specs.Program.{DoesExplore};
 ghost use Rattle.velo_program.specs.Steps.{HasAlarm};
 ghost use Rattle.velo_program.specs.Writing.{writing};
@@ -38,34 +38,49 @@ fn run_of<'a>(options: &ExploreOptions<'a>) -> RunOptions<'a>
     }
 }
 
+/// What a refusal comes to; else this, if all was tried.
+fn fate_of_refusal(refused: &RefusalFinding, otherwise: Fate) -> Fate
+    ensures { result ≡ fate_of_refusal refused.now otherwise }
+{
+    match refused {
+        RefusalFinding::Shown(run) => Fate::Finished {
+            ending: Ending::Refused(run.thread, run.refusal),
+            alarm: false,
+        },
+        RefusalFinding::Never => otherwise,
+        RefusalFinding::Open => Fate::Open,
+    }
+}
+
+/// What a deadlock comes to; else a refusal; else this, if all was tried.
+fn fate_without_alarm(stuck: &Finding, refused: &RefusalFinding, otherwise: Fate) -> Fate
+    ensures { result ≡ fate_without_alarm stuck.now refused.now otherwise }
+{
+    match stuck {
+        Finding::Shown(_) => Fate::Finished {
+            ending: Ending::Stuck,
+            alarm: false,
+        },
+        Finding::Never => fate_of_refusal(refused, otherwise),
+        Finding::Open => fate_of_refusal(refused, Fate::Open),
+    }
+}
+
 /// What an exploration comes to.
 fn fate_of(exploration: &Exploration) -> Fate
     ensures { result ≡ fate_of_exploration exploration.now }
 {
-    let Exploration {
-        alarm,
-        stuck,
-        refused,
-        ..
-    } = exploration;
-    match (alarm, stuck, refused) {
-        (Finding::Shown(_), _, _) => Fate::Finished {
+    let clean = Fate::Finished {
+        ending: Ending::Done,
+        alarm: false,
+    };
+    match &exploration.alarm {
+        Finding::Shown(_) => Fate::Finished {
             ending: Ending::Done,
             alarm: true,
         },
-        (_, Finding::Shown(_), _) => Fate::Finished {
-            ending: Ending::Stuck,
-            alarm: false,
-        },
-        (_, _, RefusalFinding::Shown(run)) => Fate::Finished {
-            ending: Ending::Refused(run.thread, run.refusal),
-            alarm: false,
-        },
-        (Finding::Never, Finding::Never, RefusalFinding::Never) => Fate::Finished {
-            ending: Ending::Done,
-            alarm: false,
-        },
-        _ => Fate::Open,
+        Finding::Never => fate_without_alarm(&exploration.stuck, &exploration.refused, clean),
+        Finding::Open => fate_without_alarm(&exploration.stuck, &exploration.refused, Fate::Open),
     }
 }
 
