@@ -11,7 +11,6 @@ mod logs;
 mod precedence;
 mod reports;
 mod slow;
-mod watching;
 mod workloads;
 
 use std::alloc::Global;
