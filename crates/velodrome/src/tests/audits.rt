@@ -15,8 +15,22 @@ const UNREADABLE: &str = "vlog 2 1 0 0\n0 end\nend\n";
 
 const CLEAN: &str = "vlog 1 1 0 0\n0 begin 7\n0 end\n";
 
-const WITNESS: &str =
-    "not atomic 7 flush\n  line 6 `0 wr 0 1` closes a cycle of 2 transactions\n  T1: thread 0 main, block 7 flush, lines 3 to 6\n  T2: thread 1, outside blocks, line 5\n  T1 before T2:\n    line 4 `0 rd 0 0`\n      in block 7 flush\n    line 5 `1 wr 0 5`\n  T2 before T1:\n    line 5 `1 wr 0 5`\n    line 6 `0 wr 0 1`\n      in block 7 flush\n  block 7 flush, from line 3: line 5 `1 wr 0 5` must come after its begin and before line 6\natomic 0 labels\nrounds 2\n";
+const WITNESS: &str = "\
+not atomic 7 flush\n  \
+line 6 `0 wr 0 1` closes a cycle of 2 transactions\n  \
+T1: thread 0 main, block 7 flush, lines 3 to 6\n  \
+T2: thread 1, outside blocks, line 5\n  \
+T1 before T2:\n    \
+line 4 `0 rd 0 0`\n      \
+in block 7 flush\n    \
+line 5 `1 wr 0 5`\n  \
+T2 before T1:\n    \
+line 5 `1 wr 0 5`\n    \
+line 6 `0 wr 0 1`\n      \
+in block 7 flush\n  \
+block 7 flush, from line 3: line 5 `1 wr 0 5` must come after its begin and before line 6\n\
+atomic 0 labels\n\
+rounds 2\n";
 
 /// What the program tells of these files.
 struct Told {
