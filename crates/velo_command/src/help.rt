@@ -76,7 +76,7 @@ Refusals:
 /// Behind the help of `replay`.
 pub const OF_REPLAY: &str = "\
 Example, two threads that take two locks in opposite orders:
-  printf 'lock m\\nlock n\\nthread main\\nfork a\\nacquire m\\nacquire n\\nrelease n\\nrelease m\\nthread a\\nacquire n\\nacquire m\\nrelease m\\nrelease n\\n' | velodrome replay - --schedule '0 0 1'
+  printf 'lock m\\nlock n\\nthread main\\nfork a\\nacquire m\\nacquire n\\nrelease n\\nrelease m\\nthread a\\nacquire n\\nacquire m\\nrelease m\\nrelease n\\n' | velodrome replay - --schedule '0*2 1'
 It reports three events and 'verdict clean', and says 'stuck', with status 4.
 
 The workload: 'var NAME' and 'lock NAME' first; then for each thread a line 'thread NAME' and its statements, one a

@@ -3,7 +3,6 @@ pub mod OnVerdicts
 mod OnDelivery
 mod OnExplaining
 mod OnPlaying
-mod OnSchedules
 mod OnWatching
 mod OnReading
 mod OnNaming

@@ -34,8 +34,8 @@ use Rattle.velo_program.specs.declared.request.RunOptions.{RunOptions}
 use Rattle.velo_program.specs.declared.request.Request.{Request}
 use Rattle.velo_program.specs.declared.request.WatchOptions.{WatchOptions}
 use Rattle.velo_program.specs.declared.request.Request.TheVariants as request
-use Rattle.velo_program.specs.declared.schedule.ScheduleFault.{ScheduleFault}
-use Rattle.velo_program.specs.declared.schedule.ScheduleFault.TheVariants as schedule_fault
+use Rattle.velo_turns.specs.declared.schedule.ScheduleFault.{ScheduleFault}
+use Rattle.velo_turns.specs.declared.schedule.ScheduleFault.TheVariants as schedule_fault
 use Rattle.velo_worker.specs.declared.ending.Ending.{Ending}
 use Rattle.velo_worker.specs.declared.ending.Ending.TheVariants as ending
 use Rattle.velo_worker.specs.Causes.{RefusedByGrowth}
@@ -53,7 +53,7 @@ use Rattle.velo_program.specs.Ignoring.{AsksInVain, MeanNothing}
 use Rattle.velo_program.specs.Naming.{HaveFaultOfNames, LacksNames, SayNoNames}
 use Rattle.velo_program.specs.Playing.{ByThreads, ByTurns, IsPlayAnswer, IsRunOf, IsSaidOfRun, IsUnread, Play}
 use Rattle.velo_program.specs.Program.{Does, DoesPlay}
-use Rattle.velo_program.specs.Schedule.{IsFaultOfSchedule}
+use Rattle.velo_turns.specs.Schedule.{IsFaultOfSchedule}
 use Rattle.velo_program.specs.Watching.{EndsBehind, IsFaultOfHeader, IsWatchAnswer, Watches}
 use Rattle.velo_program.specs.Writing.{Writing}
 

@@ -17,7 +17,7 @@ use Rattle.velo_program.specs.Delivery.{Answer, IsDelivered, silent}
 use Rattle.velo_program.specs.Disk.{Disk, Store}
 use Rattle.velo_program.specs.Playing.{ByThreads, ByTurns, IsFaultOfText, IsFaultOfWork, IsRunAnswer, IsSaidOfRun, IsTextOf, IsUnread, Play}
 use Rattle.velo_program.specs.Reading.{FailuresAsTold, Reading, failures_told}
-use Rattle.velo_program.specs.Schedule.{IsSchedule}
+use Rattle.velo_turns.specs.Schedule.{IsSchedule}
 use Rattle.velo_program.specs.Writing.{Writing, WritesNothing}
 use Rattle.velo_program.specs.Steps.{IsReadOf, IsSaved, OpensNoProgram, OpensProgram}
 use Rattle.velo_program.proofs.OnDelivery.{delivered_reads, same_fate}

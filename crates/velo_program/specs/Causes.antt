@@ -11,8 +11,8 @@ use Rattle.velo_workload.specs.declared.fault.WorkFault.{WorkFault}
 use Rattle.velo_workload.specs.declared.fault.WorkFault.TheVariants as work_fault
 use Rattle.velo_program.specs.declared.request.Request.{Request}
 use Rattle.velo_program.specs.declared.request.Request.TheVariants as request
-use Rattle.velo_program.specs.declared.schedule.ScheduleFault.{ScheduleFault}
-use Rattle.velo_program.specs.declared.schedule.ScheduleFault.TheVariants as schedule_fault
+use Rattle.velo_turns.specs.declared.schedule.ScheduleFault.{ScheduleFault}
+use Rattle.velo_turns.specs.declared.schedule.ScheduleFault.TheVariants as schedule_fault
 use Rattle.velo_program.specs.declared.check.CheckFault.{CheckFault}
 use Rattle.velo_program.specs.declared.check.CheckFault.TheVariants as check_fault
 use Rattle.velo_program.specs.declared.fate.Fate.{Fate}

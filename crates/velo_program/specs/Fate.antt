@@ -16,8 +16,8 @@ use Rattle.velo_worker.specs.declared.ending.Ending.TheVariants as ending
 use Rattle.velo_workload.specs.declared.fault.WorkFault.{WorkFault}
 use Rattle.velo_workload.specs.declared.fault.WorkFault.TheVariants as work_fault
 use Rattle.velo_program.specs.Writing.{BreaksOff, Writing, Writes}
-use Rattle.velo_program.specs.declared.schedule.ScheduleFault.{ScheduleFault}
-use Rattle.velo_program.specs.declared.schedule.ScheduleFault.TheVariants as schedule_fault
+use Rattle.velo_turns.specs.declared.schedule.ScheduleFault.{ScheduleFault}
+use Rattle.velo_turns.specs.declared.schedule.ScheduleFault.TheVariants as schedule_fault
 use Rattle.velo_program.specs.declared.check.Verdict.{Verdict}
 use Rattle.velo_program.specs.declared.check.Verdict.TheVariants as verdict
 use Rattle.velo_program.specs.declared.check.CheckFault.{CheckFault}

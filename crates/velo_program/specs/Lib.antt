@@ -12,7 +12,6 @@ pub mod Naming
 pub mod Playing
 pub mod Program
 pub mod Reading
-pub mod Schedule
 pub mod Steps
 pub mod Watching
 pub mod Writing

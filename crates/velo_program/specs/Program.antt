@@ -23,7 +23,7 @@ use Rattle.velo_program.specs.declared.request.Request.{Request}
 use Rattle.velo_program.specs.declared.request.Request.TheVariants.{Audit, Carry, Check, Explain, Replay, Run, Watch}
 use Rattle.velo_program.specs.declared.request.RunOptions.{RunOptions}
 use Rattle.velo_program.specs.declared.request.WatchOptions.{WatchOptions}
-use Rattle.velo_program.specs.declared.schedule.ScheduleFault.{ScheduleFault}
+use Rattle.velo_turns.specs.declared.schedule.ScheduleFault.{ScheduleFault}
 use Rattle.velo_program.specs.Auditing.{IsAuditAnswer}
 use Rattle.velo_program.specs.Carrying.{IsCarryAnswer, IsPut}
 use Rattle.velo_program.specs.Check.{IsCheckAnswer}
@@ -34,7 +34,7 @@ use Rattle.velo_program.specs.Ignoring.{AsksInVain, IsAsked}
 use Rattle.velo_program.specs.Naming.{AreNamesOf, AreShown, LacksNames}
 use Rattle.velo_program.specs.Playing.{ByThreads, ByTurns, IsPlayAnswer, Play}
 use Rattle.velo_program.specs.Reading.{FailuresAsTold, Reading}
-use Rattle.velo_program.specs.Schedule.{IsFaultOfSchedule, IsSchedule}
+use Rattle.velo_turns.specs.Schedule.{IsFaultOfSchedule, IsSchedule}
 use Rattle.velo_program.specs.Watching.{Watches}
 use Rattle.velo_program.specs.Writing.{Writing, WritesNothing}
 

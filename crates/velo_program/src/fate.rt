@@ -6,11 +6,11 @@ ghost use Rattle.velo_program.specs.Fate.{Ends, number_of, status_of, status_of_
 
 use crate::check::CheckFault;
 use crate::request::{Ignorable, Operand};
-use crate::schedule::ScheduleFault;
 use crate::status::{ALARM, BAD_INPUT, DONE, FAILED, INCOMPLETE};
 use velo_events::{Refusal, ThreadId};
 use velo_logtext::{LogFault, Sink, WriteFault, put_bytes, put_number, write_all};
 use velo_names::NamesFault;
+use velo_turns::ScheduleFault;
 use velo_worker::Ending;
 use velo_workload::WorkFault;
 

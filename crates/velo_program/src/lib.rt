@@ -14,7 +14,6 @@ mod reading;
 mod replaying;
 mod request;
 mod running;
-mod schedule;
 pub mod status;
 mod watching;
 mod work;
@@ -30,4 +29,4 @@ pub use request::{
     AuditOptions, CarryOptions, CheckOptions, ExplainOptions, Ignorable, Limits, Operand,
     ReplayOptions, Request, RunOptions, WatchOptions,
 };
-pub use schedule::{MOST_TURNS, ScheduleFault, schedule_of};
+pub use velo_turns::{MOST_TURNS, ScheduleFault, schedule_of};

@@ -8,11 +8,11 @@ ghost use Rattle.velo_program.specs.Steps.{Plays};
 use crate::fate::Fate;
 use crate::files::Files;
 use crate::request::{ReplayOptions, RunOptions};
-use crate::schedule::schedule_of;
 use crate::work::{config_of_run, finish_run, open_workload};
 use std::alloc::Global;
 use velo_events::{Memory, ThreadId};
 use velo_logtext::Sink;
+use velo_turns::schedule_of;
 use velo_worker::replay;
 use velo_workload::Workload;
 

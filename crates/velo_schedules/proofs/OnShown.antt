@@ -1,10 +1,11 @@
 -- What is shown was replayed.
-use Rattle.std.proofs.Common.{◌≡◌, Bool, true, false, List, Option, Some, None, refl, subst}
+use Rattle.std.proofs.Common.{◌≡◌, Bool, true, false, List, Option, Some, None, refl, sym, subst, ◌∙◌}
 use Rattle.std.specs.Borrow.{Bor}
 use Rattle.std.specs.Prelude.{IfSome, IsTrue, IsFalse, is_some, not}
 use Rattle.std.proofs.lemmas.Bool.{false≢true}
 use Rattle.velo_events.specs.declared.config.Config.{Config}
 use Rattle.velo_events.specs.declared.event.ThreadId.{ThreadId}
+use Rattle.velo_events.specs.Graph.{HasCycle}
 use Rattle.velo_events.proofs.OnGraphs.{HasCycle-from_closing}
 use Rattle.velo_workload.specs.Program.{Program}
 use Rattle.velo_world.specs.declared.analysis.Alarm.{Alarm}
@@ -13,33 +14,45 @@ use Rattle.velo_worker.specs.declared.ending.Ending.{Ending}
 use Rattle.velo_worker.specs.declared.ending.Ending.TheVariants.{Stuck, Refused}
 use Rattle.velo_worker.specs.Schedule.{Replays}
 use Rattle.velo_schedules.specs.declared.finding.RefusedRun.{RefusedRun}
+use Rattle.velo_schedules.specs.declared.showing.Outcome.{Outcome}
 use Rattle.velo_schedules.specs.Logs.{is_for_room}
-use Rattle.velo_schedules.specs.Told.{ShowsAlarm, ShowsStuck, ShowsRefusal}
+use Rattle.velo_schedules.specs.Told.{IsOutcome, ShowsAlarm, ShowsStuck, ShowsRefusal}
 
 -- what was not found
 pub not_found : (found : Bool) → IsTrue (not found) → IsFalse found
 not_found false _ = refl
 not_found true never = absurd (false≢true never)
 
-module _ (program : Program) (config : Config) (turns : List ThreadId) (ending : Ending) (closed : WorldState) (replays : Replays program turns config ending closed) where
-  pub shows-alarm : (schedule : List ThreadId) → turns ≡ schedule → (alarm : Option (Bor Alarm)) → IsTrue (is_some alarm) → IfSome alarm (λ a. IsAlarm closed.log a.now) → ShowsAlarm program config schedule
-  shows-alarm schedule same None some is = absurd (false≢true some)
-  shows-alarm schedule same (Some alarm) some is = record {
-    ending = ending;
+cycle_by : (closed : WorldState) (alarm : Option (Bor Alarm)) → is_some alarm ≡ true → IfSome alarm (λ a. IsAlarm closed.log a.now) → HasCycle closed.log
+cycle_by closed None some is = absurd (false≢true some)
+cycle_by closed (Some alarm) some is = HasCycle-from_closing closed.log alarm.now.position is.closing
+
+module _ (program : Program) (config : Config) (turns : List ThreadId) (outcome : Outcome) where
+  pub outcome-is : (ending : Ending) (closed : WorldState) → outcome.ending ≡ ending → Replays program turns config ending closed → (alarm : Option (Bor Alarm)) → outcome.alarm ≡ is_some alarm → IfSome alarm (λ a. IsAlarm closed.log a.now) → IsOutcome program config turns outcome
+  outcome-is ending closed ends replays alarm told is = record {
     closed = closed;
-    replays = subst (λ ts. Replays program ts config ending closed) same replays;
-    cycle = HasCycle-from_closing closed.log alarm.now.position is.closing;
+    replays = subst (λ e. Replays program turns config e closed) (sym ends) replays;
+    cycle = λ some. cycle_by closed alarm (sym told ∙ some) is;
   }
 
-  pub shows-stuck : (schedule : List ThreadId) → turns ≡ schedule → ending ≡ Stuck → ShowsStuck program config schedule
-  shows-stuck schedule same stuck = record {
-    closed = closed;
-    replays = subst (λ ts. Replays program ts config Stuck closed) same (subst (λ e. Replays program turns config e closed) stuck replays);
-  }
+  module _ (h : IsOutcome program config turns outcome) where
+    pub shows-alarm : (schedule : List ThreadId) → turns ≡ schedule → outcome.alarm ≡ true → ShowsAlarm program config schedule
+    shows-alarm schedule same alarm = record {
+      ending = outcome.ending;
+      closed = h.closed;
+      replays = subst (λ ts. Replays program ts config outcome.ending h.closed) same h.replays;
+      cycle = h.cycle alarm;
+    }
 
-  pub shows-refusal : (run : RefusedRun) → turns ≡ run.schedule.items → ending ≡ Refused run.thread run.refusal → IsFalse (is_for_room run.refusal) → ShowsRefusal program config run
-  shows-refusal run same refused lasting = record {
-    closed = closed;
-    replays = subst (λ ts. Replays program ts config (Refused run.thread run.refusal) closed) same (subst (λ e. Replays program turns config e closed) refused replays);
-    lasting = lasting;
-  }
+    pub shows-stuck : (schedule : List ThreadId) → turns ≡ schedule → outcome.ending ≡ Stuck → ShowsStuck program config schedule
+    shows-stuck schedule same stuck = record {
+      closed = h.closed;
+      replays = subst (λ ts. Replays program ts config Stuck h.closed) same (subst (λ e. Replays program turns config e h.closed) stuck h.replays);
+    }
+
+    pub shows-refusal : (run : RefusedRun) → turns ≡ run.schedule.items → outcome.ending ≡ Refused run.thread run.refusal → IsFalse (is_for_room run.refusal) → ShowsRefusal program config run
+    shows-refusal run same refused lasting = record {
+      closed = h.closed;
+      replays = subst (λ ts. Replays program ts config (Refused run.thread run.refusal) h.closed) same (subst (λ e. Replays program turns config e h.closed) refused h.replays);
+      lasting = lasting;
+    }

@@ -15,7 +15,7 @@ use Rattle.velo_explore.specs.Faults.{Cycle, Stuck, Refusing, IsFault}
 use Rattle.velo_explore.specs.Runs.{script_of, Never}
 use Rattle.velo_explore.specs.Search.{ArePlain, AreShort}
 use Rattle.velo_schedules.specs.Logs.{AlwaysSerializable, NeverStuck, NeverRefused}
-use Rattle.velo_schedules.specs.Bodies.{operation, operations_of, operations_by, scripts, all_scripts}
+use Rattle.velo_schedules.specs.Bodies.{operation, operations_of, operations_by, all_scripts}
 use Rattle.velo_schedules.proofs.OnPlainLogs.{script_in, ArePlain-bodies, AlwaysSerializable-runs, NeverStuck-runs, NeverRefused-runs}
 use Rattle.velo_explore.proofs.OnWanted.{known-few, searched-stuck, searched-refused}
 

@@ -1,5 +1,5 @@
 -- What is told of all schedules of a program.
-use Rattle.std.specs.Prelude.{⊤, List, IsFalse}
+use Rattle.std.specs.Prelude.{◌≡◌, ⊤, true, List, IsFalse}
 use Rattle.velo_events.specs.declared.config.Config.{Config}
 use Rattle.velo_events.specs.declared.event.ThreadId.{ThreadId}
 use Rattle.velo_events.specs.Graph.{HasCycle}
@@ -13,7 +13,14 @@ use Rattle.velo_schedules.specs.declared.finding.Finding.TheVariants.{Shown, Nev
 use Rattle.velo_schedules.specs.declared.finding.RefusalFinding.{RefusalFinding}
 use Rattle.velo_schedules.specs.declared.finding.RefusalFinding.TheVariants as refusals
 use Rattle.velo_schedules.specs.declared.finding.RefusedRun.{RefusedRun}
+use Rattle.velo_schedules.specs.declared.showing.Outcome.{Outcome}
 use Rattle.velo_schedules.specs.Logs.{AlwaysSerializable, NeverStuck, NeverRefused, is_for_room}
+
+-- by the schedule the program replays to this ending, and where there is an alarm, to a log with a cycle
+pub record IsOutcome (program : Program) (config : Config) (schedule : List ThreadId) (outcome : Outcome) : Type 0 where
+  pub closed : WorldState
+  pub replays : Replays program schedule config outcome.ending closed
+  pub cycle : outcome.alarm ≡ true → HasCycle closed.log
 
 -- by the schedule the program replays to a log with a cycle
 pub record ShowsAlarm (program : Program) (config : Config) (schedule : List ThreadId) : Type 0 where

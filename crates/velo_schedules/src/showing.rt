@@ -2,9 +2,8 @@
 ghost use Rattle.std.specs.Prelude.{◌≡◌, true, IsFalse, IfOk, IfSome, OnErr};
 ghost use Rattle.velo_events.specs.Refusals.{GrowthRefused};
 ghost use Rattle.velo_worker.specs.declared.ending.Ending.TheVariants.{Refused};
-ghost use Rattle.velo_worker.specs.Schedule.{Replays};
 ghost use Rattle.velo_schedules.specs.Logs.{AlwaysSerializable, NeverStuck, NeverRefused, is_for_room};
-ghost use Rattle.velo_schedules.specs.Told.{AlarmTold, StuckTold, RefusalTold, ShowsRefusal};
+ghost use Rattle.velo_schedules.specs.Told.{AlarmTold, IsOutcome, StuckTold, RefusalTold, ShowsRefusal};
 
 use crate::finding::{Finding, RefusalFinding, RefusedRun};
 use std::alloc::Global;
@@ -12,23 +11,36 @@ use velo_events::growth::reserve;
 use velo_events::{Config, Memory, Refusal, ThreadId};
 use velo_worker::{Ending, replay};
 use velo_workload::Workload;
-use velo_world::Closed;
 
-/// The replay by a schedule. One that ends for want of memory is none.
-fn replayed(
+/// What a replay came to.
+#[derive(Clone, Copy, Debug, PartialEq, Eq)]
+pub(crate) struct Outcome {
+    /// Whether its log has a cycle.
+    pub alarm: bool,
+    /// How it ended.
+    pub ending: Ending,
+}
+
+/// What the replay by a schedule comes to. One that ends for want of memory is none.
+fn outcome_of(
     alloc: Global,
     workload: &Workload,
     schedule: &[ThreadId],
     config: Config,
-) -> Result<(Closed, Ending), Memory>
+) -> Result<Outcome, Memory>
     requires { config.bounds ≡ workload.now.bounds }
-    ensures replays { IfOk result (λ run. Replays workload.now schedule.now config run.1 run.0) }
+    ensures outcome { IfOk result (IsOutcome workload.now config schedule.now) }
     ensures memory { OnErr result GrowthRefused }
 {
-    let (closed, ending) = replay(alloc, workload, schedule, config)?;
-    match ending {
+    let run = replay(alloc, workload, schedule, config)?;
+    let outcome = Outcome {
+        alarm: run.0.alarm().is_some(),
+        ending: run.1,
+    };
+    drop(run);
+    match outcome.ending {
         Ending::Refused(_, Refusal::Memory) => Err(Memory),
-        _ => Ok((closed, ending)),
+        _ => Ok(outcome),
     }
 }
 
@@ -51,8 +63,8 @@ pub(crate) fn tell_alarm(
     let Some(schedule) = found else {
         return Ok(Finding::Open);
     };
-    let (closed, _) = replayed(alloc, workload, &schedule, config)?;
-    if closed.alarm().is_some() {
+    let outcome = outcome_of(alloc, workload, &schedule, config)?;
+    if outcome.alarm {
         Ok(Finding::Shown(schedule))
     } else {
         Ok(Finding::Open)
@@ -78,8 +90,8 @@ pub(crate) fn tell_stuck(
     let Some(schedule) = found else {
         return Ok(Finding::Open);
     };
-    let (_, ending) = replayed(alloc, workload, &schedule, config)?;
-    match ending {
+    let outcome = outcome_of(alloc, workload, &schedule, config)?;
+    match outcome.ending {
         Ending::Stuck => Ok(Finding::Shown(schedule)),
         _ => Ok(Finding::Open),
     }
@@ -137,8 +149,8 @@ fn refused_run(
     ensures memory { OnErr result GrowthRefused }
 {
     let schedule = with_turn(alloc, schedule, thread)?;
-    let (_, ending) = replayed(alloc, workload, &schedule, config)?;
-    match lasting_refusal(ending) {
+    let outcome = outcome_of(alloc, workload, &schedule, config)?;
+    match lasting_refusal(outcome.ending) {
         Some((thread, refusal)) => Ok(Some(RefusedRun {
             schedule,
             thread,

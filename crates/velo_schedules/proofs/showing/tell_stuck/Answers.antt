@@ -6,4 +6,4 @@ returns-then-ruled_out-clause-told c = c.requires.ruled_out c.if-ruled_out.true
 
 pub returns-in-Stuck-clause-told : goal.returns-in-Stuck-clause-told
 returns-in-Stuck-clause-told c =
-    shows-stuck c.args.workload.now c.args.config c.deref.result.now _ _ c.in_ok-ending.ensures.replays _ c.deref.ensures.value c.in-Stuck.is
+    shows-stuck c.args.workload.now c.args.config c.deref.result.now _ c.in_ok-outcome.ensures.outcome _ c.deref.ensures.value c.in-Stuck.is

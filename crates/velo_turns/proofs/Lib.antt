@@ -1,0 +1,3 @@
+pub mod OnWords
+pub mod OnTexts
+pub mod OnShort

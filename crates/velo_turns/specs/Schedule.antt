@@ -1,0 +1,47 @@
+-- The text of a schedule.
+use Rattle.std.specs.Prelude.{◌≡◌, ◌≤◌, ◌<◌, ◌++◌, ◌∷◌, ◌==◌, [], ℕ, List, All, length, decimal, replicate, if◌then◌else◌}
+use Rattle.velo_events.specs.declared.event.ThreadId.{ThreadId}
+use Rattle.velo_events.specs.declared.limits.TheConstants.{MOST_THREADS}
+use Rattle.velo_events.specs.Refusals.{GrowthRefused}
+use Rattle.velo_turns.specs.declared.limits.TheConstants.{MOST_TURNS}
+use Rattle.velo_turns.specs.declared.turns.Turns.{Turns}
+use Rattle.velo_turns.specs.declared.schedule.ScheduleFault.{ScheduleFault}
+use Rattle.velo_turns.specs.declared.schedule.ScheduleFault.TheVariants.{Bad, Memory}
+
+-- `3` is one turn of thread 3, and `3*2` are two
+abbrev pub turns_text : Turns → List ℕ
+turns_text turns = decimal turns.thread.0 ++ (if turns.count == 1 then [] else 42 ∷ decimal turns.count)
+
+-- of a thread that there may be, and not too many
+pub record AreTurns (turns : Turns) : Type 0 where
+  pub thread : turns.thread.0 < MOST_THREADS
+  pub some : 1 ≤ turns.count
+  pub few : turns.count ≤ MOST_TURNS
+
+-- words, each behind a space
+abbrev pub spaced : List Turns → List ℕ
+spaced [] = []
+spaced (turns ∷ rest) = 32 ∷ (turns_text turns ++ spaced rest)
+
+-- words, parted by one space
+abbrev pub words_text : List Turns → List ℕ
+words_text [] = []
+words_text (turns ∷ rest) = turns_text turns ++ spaced rest
+
+-- the turns of words, one after another
+abbrev pub in_order : List Turns → List ThreadId
+in_order [] = []
+in_order (turns ∷ rest) = replicate turns.count turns.thread ++ in_order rest
+
+-- the text is this schedule's: words that say its turns
+pub record IsSchedule (text : List ℕ) (schedule : List ThreadId) : Type 0 where
+  pub words : List Turns
+  pub each : All AreTurns words
+  pub whole : text ≡ words_text words
+  pub turns : schedule ≡ in_order words
+  pub few : length schedule ≤ MOST_TURNS
+
+-- why a text is none
+abbrev pub IsFaultOfSchedule : List ℕ → ScheduleFault → Type 0
+IsFaultOfSchedule text Bad = (schedule : List ThreadId) → ¬ IsSchedule text schedule
+IsFaultOfSchedule text Memory = GrowthRefused

@@ -1,0 +1,15 @@
+//! Schedules as text: `0*3 1 0` is three turns of thread 0, one of thread 1 and one more of thread 0.
+#![tactic(auto)]
+
+mod laws;
+mod limits;
+mod schedule;
+mod short;
+#[cfg(test)]
+mod tests;
+mod turns;
+
+pub use laws::{one_schedule, reads_back};
+pub use limits::MOST_TURNS;
+pub use schedule::{ScheduleFault, schedule_of};
+pub use short::append_turns;

@@ -1,0 +1,67 @@
+//! Reading the text of a schedule.
+ghost use Rattle.std.specs.Prelude.{◌≡◌, ◌≤◌, ◌+◌, ◌<◌, ◌++◌, replicate, vec_len, Err, OnOk, IfOk, IfErr};
+ghost use Rattle.velo_events.specs.Refusals.{GrowthRefused};
+ghost use Rattle.velo_turns.specs.declared.schedule.ScheduleFault.TheVariants as schedule_fault;
+ghost use Rattle.velo_turns.specs.Schedule.{IsSchedule, IsFaultOfSchedule};
+
+use crate::limits::MOST_TURNS;
+use crate::turns::{Turns, turns_in};
+use std::alloc::Global;
+use thiserror::Error;
+use velo_events::growth::resize;
+use velo_events::{Memory, ThreadId};
+
+/// Why a text is no schedule.
+#[derive(Clone, Copy, Debug, PartialEq, Eq, Error)]
+pub enum ScheduleFault {
+    /// It is the text of no schedule: see [`schedule_of`].
+    #[error("bad schedule")]
+    Bad,
+    /// A growth was refused.
+    #[error("out of memory")]
+    Memory,
+}
+
+/// Adds the turns of a word to a schedule.
+fn push(schedule: &mut Vec<ThreadId>, turns: Turns) -> Result<(), ScheduleFault>
+    ensures pushed { OnOk result (schedule.new.items ≡ schedule.old.items ++ replicate turns.count turns.thread) }
+    ensures few { OnOk result (vec_len schedule.new ≤ MOST_TURNS) }
+    ensures full { result ≡ Err schedule_fault.Bad → MOST_TURNS < vec_len schedule.old + turns.count }
+    ensures memory { result ≡ Err schedule_fault.Memory → GrowthRefused }
+{
+    let len = schedule.len();
+    if len > MOST_TURNS || turns.count > MOST_TURNS - len {
+        return Err(ScheduleFault::Bad);
+    }
+    match resize(schedule, len + turns.count, turns.thread) {
+        Ok(()) => Ok(()),
+        Err(Memory) => Err(ScheduleFault::Memory),
+    }
+}
+
+/// Reads a schedule: the threads whose turns come one after another. The text has words parted by one space. A word is
+/// a thread's number, below [`MOST_THREADS`](velo_events::MOST_THREADS), for one turn, or such a number, a star and how
+/// many turns, 2 or more. Numbers have no leading zeros. There are at most [`MOST_TURNS`] turns in all; the empty text
+/// is the empty schedule.
+///
+/// # Errors
+/// `Bad` for another text, `Memory` where a growth was refused.
+pub fn schedule_of(alloc: Global, text: &str) -> Result<Vec<ThreadId>, ScheduleFault>
+    ensures schedule { IfOk result (λ schedule. IsSchedule text.now schedule.items) }
+    ensures fault { IfErr result (IsFaultOfSchedule text.now) }
+{
+    let mut schedule = Vec::new(alloc);
+    if text.is_empty() {
+        return Ok(schedule);
+    }
+    for word in text.split(' ') {
+        let Some(turns) = turns_in(word.as_bytes()) else {
+            return Err(ScheduleFault::Bad);
+        };
+        match push(&mut schedule, turns) {
+            Ok(()) => {}
+            Err(fault) => return Err(fault),
+        }
+    }
+    Ok(schedule)
+}

@@ -1,0 +1,79 @@
+//! Writing a schedule in as few words as there can be.
+ghost use Rattle.std.specs.Prelude.{◌≡◌, ◌≤◌, ◌<◌, ◌++◌, ◌∷◌, drop, length, decimal, OnOk, OnErr};
+ghost use Rattle.velo_events.specs.Refusals.{GrowthRefused};
+ghost use Rattle.velo_turns.specs.Schedule.{spaced, turns_text};
+ghost use Rattle.velo_turns.specs.Short.{longest};
+
+use crate::turns::Turns;
+use velo_events::growth::reserve;
+use velo_events::{Memory, ThreadId};
+use velo_logtext::put_number;
+
+/// Appends bytes.
+fn append(text: &mut Vec<u8>, bytes: &[u8]) -> Result<(), Memory>
+    ensures ok { OnOk result (text.new.items ≡ text.old.items ++ bytes.now) }
+    ensures memory { OnErr result GrowthRefused }
+{
+    reserve(text, bytes.len())?;
+    match text.extend_from_slice(bytes) {
+        Ok(()) => Ok(()),
+        Err(_) => unreachable!(),
+    }
+}
+
+/// Appends the digits of a number.
+fn append_number(text: &mut Vec<u8>, number: u64) -> Result<(), Memory>
+    ensures ok { OnOk result (text.new.items ≡ text.old.items ++ decimal number) }
+    ensures memory { OnErr result GrowthRefused }
+{
+    let mut buffer = [0u8; 20];
+    let end = put_number(&mut buffer, 0, number);
+    append(text, &buffer[..end])
+}
+
+/// Appends a word.
+fn append_word(text: &mut Vec<u8>, turns: Turns) -> Result<(), Memory>
+    ensures ok { OnOk result (text.new.items ≡ text.old.items ++ turns_text turns) }
+    ensures memory { OnErr result GrowthRefused }
+{
+    append_number(text, u64::from(turns.thread.0))?;
+    if turns.count == 1 {
+        return Ok(());
+    }
+    append(text, b"*")?;
+    append_number(text, turns.count as u64)
+}
+
+/// The turns at the front that are all of one thread.
+fn first_turns(schedule: &[ThreadId]) -> Turns
+    requires { 0 < length schedule.now }
+    ensures first { longest schedule.now ≡ result ∷ longest (drop result.count schedule.now) }
+    ensures some { 1 ≤ result.count }
+    ensures within { result.count ≤ length schedule.now }
+{
+    let thread = schedule[0];
+    let mut count = 1;
+    while count < schedule.len() && schedule[count] == thread {
+        count += 1;
+    }
+    Turns { thread, count }
+}
+
+/// Appends the short text of a schedule, each word behind a space: longest stretches of turns of one thread, a star
+/// from two turns on.
+///
+/// # Errors
+/// `Memory` where a growth was refused.
+pub fn append_turns(text: &mut Vec<u8>, schedule: &[ThreadId]) -> Result<(), Memory>
+    ensures ok { OnOk result (text.new.items ≡ text.old.items ++ spaced (longest schedule.now)) }
+    ensures memory { OnErr result GrowthRefused }
+{
+    let mut rest = schedule;
+    while !rest.is_empty() {
+        let turns = first_turns(rest);
+        append(text, b" ")?;
+        append_word(text, turns)?;
+        rest = &rest[turns.count..];
+    }
+    Ok(())
+}

@@ -1,0 +1,67 @@
+//! Schedules as they are read and written.
+use crate::{ScheduleFault, append_turns, schedule_of};
+use std::alloc::Global;
+use std::test::Fail;
+
+/// Whether a text is read and written as this short one, each word behind a space.
+fn is_short(alloc: Global, text: &str, short: &[u8]) -> bool {
+    let mut written = Vec::new(alloc);
+    match schedule_of(alloc, text) {
+        Ok(schedule) => append_turns(&mut written, &schedule).is_ok()
+            && written.as_slice() == short,
+        Err(_) => false,
+    }
+}
+
+/// Whether a text is no schedule's.
+fn is_bad(alloc: Global, text: &str) -> bool {
+    matches!(schedule_of(alloc, text), Err(ScheduleFault::Bad))
+}
+
+#[test]
+fn schedules_are_shortened(rt: HostRuntime) -> Result<(), Fail> {
+    assert_eq!(rt; is_short(rt.alloc(), "", b""), true);
+    assert_eq!(rt; is_short(rt.alloc(), "0", b" 0"), true);
+    assert_eq!(rt; is_short(rt.alloc(), "63", b" 63"), true);
+    assert_eq!(rt; is_short(rt.alloc(), "0 0 0 1 0", b" 0*3 1 0"), true);
+    assert_eq!(rt;
+        is_short(rt.alloc(), "0*2 0 1*2 1*3 0", b" 0*3 1*5 0"),
+        true
+    );
+    assert_eq!(rt; is_short(rt.alloc(), "0*1000000", b" 0*1000000"), true);
+    assert_eq!(rt; is_short(rt.alloc(), "0*999999 12", b" 0*999999 12"), true);
+    Ok(())
+}
+
+#[test]
+fn other_texts_are_bad(rt: HostRuntime) -> Result<(), Fail> {
+    for text in [
+        "64",
+        "01",
+        "0 x",
+        " 0",
+        "0 ",
+        "0  1",
+        "0*",
+        "0*0",
+        "0*1",
+        "0*01",
+        "0*02",
+        "*2",
+        "0**2",
+        "0*2*2",
+        "0* 2",
+        "0*2x",
+        "0*1000001",
+        "0*1000000 1",
+        "1 0*1000000",
+        "-1",
+        "+1",
+        "0,1",
+        "0\n",
+        "9999999999999999999999",
+    ] {
+        assert_eq!(rt; is_bad(rt.alloc(), text), true);
+    }
+    Ok(())
+}
