@@ -9,3 +9,4 @@ mod OnReading
 mod OnNaming
 mod OnAuditing
 mod OnIgnoring
+mod OnListing
