@@ -41,8 +41,8 @@ fn has_control(bytes: &[u8]) -> bool
     false
 }
 
-/// Whether the bytes are a name.
-fn is_name(bytes: &[u8]) -> bool
+/// Whether the bytes are a name: 1 to 200, and no control character among them.
+pub fn is_name(bytes: &[u8]) -> bool
     ensures { result ≡ is_name bytes.now }
 {
     !bytes.is_empty() && bytes.len() <= MOST_NAME_BYTES && !has_control(bytes)

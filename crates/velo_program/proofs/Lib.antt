@@ -8,3 +8,4 @@ mod OnReading
 mod OnNaming
 mod OnAuditing
 mod OnIgnoring
+mod OnListing

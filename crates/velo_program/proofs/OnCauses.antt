@@ -15,6 +15,8 @@ use Rattle.velo_logtext.specs.declared.fault.LogFault.TheVariants as log_fault
 use Rattle.velo_traces.specs.declared.judge.Flaw.TheVariants as flaw
 use Rattle.velo_traces.specs.Flaws.{flaw_of, flaw_by}
 use Rattle.velo_world.specs.Faults.{IsRefusedAt}
+use Rattle.velo_list.specs.declared.fault.ListFault.{ListFault}
+use Rattle.velo_list.specs.declared.fault.ListFault.TheVariants as list_fault
 use Rattle.velo_names.specs.declared.fault.NamesFault.{NamesFault}
 use Rattle.velo_names.specs.declared.fault.NamesFault.TheVariants as names_fault
 use Rattle.velo_names.specs.Names.{NameLists}
@@ -42,7 +44,7 @@ use Rattle.velo_worker.specs.Causes.{RefusedByGrowth}
 use Rattle.velo_workload.specs.Program.{Program}
 use Rattle.velo_workload.specs.declared.fault.WorkFault.TheVariants as work_fault
 use Rattle.velo_world.specs.World.{WorldState}
-use Rattle.velo_program.specs.Causes.{AnswersWithCause, CheckByGrowth, ComesByRefusal, EndsByRefusal, Growths, GrowthsAndStarts, LogByGrowth, NamesByGrowth, Needs, ScheduleByGrowth}
+use Rattle.velo_program.specs.Causes.{AnswersWithCause, CheckByGrowth, ComesByRefusal, EndsByRefusal, Growths, GrowthsAndStarts, ListByGrowth, LogByGrowth, NamesByGrowth, Needs, ScheduleByGrowth}
 use Rattle.velo_program.specs.Auditing.{IsAuditAnswer}
 use Rattle.velo_program.specs.Carrying.{IsCarryAnswer, IsPut}
 use Rattle.velo_program.specs.Check.{IsCheckAnswer, IsFaultOfInput}
@@ -50,6 +52,7 @@ use Rattle.velo_program.specs.Delivery.{Answer, IsDelivered, IsPrinted, LacksMem
 use Rattle.velo_program.specs.Disk.{Disk, IsBarred, Store}
 use Rattle.velo_program.specs.Explaining.{IsExplanation}
 use Rattle.velo_program.specs.Ignoring.{AsksInVain, MeanNothing}
+use Rattle.velo_program.specs.Listing.{HaveFaultOfList, LacksLabels, SayNoLabels}
 use Rattle.velo_program.specs.Naming.{HaveFaultOfNames, LacksNames, SayNoNames}
 use Rattle.velo_program.specs.Playing.{ByThreads, ByTurns, IsPlayAnswer, IsRunOf, IsSaidOfRun, IsUnread, Play}
 use Rattle.velo_program.specs.Program.{Does, DoesPlay}
@@ -199,6 +202,25 @@ unnamed needs disk None f lacks = absurd lacks
 unnamed needs disk (Some path) f (inl closed) = subst (ComesByRefusal needs) (sym closed.0) tt
 unnamed needs disk (Some path) f (inr broken) = unsaid needs broken.read.bytes f broken.unsaid
 
+-- nor a list
+of_list : (read : Option (List ℕ)) (f : ListFault) → HaveFaultOfList read f → ListByGrowth f
+of_list read list_fault.Memory is = is
+of_list read (list_fault.BadLine n) is = tt
+of_list read list_fault.TooManyLines is = tt
+of_list read list_fault.TooManyBytes is = tt
+of_list read list_fault.NotText is = tt
+
+unlisted_by : (needs : Needs) (read : Option (List ℕ)) (f : Fate) → SayNoLabels read f → ComesByRefusal needs f
+unlisted_by needs read (fate.List fault) is = of_list read fault is
+unlisted_by needs read fate.ReadFailed is = tt
+unlisted_by needs read fate.Memory is = is
+unlisted_by needs read f is = absurd is
+
+unlisted : (needs : Needs) (disk : Disk) (path : Option (Bor (List ℕ))) (f : Fate) → LacksLabels disk path f → ComesByRefusal needs f
+unlisted needs disk None f lacks = absurd lacks
+unlisted needs disk (Some path) f (inl closed) = subst (ComesByRefusal needs) (sym closed.0) tt
+unlisted needs disk (Some path) f (inr broken) = unlisted_by needs broken.read.bytes f broken.unsaid
+
 -- nor what is to be ignored
 of_words : (needs : Needs) (names : NameLists) (what : Ignorable) (words : List (Bor (List ℕ))) (f : Fate) → MeanNothing names what words f → ComesByRefusal needs f
 of_words needs names what words (fate.Ignored it) is = tt
@@ -256,6 +278,7 @@ of_done store (request.Replay options) stdout f (inr h) = played Growths (ByTurn
 of_done store (request.Watch options) stdout f (inl h) = unread Growths store.disk Log options.input.now None f h.0
 of_done store (request.Watch options) stdout f (inr h) = of_watch options h.0.bytes stdout f h.3
 of_done store (request.Audit options) stdout f (inl h) = unnamed Growths store.disk options.names f h.0
-of_done store (request.Audit options) stdout f (inr (names, read, inl h)) = unmeant Growths names options f h.0
-of_done store (request.Audit options) stdout f (inr (names, read, inr (asked, asks, inl h))) = unread Growths store.disk Log options.input.now None f h.0
-of_done store (request.Audit options) stdout f (inr (names, read, inr (asked, asks, inr h))) = of_delivered Growths store None stdout h.1 f (of_audit Growths names asked options h.0.bytes h.1 tt h.4) h.5
+of_done store (request.Audit options) stdout f (inr (names, read, inl h)) = unlisted Growths store.disk options.known f h.0
+of_done store (request.Audit options) stdout f (inr (names, read, inr (known, list, inl h))) = unmeant Growths names options f h.0
+of_done store (request.Audit options) stdout f (inr (names, read, inr (known, list, inr (asked, asks, inl h)))) = unread Growths store.disk Log options.input.now None f h.0
+of_done store (request.Audit options) stdout f (inr (names, read, inr (known, list, inr (asked, asks, inr h)))) = of_delivered Growths store None stdout h.1 f (of_audit Growths names asked options h.0.bytes h.1 tt h.4) h.5

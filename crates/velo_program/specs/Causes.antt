@@ -3,6 +3,8 @@ use Rattle.std.specs.Prelude.{⊤}
 use Rattle.velo_events.specs.Refusals.{GrowthRefused}
 use Rattle.velo_logtext.specs.declared.fault.LogFault.{LogFault}
 use Rattle.velo_logtext.specs.declared.fault.LogFault.TheVariants as log_fault
+use Rattle.velo_list.specs.declared.fault.ListFault.{ListFault}
+use Rattle.velo_list.specs.declared.fault.ListFault.TheVariants as list_fault
 use Rattle.velo_names.specs.declared.fault.NamesFault.{NamesFault}
 use Rattle.velo_names.specs.declared.fault.NamesFault.TheVariants as names_fault
 use Rattle.velo_worker.specs.declared.ending.Ending.{Ending}
@@ -42,6 +44,10 @@ abbrev pub NamesByGrowth : NamesFault → Type 0
 NamesByGrowth names_fault.Memory = GrowthRefused
 NamesByGrowth f = ⊤
 
+abbrev pub ListByGrowth : ListFault → Type 0
+ListByGrowth list_fault.Memory = GrowthRefused
+ListByGrowth f = ⊤
+
 -- ---- of what the program comes to
 
 -- what a command asks the system for: memory alone, or starts of threads too
@@ -61,6 +67,7 @@ ComesByRefusal needs (fate.Finished ending alarm) = EndsByRefusal needs ending
 ComesByRefusal needs (fate.Schedule f) = ScheduleByGrowth f
 ComesByRefusal needs (fate.Work f) = WorkByGrowth f
 ComesByRefusal needs (fate.Names f) = NamesByGrowth f
+ComesByRefusal needs (fate.List f) = ListByGrowth f
 ComesByRefusal needs (fate.Check f) = CheckByGrowth f
 ComesByRefusal needs fate.Memory = GrowthRefused
 ComesByRefusal needs f = ⊤

@@ -8,6 +8,9 @@ use Rattle.velo_logtext.specs.declared.fault.LogFault.{LogFault}
 use Rattle.velo_logtext.specs.declared.fault.LogFault.TheVariants.{BadHeader, BadLine, Truncated, TooLong, Read}
 use Rattle.velo_logtext.specs.declared.fault.LogFault.TheVariants as log_fault
 use Rattle.velo_events.specs.declared.event.ThreadId.{ThreadId}
+use Rattle.velo_list.specs.declared.fault.ListFault.{ListFault}
+use Rattle.velo_list.specs.declared.fault.ListFault.TheVariants as list_fault
+use Rattle.velo_list.specs.Fault.{fault_line as line_of_list_fault, fault_number as number_of_list_fault}
 use Rattle.velo_names.specs.declared.fault.NamesFault.{NamesFault}
 use Rattle.velo_names.specs.declared.fault.NamesFault.TheVariants as names_fault
 use Rattle.velo_names.specs.Fault.{fault_line, fault_number}
@@ -96,11 +99,16 @@ abbrev pub status_of_names : NamesFault → ℕ
 status_of_names names_fault.Memory = 5
 status_of_names _ = 2
 
+abbrev pub status_of_list : ListFault → ℕ
+status_of_list list_fault.Memory = 5
+status_of_list _ = 2
+
 abbrev pub status_of : Fate → ℕ
 status_of (Finished how alarm) = status_of_ending how alarm
 status_of (Schedule fault) = status_of_schedule fault
 status_of (Work fault) = status_of_work fault
 status_of (Names fault) = status_of_names fault
+status_of (fate.List fault) = status_of_list fault
 status_of (Check fault) = status_of_check fault
 status_of CannotOpen = 5
 status_of (fate.Ignored what) = 2
@@ -165,6 +173,12 @@ line_of_names (Some number) n =
     codes "names fault " ++ decimal number ++ codes " line " ++ decimal n ++ codes "\n"
 line_of_names None n = codes "out of memory\n"
 
+-- the same of a list
+abbrev pub line_of_list : Option ℕ → ℕ → List ℕ
+line_of_list (Some number) n =
+    codes "list fault " ++ decimal number ++ codes " line " ++ decimal n ++ codes "\n"
+line_of_list None n = codes "out of memory\n"
+
 -- by what was to be ignored and means nothing
 abbrev pub line_of_ignored : Ignorable → List ℕ
 line_of_ignored ignorable.Lock = codes "ignored fault 1\n"
@@ -179,6 +193,7 @@ line_of (Finished how alarm) = line_of_ending how
 line_of (Schedule fault) = line_of_schedule fault
 line_of (Work fault) = line_of_work (place_of_work fault)
 line_of (Names fault) = line_of_names (fault_number fault) (fault_line fault)
+line_of (fate.List fault) = line_of_list (number_of_list_fault fault) (line_of_list_fault fault)
 line_of (fate.Ignored what) = line_of_ignored what
 line_of (Check fault) = line_of_check fault
 line_of CannotOpen = codes "cannot open\n"

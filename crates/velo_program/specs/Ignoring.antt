@@ -2,6 +2,7 @@
 use Rattle.std.specs.Prelude.{◌≡◌, ◌⊎◌, ℕ, List, [], ◌∷◌, ◌++◌, filter, map, nat_le, option_map, Option, Some, None, is_some, IsTrue}
 use Rattle.std.specs.Borrow.{Bor}
 use Rattle.velo_events.specs.Refusals.{GrowthRefused}
+use Rattle.velo_events.specs.declared.event.Label.{Label}
 use Rattle.velo_events.specs.declared.event.LockId.{LockId}
 use Rattle.velo_events.specs.declared.event.VarId.{VarId}
 use Rattle.velo_names.specs.declared.kind.NameKind.{NameKind}
@@ -49,9 +50,10 @@ MeanNothing names what words f = ⊥
 
 -- ---- what an audit was asked for
 
--- the locks and the variables that its words mean, in their order
-pub record IsAsked (names : NameLists) (options : AuditOptions) (asked : Asked) : Type 0 where
-  pub labels : asked.labels.now ≡ []
+-- the labels that are known, and the locks and the variables that its words mean, in their order
+pub record IsAsked (names : NameLists) (known : List ℕ) (options : AuditOptions) (asked : Asked)
+    : Type 0 where
+  pub labels : map (λ (l : Label). l.0) asked.labels.now ≡ known
   pub locks : ids_by names Lock options.ignored_locks.now
       ≡ Some (map (λ (m : LockId). m.0) asked.locks.now)
   pub variables : ids_by names Variable options.ignored_variables.now

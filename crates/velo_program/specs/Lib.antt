@@ -8,6 +8,7 @@ pub mod Explaining
 pub mod Fate
 pub mod Faults
 pub mod Ignoring
+pub mod Listing
 pub mod Naming
 pub mod Playing
 pub mod Program

@@ -31,6 +31,7 @@ use Rattle.velo_program.specs.Delivery.{Answer, IsDelivered}
 use Rattle.velo_program.specs.Disk.{IsBarred, IsWritten, Store}
 use Rattle.velo_program.specs.Explaining.{IsExplanation}
 use Rattle.velo_program.specs.Ignoring.{AsksInVain, IsAsked}
+use Rattle.velo_program.specs.Listing.{AreLabelsOf, LacksLabels}
 use Rattle.velo_program.specs.Naming.{AreNamesOf, AreShown, LacksNames}
 use Rattle.velo_program.specs.Playing.{ByThreads, ByTurns, IsPlayAnswer, Play}
 use Rattle.velo_program.specs.Reading.{FailuresAsTold, Reading}
@@ -154,7 +155,8 @@ DoesWatch options store stdout f =
     × store.disk.gives options.input.now read × FailuresAsTold read f
     × Watches options read.bytes stdout f × store.is_kept)
 
--- ---- velodrome audit LOG [--names FILE] [--no-witness] [--events N] [--nodes N]
+-- ---- velodrome audit LOG [--names FILE] [--not-atomic FILE] [--ignore-lock N].. [--ignore-variable N]..
+-- ---- [--no-witness] [--events N] [--nodes N]
 
 -- LOG is read whole and judged as by a check, and then audited, where this is left out. What the
 -- rounds tell goes to standard output, by these names; or nothing, for a reason (`Auditing`).
@@ -166,12 +168,21 @@ AuditsLog names asked options store stdout f =
     × IsAuditAnswer names asked options read.bytes answer
     × IsDelivered store None stdout answer f)
 
--- What is to be ignored is judged by these names (`Ignoring`) before LOG is opened.
+-- What is to be ignored is judged by these names (`Ignoring`) before LOG is opened. It is left out,
+-- and so are the labels that are known.
+abbrev pub AuditsKnown : NameLists → List ℕ → AuditOptions → Store → Writing → Fate → Type 0
+AuditsKnown names known options store stdout f =
+    (AsksInVain names options f × WritesNowhere store stdout)
+    ⊎ ((asked : Asked) × IsAsked names known options asked
+    × AuditsLog names asked options store stdout f)
+
+-- The list of the labels that are known is read by these names (`Listing`), where one is given, and
+-- else none is.
 abbrev pub AuditsNamed : NameLists → AuditOptions → Store → Writing → Fate → Type 0
 AuditsNamed names options store stdout f =
-    (AsksInVain names options f × WritesNowhere store stdout)
-    ⊎ ((asked : Asked) × IsAsked names options asked
-    × AuditsLog names asked options store stdout f)
+    (LacksLabels store.disk options.known f × WritesNowhere store stdout)
+    ⊎ ((known : List ℕ) × AreLabelsOf names store.disk options.known known
+    × AuditsKnown names known options store stdout f)
 
 -- The names are read first, where a file of them is given, and else there are none.
 abbrev pub DoesAudit : AuditOptions → Store → Writing → Fate → Type 0

@@ -11,7 +11,7 @@ ghost use Rattle.velo_thin.specs.Thinned.{CanComeAbout};
 ghost use Rattle.velo_audit.specs.Audit.{TellsTruly};
 ghost use Rattle.velo_program.specs.Auditing.{Audits, AuditsInput, audited, is_found, left_at_first, left_at_last, with_locks, with_variables};
 ghost use Rattle.velo_program.specs.Disk.{store};
-ghost use Rattle.velo_program.specs.Program.{AuditsLog, AuditsNamed, DoesAudit};
+ghost use Rattle.velo_program.specs.Program.{AuditsKnown, AuditsLog, AuditsNamed, DoesAudit};
 ghost use Rattle.velo_program.specs.Reading.{reading};
 ghost use Rattle.velo_program.specs.Steps.{PrintsOrLacks};
 ghost use Rattle.velo_program.specs.Writing.{writing};
@@ -21,6 +21,7 @@ use crate::explaining::print;
 use crate::fate::Fate;
 use crate::files::{Files, is_standard_input, open_input};
 use crate::ignoring::{ignored_locks, ignored_variables};
+use crate::listing::labels_of;
 use crate::naming::{names_in, read_given};
 use crate::request::{AuditOptions, Limits, Operand};
 use std::alloc::Global;
@@ -231,16 +232,17 @@ fn audit_input<F: Files, O: Sink>(
     }
 }
 
-/// Audits the log that was asked for, without what is to be ignored by the names.
-fn audit_named<F: Files, O: Sink>(
+/// Audits the log that was asked for, without the labels that are known, and without what is to be ignored by the names.
+fn audit_known<F: Files, O: Sink>(
     alloc: Global,
     options: &AuditOptions,
     names: &Names,
+    known: &[Label],
     files: &F,
     out: &mut O,
 ) -> Fate
-    ensures { AuditsNamed names.now options.now (store F.disk files.now files.now)
-        (writing O.contents O.failures out.old out.new) result }
+    ensures { AuditsKnown names.now (map (λ (l : LabelOf). l.0) known.now) options.now
+        (store F.disk files.now files.now) (writing O.contents O.failures out.old out.new) result }
 {
     let locks = match ignored_locks(alloc, names, options.ignored_locks) {
         Ok(locks) => locks,
@@ -251,11 +253,32 @@ fn audit_named<F: Files, O: Sink>(
         Err(fate) => return fate,
     };
     let asked = Asked {
-        labels: &[],
+        labels: known,
         locks: &locks,
         variables: &variables,
     };
     audit_input(alloc, options, names, &asked, files, out)
+}
+
+/// Audits the log that was asked for by the names. The list of the labels that are known is read first.
+fn audit_named<F: Files, O: Sink>(
+    alloc: Global,
+    options: &AuditOptions,
+    names: &Names,
+    files: &F,
+    out: &mut O,
+) -> Fate
+    ensures { AuditsNamed names.now options.now (store F.disk files.now files.now)
+        (writing O.contents O.failures out.old out.new) result }
+{
+    match labels_of(alloc, names, options.known, files) {
+        Ok(known) => {
+            let fate = audit_known(alloc, options, names, &known, files, out);
+            drop(known);
+            fate
+        }
+        Err(fate) => fate,
+    }
 }
 
 /// Audits the log that was asked for. The names are read first.

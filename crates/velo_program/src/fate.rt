@@ -1,14 +1,16 @@
 //! How the program ends: its status, and the line on standard error.
 ghost use Rattle.std.specs.Prelude.{◌≡◌, ◌≢◌, ◌≤◌, ◌++◌, [], codes, decimal, length, take, IfOk, OnOk, OnErr};
+ghost use Rattle.velo_list.specs.Fault.{fault_line as line_of_list_fault, fault_number as number_of_list_fault};
 ghost use Rattle.velo_names.specs.Fault.{fault_line, fault_number};
 ghost use Rattle.velo_program.specs.Writing.{BreaksOff, Writes, writing};
-ghost use Rattle.velo_program.specs.Fate.{Ends, number_of, status_of, status_of_check, status_of_log, status_of_refused, status_of_ending, status_of_names, status_of_schedule, status_of_work, place_of_work, line_of, line_of_check, line_of_log, line_of_ending, line_of_ignored, line_of_names, line_of_one_file, line_of_refused, line_of_schedule, line_of_work};
+ghost use Rattle.velo_program.specs.Fate.{Ends, number_of, status_of, status_of_check, status_of_list, status_of_log, status_of_refused, status_of_ending, status_of_names, status_of_schedule, status_of_work, place_of_work, line_of, line_of_check, line_of_log, line_of_ending, line_of_ignored, line_of_list, line_of_names, line_of_one_file, line_of_refused, line_of_schedule, line_of_work};
 
 use crate::check::CheckFault;
 use crate::request::{Ignorable, Operand};
 use crate::status::{ALARM, BAD_INPUT, DONE, FAILED, INCOMPLETE};
 use velo_events::{Refusal, ThreadId};
 use velo_logtext::{LogFault, Sink, WriteFault, put_bytes, put_number, write_all};
+use velo_list::ListFault;
 use velo_names::NamesFault;
 use velo_turns::ScheduleFault;
 use velo_worker::Ending;
@@ -28,6 +30,8 @@ pub enum Fate {
     Work(WorkFault),
     /// The file of names says none.
     Names(NamesFault),
+    /// The file is no list of labels.
+    List(ListFault),
     /// Nothing is meant by what was to be ignored.
     Ignored(Ignorable),
     /// The check met a fault.
@@ -121,6 +125,15 @@ fn status_of_names(fault: NamesFault) -> u8
     }
 }
 
+fn status_of_list(fault: ListFault) -> u8
+    ensures { result ≡ status_of_list fault }
+{
+    match fault {
+        ListFault::Memory => FAILED,
+        _ => BAD_INPUT,
+    }
+}
+
 fn status_of(fate: Fate) -> u8
     ensures { result ≡ status_of fate }
 {
@@ -129,6 +142,7 @@ fn status_of(fate: Fate) -> u8
         Fate::Schedule(fault) => status_of_schedule(fault),
         Fate::Work(fault) => status_of_work(fault),
         Fate::Names(fault) => status_of_names(fault),
+        Fate::List(fault) => status_of_list(fault),
         Fate::Check(fault) => status_of_check(fault),
         Fate::Ignored(_) => BAD_INPUT,
         Fate::OneFile(_) => BAD_INPUT,
@@ -278,6 +292,25 @@ fn put_names_fault(buffer: &mut [u8], fault: NamesFault) -> usize
     }
 }
 
+/// Puts the line of a fault of a list at the front of a buffer, and answers where it ends.
+fn put_list_fault(buffer: &mut [u8], fault: ListFault) -> usize
+    requires { 64 ≤ length buffer.old }
+    ensures text { take result buffer.new
+        ≡ line_of_list (number_of_list_fault fault) (line_of_list_fault fault) }
+    ensures end { result ≤ length buffer.new }
+{
+    match fault.number() {
+        Some(number) => {
+            let at = put_bytes(buffer, 0, b"list fault ");
+            let at = put_number(buffer, at, u64::from(number));
+            let at = put_bytes(buffer, at, b" line ");
+            let at = put_number(buffer, at, fault.line() as u64);
+            put_bytes(buffer, at, b"\n")
+        }
+        None => put_bytes(buffer, 0, b"out of memory\n"),
+    }
+}
+
 /// Puts the line of what was to be ignored and means nothing at the front of a buffer, and answers where it ends.
 fn put_ignored(buffer: &mut [u8], what: Ignorable) -> usize
     requires { 64 ≤ length buffer.old }
@@ -313,6 +346,7 @@ fn put_line(buffer: &mut [u8], fate: Fate) -> usize
         Fate::Schedule(fault) => put_schedule_fault(buffer, fault),
         Fate::Work(fault) => put_work_fault(buffer, fault),
         Fate::Names(fault) => put_names_fault(buffer, fault),
+        Fate::List(fault) => put_list_fault(buffer, fault),
         Fate::Ignored(what) => put_ignored(buffer, what),
         Fate::Check(fault) => put_check_fault(buffer, fault),
         Fate::CannotOpen => put_bytes(buffer, 0, b"cannot open\n"),

@@ -9,6 +9,7 @@ mod explaining;
 mod fate;
 mod files;
 mod ignoring;
+mod listing;
 mod naming;
 mod reading;
 mod replaying;

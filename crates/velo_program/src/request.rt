@@ -92,6 +92,8 @@ pub struct AuditOptions<'a> {
     pub input: &'a str,
     /// The path of the names that are told, or `-`.
     pub names: Option<&'a str>,
+    /// The path of the list of labels that are known already, or `-`.
+    pub known: Option<&'a str>,
     /// The locks that are left out, each a number or a name.
     pub ignored_locks: &'a [&'a str],
     /// The variables that are left out, each a number or a name.

@@ -1,0 +1,2 @@
+pub mod OnKnown
+pub mod OnReading

@@ -1,0 +1,5 @@
+pub mod Fault
+pub mod Line
+pub mod Known
+pub mod List
+pub mod Answers

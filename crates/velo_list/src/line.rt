@@ -1,0 +1,124 @@
+//! What a line of a list of known labels says.
+ghost use Rattle.std.specs.Prelude.{◌≡◌, option_map};
+ghost use Rattle.velo_list.specs.Answers.{entry};
+ghost use Rattle.velo_list.specs.Line.{bare_entry, entry_of, is_count, is_counted, is_silent, named_at, other_at, told_at, told_entry};
+
+use velo_logtext::{after, number};
+use velo_names::{NameKind, is_name, is_number, whole_number};
+
+/// What a line says of the labels that are known.
+#[derive(Clone, Copy, Debug)]
+pub enum Entry<'a> {
+    /// Nothing.
+    Nothing,
+    /// The label of this number is known.
+    Number(u32),
+    /// The labels of this name are known.
+    Name(&'a [u8]),
+    /// A label is known that an audit told by its number and its name.
+    Told(u32, &'a [u8]),
+}
+
+/// Whether a line is empty, a comment or a line of a witness.
+fn is_silent(line: &[u8]) -> bool
+    ensures { result ≡ is_silent line.now }
+{
+    match line.first() {
+        None => true,
+        Some(first) => *first == b'#' || *first == b' ',
+    }
+}
+
+/// Whether a line is a number between these words.
+fn is_counted(before: &[u8], behind: &[u8], line: &[u8]) -> bool
+    ensures { result ≡ is_counted before.now behind.now line.now }
+{
+    let Some(rest) = after(line, before) else {
+        return false;
+    };
+    match number(rest, u64::MAX) {
+        None => false,
+        Some((_, rest)) => rest == behind,
+    }
+}
+
+/// Whether a line is one of the counts of an audit.
+fn is_count(line: &[u8]) -> bool
+    ensures { result ≡ is_count line.now }
+{
+    is_counted(b"atomic ", b" labels", line) || is_counted(b"rounds ", b"", line)
+}
+
+/// What a label is told by: its number, and the name behind it if there is one.
+fn named(number: u32, rest: &[u8]) -> Option<Entry<'_>>
+    ensures { option_map entry result ≡ named_at number rest.now }
+{
+    if rest.is_empty() {
+        return Some(Entry::Number(number));
+    }
+    let name = after(rest, b" ")?;
+    if !is_name(name) {
+        return None;
+    }
+    Some(Entry::Told(number, name))
+}
+
+/// What stands behind the words of something that an audit tells.
+fn told(kind: NameKind, bytes: &[u8]) -> Option<Entry<'_>>
+    ensures { option_map entry result ≡ told_at kind bytes.now }
+{
+    let (number, rest) = number(bytes, u64::from(kind.greatest()))?;
+    named(number as u32, rest)
+}
+
+/// What stands behind the words of a lock or a variable that was left out.
+fn other(kind: NameKind, bytes: &[u8]) -> Option<Entry<'_>>
+    ensures { option_map entry result ≡ other_at kind bytes.now }
+{
+    told(kind, bytes)?;
+    Some(Entry::Nothing)
+}
+
+/// What a line says by itself.
+fn bare_entry(line: &[u8]) -> Option<Entry<'_>>
+    ensures { option_map entry result ≡ bare_entry line.now }
+{
+    if is_number(line) {
+        let number = whole_number(NameKind::Label, line)?;
+        return Some(Entry::Number(number));
+    }
+    if !is_name(line) {
+        return None;
+    }
+    Some(Entry::Name(line))
+}
+
+/// What a line says by the words at its front, or by itself.
+#[tactic(auto, unfolding(crate::specs::Line::told_entry))]
+fn told_entry(line: &[u8]) -> Option<Entry<'_>>
+    ensures { option_map entry result ≡ told_entry line.now }
+{
+    if let Some(rest) = after(line, b"not atomic ") {
+        return told(NameKind::Label, rest);
+    }
+    if let Some(rest) = after(line, b"left out label ") {
+        return told(NameKind::Label, rest);
+    }
+    if let Some(rest) = after(line, b"left out lock ") {
+        return other(NameKind::Lock, rest);
+    }
+    if let Some(rest) = after(line, b"left out variable ") {
+        return other(NameKind::Variable, rest);
+    }
+    bare_entry(line)
+}
+
+/// What a line says, if it is an entry.
+pub fn entry_of(line: &[u8]) -> Option<Entry<'_>>
+    ensures { option_map entry result ≡ entry_of line.now }
+{
+    if is_silent(line) || is_count(line) {
+        return Some(Entry::Nothing);
+    }
+    told_entry(line)
+}
