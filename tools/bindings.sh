@@ -98,13 +98,15 @@ if have python3 && [ -f "$out/libvelodrome.so" ]; then
     step "python: tests" python3 "$top/bindings/python/tests/test_velodrome.py"
     step "python: example" python3 "$top/bindings/python/example.py"
     unset VELODROME_LIBRARY PYTHONPATH
-    rm -rf "$out"/velodrome-*.whl "$out/venv"
+    rm -f "$out"/velodrome-*.whl
+    fresh=$(mktemp -d) # outside, as it has links
     step "python: wheel" python3 "$top/bindings/python/make_wheel.py" "$out/libvelodrome.so" "$out"
-    step "python: fresh environment" python3 -m venv "$out/venv"
-    step "python: wheel installs" "$out/venv/bin/pip" install --quiet --no-index --disable-pip-version-check "$out"/velodrome-*.whl
-    step "python: tests over the wheel" "$out/venv/bin/python" "$top/bindings/python/tests/test_velodrome.py"
-    cp "$top/bindings/python/example.py" "$out/venv/"
-    step "python: example over the wheel" "$out/venv/bin/python" "$out/venv/example.py"
+    step "python: fresh environment" python3 -m venv "$fresh"
+    step "python: wheel installs" "$fresh/bin/pip" install --quiet --no-index --disable-pip-version-check "$out"/velodrome-*.whl
+    step "python: tests over the wheel" "$fresh/bin/python" "$top/bindings/python/tests/test_velodrome.py"
+    cp "$top/bindings/python/example.py" "$fresh/"
+    step "python: example over the wheel" "$fresh/bin/python" "$fresh/example.py"
+    rm -rf "$fresh"
 fi
 rm -f "$out/step.log"
 echo "$passed passed, $failed failed"
