@@ -65,16 +65,19 @@ if [ ${#compilers[@]} -gt 0 ]; then
     step "shared library" "${compilers[0]}" -shared -o "$out/libvelodrome.so" -Wl,--whole-archive "$out/libvelodrome.a" -Wl,--no-whole-archive
 fi
 for compiler in "${compilers[@]}"; do
-    rm -f "$out"/{lost_update,recorder,cost,test}
+    rm -f "$out"/{lost_update,recorder,cost,test,threads}
     step "c: make with $compiler" make -s -C "$top/bindings/c" CC="$compiler" LIBRARY="$out"
     step "c: example ($compiler)" "$out/lost_update"
     step "c: tests ($compiler)" "$out/test"
     step "c: recorder, locked ($compiler)" "$out/recorder"
     step "c: recorder, unlocked ($compiler)" status 3 "$out/recorder" unlocked
+    step "c: 64 threads behind a lock ($compiler)" "$out/threads"
     step "c: a million events ($compiler)" "$out/cost"
 done
 if [ -x "$out/test" ] && have valgrind; then
-    step "c: no leak" valgrind -q --leak-check=full --error-exitcode=9 "$out/test"
+    for program in test threads cost; do
+        step "c: $program leaks nothing" valgrind -q --leak-check=full --show-leak-kinds=all --error-exitcode=9 "$out/$program"
+    done
 fi
 for compiler in g++ clang++; do
     have $compiler || continue
@@ -88,11 +91,22 @@ if have cargo; then
     export VELODROME_LIBRARY_FOLDER=$out CARGO_TARGET_DIR=$out/cargo
     step "rust: tests" cargo test --offline --quiet --manifest-path "$top/bindings/rust/Cargo.toml"
     step "rust: example" cargo run --offline --quiet --manifest-path "$top/bindings/rust/Cargo.toml" --example lost_update
+    step "rust: a million events" cargo run --release --offline --quiet --manifest-path "$top/bindings/rust/Cargo.toml" --example cost
 fi
 if have python3 && [ -f "$out/libvelodrome.so" ]; then
     export VELODROME_LIBRARY=$out/libvelodrome.so PYTHONPATH=$top/bindings/python PYTHONDONTWRITEBYTECODE=1
     step "python: tests" python3 "$top/bindings/python/tests/test_velodrome.py"
     step "python: example" python3 "$top/bindings/python/example.py"
+    unset VELODROME_LIBRARY PYTHONPATH
+    rm -f "$out"/velodrome-*.whl
+    fresh=$(mktemp -d) # outside, as it has links
+    step "python: wheel" python3 "$top/bindings/python/make_wheel.py" "$out/libvelodrome.so" "$out"
+    step "python: fresh environment" python3 -m venv "$fresh"
+    step "python: wheel installs" "$fresh/bin/pip" install --quiet --no-index --disable-pip-version-check "$out"/velodrome-*.whl
+    step "python: tests over the wheel" "$fresh/bin/python" "$top/bindings/python/tests/test_velodrome.py"
+    cp "$top/bindings/python/example.py" "$fresh/"
+    step "python: example over the wheel" "$fresh/bin/python" "$fresh/example.py"
+    rm -rf "$fresh"
 fi
 rm -f "$out/step.log"
 echo "$passed passed, $failed failed"

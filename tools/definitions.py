@@ -41,7 +41,7 @@ PARTS = [
         "velo_program": "Program* Check Explaining Carrying Playing Schedule Delivery Disk Writing Reading Fate Causes",
         "velo_command": "CommandLine Asked Running Usage"}),
     ("The library for other languages", {
-        "velo_ffi": "Answers"}),
+        "velo_ffi": "Answers Texts* Pieces*"}),
 ]
 
 ITEM = re.compile(r"(?:abbrev |unfoldable |opaque )*pub (?:abbrev |unfoldable |opaque )*(?:record |data )?(\S+)")

@@ -10,6 +10,23 @@ static void expect(const char *what, uint64_t got, uint64_t wanted) {
     failed = 1;
 }
 
+typedef uint32_t text_call(velodrome *, uint8_t *, size_t, size_t *);
+
+/* The text comes whole into each buffer that has room for it; where one has not, its length is told, and the buffer is as it was. */
+static void expect_text(const char *what, velodrome *m, text_call *call, const char *text) {
+    static uint8_t buffer[4096];
+    size_t length = strlen(text), count;
+    for (size_t room = 0; room <= sizeof buffer; room += room < length + 2 ? 1 : 511) {
+        memset(buffer, 99, sizeof buffer);
+        uint32_t status = call(m, buffer, room, &count);
+        expect(what, status, room < length ? VELODROME_TOO_SHORT : VELODROME_DONE);
+        expect(what, count, length);
+        size_t put = room < length ? 0 : length;
+        if (memcmp(buffer, text, put)) { printf("%s: got\n%.*s", what, (int)count, (char *)buffer); failed = 1; return; }
+        for (size_t i = put; i < sizeof buffer; i++) if (buffer[i] != 99) { expect(what, i, sizeof buffer); break; }
+    }
+}
+
 int main(void) {
     velodrome m;
     memset(&m, 0, sizeof m);
@@ -20,6 +37,15 @@ int main(void) {
     expect("closed read", velodrome_read(&m, 0, 0, &a), VELODROME_CLOSED);
     expect("closed verdict", velodrome_verdict(&m, &s), VELODROME_CLOSED);
     expect("closed close", velodrome_close(&m), VELODROME_CLOSED);
+    size_t untold = 79, unmoved = 80;
+    uint8_t none[1];
+    velodrome_block no_block[1];
+    expect("closed report", velodrome_report(&m, none, 0, &untold), VELODROME_CLOSED);
+    expect("closed explanation", velodrome_explanation(&m, none, 0, &untold), VELODROME_CLOSED);
+    expect("closed log", velodrome_log(&m, 0, none, 0, &untold, &unmoved), VELODROME_CLOSED);
+    expect("closed blamed", velodrome_blamed(&m, no_block, 0, &untold), VELODROME_CLOSED);
+    expect("count kept", untold, 79);
+    expect("next kept", unmoved, 80);
     expect("answer kept", a.position, 77);
     expect("summary kept", s.blamed, 4);
 
@@ -94,6 +120,8 @@ int main(void) {
     expect("blamed", velodrome_blamed(&m, blocks, 0, &count), 0);
     expect("none", count, 0);
 
+    expect_text("clean report", &m, velodrome_report, "events 12\nthread 0 6\nthread 1 6\nthread 2 0\nverdict clean\n");
+    expect_text("clean explanation", &m, velodrome_explanation, "The blocks of this log can be serialized.\nEvents: 12\nTransactions, which can follow one another: 11\n");
     expect("name", velodrome_refusal(VELODROME_BUSY, part, sizeof part, &count), 0);
     expect("lock busy", count == 9 && memcmp(part, "lock busy", 9) == 0, 1);
     expect("no name", velodrome_refusal(23, part, sizeof part, &count), VELODROME_BAD_NUMBER);
@@ -124,6 +152,21 @@ int main(void) {
     expect("blamed", velodrome_blamed(&m, blocks, 2, &count), 0);
     expect("outer", blocks[0].first * 100 + blocks[0].label, 107);
     expect("inner", blocks[1].first * 100 + blocks[1].label, 208);
+    const char *report = "events 6\nthread 0 5\nthread 1 1\nverdict alarm 5\ntransaction 1\nblame 1 7\nblame 2 8\n";
+    expect_text("report", &m, velodrome_report, report);
+    expect_text("explanation", &m, velodrome_explanation,
+        "The blocks of this log cannot be serialized.\n"
+        "Line 7 `0 wr 0 1` closes a cycle of 2 transactions:\n"
+        "  T1: thread 0, block 7, lines 3 to 7\n"
+        "  T2: thread 1, outside blocks, line 6\n"
+        "Each must come before the next, and the last before the first:\n"
+        "  T1 before T2: line 5 `0 rd 0 0`, then line 6 `1 wr 0 5`\n"
+        "  T2 before T1: line 6 `1 wr 0 5`, then line 7 `0 wr 0 1`\n"
+        "To blame in thread 0:\n"
+        "  block 7, from line 3: line 6 `1 wr 0 5` must come after its begin and before line 7\n"
+        "  block 8, from line 4: line 6 `1 wr 0 5` must come after its begin and before line 7\n");
+    expect("goes on", velodrome_end(&m, 0, &a), 0);
+    expect_text("report of one more", &m, velodrome_report, "events 7\nthread 0 6\nthread 1 1\nverdict alarm 5\ntransaction 1\nblame 1 7\nblame 2 8\n");
     expect("close", velodrome_close(&m), 0);
 
     /* Opened and closed again and again: a checker of leaks sees what is left. */

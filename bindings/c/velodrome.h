@@ -31,6 +31,7 @@ typedef struct velodrome {
 #define VELODROME_MOST_EVENTS 16777216
 #define VELODROME_MOST_NODES 4096
 #define VELODROME_MOST_BLAMED 32
+#define VELODROME_REPORT_ROOM 4096 /* bytes, always enough for a report */
 
 /* 0: done. 1 to 22: the event is refused. Nothing has changed where it is not 0. */
 enum velodrome_status {
@@ -133,6 +134,15 @@ uint32_t velodrome_blamed(velodrome *monitor, velodrome_block *buffer, size_t ro
  *     } while (from < events);
  */
 uint32_t velodrome_log(velodrome *monitor, size_t from, uint8_t *buffer, size_t room, size_t *count, size_t *next);
+
+/* The report of the events so far, and their explanation in words: the bytes that `velodrome check` and `velodrome explain`
+ * write for the text of the log, all of them or none. *count says how many bytes were put into the buffer, without a zero byte
+ * behind them. VELODROME_TOO_SHORT where there is no room for all: *count says how many bytes it takes, and the buffer is as it
+ * was. VELODROME_NO_MEMORY where memory was refused: nothing has changed. The monitor goes on after each.
+ *
+ * The report is short. An explanation takes time and memory in proportion to the log, each time that it is asked for. */
+uint32_t velodrome_report(velodrome *monitor, uint8_t *buffer, size_t room, size_t *count);
+uint32_t velodrome_explanation(velodrome *monitor, uint8_t *buffer, size_t room, size_t *count);
 
 /* The words of a refusal, 1 to 22, without a zero byte behind them; *count says how many bytes. VELODROME_BAD_NUMBER for another
  * number; VELODROME_TOO_SHORT where there is no room, and *count says how much it takes. Room for 32 is always enough. */

@@ -13,14 +13,23 @@
 #include <string>
 #include <thread>
 #include <utility>
+#include <vector>
 
 namespace velo {
 
 // A call answered another status than 0. Nothing has changed.
 class Refused : public std::runtime_error {
 public:
-    explicit Refused(std::uint32_t status) : std::runtime_error("velodrome: status " + std::to_string(status)), status(status) {}
+    explicit Refused(std::uint32_t status) : std::runtime_error("velodrome: " + words(status)), status(status) {}
     const std::uint32_t status;
+
+private:
+    static std::string words(std::uint32_t status) {
+        std::uint8_t text[32];
+        std::size_t count = 0;
+        if (velodrome_refusal(status, text, sizeof text, &count) != VELODROME_DONE) return "status " + std::to_string(status);
+        return std::string(text, text + count);
+    }
 };
 
 class Monitor {
@@ -48,6 +57,33 @@ public:
         std::lock_guard<std::mutex> hold(order_);
         check(velodrome_verdict(&handle_, &summary));
         return summary;
+    }
+
+    // The blocks to blame, outermost first.
+    std::vector<velodrome_block> blamed() {
+        std::vector<velodrome_block> blocks(VELODROME_MOST_BLAMED);
+        std::size_t count = 0;
+        std::lock_guard<std::mutex> hold(order_);
+        check(velodrome_blamed(&handle_, blocks.data(), blocks.size(), &count));
+        blocks.resize(count);
+        return blocks;
+    }
+
+    // The report of the events so far, as `velodrome check` writes it for the log, and their explanation, as `velodrome explain` does.
+    std::string report() { return text(velodrome_report); }
+    std::string explanation() { return text(velodrome_explanation); }
+
+    // The text of the log, as `velodrome check` reads it.
+    void write_log(std::ostream &out) {
+        std::vector<std::uint8_t> piece(1 << 16);
+        velodrome_summary summary{};
+        std::size_t from = 0, count = 0;
+        std::lock_guard<std::mutex> hold(order_);
+        check(velodrome_verdict(&handle_, &summary));
+        do {
+            check(velodrome_log(&handle_, from, piece.data(), piece.size(), &count, &from));
+            out.write(reinterpret_cast<const char *>(piece.data()), static_cast<std::streamsize>(count));
+        } while (from < summary.events);
     }
 
     // The number of a "label", "variable" or "lock" by its name.
@@ -96,6 +132,19 @@ public:
     }
 
 private:
+    // A whole text, by a call that tells how much room it takes.
+    std::string text(std::uint32_t (*call)(velodrome *, std::uint8_t *, std::size_t, std::size_t *)) {
+        std::vector<std::uint8_t> room(1024);
+        std::size_t count = 0;
+        std::lock_guard<std::mutex> hold(order_);
+        std::uint32_t status = call(&handle_, room.data(), room.size(), &count);
+        if (status == VELODROME_TOO_SHORT) {
+            room.resize(count);
+            status = call(&handle_, room.data(), room.size(), &count);
+        }
+        check(status);
+        return std::string(room.begin(), room.begin() + static_cast<std::ptrdiff_t>(count));
+    }
     static void check(std::uint32_t status) {
         if (status != VELODROME_DONE) throw Refused(status);
     }

@@ -62,7 +62,8 @@ def _load():
     types = {name: [handle, u8, *operands, answer] for name, operands in of_event.items()}
     types |= {'open': [handle, u8, u16, u16, u32, u16], 'close': [handle], 'verdict': [handle, ctypes.POINTER(Verdict)]}
     size = ctypes.c_size_t
-    types |= {'blamed': [handle, ctypes.POINTER(Block), size, ctypes.POINTER(size)],
+    text = [handle, ctypes.c_char_p, size, ctypes.POINTER(size)]
+    types |= {'blamed': [handle, ctypes.POINTER(Block), size, ctypes.POINTER(size)], 'report': text, 'explanation': text,
               'log': [handle, size, ctypes.c_char_p, size, ctypes.POINTER(size), ctypes.POINTER(size)]}
     for name, arguments in types.items():
         call = getattr(library, 'velodrome_' + name)
@@ -147,6 +148,25 @@ class Monitor:
             self._check(self._library.velodrome_blamed(self._handle, blocks, 32, count))
             labels = {number: name for name, number in self._names['label'].items()}
             return [(block.first, labels.get(block.label, block.label)) for block in blocks[:count.value]]
+
+    def report(self):
+        """The report of the events so far, as `velodrome check` writes it for the log."""
+        return self._text(self._library.velodrome_report)
+
+    def explanation(self):
+        """The explanation of the events so far, as `velodrome explain` writes it for the log. Its cost grows with the log."""
+        return self._text(self._library.velodrome_explanation)
+
+    def _text(self, call):
+        """A whole text, by a call that tells how much room it takes."""
+        text, count = ctypes.create_string_buffer(4096), ctypes.c_size_t()
+        with self._lock:
+            status = call(self._handle, text, len(text), count)
+            if status == 104:
+                text = ctypes.create_string_buffer(count.value)
+                status = call(self._handle, text, len(text), count)
+            self._check(status)
+        return text.raw[:count.value].decode('ascii')
 
     def write_log(self, file):
         """Writes the text of the log, as `velodrome check` reads it, to a binary file."""

@@ -42,6 +42,8 @@ class Binding(unittest.TestCase):
                 monitor.spawn(lambda: x.set(5)).join()
                 x.set(before)
             self.assertEqual(monitor.blamed(), [(0, 'outer'), (1, 'inner')])
+            self.assertEqual(monitor.report(), 'events 10\nthread 0 8\nthread 1 2\nverdict alarm 6\ntransaction 0\nblame 0 0\nblame 1 1\n')
+            self.assertIn('\n  T1: thread 0, block 0, lines 2 to 8\n', monitor.explanation())
             log = io.BytesIO()
             monitor.write_log(log)
             self.assertEqual(log.getvalue(), b'vlog 2 2 1 0\n0 begin 0\n0 begin 1\n0 rd 0 0\n0 fork 1\n1 wr 0 0\n1 exit\n0 join 1\n0 wr 0 0\n0 end\n0 end\n')
@@ -54,6 +56,20 @@ class Binding(unittest.TestCase):
             log = io.BytesIO()
             monitor.write_log(log)
             self.assertEqual(log.getvalue(), b'vlog 2 1 1 0\n' + 12000 * b'0 rd 0 0\n')
+
+    def test_long_explanation(self):
+        with Monitor(threads=64, variables=64, locks=0) as monitor:
+            events = [('fork', 0, child) for child in range(1, 64)]
+            events += [('begin', thread, 7) for thread in range(1, 64)]
+            events += [('write', thread, thread, 0) for thread in range(1, 64)]
+            events += [('read', thread, thread % 63 + 1) for thread in range(1, 64)]
+            for kind, thread, *operands in events:
+                monitor.event(kind, *operands, thread=thread)
+            words = monitor.explanation()
+            self.assertGreater(len(words), 4096)
+            self.assertIn('closes a cycle of 63 transactions', words)
+            self.assertEqual(words.count('\n'), 2 * 63 + 4)
+            self.assertEqual(monitor.report().splitlines()[-2:], ['transaction 125', 'blame none'])
 
     def test_refusals_change_nothing(self):
         with Monitor(threads=1, variables=1, locks=1, events=2) as monitor:
@@ -95,9 +111,10 @@ class Binding(unittest.TestCase):
         monitor = Monitor()
         monitor.close()
         monitor.close()
-        with self.assertRaises(Refused) as raised:
-            monitor.verdict()
-        self.assertEqual(raised.exception.status, 100)
+        for call in (monitor.verdict, monitor.report, monitor.explanation):
+            with self.assertRaises(Refused) as raised:
+                call()
+            self.assertEqual(raised.exception.status, 100)
         with self.assertRaises(Refused):
             Monitor(threads=65)
 

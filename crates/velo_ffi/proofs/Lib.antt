@@ -1,3 +1,5 @@
 pub mod AsBox
 mod OnVerdicts
 mod OnPieces
+mod OnJoined
+mod OnTexts

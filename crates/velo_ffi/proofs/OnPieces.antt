@@ -1,10 +1,9 @@
 -- A piece of a log by its parts.
-use Rattle.std.proofs.Common.{◌≡◌, ◌∙◌, ap, subst, sym, ℕ, ◌+◌, ◌-◌, ◌≤◌, List, [], ◌++◌, length, take, drop, arith, rules}
-use Rattle.std.proofs.lemmas.List.{length-drop, take_all}
+use Rattle.std.proofs.Common.{◌≡◌, ◌∙◌, ap, subst, sym, ℕ, ◌+◌, ◌-◌, ◌<◌, ◌≤◌, List, ◌++◌, length, take, drop, length-append, length-drop, length-take-le, take_all, arith, rules}
 use Rattle.velo_events.specs.declared.config.Bounds.{Bounds}
 use Rattle.velo_events.specs.declared.event.Event.{Event}
 use Rattle.velo_logtext.specs.Text.{event_lines}
-use Rattle.velo_ffi.specs.Pieces.{PutsPiece, head_at, piece}
+use Rattle.velo_ffi.specs.Pieces.{LacksRoom, PutsPiece, head_at, piece}
 
 -- what comes from a place on, as a slice has it
 abbrev rest_of : List Event → ℕ → List Event
@@ -13,27 +12,42 @@ rest_of items from = take (length items - from) (drop from items)
 rest_is : (items : List Event) (from : ℕ) → rest_of items from ≡ drop from items
 rest_is items from = take_all (length items - from) (drop from items) (subst (λ (n : ℕ). n ≤ length items - from) (sym (length-drop from items)) (omega arith))
 
--- as many lines as come from the place to where they end
-lines_from : (bounds : Bounds) (log : List Event) (from lines : ℕ) (text : List ℕ) → text ≡ head_at bounds from ++ event_lines (take lines (drop from log)) → text ≡ piece bounds log from (from + lines)
-lines_from bounds log from lines text is = search rules
+rest_long : (items : List Event) (from : ℕ) → length (rest_of items from) ≡ length items - from
+rest_long items from = ap length (rest_is items from) ∙ length-drop from items
 
-ends_there : (items : List Event) (from lines : ℕ) → from ≤ length items → lines ≤ length (drop from items) → from + lines ≤ length items
-ends_there items from lines there few =
-    let few' : lines ≤ length items - from = subst (λ (n : ℕ). lines ≤ n) (length-drop from items) few in
-    omega (arith, there, few')
+module _ (bounds : Bounds) (log items : List Event) (from : ℕ) (same : items ≡ log) where
+  -- the header has its length
+  header_long : (head : ℕ) (header : List ℕ) → take head header ≡ head_at bounds from → head ≤ length header → length (head_at bounds from) ≡ head
+  header_long head header text inside = ap length (sym text) ∙ length-take-le head header inside
 
-pub piece_put : (bounds : Bounds) (log items : List Event) (from lines at used : ℕ) (before buffer : List ℕ)
-    → items ≡ log → take at before ≡ head_at bounds from → take used buffer ≡ take at before ++ event_lines (take lines (rest_of items from))
-    → used ≤ length buffer → from ≤ length items → lines ≤ length (rest_of items from)
-    → PutsPiece bounds log from buffer used (from + lines)
-piece_put bounds log items from lines at used before buffer same head text within there few =
-    let text' : take used buffer ≡ head_at bounds from ++ event_lines (take lines (drop from items)) =
-    text ∙ ap (λ (t : List ℕ). t ++ event_lines (take lines (rest_of items from))) head
-    ∙ ap (λ (es : List Event). head_at bounds from ++ event_lines (take lines es)) (rest_is items from) in
-    let few' : lines ≤ length (drop from items) = subst (λ (es : List Event). lines ≤ length es) (rest_is items from) few in
-    subst (λ (es : List Event). PutsPiece bounds es from buffer used (from + lines)) same (record {
-      from_there = omega arith;
-      there = ends_there items from lines there few';
-      within = within;
-      text = lines_from bounds items from lines _ text';
-    })
+  -- not even the first line has room
+  pub room_lacking : (head first : ℕ) (header buffer : List ℕ) → take head header ≡ head_at bounds from → head ≤ length header
+      → first ≡ length (event_lines (take 1 (rest_of items from))) → length buffer < head + first → LacksRoom bounds log from buffer (head + first)
+  room_lacking head first header buffer text inside is short =
+      let head_long = header_long head header text inside in
+      let first_long : first ≡ length (event_lines (take 1 (drop from items))) = is ∙ ap (λ (es : List Event). length (event_lines (take 1 es))) (rest_is items from) in
+      subst (λ (es : List Event). LacksRoom bounds es from buffer (head + first)) same (record {
+        short = short;
+        needed = omega (arith, length-append (head_at bounds from) (event_lines (take 1 (drop from items))), head_long, first_long);
+      })
+
+  -- as many lines as come from the place to where they end
+  lines_from : (lines : ℕ) (text : List ℕ) → text ≡ head_at bounds from ++ event_lines (take lines (drop from items)) → text ≡ piece bounds items from (from + lines)
+  lines_from lines text is = search rules
+
+  pub piece_put : (lines at used : ℕ) (before buffer : List ℕ) → take at before ≡ head_at bounds from
+      → take used buffer ≡ take at before ++ event_lines (take lines (rest_of items from))
+      → used ≤ length buffer → from ≤ length items → lines ≤ length (rest_of items from) → (0 < length (rest_of items from) → 0 < lines)
+      → PutsPiece bounds log from buffer used (from + lines)
+  piece_put lines at used before buffer head text within there few some =
+      let long = rest_long items from in
+      let text' : take used buffer ≡ head_at bounds from ++ event_lines (take lines (drop from items)) =
+      text ∙ ap (λ (t : List ℕ). t ++ event_lines (take lines (rest_of items from))) head
+      ∙ ap (λ (es : List Event). head_at bounds from ++ event_lines (take lines es)) (rest_is items from) in
+      subst (λ (es : List Event). PutsPiece bounds es from buffer used (from + lines)) same (record {
+        from_there = omega arith;
+        goes_on = λ before_end. (let more = some (omega (arith, long, before_end)) in omega (arith, more));
+        there = omega (arith, there, few, long);
+        within = within;
+        text = lines_from lines _ text';
+      })

@@ -1,20 +1,40 @@
 -- What the calls of a handle come to.
-use Rattle.std.specs.Prelude.{◌≡◌, ℕ, Bool, true, false, List, [], length, map, take, Option, Some, None, Result, Ok, Err}
+use Rattle.std.specs.Prelude.{◌≡◌, ◌≢◌, ◌⊎◌, ℕ, true, false, List, [], length, map, Option, Some, None, Result, Ok, Err}
+use Rattle.velo_events.specs.declared.config.Bounds.{Bounds}
+use Rattle.velo_events.specs.Config.{first_bad_value}
 use Rattle.velo_events.specs.declared.event.Action.{Action}
 use Rattle.velo_events.specs.declared.event.Event.{Event}
 use Rattle.velo_events.specs.declared.event.ThreadId.{ThreadId}
 use Rattle.velo_events.specs.declared.refusal.Refusal.{Refusal}
 use Rattle.velo_events.specs.declared.refusal.Refusal.TheVariants.{Halted, NotLive, NoSuchVariable, NoSuchLock, NoSuchThread, Busy, AlreadyHeld, NotHolder, NoOpenBlock, TooDeep, AlreadyForked, NotForked, NotExited, AlreadyJoined, BlockOpen, LockHeld, LogFull, GraphFull, Memory, WouldDeadlock, RuntimeMemory, Foreign}
-use Rattle.velo_events.specs.Graph.{HasCycle}
 use Rattle.velo_traces.specs.declared.block.Block.{Block}
 use Rattle.velo_world.specs.declared.analysis.Alarm.{Alarm}
 use Rattle.velo_world.specs.declared.analysis.Reply.{Reply}
-use Rattle.velo_world.specs.World.{AlarmOf, StepsTo}
+use Rattle.velo_world.specs.World.{AlarmOf, StepsTo, WorldState}
 use Rattle.velo_ffi.specs.declared.answers.Answer.{Answer}
 use Rattle.velo_ffi.specs.declared.answers.Blamed.{Blamed}
 use Rattle.velo_ffi.specs.declared.answers.Verdict.{Verdict}
-use Rattle.velo_ffi.specs.declared.answers.TheConstants.{CLOSED, DONE}
+use Rattle.velo_ffi.specs.declared.answers.TheConstants.{ALREADY_OPEN, BAD_NUMBER, CLOSED, DONE}
+use Rattle.velo_ffi.specs.Texts.{TellsAll, WantsMemory}
 use Rattle.velo_ffi.specs.Watch.{WatchState}
+
+-- ---- opening
+
+-- a world without events, of these bounds and limits, which goes on after an alarm
+pub record IsOpened (asked : Bounds) (most_events most_nodes : ℕ) (w : WorldState) : Type 0 where
+  pub bounds : w.config.bounds ≡ asked
+  pub events : w.config.events ≡ most_events
+  pub nodes : w.config.nodes ≡ most_nodes
+  pub goes_on : w.config.stop ≡ false
+  pub live : w.halted ≡ false
+  pub empty : w.log ≡ []
+
+-- what opening came to, by what the handle keeps before and after: a number may be bad, or a growth refused
+abbrev pub Opens : Option WatchState → Bounds → ℕ → ℕ → ℕ → Option WatchState → Type 0
+Opens (Some w) bounds events nodes status kept = (status ≡ ALREADY_OPEN) × (kept ≡ Some w)
+Opens None bounds events nodes status (Some w) = (status ≡ DONE) × IsOpened bounds events nodes w.world
+Opens None bounds events nodes status None =
+    ((status ≡ BAD_NUMBER) × (first_bad_value bounds events nodes ≢ None)) ⊎ WantsMemory status
 
 -- ---- an event
 
@@ -98,3 +118,7 @@ pub record AreBlocks (log : List Event) (blocks : List Blamed) : Type 0 where
   pub alarm : Option Alarm
   pub exact : AlarmOf log alarm
   pub told : blocks ≡ blocks_of alarm
+
+-- they are put into the buffer, or how many they are is told
+abbrev pub TellsBlocks : List Event → ℕ → List Blamed → ℕ → Type 0
+TellsBlocks log status buffer count = (blocks : List Blamed) × AreBlocks log blocks × TellsAll blocks status buffer count

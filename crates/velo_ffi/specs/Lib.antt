@@ -1,6 +1,8 @@
 pub mod Watch
 pub mod Inside
 pub mod Kept
+pub mod Gathered
+pub mod Texts
 pub mod Answers
 pub mod Pieces
 pub mod Names

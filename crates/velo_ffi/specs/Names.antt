@@ -1,8 +1,10 @@
 -- The words of a refusal.
-use Rattle.std.specs.Prelude.{◌≡◌, ℕ, List, codes}
+use Rattle.std.specs.Prelude.{◌≡◌, ◌<◌, ◌≤◌, ◌⊎◌, ℕ, List, codes}
 use Rattle.velo_events.specs.declared.refusal.Refusal.{Refusal}
 use Rattle.velo_events.specs.declared.refusal.Refusal.TheVariants.{Halted, NotLive, NoSuchVariable, NoSuchLock, NoSuchThread, Busy, AlreadyHeld, NotHolder, NoOpenBlock, TooDeep, AlreadyForked, NotForked, NotExited, AlreadyJoined, BlockOpen, LockHeld, LogFull, GraphFull, Memory, WouldDeadlock, RuntimeMemory, Foreign}
+use Rattle.velo_ffi.specs.declared.answers.TheConstants.{BAD_NUMBER}
 use Rattle.velo_ffi.specs.Answers.{number_of}
+use Rattle.velo_ffi.specs.Texts.{TellsAll}
 
 abbrev pub words_of : Refusal → List ℕ
 words_of Halted = codes "halted"
@@ -33,3 +35,11 @@ pub record IsName (number : ℕ) (text : List ℕ) : Type 0 where
   pub refusal : Refusal
   pub numbered : number_of refusal ≡ number
   pub words : text ≡ words_of refusal
+
+-- no refusal has the number
+abbrev pub IsNoNumber : ℕ → Type 0
+IsNoNumber number = 1 ≤ number → 22 < number
+
+abbrev pub TellsName : ℕ → ℕ → List ℕ → ℕ → Type 0
+TellsName number status buffer count =
+    ((text : List ℕ) × IsName number text × TellsAll text status buffer count) ⊎ ((status ≡ BAD_NUMBER) × IsNoNumber number)

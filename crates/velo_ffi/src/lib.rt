@@ -3,12 +3,18 @@
 
 mod answers;
 mod events;
+mod gathered;
+mod growth;
 mod held;
 mod kept;
+mod laws;
 mod lines;
 mod live;
 mod logs;
 mod monitor;
 mod names;
+mod texts;
 mod verdicts;
 mod watch;
+
+pub use laws::pieces_make_the_log;

@@ -1,5 +1,5 @@
 //! Lines of a log, put into a buffer.
-ghost use Rattle.std.specs.Prelude.{◌≡◌, ◌≤◌, ◌+◌, ◌++◌, length, take};
+ghost use Rattle.std.specs.Prelude.{◌≡◌, ◌<◌, ◌≤◌, ◌+◌, ◌++◌, length, take};
 ghost use Rattle.velo_logtext.specs.Text.{event_line, event_lines};
 ghost use Rattle.velo_ffi.specs.Pieces.{head_at};
 
@@ -41,12 +41,26 @@ pub fn put_head(buffer: &mut [u8], bounds: Bounds, from: usize) -> usize
     put_bytes(buffer, at, b"\n")
 }
 
-/// Puts the lines of events, as many as there is room for, and answers the place behind them and how many they are.
+/// How long the line of the first event is, if there is one.
+pub fn first_length(events: &[Event]) -> usize
+    ensures length { result ≡ length (event_lines (take 1 events.now)) }
+    ensures short { result ≤ LINE_ROOM }
+{
+    let mut line = [0u8; LINE_ROOM];
+    match events.first() {
+        None => 0,
+        Some(event) => put_line(&mut line, 0, *event),
+    }
+}
+
+/// Puts the lines of events, as many as there is room for, and answers the place behind them and how many they are: at least
+/// one, if there is room for the first.
 pub fn put_lines(buffer: &mut [u8], at: usize, events: &[Event]) -> (usize, usize)
     requires { at ≤ length buffer.old }
     ensures text { take result.0 buffer.new ≡ take at buffer.old ++ event_lines (take result.1 events.now) }
     ensures within { result.0 ≤ length buffer.new }
     ensures count { result.1 ≤ length events.now }
+    ensures some { 0 < length events.now → at + length (event_lines (take 1 events.now)) ≤ length buffer.old → 0 < result.1 }
 {
     let mut used = at;
     for count in 0..events.len() {

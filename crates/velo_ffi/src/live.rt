@@ -1,17 +1,19 @@
 //! The life of a handle, and the step that each event is.
-ghost use Rattle.std.specs.Prelude.{◌≡◌, ◌≢◌, ◌↔◌, Some, None, [], IfSome, false, is_some};
+ghost use Rattle.std.specs.Prelude.{◌≡◌, ◌≢◌, ◌↔◌, None};
 ghost use Rattle.velo_events.specs.declared.event.Action.{Action as ActionOf};
-ghost use Rattle.velo_events.specs.Config.{first_bad_value};
-ghost use Rattle.velo_ffi.specs.Answers.{Does, Tells, number_of};
+ghost use Rattle.velo_ffi.specs.Answers.{Does, Opens, Tells, number_of};
 
 use crate::answers::{ALREADY_OPEN, Answer, BAD_NUMBER, CLOSED, DONE, NO_MEMORY};
+use crate::growth::boxed;
 use crate::monitor::Monitor;
 use crate::watch::Watch;
 use std::alloc::Global;
 use velo_events::{Action, Bounds, Config, Refusal, ThreadId};
 use velo_world::Reply;
 
-/// Opens a monitor without events.
+/// Opens a monitor without events, of so many threads, variables and locks, and with these limits of events and of nodes.
+/// `ALREADY_OPEN` where it is open, `BAD_NUMBER` where a number is out of its range, `NO_MEMORY` where a growth was refused;
+/// nothing has changed then.
 #[unsafe(no_mangle)]
 pub extern "C" fn velodrome_open(
     alloc: Global,
@@ -22,11 +24,8 @@ pub extern "C" fn velodrome_open(
     events: u32,
     nodes: u16,
 ) -> u32
-    ensures opened { result ≡ DONE → IfSome monitor.new.kept.watch (λ watch. watch.world.log ≡ []) }
-    ensures there { result ≡ DONE → monitor.new.kept.watch ≢ None }
+    ensures opens { Opens monitor.old.kept.watch (record { threads = threads; variables = variables; locks = locks }) events nodes result monitor.new.kept.watch }
     ensures same { result ≢ DONE → monitor.new.kept.watch ≡ monitor.old.kept.watch }
-    ensures already { result ≡ ALREADY_OPEN ↔ monitor.old.kept.watch ≢ None }
-    ensures bad { result ≡ BAD_NUMBER → first_bad_value (record { threads = threads; variables = variables; locks = locks }) events nodes ≢ None }
 {
     if monitor.live {
         return ALREADY_OPEN;
@@ -42,16 +41,11 @@ pub extern "C" fn velodrome_open(
     let Ok(watch) = Watch::start(alloc, config) else {
         return NO_MEMORY;
     };
-    match Box::new(alloc, watch) {
-        Ok(watch) => {
-            *monitor = Monitor::of(watch);
-            DONE
-        }
-        Err(failed) => {
-            drop(failed);
-            NO_MEMORY
-        }
-    }
+    let Ok(watch) = boxed(alloc, watch) else {
+        return NO_MEMORY;
+    };
+    *monitor = Monitor::of(watch);
+    DONE
 }
 
 /// Closes a monitor, and frees what it held.

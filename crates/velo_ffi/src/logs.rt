@@ -1,9 +1,9 @@
 //! The text of the log, in pieces of whole lines.
-ghost use Rattle.std.specs.Prelude.{◌≡◌, ◌≢◌, ◌<◌, length, None, IfSome};
-ghost use Rattle.velo_ffi.specs.Pieces.{LacksRoom, PutsPiece};
+ghost use Rattle.std.specs.Prelude.{◌≡◌, ◌≢◌, None, IfSome};
+ghost use Rattle.velo_ffi.specs.Pieces.{TellsPiece};
 
 use crate::answers::{BAD_NUMBER, CLOSED, DONE, TOO_SHORT};
-use crate::lines::{LINE_ROOM, put_head, put_line, put_lines};
+use crate::lines::{LINE_ROOM, first_length, put_head, put_lines};
 use crate::monitor::Monitor;
 use crate::watch::Watch;
 use std::alloc::Global;
@@ -17,11 +17,10 @@ fn put_piece(
     count: &mut usize,
     next: &mut usize,
 ) -> u32
-    ensures done { result ≡ DONE → PutsPiece watch.now.world.config.bounds watch.now.world.log from buffer.new count.new next.new }
-    ensures short { result ≡ TOO_SHORT → LacksRoom watch.now.world.config.bounds watch.now.world.log from buffer.new count.new }
-    ensures beyond { result ≡ BAD_NUMBER → length watch.now.world.log < from }
+    ensures told { TellsPiece watch.now.world.config.bounds watch.now.world.log from result buffer.new count.new next.new }
     ensures same { result ≢ DONE → buffer.new ≡ buffer.old }
     ensures still { result ≢ DONE → next.new ≡ next.old }
+    ensures untold { result ≢ DONE → result ≢ TOO_SHORT → count.new ≡ count.old }
 {
     let log = watch.world.log().as_slice();
     if from > log.len() {
@@ -30,13 +29,9 @@ fn put_piece(
     let rest = &log[from..];
     let mut header = [0u8; LINE_ROOM];
     let head = put_head(&mut header, watch.world.bounds(), from);
-    let mut line = [0u8; LINE_ROOM];
-    let first = match rest.first() {
-        None => 0,
-        Some(event) => put_line(&mut line, 0, *event),
-    };
-    if head + first > buffer.len() {
-        *count = head + first;
+    let needed = head + first_length(rest);
+    if needed > buffer.len() {
+        *count = needed;
         return TOO_SHORT;
     }
     let at = put_bytes(buffer, 0, &header[..head]);
@@ -61,12 +56,11 @@ pub extern "C" fn velodrome_log(
     next: &mut usize,
 ) -> u32
     ensures kept { monitor.new.kept.watch ≡ monitor.old.kept.watch }
-    ensures done { result ≡ DONE → IfSome monitor.old.kept.watch (λ watch. PutsPiece watch.world.config.bounds watch.world.log from buffer.new count.new next.new) }
-    ensures short { result ≡ TOO_SHORT → IfSome monitor.old.kept.watch (λ watch. LacksRoom watch.world.config.bounds watch.world.log from buffer.new count.new) }
-    ensures beyond { result ≡ BAD_NUMBER → IfSome monitor.old.kept.watch (λ watch. length watch.world.log < from) }
+    ensures told { IfSome monitor.old.kept.watch (λ watch. TellsPiece watch.world.config.bounds watch.world.log from result buffer.new count.new next.new) }
     ensures closed { monitor.old.kept.watch ≡ None → result ≡ CLOSED }
     ensures same { result ≢ DONE → buffer.new ≡ buffer.old }
     ensures still { result ≢ DONE → next.new ≡ next.old }
+    ensures untold { result ≢ DONE → result ≢ TOO_SHORT → count.new ≡ count.old }
 {
     let Some(watch) = monitor.take(alloc) else {
         return CLOSED;

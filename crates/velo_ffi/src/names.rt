@@ -1,16 +1,16 @@
 //! Refusals in words.
-ghost use Rattle.std.specs.Prelude.{◌≡◌, ◌≢◌, ◌<◌, ◌≤◌, length, take, IfSome, IfNone};
+ghost use Rattle.std.specs.Prelude.{◌≡◌, ◌≢◌, IfSome, IfNone};
 ghost use Rattle.velo_ffi.specs.Answers.{number_of};
-ghost use Rattle.velo_ffi.specs.Names.{IsName, words_of};
+ghost use Rattle.velo_ffi.specs.Names.{IsNoNumber, TellsName, words_of};
 
 use crate::answers::{BAD_NUMBER, DONE, TOO_SHORT};
+use crate::texts::put_whole;
 use velo_events::Refusal;
-use velo_logtext::put_bytes;
 
 /// The refusal that has a number.
 fn refusal_of(number: u32) -> Option<Refusal>
     ensures some { IfSome result (λ refusal. number_of refusal ≡ number) }
-    ensures none { IfNone result (1 ≤ number → 22 < number) }
+    ensures none { IfNone result (IsNoNumber number) }
 {
     match number {
         1 => Some(Refusal::Halted),
@@ -74,19 +74,12 @@ fn words_of(refusal: Refusal) -> &'static str
 /// long enough.
 #[unsafe(no_mangle)]
 pub extern "C" fn velodrome_refusal(number: u32, buffer: &mut [u8], count: &mut usize) -> u32
-    ensures done { result ≡ DONE → IsName number (take count.new buffer.new) }
-    ensures none { result ≡ BAD_NUMBER → 1 ≤ number → 22 < number }
-    ensures short { result ≡ TOO_SHORT → length buffer.new < count.new }
+    ensures told { TellsName number result buffer.new count.new }
     ensures same { result ≢ DONE → buffer.new ≡ buffer.old }
+    ensures untold { result ≡ BAD_NUMBER → count.new ≡ count.old }
 {
-    let Some(refusal) = refusal_of(number) else {
-        return BAD_NUMBER;
-    };
-    let words = words_of(refusal).as_bytes();
-    *count = words.len();
-    if words.len() > buffer.len() {
-        return TOO_SHORT;
+    match refusal_of(number) {
+        None => BAD_NUMBER,
+        Some(refusal) => put_whole(words_of(refusal).as_bytes(), buffer, count),
     }
-    put_bytes(buffer, 0, words);
-    DONE
 }

@@ -1,6 +1,6 @@
 //! The verdict so far, and the blocks to blame.
-ghost use Rattle.std.specs.Prelude.{◌≡◌, ◌≢◌, ◌<◌, ◌≤◌, None, length, map, take, IfSome};
-ghost use Rattle.velo_ffi.specs.Answers.{AreBlocks, IsVerdict, blamed_of};
+ghost use Rattle.std.specs.Prelude.{◌≡◌, ◌≢◌, ◌≤◌, None, length, map, take, IfSome};
+ghost use Rattle.velo_ffi.specs.Answers.{IsVerdict, TellsBlocks, blamed_of};
 
 use crate::answers::{Blamed, CLOSED, DONE, TOO_SHORT, Verdict};
 use crate::monitor::Monitor;
@@ -40,6 +40,7 @@ pub extern "C" fn velodrome_verdict(
 ) -> u32
     ensures kept { monitor.new.kept.watch ≡ monitor.old.kept.watch }
     ensures told { IfSome monitor.old.kept.watch (λ watch. IsVerdict watch.world.log verdict.new) }
+    ensures open { monitor.old.kept.watch ≢ None → result ≡ DONE }
     ensures closed { monitor.old.kept.watch ≡ None → result ≡ CLOSED }
     ensures same { result ≢ DONE → verdict.new ≡ verdict.old }
 {
@@ -66,8 +67,7 @@ fn put_blocks(blocks: &[Block], buffer: &mut [Blamed])
 
 /// Tells the blocks to blame, and how many they are.
 fn put_blamed(watch: &Watch, buffer: &mut [Blamed], count: &mut usize) -> u32
-    ensures done { result ≡ DONE → AreBlocks watch.now.world.log (take count.new buffer.new) }
-    ensures short { result ≡ TOO_SHORT → length buffer.new < count.new }
+    ensures told { TellsBlocks watch.now.world.log result buffer.new count.new }
     ensures same { result ≢ DONE → buffer.new ≡ buffer.old }
 {
     match watch.world.alarm() {
@@ -98,10 +98,10 @@ pub extern "C" fn velodrome_blamed(
     count: &mut usize,
 ) -> u32
     ensures kept { monitor.new.kept.watch ≡ monitor.old.kept.watch }
-    ensures done { result ≡ DONE → IfSome monitor.old.kept.watch (λ watch. AreBlocks watch.world.log (take count.new buffer.new)) }
-    ensures short { result ≡ TOO_SHORT → length buffer.new < count.new }
+    ensures told { IfSome monitor.old.kept.watch (λ watch. TellsBlocks watch.world.log result buffer.new count.new) }
     ensures closed { monitor.old.kept.watch ≡ None → result ≡ CLOSED }
     ensures same { result ≢ DONE → buffer.new ≡ buffer.old }
+    ensures untold { result ≡ CLOSED → count.new ≡ count.old }
 {
     let Some(watch) = monitor.take(alloc) else {
         return CLOSED;

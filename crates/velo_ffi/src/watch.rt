@@ -1,13 +1,14 @@
 //! A world with the shares of its threads.
-ghost use Rattle.std.specs.Prelude.{◌≡◌, false, [], IfOk};
-ghost use Rattle.velo_world.specs.World.{StepsTo};
+ghost use Rattle.std.specs.Prelude.{◌≡◌, false, IfOk, OnErr};
+ghost use Rattle.velo_events.specs.Refusals.{GrowthRefused};
+ghost use Rattle.velo_world.specs.World.{StepsTo, opening};
 
 use std::alloc::Global;
 use std::marker::Model;
 use velo_events::{Action, Config, Memory, Refusal, ThreadId};
 use velo_ledger::Shares;
 use velo_traces::Trace;
-use velo_world::{Reply, World};
+use velo_world::{LogReplayFault, Reply, World};
 
 /// A world with the shares of its threads: who has it acts as any of them.
 #[derive(Drop)]
@@ -36,13 +37,13 @@ impl Watch {
     /// `Memory` where a growth was refused.
     pub fn start(alloc: Global, config: Config) -> Result<Watch, Memory>
         requires { config.stop ≡ false }
-        ensures empty { IfOk result (λ watch. watch.world.log ≡ []) }
-        ensures config { IfOk result (λ watch. watch.world.config ≡ config) }
-        ensures live { IfOk result (λ watch. watch.world.halted ≡ false) }
+        ensures world { IfOk result (λ watch. watch.world ≡ opening config) }
+        ensures memory { OnErr result GrowthRefused }
     {
         match World::from_log(alloc, config, Trace::new(alloc)) {
             Ok((world, shares)) => Ok(Watch { world, shares }),
-            Err(_) => Err(Memory),
+            Err(LogReplayFault::Memory) => Err(Memory),
+            Err(_) => unreachable!(),
         }
     }
 

@@ -1,34 +1,36 @@
-//! The report of a closed world.
+//! The report of a world.
 ghost use Rattle.std.specs.Prelude.{◌≡◌, ◌<◌, ◌++◌, ◌∷◌, [], codes, decimal, length, Some, OnOk, OnErr};
 ghost use Rattle.std.specs.Option.{option_copied};
 ghost use Rattle.velo_logtext.specs.Device.{with_failure, AppendsBeginning};
 ghost use Rattle.velo_report.specs.Lines.{Buffers};
 ghost use Rattle.velo_report.specs.Report.{thread_line, thread_lines, blame_line, blame_lines, verdict_lines, AppendsReport, AppendsPartOfReport};
+ghost use Rattle.velo_report.specs.Told.{world_of};
 
 use crate::lines::{Lines, Word};
 use crate::names::Names;
+use crate::told::Told;
 use velo_events::ThreadId;
 use velo_logtext::{Sink, WriteFault};
 use velo_names::NameKind;
 use velo_traces::Block;
-use velo_world::{Alarm, Closed};
+use velo_world::{Alarm, Closed, World};
 
 /// Adds the line of a thread.
 fn add_thread<S: Sink>(
     lines: &mut Lines,
     sink: &mut S,
     names: &Names,
-    closed: &Closed,
+    told: &Told,
     thread: ThreadId,
 ) -> Result<(), WriteFault>
-    requires { thread.0 < closed.now.config.bounds.threads }
-    ensures ok { OnOk result (Buffers (S.contents sink.old) (S.contents sink.new) lines.old lines.new (thread_line names.now closed.now.log thread.0)) }
-    ensures err { OnErr result (AppendsBeginning (S.contents sink.old) (S.contents sink.new) (lines.old ++ thread_line names.now closed.now.log thread.0)) }
+    requires { thread.0 < (world_of told.now).config.bounds.threads }
+    ensures ok { OnOk result (Buffers (S.contents sink.old) (S.contents sink.new) lines.old lines.new (thread_line names.now (world_of told.now).log thread.0)) }
+    ensures err { OnErr result (AppendsBeginning (S.contents sink.old) (S.contents sink.new) (lines.old ++ thread_line names.now (world_of told.now).log thread.0)) }
     ensures no_failure { OnOk result (S.failures sink.new ≡ S.failures sink.old) }
     ensures failure { OnErr result (S.failures sink.new ≡ with_failure (S.failures sink.old)) }
 {
     let number = u64::from(thread.0);
-    let count = closed.tally(thread).events;
+    let count = told.events_of(thread);
     if let Some(name) = names.behind(NameKind::Thread, u32::from(thread.0)) {
         return lines.add_line(
             sink,
@@ -51,15 +53,15 @@ fn add_threads<S: Sink>(
     lines: &mut Lines,
     sink: &mut S,
     names: &Names,
-    closed: &Closed,
+    told: &Told,
 ) -> Result<(), WriteFault>
-    ensures ok { OnOk result (Buffers (S.contents sink.old) (S.contents sink.new) lines.old lines.new (thread_lines names.now closed.now.log closed.now.config.bounds.threads)) }
-    ensures err { OnErr result (AppendsBeginning (S.contents sink.old) (S.contents sink.new) (lines.old ++ thread_lines names.now closed.now.log closed.now.config.bounds.threads)) }
+    ensures ok { OnOk result (Buffers (S.contents sink.old) (S.contents sink.new) lines.old lines.new (thread_lines names.now (world_of told.now).log (world_of told.now).config.bounds.threads)) }
+    ensures err { OnErr result (AppendsBeginning (S.contents sink.old) (S.contents sink.new) (lines.old ++ thread_lines names.now (world_of told.now).log (world_of told.now).config.bounds.threads)) }
     ensures no_failure { OnOk result (S.failures sink.new ≡ S.failures sink.old) }
     ensures failure { OnErr result (S.failures sink.new ≡ with_failure (S.failures sink.old)) }
 {
-    for t in 0..closed.bounds().threads {
-        add_thread(lines, sink, names, closed, ThreadId(t))?;
+    for t in 0..told.bounds().threads {
+        add_thread(lines, sink, names, told, ThreadId(t))?;
     }
     Ok(())
 }
@@ -154,6 +156,22 @@ fn add_verdict<S: Sink>(
     }
 }
 
+/// Writes the report of a world.
+fn tell<S: Sink>(told: &Told, names: &Names, sink: &mut S) -> Result<(), WriteFault>
+    ensures ok { OnOk result (AppendsReport (S.contents sink.old) (S.contents sink.new) names.now (world_of told.now).config.bounds.threads (world_of told.now).log) }
+    ensures err { OnErr result (AppendsPartOfReport (S.contents sink.old) (S.contents sink.new) names.now (world_of told.now).config.bounds.threads (world_of told.now).log) }
+    ensures no_failure { OnOk result (S.failures sink.new ≡ S.failures sink.old) }
+    ensures failure { OnErr result (S.failures sink.new ≡ with_failure (S.failures sink.old)) }
+{
+    let alarm = told.alarm();
+    let total = told.total();
+    let mut lines = Lines::new();
+    lines.add_line(sink, "events", &[Word::Number(total)])?;
+    add_threads(&mut lines, sink, names, told)?;
+    add_verdict(&mut lines, sink, names, alarm)?;
+    lines.flush(sink)
+}
+
 /// Writes the report of a closed world: how many events there are, how many of each thread, and the verdict; with an alarm
 /// its position, the first position of its transaction, and the blocks to blame.
 ///
@@ -165,11 +183,18 @@ pub fn report<S: Sink>(closed: &Closed, names: &Names, sink: &mut S) -> Result<(
     ensures no_failure { OnOk result (S.failures sink.new ≡ S.failures sink.old) }
     ensures failure { OnErr result (S.failures sink.new ≡ with_failure (S.failures sink.old)) }
 {
-    let alarm = closed.alarm();
-    let total = closed.total();
-    let mut lines = Lines::new();
-    lines.add_line(sink, "events", &[Word::Number(total)])?;
-    add_threads(&mut lines, sink, names, closed)?;
-    add_verdict(&mut lines, sink, names, alarm)?;
-    lines.flush(sink)
+    tell(&Told::Ended(closed), names, sink)
+}
+
+/// Writes the report of the events so far of a world that may go on: what `report` would write, were it closed now.
+///
+/// # Errors
+/// `WriteFault` where the sink failed. A beginning of the report was written then.
+pub fn report_so_far<S: Sink>(world: &World, names: &Names, sink: &mut S) -> Result<(), WriteFault>
+    ensures ok { OnOk result (AppendsReport (S.contents sink.old) (S.contents sink.new) names.now world.now.config.bounds.threads world.now.log) }
+    ensures err { OnErr result (AppendsPartOfReport (S.contents sink.old) (S.contents sink.new) names.now world.now.config.bounds.threads world.now.log) }
+    ensures no_failure { OnOk result (S.failures sink.new ≡ S.failures sink.old) }
+    ensures failure { OnErr result (S.failures sink.new ≡ with_failure (S.failures sink.old)) }
+{
+    tell(&Told::Going(world), names, sink)
 }

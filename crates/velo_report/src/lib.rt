@@ -6,10 +6,11 @@ mod certificate;
 mod closed;
 mod lines;
 mod names;
+mod told;
 
 pub use alarm::alarm_line;
 pub use certificate::certificate_lines;
-pub use closed::report;
+pub use closed::{report, report_so_far};
 pub use names::Names;
 
 #[cfg(test)]

@@ -67,5 +67,8 @@ extern "C" {
     pub fn velodrome_exit(monitor: *mut Handle, thread: u8, answer: *mut Answer) -> u32;
     pub fn velodrome_verdict(monitor: *mut Handle, verdict: *mut Verdict) -> u32;
     pub fn velodrome_blamed(monitor: *mut Handle, buffer: *mut Block, room: usize, count: *mut usize) -> u32;
+    pub fn velodrome_report(monitor: *mut Handle, buffer: *mut u8, room: usize, count: *mut usize) -> u32;
+    pub fn velodrome_explanation(monitor: *mut Handle, buffer: *mut u8, room: usize, count: *mut usize) -> u32;
+    pub fn velodrome_refusal(number: u32, buffer: *mut u8, room: usize, count: *mut usize) -> u32;
     pub fn velodrome_log(monitor: *mut Handle, from: usize, buffer: *mut u8, room: usize, count: *mut usize, next: *mut usize) -> u32;
 }

@@ -15,7 +15,13 @@ pub struct Refused(pub u32);
 
 impl std::fmt::Display for Refused {
     fn fmt(&self, f: &mut std::fmt::Formatter<'_>) -> std::fmt::Result {
-        write!(f, "velodrome: status {}", self.0)
+        let mut words = [0; 32];
+        let mut count = 0;
+        // SAFETY: the buffer has the room that is said.
+        match unsafe { sys::velodrome_refusal(self.0, words.as_mut_ptr(), words.len(), &mut count) } {
+            0 => write!(f, "velodrome: {}", String::from_utf8_lossy(&words[..count])),
+            _ => write!(f, "velodrome: status {}", self.0),
+        }
     }
 }
 
@@ -134,6 +140,35 @@ impl Monitor {
                 Ok(blocks)
             }
             status => Err(Refused(status)),
+        }
+    }
+
+    /// The report of the events so far, as `velodrome check` writes it for the log.
+    pub fn report(&self) -> Result<String, Refused> {
+        self.text(sys::velodrome_report)
+    }
+
+    /// The explanation of the events so far, as `velodrome explain` writes it for the log. It takes time and memory in proportion
+    /// to the log.
+    pub fn explanation(&self) -> Result<String, Refused> {
+        self.text(sys::velodrome_explanation)
+    }
+
+    /// A whole text, by a call that tells how much room it takes.
+    fn text(&self, call: unsafe extern "C" fn(*mut Handle, *mut u8, usize, *mut usize) -> u32) -> Result<String, Refused> {
+        let mut room = self.room();
+        let mut text = vec![0; 4096];
+        loop {
+            let mut count = 0;
+            // SAFETY: the lock is held, and the buffer has the room that is said.
+            match unsafe { call(&mut room.handle, text.as_mut_ptr(), text.len(), &mut count) } {
+                0 => {
+                    text.truncate(count);
+                    return Ok(String::from_utf8(text).expect("velodrome: its texts are ASCII"));
+                }
+                104 => text.resize(count, 0),
+                status => return Err(Refused(status)),
+            }
         }
     }
 

@@ -63,10 +63,28 @@ fn log_and_blame() {
     drop(outer);
     let blamed: Vec<_> = monitor.blamed().unwrap().iter().map(|block| (block.first, block.label)).collect();
     assert_eq!(blamed, [(0, 0), (1, 1)]);
+    let report = "events 10\nthread 0 8\nthread 1 2\nverdict alarm 6\ntransaction 0\nblame 0 0\nblame 1 1\n";
+    assert_eq!(monitor.report().unwrap(), report);
+    assert!(monitor.explanation().unwrap().contains("\n  T1: thread 0, block 0, lines 2 to 8\n"));
     let mut log = Vec::new();
     monitor.write_log(&mut log).unwrap();
     let text = "vlog 2 2 1 0\n0 begin 0\n0 begin 1\n0 rd 0 0\n0 fork 1\n1 wr 0 0\n1 exit\n0 join 1\n0 wr 0 0\n0 end\n0 end\n";
     assert_eq!(String::from_utf8(log).unwrap(), text);
+}
+
+#[test]
+fn report_grows_with_the_run() {
+    let monitor = Monitor::open(1, 1, 0, 20_000, 64).unwrap();
+    assert_eq!(monitor.report().unwrap(), "events 0\nthread 0 0\nverdict clean\n");
+    let x = Shared::new(&monitor, "x", 0);
+    for _ in 0..10_000 {
+        x.get();
+    }
+    assert_eq!(monitor.report().unwrap(), "events 10000\nthread 0 10000\nverdict clean\n");
+    let words = "The blocks of this log can be serialized.\nEvents: 10000\nTransactions, which can follow one another: 10000\n";
+    assert_eq!(monitor.explanation().unwrap(), words);
+    assert_eq!(Refused(9).to_string(), "velodrome: no open block");
+    assert_eq!(Refused(102).to_string(), "velodrome: status 102");
 }
 
 #[test]

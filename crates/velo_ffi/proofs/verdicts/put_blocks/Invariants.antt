@@ -1,4 +1,4 @@
-use Rattle.std.proofs.Common.{◌≡◌, ◌≤◌, length, map, take}
+use Rattle.std.proofs.Common.{◌≡◌, length, map, take}
 use Rattle.velo_ffi.specs.Answers.{blamed_of}
 use Rattle.velo_ffi.proofs.verdicts.put_blocks.Given as goal
 

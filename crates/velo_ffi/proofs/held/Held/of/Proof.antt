@@ -25,7 +25,7 @@ use types.Part.{whole, sub, agg}
 use types.Run.{stop, fld, no_more, and_then, of_opd, returns, enter}
 use types.ByLocal.{alloc_all, pass_all, free_all, look_at, get, get_in, sets, lands_as}
 use denote.Exit.{no}
-use denote.Param.{bounded, param}
+use denote.Param.{bounded}
 use denote.Param.Laws.{Laws}
 use denote.Param.NoDrop.{glues}
 use denote.RattleType.{RattleType}

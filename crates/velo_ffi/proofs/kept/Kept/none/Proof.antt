@@ -1,10 +1,10 @@
 -- `none` makes a null pointer, which owns nothing.
-use Rattle.std.specs.Prelude.{Option, Some, None}
+use Rattle.std.specs.Prelude.{None}
 use mathlib.Core.Path.{refl, sym, subst}
 use mathlib.Core.List.{List, [], ◌∷◌, ◌++◌}
-use lib.Dec.{T, lit<}
+use lib.Dec.{lit<}
 use seplogic.Ra.Ura.{Ura}
-use mir.Val.{Val, vnull, vstruct, vcons, vnil, has_ty, WT}
+use mir.Val.{Val, vnull, vstruct, vcons, vnil, has_ty}
 use base.Logic.{SProp, ent, emp, id⊢}
 use base.Fml.{ftrue, fsep}
 use prog.Memory.{Memory}

@@ -1,0 +1,23 @@
+//! The growing call of this crate, with the fact that its refusal leaves. No other code of this crate can show this fact.
+ghost use Rattle.std.specs.Prelude.{◌≡◌, IfOk, OnErr};
+ghost use Rattle.velo_events.specs.Refusals.{GrowthRefused};
+
+use std::alloc::Global;
+use velo_events::Memory;
+
+/// A value in a box of its own.
+///
+/// # Errors
+/// `Memory` where the growth was refused.
+pub fn boxed<T: Drop>(alloc: Global, value: T) -> Result<Box<T>, Memory>
+    ensures value { IfOk result (λ boxed. boxed.value ≡ value) }
+    ensures memory { OnErr result GrowthRefused }
+{
+    match Box::new(alloc, value) {
+        Ok(boxed) => Ok(boxed),
+        Err(failed) => {
+            drop(failed);
+            Err(Memory)
+        }
+    }
+}
