@@ -14,8 +14,12 @@ use velo_worker::{Ending, replay};
 use velo_workload::Workload;
 use velo_world::Closed;
 
-/// The replay by a schedule. One that ends for want of memory is none.
-fn replayed(
+/// The replay by a schedule: the world after its end, and how it ended. One that ends for want of memory is none. The
+/// configuration has to have the workload's bounds.
+///
+/// # Errors
+/// `Memory` where a growth was refused.
+pub fn replayed(
     alloc: Global,
     workload: &Workload,
     schedule: &[ThreadId],
@@ -86,7 +90,7 @@ pub(crate) fn tell_stuck(
 }
 
 /// The thread that was refused, and why, where a run ended so and not for want of room.
-fn lasting_refusal(ending: Ending) -> Option<(ThreadId, Refusal)>
+pub fn lasting_refusal(ending: Ending) -> Option<(ThreadId, Refusal)>
     ensures ending { IfSome result (λ last. ending ≡ Refused last.0 last.1) }
     ensures lasting { IfSome result (λ last. IsFalse (is_for_room last.1)) }
 {
