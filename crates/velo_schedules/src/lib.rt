@@ -10,3 +10,5 @@ mod showing;
 pub use exploration::Exploration;
 pub use exploring::explore;
 pub use finding::{Finding, RefusalFinding, RefusedRun};
+pub use scripts::count_all;
+pub use showing::{lasting_refusal, replayed};

@@ -14,7 +14,7 @@ use velo_worker::{count_events, list_events};
 use velo_workload::{Statement, Workload};
 
 /// How many events all bodies have together; the largest number where there are more.
-pub(crate) fn count_all(workload: &Workload) -> u64
+pub fn count_all(workload: &Workload) -> u64
     ensures { result ≡ min (sum_by body_events workload.now.bodies) (2 ^ 64 - 1) }
 {
     let mut count = 0u64;

@@ -2,6 +2,7 @@
 ghost use Rattle.std.specs.Prelude.{◌≡◌, true, IsFalse, IfOk, IfSome, OnErr};
 ghost use Rattle.velo_events.specs.Refusals.{GrowthRefused};
 ghost use Rattle.velo_worker.specs.declared.ending.Ending.TheVariants.{Refused};
+ghost use Rattle.velo_worker.specs.Schedule.{Replays};
 ghost use Rattle.velo_schedules.specs.Logs.{AlwaysSerializable, NeverStuck, NeverRefused, is_for_room};
 ghost use Rattle.velo_schedules.specs.Told.{AlarmTold, IsOutcome, StuckTold, RefusalTold, ShowsRefusal};
 
@@ -11,6 +12,29 @@ use velo_events::growth::reserve;
 use velo_events::{Config, Memory, Refusal, ThreadId};
 use velo_worker::{Ending, replay};
 use velo_workload::Workload;
+use velo_world::Closed;
+
+/// The replay by a schedule: the world after its end, and how it ended. One that ends for want of memory is none. The
+/// configuration has to have the workload's bounds.
+///
+/// # Errors
+/// `Memory` where a growth was refused.
+pub fn replayed(
+    alloc: Global,
+    workload: &Workload,
+    schedule: &[ThreadId],
+    config: Config,
+) -> Result<(Closed, Ending), Memory>
+    requires { config.bounds ≡ workload.now.bounds }
+    ensures replays { IfOk result (λ run. Replays workload.now schedule.now config run.1 run.0) }
+    ensures memory { OnErr result GrowthRefused }
+{
+    let run = replay(alloc, workload, schedule, config)?;
+    match run.1 {
+        Ending::Refused(_, Refusal::Memory) => Err(Memory),
+        _ => Ok(run),
+    }
+}
 
 /// What a replay came to.
 #[derive(Clone, Copy, Debug, PartialEq, Eq)]
@@ -21,7 +45,7 @@ pub(crate) struct Outcome {
     pub ending: Ending,
 }
 
-/// What the replay by a schedule comes to. One that ends for want of memory is none.
+/// What the replay by a schedule comes to.
 fn outcome_of(
     alloc: Global,
     workload: &Workload,
@@ -32,16 +56,13 @@ fn outcome_of(
     ensures outcome { IfOk result (IsOutcome workload.now config schedule.now) }
     ensures memory { OnErr result GrowthRefused }
 {
-    let run = replay(alloc, workload, schedule, config)?;
+    let run = replayed(alloc, workload, schedule, config)?;
     let outcome = Outcome {
         alarm: run.0.alarm().is_some(),
         ending: run.1,
     };
     drop(run);
-    match outcome.ending {
-        Ending::Refused(_, Refusal::Memory) => Err(Memory),
-        _ => Ok(outcome),
-    }
+    Ok(outcome)
 }
 
 /// What is told of alarms: that there are none, or the schedule that was found, if its replay has one.
@@ -98,7 +119,7 @@ pub(crate) fn tell_stuck(
 }
 
 /// The thread that was refused, and why, where a run ended so and not for want of room.
-fn lasting_refusal(ending: Ending) -> Option<(ThreadId, Refusal)>
+pub fn lasting_refusal(ending: Ending) -> Option<(ThreadId, Refusal)>
     ensures ending { IfSome result (λ last. ending ≡ Refused last.0 last.1) }
     ensures lasting { IfSome result (λ last. IsFalse (is_for_room last.1)) }
 {

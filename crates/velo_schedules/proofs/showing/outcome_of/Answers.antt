@@ -2,10 +2,5 @@ use Rattle.std.proofs.Common.{refl}
 use Rattle.velo_schedules.proofs.OnShown.{outcome-is}
 use Rattle.velo_schedules.proofs.showing.outcome_of.Goals as goal
 
-pub returns-in_default : goal.returns-in_default
-returns-in_default c =
-    record { outcome = outcome-is _ _ _ _ _ _ refl c.in_ok-run.ensures.replays c.alarm.result c.is_some.ensures c.alarm.ensures.some; memory = tt }
-
-pub returns-in_default-2 : goal.returns-in_default-2
-returns-in_default-2 c =
-    record { outcome = outcome-is _ _ _ _ _ _ refl c.in_ok-run.ensures.replays c.alarm.result c.is_some.ensures c.alarm.ensures.some; memory = tt }
+pub returns : goal.returns
+returns c = ?

@@ -1,0 +1,74 @@
+//! Trying one change of a schedule after another.
+ghost use Rattle.std.specs.Prelude.{◌≡◌, ◌≤◌, length, IfOk, OnErr};
+ghost use Rattle.velo_events.specs.Refusals.{GrowthRefused};
+ghost use Rattle.velo_shrink.specs.Shown.{Shows};
+
+use crate::budget::Budget;
+use crate::edit::edited;
+use crate::goal::Goal;
+use crate::plan::Plan;
+use crate::trying::simpler;
+use std::alloc::Global;
+use velo_events::{Config, Memory, ThreadId};
+use velo_workload::Workload;
+
+/// How many tries are enough for most schedules.
+pub const MOST_TRIES: u32 = 4_000;
+
+/// The most turns and events of all tries together.
+const MOST_STEPS: u64 = 20_000_000;
+
+/// Makes a schedule simple that shows a finding: a schedule that shows the same, and is shorter, or as long with fewer
+/// switches of thread, or the same. The configuration has to have the workload's bounds.
+///
+/// Turns are left out, first whole stretches and then single ones, and turns of one thread are brought together, as long as the
+/// replay shows the finding; this is delta debugging (Zeller and Hildebrandt, "Simplifying and Isolating Failure-Inducing
+/// Input", IEEE Transactions on Software Engineering, 2002). Each try is a replay, and there are at most `most_tries`, in which
+/// together some 20,000,000 turns and events are done. Where a try shows the finding, the threads of its own events up to
+/// there are the next schedule, if they are simpler and show it again.
+///
+/// # Errors
+/// `Memory` where a growth was refused.
+pub fn shrink(
+    alloc: Global,
+    workload: &Workload,
+    goal: Goal,
+    schedule: Vec<ThreadId>,
+    most_tries: u32,
+    config: Config,
+) -> Result<Vec<ThreadId>, Memory>
+    requires bounds { config.bounds ≡ workload.now.bounds }
+    requires shows { Shows workload.now config goal schedule }
+    ensures shows { IfOk result (Shows workload.now config goal) }
+    ensures shorter { IfOk result (λ turns. length turns.items ≤ length schedule.items) }
+    ensures memory { OnErr result GrowthRefused }
+{
+    let mut best = schedule;
+    let mut plan = Plan::new();
+    let mut budget = Budget::new(MOST_STEPS);
+    for _ in 0..most_tries {
+        if budget.is_spent() {
+            return Ok(best);
+        }
+        let Some(edit) = plan.next(&best) else {
+            return Ok(best);
+        };
+        let candidate = edited(alloc, &best, edit)?;
+        match simpler(
+            alloc,
+            workload,
+            goal,
+            &best,
+            &candidate,
+            config,
+            &mut budget,
+        )? {
+            Some(turns) => {
+                plan.take_up(&best);
+                best = turns;
+            }
+            None => plan.pass_by(&best),
+        }
+    }
+    Ok(best)
+}

@@ -1,0 +1,177 @@
+//! One try: a schedule is replayed, and taken up if it shows the goal and is simpler.
+ghost use Rattle.std.specs.Prelude.{◌≡◌, ◌≤◌, length, IsTrue, IsFalse, IfOk, IfSome, OnErr};
+ghost use Rattle.velo_events.specs.Refusals.{GrowthRefused};
+ghost use Rattle.velo_worker.specs.declared.ending.Ending.TheVariants.{Refused};
+ghost use Rattle.velo_schedules.specs.Logs.{is_for_room};
+ghost use Rattle.velo_shrink.specs.Shown.{Reached, Reaches, Shows};
+
+use crate::budget::Budget;
+use crate::goal::Goal;
+use std::alloc::Global;
+use velo_events::growth::reserve;
+use velo_events::{Config, Memory, Refusal, ThreadId};
+use velo_schedules::{lasting_refusal, replayed};
+use velo_traces::Trace;
+use velo_worker::Ending;
+use velo_workload::Workload;
+use velo_world::Closed;
+
+/// Whether a run ended as this thread was refused, for this reason, which is no want of room.
+fn is_refused(ending: Ending, thread: ThreadId, refusal: Refusal) -> bool
+    ensures ending { IsTrue result → ending ≡ Refused thread refusal }
+    ensures lasting { IsTrue result → IsFalse (is_for_room refusal) }
+{
+    match lasting_refusal(ending) {
+        Some((other, reason)) => other == thread && reason == refusal,
+        None => false,
+    }
+}
+
+/// Whether a run reaches the goal.
+fn is_reached(goal: Goal, closed: &Closed, ending: Ending) -> bool
+    ensures { IsTrue result → Reaches goal ending closed.now }
+{
+    match goal {
+        Goal::Alarm => closed.alarm().is_some(),
+        Goal::Stuck => ending == Ending::Stuck,
+        Goal::Refused(thread, refusal) => is_refused(ending, thread, refusal),
+    }
+}
+
+/// The threads of the first events of a log, so many or as many as there are.
+fn threads_of(alloc: Global, log: &Trace, count: usize) -> Result<Vec<ThreadId>, Memory>
+    ensures memory { OnErr result GrowthRefused }
+{
+    let mut threads = Vec::new(alloc);
+    for place in 0..count {
+        let Some(event) = log.get(place) else {
+            return Ok(threads);
+        };
+        reserve(&mut threads, 1)?;
+        threads.push_reserved(event.thread);
+    }
+    Ok(threads)
+}
+
+/// A turn for each event of a run up to where it shows the goal: up to the event that closes the first cycle, or of the
+/// whole log, and behind that the turn that was refused.
+fn own_turns(alloc: Global, goal: Goal, closed: &Closed) -> Result<Vec<ThreadId>, Memory>
+    ensures memory { OnErr result GrowthRefused }
+{
+    let log = closed.log();
+    match goal {
+        Goal::Alarm => match closed.alarm() {
+            Some(alarm) => threads_of(alloc, log, alarm.position.saturating_add(1)),
+            None => threads_of(alloc, log, log.len()),
+        },
+        Goal::Stuck => threads_of(alloc, log, log.len()),
+        Goal::Refused(thread, _) => {
+            let mut turns = threads_of(alloc, log, log.len())?;
+            reserve(&mut turns, 1)?;
+            turns.push_reserved(thread);
+            Ok(turns)
+        }
+    }
+}
+
+/// The same, but where an alarm is looked for a replay ends at it.
+fn config_of_try(goal: Goal, config: Config) -> Config
+    ensures { result.bounds ≡ config.bounds }
+{
+    Config {
+        run: config.run,
+        bounds: config.bounds,
+        events: config.events,
+        nodes: config.nodes,
+        stop: config.stop || goal == Goal::Alarm,
+    }
+}
+
+/// The own turns of a run up to where it shows the goal, if it does.
+fn turns_if_reached(
+    alloc: Global,
+    goal: Goal,
+    closed: &Closed,
+    ending: Ending,
+) -> Result<Option<Vec<ThreadId>>, Memory>
+    ensures reaches { IfOk result (λ found. IfSome found (λ turns. Reaches goal ending closed.now)) }
+    ensures memory { OnErr result GrowthRefused }
+{
+    if !is_reached(goal, closed, ending) {
+        return Ok(None);
+    }
+    let turns = own_turns(alloc, goal, closed)?;
+    Ok(Some(turns))
+}
+
+/// Replays a schedule, and answers the run's own turns up to where it shows the goal, if it does.
+fn tried(
+    alloc: Global,
+    workload: &Workload,
+    goal: Goal,
+    schedule: &[ThreadId],
+    config: Config,
+    budget: &mut Budget,
+) -> Result<Option<Vec<ThreadId>>, Memory>
+    requires bounds { config.bounds ≡ workload.now.bounds }
+    ensures reached { IfOk result (λ found. IfSome found (λ turns. Reached workload.now config goal schedule.now)) }
+    ensures memory { OnErr result GrowthRefused }
+{
+    let (closed, ending) = replayed(alloc, workload, schedule, config)?;
+    budget.spend(schedule.len(), closed.log().len());
+    turns_if_reached(alloc, goal, &closed, ending)
+}
+
+/// How often a turn is another thread's than the turn before it.
+fn switches(schedule: &[ThreadId]) -> usize {
+    let mut count = 0;
+    for place in 1..schedule.len() {
+        if schedule[place] != schedule[place - 1] {
+            count += 1;
+        }
+    }
+    count
+}
+
+/// Whether a schedule is shorter than another, or as long and with fewer switches of thread.
+fn is_simpler(one: &[ThreadId], other: &[ThreadId]) -> bool
+    ensures { IsTrue result → length one.now ≤ length other.now }
+{
+    if one.len() == other.len() {
+        switches(one) < switches(other)
+    } else {
+        one.len() < other.len()
+    }
+}
+
+/// Tries a schedule in place of the best one. What the run did up to where it shows the goal is answered, if it does, if that
+/// is simpler than the best, and if it shows the goal again.
+///
+/// # Errors
+/// `Memory` where a growth was refused.
+pub(crate) fn simpler(
+    alloc: Global,
+    workload: &Workload,
+    goal: Goal,
+    best: &[ThreadId],
+    candidate: &[ThreadId],
+    config: Config,
+    budget: &mut Budget,
+) -> Result<Option<Vec<ThreadId>>, Memory>
+    requires bounds { config.bounds ≡ workload.now.bounds }
+    ensures shows { IfOk result (λ found. IfSome found (Shows workload.now config goal)) }
+    ensures shorter { IfOk result (λ found. IfSome found (λ turns. length turns.items ≤ length best.now)) }
+    ensures memory { OnErr result GrowthRefused }
+{
+    let in_try = config_of_try(goal, config);
+    let Some(turns) = tried(alloc, workload, goal, candidate, in_try, budget)? else {
+        return Ok(None);
+    };
+    if !is_simpler(&turns, best) {
+        return Ok(None);
+    }
+    match tried(alloc, workload, goal, &turns, config, budget)? {
+        Some(_) => Ok(Some(turns)),
+        None => Ok(None),
+    }
+}
