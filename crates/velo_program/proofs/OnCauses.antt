@@ -252,15 +252,15 @@ of_header read (check_fault.Refused p r) is = absurd is
 of_header read (check_fault.WrongValue p) is = absurd is
 of_header read check_fault.Write is = absurd is
 
-of_watch_answer : (options : WatchOptions) (read : Option (List ℕ)) (answer : Answer) → IsWatchAnswer options read answer → ComesByRefusal Growths answer.fate
-of_watch_answer options read answer (inl w) = said Growths answer _ w.said tt
-of_watch_answer options read answer (inr (inl c)) =
+of_watch_answer : (names : Names) (options : WatchOptions) (read : Option (List ℕ)) (answer : Answer) → IsWatchAnswer names options read answer → ComesByRefusal Growths answer.fate
+of_watch_answer names options read answer (inl w) = said Growths answer _ w.said tt
+of_watch_answer names options read answer (inr (inl c)) =
     said Growths answer _ c.said (⊎_elim (λ h. of_end_behind _ _ read c.bounds c.log c.fault h.1) (λ h. subst CheckByGrowth (sym h.0) h.1) c.reason)
-of_watch_answer options read answer (inr (inr u)) = said Growths answer (silent (fate.Check u.0)) u.2 (of_header read u.0 u.1)
+of_watch_answer names options read answer (inr (inr u)) = said Growths answer (silent (fate.Check u.0)) u.2 (of_header read u.0 u.1)
 
-of_watch : (options : WatchOptions) (read : Option (List ℕ)) (out : Writing) (f : Fate) → Watches options read out f → ComesByRefusal Growths f
-of_watch options read out f (inl h) = of_printed Growths out h.0 f (of_watch_answer options read h.0 h.1) h.2
-of_watch options read out f (inr h) = subst (ComesByRefusal Growths) (sym h.0) tt
+of_watch : (names : Names) (options : WatchOptions) (read : Option (List ℕ)) (out : Writing) (f : Fate) → Watches names options read out f → ComesByRefusal Growths f
+of_watch names options read out f (inl h) = of_printed Growths out h.0 f (of_watch_answer names options read h.0 h.1) h.2
+of_watch names options read out f (inr h) = subst (ComesByRefusal Growths) (sym h.0) tt
 
 pub of_done : (store : Store) (asked : Request) (stdout : Writing) (f : Fate) → Does store asked stdout f → AnswersWithCause asked f
 of_done store (request.Check options) stdout f (inl h) = unnamed Growths store.disk options.names f h.0
@@ -275,8 +275,9 @@ of_done store (request.Carry options) stdout f (inr (inr h)) = of_put Growths h.
 of_done store (request.Run options) stdout f h = played GrowthsAndStarts ByThreads options store stdout f (λ program ended w run. run.cause) h
 of_done store (request.Replay options) stdout f (inl bad) = subst (ComesByRefusal Growths) (sym bad.2) (of_schedule options bad.0 bad.1)
 of_done store (request.Replay options) stdout f (inr h) = played Growths (ByTurns h.0) options.run store stdout f (λ program ended w run. run.cause) h.2
-of_done store (request.Watch options) stdout f (inl h) = unread Growths store.disk Log options.input.now None f h.0
-of_done store (request.Watch options) stdout f (inr h) = of_watch options h.0.bytes stdout f h.3
+of_done store (request.Watch options) stdout f (inl h) = unnamed Growths store.disk options.names f h.0
+of_done store (request.Watch options) stdout f (inr (names, read, (shown, are, inl h))) = unread Growths store.disk Log options.input.now None f h.0
+of_done store (request.Watch options) stdout f (inr (names, read, (shown, are, inr h))) = of_watch shown options h.0.bytes stdout f h.3
 of_done store (request.Audit options) stdout f (inl h) = unnamed Growths store.disk options.names f h.0
 of_done store (request.Audit options) stdout f (inr (names, read, inl h)) = unlisted Growths store.disk options.known f h.0
 of_done store (request.Audit options) stdout f (inr (names, read, inr (known, list, inl h))) = unmeant Growths names options f h.0

@@ -33,7 +33,7 @@ use Rattle.velo_program.specs.Check.{IsFaultOfLogText}
 use Rattle.velo_program.specs.Delivery.{printing, silent}
 use Rattle.velo_program.specs.Fate.{fate_of, is_alarm}
 use Rattle.velo_program.specs.Reading.{failures_told}
-use Rattle.velo_report.specs.declared.names.Names.TheVariants.{Numbers}
+use Rattle.velo_report.specs.declared.names.Names.{Names}
 use Rattle.velo_program.specs.Steps.{Shows}
 use Rattle.velo_program.specs.Watching.{check_fault_by, EndsBehind, Follows, GoesOn, HasWatched, IsSoFar, Watches}
 use Rattle.velo_program.specs.Writing.{Writing, WritesNothing}
@@ -110,8 +110,8 @@ module _ (options : WatchOptions) (read : Option (List ℕ)) (stdout : Writing) 
       record { so_far = so_far w same came front; read_to = to; alarm = told.alarm; exact = told.exact; told = (told.appends, kept) }
 
   cut_short : (w : WorldState) → w.config ≡ config → CameAbout w → IsFront read w.config.bounds w.log → Tells stdout.old stdout.new w.log → stdout.failures_after ≡ stdout.failures_before → (fault : CheckFault)
-      → ((GoesOn options.stop w.log × EndsBehind limit options.limits.nodes read w.config.bounds w.log fault) ⊎ ((fault ≡ Memory) × GrowthRefused)) → Watches options read stdout (Check fault)
-  cut_short w same came front told kept fault reason = inl (
+      → ((GoesOn options.stop w.log × EndsBehind limit options.limits.nodes read w.config.bounds w.log fault) ⊎ ((fault ≡ Memory) × GrowthRefused)) → (names : Names) → Watches names options read stdout (Check fault)
+  cut_short w same came front told kept fault reason names = inl (
     printing (told_text told.alarm) (Check fault),
     inr (inl (record { bounds = w.config.bounds; log = w.log; so_far = so_far w same came front; alarm = told.alarm; exact = told.exact; fault = fault; reason = reason; said = refl })),
     (refl, (told.appends, kept)),
@@ -122,19 +122,19 @@ module _ (options : WatchOptions) (read : Option (List ℕ)) (stdout : Writing) 
 
   -- why it went no further
   pub ended_early : (X : Type 0) (fault : WatchFault) (w : WorldState) → config.nodes ≡ options.limits.nodes → Follows options.stop read stdout.old stdout.new config {X = X} (Err fault) w
-      → stdout.failures_after ≡ write_failures {X = X} (Err fault) stdout.failures_before → Watches options read stdout (fate_of (Err (check_fault_by fault)))
-  ended_early X (watch_fault.Log fault) w nodes (before, same, on, front, (came, told, met, reads)) kept =
-      cut_short before same came front told kept (Log fault) (inl (on, ((reads, no_memory (length before.log) fault met), met)))
-  ended_early X (watch_fault.Replay (replay.Refused p r)) w nodes (before, same, on, front, (came, told, (e, next, is))) kept =
+      → stdout.failures_after ≡ write_failures {X = X} (Err fault) stdout.failures_before → (names : Names) → Watches names options read stdout (fate_of (Err (check_fault_by fault)))
+  ended_early X (watch_fault.Log fault) w nodes (before, same, on, front, (came, told, met, reads)) kept names =
+      cut_short before same came front told kept (Log fault) (inl (on, ((reads, no_memory (length before.log) fault met), met))) names
+  ended_early X (watch_fault.Replay (replay.Refused p r)) w nodes (before, same, on, front, (came, told, (e, next, is))) kept names =
       let log = before.log ++ e ∷ [] in
       let by_limit = subst (λ (n : ℕ). IsRefusedAt n before.config.nodes before.config.bounds log p r) (ap (λ (c : Config). c.events) same ∙ few) is in
-      cut_short before same came front told kept (Refused p r) (inl (on, (e, next, subst (λ (n : ℕ). IsRefusedAt limit n before.config.bounds log p r) (ap (λ (c : Config). c.nodes) same ∙ nodes) by_limit)))
-  ended_early X (watch_fault.Replay (replay.WrongValue p)) w nodes (before, same, on, front, (came, told, (e, next, is))) kept =
+      cut_short before same came front told kept (Refused p r) (inl (on, (e, next, subst (λ (n : ℕ). IsRefusedAt limit n before.config.bounds log p r) (ap (λ (c : Config). c.nodes) same ∙ nodes) by_limit))) names
+  ended_early X (watch_fault.Replay (replay.WrongValue p)) w nodes (before, same, on, front, (came, told, (e, next, is))) kept names =
       let log = before.log ++ e ∷ [] in
-      cut_short before same came front told kept (WrongValue p) (inl (on, (e, next, subst (λ (n : ℕ). IsWrongValueAt n before.config.bounds log p) (ap (λ (c : Config). c.events) same ∙ few) is)))
-  ended_early X (watch_fault.Replay replay.Memory) w nodes (before, same, on, front, (came, told, (e, next, is))) kept =
-      cut_short before same came front told kept Memory (inr (refl, is))
-  ended_early X watch_fault.Write w nodes (before, same, on, front, (e, fails)) kept =
+      cut_short before same came front told kept (WrongValue p) (inl (on, (e, next, subst (λ (n : ℕ). IsWrongValueAt n before.config.bounds log p) (ap (λ (c : Config). c.events) same ∙ few) is))) names
+  ended_early X (watch_fault.Replay replay.Memory) w nodes (before, same, on, front, (came, told, (e, next, is))) kept names =
+      cut_short before same came front told kept Memory (inr (refl, is)) names
+  ended_early X watch_fault.Write w nodes (before, same, on, front, (e, fails)) kept names =
       let alarm = fails.part in
       let log = before.log ++ e ∷ [] in
       inr (
@@ -151,14 +151,14 @@ module _ (options : WatchOptions) (read : Option (List ℕ)) (stdout : Writing) 
       )
 
 -- there is no log at all
-pub unopened : (options : WatchOptions) (read : Option (List ℕ)) (stdout : Writing) (fault : WatchFault) → IsFaultOfOpening read fault → WritesNothing stdout → Watches options read stdout (fate_of (Err (check_fault_by fault)))
-unopened options read stdout (watch_fault.Log fault) (met, reads) nothing =
+pub unopened : (names : Names) (options : WatchOptions) (read : Option (List ℕ)) (stdout : Writing) (fault : WatchFault) → IsFaultOfOpening read fault → WritesNothing stdout → Watches names options read stdout (fate_of (Err (check_fault_by fault)))
+unopened names options read stdout (watch_fault.Log fault) (met, reads) nothing =
     inl (silent (Check (Log fault)), inr (inr (Log fault, ((reads, λ is. subst IsMetInHeader is met), met), refl)), (refl, nothing))
-unopened options read stdout (watch_fault.Replay replay.Memory) growth nothing =
+unopened names options read stdout (watch_fault.Replay replay.Memory) growth nothing =
     inl (silent (Check Memory), inr (inr (Memory, growth, refl)), (refl, nothing))
-unopened options read stdout (watch_fault.Replay (replay.Refused p r)) is nothing = absurd is
-unopened options read stdout (watch_fault.Replay (replay.WrongValue p)) is nothing = absurd is
-unopened options read stdout watch_fault.Write is nothing = absurd is
+unopened names options read stdout (watch_fault.Replay (replay.Refused p r)) is nothing = absurd is
+unopened names options read stdout (watch_fault.Replay (replay.WrongValue p)) is nothing = absurd is
+unopened names options read stdout watch_fault.Write is nothing = absurd is
 
 -- the source's failures behind a fault
 pub reads_told : (X : Type 0) (fault : WatchFault) (n : ℕ) → read_failures {X = X} (Err fault) n ≡ failures_told (fate_of (Err (check_fault_by fault))) n
@@ -176,11 +176,11 @@ reads_told X watch_fault.Write n = refl
 -- ---- the report behind it
 
 -- what is shown behind the line of the alarm is the answer
-pub shown : (options : WatchOptions) (read : Option (List ℕ)) (w : WorldState) (before after all : Writing) (result : Result Verdict CheckFault)
-    → HasWatched options read before w → Shows Numbers options.certificate w after result
+pub shown : (names : Names) (options : WatchOptions) (read : Option (List ℕ)) (w : WorldState) (before after all : Writing) (result : Result Verdict CheckFault)
+    → HasWatched options read before w → Shows names options.certificate w after result
     → all.old ≡ before.old → before.new ≡ after.old → all.new ≡ after.new → all.failures_before ≡ before.failures_before → before.failures_after ≡ after.failures_before → all.failures_after ≡ after.failures_after
-    → Watches options read all (fate_of result)
-shown options read w before after all (Ok verdict) has shows o m n fb fm fa =
+    → Watches names options read all (fate_of result)
+shown names options read w before after all (Ok verdict) has shows o m n fb fm fa =
     let told = told_text has.alarm in
     let text = shows.1.0 in
     inl (
@@ -206,7 +206,7 @@ shown options read w before after all (Ok verdict) has shows o m n fb fm fa =
         ),
       ),
     )
-shown options read w before after all (Err Write) has shows o m n fb fm fa =
+shown names options read w before after all (Err Write) has shows o m n fb fm fa =
     let told = told_text has.alarm in
     let text = shows.1.0 in
     inl (
@@ -229,7 +229,7 @@ shown options read w before after all (Err Write) has shows o m n fb fm fa =
         fa ∙ (shows.1.2.1 ∙ ap with_failure (sym fm ∙ (has.told.1 ∙ sym fb))),
       ),
     )
-shown options read w before after all (Err Memory) has shows o m n fb fm fa = inl (
+shown names options read w before after all (Err Memory) has shows o m n fb fm fa = inl (
   printing (told_text has.alarm) (Check Memory),
   inr (inl (record { bounds = w.config.bounds; log = w.log; so_far = has.so_far; alarm = has.alarm; exact = has.exact; fault = Memory; reason = inr (refl, shows.0); said = refl })),
   (
@@ -240,4 +240,4 @@ shown options read w before after all (Err Memory) has shows o m n fb fm fa = in
     ),
   ),
 )
-shown options read w before after all (Err fault) has shows o m n fb fm fa = absurd shows
+shown names options read w before after all (Err fault) has shows o m n fb fm fa = absurd shows

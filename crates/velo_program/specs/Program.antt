@@ -142,18 +142,30 @@ DoesReplay options store stdout f =
     ⊎ ((schedule : List ThreadId) × IsSchedule options.schedule.now schedule
     × DoesPlay (ByTurns schedule) options.run store stdout f)
 
--- ---- velodrome watch LOG [--stop] [--events N] [--nodes N] [--certificate]
+-- ---- velodrome watch LOG [--names FILE] [--stop] [--events N] [--nodes N] [--certificate]
 
 -- LOG is read line by line, to its end, or with --stop up to the event that raises the alarm. The
--- line of the alarm goes to standard output, then the report of the events that were read, and the
--- certificate behind it; or behind the line of the alarm nothing, for a reason, which is the first
+-- line of the alarm goes to standard output, by numbers, then the report by these names of the events
+-- that were read, and the certificate behind it; or behind the line of the alarm nothing, for a reason, which is the first
 -- in the order of the text (`Watching`). No file is opened to be written.
-abbrev pub DoesWatch : WatchOptions → Store → Writing → Fate → Type 0
-DoesWatch options store stdout f =
+abbrev pub WatchesLog : Names → WatchOptions → Store → Writing → Fate → Type 0
+WatchesLog shown options store stdout f =
     DoesNotRead store Log options.input.now None stdout f
     ⊎ ((read : Reading)
     × store.disk.gives options.input.now read × FailuresAsTold read f
-    × Watches options read.bytes stdout f × store.is_kept)
+    × Watches shown options read.bytes stdout f × store.is_kept)
+
+-- where a file of names is given its report is by these names, and else by numbers
+abbrev pub WatchesBy : NameLists → WatchOptions → Store → Writing → Fate → Type 0
+WatchesBy names options store stdout f =
+    (shown : Names) × AreShown options.names names shown × WatchesLog shown options store stdout f
+
+-- The names are read first, where a file of them is given, and then LOG is watched.
+abbrev pub DoesWatch : WatchOptions → Store → Writing → Fate → Type 0
+DoesWatch options store stdout f =
+    DoesNotName store options.names stdout f
+    ⊎ ((names : NameLists) × AreNamesOf store.disk options.names names
+    × WatchesBy names options store stdout f)
 
 -- ---- velodrome audit LOG [--names FILE] [--not-atomic FILE] [--ignore-lock N].. [--ignore-variable N]..
 -- ---- [--no-witness] [--events N] [--nodes N]

@@ -8,7 +8,7 @@ use Rattle.velo_events.specs.Refusals.{GrowthRefused}
 use Rattle.velo_events.specs.WellFormed.{IsWellFormed}
 use Rattle.velo_logtext.specs.Reader.{IsMetBehind, IsMetInHeader}
 use Rattle.velo_report.specs.Alarm.{alarm_line}
-use Rattle.velo_report.specs.declared.names.Names.TheVariants.{Numbers}
+use Rattle.velo_report.specs.declared.names.Names.{Names}
 use Rattle.velo_watch.specs.UnderWay.{CameAbout, FailsAfter}
 use Rattle.velo_watch.specs.Watch.{IsFront, Tells, told_text}
 use Rattle.velo_watch.specs.declared.fault.WatchFault.{WatchFault}
@@ -79,10 +79,10 @@ IsFaultOfHeader read _ = ⊥
 
 -- ---- the answer
 
--- the line of the alarm, if there is one, then the report by numbers of the events that were read,
--- with its certificate if that is asked for; the fate has the verdict
-pub record IsWatched (options : WatchOptions) (read : Option (List ℕ)) (answer : Answer)
-    : Type 0 where
+-- the line of the alarm, if there is one, by numbers; then the report by these names of the events
+-- that were read, with its certificate if that is asked for; the fate has the verdict
+pub record IsWatched (names : Names) (options : WatchOptions) (read : Option (List ℕ))
+    (answer : Answer) : Type 0 where
   pub bounds : Bounds
   pub log : List Event
   pub so_far : IsSoFar options.limits.events read bounds log
@@ -90,7 +90,7 @@ pub record IsWatched (options : WatchOptions) (read : Option (List ℕ)) (answer
   pub alarm : Option Alarm
   pub exact : AlarmOf log alarm
   pub text : List ℕ
-  pub output : IsOutput Numbers options.certificate bounds.threads log text
+  pub output : IsOutput names options.certificate bounds.threads log text
   pub verdict : Verdict
   pub is_verdict : IsVerdict log verdict
   pub said : answer ≡ printing (told_text alarm ++ text) (Finished Done (is_alarm verdict))
@@ -116,9 +116,9 @@ IsUnopened read answer =
     (fault : CheckFault) × IsFaultOfHeader read fault × (answer ≡ silent (Check fault))
 
 -- What a watch has to say.
-abbrev pub IsWatchAnswer : WatchOptions → Option (List ℕ) → Answer → Type 0
-IsWatchAnswer options read answer =
-    IsWatched options read answer ⊎ IsCutShort options read answer ⊎ IsUnopened read answer
+abbrev pub IsWatchAnswer : Names → WatchOptions → Option (List ℕ) → Answer → Type 0
+IsWatchAnswer names options read answer =
+    IsWatched names options read answer ⊎ IsCutShort options read answer ⊎ IsUnopened read answer
 
 -- the sink failed within the line of the alarm, which the last of the events so far raised
 pub record FailsAtAlarm (options : WatchOptions) (read : Option (List ℕ)) (stdout : Writing)
@@ -132,9 +132,9 @@ pub record FailsAtAlarm (options : WatchOptions) (read : Option (List ℕ)) (std
   pub part : BreaksOff stdout (alarm_line alarm)
 
 -- What a watch came to: an answer to what was read was printed; or not even its first line was.
-abbrev pub Watches : WatchOptions → Option (List ℕ) → Writing → Fate → Type 0
-Watches options read stdout f =
-    ((answer : Answer) × IsWatchAnswer options read answer × IsPrinted stdout answer f)
+abbrev pub Watches : Names → WatchOptions → Option (List ℕ) → Writing → Fate → Type 0
+Watches names options read stdout f =
+    ((answer : Answer) × IsWatchAnswer names options read answer × IsPrinted stdout answer f)
     ⊎ ((f ≡ WriteFailed) × FailsAtAlarm options read stdout)
 
 -- ---- how far each step has come: words of the contracts within the crate

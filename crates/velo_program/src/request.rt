@@ -83,6 +83,8 @@ pub struct WatchOptions<'a> {
     pub limits: Limits,
     /// Whether the certificate of the verdict is written behind the report.
     pub certificate: bool,
+    /// The path of the names that the report tells, or `-`.
+    pub names: Option<&'a str>,
 }
 
 /// What `velodrome audit` was asked for.

@@ -3,17 +3,20 @@ ghost use Rattle.std.specs.Prelude.{◌≡◌, List, ℕ, Option, Err, IfOk, IfE
 ghost use Rattle.velo_watch.specs.UnderWay.{CanGoOn, IsUnderWay, read_failures, write_failures};
 ghost use Rattle.velo_program.specs.Disk.{store};
 ghost use Rattle.velo_program.specs.Fate.{fate_of};
-ghost use Rattle.velo_program.specs.Program.{DoesWatch};
+ghost use Rattle.velo_program.specs.Program.{DoesWatch, WatchesBy, WatchesLog};
 ghost use Rattle.velo_program.specs.Reading.{failures_told};
+ghost use Rattle.velo_report.specs.declared.names.Names.{Names as Shown};
 ghost use Rattle.velo_program.specs.Watching.{check_fault_by, Follows, HasWatched, Watches};
 ghost use Rattle.velo_program.specs.Writing.{writing};
 
 use crate::check::{CheckFault, Verdict, fate_of, fault_of, finish};
 use crate::fate::Fate;
 use crate::files::{Files, is_standard_input, open_input};
+use crate::naming::{names_in, read_given, shown_by};
 use crate::request::{Operand, WatchOptions};
 use std::alloc::Global;
 use velo_logtext::{Sink, Source};
+use velo_names::MOST_NAMES_BYTES;
 use velo_report::Names;
 use velo_watch::{Watch, WatchFault};
 use velo_world::Closed;
@@ -63,7 +66,7 @@ fn watch_input<I: Source, O: Sink>(
 ) -> Result<Closed, CheckFault>
     ensures ok { IfOk result (HasWatched options.now (I.remaining log.old)
         (writing O.contents O.failures out.old out.new)) }
-    ensures err { IfErr result (λ fault. Watches options.now (I.remaining log.old)
+    ensures err { (shown : Shown) → IfErr result (λ fault. Watches shown options.now (I.remaining log.old)
         (writing O.contents O.failures out.old out.new) (fate_of (Err fault))) }
     ensures read { OnOk result (I.failures log.new ≡ I.failures log.old) }
     ensures failure { IfErr result (λ fault. I.failures log.new
@@ -79,25 +82,62 @@ fn watch_input<I: Source, O: Sink>(
     }
 }
 
-/// Watches a log: its alarm is told at once, and its report at the end, with its certificate if that was asked for.
+/// Watches a log: its alarm is told at once, and its report by the names at the end, with its certificate if that was asked
+/// for.
 fn watch_log<I: Source, O: Sink>(
     alloc: Global,
     options: &WatchOptions,
+    names: &Names,
     log: &mut I,
     out: &mut O,
 ) -> Fate
-    ensures told { Watches options.now (I.remaining log.old)
+    ensures told { Watches names.now options.now (I.remaining log.old)
         (writing O.contents O.failures out.old out.new) result }
     ensures failures { I.failures log.new ≡ failures_told result (I.failures log.old) }
 {
     let answer = match watch_input(alloc, options, log, out) {
-        Ok(closed) => finish(alloc, closed, &Names::Numbers, options.certificate, out),
+        Ok(closed) => finish(alloc, closed, names, options.certificate, out),
         Err(fault) => Err(fault),
     };
     fate_of(answer)
 }
 
-/// Watches the log that was asked for.
+/// Watches the log that was asked for, and tells it by the names.
+fn watch_named<F: Files, O: Sink>(
+    alloc: Global,
+    options: &WatchOptions,
+    names: &Names,
+    files: &F,
+    out: &mut O,
+) -> Fate
+    ensures { WatchesLog names.now options.now (store F.disk files.now files.now)
+        (writing O.contents O.failures out.old out.new) result }
+{
+    if is_standard_input(options.input) {
+        return watch_log(alloc, options, names, &mut files.standard_input(), out);
+    }
+    match open_input(files, Operand::Log, options.input, None) {
+        Ok(mut log) => watch_log(alloc, options, names, &mut log, out),
+        Err(fate) => fate,
+    }
+}
+
+/// Watches the log that was asked for, and tells it by the names of a file, if one was given.
+fn watch_by<F: Files, O: Sink>(
+    alloc: Global,
+    options: &WatchOptions,
+    names: &velo_names::Names,
+    files: &F,
+    out: &mut O,
+) -> Fate
+    ensures { WatchesBy names.now options.now (store F.disk files.now files.now)
+        (writing O.contents O.failures out.old out.new) result }
+{
+    let shown = shown_by(options.names, names);
+    watch_named(alloc, options, &shown, files, out)
+}
+
+/// Watches the log that was asked for. The names are read first.
 pub fn watch_file<F: Files, O: Sink>(
     alloc: Global,
     options: &WatchOptions,
@@ -107,11 +147,18 @@ pub fn watch_file<F: Files, O: Sink>(
     ensures { DoesWatch options.now (store F.disk files.old files.new)
         (writing O.contents O.failures out.old out.new) result }
 {
-    if is_standard_input(options.input) {
-        return watch_log(alloc, options, &mut files.standard_input(), out);
-    }
-    match open_input(files, Operand::Log, options.input, None) {
-        Ok(mut log) => watch_log(alloc, options, &mut log, out),
+    let bytes = match read_given(alloc, options.names, MOST_NAMES_BYTES, files) {
+        Ok(bytes) => bytes,
+        Err(fate) => return fate,
+    };
+    let fate = match names_in(alloc, options.names, &bytes) {
+        Ok(names) => {
+            let fate = watch_by(alloc, options, &names, files, out);
+            drop(names);
+            fate
+        }
         Err(fate) => fate,
-    }
+    };
+    drop(bytes);
+    fate
 }

@@ -1,29 +1,15 @@
-use Rattle.std.proofs.Common.{◌≡◌, inl, inr, refl, rules, subst, sym, codes}
-use Rattle.std.specs.Prelude.{ℕ, List}
-use Rattle.velo_program.specs.Reading.{reading}
+use Rattle.std.proofs.Common.{inl, inr, refl}
+use Rattle.velo_program.proofs.OnNaming.{names_found, names_lacking}
 use Rattle.velo_program.proofs.watching.watch_file.Goals as goal
+use Rattle.velo_program.proofs.watching.watch_file.Goals.{in-Ok-names_in, in-Err-names_in}
 
-pub returns-then-is_standard_input : goal.returns-then-is_standard_input
-returns-then-is_standard_input g c =
-    let is : c.args.options.now.input.now ≡ codes "-" = search rules in
+pub returns : goal.returns
+returns g c =
+    let options = c.args.options.now in
     let disk = g.F.Files.disk c.args.files.now in
-    let read = reading g.F.StandardInput.Source.remaining g.F.StandardInput.Source.failures c.standard_input.result c.watch_log.new.log in
-    inr (
-      read,
-      subst (λ (path : List ℕ). disk.gives path read) (sym is) (c.standard_input.ensures c.watch_log.new.log),
-      c.watch_log.ensures.failures,
-      c.watch_log.ensures.told,
-      refl,
-    )
-
-pub returns-in-Ok : goal.returns-in-Ok
-returns-in-Ok g c = inr (
-  _,
-  c.in-Ok.ensures.given c.watch_log-in-Ok.new.log,
-  c.watch_log-in-Ok.ensures.failures,
-  c.watch_log-in-Ok.ensures.told,
-  refl,
-)
-
-pub returns-in-Err : goal.returns-in-Err
-returns-in-Err g c = inl (c.in-Err.ensures.barred, (refl, (refl, refl)))
+    let read = c.in-Ok.ensures.bytes in
+    let bytes = c.deref.result.now in
+    elim c.match-names_in.branch [
+      | in-Ok-names_in w ↦ rw (w.out-is, w.fate-is) (inr (_, names_found disk options.names bytes _ (rw (← c.deref.ensures.value) at read) w.in-Ok-names_in.ensures.names, w.watch_by-fate.ensures))
+      | in-Err-names_in w ↦ rw (w.out-is, w.fate-is) (inl (names_lacking disk options.names bytes _ (rw (← c.deref.ensures.value) at read) w.in-Err-names_in.ensures.fault, (refl, (refl, refl))))
+    ]

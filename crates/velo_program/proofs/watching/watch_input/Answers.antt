@@ -9,10 +9,10 @@ use Rattle.velo_program.proofs.OnWatching.{ended_early, reads_told, unopened, wa
 use Rattle.velo_program.proofs.watching.watch_input.Goals as goal
 
 pub returns-in-Err-clause-err : goal.returns-in-Err-clause-err
-returns-in-Err-clause-err g c =
+returns-in-Err-clause-err g c names =
     let stdout = writing g.O.Sink.contents g.O.Sink.failures c.args.out.now c.args.out.now in
-    subst (λ (f : CheckFault). Watches c.args.options.now (g.I.Source.remaining c.args.log.now) stdout (fate_of (Err f))) (sym c.fault_of_watch.ensures)
-    (unopened c.args.options.now _ stdout c.in-Err.fault c.in-Err.ensures.fault (refl, refl))
+    subst (λ (f : CheckFault). Watches names c.args.options.now (g.I.Source.remaining c.args.log.now) stdout (fate_of (Err f))) (sym c.fault_of_watch.ensures)
+    (unopened names c.args.options.now _ stdout c.in-Err.fault c.in-Err.ensures.fault (refl, refl))
 
 pub returns-in-Err-clause-failure : goal.returns-in-Err-clause-failure
 returns-in-Err-clause-failure g c =
@@ -29,13 +29,13 @@ returns-in-Ok-follow-clause-ok g c =
     (watched c.args.options.now read stdout c.in-Ok.watch.world.config c.in-Ok.ensures.events c.args.options.now.stop c.follow.new.watch.world follows c.in-Ok-follow.ensures.writes)
 
 pub returns-in-Err-follow-clause-err : goal.returns-in-Err-follow-clause-err
-returns-in-Err-follow-clause-err g c =
+returns-in-Err-follow-clause-err g c names =
     let read = g.I.Source.remaining c.args.log.now in
     let old = g.O.Sink.contents c.args.out.now in
     let stdout = writing g.O.Sink.contents g.O.Sink.failures c.args.out.now c.follow.new.out in
     let follows = c.in-Err-follow.ensures.follows read old (c.in-Ok.ensures.ok old) in
-    subst (λ (f : CheckFault). Watches c.args.options.now read stdout (fate_of (Err f))) (sym c.fault_of_watch-in-Err-follow.ensures)
-    (ended_early c.args.options.now read stdout c.in-Ok.watch.world.config c.in-Ok.ensures.events ℕ c.in-Err-follow.fault c.follow.new.watch.world c.in-Ok.ensures.nodes follows c.in-Err-follow.ensures.writes)
+    subst (λ (f : CheckFault). Watches names c.args.options.now read stdout (fate_of (Err f))) (sym c.fault_of_watch-in-Err-follow.ensures)
+    (ended_early c.args.options.now read stdout c.in-Ok.watch.world.config c.in-Ok.ensures.events ℕ c.in-Err-follow.fault c.follow.new.watch.world c.in-Ok.ensures.nodes follows c.in-Err-follow.ensures.writes names)
 
 pub returns-in-Err-follow-clause-failure : goal.returns-in-Err-follow-clause-failure
 returns-in-Err-follow-clause-failure g c =

@@ -11,7 +11,7 @@ returns-clause-told g c =
     rw c.fate_of.ensures
     (elim c.match-watch_input.branch [
       | in-Ok w ↦ rw (w.out-is, w.answer-is)
-          (shown c.args.options.now (g.I.Source.remaining c.args.log.now) w.in-Ok.closed (wrote c.args.out.now between) (wrote between w.finish-answer.new.sink) (wrote c.args.out.now w.finish-answer.new.sink) w.finish-answer.result
+          (shown c.args.names.now c.args.options.now (g.I.Source.remaining c.args.log.now) w.in-Ok.closed (wrote c.args.out.now between) (wrote between w.finish-answer.new.sink) (wrote c.args.out.now w.finish-answer.new.sink) w.finish-answer.result
           w.in-Ok.ensures.ok w.finish-answer.ensures refl refl refl refl refl refl)
-      | in-Err w ↦ rw (w.out-is, w.answer-is) w.in-Err.ensures.err
+      | in-Err w ↦ rw (w.out-is, w.answer-is) (w.in-Err.ensures.err c.args.names.now)
     ])
