@@ -5,7 +5,7 @@ use Rattle.std.specs.List.{slice_split, join_with_byte}
 use Rattle.std.proofs.lemmas.Fmt.{decimal_by_steps, decimal_nonempty}
 use Rattle.std.proofs.lemmas.Bool.Decides.{eqb_tells, nat_tests}
 use Rattle.std.proofs.lemmas.List.{take_more, map_push, take-map, length-map, length-append, length-replicate, get_or-map, take-append-drop}
-use Rattle.std.proofs.lemmas.List.Elements.{All-nil, All-cons, All-head, All-tail, All-append, All-push, All-take}
+use Rattle.std.proofs.lemmas.List.Elements.{All-nil, All-cons, All-head, All-tail, All-append, All-push, All-replicate, All-take}
 use Rattle.std.proofs.lemmas.List.Splits.{slice_split_none, slice_split_at, join_with_byte-slice_split}
 use Rattle.velo_events.specs.Refusals.{GrowthRefused}
 use Rattle.velo_events.specs.declared.event.ThreadId.{ThreadId}
@@ -194,3 +194,15 @@ one_of_text (c ∷ cs) one other a b =
     let x = words_of_schedule (c ∷ cs) one (omega arith) a in
     let y = words_of_schedule (c ∷ cs) other (omega arith) b in
     a.turns ∙ (ap in_order (same_words a.words b.words a.each b.each (sym x ∙ y)) ∙ sym b.turns)
+
+-- ---- the threads of a schedule
+
+threads_in_order : (words : List Turns) → All AreTurns words → All (λ (t : ThreadId). t.0 < MOST_THREADS) (in_order words)
+threads_in_order [] each = All-nil (λ (t : ThreadId). t.0 < MOST_THREADS)
+threads_in_order (x ∷ rest) each =
+    let Small : ThreadId → Type 0 = λ t. t.0 < MOST_THREADS in
+    let first = All-head AreTurns x rest each in
+    All-append Small (replicate x.count x.thread) (in_order rest) (All-replicate Small x.count x.thread first.thread) (threads_in_order rest (All-tail AreTurns x rest each))
+
+pub threads_of_schedule : (text : List ℕ) (schedule : List ThreadId) → IsSchedule text schedule → All (λ (t : ThreadId). t.0 < MOST_THREADS) schedule
+threads_of_schedule text schedule h = subst (All (λ (t : ThreadId). t.0 < MOST_THREADS)) (sym h.turns) (threads_in_order h.words h.each)

@@ -5,6 +5,7 @@ mod chance;
 mod command_lines;
 mod compaction;
 mod devices;
+mod explored;
 mod growths;
 mod hostile;
 mod logs;

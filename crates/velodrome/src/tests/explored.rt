@@ -1,0 +1,214 @@
+//! All schedules of workloads.
+use crate::tests::{Folder, Shown, compare};
+use std::alloc::Global;
+use std::process::Abort;
+use std::sync::Wait;
+use std::thread::Threads;
+use velo_logtext::Text;
+use velo_program::{ExploreOptions, Limits, Request, do_request, end_with};
+
+/// A block that reads and writes, and a thread that writes.
+const LOST_UPDATE: &str =
+    "var x\nthread main\nfork a\nbegin inc\nread x\nadd 1\nwrite x\nend\njoin a\nthread a\nset 5\nwrite x\n";
+
+/// The same under a lock.
+const LOCKED: &str =
+    "var x\nlock m\nthread main\nfork a\nbegin inc\nacquire m\nread x\nadd 1\nwrite x\nrelease m\nend\njoin a\nthread a\nacquire m\nset 5\nwrite x\nrelease m\n";
+
+/// Two locks that are taken in opposite orders.
+const CROSSING: &str =
+    "lock m\nlock n\nthread main\nfork a\nacquire m\nacquire n\nrelease n\nrelease m\nthread a\nacquire n\nacquire m\nrelease m\nrelease n\n";
+
+/// A thread that releases a lock that it does not hold.
+const UNHELD: &str = "lock m\nthread main\nfork a\njoin a\nthread a\nrelease m\n";
+
+/// A block that is not atomic by some schedules, and two locks that are taken in opposite orders.
+const BOTH: &str =
+    "var x\nlock m\nlock n\nthread main\nfork a\nbegin inc\nread x\nwrite x\nend\nacquire m\nacquire n\nrelease n\nrelease m\nthread a\nwrite x\nacquire n\nacquire m\nrelease m\nrelease n\n";
+
+/// How a workload is explored, and what that comes to. Of no log nothing was opened.
+struct Row {
+    workload: &'static str,
+    states: u32,
+    events: u32,
+    first: bool,
+    target: Option<&'static str>,
+    certificate: bool,
+    out: &'static str,
+    err: &'static str,
+    log: Option<&'static str>,
+    status: u8,
+}
+
+const ASKED: Row = Row {
+    workload: LOST_UPDATE,
+    states: 1_000,
+    events: 1_000,
+    first: false,
+    target: None,
+    certificate: false,
+    out: "",
+    err: "",
+    log: None,
+    status: 0,
+};
+
+static ROWS: [Row; 16] = [
+    Row {
+        target: Some("o"),
+        out: "events 9\nstates 28\nalarm 0 0 0 1 0\nstuck none\nrefused none\nevents 9\nthread 0 main 7\nthread 1 a 2\nverdict alarm 4\ntransaction 1\nblame 1 inc\n",
+        log: Some(
+            "vlog 2 2 1 0\n0 fork 1\n0 begin 0\n0 rd 0 0\n1 wr 0 5\n0 wr 0 1\n0 end\n1 exit\n0 join 1\n0 exit\n",
+        ),
+        status: 3,
+        ..ASKED
+    },
+    Row {
+        certificate: true,
+        out: "events 9\nstates 28\nalarm 0 0 0 1 0\nstuck none\nrefused none\nevents 9\nthread 0 main 7\nthread 1 a 2\nverdict alarm 4\ntransaction 1\nblame 1 inc\ncycle 1 3\n",
+        status: 3,
+        ..ASKED
+    },
+    Row {
+        workload: LOCKED,
+        target: Some("o"),
+        certificate: true,
+        out: "events 13\nstates 34\nalarm none\nstuck none\nrefused none\n",
+        ..ASKED
+    },
+    Row {
+        workload: CROSSING,
+        target: Some("o"),
+        certificate: true,
+        out: "events 11\nstates 31\nalarm none\nstuck 0 0 1\nrefused none\nevents 3\nthread 0 main 2\nthread 1 a 1\nverdict clean\nserial 0\nserial 1\nserial 2\n",
+        err: "stuck\n",
+        log: Some("vlog 2 2 0 2\n0 fork 1\n0 acq 0\n1 acq 1\n"),
+        status: 4,
+        ..ASKED
+    },
+    Row {
+        workload: UNHELD,
+        target: Some("o"),
+        out: "events 5\nstates 2\nalarm none\nstuck none\nrefused 8 thread 1 a 0 0\nevents 1\nthread 0 main 1\nthread 1 a 0\nverdict clean\n",
+        err: "refused 8 thread 1\n",
+        log: Some("vlog 2 2 0 1\n0 fork 1\n"),
+        status: 4,
+        ..ASKED
+    },
+    Row {
+        workload: BOTH,
+        out: "events 16\nstates 113\nalarm 0 0 0 1 0\nstuck 0 0 0 0 0 0 1 1\nrefused none\nevents 8\nthread 0 main 6\nthread 1 a 2\nverdict alarm 4\ntransaction 1\nblame 1 inc\n",
+        status: 3,
+        ..ASKED
+    },
+    Row {
+        workload: BOTH,
+        first: true,
+        out: "events 16\nstates 15\nalarm 0 0 0 1 0\nstuck open\nrefused open\nevents 8\nthread 0 main 6\nthread 1 a 2\nverdict alarm 4\ntransaction 1\nblame 1 inc\n",
+        status: 3,
+        ..ASKED
+    },
+    Row {
+        workload: LOCKED,
+        states: 34,
+        out: "events 13\nstates 34\nalarm none\nstuck none\nrefused none\n",
+        ..ASKED
+    },
+    Row {
+        workload: LOCKED,
+        states: 33,
+        target: Some("o"),
+        out: "events 13\nstates 33\nalarm open\nstuck open\nrefused open\n",
+        err: "open\n",
+        status: 4,
+        ..ASKED
+    },
+    Row {
+        states: 1,
+        target: Some("nowhere"),
+        out: "events 9\nstates 1\nalarm open\nstuck open\nrefused open\n",
+        err: "open\n",
+        status: 4,
+        ..ASKED
+    },
+    Row {
+        events: 9,
+        out: "events 9\nstates 28\nalarm 0 0 0 1 0\nstuck none\nrefused none\nevents 9\nthread 0 main 7\nthread 1 a 2\nverdict alarm 4\ntransaction 1\nblame 1 inc\n",
+        status: 3,
+        ..ASKED
+    },
+    Row {
+        events: 8,
+        target: Some("o"),
+        out: "events 9\nstates 0\nalarm open\nstuck open\nrefused open\n",
+        err: "open\n",
+        status: 4,
+        ..ASKED
+    },
+    Row {
+        target: Some("nowhere"),
+        out: "",
+        err: "cannot open\n",
+        status: 5,
+        ..ASKED
+    },
+    Row {
+        target: Some("full"),
+        out: "",
+        err: "write failed\n",
+        log: Some("vlog 2 2 "),
+        status: 5,
+        ..ASKED
+    },
+    Row {
+        workload: "thread main\n",
+        out: "events 1\nstates 2\nalarm none\nstuck none\nrefused none\n",
+        ..ASKED
+    },
+    Row {
+        workload: "thread main\nread x\n",
+        target: Some("o"),
+        out: "",
+        err: "workload fault 2 line 2\n",
+        status: 2,
+        ..ASKED
+    },
+];
+
+/// Explores a workload that comes so many bytes at a time.
+fn explore_it<R: Threads + Wait + Abort + Sync>(rt: &R, alloc: Global, row: &Row, step: usize) {
+    let files = [("w", row.workload)];
+    let mut folder = Folder::new(alloc, &files, step);
+    let request = Request::Explore(ExploreOptions {
+        input: "w",
+        states: row.states,
+        first: row.first,
+        target: row.target,
+        limits: Limits {
+            events: row.events,
+            nodes: 64,
+        },
+        certificate: row.certificate,
+    });
+    let mut out = Text::new(alloc);
+    let mut err = Text::new(alloc);
+    let fate = do_request(rt, alloc, &request, &mut folder, &mut out);
+    let status = end_with(&fate, &mut err);
+    let shown = Shown { out, err, status };
+    compare(rt, &shown, row.out, row.err, row.status, row.workload);
+    assert_eq!(rt;
+        folder.created(),
+        row.log.map(|log| log.as_bytes()),
+        "{}",
+        row.workload
+    );
+    drop((shown, folder));
+}
+
+#[test]
+fn workloads_are_explored(rt: HostRuntime) {
+    for row in &ROWS {
+        explore_it(&rt, rt.alloc(), row, 1);
+        explore_it(&rt, rt.alloc(), row, usize::MAX);
+    }
+}
