@@ -65,17 +65,18 @@ if [ ${#compilers[@]} -gt 0 ]; then
     step "shared library" "${compilers[0]}" -shared -o "$out/libvelodrome.so" -Wl,--whole-archive "$out/libvelodrome.a" -Wl,--no-whole-archive
 fi
 for compiler in "${compilers[@]}"; do
-    rm -f "$out"/{lost_update,recorder,cost,test,threads}
+    rm -f "$out"/{lost_update,recorder,cost,test,threads,memory}
     step "c: make with $compiler" make -s -C "$top/bindings/c" CC="$compiler" LIBRARY="$out"
     step "c: example ($compiler)" "$out/lost_update"
     step "c: tests ($compiler)" "$out/test"
     step "c: recorder, locked ($compiler)" "$out/recorder"
     step "c: recorder, unlocked ($compiler)" status 3 "$out/recorder" unlocked
+    step "c: each growth refused in turn ($compiler)" "$out/memory"
     step "c: 64 threads behind a lock ($compiler)" "$out/threads"
     step "c: a million events ($compiler)" "$out/cost"
 done
 if [ -x "$out/test" ] && have valgrind; then
-    for program in test threads cost; do
+    for program in test memory threads cost; do
         step "c: $program leaks nothing" valgrind -q --leak-check=full --show-leak-kinds=all --error-exitcode=9 "$out/$program"
     done
 fi

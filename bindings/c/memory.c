@@ -1,0 +1,100 @@
+/* Each growth is refused in turn: a call does all that it was asked for, or answers want of memory, and nothing has changed. */
+#include "velodrome.h"
+#include <stdio.h>
+#include <stdlib.h>
+#include <string.h>
+
+void *__real_malloc(size_t size);
+void *__real_realloc(void *block, size_t size);
+
+static long until_refusal = -1; /* growths that are granted before one is refused; below 0 all are */
+static bool refused;
+
+static bool refuses(void) {
+    if (until_refusal < 0) return false;
+    if (until_refusal-- > 0) return false;
+    refused = true;
+    return true;
+}
+
+void *__wrap_malloc(size_t size) { return refuses() ? NULL : __real_malloc(size); }
+void *__wrap_realloc(void *block, size_t size) { return refuses() ? NULL : __real_realloc(block, size); }
+
+static int failed;
+static void expect(const char *what, uint64_t got, uint64_t wanted) {
+    if (got == wanted) return;
+    printf("%s, growth %ld: got %llu, wanted %llu\n", what, until_refusal, (unsigned long long)got, (unsigned long long)wanted);
+    failed = 1;
+}
+
+/* A lost update, whose events are refused at first where a growth is. */
+static void play(velodrome *m) {
+    velodrome_answer a = {77, 78, false};
+    static const struct { uint8_t thread, kind; } events[] = {{0, 0}, {0, 1}, {0, 2}, {1, 3}, {0, 3}, {0, 4}};
+    for (size_t i = 0; i < 6; i++) {
+        uint32_t status;
+        uint64_t before = a.position;
+        do {
+            uint8_t t = events[i].thread;
+            refused = false;
+            status = events[i].kind == 0 ? velodrome_fork(m, t, 1, &a) : events[i].kind == 1 ? velodrome_begin(m, t, 7, &a)
+                : events[i].kind == 2 ? velodrome_read(m, t, 0, &a) : events[i].kind == 3 ? velodrome_write(m, t, 0, 5, &a) : velodrome_end(m, t, &a);
+            expect("event", status, refused ? VELODROME_EVENT_MEMORY : VELODROME_DONE);
+            if (status) expect("answer as it was", a.position, before);
+        } while (status == VELODROME_EVENT_MEMORY);
+        expect("position", a.position, i);
+    }
+    expect("alarm", a.alarmed, true);
+}
+
+/* A text, with this growth of its call refused; whether there was one. */
+static bool short_of(velodrome *m, uint32_t (*call)(velodrome *, uint8_t *, size_t, size_t *), long growth, const char *text) {
+    uint8_t buffer[1024];
+    size_t count = 99;
+    memset(buffer, 98, sizeof buffer);
+    until_refusal = growth;
+    refused = false;
+    uint32_t status = call(m, buffer, sizeof buffer, &count);
+    until_refusal = -1;
+    expect("text", status, refused ? VELODROME_NO_MEMORY : VELODROME_DONE);
+    if (!refused) {
+        expect("length", count, strlen(text));
+        expect("bytes", memcmp(buffer, text, strlen(text)), 0);
+    } else {
+        expect("count as it was", count, 99);
+        for (size_t i = 0; i < sizeof buffer; i++) if (buffer[i] != 98) { expect("buffer as it was", i, sizeof buffer); break; }
+    }
+    return refused;
+}
+
+int main(void) {
+    const char *report = "events 6\nthread 0 5\nthread 1 1\nverdict alarm 4\ntransaction 1\nblame 1 7\n";
+    char words[1024];
+    long opened = 0, told = 0;
+    for (bool more = true; more && !failed; opened++) {
+        velodrome m = VELODROME_CLOSED_HANDLE;
+        until_refusal = opened;
+        refused = false;
+        uint32_t status = velodrome_open(&m, 2, 1, 0, 100, 64);
+        expect("open", status, refused ? VELODROME_NO_MEMORY : VELODROME_DONE);
+        more = refused;
+        if (refused) expect("closed still", velodrome_close(&m), VELODROME_CLOSED);
+        else expect("close", velodrome_close(&m), VELODROME_DONE);
+    }
+    for (long growth = 0; growth < 40 && !failed; growth++) {
+        velodrome m = VELODROME_CLOSED_HANDLE;
+        size_t count = 0;
+        until_refusal = -1;
+        expect("open", velodrome_open(&m, 2, 1, 0, 100, 64), VELODROME_DONE);
+        until_refusal = growth;
+        play(&m);
+        until_refusal = -1;
+        for (told = 0; short_of(&m, velodrome_report, told, report); told++) {}
+        expect("explanation", velodrome_explanation(&m, (uint8_t *)words, sizeof words - 1, &count), VELODROME_DONE);
+        words[count] = 0;
+        for (told = 0; short_of(&m, velodrome_explanation, told, words); told++) {}
+        expect("close", velodrome_close(&m), VELODROME_DONE);
+    }
+    printf("%s: %ld growths to open, %ld to explain\n", failed ? "failed" : "passed", opened - 1, told);
+    return failed;
+}
