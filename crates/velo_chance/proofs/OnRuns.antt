@@ -1,11 +1,12 @@
 -- What runs come to, with one more.
 use Rattle.std.proofs.Common.{◌≡◌, ℕ, ◌+◌, ◌-◌, ◌^◌, ◌<◌, ◌≤◌, min, Bool, true, false, not, cond, List, [], ◌∷◌, ◌++◌, length, length-append, Option, Some, None, Result, Ok, Err, option_map, refl, sym, ap, ◌∙◌, subst, arith, ⊎_elim}
 use Rattle.std.specs.Borrow.{Bor}
-use Rattle.std.specs.Prelude.{All, IfNone, IfOk, IfSome, IsFalse, IsTrue, find, count_by, if◌then◌else◌, is_some}
+use Rattle.std.specs.Prelude.{◌==◌, All, IfNone, IsPermutation, IfOk, IfSome, IsFalse, IsTrue, find, count_by, if◌then◌else◌, is_some}
 use Rattle.std.specs.Option.{option_or}
 use Rattle.std.proofs.lemmas.Bool.{cases_Bool, false≢true}
 use Rattle.std.proofs.lemmas.List.Elements.{All-head, All-push, All-tail}
 use Rattle.std.proofs.lemmas.List.Folds.{find-append}
+use Rattle.std.proofs.lemmas.List.Sorted.{All-permutation, list_any-IsPermutation}
 use Rattle.std.proofs.lemmas.Option.{none-some, same_Some}
 use Rattle.velo_events.specs.declared.config.Config.{Config}
 use Rattle.velo_events.specs.declared.event.Event.{Event}
@@ -91,6 +92,14 @@ counted_by count alarm label = count label + (if has_label label (blocks_of (opt
 pub AreCounts-no_alarm : (count : ℕ → ℕ) (alarm : Option (Bor Alarm)) (blamed : List Blamed) → alarm ≡ None → AreCounts count blamed → AreCounts (counted_by count alarm) blamed
 AreCounts-no_alarm count alarm blamed is counts = subst (λ o. AreCounts (counted_by count o) blamed) (sym is) (AreCounts-none count blamed counts)
 
+-- ---- in another order
+
+AreCounts-permutation : (count : ℕ → ℕ) (before after : List Blamed) → IsPermutation before after → AreCounts count before → AreCounts count after
+AreCounts-permutation count before after moved counts = record {
+  each = All-permutation (λ b. b.alarms ≡ count b.label.0) before after moved counts.each;
+  others = λ label none. counts.others label (list_any-IsPermutation (λ b. b.label.0 == label) before after moved ∙ none);
+}
+
 -- ---- replays
 
 pub AlarmOf-answer : (log : List Event) (alarm : Option (Bor Alarm)) → IfNone alarm (¬ HasCycle log) → IfSome alarm (λ a. IsAlarm log a.now) → AlarmOf log (option_map (λ a. a.now) alarm)
@@ -112,6 +121,21 @@ module _ (program : Program) (config : Config) where
     replayed = All-push (IsRun program config) tried.runs run tried.replayed is;
     count = length-append tried.runs (run ∷ []) ∙ ap (λ k. k + 1) tried.count;
     comes_to = step tried.runs tried.comes_to;
+  }
+
+  pub IsTried-ordered : (n : ℕ) (before after : Chance) → after ≡ record before { blamed = after.blamed } → IsPermutation before.blamed.items after.blamed.items → IsTried program config n before → IsTried program config n after
+  IsTried-ordered n before after same moved tried = record {
+    runs = tried.runs;
+    replayed = tried.replayed;
+    count = tried.count;
+    comes_to = record {
+      count = ap (λ c. c.runs) same ∙ tried.comes_to.count;
+      alarm = ap (λ c. option_map (λ schedule. schedule.items) c.alarm) same ∙ tried.comes_to.alarm;
+      stuck = ap (λ c. option_map (λ schedule. schedule.items) c.stuck) same ∙ tried.comes_to.stuck;
+      refused = ap (λ c. option_map ending_of c.refused) same ∙ tried.comes_to.refused;
+      alarms = ap (λ c. c.alarms) same ∙ tried.comes_to.alarms;
+      blamed = AreCounts-permutation (λ label. count_by (blames label) tried.runs) before.blamed.items after.blamed.items moved tried.comes_to.blamed;
+    };
   }
 
   -- ---- what is shown

@@ -4,6 +4,7 @@ ghost use Rattle.velo_events.specs.Refusals.{GrowthRefused};
 ghost use Rattle.velo_schedules.specs.Told.{ShowsAlarm, ShowsStuck, ShowsRefusal};
 ghost use Rattle.velo_chance.specs.Tallies.{IsTried};
 
+use crate::blaming::put_in_order;
 use crate::chance::Chance;
 use crate::drawing::{draw, turns_for};
 use crate::noting::note;
@@ -76,5 +77,6 @@ pub fn try_by_chance(
         let schedule = draw(alloc, &mut random, workload.bounds().threads, turns)?;
         chance = run_once(alloc, workload, &schedule, config, chance)?;
     }
+    put_in_order(&mut chance.blamed);
     Ok(chance)
 }
