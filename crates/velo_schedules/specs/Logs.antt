@@ -1,5 +1,5 @@
 -- The logs of a program, whatever its schedule, and what is said of all its replays.
-use Rattle.std.specs.Prelude.{◌≡◌, ℕ, Bool, true, false, IsTrue, List, [], ◌∷◌, Option, Some, None, slice_get, if◌then◌else◌}
+use Rattle.std.specs.Prelude.{◌≡◌, ℕ, Bool, true, false, not, IsTrue, List, [], ◌∷◌, Option, Some, None, slice_get, if◌then◌else◌}
 use Rattle.velo_events.specs.declared.config.Config.{Config}
 use Rattle.velo_events.specs.declared.event.Action.{Action}
 use Rattle.velo_events.specs.declared.event.Event.{Event}
@@ -57,6 +57,11 @@ is_for_room LogFull = true
 is_for_room Memory = true
 is_for_room GraphFull = true
 is_for_room r = false
+
+-- the run ended as a thread was refused, and not for want of room
+abbrev pub ends_refused : Ending → Bool
+ends_refused (Refused t r) = not (is_for_room r)
+ends_refused ending = false
 
 -- a replay is refused for want of room alone
 abbrev pub NeverRefused : Program → Type 0

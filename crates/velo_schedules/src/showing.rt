@@ -1,9 +1,9 @@
 //! What was found is replayed before it is told.
-ghost use Rattle.std.specs.Prelude.{◌≡◌, true, IsFalse, IfOk, IfSome, OnErr};
+ghost use Rattle.std.specs.Prelude.{◌≡◌, true, IsFalse, IfNone, IfOk, IfSome, OnErr};
 ghost use Rattle.velo_events.specs.Refusals.{GrowthRefused};
 ghost use Rattle.velo_worker.specs.declared.ending.Ending.TheVariants.{Refused};
 ghost use Rattle.velo_worker.specs.Schedule.{Replays};
-ghost use Rattle.velo_schedules.specs.Logs.{AlwaysSerializable, NeverStuck, NeverRefused, is_for_room};
+ghost use Rattle.velo_schedules.specs.Logs.{AlwaysSerializable, NeverStuck, NeverRefused, ends_refused, is_for_room};
 ghost use Rattle.velo_schedules.specs.Told.{AlarmTold, IsOutcome, StuckTold, RefusalTold, ShowsRefusal};
 
 use crate::finding::{Finding, RefusalFinding, RefusedRun};
@@ -122,6 +122,7 @@ pub(crate) fn tell_stuck(
 pub fn lasting_refusal(ending: Ending) -> Option<(ThreadId, Refusal)>
     ensures ending { IfSome result (λ last. ending ≡ Refused last.0 last.1) }
     ensures lasting { IfSome result (λ last. IsFalse (is_for_room last.1)) }
+    ensures none { IfNone result (IsFalse (ends_refused ending)) }
 {
     match ending {
         Ending::Refused(thread, refusal) if !is_for_room(refusal) => Some((thread, refusal)),

@@ -1,0 +1,2 @@
+pub mod OnCounts
+pub mod OnRuns

@@ -1,0 +1,28 @@
+use velo_events::{Label, ThreadId};
+use velo_schedules::RefusedRun;
+
+/// What some runs by chance came to.
+#[derive(Debug, Drop)]
+pub struct Chance {
+    /// How many runs were made.
+    pub runs: u64,
+    /// The schedule of the first run with an alarm.
+    pub alarm: Option<Vec<ThreadId>>,
+    /// The schedule of the first run that is stuck.
+    pub stuck: Option<Vec<ThreadId>>,
+    /// The first run that ends as a thread is refused, and not for want of room.
+    pub refused: Option<RefusedRun>,
+    /// How many runs have an alarm.
+    pub alarms: u64,
+    /// The labels that alarms of these runs blame, those of most alarms first.
+    pub blamed: Vec<Blamed>,
+}
+
+/// A label, and how many runs have an alarm that blames a block with it.
+#[derive(Clone, Copy, Debug, PartialEq, Eq)]
+pub struct Blamed {
+    /// The label.
+    pub label: Label,
+    /// How many runs, one at least.
+    pub alarms: u64,
+}
