@@ -6,7 +6,7 @@ ghost use Rattle.velo_program.specs.Exploring.{exploration_text, finding_text, n
 use crate::fate::number_of;
 use std::alloc::Global;
 use velo_events::growth::reserve;
-use velo_events::Memory;
+use velo_events::{Memory, ThreadId};
 use velo_logtext::put_number;
 use velo_schedules::{Exploration, Finding, RefusalFinding, RefusedRun};
 use velo_turns::append_turns;
