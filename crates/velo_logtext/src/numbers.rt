@@ -49,7 +49,8 @@ fn near_digits(start: u64, bytes: &[u8], most: u64) -> Option<(u64, &[u8])>
         }
         value = value * 10 + digit;
     }
-    digits(value, &bytes[NEAR..], most)
+    let (value, rest) = digits(value, &bytes[NEAR..], most)?;
+    Some((value, rest))
 }
 
 /// The number at the front, up to `most`, and the bytes after it.
@@ -67,11 +68,12 @@ pub fn number(bytes: &[u8], most: u64) -> Option<(u64, &[u8])>
         return None;
     }
     let digit = u64::from(*first - b'0');
-    if rest.len() < NEAR {
-        digits(digit, rest, most)
-    } else {
-        near_digits(digit, rest, most)
+    if rest.len() >= NEAR {
+        return near_digits(digit, rest, most);
     }
+    // taken apart, so that what is found near needs no place in memory
+    let (value, rest) = digits(digit, rest, most)?;
+    Some((value, rest))
 }
 
 /// The number at the front and the space behind it.
