@@ -264,7 +264,7 @@ fn is_unborn(status: Status) -> bool
 }
 
 /// Why the event can't come next, by the heap.
-#[inline]
+#[inline(always)]
 pub fn flaw_in(heap: &Heap, event: &Event) -> Option<Flaw>
     ensures { (trace : List EventOf) → IsHeapOf heap.now trace → result ≡ flaw_of (bounds_of heap.now) trace event.now }
 {
