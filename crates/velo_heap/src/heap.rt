@@ -137,7 +137,7 @@ impl Heap {
 
     /// Why the event's thread may not do its operation now: the first refusal that applies, from `NotLive` (2) to
     /// `LockHeld` (16). What a read read plays no part.
-    #[inline]
+    #[inline(always)]
     pub fn refusal(&self, event: &Event) -> Option<Refusal>
         ensures { (trace : List Event) → IsHeapOf self.now trace →
             result ≡ refusal_of (bounds_of self.now) trace event.now.thread.0 event.now.kind }
@@ -146,7 +146,7 @@ impl Heap {
     }
 
     /// Whether a read that names a variable has its value; so has any other operation.
-    #[inline]
+    #[inline(always)]
     pub fn has_its_value(&self, event: &Event) -> bool
         ensures { (trace : List Event) → IsHeapOf self.now trace → NamesKnown (bounds_of self.now) event.now.kind →
             result ≡ has_its_value trace event.now.kind }
@@ -158,7 +158,7 @@ impl Heap {
     }
 
     /// Does an admitted event.
-    #[inline]
+    #[inline(always)]
     pub fn apply(&mut self, event: &Event)
         requires { IsAdmitted self.old event.now }
         ensures bounds { bounds_of self.new ≡ bounds_of self.old }
@@ -259,7 +259,7 @@ impl Heap {
     }
 
     /// Why the operation is refused, by what stands here.
-    #[inline]
+    #[inline(always)]
     fn reason(&self, event: &Event) -> Option<Refusal>
         ensures { result ≡ refusal_in (kind_in self.now event.now.thread (action_of event.now.kind)) }
     {
@@ -274,7 +274,7 @@ impl Heap {
     }
 
     /// Why the operation of a live thread is refused.
-    #[inline]
+    #[inline(always)]
     fn live_reason(&self, own: Standing, event: &Event) -> Option<Refusal>
         ensures { result ≡ refusal_in (live_kind self.now event.now.thread own (action_of event.now.kind)) }
     {
@@ -374,6 +374,7 @@ impl Heap {
     }
 
     /// Changes what the event names, and its thread where that stands otherwise then.
+    #[inline(always)]
     fn change(&mut self, event: &Event)
         requires { CanChange self.old event.now }
         ensures changed { self.new ≡ contents_after self.old event.now }

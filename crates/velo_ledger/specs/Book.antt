@@ -34,6 +34,16 @@ pub record EntersAt (book : Accounts) (places : List (Option Holding)) (position
   pub row : (share : Holding) → slice_get places e.thread.0 ≡ Some (Some share) → book' ≡ with_row book e.thread (with_event share.tally position e)
   pub share : (share : Holding) → slice_get places e.thread.0 ≡ Some (Some share) → places' ≡ slice_set places e.thread.0 (Some (with_tally share (with_event share.tally position e)))
 
+-- the event's thread has a row, which knows of no event from the position on
+pub record CanCount (book : Accounts) (position : ℕ) (e : Event) : Type 0 where
+  pub row : Tally
+  pub there : slice_get book.rows e.thread.0 ≡ Some row
+  pub later : row.next ≤ position
+
+-- the event was added to the row of its thread
+pub record CountsIn (book : Accounts) (position : ℕ) (e : Event) (book' : Accounts) : Type 0 where
+  pub row : (row : Tally) → slice_get book.rows e.thread.0 ≡ Some row → book' ≡ with_row book e.thread (with_event row position e)
+
 -- of the same place of two lists: one share is there and fits, or none, and no thread has this place
 abbrev pub PlacesFit : Accounts → ℕ → Option Holding → Option Holding → Type 0
 PlacesFit book t None None = length book.rows ≤ t

@@ -4,7 +4,7 @@ ghost use Rattle.std.specs.Prelude.{◌≡◌, ◌<◌, ◌≤◌, ◌+◌, ◌�
 ghost use Rattle.std.specs.Option.{SomeIff};
 ghost use Rattle.velo_ledger.specs.Tally.{with_event};
 ghost use Rattle.velo_ledger.specs.Shares.{AreInPlace, AreOpening, events_in, events_in_all};
-ghost use Rattle.velo_ledger.specs.Book.{FitsBook, PlacesFit, HasAllShares, HaveAllShares, with_row, with_tally, opening_accounts, CanEnterAt, EntersAt};
+ghost use Rattle.velo_ledger.specs.Book.{FitsBook, PlacesFit, HasAllShares, HaveAllShares, with_row, with_tally, opening_accounts, CanEnterAt, EntersAt, CanCount, CountsIn};
 
 use crate::share::Share;
 use crate::shares::Shares;
@@ -111,6 +111,30 @@ impl Book {
             Some(share) => self.enter(share, position, event),
             None => unreachable!(),
         }
+    }
+
+    /// Adds an event to the row of its thread alone. The thread's share says what the row says only once it is settled
+    /// again. The thread has to be one of the book's, and the position has to be behind that of its last event and below
+    /// [`MOST_EVENTS`](velo_events::MOST_EVENTS).
+    #[inline]
+    pub fn count(&mut self, position: usize, event: &Event)
+        requires there { CanCount self.old position event.now }
+        requires room { position < MOST_EVENTS }
+        ensures counted { CountsIn self.old position event.now self.new }
+    {
+        let row = &mut self.rows[usize::from(event.thread.0)];
+        let tally = row.with(position as u64, event);
+        *row = tally;
+    }
+
+    /// Lets a share of this run say what the row of its thread says. The thread has to be one of the book's.
+    pub fn settle(&self, share: &mut Share)
+        requires run { share.old.run ≡ self.now.run }
+        requires thread { share.old.thread.0 < length self.now.rows }
+        ensures share { share.new ≡ with_tally share.old share.new.tally }
+        ensures fit { FitsBook self.now share.new }
+    {
+        share.tally = self.rows[usize::from(share.thread.0)];
     }
 
     /// The events of the one share at a place of two lists, where it fits, or none where no thread has this place.

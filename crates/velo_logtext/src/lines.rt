@@ -126,6 +126,7 @@ fn is_shared(kind: Kind) -> bool
 }
 
 /// The event of a version, which has shared operations or not.
+#[inline(always)]
 #[tactic(auto, unfolding(crate::specs::Reading::event_in))]
 pub fn event(bytes: &[u8], shares: bool) -> Option<(Event, &[u8])>
     ensures { option_map (λ r. (r.0, r.1.now)) result ≡ event_in shares bytes.now }

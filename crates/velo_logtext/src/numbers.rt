@@ -1,11 +1,15 @@
 //! Decimal numbers without leading zeros.
-ghost use Rattle.std.specs.Prelude.{◌≡◌, ◌≤◌, ◌<◌, option_map, IfSome};
+ghost use Rattle.std.specs.Prelude.{◌≡◌, ◌≤◌, ◌<◌, length, option_map, IfSome};
 ghost use Rattle.velo_logtext.specs.Reading.{digits_on, number_at, spaced_number_at};
+ghost use Rattle.velo_logtext.specs.declared.numbers.TheConstants.{NEAR};
 
 use crate::words::after;
 
+/// How many digits are looked for at once. Most numbers end among them.
+const NEAR: usize = 5;
+
 /// The digits that go on a number that is not 0, up to `most`.
-#[inline(always)]
+#[inline(never)]
 fn digits(start: u64, bytes: &[u8], most: u64) -> Option<(u64, &[u8])>
     requires { start ≤ most }
     ensures value { option_map (λ r. (r.0, r.1.now)) result ≡ digits_on most start bytes.now }
@@ -26,6 +30,29 @@ fn digits(start: u64, bytes: &[u8], most: u64) -> Option<(u64, &[u8])>
     Some((value, &bytes[bytes.len()..]))
 }
 
+/// The same where so many bytes are there, so that the first digits need no look at their end.
+#[inline(always)]
+fn near_digits(start: u64, bytes: &[u8], most: u64) -> Option<(u64, &[u8])>
+    requires start { start ≤ most }
+    requires near { NEAR ≤ length bytes.now }
+    ensures value { option_map (λ r. (r.0, r.1.now)) result ≡ digits_on most start bytes.now }
+    ensures bound { IfSome result (λ r. r.0 ≤ most) }
+{
+    let mut value = start;
+    for i in 0..NEAR {
+        if !bytes[i].is_ascii_digit() {
+            return Some((value, &bytes[i..]));
+        }
+        let digit = u64::from(bytes[i] - b'0');
+        if value >= most / 10 && (value > most / 10 || digit > most - value * 10) {
+            return None;
+        }
+        value = value * 10 + digit;
+    }
+    let (value, rest) = digits(value, &bytes[NEAR..], most)?;
+    Some((value, rest))
+}
+
 /// The number at the front, up to `most`, and the bytes after it.
 #[inline(always)]
 pub fn number(bytes: &[u8], most: u64) -> Option<(u64, &[u8])>
@@ -40,7 +67,13 @@ pub fn number(bytes: &[u8], most: u64) -> Option<(u64, &[u8])>
     if !first.is_ascii_digit() {
         return None;
     }
-    digits(u64::from(*first - b'0'), rest, most)
+    let digit = u64::from(*first - b'0');
+    if rest.len() >= NEAR {
+        return near_digits(digit, rest, most);
+    }
+    // taken apart, so that what is found near needs no place in memory
+    let (value, rest) = digits(digit, rest, most)?;
+    Some((value, rest))
 }
 
 /// The number at the front and the space behind it.

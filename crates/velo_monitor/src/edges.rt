@@ -1,6 +1,6 @@
 //! The edges of one event: from the nodes that its steps name into its own.
 ghost use Rattle.std.specs.Prelude.{◌≡◌, ◌<◌, [], ◌∷◌, IsTrue, IsFalse, ◌↔◌};
-ghost use Rattle.std.specs.Option.{ForSome};
+ghost use Rattle.std.specs.Option.{ForSome, option_to_list};
 ghost use Rattle.velo_arena.specs.Slots.{is_used, used_in, limit_of};
 ghost use Rattle.velo_graph.specs.Nodes.{IsSound, AddsEdges};
 ghost use Rattle.velo_monitor.specs.Steps.{live_slots, ReachesSome};
@@ -52,6 +52,22 @@ pub fn closes_or_adds(graph: &mut Graph<BitRow>, step: Step, to: u16) -> bool
 {
     match graph.resolve(step) {
         Some(from) => graph.add_edge(from, to) == Edge::Closes,
+        None => false,
+    }
+}
+
+/// The same of the step, if there is one.
+#[inline(always)]
+pub fn closes_or_adds_some(graph: &mut Graph<BitRow>, step: Option<Step>, to: u16) -> bool
+    requires used { IsTrue (is_used graph.old.slots to) }
+    requires sound { IsSound graph.old }
+    ensures closes { IsTrue result ↔ ReachesSome graph.old to (option_to_list step) }
+    ensures same { IsTrue result → graph.new ≡ graph.old }
+    ensures adds { IsFalse result → AddsEdges graph.old graph.new (live_slots graph.old (option_to_list step)) to }
+    ensures sound { IsSound graph.new }
+{
+    match step {
+        Some(step) => closes_or_adds(graph, step, to),
         None => false,
     }
 }

@@ -23,7 +23,7 @@ ghost use Rattle.velo_monitor.specs.Answers.{NeedsNode, GetsNewNode, IsNext, IsS
 ghost use Rattle.velo_monitor.specs.Steps.{live_slots, ReachesSome};
 ghost use Rattle.velo_monitor.specs.Changed.{depth_of, CanCount, AfterInside, EndsBlock, CountsBlocks, BeginsBlock, IsPlaced, AfterOutside, ForgetsDead};
 
-use crate::edges::{add_edges, closes_or_adds, open_after, reaches_some};
+use crate::edges::{add_edges, closes_or_adds, closes_or_adds_some, open_after, reaches_some};
 use crate::heirs::Heirs;
 use smallvec::SmallVec;
 use std::alloc::Global;
@@ -349,6 +349,10 @@ impl Monitor {
         ensures depths { self.new.depths ≡ self.old.depths }
         ensures sound { IsSound self.new.nodes }
     {
+        if self.tables.reads_are_of(cell, own.slot) {
+            let step = self.tables.write_but_for(cell, own.slot);
+            return closes_or_adds_some(&mut self.graph, step, own.slot);
+        }
         self.tables.accesses_into(cell, own.slot, &mut self.steps);
         if reaches_some(&self.graph, own.slot, &self.steps) {
             return true;

@@ -108,6 +108,27 @@ fn push_reads_of(
     }
 }
 
+/// Whether all steps of the reads are of the slot.
+#[inline(always)]
+fn are_of(reads: &[Entry], readers: u64, slot: u16) -> bool
+    requires { AreReaders readers reads.now }
+    ensures { IsTrue result → filter_map (λ t. but_for (Some slot) (slice_index_or reads.now t None)) thread_numbers ≡ [] }
+{
+    let mut left = readers;
+    let mut thread: u32 = 0;
+    while left != 0 {
+        let skipped = left.trailing_zeros();
+        thread += skipped;
+        let other = but_for(Some(slot), entry_at(reads, thread as usize));
+        if other.is_some() {
+            return false;
+        }
+        thread += 1;
+        left = (left >> skipped) >> 1;
+    }
+    true
+}
+
 /// The bits of the readers with that of the thread, if its read has a step.
 fn with_reader(readers: u64, t: ThreadId, step: Option<Step>) -> u64
     requires { t.0 < MOST_THREADS }
@@ -250,6 +271,15 @@ impl Cells {
         ensures { IsTrue result ↔ (c.0 < length self.now) }
     {
         (c.0 as usize) < self.cells.len()
+    }
+
+    /// Whether the steps of the cell's last reads are all of the slot.
+    #[inline(always)]
+    pub fn reads_are_of(&self, c: Cell, slot: u16) -> bool
+        ensures { IsTrue result → steps_of (Some slot) (slice_index_or self.now c.0 no_accesses)
+            ≡ option_to_list (but_for (Some slot) (slice_index_or self.now c.0 no_accesses).write) }
+    {
+        are_of(self.reads_of(c), self.readers(c), slot)
     }
 
     /// Appends the steps of the cell's last write and reads but for those of the slot, the reads in the order of their

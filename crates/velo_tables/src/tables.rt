@@ -11,7 +11,7 @@ ghost use Rattle.velo_tables.specs.Others.{but_for, accesses_but_for};
 ghost use Rattle.velo_events.specs.Event.{thread_of, access_of, is_exclusive};
 ghost use Rattle.velo_tables.specs.Recorded.{kept_after, kept_after_beside, kept_by, with_cell, with_read};
 
-use crate::cells::{Cells, push_step};
+use crate::cells::{Cells, but_for, push_step};
 use crate::entry::{Entry, entry_at, rename_entries};
 use smallvec::SmallVec;
 use std::alloc::Global;
@@ -287,6 +287,24 @@ impl Tables {
     {
         list.clear();
         self.push_accesses(c, Some(slot), list);
+    }
+
+    /// Whether the last write's step is the only one that a write of the cell looks up beside that of its thread, but for
+    /// those of the slot: all steps of its reads are of this.
+    #[inline(always)]
+    #[tactic(auto, unfolding(crate::specs::Others::accesses_but_for))]
+    pub fn reads_are_of(&self, c: Cell, slot: u16) -> bool
+        ensures { IsTrue result → accesses_but_for self.now c.0 slot ≡ option_to_list (but_for (Some slot) (entry self.now (LastWrite c.0))) }
+    {
+        self.cells.reads_are_of(c, slot)
+    }
+
+    /// The step of the cell's last write, unless it is of the slot.
+    #[inline(always)]
+    pub fn write_but_for(&self, c: Cell, slot: u16) -> Option<Step>
+        ensures { result ≡ but_for (Some slot) (entry self.now (LastWrite c.0)) }
+    {
+        but_for(Some(slot), self.last_write(c))
     }
 
     /// Appends the steps of the cell's last write and reads, but for those of the slot.

@@ -9,3 +9,4 @@ pub mod OnSequences
 pub mod OnClosing
 pub mod OnReadiness
 pub mod OnLogReplays
+pub mod OnHandingOut

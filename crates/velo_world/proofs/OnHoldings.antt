@@ -118,7 +118,7 @@ KeepsUnborn-opening config places some are = record {
         rw (others-unborn t other) (slice_get-set_other places 0 t None (λ is. other (sym is)) ∙ are.each t lt)
 
 -- a thread that acts is none of those whose shares are kept
-other_acts : (bounds : Bounds) (log : List Event) (e : Event) (t : ℕ) → MayFollow bounds log e → IsTrue (is_unborn (status_in log t)) → thread_of e ≢ t
+pub other_acts : (bounds : Bounds) (log : List Event) (e : Event) (t : ℕ) → MayFollow bounds log e → IsTrue (is_unborn (status_in log t)) → thread_of e ≢ t
 other_acts bounds log e t follows unborn = λ is. false≢true (sym (actor-born bounds log e follows) ∙ subst (λ n. IsTrue (is_unborn (status_in log n))) (sym is) unborn)
 
 still_fits : (w : WorldState) (e : Event) (halted : Bool) (kept : List (Option Holding)) → MayFollow w.config.bounds w.log e → KeepsUnborn w kept → (t : ℕ) → t < w.config.bounds.threads → IsTrue (is_unborn (status_in (w.log ++ e ∷ []) t)) → FitsLog (longer w e halted) (opening_share w.config.run t)

@@ -2,6 +2,7 @@
 ghost use Rattle.std.specs.Prelude.{◌≡◌, ◌<◌, ◌+◌, [], ◌∷◌, ◌++◌, List, None, Some, false, length, take, slice_get, IfOk, OnOk, IfErr, OnErr};
 ghost use Rattle.velo_events.specs.Refusals.{GrowthRefused};
 ghost use Rattle.velo_events.specs.declared.event.Event.{Event as EventOf};
+ghost use Rattle.velo_events.specs.Meaning.{is_unborn};
 ghost use Rattle.velo_heap.specs.Contents.{bounds_of, IsHeapOf};
 ghost use Rattle.velo_traces.specs.Flaws.{flaw_of};
 ghost use Rattle.velo_world.specs.World.{CompletesShares, HoldsLiveShares};
@@ -11,10 +12,10 @@ ghost use Rattle.velo_world.specs.Analysis.{ComesNext, HasRoomForNext};
 
 use crate::analysis::Analysis;
 use crate::logged_run::LoggedRun;
-use crate::world::{World, hand_over};
+use crate::world::World;
 use std::alloc::Global;
 use thiserror::Error;
-use velo_events::{Config, Event, Memory, Refusal, ThreadId};
+use velo_events::{Config, Event, Memory, Refusal, Status, ThreadId};
 use velo_heap::Heap;
 use velo_ledger::{Book, Shares};
 use velo_traces::{Flaw, Trace};
@@ -38,6 +39,7 @@ pub enum LogReplayFault {
 pub struct LogReplay {
     analysis: Analysis,
     book: Book,
+    /// The shares that are not handed out yet. None is while events come about: each would have to follow its row.
     kept: Shares,
     shares: Shares,
 }
@@ -64,7 +66,10 @@ impl World {
             return Err(LogReplayFault::Memory);
         };
         match replay.replay_events(&config, log.as_slice()) {
-            Ok(()) => Ok(replay.into_world(alloc, config, log)),
+            Ok(()) => {
+                replay.hand_out(&config);
+                Ok(replay.into_world(alloc, config, log))
+            }
             Err(fault) => {
                 drop((replay, log));
                 Err(fault)
@@ -76,17 +81,11 @@ impl World {
 impl LogReplay {
     /// No event has come about yet.
     fn new(alloc: Global, config: &Config) -> Result<LogReplay, Memory>
-        ensures start { IfOk result (λ replay. IsLogReplayOf config.now replay []) }
+        ensures start { IfOk result (λ replay. IsLogReplayOf config.now replay [] 0) }
         ensures memory { OnErr result GrowthRefused }
     {
-        let (book, mut kept) = Book::open(alloc, config.run, config.bounds.threads)?;
-        let mut shares = Shares::none(alloc, config.bounds.threads)?;
-        let Some(share) = kept.take(ThreadId(0)) else {
-            unreachable!()
-        };
-        let Ok(()) = shares.put(share) else {
-            unreachable!()
-        };
+        let (book, kept) = Book::open(alloc, config.run, config.bounds.threads)?;
+        let shares = Shares::none(alloc, config.bounds.threads)?;
         let analysis = Analysis::new(alloc, config)?;
         Ok(LogReplay {
             analysis,
@@ -99,8 +98,8 @@ impl LogReplay {
     /// Lets all events of a log come about.
     fn replay_events(&mut self, config: &Config, events: &[Event]) -> Result<(), LogReplayFault>
         requires goes_on { config.now.stop ≡ false }
-        requires start { IsLogReplayOf config.now self.old [] }
-        ensures ok { OnOk result (IsLogReplayOf config.now self.new events.now) }
+        requires start { IsLogReplayOf config.now self.old [] 0 }
+        ensures ok { OnOk result (IsLogReplayOf config.now self.new events.now 0) }
         ensures fault { IfErr result (λ fault. IsFaultOfLog config.now events.now fault) }
     {
         for position in 0..events.len() {
@@ -119,8 +118,8 @@ impl LogReplay {
     ) -> Result<(), LogReplayFault>
         requires goes_on { config.now.stop ≡ false }
         requires within { position < length events.now }
-        requires stands { IsLogReplayOf config.now self.old (take position events.now) }
-        ensures ok { OnOk result (IsLogReplayOf config.now self.new (take (position + 1) events.now)) }
+        requires stands { IsLogReplayOf config.now self.old (take position events.now) 0 }
+        ensures ok { OnOk result (IsLogReplayOf config.now self.new (take (position + 1) events.now) 0) }
         ensures fault { IfErr result (λ fault. IsFaultOfLog config.now events.now fault) }
     {
         let event = &events[position];
@@ -143,8 +142,8 @@ impl LogReplay {
         event: &Event,
     ) -> Result<(), LogReplayFault>
         requires here { slice_get events.now position ≡ Some event.now }
-        requires stands { IsLogReplayOf config.now self.old (take position events.now) }
-        ensures stands { OnOk result (IsLogReplayOf config.now self.new (take position events.now)) }
+        requires stands { IsLogReplayOf config.now self.old (take position events.now) 0 }
+        ensures stands { OnOk result (IsLogReplayOf config.now self.new (take position events.now) 0) }
         ensures flawless { OnOk result (flaw_of config.now.bounds (take position events.now) event.now ≡ None) }
         ensures short { OnOk result (position < config.now.events) }
         ensures next { OnOk result (ComesNext self.new.analysis (take position events.now) event.now) }
@@ -185,23 +184,53 @@ impl LogReplay {
     fn take_in(&mut self, config: &Config, events: &[Event], position: usize, event: &Event)
         requires goes_on { config.now.stop ≡ false }
         requires here { slice_get events.now position ≡ Some event.now }
-        requires stands { IsLogReplayOf config.now self.old (take position events.now) }
+        requires stands { IsLogReplayOf config.now self.old (take position events.now) 0 }
         requires flawless { flaw_of config.now.bounds (take position events.now) event.now ≡ None }
         requires short { position < config.now.events }
         requires next { ComesNext self.old.analysis (take position events.now) event.now }
         requires room { HasRoomForNext self.old.analysis (take position events.now) event.now }
-        ensures { IsLogReplayOf config.now self.new (take position events.now ++ event.now ∷ []) }
+        ensures { IsLogReplayOf config.now self.new (take position events.now ++ event.now ∷ []) 0 }
     {
         self.analysis.take_in(events, position, event);
-        self.book.enter_at(&mut self.shares, position, event);
-        hand_over(&mut self.kept, &mut self.shares, event);
+        self.book.count(position, event);
+    }
+
+    /// Hands out the share of each thread that was born, and lets it say what its row does.
+    fn hand_out(&mut self, config: &Config)
+        requires { (trace : List EventOf) × IsLogReplayOf config.now self.old trace 0 }
+        ensures { (trace : List EventOf) → IsLogReplayOf config.now self.old trace 0
+            → IsLogReplayOf config.now self.new trace config.now.bounds.threads }
+    {
+        for thread in 0..config.bounds.threads {
+            self.hand_to(config, ThreadId(thread));
+        }
+    }
+
+    /// Hands out the share of the thread, if it was born, where those of the threads before it were handed out.
+    fn hand_to(&mut self, config: &Config, thread: ThreadId)
+        requires known { thread.0 < config.now.bounds.threads }
+        requires stands { (trace : List EventOf) × IsLogReplayOf config.now self.old trace thread.0 }
+        ensures { (trace : List EventOf) → IsLogReplayOf config.now self.old trace thread.0
+            → IsLogReplayOf config.now self.new trace (thread.0 + 1) }
+    {
+        if is_unborn(self.analysis.heap.status(thread)) {
+            return;
+        }
+        let Some(mut share) = self.kept.take(thread) else {
+            unreachable!()
+        };
+        self.book.settle(&mut share);
+        let Ok(()) = self.shares.put(share) else {
+            unreachable!()
+        };
     }
 
     /// The world of the log that came about.
     fn into_world(self, alloc: Global, config: Config, log: Trace) -> (World, Shares)
-        requires { IsLogReplayOf config self log.events }
+        requires { IsLogReplayOf config self log.events config.bounds.threads }
         ensures world { result.0 ≡ world_of config log.events }
-        ensures shares { result.1 ≡ self.shares }
+        ensures ready { HoldsLiveShares result.0 result.1 }
+        ensures complete { CompletesShares result.0 result.1 }
     {
         let LogReplay {
             analysis,
@@ -227,8 +256,15 @@ impl LogReplay {
     }
 }
 
+/// Whether a thread of the status is not born yet.
+fn is_unborn(status: Status) -> bool
+    ensures { result ≡ is_unborn status }
+{
+    matches!(status, Status::Unborn)
+}
+
 /// Why the event can't come next, by the heap.
-#[inline]
+#[inline(always)]
 pub fn flaw_in(heap: &Heap, event: &Event) -> Option<Flaw>
     ensures { (trace : List EventOf) → IsHeapOf heap.now trace → result ≡ flaw_of (bounds_of heap.now) trace event.now }
 {

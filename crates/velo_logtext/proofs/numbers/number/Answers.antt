@@ -1,5 +1,5 @@
-use Rattle.std.proofs.Common.{rules}
+use Rattle.std.proofs.Common.{arith}
 use Rattle.velo_logtext.proofs.numbers.number.Goals as goal
 
-pub returns-clause-value : goal.returns-clause-value
-returns-clause-value c = search rules
+pub near_digits-requires-clause-near : goal.near_digits-requires-clause-near
+near_digits-requires-clause-near c = omega arith

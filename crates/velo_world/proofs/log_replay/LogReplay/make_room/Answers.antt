@@ -35,9 +35,8 @@ returns-in-Ok-clause-stands c =
       nodes = ap (λ (n : Nodes). limit_of n.slots) c.reserve_for.ensures.nodes ∙ c.has_no_node_for.ensures.limit;
       analysis = c.reserve_for.ensures.follows _ c.has_no_node_for.ensures.stands;
       book = stands.book;
-      keeps = stands.keeps;
-      ready = stands.ready;
-      complete = stands.complete;
+      unborn = stands.unborn;
+      shares = stands.shares;
     }
 
 pub returns-in-Ok-clause-next : goal.returns-in-Ok-clause-next
