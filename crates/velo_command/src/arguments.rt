@@ -107,6 +107,7 @@ fn watch<'a>(alloc: Global) -> Result<Command<'a>, Memory>
         .about("Reads a log as it comes, tells its alarm at once, and reports the verdict")
         .after_help(help::OF_WATCH);
     let command = with_argument(command, log(alloc))?;
+    let command = with_argument(command, names(alloc))?;
     let command = with_argument(command, stop_of_watch(alloc))?;
     with_graph_options(alloc, command)
 }
@@ -120,6 +121,7 @@ fn audit<'a>(alloc: Global) -> Result<Command<'a>, Memory>
         .after_help(help::OF_AUDIT);
     let command = with_argument(command, log(alloc))?;
     let command = with_argument(command, names(alloc))?;
+    let command = with_argument(command, not_atomic(alloc))?;
     let command = with_argument(command, ignored_locks(alloc))?;
     let command = with_argument(command, ignored_variables(alloc))?;
     let command = with_argument(command, no_witness(alloc))?;
@@ -199,6 +201,17 @@ fn names<'a>(alloc: Global) -> Arg<'a>
         "names",
         "FILE",
         "The path of the names of threads, variables, locks and labels, or -",
+    )
+}
+
+fn not_atomic<'a>(alloc: Global) -> Arg<'a>
+    ensures { IsArgument (valued (codes "not-atomic")) result }
+{
+    valued(
+        alloc,
+        "not-atomic",
+        "FILE",
+        "The path of the labels that are known already, or -; leave out their blocks",
     )
 }
 

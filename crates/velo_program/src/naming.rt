@@ -33,7 +33,12 @@ fn read_source<I: Source>(alloc: Global, source: &mut I, most: usize) -> Result<
 ///
 /// # Errors
 /// `CannotOpen` where it does not open, `ReadFailed` where it failed, `Memory` where a growth was refused.
-pub fn read_file<F: Files>(alloc: Global, path: &str, most: usize, files: &F) -> Result<Vec<u8>, Fate>
+pub fn read_file<F: Files>(
+    alloc: Global,
+    path: &str,
+    most: usize,
+    files: &F,
+) -> Result<Vec<u8>, Fate>
     ensures bytes { IfOk result (λ bytes. IsFileRead (F.disk files.now) path.now most bytes.items) }
     ensures unread { IfErr result (IsFileUnread (F.disk files.now) path.now) }
 {
