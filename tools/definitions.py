@@ -36,7 +36,8 @@ PARTS = [
     ("Which labels are not atomic", {
         "velo_thin": "Left* Thinned",
         "velo_audit": "Audit* Rounds* Tells Witness",
-        "velo_audit_text": "Text"}),
+        "velo_audit_text": "Text",
+        "velo_list": "Line* Known* List"}),
     ("What the program does", {
         "velo_program": "Program* Check Explaining Carrying Playing Exploring* Schedule Delivery Disk Writing Reading Fate Causes",
         "velo_command": "CommandLine Asked Running Usage"}),

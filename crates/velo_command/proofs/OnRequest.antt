@@ -163,12 +163,14 @@ a_watch rows word has =
         stop = is_true (one_of (codes "stop") rows);
         limits = limits.0;
         certificate = is_true (one_of (codes "certificate") rows);
+        names = a_path_if (first_of (codes "names") rows);
       },
       (
         word.1,
         is_flag (one_of (codes "stop") rows),
         limits.1,
         is_flag (one_of (codes "certificate") rows),
+        path_of (first_of (codes "names") rows),
       ),
     )
 
@@ -179,6 +181,7 @@ an_audit rows word has =
       record {
         input = a_path word.0;
         names = a_path_if (first_of (codes "names") rows);
+        known = a_path_if (first_of (codes "not-atomic") rows);
         ignored_locks = a_list (unwrap_or (all_of (codes "ignore-lock") rows) []);
         ignored_variables = a_list (unwrap_or (all_of (codes "ignore-variable") rows) []);
         witness = not (is_true (one_of (codes "no-witness") rows));
@@ -187,6 +190,7 @@ an_audit rows word has =
       (
         word.1,
         path_of (first_of (codes "names") rows),
+        path_of (first_of (codes "not-atomic") rows),
         words_of (unwrap_or (all_of (codes "ignore-lock") rows) []),
         words_of (unwrap_or (all_of (codes "ignore-variable") rows) []),
         is_flag_turned (one_of (codes "no-witness") rows),

@@ -221,14 +221,14 @@ explore_right words e =
 watch_right : (words : List Text) → level_fault (leaf watch) [] nothing_held words false [] ≡ []
     → HasWord (codes "LOG") (rows_of_leaf watch words) × HasLimits (rows_of_leaf watch words)
 watch_right words e =
-    let level = level_has limits (leaf watch) words refl (makes_word (codes "LOG") refl, (makes_flag (codes "stop") refl, (makes_events (codes "1048576"), (makes_nodes (codes "1024"), (makes_flag (codes "certificate") refl, (makes_help, tt)))))) e in
-    (word_there (codes "LOG") (rows_of_leaf watch words) level.passes (level.given.0 refl), limits_there (rows_of_leaf watch words) level.passes (level.defaults.1.1.0 tt) (level.defaults.1.1.1.0 tt))
+    let level = level_has limits (leaf watch) words refl (makes_word (codes "LOG") refl, (makes_valued (codes "names") refl, (makes_flag (codes "stop") refl, (makes_events (codes "1048576"), (makes_nodes (codes "1024"), (makes_flag (codes "certificate") refl, (makes_help, tt))))))) e in
+    (word_there (codes "LOG") (rows_of_leaf watch words) level.passes (level.given.0 refl), limits_there (rows_of_leaf watch words) level.passes (level.defaults.1.1.1.0 tt) (level.defaults.1.1.1.1.0 tt))
 
 audit_right : (words : List Text) → level_fault (leaf audit) [] nothing_held words false [] ≡ []
     → HasWord (codes "LOG") (rows_of_leaf audit words) × HasLimits (rows_of_leaf audit words)
 audit_right words e =
-    let level = level_has limits (leaf audit) words refl (makes_word (codes "LOG") refl, (makes_valued (codes "names") refl, (makes_repeated (codes "ignore-lock") refl, (makes_repeated (codes "ignore-variable") refl, (makes_flag (codes "no-witness") refl, (makes_events (codes "16777216"), (makes_nodes (codes "4096"), (makes_help, tt)))))))) e in
-    (word_there (codes "LOG") (rows_of_leaf audit words) level.passes (level.given.0 refl), limits_there (rows_of_leaf audit words) level.passes (level.defaults.1.1.1.1.1.0 tt) (level.defaults.1.1.1.1.1.1.0 tt))
+    let level = level_has limits (leaf audit) words refl (makes_word (codes "LOG") refl, (makes_valued (codes "names") refl, (makes_valued (codes "not-atomic") refl, (makes_repeated (codes "ignore-lock") refl, (makes_repeated (codes "ignore-variable") refl, (makes_flag (codes "no-witness") refl, (makes_events (codes "16777216"), (makes_nodes (codes "4096"), (makes_help, tt))))))))) e in
+    (word_there (codes "LOG") (rows_of_leaf audit words) level.passes (level.given.0 refl), limits_there (rows_of_leaf audit words) level.passes (level.defaults.1.1.1.1.1.1.0 tt) (level.defaults.1.1.1.1.1.1.1.0 tt))
 
 -- ---- the words
 

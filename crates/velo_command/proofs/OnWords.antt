@@ -113,26 +113,26 @@ unfolding faults_of walk_fault walked defaults_fault
 watch_is_right = refl
 
 watch_asks : (options : WatchOptions) → options.input.now ≡ codes "-" → options.stop ≡ true → options.limits.events ≡ 1048576 → options.limits.nodes ≡ 1024
-    → options.certificate ≡ false → AsksFor (asked_by watch_words) (Watch options)
+    → options.certificate ≡ false → options.names ≡ None → AsksFor (asked_by watch_words) (Watch options)
 unfolding asked_by walked
-watch_asks options log stop events nodes certificate =
-    (refl, (ap Some (sym log), search rules, search rules, search rules))
+watch_asks options log stop events nodes certificate names =
+    (refl, (ap Some (sym log), search rules, search rules, search rules, ap (option_map (λ path. path.now)) (sym names)))
 
 -- a log that is audited, without two locks; the limits are the greatest ones by default
 abbrev audit_words : List Text
-audit_words = codes "velodrome" ∷ codes "audit" ∷ codes "a" ∷ codes "--ignore-lock" ∷ codes "3" ∷ codes "--no-witness" ∷ codes "--ignore-lock=m" ∷ []
+audit_words = codes "velodrome" ∷ codes "audit" ∷ codes "a" ∷ codes "--ignore-lock" ∷ codes "3" ∷ codes "--no-witness" ∷ codes "--ignore-lock=m" ∷ codes "--not-atomic" ∷ codes "l" ∷ []
 
 audit_is_right : faults_of audit_words ≡ []
 unfolding faults_of walk_fault walked defaults_fault
 audit_is_right = refl
 
-audit_asks : (options : AuditOptions) → options.input.now ≡ codes "a" → options.names ≡ None
+audit_asks : (options : AuditOptions) → options.input.now ≡ codes "a" → options.names ≡ None → option_map (λ path. path.now) options.known ≡ Some (codes "l")
     → map (λ w. w.now) options.ignored_locks.now ≡ codes "3" ∷ codes "m" ∷ [] → map (λ w. w.now) options.ignored_variables.now ≡ [] → options.witness ≡ false
     → options.limits.events ≡ 16777216 → options.limits.nodes ≡ 4096 → AsksFor (asked_by audit_words) (Audit options)
 unfolding asked_by walked
-audit_asks options log names locks variables witness events nodes = (
+audit_asks options log names known locks variables witness events nodes = (
   refl,
-  (ap Some (sym log), ap (option_map (λ path. path.now)) (sym names), sym locks, sym variables, search rules, search rules),
+  (ap Some (sym log), ap (option_map (λ path. path.now)) (sym names), sym known, sym locks, sym variables, search rules, search rules),
 )
 
 -- ---- wrong words, and words that ask for help

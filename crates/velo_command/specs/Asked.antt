@@ -85,11 +85,13 @@ IsWatch rows options =
     (first_of (codes "LOG") rows ≡ Some options.input.now)
     × IsFlag (one_of (codes "stop") rows) options.stop
     × AreLimits rows options.limits × IsFlag (one_of (codes "certificate") rows) options.certificate
+    × IsPath (codes "names") rows options.names
 
 abbrev pub IsAudit : List Row → AuditOptions → Type 0
 IsAudit rows options =
     (first_of (codes "LOG") rows ≡ Some options.input.now)
     × IsPath (codes "names") rows options.names
+    × IsPath (codes "not-atomic") rows options.known
     × AreWords (codes "ignore-lock") rows options.ignored_locks.now
     × AreWords (codes "ignore-variable") rows options.ignored_variables.now
     × IsFlag (one_of (codes "no-witness") rows) (not options.witness)

@@ -88,12 +88,13 @@ explore = subcommand (codes "explore")
     (word (codes "FILE") ∷ states ∷ flag (codes "first") ∷ valued (codes "log") ∷ graph_options)
 
 abbrev pub watch : Shape
-watch = subcommand (codes "watch") (word (codes "LOG") ∷ flag (codes "stop") ∷ graph_options)
+watch = subcommand (codes "watch")
+    (word (codes "LOG") ∷ valued (codes "names") ∷ flag (codes "stop") ∷ graph_options)
 
 -- the greatest limits by default
 abbrev pub audit : Shape
 audit = subcommand (codes "audit")
-    (word (codes "LOG") ∷ valued (codes "names")
+    (word (codes "LOG") ∷ valued (codes "names") ∷ valued (codes "not-atomic")
     ∷ repeated (codes "ignore-lock") ∷ repeated (codes "ignore-variable")
     ∷ flag (codes "no-witness")
     ∷ events (codes "16777216") ∷ nodes (codes "4096") ∷ [])

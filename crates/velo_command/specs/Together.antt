@@ -1,5 +1,5 @@
 -- Which options of a request do not go together, and the line that says so.
-use Rattle.std.specs.Prelude.{List, [], ◌∷◌, ℕ, Option, Some, None, codes, count_by, nat_lt, if◌then◌else◌}
+use Rattle.std.specs.Prelude.{List, [], ◌∷◌, ◌++◌, ℕ, Option, Some, None, codes, count_by, nat_lt, if◌then◌else◌}
 use Rattle.std.specs.Borrow.{Bor}
 use Rattle.std.specs.Str.{bytes_eq}
 use Rattle.velo_program.specs.declared.request.Request.{Request}
@@ -25,8 +25,9 @@ clash_of (Run options) = None
 clash_of (Explain options) = clash_of_inputs (options.input.now ∷ path_if options.names)
 clash_of (Carry options) = None
 clash_of (Explore options) = None
-clash_of (Watch options) = None
-clash_of (Audit options) = clash_of_inputs (options.input.now ∷ path_if options.names)
+clash_of (Watch options) = clash_of_inputs (options.input.now ∷ path_if options.names)
+clash_of (Audit options) =
+    clash_of_inputs (options.input.now ∷ path_if options.names ++ path_if options.known)
 
 abbrev pub line_of_clash : Clash → List ℕ
 line_of_clash InputTwice = codes "error: standard input can be read once\n"

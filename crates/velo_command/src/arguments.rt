@@ -124,6 +124,7 @@ fn watch<'a>(alloc: Global) -> Result<Command<'a>, Memory>
         .about("Reads a log as it comes, tells its alarm at once, and reports the verdict")
         .after_help(help::OF_WATCH);
     let command = with_argument(command, log(alloc))?;
+    let command = with_argument(command, names(alloc))?;
     let command = with_argument(command, stop_of_watch(alloc))?;
     with_graph_options(alloc, command)
 }
@@ -137,6 +138,7 @@ fn audit<'a>(alloc: Global) -> Result<Command<'a>, Memory>
         .after_help(help::OF_AUDIT);
     let command = with_argument(command, log(alloc))?;
     let command = with_argument(command, names(alloc))?;
+    let command = with_argument(command, not_atomic(alloc))?;
     let command = with_argument(command, ignored_locks(alloc))?;
     let command = with_argument(command, ignored_variables(alloc))?;
     let command = with_argument(command, no_witness(alloc))?;
@@ -233,6 +235,17 @@ fn found_log<'a>(alloc: Global) -> Arg<'a>
         "log",
         "OUT",
         "Write the log of the replay that is reported to this path, before the report",
+    )
+}
+
+fn not_atomic<'a>(alloc: Global) -> Arg<'a>
+    ensures { IsArgument (valued (codes "not-atomic")) result }
+{
+    valued(
+        alloc,
+        "not-atomic",
+        "FILE",
+        "The path of the labels that are known already, or -; leave out their blocks",
     )
 }
 

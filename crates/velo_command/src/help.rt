@@ -200,18 +200,20 @@ Each line is judged as soon as its newline has come. At the first alarm one line
 block to blame, outermost first, 'blame B L', or 'blame none'. Then the watch goes on to the end of the log; with --stop it
 ends there, reports the events so far, and leaves the rest unread. It ends without a report at the first line that is wrong,
 is refused or reads a wrong value, with the line and the status of 'velodrome check'; an alarm before that is out already.
+With --names the names are read first, and the report has those of threads and labels behind their numbers; the line of the
+alarm has numbers alone. One of LOG and FILE can be -.
 
 LOG is a pipe, a FIFO or a file, which ends at its end. One that grows: tail -c +1 -f LOG | velodrome watch -
 
 Statuses, each with the lines on standard error:
   0  no alarm, or help
-  2  usage; the text is no log: 'log fault K', 'log fault K line N'; an event
-     can't come about: 'refused K at P', 'wrong value at P'
+  2  usage; 'error: standard input can be read once'; the text is no log: 'log fault K', 'log fault K line N'; an event
+     can't come about: 'refused K at P', 'wrong value at P'; the names are at fault: 'names fault K line N'
   3  an alarm: no serial reordering of the log exists
   4  a limit was met: 'refused 17 at P', 'refused 18 at P'
   5  memory or a device failed: 'out of memory', 'read failed', 'write failed', 'cannot open'
 
-Log, faults and refusals: see 'velodrome check --help'.";
+Log, names, faults and refusals: see 'velodrome check --help'.";
 
 /// Behind the help of `audit`.
 pub const OF_AUDIT: &str = "\
@@ -228,7 +230,16 @@ It writes 'left out label L', 'left out lock N', 'left out variable N' for what 
 that was found, and the witness of its round, without --no-witness; then 'atomic N labels' and 'rounds R'. With --names each
 number has its name behind it.
 
---ignore-lock and --ignore-variable take a number or a name, and each may be given again.
+--not-atomic has the labels that are known already, a line each: a number, a name, or a line that an audit wrote, so that
+what it wrote is its next list; what such a line tells of no label says nothing, nor does an empty line or a comment that
+begins with '#'. A line of a number and a name is that label, or where they no longer belong together the labels of the
+name. A name that no label has is allowed. --ignore-lock and --ignore-variable take a number or a name, and each may be
+given again. One of LOG and the FILEs can be -.
+
+List faults, line 0 for the whole text:
+   1  bad line
+   3  too many
+   4  not UTF-8
 
 Ignored faults, where such a word is no number up to 65535 and no name:
    1  no such lock
@@ -238,7 +249,8 @@ Statuses, each with the lines on standard error:
   0  no label was found, or help
   2  usage; 'error: standard input can be read once'; the text is no log: 'log fault K', 'log fault K line N'; an event
      can't come about: 'refused K at P', 'wrong value at P'; the names are at fault: 'names fault K line N';
-     a word of --ignore-lock or --ignore-variable means nothing: 'ignored fault K'
+     the list is at fault: 'list fault K line N'; a word of --ignore-lock or --ignore-variable means nothing:
+     'ignored fault K'
   3  a label was found whose blocks are not atomic
   4  a limit was met: 'refused 17 at P', 'refused 18 at P'
   5  memory or a device failed: 'out of memory', 'read failed', 'write failed', 'cannot open'

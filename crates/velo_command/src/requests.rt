@@ -134,6 +134,7 @@ fn watch_options<'a>(found: &ArgMatches<'a>) -> Option<WatchOptions<'a>>
         stop: found.get_flag("stop"),
         limits: limits_of(found)?,
         certificate: found.get_flag("certificate"),
+        names: found.get_str("names"),
     })
 }
 
@@ -145,6 +146,7 @@ fn audit_options<'a>(found: &'a ArgMatches) -> Option<AuditOptions<'a>>
     Some(AuditOptions {
         input: found.get_str("LOG")?,
         names: found.get_str("names"),
+        known: found.get_str("not-atomic"),
         ignored_locks: found.get_strs("ignore-lock").unwrap_or(&[]),
         ignored_variables: found.get_strs("ignore-variable").unwrap_or(&[]),
         witness: !found.get_flag("no-witness"),

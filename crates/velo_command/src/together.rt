@@ -1,5 +1,5 @@
 //! Options of a request that do not go together.
-ghost use Rattle.std.specs.Prelude.{◌≡◌, ◌∷◌, codes, false};
+ghost use Rattle.std.specs.Prelude.{◌≡◌, ◌∷◌, ◌++◌, codes, false};
 ghost use Rattle.std.specs.Option.{option_map_or};
 ghost use Rattle.std.specs.Str.{bytes_eq};
 ghost use Rattle.velo_program.specs.Fate.{Closes};
@@ -25,12 +25,9 @@ pub fn clash_of(request: &Request) -> Option<Clash>
     match request {
         Request::Check(options) => clash_of_inputs(options.input, options.names),
         Request::Explain(options) => clash_of_inputs(options.input, options.names),
-        Request::Audit(options) => clash_of_inputs(options.input, options.names),
-        Request::Carry(_)
-        | Request::Explore(_)
-        | Request::Replay(_)
-        | Request::Run(_)
-        | Request::Watch(_) => None,
+        Request::Watch(options) => clash_of_inputs(options.input, options.names),
+        Request::Audit(options) => clash_of_audit(options.input, options.names, options.known),
+        Request::Carry(_) | Request::Explore(_) | Request::Replay(_) | Request::Run(_) => None,
     }
 }
 
@@ -39,6 +36,22 @@ fn clash_of_inputs(log: &str, names: Option<&str>) -> Option<Clash>
     ensures { result ≡ clash_of_inputs (log.now ∷ path_if names.entry) }
 {
     if log == "-" && is_standard_input(names) {
+        Some(Clash::InputTwice)
+    } else {
+        None
+    }
+}
+
+/// A log, its names and a list of labels are not to be there twice either.
+fn clash_of_audit(log: &str, names: Option<&str>, known: Option<&str>) -> Option<Clash>
+    ensures { result ≡ clash_of_inputs (log.now ∷ path_if names.entry ++ path_if known.entry) }
+{
+    let (log, names, known) = (
+        log == "-",
+        is_standard_input(names),
+        is_standard_input(known),
+    );
+    if log && names || log && known || names && known {
         Some(Clash::InputTwice)
     } else {
         None

@@ -42,7 +42,7 @@ struct Told {
     status: u8,
 }
 
-static TOLD: [Told; 10] = [
+static TOLD: [Told; 13] = [
     // the name is the last of its line
     Told {
         words: &["velodrome", "check", "a", "--names", "n"],
@@ -119,6 +119,31 @@ static TOLD: [Told; 10] = [
         err: "",
         status: 0,
     },
+    // the line of the alarm has numbers alone
+    Told {
+        words: &["velodrome", "watch", "a", "--names", "n"],
+        log: LOST_UPDATE,
+        names: NAMES,
+        out: "alarm 4 blame 1 7\nevents 5\nthread 0 4 main\nthread 1 1\nverdict alarm 4\ntransaction 1\nblame 1 7 flush\n",
+        err: "",
+        status: 3,
+    },
+    Told {
+        words: &["velodrome", "watch", "a", "--names", "n"],
+        log: LOST_UPDATE,
+        names: BAD,
+        out: "",
+        err: "names fault 1 line 2\n",
+        status: 2,
+    },
+    Told {
+        words: &["velodrome", "watch", "-", "--names", "-"],
+        log: LOST_UPDATE,
+        names: NAMES,
+        out: "",
+        err: "error: standard input can be read once\n",
+        status: 2,
+    },
     // a smaller limit
     Told {
         words: &["velodrome", "audit", "a", "--events", "4"],
@@ -143,5 +168,379 @@ fn try_told<R: Threads + Wait + Sync + Abort>(rt: &R, alloc: Global, told: &Told
 fn names_and_audits(rt: HostRuntime) {
     for told in &TOLD {
         try_told(&rt, rt.alloc(), told);
+    }
+}
+
+/// A block in another, which are both to blame.
+const NESTED: &str = "vlog 1 2 1 0\n0 fork 1\n0 begin 7\n0 begin 9\n0 rd 0 0\n1 wr 0 5\n0 wr 0 1\n";
+
+/// Between two holds of a lock another thread has it.
+const LOCKED: &str =
+    "vlog 2 2 0 2\n0 fork 1\n0 begin 7\n0 acq 0\n0 rel 0\n1 acq 0\n1 rel 0\n0 acq 0\n";
+
+const BOTH: &str = "label 7 f\nlabel 9 f\nlock 0 m\nlock 1 m\nvariable 0 m\n";
+
+/// What the program tells of these files, of which one is a list of labels.
+struct Listed {
+    words: &'static [&'static str],
+    log: &'static str,
+    names: &'static str,
+    list: &'static str,
+    out: &'static str,
+    err: &'static str,
+    status: u8,
+}
+
+const WITH_LIST: &[&str] = &[
+    "velodrome",
+    "audit",
+    "a",
+    "--names",
+    "n",
+    "--not-atomic",
+    "l",
+    "--no-witness",
+];
+
+const BY_NUMBERS: &[&str] = &[
+    "velodrome",
+    "audit",
+    "a",
+    "--not-atomic",
+    "l",
+    "--no-witness",
+];
+
+static LISTED: [Listed; 17] = [
+    // by its name
+    Listed {
+        words: WITH_LIST,
+        log: NESTED,
+        names: NAMES,
+        list: "flush\n",
+        out: "left out label 7 flush\nnot atomic 9 {lambda()#1}\natomic 0 labels\nrounds 2\n",
+        err: "",
+        status: 3,
+    },
+    // what an audit wrote
+    Listed {
+        words: WITH_LIST,
+        log: LOST_UPDATE,
+        names: NAMES,
+        list: WITNESS,
+        out: "left out label 7 flush\natomic 0 labels\nrounds 1\n",
+        err: "",
+        status: 0,
+    },
+    Listed {
+        words: BY_NUMBERS,
+        log: NESTED,
+        names: BAD,
+        list: "left out label 9 x\nleft out lock 7 m\nleft out variable 7\nnot atomic 7 flush\natomic 7 labels\nrounds 7\n",
+        out: "left out label 9\nleft out label 7\natomic 0 labels\nrounds 1\n",
+        err: "",
+        status: 0,
+    },
+    // each once, in the order of the lines; what is not there is allowed
+    Listed {
+        words: WITH_LIST,
+        log: NESTED,
+        names: NAMES,
+        list: "# known\n\n12\nnobody\n9\n{lambda()#1}\nnot atomic 9\n  not atomic 7\n12",
+        out: "left out label 12\nleft out label 9 {lambda()#1}\nnot atomic 7 flush\natomic 0 labels\nrounds 2\n",
+        err: "",
+        status: 3,
+    },
+    // a name of two labels
+    Listed {
+        words: WITH_LIST,
+        log: NESTED,
+        names: BOTH,
+        list: "f",
+        out: "left out label 7 f\nleft out label 9 f\natomic 0 labels\nrounds 1\n",
+        err: "",
+        status: 0,
+    },
+    // but told with its number it is one of them
+    Listed {
+        words: WITH_LIST,
+        log: NESTED,
+        names: BOTH,
+        list: "not atomic 9 f\n",
+        out: "left out label 9 f\nnot atomic 7 f\natomic 0 labels\nrounds 2\n",
+        err: "",
+        status: 3,
+    },
+    // the name has another number now
+    Listed {
+        words: WITH_LIST,
+        log: NESTED,
+        names: NAMES,
+        list: "not atomic 7 {lambda()#1}\n",
+        out: "left out label 9 {lambda()#1}\nnot atomic 7 flush\natomic 0 labels\nrounds 2\n",
+        err: "",
+        status: 3,
+    },
+    // or none, and the number another name
+    Listed {
+        words: WITH_LIST,
+        log: LOST_UPDATE,
+        names: NAMES,
+        list: "not atomic 7 gone\n",
+        out: "not atomic 7 flush\natomic 0 labels\nrounds 2\n",
+        err: "",
+        status: 3,
+    },
+    // the list is read before the log, and behind the names
+    Listed {
+        words: WITH_LIST,
+        log: UNREADABLE,
+        names: NAMES,
+        list: "flush\nnot atomic x\n",
+        out: "",
+        err: "list fault 1 line 2\n",
+        status: 2,
+    },
+    Listed {
+        words: WITH_LIST,
+        log: UNREADABLE,
+        names: BAD,
+        list: "007\n",
+        out: "",
+        err: "names fault 1 line 2\n",
+        status: 2,
+    },
+    // no number of a label, no name
+    Listed {
+        words: BY_NUMBERS,
+        log: NESTED,
+        names: BAD,
+        list: "4294967295\n4294967296\n",
+        out: "",
+        err: "list fault 1 line 2\n",
+        status: 2,
+    },
+    Listed {
+        words: BY_NUMBERS,
+        log: NESTED,
+        names: BAD,
+        list: "a\r\n",
+        out: "",
+        err: "list fault 1 line 1\n",
+        status: 2,
+    },
+    Listed {
+        words: BY_NUMBERS,
+        log: NESTED,
+        names: BAD,
+        list: "left out label 7 \n",
+        out: "",
+        err: "list fault 1 line 1\n",
+        status: 2,
+    },
+    Listed {
+        words: &["velodrome", "audit", "a", "--not-atomic", "b"],
+        log: UNREADABLE,
+        names: BAD,
+        list: "",
+        out: "",
+        err: "cannot open\n",
+        status: 5,
+    },
+    // what is ignored is judged behind the list
+    Listed {
+        words: &[
+            "velodrome",
+            "audit",
+            "a",
+            "--not-atomic",
+            "l",
+            "--ignore-lock",
+            "m",
+        ],
+        log: UNREADABLE,
+        names: BAD,
+        list: "9\n7 \n\u{7}",
+        out: "",
+        err: "list fault 1 line 3\n",
+        status: 2,
+    },
+    Listed {
+        words: &["velodrome", "audit", "-", "--not-atomic", "-"],
+        log: NESTED,
+        names: BAD,
+        list: "",
+        out: "",
+        err: "error: standard input can be read once\n",
+        status: 2,
+    },
+    Listed {
+        words: &["velodrome", "audit", "a", "--names=-", "--not-atomic=-"],
+        log: NESTED,
+        names: BAD,
+        list: "",
+        out: "",
+        err: "error: standard input can be read once\n",
+        status: 2,
+    },
+];
+
+static IGNORED: [Listed; 9] = [
+    Listed {
+        words: &["velodrome", "audit", "a", "--no-witness"],
+        log: LOCKED,
+        names: BAD,
+        list: "",
+        out: "not atomic 7\natomic 0 labels\nrounds 2\n",
+        err: "",
+        status: 3,
+    },
+    // by a number, again and again
+    Listed {
+        words: &[
+            "velodrome",
+            "audit",
+            "a",
+            "--ignore-lock",
+            "1",
+            "--ignore-lock=0",
+        ],
+        log: LOCKED,
+        names: BAD,
+        list: "",
+        out: "left out lock 1\nleft out lock 0\natomic 1 labels\nrounds 1\n",
+        err: "",
+        status: 0,
+    },
+    // by a name, which is that of two locks and of a variable
+    Listed {
+        words: &[
+            "velodrome",
+            "audit",
+            "a",
+            "--names",
+            "n",
+            "--ignore-lock",
+            "m",
+        ],
+        log: LOCKED,
+        names: BOTH,
+        list: "",
+        out: "left out lock 0 m\nleft out lock 1 m\natomic 1 labels\nrounds 1\n",
+        err: "",
+        status: 0,
+    },
+    Listed {
+        words: &[
+            "velodrome",
+            "audit",
+            "a",
+            "--names",
+            "n",
+            "--ignore-variable",
+            "m",
+        ],
+        log: LOST_UPDATE,
+        names: BOTH,
+        list: "",
+        out: "left out variable 0 m\natomic 1 labels\nrounds 1\n",
+        err: "",
+        status: 0,
+    },
+    // a number that the log does not have
+    Listed {
+        words: &[
+            "velodrome",
+            "audit",
+            "a",
+            "--ignore-variable",
+            "65535",
+            "--no-witness",
+        ],
+        log: LOST_UPDATE,
+        names: BAD,
+        list: "",
+        out: "left out variable 65535\nnot atomic 7\natomic 0 labels\nrounds 2\n",
+        err: "",
+        status: 3,
+    },
+    // what means none, before the log is read
+    Listed {
+        words: &["velodrome", "audit", "a", "--ignore-lock", "65536"],
+        log: UNREADABLE,
+        names: BAD,
+        list: "",
+        out: "",
+        err: "ignored fault 1\n",
+        status: 2,
+    },
+    Listed {
+        words: &["velodrome", "audit", "a", "--ignore-lock", "00"],
+        log: UNREADABLE,
+        names: BAD,
+        list: "",
+        out: "",
+        err: "ignored fault 1\n",
+        status: 2,
+    },
+    Listed {
+        words: &[
+            "velodrome",
+            "audit",
+            "a",
+            "--names",
+            "n",
+            "--ignore-variable",
+            "m",
+            "--ignore-variable",
+            "f",
+        ],
+        log: UNREADABLE,
+        names: BOTH,
+        list: "",
+        out: "",
+        err: "ignored fault 2\n",
+        status: 2,
+    },
+    // a lock goes before a variable
+    Listed {
+        words: &[
+            "velodrome",
+            "audit",
+            "a",
+            "--ignore-variable",
+            "x",
+            "--ignore-lock",
+            "m",
+        ],
+        log: UNREADABLE,
+        names: BAD,
+        list: "",
+        out: "",
+        err: "ignored fault 1\n",
+        status: 2,
+    },
+];
+
+/// Compares what the program shows of the files with what it is to show.
+fn try_listed<R: Threads + Wait + Sync + Abort>(rt: &R, alloc: Global, told: &Listed) {
+    let files = [("a", told.log), ("n", told.names), ("l", told.list)];
+    let mut folder = Folder::new(alloc, &files, 5);
+    let shown = show(rt, told.words, &mut folder);
+    compare(rt, &shown, told.out, told.err, told.status, told.list);
+    drop((shown, folder));
+}
+
+#[test]
+fn labels_that_are_known(rt: HostRuntime) {
+    for told in &LISTED {
+        try_listed(&rt, rt.alloc(), told);
+    }
+}
+
+#[test]
+fn what_is_ignored(rt: HostRuntime) {
+    for told in &IGNORED {
+        try_listed(&rt, rt.alloc(), told);
     }
 }

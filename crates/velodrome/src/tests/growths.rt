@@ -1,8 +1,11 @@
 //! One growth is refused, whichever it is: the call tells it, and done again it answers as it would have. Without a refusal
 //! each call is done once.
 use super::carried::CARRIED;
-use super::{LOST_UPDATE, LOST_UPDATE_CERTIFIED};
+use super::{Folder, LOST_UPDATE, LOST_UPDATE_CERTIFIED};
 use std::alloc::Global;
+use std::sync::Wait;
+use std::thread::Threads;
+use velo_command::run;
 use velo_events::{Action, Refusal, ThreadId, VarId};
 use velo_logtext::{Bytes, LogFault, WriterSink, read_log};
 use velo_program::{CarryFault, CheckFault, Verdict, carry_run, check_run, config_of};
@@ -85,4 +88,58 @@ fn read_beside(alloc: Global) -> Result<Option<Refusal>, LogReplayFault> {
 fn a_refused_growth_beside_a_full_graph(rt: HostRuntime) {
     let refusal = again!(LogReplayFault::Memory, read_beside(rt.alloc()));
     assert_eq!(rt; refusal, Ok(Some(Refusal::GraphFull)));
+}
+
+const AUDIT: &[&str] = &[
+    "velodrome",
+    "audit",
+    "a",
+    "--names",
+    "n",
+    "--not-atomic",
+    "l",
+    "--ignore-lock",
+    "m",
+    "--no-witness",
+];
+
+const AUDIT_FILES: [(&str, &str); 3] = [
+    ("a", LOST_UPDATE),
+    ("n", "label 7 flush\nlabel 9 f\nlock 1 m\nlock 3 m\n"),
+    ("l", "f\nnot atomic 8 f\n12\n"),
+];
+
+const AUDITED: &str =
+    "left out label 9 f\nleft out label 12\nleft out lock 1 m\nleft out lock 3 m\nnot atomic 7 flush\natomic 0 labels\nrounds 2\n";
+
+/// The status of an audit whose outputs take no growth themselves.
+fn audit_into<R: Threads + Wait + Sync>(
+    rt: &R,
+    alloc: Global,
+    out: &mut [u8],
+    err: &mut [u8],
+) -> u8 {
+    let mut folder = Folder::new(alloc, &AUDIT_FILES, usize::MAX);
+    let mut out = WriterSink::new(out);
+    let mut err = WriterSink::new(err);
+    let status = run(rt, alloc, AUDIT, &mut folder, &mut out, &mut err);
+    drop((out, err, folder));
+    status
+}
+
+/// Nothing is written where a growth is refused.
+#[test]
+fn a_refused_growth_of_an_audit(rt: HostRuntime) {
+    let mut out = [0u8; 200];
+    let mut err = [0u8; 20];
+    let mut status = audit_into(&rt, rt.alloc(), out.as_mut_slice(), err.as_mut_slice());
+    if status == 5 {
+        assert_eq!(rt; out.as_slice().first(), Some(&0));
+        assert!(rt; err.starts_with(b"out of memory\n\0"));
+        status = audit_into(&rt, rt.alloc(), out.as_mut_slice(), err.as_mut_slice());
+    }
+    assert_eq!(rt; status, 3);
+    let audited = AUDITED.as_bytes();
+    assert_eq!(rt; out.as_slice().get(..audited.len()), Some(audited));
+    assert_eq!(rt; out.as_slice().get(audited.len()), Some(&0));
 }

@@ -14,7 +14,7 @@ abbrev behind_lists : List Rule
 behind_lists = repeated (codes "ignore-lock") ∷ repeated (codes "ignore-variable") ∷ flag (codes "no-witness") ∷ behind_witness
 
 abbrev all : List Rule
-all = word (codes "LOG") ∷ valued (codes "names") ∷ behind_lists
+all = word (codes "LOG") ∷ valued (codes "names") ∷ valued (codes "not-atomic") ∷ behind_lists
 
 is_audit : (old new : Command) → app_of old ≡ new_app (codes "audit") → (out-Command old).has_globals ≡ false → AddsRules all old new → IsSubcommand audit new
 is_audit old new is local adds = (
@@ -26,11 +26,12 @@ pub returns-clause-reads : goal.returns-clause-reads
 returns-clause-reads c =
     let is_new : app_of c.after_help-command.result ≡ new_app (codes "audit") = search rules in
     let local : (out-Command c.after_help-command.result).has_globals ≡ false = search rules in
-    IfOk-weaker c.with_argument-7.result _ _ (λ command adds. is_audit c.after_help-command.result command is_new local
-    (adds_next _ (valued (codes "names") ∷ behind_lists) _ _ _ _ c.log.ensures c.in_ok-command.ensures.adds
-    (adds_next _ behind_lists _ _ _ _ c.names.ensures c.in_ok-command-2.ensures.adds
-    (adds_next _ (repeated (codes "ignore-variable") ∷ flag (codes "no-witness") ∷ behind_witness) _ _ _ _ c.ignored_locks.ensures c.in_ok-command-3.ensures.adds
-    (adds_next _ (flag (codes "no-witness") ∷ behind_witness) _ _ _ _ c.ignored_variables.ensures c.in_ok-command-4.ensures.adds
-    (adds_next _ behind_witness _ _ _ _ c.no_witness.ensures c.in_ok-command-5.ensures.adds
-    (adds_next _ (nodes (codes "4096") ∷ []) _ _ _ _ c.events_argument.ensures c.in_ok-command-6.ensures.adds
-    (adds_last _ _ _ _ c.nodes_argument.ensures adds)))))))) c.with_argument-7.ensures.adds
+    IfOk-weaker c.with_argument-8.result _ _ (λ command adds. is_audit c.after_help-command.result command is_new local
+    (adds_next _ (valued (codes "names") ∷ valued (codes "not-atomic") ∷ behind_lists) _ _ _ _ c.log.ensures c.in_ok-command.ensures.adds
+    (adds_next _ (valued (codes "not-atomic") ∷ behind_lists) _ _ _ _ c.names.ensures c.in_ok-command-2.ensures.adds
+    (adds_next _ behind_lists _ _ _ _ c.not_atomic.ensures c.in_ok-command-3.ensures.adds
+    (adds_next _ (repeated (codes "ignore-variable") ∷ flag (codes "no-witness") ∷ behind_witness) _ _ _ _ c.ignored_locks.ensures c.in_ok-command-4.ensures.adds
+    (adds_next _ (flag (codes "no-witness") ∷ behind_witness) _ _ _ _ c.ignored_variables.ensures c.in_ok-command-5.ensures.adds
+    (adds_next _ behind_witness _ _ _ _ c.no_witness.ensures c.in_ok-command-6.ensures.adds
+    (adds_next _ (nodes (codes "4096") ∷ []) _ _ _ _ c.events_argument.ensures c.in_ok-command-7.ensures.adds
+    (adds_last _ _ _ _ c.nodes_argument.ensures adds))))))))) c.with_argument-8.ensures.adds

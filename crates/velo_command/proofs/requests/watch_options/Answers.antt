@@ -1,7 +1,7 @@
 use Rattle.std.proofs.Common.{codes}
 use Rattle.clap.specs.Words.{found_of, rows_of}
 use Rattle.velo_command.specs.Asked.{IsWatch}
-use Rattle.velo_command.proofs.OnAsked.{flag_read, no_word, on_none, word_read}
+use Rattle.velo_command.proofs.OnAsked.{flag_read, no_word, on_none, option_read, word_read}
 use Rattle.velo_command.proofs.requests.watch_options.Goals as goal
 
 pub returns-clause-some : goal.returns-clause-some
@@ -11,6 +11,7 @@ returns-clause-some c =
       flag_read f (codes "stop") c.get_flag.result c.get_flag.ensures.none c.get_flag.ensures.value c.get_flag.ensures.other,
       c.in_ok-limits_of.ensures.some,
       flag_read f (codes "certificate") c.get_flag-2.result c.get_flag-2.ensures.none c.get_flag-2.ensures.value c.get_flag-2.ensures.other,
+      option_read f (codes "names") c.get_str-2.result c.get_str-2.ensures,
     )
 
 pub returns-in_err-get_str-clause-none : goal.returns-in_err-get_str-clause-none
