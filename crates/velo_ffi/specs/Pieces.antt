@@ -1,5 +1,5 @@
 -- The text of a log in pieces of whole lines.
-use Rattle.std.specs.Prelude.{◌≡◌, ℕ, ◌-◌, ◌<◌, ◌≤◌, ◌⊎◌, ◌==◌, true, if◌then◌else◌, List, [], ◌∷◌, ◌++◌, length, take, drop}
+use Rattle.std.specs.Prelude.{◌≡◌, ℕ, ◌+◌, ◌-◌, ◌<◌, ◌≤◌, ◌⊎◌, ◌==◌, true, if◌then◌else◌, List, [], ◌∷◌, ◌++◌, length, take, drop}
 use Rattle.velo_events.specs.declared.config.Bounds.{Bounds}
 use Rattle.velo_events.specs.declared.event.Event.{Event}
 use Rattle.velo_logtext.specs.Text.{event_lines, header_line}
@@ -24,11 +24,14 @@ pub record PutsPiece (bounds : Bounds) (log : List Event) (from : ℕ) (buffer :
   pub there : next ≤ length log
   pub within : count ≤ length buffer
   pub text : take count buffer ≡ piece bounds log from next
+  -- one line more has no room
+  pub most : next < length log → length buffer < length (piece bounds log from (next + 1))
 
--- not even the shortest piece has room, and its length is told
+-- not even the shortest piece has room, and its length is told, which is never more than this
 pub record LacksRoom (bounds : Bounds) (log : List Event) (from : ℕ) (buffer : List ℕ) (count : ℕ) : Type 0 where
   pub short : length buffer < count
   pub needed : count ≡ length (first_piece bounds log from)
+  pub small : count ≤ 180
 
 -- a piece was put; or none has room; or the log ends before the event to begin with
 abbrev pub TellsPiece : Bounds → List Event → ℕ → ℕ → List ℕ → ℕ → ℕ → Type 0

@@ -1,5 +1,5 @@
 //! Lines of a log, put into a buffer.
-ghost use Rattle.std.specs.Prelude.{◌≡◌, ◌<◌, ◌≤◌, ◌+◌, ◌++◌, length, take};
+ghost use Rattle.std.specs.Prelude.{◌≡◌, ◌<◌, ◌≤◌, ◌+◌, ◌++◌, drop, length, take};
 ghost use Rattle.velo_logtext.specs.Text.{event_line, event_lines};
 ghost use Rattle.velo_ffi.specs.Pieces.{head_at};
 
@@ -61,6 +61,7 @@ pub fn put_lines(buffer: &mut [u8], at: usize, events: &[Event]) -> (usize, usiz
     ensures within { result.0 ≤ length buffer.new }
     ensures count { result.1 ≤ length events.now }
     ensures some { 0 < length events.now → at + length (event_lines (take 1 events.now)) ≤ length buffer.old → 0 < result.1 }
+    ensures most { result.1 < length events.now → length buffer.new < result.0 + length (event_lines (take 1 (drop result.1 events.now))) }
 {
     let mut used = at;
     for count in 0..events.len() {

@@ -12,6 +12,7 @@ mod logs;
 mod precedence;
 mod reports;
 mod slow;
+mod watching;
 mod workloads;
 
 use std::alloc::Global;
