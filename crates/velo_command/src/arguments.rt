@@ -189,7 +189,7 @@ fn schedule<'a>(alloc: Global) -> Arg<'a>
         alloc,
         "schedule",
         "TEXT",
-        "Whose turns come first: thread numbers from 0 to 63, parted by one space; 0*3 is 0 0 0",
+        "Whose turns come first: thread numbers from 0 to 63, parted by one space; THREAD*N for N turns",
     )
 }
 

@@ -80,6 +80,7 @@ fn asked(stop: bool, certificate: bool, events: u32) -> Request<'static> {
             nodes: 64,
         },
         certificate,
+        names: None,
     })
 }
 

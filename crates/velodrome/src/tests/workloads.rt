@@ -431,7 +431,7 @@ fn workloads_run(rt: HostRuntime) {
 }
 
 /// Texts of schedules, with the numbers that they mean.
-const SCHEDULES: [(&str, &[u8]); 6] = [
+const SCHEDULES: [(&str, &[u8]); 8] = [
     ("", &[]),
     ("0", &[0]),
     ("63", &[63]),
