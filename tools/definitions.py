@@ -38,7 +38,7 @@ PARTS = [
         "velo_audit": "Audit* Rounds* Tells Witness",
         "velo_audit_text": "Text"}),
     ("What the program does", {
-        "velo_program": "Program* Check Explaining Carrying Playing Schedule Delivery Disk Writing Reading Fate Causes",
+        "velo_program": "Program* Check Explaining Carrying Playing Exploring* Schedule Delivery Disk Writing Reading Fate Causes",
         "velo_command": "CommandLine Asked Running Usage"}),
     ("The library for other languages", {
         "velo_ffi": "Answers"}),

@@ -12,10 +12,11 @@ use Rattle.velo_program.specs.declared.request.CheckOptions.{CheckOptions}
 use Rattle.velo_program.specs.declared.request.RunOptions.{RunOptions}
 use Rattle.velo_program.specs.declared.request.ReplayOptions.{ReplayOptions}
 use Rattle.velo_program.specs.declared.request.ExplainOptions.{ExplainOptions}
+use Rattle.velo_program.specs.declared.request.ExploreOptions.{ExploreOptions}
 use Rattle.velo_program.specs.declared.request.WatchOptions.{WatchOptions}
 use Rattle.velo_program.specs.declared.request.Request.{Request}
-use Rattle.velo_program.specs.declared.request.Request.TheVariants.{Audit, Carry, Check, Explain, Replay, Run, Watch}
-use Rattle.velo_command.specs.Asked.{AreLimits, AsksFor, AsksForNothing, IsAudit, IsCarrying, IsCheck, IsExplanation, IsFlag, IsReplay, IsRun, IsWatch, WritesNumber}
+use Rattle.velo_program.specs.declared.request.Request.TheVariants.{Audit, Carry, Check, Explain, Explore, Replay, Run, Watch}
+use Rattle.velo_command.specs.Asked.{AreLimits, AsksFor, AsksForNothing, IsAudit, IsCarrying, IsCheck, IsExplanation, IsExploring, IsFlag, IsReplay, IsRun, IsWatch, WritesNumber}
 use Rattle.velo_command.specs.CommandLine.{asked_by, faults_of}
 use Rattle.velo_command.proofs.OnLimits.{HasLimit, HasWord}
 use Rattle.velo_command.proofs.OnRight.{HasLimits, IsRight, faultless_is_right}
@@ -125,6 +126,34 @@ a_carrying : (rows : List Row) → HasWord (codes "LOG") rows → HasWord (codes
 unfolding a_path
 a_carrying rows word out = (record { input = a_path word.0; target = a_path out.0 }, (word.1, out.1))
 
+an_exploring : (rows : List Row) → HasWord (codes "FILE") rows → HasLimit (codes "states") 16777216 rows → HasLimits rows
+    → (options : ExploreOptions) × IsExploring rows options
+unfolding a_path
+an_exploring rows word has_states has =
+    let limits = a_limits rows has in
+    let states = digits_value 10 (without_leading_plus has_states.0) in
+    let few_states : states ≤ 16777216 = has_states.2.2 in
+    let states_fit : states < 2 ^ 32 = omega arith in (
+      record {
+        input = a_path word.0;
+        states = states;
+        first = is_true (one_of (codes "first") rows);
+        target = a_path_if (first_of (codes "log") rows);
+        limits = limits.0;
+        certificate = is_true (one_of (codes "certificate") rows);
+        some_state = has_states.2.1;
+        few_states = few_states;
+      },
+      (
+        word.1,
+        subst (λ text. WritesNumber 32 text states) (sym has_states.1) (has_states.2.0, states_fit, refl),
+        is_flag (one_of (codes "first") rows),
+        path_of (first_of (codes "log") rows),
+        limits.1,
+        is_flag (one_of (codes "certificate") rows),
+      ),
+    )
+
 a_watch : (rows : List Row) → HasWord (codes "LOG") rows → HasLimits rows → (options : WatchOptions) × IsWatch rows options
 unfolding a_path
 a_watch rows word has =
@@ -182,9 +211,12 @@ right_asks found (inr (inr (inr (inr (inl is))))) =
     let options = a_carrying found.1 is.1 is.2 in
     (Carry options.0, (is.0, options.1))
 right_asks found (inr (inr (inr (inr (inr (inl is)))))) =
+    let options = an_exploring found.1 is.1 is.2 is.3 in
+    (Explore options.0, (is.0, options.1))
+right_asks found (inr (inr (inr (inr (inr (inr (inl is))))))) =
     let options = a_watch found.1 is.1 is.2 in
     (Watch options.0, (is.0, options.1))
-right_asks found (inr (inr (inr (inr (inr (inr is)))))) =
+right_asks found (inr (inr (inr (inr (inr (inr (inr is))))))) =
     let options = an_audit found.1 is.1 is.2 in
     (Audit options.0, (is.0, options.1))
 

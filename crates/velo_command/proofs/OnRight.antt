@@ -14,7 +14,8 @@ use Rattle.clap.specs.Values.{reading_of}
 use Rattle.clap.specs.Faults.{built_fault, defaults_fault, entered_fault, fault_of, level_fault, settle_fault, values_fault, walk_fault}
 use Rattle.clap.specs.declared.parser.matches.ValueSource.{ValueSource}
 use Rattle.velo_events.specs.declared.limits.TheConstants.{MOST_EVENTS, MOST_NODES}
-use Rattle.velo_command.specs.CommandLine.{audit, carry, check, command_line, events, explain, flag, needed, nodes, repeated, replay, run, valued, watch, word}
+use Rattle.velo_program.specs.declared.request.TheConstants.{MOST_STATES}
+use Rattle.velo_command.specs.CommandLine.{audit, carry, check, command_line, events, explain, explore, flag, needed, nodes, repeated, replay, run, states, valued, watch, word}
 use Rattle.velo_command.proofs.OnWalk.{Each, found_has, level_keeps, neither}
 use Rattle.velo_command.proofs.OnStop.{StopsNotAtHelp, walk_stops}
 use Rattle.velo_command.proofs.OnRows.{IsFilled, MakesRows, default_keeps, defaults_have, is_plain, more_row, new_row, required_given, row_given, row_there, subcommand_there, used_keeps}
@@ -113,7 +114,7 @@ level_has limits s words once plain e =
 
 -- the limits
 abbrev limits : List Rule
-limits = filled (events (codes "1048576")) ∷ filled (nodes (codes "1024")) ∷ []
+limits = filled (events (codes "1048576")) ∷ filled (nodes (codes "1024")) ∷ filled states ∷ []
 
 -- those of a graph are read
 abbrev pub HasLimits : List Row → Type 0
@@ -128,17 +129,23 @@ limits_there rows passes events_there nodes_there = (
   limit_read (Passes limits) (filled (nodes (codes "1024"))) MOST_NODES rows (λ r holds. (holds.0, holds.1.1.0)) refl (row_there (Passes limits) (codes "nodes") rows passes nodes_there),
 )
 
+states_there : (rows : List Row) → Each (Passes limits) rows → has_row (codes "states") rows ≡ true → HasLimit (codes "states") MOST_STATES rows
+states_there rows passes there =
+    limit_read (Passes limits) (filled states) MOST_STATES rows (λ r holds. (holds.0, holds.1.1.1.0)) refl (row_there (Passes limits) (codes "states") rows passes there)
+
 -- a name that is no limit's
 abbrev is_other : Text → Bool
-is_other name = not (bytes_eq name (codes "events")) && not (bytes_eq name (codes "nodes"))
+is_other name = not (bytes_eq name (codes "events")) && (not (bytes_eq name (codes "nodes")) && not (bytes_eq name (codes "states")))
 
 others : (a : Rule) → is_other a.id ≡ true → Each (Suits a) limits
-others a e = go (bytes_eq a.id (codes "events")) refl (bytes_eq a.id (codes "nodes")) refl e
+others a e = go (bytes_eq a.id (codes "events")) refl (bytes_eq a.id (codes "nodes")) refl (bytes_eq a.id (codes "states")) refl e
   where
-    go : (b : Bool) → bytes_eq a.id (codes "events") ≡ b → (d : Bool) → bytes_eq a.id (codes "nodes") ≡ d → (not b && not d) ≡ true → Each (Suits a) limits
-    go true events_is d nodes_is e = absurd (true≢false (sym e))
-    go false events_is true nodes_is e = absurd (true≢false (sym e))
-    go false events_is false nodes_is e = (inl events_is, (inl nodes_is, tt))
+    go : (b : Bool) → bytes_eq a.id (codes "events") ≡ b → (d : Bool) → bytes_eq a.id (codes "nodes") ≡ d → (f : Bool) → bytes_eq a.id (codes "states") ≡ f
+        → (not b && (not d && not f)) ≡ true → Each (Suits a) limits
+    go true events_is d nodes_is f states_is e = absurd (true≢false (sym e))
+    go false events_is true nodes_is f states_is e = absurd (true≢false (sym e))
+    go false events_is false nodes_is true states_is e = absurd (true≢false (sym e))
+    go false events_is false nodes_is false states_is e = (inl events_is, (inl nodes_is, (inl states_is, tt)))
 
 -- each argument is plain
 makes_word : (name : Text) → is_other name ≡ true → MakesRows (Passes limits) (with_index 1 (filled (word name)))
@@ -157,10 +164,13 @@ makes_flag : (name : Text) → is_other name ≡ true → MakesRows (Passes limi
 makes_flag name other = makes limits (filled (flag name)) refl (others (filled (flag name)) other)
 
 makes_events : (default : Text) → MakesRows (Passes limits) (filled (events default))
-makes_events default = makes limits (filled (events default)) refl (inr (refl, refl, refl), (inl refl, tt))
+makes_events default = makes limits (filled (events default)) refl (inr (refl, refl, refl), (inl refl, (inl refl, tt)))
 
 makes_nodes : (default : Text) → MakesRows (Passes limits) (filled (nodes default))
-makes_nodes default = makes limits (filled (nodes default)) refl (inl refl, (inr (refl, refl, refl), tt))
+makes_nodes default = makes limits (filled (nodes default)) refl (inl refl, (inr (refl, refl, refl), (inl refl, tt)))
+
+makes_states : MakesRows (Passes limits) (filled states)
+makes_states = makes limits (filled states) refl (inl refl, (inl refl, (inr (refl, refl, refl), tt)))
 
 makes_help : MakesRows (Passes limits) (filled help_rule)
 makes_help = makes limits (filled help_rule) refl (others (filled help_rule) refl)
@@ -202,6 +212,12 @@ carry_right words e =
     let level = level_has limits (leaf carry) words refl (makes_word (codes "LOG") refl, (makes_needed (codes "log") refl, (makes_help, tt))) e in
     (word_there (codes "LOG") (rows_of_leaf carry words) level.passes (level.given.0 refl), word_there (codes "log") (rows_of_leaf carry words) level.passes (level.given.1.0 refl))
 
+explore_right : (words : List Text) → level_fault (leaf explore) [] nothing_held words false [] ≡ []
+    → HasWord (codes "FILE") (rows_of_leaf explore words) × HasLimit (codes "states") MOST_STATES (rows_of_leaf explore words) × HasLimits (rows_of_leaf explore words)
+explore_right words e =
+    let level = level_has limits (leaf explore) words refl (makes_word (codes "FILE") refl, (makes_states, (makes_flag (codes "first") refl, (makes_valued (codes "log") refl, (makes_events (codes "1048576"), (makes_nodes (codes "1024"), (makes_flag (codes "certificate") refl, (makes_help, tt)))))))) e in
+    (word_there (codes "FILE") (rows_of_leaf explore words) level.passes (level.given.0 refl), states_there (rows_of_leaf explore words) level.passes (level.defaults.1.0 tt), limits_there (rows_of_leaf explore words) level.passes (level.defaults.1.1.1.1.0 tt) (level.defaults.1.1.1.1.1.0 tt))
+
 watch_right : (words : List Text) → level_fault (leaf watch) [] nothing_held words false [] ≡ []
     → HasWord (codes "LOG") (rows_of_leaf watch words) × HasLimits (rows_of_leaf watch words)
 watch_right words e =
@@ -223,8 +239,9 @@ IsRight found = ((found.0 ≡ codes "check") × HasWord (codes "LOG") found.1 ×
     ⊎ (((found.0 ≡ codes "run") × HasWord (codes "FILE") found.1 × HasLimits found.1)
     ⊎ (((found.0 ≡ codes "explain") × HasWord (codes "LOG") found.1)
     ⊎ (((found.0 ≡ codes "carry") × HasWord (codes "LOG") found.1 × HasWord (codes "log") found.1)
+    ⊎ (((found.0 ≡ codes "explore") × HasWord (codes "FILE") found.1 × HasLimit (codes "states") MOST_STATES found.1 × HasLimits found.1)
     ⊎ (((found.0 ≡ codes "watch") × HasWord (codes "LOG") found.1 × HasLimits found.1)
-    ⊎ (((found.0 ≡ codes "audit") × HasWord (codes "LOG") found.1 × HasLimits found.1)))))))
+    ⊎ (((found.0 ≡ codes "audit") × HasWord (codes "LOG") found.1 × HasLimits found.1))))))))
 
 -- the subcommand is right where its level has no fault and it is not entered as `help`
 abbrev IsRightAt : Text → List Text → Shape → Type 0
@@ -238,7 +255,7 @@ not_help name apart hit = true≢false (sym ((bytes_eq-Decides name (codes "help
     alone false e = e
 
 each_right : (name : Text) (words : List Text) → bytes_eq name (codes "help") ≡ false → Each (IsRightAt name words) (built command_line).subs
-each_right name words apart = (λ hit e. inl (refl, (check_right words e).0, (check_right words e).1), (λ hit e. inr (inl (refl, (replay_right words e).0, (replay_right words e).1)), (λ hit e. inr (inr (inl (refl, (run_right words e).0, (run_right words e).1))), (λ hit e. inr (inr (inr (inl (refl, explain_right words e)))), (λ hit e. inr (inr (inr (inr (inl (refl, (carry_right words e).0, (carry_right words e).1))))), (λ hit e. inr (inr (inr (inr (inr (inl (refl, (watch_right words e).0, (watch_right words e).1)))))), (λ hit e. inr (inr (inr (inr (inr (inr ((refl, (audit_right words e).0, (audit_right words e).1))))))), (λ hit e. absurd (not_help name apart hit), tt))))))))
+each_right name words apart = (λ hit e. inl (refl, (check_right words e).0, (check_right words e).1), (λ hit e. inr (inl (refl, (replay_right words e).0, (replay_right words e).1)), (λ hit e. inr (inr (inl (refl, (run_right words e).0, (run_right words e).1))), (λ hit e. inr (inr (inr (inl (refl, explain_right words e)))), (λ hit e. inr (inr (inr (inr (inl (refl, (carry_right words e).0, (carry_right words e).1))))), (λ hit e. inr (inr (inr (inr (inr (inl (refl, (explore_right words e).0, (explore_right words e).1, (explore_right words e).2)))))), (λ hit e. inr (inr (inr (inr (inr (inr (inl (refl, (watch_right words e).0, (watch_right words e).1))))))), (λ hit e. inr (inr (inr (inr (inr (inr (inr ((refl, (audit_right words e).0, (audit_right words e).1)))))))), (λ hit e. absurd (not_help name apart hit), tt)))))))))
 
 -- words without a fault ask for a request
 pub faultless_is_right : (words : List Text) → fault_of command_line words ≡ []

@@ -11,8 +11,9 @@ use Rattle.velo_program.specs.declared.request.CheckOptions.{CheckOptions}
 use Rattle.velo_program.specs.declared.request.ExplainOptions.{ExplainOptions}
 use Rattle.velo_program.specs.declared.request.ReplayOptions.{ReplayOptions}
 use Rattle.velo_program.specs.declared.request.RunOptions.{RunOptions}
+use Rattle.velo_program.specs.declared.request.ExploreOptions.{ExploreOptions}
 use Rattle.velo_program.specs.declared.request.WatchOptions.{WatchOptions}
-use Rattle.velo_program.specs.declared.request.Request.TheVariants.{Audit, Carry, Check, Explain, Replay, Run, Watch}
+use Rattle.velo_program.specs.declared.request.Request.TheVariants.{Audit, Carry, Check, Explain, Explore, Replay, Run, Watch}
 use Rattle.velo_command.specs.Asked.{AsksFor}
 use Rattle.velo_command.specs.CommandLine.{asked_by, faults_of}
 
@@ -89,6 +90,20 @@ carry_asks : (options : CarryOptions) → options.input.now ≡ codes "a" → op
 unfolding asked_by walked
 carry_asks options log out = (refl, (ap Some (sym log), ap Some (sym out)))
 
+-- a workload, with the states and limits that are there by default
+abbrev explore_words : List Text
+explore_words = codes "velodrome" ∷ codes "explore" ∷ codes "w" ∷ []
+
+explore_is_right : faults_of explore_words ≡ []
+unfolding faults_of walk_fault walked defaults_fault
+explore_is_right = refl
+
+explore_asks : (options : ExploreOptions) → options.input.now ≡ codes "w" → options.states ≡ 2097152 → options.first ≡ false → options.target ≡ None
+    → options.limits.events ≡ 1048576 → options.limits.nodes ≡ 1024 → options.certificate ≡ false → AsksFor (asked_by explore_words) (Explore options)
+unfolding asked_by walked
+explore_asks options file states first log events nodes certificate =
+    (refl, (ap Some (sym file), search rules, search rules, ap (option_map (λ path. path.now)) (sym log), search rules, search rules))
+
 -- a log that is watched
 abbrev watch_words : List Text
 watch_words = codes "velodrome" ∷ codes "watch" ∷ codes "--stop" ∷ codes "-" ∷ []
@@ -145,6 +160,10 @@ no_such_option = refl
 too_many_nodes : faults_of (codes "velodrome" ∷ codes "check" ∷ codes "a" ∷ codes "--nodes" ∷ codes "4097" ∷ []) ≡ ValueValidation ∷ []
 unfolding faults_of walk_fault walked defaults_fault
 too_many_nodes = refl
+
+too_many_states : faults_of (codes "velodrome" ∷ codes "explore" ∷ codes "w" ∷ codes "--states" ∷ codes "16777217" ∷ []) ≡ ValueValidation ∷ []
+unfolding faults_of walk_fault walked defaults_fault
+too_many_states = refl
 
 names_twice : faults_of (codes "velodrome" ∷ codes "audit" ∷ codes "a" ∷ codes "--names" ∷ codes "m" ∷ codes "--names" ∷ codes "n" ∷ []) ≡ ArgumentConflict ∷ []
 unfolding faults_of walk_fault walked defaults_fault

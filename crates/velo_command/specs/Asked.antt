@@ -7,12 +7,13 @@ use Rattle.velo_program.specs.declared.request.Limits.{Limits}
 use Rattle.velo_program.specs.declared.request.AuditOptions.{AuditOptions}
 use Rattle.velo_program.specs.declared.request.CarryOptions.{CarryOptions}
 use Rattle.velo_program.specs.declared.request.CheckOptions.{CheckOptions}
+use Rattle.velo_program.specs.declared.request.ExploreOptions.{ExploreOptions}
 use Rattle.velo_program.specs.declared.request.RunOptions.{RunOptions}
 use Rattle.velo_program.specs.declared.request.ReplayOptions.{ReplayOptions}
 use Rattle.velo_program.specs.declared.request.ExplainOptions.{ExplainOptions}
 use Rattle.velo_program.specs.declared.request.WatchOptions.{WatchOptions}
 use Rattle.velo_program.specs.declared.request.Request.{Request}
-use Rattle.velo_program.specs.declared.request.Request.TheVariants.{Audit, Carry, Check, Explain, Replay, Run, Watch}
+use Rattle.velo_program.specs.declared.request.Request.TheVariants.{Audit, Carry, Check, Explain, Explore, Replay, Run, Watch}
 
 -- the text writes this number, which an unsigned type of so many bits holds; a plus may stand before it
 abbrev pub WritesNumber : ℕ → Option Text → ℕ → Type 0
@@ -71,6 +72,14 @@ IsCarrying rows options =
     (first_of (codes "LOG") rows ≡ Some options.input.now)
     × (first_of (codes "log") rows ≡ Some options.target.now)
 
+abbrev pub IsExploring : List Row → ExploreOptions → Type 0
+IsExploring rows options =
+    (first_of (codes "FILE") rows ≡ Some options.input.now)
+    × WritesNumber 32 (one_of (codes "states") rows) options.states
+    × IsFlag (one_of (codes "first") rows) options.first
+    × IsPath (codes "log") rows options.target
+    × AreLimits rows options.limits × IsFlag (one_of (codes "certificate") rows) options.certificate
+
 abbrev pub IsWatch : List Row → WatchOptions → Type 0
 IsWatch rows options =
     (first_of (codes "LOG") rows ≡ Some options.input.now)
@@ -98,6 +107,7 @@ AsksFor (Some found) (Replay options) = (found.0 ≡ codes "replay") × IsReplay
 AsksFor (Some found) (Run options) = (found.0 ≡ codes "run") × IsRun found.1 options
 AsksFor (Some found) (Explain options) = (found.0 ≡ codes "explain") × IsExplanation found.1 options
 AsksFor (Some found) (Carry options) = (found.0 ≡ codes "carry") × IsCarrying found.1 options
+AsksFor (Some found) (Explore options) = (found.0 ≡ codes "explore") × IsExploring found.1 options
 AsksFor (Some found) (Watch options) = (found.0 ≡ codes "watch") × IsWatch found.1 options
 AsksFor (Some found) (Audit options) = (found.0 ≡ codes "audit") × IsAudit found.1 options
 

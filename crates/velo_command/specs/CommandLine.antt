@@ -8,6 +8,7 @@ use Rattle.clap.specs.declared.builder.command.Command.{Command}
 use Rattle.clap.specs.declared.builder.command.Command.TheViews.{out-Command}
 use Rattle.clap.specs.declared.builder.value_parser.ValueParser.TheVariants.{Signed}
 use Rattle.velo_events.specs.declared.limits.TheConstants.{MOST_EVENTS, MOST_NODES}
+use Rattle.velo_program.specs.declared.request.TheConstants.{MOST_STATES}
 
 -- ---- the arguments
 
@@ -45,6 +46,13 @@ nodes default = record (valued (codes "nodes")) {
   defaults = default ∷ [];
 }
 
+-- the most states of a search
+abbrev pub states : Rule
+states = record (valued (codes "states")) {
+  parser = Some (Signed (pos 1) (pos MOST_STATES));
+  defaults = codes "2097152" ∷ [];
+}
+
 -- the options of each command that keeps a graph
 abbrev pub graph_options : List Rule
 graph_options =
@@ -75,6 +83,10 @@ explain = subcommand (codes "explain")
 abbrev pub carry : Shape
 carry = subcommand (codes "carry") (word (codes "LOG") ∷ needed (codes "log") ∷ [])
 
+abbrev pub explore : Shape
+explore = subcommand (codes "explore")
+    (word (codes "FILE") ∷ states ∷ flag (codes "first") ∷ valued (codes "log") ∷ graph_options)
+
 abbrev pub watch : Shape
 watch = subcommand (codes "watch") (word (codes "LOG") ∷ flag (codes "stop") ∷ graph_options)
 
@@ -101,7 +113,7 @@ command_line = record {
     has_version = true;
     subcommand_required = true;
   };
-  subs = check ∷ replay ∷ run ∷ explain ∷ carry ∷ watch ∷ audit ∷ [];
+  subs = check ∷ replay ∷ run ∷ explain ∷ carry ∷ explore ∷ watch ∷ audit ∷ [];
 }
 
 -- ---- what it makes of words

@@ -3,7 +3,7 @@ use Rattle.std.specs.Prelude.{List, [], ◌∷◌, ℕ, Option, Some, None, code
 use Rattle.std.specs.Borrow.{Bor}
 use Rattle.std.specs.Str.{bytes_eq}
 use Rattle.velo_program.specs.declared.request.Request.{Request}
-use Rattle.velo_program.specs.declared.request.Request.TheVariants.{Audit, Carry, Check, Explain, Replay, Run, Watch}
+use Rattle.velo_program.specs.declared.request.Request.TheVariants.{Audit, Carry, Check, Explain, Explore, Replay, Run, Watch}
 use Rattle.velo_command.specs.declared.together.Clash.{Clash}
 use Rattle.velo_command.specs.declared.together.Clash.TheVariants.{InputTwice}
 
@@ -24,6 +24,7 @@ clash_of (Replay options) = None
 clash_of (Run options) = None
 clash_of (Explain options) = clash_of_inputs (options.input.now ∷ path_if options.names)
 clash_of (Carry options) = None
+clash_of (Explore options) = None
 clash_of (Watch options) = None
 clash_of (Audit options) = clash_of_inputs (options.input.now ∷ path_if options.names)
 

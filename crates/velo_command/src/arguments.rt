@@ -2,18 +2,20 @@
 ghost use Rattle.std.specs.Prelude.{◌≡◌, IfOk, OnErr, codes};
 ghost use Rattle.clap.specs.Words.{app_of};
 ghost use Rattle.velo_events.specs.Refusals.{GrowthRefused};
-ghost use Rattle.velo_command.specs.CommandLine.{AddsRules, IsArgument, IsSubcommand, audit, bare, carry, check, command_line, events, explain, flag, graph_options, needed, nodes, repeated, replay, run, run_options, valued, watch, word};
+ghost use Rattle.velo_command.specs.CommandLine.{AddsRules, IsArgument, IsSubcommand, audit, bare, carry, check, command_line, events, explain, explore, flag, graph_options, needed, nodes, repeated, replay, run, run_options, states, valued, watch, word};
 
 use crate::growth::{with_argument, with_subcommand};
 use crate::help;
 use clap::{Arg, ArgAction, Command, value_parser};
 use std::alloc::Global;
 use velo_events::{MOST_EVENTS, MOST_NODES, Memory};
+use velo_program::MOST_STATES;
 
 /// The command line of the program, as [`run`](crate::run) reads its words: the subcommands `check`, `replay`, `run`,
-/// `explain`, `carry`, `watch` and `audit`, each with its operand and its options. A word of no subcommand, or a
+/// `explain`, `carry`, `explore`, `watch` and `audit`, each with its operand and its options. A word of no subcommand, or a
 /// limit out of its range, is a fault of usage: `--events` is 1 to [`MOST_EVENTS`], and 1,048,576 where it is not given;
-/// `--nodes` is 1 to [`MOST_NODES`], and 1,024; for `audit` both are the greatest where they are not given.
+/// `--nodes` is 1 to [`MOST_NODES`], and 1,024; for `audit` both are the greatest where they are not given. `--states` is 1 to
+/// [`MOST_STATES`], and 2,097,152.
 ///
 /// # Errors
 /// `Memory` where a growth was refused.
@@ -26,6 +28,7 @@ pub fn command<'a>(alloc: Global) -> Result<Command<'a>, Memory>
     let program = with_subcommand(program, run(alloc)?)?;
     let program = with_subcommand(program, explain(alloc)?)?;
     let program = with_subcommand(program, carry(alloc)?)?;
+    let program = with_subcommand(program, explore(alloc)?)?;
     let program = with_subcommand(program, watch(alloc)?)?;
     with_subcommand(program, audit(alloc)?)
 }
@@ -97,6 +100,20 @@ fn carry<'a>(alloc: Global) -> Result<Command<'a>, Memory>
         .after_help(help::OF_CARRY);
     let command = with_argument(command, log(alloc))?;
     with_argument(command, carried(alloc))
+}
+
+fn explore<'a>(alloc: Global) -> Result<Command<'a>, Memory>
+    ensures reads { IfOk result (IsSubcommand explore) }
+    ensures memory { OnErr result GrowthRefused }
+{
+    let command = Command::new(alloc, "explore")
+        .about("Tries every schedule of a workload and reports what it finds")
+        .after_help(help::OF_EXPLORE);
+    let command = with_argument(command, file(alloc))?;
+    let command = with_argument(command, states_argument(alloc))?;
+    let command = with_argument(command, first(alloc))?;
+    let command = with_argument(command, found_log(alloc))?;
+    with_graph_options(alloc, command)
 }
 
 fn watch<'a>(alloc: Global) -> Result<Command<'a>, Memory>
@@ -199,6 +216,23 @@ fn names<'a>(alloc: Global) -> Arg<'a>
         "names",
         "FILE",
         "The path of the names of threads, variables, locks and labels, or -",
+    )
+}
+
+fn first<'a>(alloc: Global) -> Arg<'a>
+    ensures { IsArgument (flag (codes "first")) result }
+{
+    flag(alloc, "first", "End the search at the first finding")
+}
+
+fn found_log<'a>(alloc: Global) -> Arg<'a>
+    ensures { IsArgument (valued (codes "log")) result }
+{
+    valued(
+        alloc,
+        "log",
+        "OUT",
+        "Write the log of the replay that is reported to this path, before the report",
     )
 }
 
@@ -323,4 +357,16 @@ fn nodes_argument<'a>(alloc: Global, default: &'a str) -> Arg<'a>
         .help("The most nodes that the graph may have at one time, 1 to 4096")
         .value_parser(value_parser!(u16).range(1..=i64::from(MOST_NODES)))
         .default_value(default)
+}
+
+/// The most states of a search.
+fn states_argument<'a>(alloc: Global) -> Arg<'a>
+    ensures { IsArgument states result }
+{
+    Arg::new(alloc, "states")
+        .long("states")
+        .value_name("N")
+        .help("The most states that the search may look at, 1 to 16777216")
+        .value_parser(value_parser!(u32).range(1..=i64::from(MOST_STATES)))
+        .default_value("2097152")
 }

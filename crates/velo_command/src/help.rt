@@ -161,6 +161,34 @@ Statuses, each with the lines on standard error:
 
 Log faults: see 'velodrome check --help'.";
 
+/// Behind the help of `explore`.
+pub const OF_EXPLORE: &str = "\
+Example, two threads that add to one counter, each in a block:
+  printf 'var x\\nthread main\\nfork a\\nbegin inc\\nread x\\nadd 1\\nwrite x\\nend\\njoin a\\nthread a\\nbegin inc\\nread x\\nadd 1\\nwrite x\\nend\\n' | velodrome explore -
+It finds a schedule with an alarm, no deadlock and no refusal, and reports that schedule's replay, with status 3.
+
+It writes 'events N', those of all threads together, and 'states N', how many the search looked at; then three findings:
+  'alarm TURNS', 'stuck TURNS', 'refused K thread T NAME TURNS'
+                  a schedule that leads there: TURNS is what 'velodrome replay --schedule' takes
+  'alarm none', 'stuck none', 'refused none'
+                  every schedule was tried, and none leads there
+  'alarm open', 'stuck open', 'refused open'
+                  the search ended before its end: at --states, or with --first at a finding; nothing is said
+Behind them is the report of the replay by the schedule of the alarm, else of the deadlock, else of the refusal, as
+'velodrome replay' writes it; --certificate and --log are about that replay. Where no schedule was found, there is none, and
+OUT is not opened. A workload with more events than --events is not searched: 'states 0', and all three are open.
+
+FILE and OUT are two files: where they are one, nothing is done to it. With - for FILE this is not tested.
+
+Statuses, each with the lines on standard error:
+  0  every schedule was tried, and nothing was found; or help
+  2  usage; 'error: FILE and OUT are one file'; the text is no workload: 'workload fault K line N'
+  3  an alarm was found: by that schedule no serial reordering of the run exists
+  4  no alarm was found, but a deadlock, a refusal, or the search is open: 'stuck', 'refused K thread T', 'open'
+  5  memory or a device failed: 'out of memory', 'read failed', 'write failed', 'cannot open'
+
+Workload and its faults: see 'velodrome replay --help'. Refusals: see 'velodrome check --help'.";
+
 /// Behind the help of `watch`.
 pub const OF_WATCH: &str = "\
 Example, a lost update:

@@ -6,16 +6,18 @@ ghost use Rattle.velo_program.specs.declared.request.AuditOptions.{AuditOptions}
 ghost use Rattle.velo_program.specs.declared.request.CarryOptions.{CarryOptions};
 ghost use Rattle.velo_program.specs.declared.request.CheckOptions.{CheckOptions};
 ghost use Rattle.velo_program.specs.declared.request.ExplainOptions.{ExplainOptions};
+ghost use Rattle.velo_program.specs.declared.request.ExploreOptions.{ExploreOptions};
 ghost use Rattle.velo_program.specs.declared.request.ReplayOptions.{ReplayOptions};
 ghost use Rattle.velo_program.specs.declared.request.RunOptions.{RunOptions};
+ghost use Rattle.velo_program.specs.declared.request.TheConstants.{MOST_STATES};
 ghost use Rattle.velo_program.specs.declared.request.WatchOptions.{WatchOptions};
-ghost use Rattle.velo_command.specs.Asked.{AreLimits, AsksFor, AsksForNothing, IsAudit, IsCarrying, IsCheck, IsExplanation, IsReplay, IsRun, IsWatch, WritesNumber};
+ghost use Rattle.velo_command.specs.Asked.{AreLimits, AsksFor, AsksForNothing, IsAudit, IsCarrying, IsCheck, IsExplanation, IsExploring, IsReplay, IsRun, IsWatch, WritesNumber};
 
 use clap::ArgMatches;
 use velo_events::{MOST_EVENTS, MOST_NODES};
 use velo_program::{
-    AuditOptions, CarryOptions, CheckOptions, ExplainOptions, Limits, ReplayOptions, Request,
-    RunOptions, WatchOptions,
+    AuditOptions, CarryOptions, CheckOptions, ExplainOptions, ExploreOptions, Limits, MOST_STATES,
+    ReplayOptions, Request, RunOptions, WatchOptions,
 };
 
 /// Reads the limits from the matches of a subcommand; none where one is out of its range.
@@ -93,6 +95,35 @@ fn carry_options<'a>(found: &ArgMatches<'a>) -> Option<CarryOptions<'a>>
     })
 }
 
+/// Reads the most states of a search; none where it is out of its range.
+fn states_of(found: &ArgMatches) -> Option<u32>
+    ensures some { IfSome result (λ states. (1 ≤ states) × (states ≤ MOST_STATES)
+        × WritesNumber 32 (one_of (codes "states") (rows_of (found_of found.now))) states) }
+    ensures none { IfNone result ((states : ℕ) → 1 ≤ states → states ≤ MOST_STATES
+        → ¬ WritesNumber 32 (one_of (codes "states") (rows_of (found_of found.now))) states) }
+{
+    let states = found.get_one::<u32>("states")?;
+    if states < 1 || states > MOST_STATES {
+        return None;
+    }
+    Some(states)
+}
+
+fn explore_options<'a>(found: &ArgMatches<'a>) -> Option<ExploreOptions<'a>>
+    ensures some { IfSome result (IsExploring (rows_of (found_of found.now))) }
+    ensures none { IfNone result ((options : ExploreOptions)
+        → ¬ IsExploring (rows_of (found_of found.now)) options) }
+{
+    Some(ExploreOptions {
+        input: found.get_str("FILE")?,
+        states: states_of(found)?,
+        first: found.get_flag("first"),
+        target: found.get_str("log"),
+        limits: limits_of(found)?,
+        certificate: found.get_flag("certificate"),
+    })
+}
+
 fn watch_options<'a>(found: &ArgMatches<'a>) -> Option<WatchOptions<'a>>
     ensures some { IfSome result (IsWatch (rows_of (found_of found.now))) }
     ensures none { IfNone result ((options : WatchOptions)
@@ -134,6 +165,7 @@ pub fn request_of<'a>(matches: &'a ArgMatches) -> Option<Request<'a>>
         "run" => Some(Request::Run(run_options(found)?)),
         "explain" => Some(Request::Explain(explain_options(found)?)),
         "carry" => Some(Request::Carry(carry_options(found)?)),
+        "explore" => Some(Request::Explore(explore_options(found)?)),
         "watch" => Some(Request::Watch(watch_options(found)?)),
         "audit" => Some(Request::Audit(audit_options(found)?)),
         _ => None,

@@ -26,7 +26,11 @@ pub fn clash_of(request: &Request) -> Option<Clash>
         Request::Check(options) => clash_of_inputs(options.input, options.names),
         Request::Explain(options) => clash_of_inputs(options.input, options.names),
         Request::Audit(options) => clash_of_inputs(options.input, options.names),
-        Request::Carry(_) | Request::Replay(_) | Request::Run(_) | Request::Watch(_) => None,
+        Request::Carry(_)
+        | Request::Explore(_)
+        | Request::Replay(_)
+        | Request::Run(_)
+        | Request::Watch(_) => None,
     }
 }
 

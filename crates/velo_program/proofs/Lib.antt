@@ -1,7 +1,10 @@
 pub mod OnCauses
 pub mod OnVerdicts
 mod OnDelivery
+mod OnEndings
 mod OnExplaining
+mod OnFates
+mod OnFindings
 mod OnPlaying
 mod OnSchedules
 mod OnWatching

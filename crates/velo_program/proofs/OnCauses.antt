@@ -25,6 +25,7 @@ use Rattle.velo_program.specs.declared.check.CheckFault.TheVariants as check_fau
 use Rattle.velo_program.specs.declared.fate.Fate.{Fate}
 use Rattle.velo_program.specs.declared.fate.Fate.TheVariants as fate
 use Rattle.velo_program.specs.declared.request.AuditOptions.{AuditOptions}
+use Rattle.velo_program.specs.declared.request.ExploreOptions.{ExploreOptions}
 use Rattle.velo_program.specs.declared.request.Ignorable.{Ignorable}
 use Rattle.velo_program.specs.declared.request.Ignorable.TheVariants.{Lock, Variable}
 use Rattle.velo_program.specs.declared.request.Operand.{Operand}
@@ -49,6 +50,7 @@ use Rattle.velo_program.specs.Check.{IsCheckAnswer, IsFaultOfInput}
 use Rattle.velo_program.specs.Delivery.{Answer, IsDelivered, IsPrinted, LacksMemory, silent}
 use Rattle.velo_program.specs.Disk.{Disk, IsBarred, Store}
 use Rattle.velo_program.specs.Explaining.{IsExplanation}
+use Rattle.velo_program.specs.Exploring.{IsExploreAnswer}
 use Rattle.velo_program.specs.Ignoring.{AsksInVain, MeanNothing}
 use Rattle.velo_program.specs.Naming.{HaveFaultOfNames, LacksNames, SayNoNames}
 use Rattle.velo_program.specs.Playing.{ByThreads, ByTurns, IsPlayAnswer, IsRunOf, IsSaidOfRun, IsUnread, Play}
@@ -56,6 +58,7 @@ use Rattle.velo_program.specs.Program.{Does, DoesPlay}
 use Rattle.velo_program.specs.Schedule.{IsFaultOfSchedule}
 use Rattle.velo_program.specs.Watching.{EndsBehind, IsFaultOfHeader, IsWatchAnswer, Watches}
 use Rattle.velo_program.specs.Writing.{Writing}
+use Rattle.velo_program.proofs.OnFindings.{caused}
 
 -- ---- by what it means no event is refused for want of memory
 
@@ -209,6 +212,12 @@ unmeant : (needs : Needs) (names : NameLists) (options : AuditOptions) (f : Fate
 unmeant needs names options f (inl locks) = of_words needs names Lock options.ignored_locks.now f locks
 unmeant needs names options f (inr variables) = of_words needs names Variable options.ignored_variables.now f variables.1
 
+-- of a workload whose schedules were tried
+of_exploration : (options : ExploreOptions) (read : Option (List ℕ)) (answer : Answer) → IsExploreAnswer options read answer → HasCause Growths answer
+of_exploration options read answer (inl (program, text, inl explored)) = caused options program answer explored
+of_exploration options read answer (inl (program, text, inr lacks)) = of_lack Growths answer lacks
+of_exploration options read answer (inr (f, unread, is)) = said Growths answer (silent f) is (of_unread Growths read f unread)
+
 -- of a workload that was played
 played : (needs : Needs) (play : Play) (options : RunOptions) (store : Store) (stdout : Writing) (f : Fate)
     → ((program : Program) (ended : Ending) (w : WorldState) → IsRunOf play options program ended w → EndsByRefusal needs ended) → DoesPlay play options store stdout f → ComesByRefusal needs f
@@ -253,6 +262,8 @@ of_done store (request.Carry options) stdout f (inr (inr h)) = of_put Growths h.
 of_done store (request.Run options) stdout f h = played GrowthsAndStarts ByThreads options store stdout f (λ program ended w run. run.cause) h
 of_done store (request.Replay options) stdout f (inl bad) = subst (ComesByRefusal Growths) (sym bad.2) (of_schedule options bad.0 bad.1)
 of_done store (request.Replay options) stdout f (inr h) = played Growths (ByTurns h.0) options.run store stdout f (λ program ended w run. run.cause) h.2
+of_done store (request.Explore options) stdout f (inl h) = unread Growths store.disk File options.input.now options.target f h.0
+of_done store (request.Explore options) stdout f (inr h) = of_delivered Growths store options.target stdout h.1 f (of_exploration options h.0.bytes h.1 h.4) h.5
 of_done store (request.Watch options) stdout f (inl h) = unread Growths store.disk Log options.input.now None f h.0
 of_done store (request.Watch options) stdout f (inr h) = of_watch options h.0.bytes stdout f h.3
 of_done store (request.Audit options) stdout f (inl h) = unnamed Growths store.disk options.names f h.0

@@ -23,7 +23,7 @@ use Rattle.velo_program.specs.declared.check.Verdict.TheVariants as verdict
 use Rattle.velo_program.specs.declared.check.CheckFault.{CheckFault}
 use Rattle.velo_program.specs.declared.check.CheckFault.TheVariants.{Log, Refused, WrongValue, Write, Memory}
 use Rattle.velo_program.specs.declared.fate.Fate.{Fate}
-use Rattle.velo_program.specs.declared.fate.Fate.TheVariants.{Finished, Schedule, Work, Names, Check, CannotOpen, OneFile, ReadFailed, WriteFailed, Lost}
+use Rattle.velo_program.specs.declared.fate.Fate.TheVariants.{Finished, Schedule, Work, Names, Check, CannotOpen, OneFile, ReadFailed, WriteFailed, Lost, Open}
 use Rattle.velo_program.specs.declared.fate.Fate.TheVariants as fate
 use Rattle.velo_program.specs.declared.request.Ignorable.{Ignorable}
 use Rattle.velo_program.specs.declared.request.Ignorable.TheVariants as ignorable
@@ -109,6 +109,7 @@ status_of ReadFailed = 5
 status_of WriteFailed = 5
 status_of fate.Memory = 5
 status_of Lost = 5
+status_of Open = 4
 
 -- ---- the line on standard error
 
@@ -185,6 +186,7 @@ line_of CannotOpen = codes "cannot open\n"
 line_of (OneFile operand) = line_of_one_file operand
 line_of ReadFailed = codes "read failed\n"
 line_of Lost = codes "seat lost\n"
+line_of Open = codes "open\n"
 line_of WriteFailed = codes "write failed\n"
 line_of fate.Memory = codes "out of memory\n"
 

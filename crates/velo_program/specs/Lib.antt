@@ -5,8 +5,10 @@ pub mod Check
 pub mod Delivery
 pub mod Disk
 pub mod Explaining
+pub mod Exploring
 pub mod Fate
 pub mod Faults
+pub mod Findings
 pub mod Ignoring
 pub mod Naming
 pub mod Playing

@@ -16,11 +16,12 @@ use Rattle.velo_program.specs.declared.request.AuditOptions.{AuditOptions}
 use Rattle.velo_program.specs.declared.request.CarryOptions.{CarryOptions}
 use Rattle.velo_program.specs.declared.request.CheckOptions.{CheckOptions}
 use Rattle.velo_program.specs.declared.request.ExplainOptions.{ExplainOptions}
+use Rattle.velo_program.specs.declared.request.ExploreOptions.{ExploreOptions}
 use Rattle.velo_program.specs.declared.request.Operand.{Operand}
 use Rattle.velo_program.specs.declared.request.Operand.TheVariants.{File, Log}
 use Rattle.velo_program.specs.declared.request.ReplayOptions.{ReplayOptions}
 use Rattle.velo_program.specs.declared.request.Request.{Request}
-use Rattle.velo_program.specs.declared.request.Request.TheVariants.{Audit, Carry, Check, Explain, Replay, Run, Watch}
+use Rattle.velo_program.specs.declared.request.Request.TheVariants.{Audit, Carry, Check, Explain, Explore, Replay, Run, Watch}
 use Rattle.velo_program.specs.declared.request.RunOptions.{RunOptions}
 use Rattle.velo_program.specs.declared.request.WatchOptions.{WatchOptions}
 use Rattle.velo_program.specs.declared.schedule.ScheduleFault.{ScheduleFault}
@@ -30,6 +31,7 @@ use Rattle.velo_program.specs.Check.{IsCheckAnswer}
 use Rattle.velo_program.specs.Delivery.{Answer, IsDelivered}
 use Rattle.velo_program.specs.Disk.{IsBarred, IsWritten, Store}
 use Rattle.velo_program.specs.Explaining.{IsExplanation}
+use Rattle.velo_program.specs.Exploring.{IsExploreAnswer}
 use Rattle.velo_program.specs.Ignoring.{AsksInVain, IsAsked}
 use Rattle.velo_program.specs.Naming.{AreNamesOf, AreShown, LacksNames}
 use Rattle.velo_program.specs.Playing.{ByThreads, ByTurns, IsPlayAnswer, Play}
@@ -141,6 +143,21 @@ DoesReplay options store stdout f =
     ⊎ ((schedule : List ThreadId) × IsSchedule options.schedule.now schedule
     × DoesPlay (ByTurns schedule) options.run store stdout f)
 
+-- ---- velodrome explore FILE [--states N] [--first] [--log OUT] [--events N] [--nodes N]
+-- [--certificate]
+
+-- FILE is read whole, and all its schedules are tried. Where one of them was found to have an alarm,
+-- a deadlock or a refusal, the log of its replay is saved at OUT. What was found goes to standard
+-- output, and then the report of this replay, and its certificate; or nothing, for a reason
+-- (`Exploring`).
+abbrev pub DoesExplore : ExploreOptions → Store → Writing → Fate → Type 0
+DoesExplore options store stdout f =
+    DoesNotRead store File options.input.now options.target stdout f
+    ⊎ ((read : Reading) × (answer : Answer)
+    × store.disk.gives options.input.now read × FailuresAsTold read f
+    × IsExploreAnswer options read.bytes answer
+    × IsDelivered store options.target stdout answer f)
+
 -- ---- velodrome watch LOG [--stop] [--events N] [--nodes N] [--certificate]
 
 -- LOG is read line by line, to its end, or with --stop up to the event that raises the alarm. The
@@ -189,5 +206,6 @@ Does store (Explain options) stdout f = DoesExplain options store stdout f
 Does store (Carry options) stdout f = DoesCarry options store stdout f
 Does store (Run options) stdout f = DoesRun options store stdout f
 Does store (Replay options) stdout f = DoesReplay options store stdout f
+Does store (Explore options) stdout f = DoesExplore options store stdout f
 Does store (Watch options) stdout f = DoesWatch options store stdout f
 Does store (Audit options) stdout f = DoesAudit options store stdout f

@@ -8,6 +8,7 @@ use crate::auditing::audit_file;
 use crate::carrying::carry_file;
 use crate::check::check_file;
 use crate::explaining::explain_file;
+use crate::exploring::explore_file;
 use crate::fate::Fate;
 use crate::files::Files;
 use crate::replaying::replay_file;
@@ -38,6 +39,7 @@ pub fn do_request<R: Threads + Wait + Sync, F: Files, O: Sink>(
         Request::Run(options) => run_file(rt, alloc, options, files, out),
         Request::Explain(options) => explain_file(alloc, options, files, out),
         Request::Carry(options) => carry_file(alloc, options, files),
+        Request::Explore(options) => explore_file(alloc, options, files, out),
         Request::Watch(options) => watch_file(alloc, options, files, out),
         Request::Audit(options) => audit_file(alloc, options, files, out),
     }

@@ -44,10 +44,12 @@ pub enum Fate {
     Memory,
     /// A seat was not given back.
     Lost,
+    /// Not every schedule was tried, and nothing was found.
+    Open,
 }
 
 /// The number of a refusal.
-fn number_of(refusal: Refusal) -> u8
+pub(crate) fn number_of(refusal: Refusal) -> u8
     ensures { result ≡ number_of refusal }
 {
     refusal as u8
@@ -132,6 +134,7 @@ fn status_of(fate: Fate) -> u8
         Fate::Check(fault) => status_of_check(fault),
         Fate::Ignored(_) => BAD_INPUT,
         Fate::OneFile(_) => BAD_INPUT,
+        Fate::Open => INCOMPLETE,
         Fate::CannotOpen | Fate::ReadFailed | Fate::WriteFailed | Fate::Memory | Fate::Lost => {
             FAILED
         }
@@ -321,6 +324,7 @@ fn put_line(buffer: &mut [u8], fate: Fate) -> usize
         Fate::Lost => put_bytes(buffer, 0, b"seat lost\n"),
         Fate::WriteFailed => put_bytes(buffer, 0, b"write failed\n"),
         Fate::Memory => put_bytes(buffer, 0, b"out of memory\n"),
+        Fate::Open => put_bytes(buffer, 0, b"open\n"),
     }
 }
 

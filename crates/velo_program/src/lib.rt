@@ -6,8 +6,11 @@ mod carrying;
 mod check;
 mod doing;
 mod explaining;
+mod exploration_text;
+mod exploring;
 mod fate;
 mod files;
+mod findings;
 mod ignoring;
 mod naming;
 mod reading;
@@ -27,7 +30,7 @@ pub use doing::do_request;
 pub use fate::{Fate, end_line, end_with};
 pub use files::Files;
 pub use request::{
-    AuditOptions, CarryOptions, CheckOptions, ExplainOptions, Ignorable, Limits, Operand,
-    ReplayOptions, Request, RunOptions, WatchOptions,
+    AuditOptions, CarryOptions, CheckOptions, ExplainOptions, ExploreOptions, Ignorable, Limits,
+    MOST_STATES, Operand, ReplayOptions, Request, RunOptions, WatchOptions,
 };
 pub use schedule::{MOST_TURNS, ScheduleFault, schedule_of};

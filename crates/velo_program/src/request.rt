@@ -1,6 +1,7 @@
 //! What the program can be asked for.
 ghost use Rattle.std.specs.Prelude.{◌≤◌};
 ghost use Rattle.velo_events.specs.declared.limits.TheConstants.{MOST_EVENTS, MOST_NODES};
+ghost use Rattle.velo_program.specs.declared.request.TheConstants.{MOST_STATES};
 
 /// The limits of a run.
 #[derive(Clone, Copy, Debug)]
@@ -72,6 +73,28 @@ pub struct CarryOptions<'a> {
     pub target: &'a str,
 }
 
+/// The most states that a search may look at.
+pub const MOST_STATES: u32 = 16_777_216;
+
+/// What `velodrome explore` was asked for.
+#[derive(Clone, Copy, Debug)]
+pub struct ExploreOptions<'a> {
+    /// The path of the workload, or `-`.
+    pub input: &'a str,
+    /// The most states that are looked at, 1 to [`MOST_STATES`].
+    pub states: u32,
+    /// Whether the first finding ends the search.
+    pub first: bool,
+    /// The path where the log of the replay that is told is saved.
+    pub target: Option<&'a str>,
+    /// The limits of a replay.
+    pub limits: Limits,
+    /// Whether the certificate of the verdict is written behind the report.
+    pub certificate: bool,
+    ghost some_state: { 1 ≤ states },
+    ghost few_states: { states ≤ MOST_STATES },
+}
+
 /// What `velodrome watch` was asked for.
 #[derive(Clone, Copy, Debug)]
 pub struct WatchOptions<'a> {
@@ -133,6 +156,8 @@ pub enum Request<'a> {
     Explain(ExplainOptions<'a>),
     /// To carry a recorded log over to the newest version of its text.
     Carry(CarryOptions<'a>),
+    /// To try every schedule of a workload.
+    Explore(ExploreOptions<'a>),
     /// To check a log as it comes.
     Watch(WatchOptions<'a>),
     /// To list the labels of a recorded log whose blocks are not atomic.

@@ -89,7 +89,7 @@ pub fn config_of_run(workload: &Workload, options: &RunOptions) -> Config
 }
 
 /// Whether a run that ends so has no report: a growth was refused.
-fn is_unreported(ending: Ending) -> bool
+pub fn is_unreported(ending: Ending) -> bool
     ensures { result ≡ is_unreported ending }
 {
     matches!(
@@ -99,7 +99,7 @@ fn is_unreported(ending: Ending) -> bool
 }
 
 /// Saves the log of a run at the target, if there is one.
-fn save_log<F: Files>(closed: &Closed, target: Option<&str>, files: &mut F) -> Result<(), Fate>
+pub fn save_log<F: Files>(closed: &Closed, target: Option<&str>, files: &mut F) -> Result<(), Fate>
     ensures { IsSaved (store F.disk files.old files.new) target.entry
         (text_of_log closed.now) result }
 {

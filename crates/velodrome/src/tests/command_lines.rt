@@ -7,6 +7,7 @@ use std::test::Fail;
 use velo_command::{end_without_words, help};
 use velo_events::{MOST_EVENTS, MOST_NODES, MOST_THREADS, Refusal};
 use velo_logtext::Text;
+use velo_program::MOST_STATES;
 
 /// Right words, with the status and standard error: of the two logs one raises an alarm at its last event.
 const RIGHT_WORDS: [(&[&str], u8, &str); 9] = [
@@ -47,7 +48,7 @@ const RIGHT_WORDS: [(&[&str], u8, &str); 9] = [
     (&["velodrome", "--help"], 0, ""),
 ];
 
-const WRONG_WORDS: [&[&str]; 24] = [
+const WRONG_WORDS: [&[&str]; 29] = [
     &["velodrome"],
     &["velodrome", "check"],
     &["velodrome", "race", "a.log"],
@@ -91,6 +92,11 @@ const WRONG_WORDS: [&[&str]; 24] = [
     ],
     &["velodrome", "run"],
     &["velodrome", "run", "w", "--schedule", "0"],
+    &["velodrome", "explore"],
+    &["velodrome", "explore", "w", "--states", "0"],
+    &["velodrome", "explore", "w", "--states", "16777217"],
+    &["velodrome", "explore", "w", "--stop"],
+    &["velodrome", "explore", "w", "--schedule", "0"],
     &["velodrome", "watch"],
     &["velodrome", "watch", "a.log", "--dot", "o.dot"],
     &["velodrome", "audit", "a.log", "--certificate"],
@@ -177,11 +183,12 @@ fn words_that_do_not_go_together(rt: HostRuntime) {
 }
 
 /// Words that ask for help, and what stands at its end.
-const HELP: [(&[&str], &str); 12] = [
+const HELP: [(&[&str], &str); 13] = [
     (&["velodrome", "replay", "--help"], help::OF_REPLAY),
     (&["velodrome", "run", "--help"], help::OF_RUN),
     (&["velodrome", "explain", "--help"], help::OF_EXPLAIN),
     (&["velodrome", "carry", "--help"], help::OF_CARRY),
+    (&["velodrome", "explore", "--help"], help::OF_EXPLORE),
     (&["velodrome", "watch", "--help"], help::OF_WATCH),
     (&["velodrome", "audit", "--help"], help::OF_AUDIT),
     (&["velodrome", "--help"], help::OF_PROGRAM),
@@ -212,7 +219,7 @@ fn help_goes_to_standard_output(rt: HostRuntime) {
 }
 
 /// The words of a command's help before a limit and after it.
-const LIMITS: [(&str, &str, u32, &str); 10] = [
+const LIMITS: [(&str, &str, u32, &str); 12] = [
     ("check", "have, 1 to ", MOST_EVENTS, " ["),
     ("check", "one time, 1 to ", MOST_NODES as u32, " ["),
     ("replay", "have, 1 to ", MOST_EVENTS, " ["),
@@ -220,6 +227,8 @@ const LIMITS: [(&str, &str, u32, &str); 10] = [
     ("replay", "from 0 to ", MOST_THREADS as u32 - 1, ","),
     ("run", "have, 1 to ", MOST_EVENTS, " ["),
     ("run", "one time, 1 to ", MOST_NODES as u32, " ["),
+    ("explore", "have, 1 to ", MOST_EVENTS, " ["),
+    ("explore", "look at, 1 to ", MOST_STATES, " ["),
     ("watch", "have, 1 to ", MOST_EVENTS, " ["),
     ("audit", "have, 1 to ", MOST_EVENTS, " ["),
     ("audit", "one time, 1 to ", MOST_NODES as u32, " ["),

@@ -9,6 +9,7 @@ returns-clause-reads c =
     let with_run = adds_subcommand _ _ _ _ _ with_replay c.in_ok-run.ensures.reads c.in_ok-program-3.ensures.adds in
     let with_explain = adds_subcommand _ _ _ _ _ with_run c.in_ok-explain.ensures.reads c.in_ok-program-4.ensures.adds in
     let with_carry = adds_subcommand _ _ _ _ _ with_explain c.in_ok-carry.ensures.reads c.in_ok-program-5.ensures.adds in
-    let with_watch = adds_subcommand _ _ _ _ _ with_carry c.in_ok-watch.ensures.reads c.in_ok-program-6.ensures.adds in
-    IfOk-weaker c.with_subcommand-7.result _ _
-    (λ command adds. adds_subcommand _ _ _ _ _ with_watch c.in_ok-audit.ensures.reads adds) c.with_subcommand-7.ensures.adds
+    let with_explore = adds_subcommand _ _ _ _ _ with_carry c.in_ok-explore.ensures.reads c.in_ok-program-6.ensures.adds in
+    let with_watch = adds_subcommand _ _ _ _ _ with_explore c.in_ok-watch.ensures.reads c.in_ok-program-7.ensures.adds in
+    IfOk-weaker c.with_subcommand-8.result _ _
+    (λ command adds. adds_subcommand _ _ _ _ _ with_watch c.in_ok-audit.ensures.reads adds) c.with_subcommand-8.ensures.adds

@@ -1,5 +1,5 @@
 use Rattle.std.proofs.Common.{refl}
-use Rattle.velo_program.specs.declared.request.Request.TheVariants.{Audit, Carry, Check, Explain, Replay, Run, Watch}
+use Rattle.velo_program.specs.declared.request.Request.TheVariants.{Audit, Carry, Check, Explain, Explore, Replay, Run, Watch}
 use Rattle.velo_program.specs.Disk.{store}
 use Rattle.velo_program.specs.Writing.{writing}
 use Rattle.velo_program.proofs.OnCauses.{of_done}
@@ -24,6 +24,9 @@ pub returns-in-Carry-clause-memory : goal.returns-in-Carry-clause-memory
 returns-in-Carry-clause-memory g c =
     let out = writing g.O.Sink.contents g.O.Sink.failures c.args.out.now c.args.out.now in
     rw c.in-Carry.is (of_done (store g.F.Files.disk c.args.files.now c.carry_file.new.files) (Carry c.in-Carry.options) out _ (c.carry_file.ensures out (refl, refl)))
+
+pub returns-in-Explore-clause-memory : goal.returns-in-Explore-clause-memory
+returns-in-Explore-clause-memory g c = rw c.in-Explore.is (of_done (store g.F.Files.disk c.args.files.now c.explore_file.new.files) (Explore c.in-Explore.options) (writing g.O.Sink.contents g.O.Sink.failures c.args.out.now c.explore_file.new.out) _ c.explore_file.ensures)
 
 pub returns-in-Watch-clause-memory : goal.returns-in-Watch-clause-memory
 returns-in-Watch-clause-memory g c = rw c.in-Watch.is (of_done (store g.F.Files.disk c.args.files.now c.watch_file.new.files) (Watch c.in-Watch.options) (writing g.O.Sink.contents g.O.Sink.failures c.args.out.now c.watch_file.new.out) _ c.watch_file.ensures)

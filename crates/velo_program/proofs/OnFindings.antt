@@ -1,0 +1,489 @@
+-- What an exploration comes to.
+use Rattle.std.proofs.Common.{◌≡◌, ◌∙◌, ap, append_assoc, inl, inr, refl, subst, sym, take}
+use Rattle.std.proofs.lemmas.List.{append-nil}
+use Rattle.std.proofs.lemmas.Bool.{false≢true}
+use Rattle.std.specs.Prelude.{◌≢◌, ◌↔◌, ◌⊎◌, ◌+◌, ◌-◌, ◌^◌, ◌≤◌, ◌<◌, ◌++◌, ◌∷◌, [], ℕ, Bool, true, false, All, List, decimal, length, min, sum_by, Option, Some, None, Result, Ok, Err, IfOk, IfSome, IsTrue, OnOk, is_some}
+use Rattle.std.specs.Io.KnownBytes.{Appends}
+use Rattle.std.specs.Borrow.{Bor}
+use Rattle.velo_events.specs.declared.config.Config.{Config}
+use Rattle.velo_events.specs.declared.event.ThreadId.{ThreadId}
+use Rattle.velo_events.specs.declared.limits.TheConstants.{MOST_THREADS}
+use Rattle.velo_logtext.proofs.OnDevices.{appends_nothing, appends_then, beginning_then}
+use Rattle.velo_logtext.specs.Device.{with_failure}
+use Rattle.velo_report.specs.declared.names.Names.{Names}
+use Rattle.velo_schedules.specs.declared.exploration.Exploration.{Exploration}
+use Rattle.velo_schedules.specs.declared.finding.Finding.{Finding}
+use Rattle.velo_schedules.specs.declared.finding.Finding.TheVariants.{Shown, Never, Open}
+use Rattle.velo_schedules.specs.declared.finding.RefusalFinding.{RefusalFinding}
+use Rattle.velo_schedules.specs.declared.finding.RefusalFinding.TheVariants as refusals
+use Rattle.velo_schedules.specs.Told.{AlarmTold, RefusalTold, StuckTold}
+use Rattle.velo_events.specs.declared.event.Event.{Event}
+use Rattle.velo_events.specs.declared.refusal.Refusal.TheVariants as refusal
+use Rattle.velo_events.specs.Graph.{HasCycle}
+use Rattle.velo_events.specs.Refusals.{GrowthRefused}
+use Rattle.velo_worker.specs.declared.ending.Ending.{Ending}
+use Rattle.velo_worker.specs.declared.ending.Ending.TheVariants as ending
+use Rattle.velo_worker.specs.Counts.{body_events}
+use Rattle.velo_worker.specs.Causes.{EndsByGrowth}
+use Rattle.velo_workload.specs.Program.{Program}
+use Rattle.velo_world.specs.World.{WorldState}
+use Rattle.velo_program.specs.declared.fate.Fate.{Fate}
+use Rattle.velo_program.specs.declared.fate.Fate.TheVariants as fate
+use Rattle.velo_program.specs.declared.request.ExploreOptions.{ExploreOptions}
+use Rattle.velo_program.specs.declared.schedule.TheConstants.{MOST_TURNS}
+use Rattle.velo_program.specs.Causes.{ComesByRefusal, Growths}
+use Rattle.velo_program.specs.Check.{IsOrderOrCycle, IsVerdict, WritesOutput}
+use Rattle.velo_program.specs.Delivery.{Answer, IsDelivered, LacksMemory, printing, silent}
+use Rattle.velo_program.specs.Disk.{Store}
+use Rattle.velo_program.specs.Exploring.{HasFirst, IsExplorationOf, IsExplored, IsFirstReplay, IsPrintedAlone, IsSayable, IsSayableFinding, IsSayableRefusal, fate_by, ReportsReplay, exploration_text, fate_of_exploration, first_schedule, run_of, turns_text}
+use Rattle.velo_program.specs.declared.check.Verdict.{Verdict}
+use Rattle.velo_program.specs.declared.check.Verdict.TheVariants as verdict
+use Rattle.velo_program.specs.Fate.{is_alarm}
+use Rattle.velo_program.specs.Findings.{Explores, IsNoMoreThan, IsReplayBy, IsRunOfFirst, IsRefusalSaidFor, IsSaidFor, IsUnshown, Lacks, Puts, ReportsOrLacks, ShowsAlarm, ShowsRefusal, ShowsStuck, TellsReplay, TellsFindings, TellsRun, WritesBehind, fate_behind, spaced, unshown, unshown_refusal}
+use Rattle.velo_program.specs.Playing.{AreNamesOf, IsConfigOf, is_unreported, text_of_log}
+use Rattle.velo_program.specs.Reading.{failures_told}
+use Rattle.velo_program.specs.Schedule.{schedule_text}
+use Rattle.velo_program.specs.Steps.{HasAlarm, IsSaved}
+use Rattle.velo_program.specs.Writing.{BreaksOff, Writing, WritesNothing}
+use Rattle.velo_program.proofs.OnDelivery.{delivered_reads, same_fate}
+use Rattle.velo_program.proofs.OnVerdicts.{output_exists}
+
+-- ---- the text of a schedule
+
+spaced-text : (t : ThreadId) (rest : List ThreadId) → spaced (t ∷ rest) ≡ 32 ∷ schedule_text (t ∷ rest)
+spaced-text t [] = ap (λ (l : List ℕ). 32 ∷ l) (append-nil (decimal t.0))
+spaced-text t (u ∷ rest) = ap (λ (l : List ℕ). 32 ∷ decimal t.0 ++ l) (spaced-text u rest)
+
+pub spaced-turns : (schedule : List ThreadId) → spaced schedule ≡ turns_text schedule
+spaced-turns [] = refl
+spaced-turns (t ∷ rest) = spaced-text t rest
+
+spaced-append : (xs ys : List ThreadId) → spaced (xs ++ ys) ≡ spaced xs ++ spaced ys
+spaced-append [] ys = refl
+spaced-append (t ∷ xs) ys =
+    ap (λ (l : List ℕ). 32 ∷ decimal t.0 ++ l) (spaced-append xs ys) ∙ sym (append_assoc (32 ∷ decimal t.0) (spaced xs) (spaced ys))
+
+-- one turn more
+pub spaced-next : (xs : List ThreadId) (i : ℕ) (t : ThreadId) (start before middle after : List ℕ) → take (i + 1) xs ≡ take i xs ++ t ∷ []
+    → before ≡ start ++ spaced (take i xs) → middle ≡ before ++ 32 ∷ [] → after ≡ middle ++ decimal t.0 → after ≡ start ++ spaced (take (i + 1) xs)
+spaced-next xs i t start before middle after is stood space digits =
+    digits ∙ ap (λ (l : List ℕ). l ++ decimal t.0) space ∙ append_assoc before (32 ∷ []) (decimal t.0)
+    ∙ ap (λ (l : List ℕ). l ++ (32 ∷ decimal t.0)) stood
+    ∙ append_assoc start (spaced (take i xs)) (32 ∷ decimal t.0)
+    ∙ ap (λ (l : List ℕ). start ++ l)
+    (ap (λ (l : List ℕ). spaced (take i xs) ++ l) (sym (append-nil (32 ∷ decimal t.0)))
+    ∙ sym (spaced-append (take i xs) (t ∷ [])) ∙ ap spaced (sym is))
+
+-- one part more behind those that are there
+pub behind : (start before after parts part : List ℕ) → before ≡ start ++ parts → after ≡ before ++ part → after ≡ start ++ (parts ++ part)
+behind start before after parts part is more = more ∙ ap (λ (l : List ℕ). l ++ part) is ∙ append_assoc start parts part
+
+pub on_ok : {A E : Type 0} {P Q : Type 0} (r : Result A E) → (P → Q) → OnOk r P → OnOk r Q
+on_ok (Ok x) f h = f h
+on_ok (Err e) f h = tt
+
+-- ---- what can be told
+
+pub sayable_by : (schedule : List ThreadId) → length schedule ≤ MOST_TURNS → All (λ t. t.0 < MOST_THREADS) schedule → IsSayable schedule
+sayable_by schedule few threads = record { whole = refl; threads = threads; few = few }
+
+pub not_sayable : (result : Bool) (schedule lent : List ThreadId) → IsTrue result ↔ IsSayable lent → lent ≡ schedule → result ≡ false → ¬ IsSayable schedule
+not_sayable result schedule lent is same none = λ h. false≢true (sym none ∙ is.1 (subst IsSayable (sym same) h))
+
+-- what is told can be said
+said_sayable : (finding said : Finding) → IsSaidFor finding said → IsSayableFinding said
+said_sayable finding said (inl same) = subst IsSayableFinding (sym same.1) same.0
+said_sayable finding said (inr none) = subst IsSayableFinding (sym none.1) tt
+
+said_sayable_refusal : (finding said : RefusalFinding) → IsRefusalSaidFor finding said → IsSayableRefusal said
+said_sayable_refusal finding said (inl same) = subst IsSayableRefusal (sym same.1) same.0
+said_sayable_refusal finding said (inr none) = subst IsSayableRefusal (sym none.1) tt
+
+-- ---- a replay
+
+-- a run without a report is one in which a growth was refused
+pub unreported_growth : (ended : Ending) → EndsByGrowth ended → is_unreported ended ≡ true → GrowthRefused
+unreported_growth (ending.Refused t refusal.Memory) cause is = cause
+unreported_growth (ending.Refused t refusal.RuntimeMemory) cause is = cause
+unreported_growth ended cause is = absurd (false≢true is)
+
+-- the log of an alarm has a cycle
+pub alarm_cycle : (log : List Event) (said : Verdict) → IsVerdict log said → is_alarm said ≡ true → HasCycle log
+alarm_cycle log verdict.Alarm is alarm = is.cycle.0 refl
+alarm_cycle log verdict.Clean is alarm = absurd (false≢true alarm)
+
+module _ (program : Program) (config : Config) where
+  pub said_alarm : (finding said : Finding) → IsSaidFor finding said → AlarmTold program config finding → AlarmTold program config said
+  said_alarm finding said (inl same) told = subst (AlarmTold program config) (sym same.1) told
+  said_alarm finding said (inr none) told = subst (AlarmTold program config) (sym none.1) tt
+
+  pub said_stuck : (finding said : Finding) → IsSaidFor finding said → StuckTold program config finding → StuckTold program config said
+  said_stuck finding said (inl same) told = subst (StuckTold program config) (sym same.1) told
+  said_stuck finding said (inr none) told = subst (StuckTold program config) (sym none.1) tt
+
+  pub said_refusal : (finding said : RefusalFinding) → IsRefusalSaidFor finding said → RefusalTold program config finding → RefusalTold program config said
+  said_refusal finding said (inl same) told = subst (RefusalTold program config) (sym same.1) told
+  said_refusal finding said (inr none) told = subst (RefusalTold program config) (sym none.1) tt
+
+  -- what is told of all schedules is so
+  pub all_told : (most : ℕ) (x y : Exploration) → x.events ≡ min (sum_by body_events program.bodies) (2 ^ 64 - 1) → x.states ≤ most
+      → AlarmTold program config x.alarm → StuckTold program config x.stuck → RefusalTold program config x.refused
+      → y.events ≡ x.events → y.states ≡ x.states → IsSaidFor x.alarm y.alarm → IsSaidFor x.stuck y.stuck → IsRefusalSaidFor x.refused y.refused
+      → IsExplorationOf program config most y
+  all_told most x y events states alarm stuck refused same_events same_states said_a said_s said_r =
+      record {
+        events = same_events ∙ events;
+        states = subst (λ (n : ℕ). n ≤ most) (sym same_states) states;
+        alarm = said_alarm x.alarm y.alarm said_a alarm;
+        stuck = said_stuck x.stuck y.stuck said_s stuck;
+        refused = said_refusal x.refused y.refused said_r refused;
+        alarm_sayable = said_sayable x.alarm y.alarm said_a;
+        stuck_sayable = said_sayable x.stuck y.stuck said_s;
+        refused_sayable = said_sayable_refusal x.refused y.refused said_r;
+      }
+
+  -- ---- a finding that is not shown again
+
+  unshown_alarm : (finding : Finding) → AlarmTold program config finding → AlarmTold program config (unshown finding)
+  unshown_alarm Never told = told
+  unshown_alarm Open told = tt
+  unshown_alarm (Shown schedule) told = tt
+
+  unshown_stuck : (finding : Finding) → StuckTold program config finding → StuckTold program config (unshown finding)
+  unshown_stuck Never told = told
+  unshown_stuck Open told = tt
+  unshown_stuck (Shown schedule) told = tt
+
+  unshown_refused : (finding : RefusalFinding) → RefusalTold program config finding → RefusalTold program config (unshown_refusal finding)
+  unshown_refused refusals.Never told = told
+  unshown_refused refusals.Open told = tt
+  unshown_refused (refusals.Shown run) told = tt
+
+  sayable_unshown : (finding : Finding) → IsSayableFinding (unshown finding)
+  sayable_unshown Never = tt
+  sayable_unshown Open = tt
+  sayable_unshown (Shown schedule) = tt
+
+  sayable_unshown_refusal : (finding : RefusalFinding) → IsSayableRefusal (unshown_refusal finding)
+  sayable_unshown_refusal refusals.Never = tt
+  sayable_unshown_refusal refusals.Open = tt
+  sayable_unshown_refusal (refusals.Shown run) = tt
+
+  pub without_alarm : (x : Exploration) (alarm : Finding) → alarm ≡ unshown x.alarm
+      → IsNoMoreThan program config x (record { events = x.events; states = x.states; alarm = alarm; stuck = x.stuck; refused = x.refused })
+  without_alarm x alarm is most so =
+      record {
+        events = so.events;
+        states = so.states;
+        alarm = subst (AlarmTold program config) (sym is) (unshown_alarm x.alarm so.alarm);
+        stuck = so.stuck;
+        refused = so.refused;
+        alarm_sayable = subst IsSayableFinding (sym is) (sayable_unshown x.alarm);
+        stuck_sayable = so.stuck_sayable;
+        refused_sayable = so.refused_sayable;
+      }
+
+  pub without_stuck : (x : Exploration) (stuck : Finding) → stuck ≡ unshown x.stuck
+      → IsNoMoreThan program config x (record { events = x.events; states = x.states; alarm = x.alarm; stuck = stuck; refused = x.refused })
+  without_stuck x stuck is most so =
+      record {
+        events = so.events;
+        states = so.states;
+        alarm = so.alarm;
+        stuck = subst (StuckTold program config) (sym is) (unshown_stuck x.stuck so.stuck);
+        refused = so.refused;
+        alarm_sayable = so.alarm_sayable;
+        stuck_sayable = subst IsSayableFinding (sym is) (sayable_unshown x.stuck);
+        refused_sayable = so.refused_sayable;
+      }
+
+  pub without_refusal : (x : Exploration) (refused : RefusalFinding) → refused ≡ unshown_refusal x.refused
+      → IsNoMoreThan program config x (record { events = x.events; states = x.states; alarm = x.alarm; stuck = x.stuck; refused = refused })
+  without_refusal x refused is most so =
+      record {
+        events = so.events;
+        states = so.states;
+        alarm = so.alarm;
+        stuck = so.stuck;
+        refused = subst (RefusalTold program config) (sym is) (unshown_refused x.refused so.refused);
+        alarm_sayable = so.alarm_sayable;
+        stuck_sayable = so.stuck_sayable;
+        refused_sayable = subst IsSayableRefusal (sym is) (sayable_unshown_refusal x.refused);
+      }
+
+  -- ---- the replay of the first finding
+
+  -- it is one by the schedule that is told first, and has what was found
+  abbrev IsFirst : Finding → Finding → RefusalFinding → Ending → WorldState → Type 0
+  IsFirst alarm stuck refused ended w =
+      (schedule : List ThreadId) × (first_schedule alarm stuck refused ≡ Some schedule) × HasFirst alarm stuck refused ended w × IsReplayBy program config schedule ended w
+
+  alarm_first : (alarm stuck : Finding) (refused : RefusalFinding) (ended : Ending) (w : WorldState) → ShowsAlarm program config alarm ended w → IsFirst alarm stuck refused ended w
+  alarm_first (Shown schedule) stuck refused ended w shows = (schedule.items, refl, shows.1, shows.0)
+  alarm_first Never stuck refused ended w shows = absurd shows
+  alarm_first Open stuck refused ended w shows = absurd shows
+
+  stuck_first : (alarm stuck : Finding) (refused : RefusalFinding) (ended : Ending) (w : WorldState) → IsUnshown alarm → ShowsStuck program config stuck ended w → IsFirst alarm stuck refused ended w
+  stuck_first (Shown schedule) stuck refused ended w none shows = absurd none
+  stuck_first Never (Shown schedule) refused ended w none shows = (schedule.items, refl, shows.1, shows.0)
+  stuck_first Open (Shown schedule) refused ended w none shows = (schedule.items, refl, shows.1, shows.0)
+  stuck_first alarm Never refused ended w none shows = absurd shows
+  stuck_first alarm Open refused ended w none shows = absurd shows
+
+  refusal_first : (alarm stuck : Finding) (refused : RefusalFinding) (ended : Ending) (w : WorldState) → IsUnshown alarm → IsUnshown stuck → ShowsRefusal program config refused ended w → IsFirst alarm stuck refused ended w
+  refusal_first (Shown schedule) stuck refused ended w none nor shows = absurd none
+  refusal_first alarm (Shown schedule) refused ended w none nor shows = absurd nor
+  refusal_first Never Never (refusals.Shown run) ended w none nor shows = (run.schedule.items, refl, shows.1, shows.0)
+  refusal_first Never Open (refusals.Shown run) ended w none nor shows = (run.schedule.items, refl, shows.1, shows.0)
+  refusal_first Open Never (refusals.Shown run) ended w none nor shows = (run.schedule.items, refl, shows.1, shows.0)
+  refusal_first Open Open (refusals.Shown run) ended w none nor shows = (run.schedule.items, refl, shows.1, shows.0)
+  refusal_first alarm stuck refusals.Never ended w none nor shows = absurd shows
+  refusal_first alarm stuck refusals.Open ended w none nor shows = absurd shows
+
+  is_first : (x : Exploration) (ended : Ending) (w : WorldState) → IsFirst x.alarm x.stuck x.refused ended w → IsFirstReplay program config x ended w × HasAlarm w.log
+  is_first x ended w h =
+      (record { schedule = h.0; told = h.1; replays = h.3.replays; has_first = h.2; cause = h.3.cause; reported = h.3.reported }, h.3.alarm)
+
+  pub first_by_alarm : (x : Exploration) (ended : Ending) (w : WorldState) → ShowsAlarm program config x.alarm ended w → IsFirstReplay program config x ended w × HasAlarm w.log
+  first_by_alarm x ended w shows = is_first x ended w (alarm_first x.alarm x.stuck x.refused ended w shows)
+
+  pub first_by_stuck : (x : Exploration) (ended : Ending) (w : WorldState) → IsUnshown x.alarm → ShowsStuck program config x.stuck ended w → IsFirstReplay program config x ended w × HasAlarm w.log
+  first_by_stuck x ended w none shows = is_first x ended w (stuck_first x.alarm x.stuck x.refused ended w none shows)
+
+  pub first_by_refusal : (x : Exploration) (ended : Ending) (w : WorldState) → IsUnshown x.alarm → IsUnshown x.stuck → ShowsRefusal program config x.refused ended w → IsFirstReplay program config x ended w × HasAlarm w.log
+  first_by_refusal x ended w none nor shows = is_first x ended w (refusal_first x.alarm x.stuck x.refused ended w none nor shows)
+
+  -- the run of the first finding
+  pub run_by_alarm : (x : Exploration) (run : Option (WorldState × Ending)) → is_some run ≡ true
+      → IfSome run (λ run. ShowsAlarm program config x.alarm run.1 run.0) → IsRunOfFirst program config x run
+  run_by_alarm x None is shows = absurd (false≢true is)
+  run_by_alarm x (Some run) is shows = first_by_alarm x run.1 run.0 shows
+
+  pub run_by_stuck : (x : Exploration) (run : Option (WorldState × Ending)) → IsUnshown x.alarm → is_some run ≡ true
+      → IfSome run (λ run. ShowsStuck program config x.stuck run.1 run.0) → IsRunOfFirst program config x run
+  run_by_stuck x None none is shows = absurd (false≢true is)
+  run_by_stuck x (Some run) none is shows = first_by_stuck x run.1 run.0 none shows
+
+  pub run_by_refusal : (x : Exploration) (run : Option (WorldState × Ending)) → IsUnshown x.alarm → IsUnshown x.stuck → is_some run ≡ true
+      → IfSome run (λ run. ShowsRefusal program config x.refused run.1 run.0) → IsRunOfFirst program config x run
+  run_by_refusal x None none nor is shows = absurd (false≢true is)
+  run_by_refusal x (Some run) none nor is shows = first_by_refusal x run.1 run.0 none nor shows
+
+  -- a replay that was made has its alarm known
+  pub has_alarm : (x : Exploration) (run : Option (WorldState × Ending)) → IsRunOfFirst program config x run → IfSome run (λ run. HasAlarm run.0.log)
+  has_alarm x None first = tt
+  has_alarm x (Some run) first = first.1
+
+  -- what is no more than what is no more
+  pub told_less : (x y : Exploration) → IsNoMoreThan program config x y → {A F : Type 0} (told : A → Exploration) (result : Result A F)
+      → IfOk result (λ a. IsNoMoreThan program config y (told a)) → IfOk result (λ a. IsNoMoreThan program config x (told a))
+  told_less x y less told (Ok a) h = λ most so. h most (less most so)
+  told_less x y less told (Err f) h = tt
+
+  -- what was told of all schedules, told again with no more
+  pub told_all : (most : ℕ) (x : Exploration) → IsExplorationOf program config most x → {A F : Type 0} (told : A → Exploration) (result : Result A F)
+      → IfOk result (λ a. IsNoMoreThan program config x (told a)) → IfOk result (λ a. IsExplorationOf program config most (told a))
+  told_all most x so told (Ok a) h = h most so
+  told_all most x so told (Err f) h = tt
+
+pub is_unshown : (finding said : Finding) → said ≡ unshown finding → IsUnshown said
+is_unshown Never said is = subst IsUnshown (sym is) tt
+is_unshown Open said is = subst IsUnshown (sym is) tt
+is_unshown (Shown schedule) said is = subst IsUnshown (sym is) tt
+
+pub none_first : (alarm stuck : Finding) (refused said : RefusalFinding) → IsUnshown alarm → IsUnshown stuck → said ≡ unshown_refusal refused → first_schedule alarm stuck said ≡ None
+none_first alarm stuck refused said none nor is = ap (first_schedule alarm stuck) is ∙ so alarm stuck refused none nor
+  where
+    so : (alarm stuck : Finding) (refused : RefusalFinding) → IsUnshown alarm → IsUnshown stuck → first_schedule alarm stuck (unshown_refusal refused) ≡ None
+    so (Shown schedule) stuck refused none nor = absurd none
+    so alarm (Shown schedule) refused none nor = absurd nor
+    so Never Never refusals.Never none nor = refl
+    so Never Never refusals.Open none nor = refl
+    so Never Never (refusals.Shown run) none nor = refl
+    so Never Open refusals.Never none nor = refl
+    so Never Open refusals.Open none nor = refl
+    so Never Open (refusals.Shown run) none nor = refl
+    so Open Never refusals.Never none nor = refl
+    so Open Never refusals.Open none nor = refl
+    so Open Never (refusals.Shown run) none nor = refl
+    so Open Open refusals.Never none nor = refl
+    so Open Open refusals.Open none nor = refl
+    so Open Open (refusals.Shown run) none nor = refl
+
+-- ---- the fate
+
+-- it is no failure of a file
+pub record IsPlain (f : Fate) : Type 0 where
+  pub opened : f ≢ fate.CannotOpen
+  pub written : f ≢ fate.WriteFailed
+  pub read : (n : ℕ) → failures_told f n ≡ n
+
+plain_finished : (ended : Ending) (alarm : Bool) → IsPlain (fate.Finished ended alarm)
+plain_finished ended alarm = record { opened = λ h. cc; written = λ h. cc; read = λ n. refl }
+
+plain_open : IsPlain fate.Open
+plain_open = record { opened = λ h. cc; written = λ h. cc; read = λ n. refl }
+
+pub plain_fate : (alarm stuck : Finding) (refused : RefusalFinding) → IsPlain (fate_by alarm stuck refused)
+plain_fate (Shown schedule) stuck refused = plain_finished _ _
+plain_fate Never (Shown schedule) refused = plain_finished _ _
+plain_fate Open (Shown schedule) refused = plain_finished _ _
+plain_fate Never Never (refusals.Shown run) = plain_finished _ _
+plain_fate Never Open (refusals.Shown run) = plain_finished _ _
+plain_fate Open Never (refusals.Shown run) = plain_finished _ _
+plain_fate Open Open (refusals.Shown run) = plain_finished _ _
+plain_fate Never Never refusals.Never = plain_finished _ _
+plain_fate Never Never refusals.Open = plain_open
+plain_fate Never Open refusals.Never = plain_open
+plain_fate Never Open refusals.Open = plain_open
+plain_fate Open Never refusals.Never = plain_open
+plain_fate Open Never refusals.Open = plain_open
+plain_fate Open Open refusals.Never = plain_open
+plain_fate Open Open refusals.Open = plain_open
+
+-- ---- what goes out
+
+-- the report went out behind the text, or a beginning of it
+pub behind_text : {X F : Type 0} (text : List ℕ) (names : Names) (certificate : Bool) (w : WorldState) (out : Writing) (middle : Option (List ℕ)) (count : ℕ)
+    → Appends out.old middle text → count ≡ out.failures_before → (result : Result X F)
+    → WritesOutput names certificate w (record { old = middle; new = out.new; failures_before = count; failures_after = out.failures_after }) result → WritesBehind text names certificate w out result
+behind_text text names certificate w out middle count first kept (Ok x) h =
+    (h.0, h.1, (appends_then out.old middle out.new text h.0 first h.2.0, h.2.1 ∙ kept))
+behind_text text names certificate w out middle count first kept (Err f) h =
+    (h.0, h.1, (beginning_then out.old middle out.new text h.0 [] (text ++ h.0) first h.2.0 (sym (append-nil (text ++ h.0))), h.2.1 ∙ ap with_failure kept))
+
+-- the text broke off
+pub text_breaks : {F : Type 0} (text : List ℕ) (names : Names) (w : WorldState) (list : Option (Bor (List ℕ))) → IfSome list (λ list. IsOrderOrCycle w.log list.now) → HasAlarm w.log
+    → (out : Writing) (f : F) → BreaksOff out text → WritesBehind {X = ℕ} {F = F} text names (is_some list) w out (Err f)
+text_breaks text names w list certifies alarm out f broke =
+    let output = output_exists names w.config.bounds.threads w.log list certifies alarm in
+    (output.0, output.1, (beginning_then out.old out.old out.new [] text output.0 (text ++ output.0) (appends_nothing out.old) broke.0 refl, broke.1))
+
+-- where the log is not saved nothing goes out
+pub unsaved_puts : (store : Store) (target : Option (Bor (List ℕ))) (out : Writing) (log text : List ℕ) (f : Fate)
+    → IsSaved {X = ℕ} store target log (Err f) → WritesNothing out → Puts {X = ℕ} store target out (Some log) text (Err f)
+unsaved_puts store target out log text fate.CannotOpen h nothing = (h, nothing)
+unsaved_puts store target out log text fate.WriteFailed h nothing = inl (h, nothing)
+unsaved_puts store target out log text f h nothing = absurd h
+
+-- by the program's names, and with the certificate that was asked for
+pub reported_by : {X : Type 0} (program : Program) (text : List ℕ) (names : Names) (given certificate : Bool) (w : WorldState)
+    (store : Store) (target : Option (Bor (List ℕ))) (out : Writing) (result : Result X Fate)
+    → TellsReplay text names given w store target out result → certificate ≡ given → AreNamesOf program names → ReportsOrLacks program text certificate w store target out result
+reported_by program text names given certificate w store target out result told is are =
+    inl (names, are, subst (λ (b : Bool). TellsReplay text names b w store target out result) (sym is) told)
+
+module _ (store : Store) (target : Option (Bor (List ℕ))) (stdout : Writing) where
+  delivered : (saved : Option (List ℕ)) (printed : List ℕ) (f : Fate) → IsPlain f → {X : Type 0} (x : X) → Puts store target stdout saved printed (Ok x)
+      → IsDelivered store target stdout (record { saved = saved; printed = Some printed; fate = f }) f
+  delivered saved printed fate.CannotOpen plain x h = absurd (plain.opened refl)
+  delivered saved printed fate.WriteFailed plain x h = absurd (plain.written refl)
+  delivered saved printed f plain x h = (refl, h.0, h.1)
+
+  pub put : {X : Type 0} (saved : Option (List ℕ)) (printed : List ℕ) (f : Fate) → IsPlain f → (result : Result X Fate) → Puts store target stdout saved printed result
+      → IsDelivered store target stdout (record { saved = saved; printed = Some printed; fate = f }) (fate_behind f result)
+  put saved printed f plain (Ok x) h = delivered saved printed f plain x h
+  put saved printed f plain (Err fate.CannotOpen) h = h
+  put saved printed f plain (Err fate.WriteFailed) h = h
+  put saved printed f plain (Err other) h = absurd h
+
+  -- a growth was refused
+  pub lacked : {X : Type 0} (f : Fate) (result : Result X Fate) → Lacks store stdout result → (answer : Answer) × LacksMemory answer × IsDelivered store target stdout answer (fate_behind f result)
+  lacked f (Err fate.Memory) h = (silent fate.Memory, (h.0, refl), (refl, h.1, h.2))
+  lacked f result h = absurd h
+
+  -- no exploration is told as a failed read
+  pub explores_reads : (options : ExploreOptions) (program : Program) (answer : Answer) (n : ℕ) → IsExplored options program answer ⊎ LacksMemory answer
+      → (f : Fate) → IsDelivered store target stdout answer f → failures_told f n ≡ n
+  explores_reads options program answer n is f h = delivered_reads store target stdout answer n (by_fate is) f h
+    where
+      of_said : (config : Config) (x : Exploration) → IsPlain (fate_of_exploration x) → ReportsReplay options program config x answer ⊎ IsPrintedAlone program x answer → failures_told answer.fate n ≡ n
+      of_said config x plain (inl r) = same_fate answer _ n r.said (plain.read n)
+      of_said config x plain (inr alone) = same_fate answer _ n alone.1 (plain.read n)
+
+      by_fate : IsExplored options program answer ⊎ LacksMemory answer → failures_told answer.fate n ≡ n
+      by_fate (inl e) = of_said e.config e.exploration (plain_fate e.exploration.alarm e.exploration.stuck e.exploration.refused) e.says
+      by_fate (inr lacks) = same_fate answer _ n lacks.1 refl
+
+-- what was told is an answer to the program that was read
+pub explored : {X : Type 0} (options : ExploreOptions) (program : Program) (config : Config) (x : Exploration) (run : Option (WorldState × Ending)) (text : List ℕ) (store : Store) (stdout : Writing) (result : Result X Fate)
+    → IsConfigOf program (run_of options) config → IsExplorationOf program config options.states x → IsRunOfFirst program config x run → text ≡ exploration_text program x
+    → TellsRun program text options.certificate run store options.target stdout result → Explores options program store stdout (fate_behind (fate_of_exploration x) result)
+explored options program config x None text store stdout result configured so none is told = (
+  printing (exploration_text program x) (fate_of_exploration x),
+  inl (record { config = config; configured = configured; exploration = x; is_so = so; says = inr (none, refl) }),
+  put store options.target stdout None (exploration_text program x) (fate_of_exploration x) (plain_fate x.alarm x.stuck x.refused) result
+      (subst (λ (t : List ℕ). Puts store options.target stdout None t result) is told),
+)
+explored options program config x (Some run) text store stdout result configured so first is (inl told) = (
+  record { saved = Some (text_of_log run.0); printed = Some (exploration_text program x ++ told.2.0); fate = fate_of_exploration x },
+  inl (record {
+    config = config;
+    configured = configured;
+    exploration = x;
+    is_so = so;
+    says = inl (record { ended = run.1; world = run.0; replay = first.0; names = told.0; are_names = told.1; report = told.2.0; is_report = told.2.1; said = refl });
+  }),
+  put store options.target stdout (Some (text_of_log run.0)) (exploration_text program x ++ told.2.0) (fate_of_exploration x) (plain_fate x.alarm x.stuck x.refused) result
+      (subst (λ (t : List ℕ). Puts store options.target stdout (Some (text_of_log run.0)) (t ++ told.2.0) result) is told.2.2),
+)
+explored options program config x (Some run) text store stdout result configured so first is (inr lacks) =
+    let lack = lacked store options.target stdout (fate_of_exploration x) result lacks in
+    (lack.0, inr lack.1, lack.2)
+
+-- so was what was found
+pub told_found : (options : ExploreOptions) (program : Program) (config : Config) (x : Exploration) (run : Option (WorldState × Ending)) (store : Store) (stdout : Writing) (f : Fate)
+    → IsConfigOf program (run_of options) config → IsExplorationOf program config options.states x → IsRunOfFirst program config x run → TellsFindings options program x run store stdout f
+    → Explores options program store stdout f
+told_found options program config x run store stdout f configured so first (inl lacks) =
+    subst (λ (f : Fate). Explores options program store stdout f) (sym lacks.1) (silent fate.Memory, inr (lacks.0, refl), (refl, lacks.2, lacks.3))
+told_found options program config x run store stdout f configured so first (inr told) =
+    subst (λ (f : Fate). Explores options program store stdout f) (sym told.2) (explored options program config x run (exploration_text program x) store stdout told.0 configured so first refl told.1)
+
+-- ---- want of memory
+
+caused_first : (alarm stuck : Finding) (refused : RefusalFinding) (ended : Ending) (w : WorldState) → HasFirst alarm stuck refused ended w → EndsByGrowth ended → ComesByRefusal Growths (fate_by alarm stuck refused)
+caused_first (Shown schedule) stuck refused ended w has cause = tt
+caused_first Never (Shown schedule) refused ended w has cause = tt
+caused_first Open (Shown schedule) refused ended w has cause = tt
+caused_first Never Never (refusals.Shown run) ended w has cause = subst EndsByGrowth has cause
+caused_first Never Open (refusals.Shown run) ended w has cause = subst EndsByGrowth has cause
+caused_first Open Never (refusals.Shown run) ended w has cause = subst EndsByGrowth has cause
+caused_first Open Open (refusals.Shown run) ended w has cause = subst EndsByGrowth has cause
+caused_first Never Never refusals.Never ended w has cause = absurd has
+caused_first Never Never refusals.Open ended w has cause = absurd has
+caused_first Never Open refusals.Never ended w has cause = absurd has
+caused_first Never Open refusals.Open ended w has cause = absurd has
+caused_first Open Never refusals.Never ended w has cause = absurd has
+caused_first Open Never refusals.Open ended w has cause = absurd has
+caused_first Open Open refusals.Never ended w has cause = absurd has
+caused_first Open Open refusals.Open ended w has cause = absurd has
+
+no_schedule : (schedule : List ThreadId) → Some schedule ≡ None → ⊥
+no_schedule schedule is = cc
+
+caused_alone : (alarm stuck : Finding) (refused : RefusalFinding) → first_schedule alarm stuck refused ≡ None → ComesByRefusal Growths (fate_by alarm stuck refused)
+caused_alone (Shown schedule) stuck refused none = tt
+caused_alone Never (Shown schedule) refused none = tt
+caused_alone Open (Shown schedule) refused none = tt
+caused_alone Never Never (refusals.Shown run) none = absurd (no_schedule _ none)
+caused_alone Never Open (refusals.Shown run) none = absurd (no_schedule _ none)
+caused_alone Open Never (refusals.Shown run) none = absurd (no_schedule _ none)
+caused_alone Open Open (refusals.Shown run) none = absurd (no_schedule _ none)
+caused_alone Never Never refusals.Never none = tt
+caused_alone Never Never refusals.Open none = tt
+caused_alone Never Open refusals.Never none = tt
+caused_alone Never Open refusals.Open none = tt
+caused_alone Open Never refusals.Never none = tt
+caused_alone Open Never refusals.Open none = tt
+caused_alone Open Open refusals.Never none = tt
+caused_alone Open Open refusals.Open none = tt
+
+-- of what is said of an exploration
+pub caused : (options : ExploreOptions) (program : Program) (answer : Answer) → IsExplored options program answer → ComesByRefusal Growths answer.fate
+caused options program answer e = by e.config e.exploration e.says
+  where
+    by : (config : Config) (x : Exploration) → ReportsReplay options program config x answer ⊎ IsPrintedAlone program x answer → ComesByRefusal Growths answer.fate
+    by config x (inl r) =
+        subst (λ (a : Answer). ComesByRefusal Growths a.fate) (sym r.said) (caused_first x.alarm x.stuck x.refused r.ended r.world r.replay.has_first r.replay.cause)
+    by config x (inr alone) = subst (λ (a : Answer). ComesByRefusal Growths a.fate) (sym alone.1) (caused_alone x.alarm x.stuck x.refused alone.0)

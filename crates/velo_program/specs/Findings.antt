@@ -1,0 +1,182 @@
+-- Words of the contracts of an exploration within the crate: how far each step has come.
+use Rattle.std.specs.Prelude.{◌≡◌, ◌⊎◌, ◌++◌, ◌∷◌, [], ⊤, ℕ, Bool, false, List, decimal, Option, Some, None, Result, Ok, Err}
+use Rattle.std.specs.Borrow.{Bor}
+use Rattle.velo_events.specs.declared.config.Config.{Config}
+use Rattle.velo_events.specs.declared.event.ThreadId.{ThreadId}
+use Rattle.velo_events.specs.Graph.{HasCycle}
+use Rattle.velo_events.specs.Refusals.{GrowthRefused}
+use Rattle.velo_report.specs.declared.names.Names.{Names}
+use Rattle.velo_schedules.specs.declared.exploration.Exploration.{Exploration}
+use Rattle.velo_schedules.specs.declared.finding.Finding.{Finding}
+use Rattle.velo_schedules.specs.declared.finding.Finding.TheVariants.{Shown, Never, Open}
+use Rattle.velo_schedules.specs.declared.finding.RefusalFinding.{RefusalFinding}
+use Rattle.velo_schedules.specs.declared.finding.RefusalFinding.TheVariants as refusals
+use Rattle.velo_worker.specs.declared.ending.Ending.{Ending}
+use Rattle.velo_worker.specs.declared.ending.Ending.TheVariants.{Refused, Stuck}
+use Rattle.velo_worker.specs.Causes.{EndsByGrowth}
+use Rattle.velo_worker.specs.Schedule.{Replays}
+use Rattle.velo_workload.specs.Program.{Program}
+use Rattle.velo_world.specs.World.{WorldState}
+use Rattle.velo_program.specs.declared.fate.Fate.{Fate}
+use Rattle.velo_program.specs.declared.fate.Fate.TheVariants as fate
+use Rattle.velo_program.specs.declared.request.ExploreOptions.{ExploreOptions}
+use Rattle.velo_program.specs.Check.{IsOutputOf}
+use Rattle.velo_program.specs.Delivery.{Answer, FailsToSave, IsDelivered, LacksMemory, Saves, SavesPart}
+use Rattle.velo_program.specs.Disk.{Store}
+use Rattle.velo_program.specs.Exploring.{IsExplorationOf, IsExplored, IsFirstReplay, IsSayableFinding, IsSayableRefusal, exploration_text, fate_of_exploration, schedule_of}
+use Rattle.velo_program.specs.Playing.{AreNamesOf, is_unreported, text_of_log}
+use Rattle.velo_program.specs.Steps.{HasAlarm}
+use Rattle.velo_program.specs.Writing.{BreaksOff, Delivers, Writes, WritesNothing, Writing}
+
+-- ---- what can be told
+
+-- the finding, or an open one where it can't be told
+abbrev pub IsSaidFor : Finding → Finding → Type 0
+IsSaidFor finding said =
+    (IsSayableFinding finding × (said ≡ finding))
+    ⊎ ((¬ IsSayableFinding finding) × (said ≡ Open))
+
+abbrev pub IsRefusalSaidFor : RefusalFinding → RefusalFinding → Type 0
+IsRefusalSaidFor finding said =
+    (IsSayableRefusal finding × (said ≡ finding))
+    ⊎ ((¬ IsSayableRefusal finding) × (said ≡ refusals.Open))
+
+-- ---- replays
+
+-- a replay by the schedule, in which no growth was refused, and whose alarm is known
+pub record IsReplayBy (program : Program) (config : Config) (schedule : List ThreadId)
+    (ended : Ending) (w : WorldState) : Type 0 where
+  pub replays : Replays program schedule config ended w
+  pub cause : EndsByGrowth ended
+  pub reported : is_unreported ended ≡ false
+  pub alarm : HasAlarm w.log
+
+-- the replay has what the finding shows
+abbrev pub ShowsAlarm : Program → Config → Finding → Ending → WorldState → Type 0
+ShowsAlarm program config (Shown schedule) ended w =
+    IsReplayBy program config schedule.items ended w × HasCycle w.log
+ShowsAlarm program config finding ended w = ⊥
+
+abbrev pub ShowsStuck : Program → Config → Finding → Ending → WorldState → Type 0
+ShowsStuck program config (Shown schedule) ended w =
+    IsReplayBy program config schedule.items ended w × (ended ≡ Stuck)
+ShowsStuck program config finding ended w = ⊥
+
+abbrev pub ShowsRefusal : Program → Config → RefusalFinding → Ending → WorldState → Type 0
+ShowsRefusal program config (refusals.Shown run) ended w =
+    IsReplayBy program config run.schedule.items ended w
+    × (ended ≡ Refused run.thread run.refusal)
+ShowsRefusal program config finding ended w = ⊥
+
+-- a finding that is not shown again is open
+abbrev pub unshown : Finding → Finding
+unshown Never = Never
+unshown finding = Open
+
+abbrev pub unshown_refusal : RefusalFinding → RefusalFinding
+unshown_refusal refusals.Never = refusals.Never
+unshown_refusal finding = refusals.Open
+
+abbrev pub IsUnshown : Finding → Type 0
+IsUnshown (Shown schedule) = ⊥
+IsUnshown finding = ⊤
+
+-- what the one tells of the program, if it is so, the other does
+abbrev pub IsNoMoreThan : Program → Config → Exploration → Exploration → Type 0
+IsNoMoreThan program config x y =
+    (most : ℕ) → IsExplorationOf program config most x → IsExplorationOf program config most y
+
+-- the replay of the first finding, if there is one
+abbrev pub IsRunOfFirst : Program → Config → Exploration → Option (WorldState × Ending) → Type 0
+IsRunOfFirst program config x None = schedule_of x ≡ None
+IsRunOfFirst program config x (Some run) =
+    IsFirstReplay program config x run.1 run.0 × HasAlarm run.0.log
+
+-- ---- the text
+
+-- numbers of threads, each behind a space
+abbrev pub spaced : List ThreadId → List ℕ
+spaced [] = []
+spaced (t ∷ rest) = 32 ∷ decimal t.0 ++ spaced rest
+
+-- ---- what goes out
+
+-- what writing a text and the output of a world behind it came to
+abbrev pub WritesBehind : {X F : Type 0} → List ℕ → Names → Bool → WorldState → Writing
+    → Result X F → Type 0
+WritesBehind text names certificate w stdout result =
+    (report : List ℕ) × IsOutputOf names certificate w report
+    × Delivers stdout (text ++ report) result
+
+-- what saving a text and printing another came to
+abbrev pub Puts : {X : Type 0} → Store → Option (Bor (List ℕ)) → Writing
+    → Option (List ℕ) → List ℕ → Result X Fate → Type 0
+Puts store target stdout saved printed (Ok x) =
+    Saves store target saved × Writes stdout printed
+Puts store target stdout saved printed (Err fate.CannotOpen) =
+    FailsToSave store target saved × WritesNothing stdout
+Puts store target stdout saved printed (Err fate.WriteFailed) =
+    (SavesPart store target saved × WritesNothing stdout)
+    ⊎ (Saves store target saved × BreaksOff stdout printed)
+Puts store target stdout saved printed (Err f) = ⊥
+
+-- what saving the log of a replay and printing a text and the report behind it came to
+abbrev pub TellsReplay : {X : Type 0} → List ℕ → Names → Bool → WorldState
+    → Store → Option (Bor (List ℕ)) → Writing → Result X Fate → Type 0
+TellsReplay text names certificate w store target stdout result =
+    (report : List ℕ) × IsOutputOf names certificate w report
+    × Puts store target stdout (Some (text_of_log w)) (text ++ report) result
+
+-- a growth was refused, and nothing was written
+abbrev pub Lacks : {X : Type 0} → Store → Writing → Result X Fate → Type 0
+Lacks store stdout (Err fate.Memory) = GrowthRefused × store.is_kept × WritesNothing stdout
+Lacks store stdout result = ⊥
+
+abbrev pub ReportsOrLacks : {X : Type 0} → Program → List ℕ → Bool → WorldState
+    → Store → Option (Bor (List ℕ)) → Writing → Result X Fate → Type 0
+ReportsOrLacks program text certificate w store target stdout result =
+    ((names : Names) × AreNamesOf program names
+    × TellsReplay text names certificate w store target stdout result)
+    ⊎ Lacks store stdout result
+
+-- what telling a text and the replay, if there is one, came to
+abbrev pub TellsRun : {X : Type 0} → Program → List ℕ → Bool → Option (WorldState × Ending)
+    → Store → Option (Bor (List ℕ)) → Writing → Result X Fate → Type 0
+TellsRun program text certificate None store target stdout result =
+    Puts store target stdout None text result
+TellsRun program text certificate (Some run) store target stdout result =
+    ReportsOrLacks program text certificate run.0 store target stdout result
+
+-- what telling came to, as a fate
+abbrev pub fate_behind : {X : Type 0} → Fate → Result X Fate → Fate
+fate_behind f (Ok x) = f
+fate_behind f (Err other) = other
+
+-- what telling an exploration and the replay, if there is one, came to
+abbrev pub TellsFindings : ExploreOptions → Program → Exploration → Option (WorldState × Ending)
+    → Store → Writing → Fate → Type 0
+TellsFindings options program x run store stdout f =
+    (GrowthRefused × (f ≡ fate.Memory) × store.is_kept × WritesNothing stdout)
+    ⊎ ((told : Result ⊤ Fate)
+    × TellsRun program (exploration_text program x) options.certificate run
+    store options.target stdout told
+    × (f ≡ fate_behind (fate_of_exploration x) told))
+
+-- what exploring a workload came to
+abbrev pub Explores : ExploreOptions → Program → Store → Writing → Fate → Type 0
+Explores options program store stdout f =
+    (answer : Answer) × (IsExplored options program answer ⊎ LacksMemory answer)
+    × IsDelivered store options.target stdout answer f
+
+-- ---- what it comes to, finding by finding
+
+abbrev pub fate_of_refusal : RefusalFinding → Fate → Fate
+fate_of_refusal (refusals.Shown run) otherwise =
+    fate.Finished (Refused run.thread run.refusal) false
+fate_of_refusal refusals.Never otherwise = otherwise
+fate_of_refusal refusals.Open otherwise = fate.Open
+
+abbrev pub fate_without_alarm : Finding → RefusalFinding → Fate → Fate
+fate_without_alarm (Shown schedule) refused otherwise = fate.Finished Stuck false
+fate_without_alarm Never refused otherwise = fate_of_refusal refused otherwise
+fate_without_alarm Open refused otherwise = fate_of_refusal refused fate.Open

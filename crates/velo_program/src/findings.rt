@@ -1,0 +1,302 @@
+//! What the schedules of a workload come to, and the replay that is reported.
+ghost use Rattle.std.specs.Prelude.{◌≡◌, ◌<◌, ◌↔◌, All, IfOk, IfSome, IsTrue, OnErr};
+ghost use Rattle.velo_events.specs.Refusals.{GrowthRefused};
+ghost use Rattle.velo_events.specs.declared.limits.TheConstants.{MOST_THREADS};
+ghost use Rattle.velo_program.specs.Check.{IsVerdict};
+ghost use Rattle.velo_program.specs.Exploring.{IsExplorationOf, IsSayable};
+ghost use Rattle.velo_program.specs.Findings.{IsNoMoreThan, IsReplayBy, IsRunOfFirst, IsSaidFor, IsRefusalSaidFor, IsUnshown, ShowsAlarm, ShowsRefusal, ShowsStuck, unshown, unshown_refusal};
+
+use crate::check::{Verdict, is_alarm, verdict_of};
+use crate::schedule::MOST_TURNS;
+use crate::work::is_unreported;
+use std::alloc::Global;
+use velo_events::{Config, MOST_THREADS, Memory, ThreadId};
+use velo_schedules::{Exploration, Finding, RefusalFinding, RefusedRun, explore};
+use velo_worker::{Ending, replay};
+use velo_workload::Workload;
+use velo_world::Closed;
+
+/// Whether all turns are of threads that there may be.
+fn are_threads(schedule: &[ThreadId]) -> bool
+    ensures { IsTrue result ↔ All (λ t. t.0 < MOST_THREADS) schedule.now }
+{
+    for turn in schedule {
+        if turn.0 >= MOST_THREADS {
+            return false;
+        }
+    }
+    true
+}
+
+/// Whether a replay takes the text of the schedule.
+fn is_sayable(schedule: &[ThreadId]) -> bool
+    ensures { IsTrue result ↔ IsSayable schedule.now }
+{
+    schedule.len() <= MOST_TURNS && are_threads(schedule)
+}
+
+/// The finding, which is open where its schedule can't be told.
+fn sayable(finding: Finding) -> Finding
+    ensures { IsSaidFor finding result }
+{
+    match finding {
+        Finding::Shown(schedule) => {
+            if is_sayable(&schedule) {
+                Finding::Shown(schedule)
+            } else {
+                Finding::Open
+            }
+        }
+        Finding::Never => Finding::Never,
+        Finding::Open => Finding::Open,
+    }
+}
+
+/// The finding, which is open where its schedule can't be told.
+fn sayable_refusal(finding: RefusalFinding) -> RefusalFinding
+    ensures { IsRefusalSaidFor finding result }
+{
+    match finding {
+        RefusalFinding::Shown(run) => {
+            if is_sayable(&run.schedule) {
+                RefusalFinding::Shown(run)
+            } else {
+                RefusalFinding::Open
+            }
+        }
+        RefusalFinding::Never => RefusalFinding::Never,
+        RefusalFinding::Open => RefusalFinding::Open,
+    }
+}
+
+/// What all schedules of the workload come to, as far as it can be told.
+fn explore_all(
+    alloc: Global,
+    workload: &Workload,
+    most_states: u32,
+    first: bool,
+    config: Config,
+) -> Result<Exploration, Memory>
+    requires { config.bounds ≡ workload.now.bounds }
+    ensures exploration { IfOk result (IsExplorationOf workload.now config most_states) }
+    ensures memory { OnErr result GrowthRefused }
+{
+    let Exploration {
+        events,
+        states,
+        alarm,
+        stuck,
+        refused,
+    } = explore(alloc, workload, u64::from(most_states), first, config)?;
+    Ok(Exploration {
+        events,
+        states,
+        alarm: sayable(alarm),
+        stuck: sayable(stuck),
+        refused: sayable_refusal(refused),
+    })
+}
+
+/// The replay by a schedule, and its verdict. One in which a growth was refused is none.
+fn replay_by(
+    alloc: Global,
+    workload: &Workload,
+    schedule: &[ThreadId],
+    config: Config,
+) -> Result<(Closed, Ending, Verdict), Memory>
+    requires { config.bounds ≡ workload.now.bounds }
+    ensures run { IfOk result (λ run. IsReplayBy workload.now config schedule.now run.1 run.0) }
+    ensures verdict { IfOk result (λ run. IsVerdict run.0.log run.2) }
+    ensures memory { OnErr result GrowthRefused }
+{
+    let (closed, ending) = replay(alloc, workload, schedule, config)?;
+    if is_unreported(ending) {
+        drop(closed);
+        return Err(Memory);
+    }
+    let verdict = verdict_of(&closed);
+    Ok((closed, ending, verdict))
+}
+
+/// The replay by the schedule of an alarm, if it has one.
+fn alarm_run(
+    alloc: Global,
+    workload: &Workload,
+    config: Config,
+    alarm: &Finding,
+) -> Result<Option<(Closed, Ending)>, Memory>
+    requires { config.bounds ≡ workload.now.bounds }
+    ensures run { IfOk result (λ run. IfSome run (λ run.
+        ShowsAlarm workload.now config alarm.now run.1 run.0)) }
+    ensures memory { OnErr result GrowthRefused }
+{
+    let Finding::Shown(schedule) = alarm else {
+        return Ok(None);
+    };
+    let (closed, ending, verdict) = replay_by(alloc, workload, schedule, config)?;
+    if is_alarm(verdict) {
+        Ok(Some((closed, ending)))
+    } else {
+        Ok(None)
+    }
+}
+
+/// The replay by the schedule of a deadlock, if it has one.
+fn stuck_run(
+    alloc: Global,
+    workload: &Workload,
+    config: Config,
+    stuck: &Finding,
+) -> Result<Option<(Closed, Ending)>, Memory>
+    requires { config.bounds ≡ workload.now.bounds }
+    ensures run { IfOk result (λ run. IfSome run (λ run.
+        ShowsStuck workload.now config stuck.now run.1 run.0)) }
+    ensures memory { OnErr result GrowthRefused }
+{
+    let Finding::Shown(schedule) = stuck else {
+        return Ok(None);
+    };
+    let (closed, ending, _) = replay_by(alloc, workload, schedule, config)?;
+    if ending == Ending::Stuck {
+        Ok(Some((closed, ending)))
+    } else {
+        Ok(None)
+    }
+}
+
+/// The replay by the schedule of a refusal, if it has this one.
+fn refused_run(
+    alloc: Global,
+    workload: &Workload,
+    config: Config,
+    refused: &RefusalFinding,
+) -> Result<Option<(Closed, Ending)>, Memory>
+    requires { config.bounds ≡ workload.now.bounds }
+    ensures run { IfOk result (λ run. IfSome run (λ run.
+        ShowsRefusal workload.now config refused.now run.1 run.0)) }
+    ensures memory { OnErr result GrowthRefused }
+{
+    let RefusalFinding::Shown(run) = refused else {
+        return Ok(None);
+    };
+    let (closed, ending, _) = replay_by(alloc, workload, &run.schedule, config)?;
+    if ending == Ending::Refused(run.thread, run.refusal) {
+        Ok(Some((closed, ending)))
+    } else {
+        Ok(None)
+    }
+}
+
+/// The finding, which is open where it was shown.
+fn unshown(finding: Finding) -> Finding
+    ensures { result ≡ unshown finding }
+{
+    match finding {
+        Finding::Never => Finding::Never,
+        Finding::Shown(_) | Finding::Open => Finding::Open,
+    }
+}
+
+/// The finding, which is open where it was shown.
+fn unshown_refusal(finding: RefusalFinding) -> RefusalFinding
+    ensures { result ≡ unshown_refusal finding }
+{
+    match finding {
+        RefusalFinding::Never => RefusalFinding::Never,
+        RefusalFinding::Shown(_) | RefusalFinding::Open => RefusalFinding::Open,
+    }
+}
+
+/// What was found, and the replay of its first finding. A finding that its replay does not have is open.
+fn first_replay(
+    alloc: Global,
+    workload: &Workload,
+    config: Config,
+    found: Exploration,
+) -> Result<(Exploration, Option<(Closed, Ending)>), Memory>
+    requires { config.bounds ≡ workload.now.bounds }
+    ensures told { IfOk result (λ told. IsNoMoreThan workload.now config found told.0) }
+    ensures run { IfOk result (λ told. IsRunOfFirst workload.now config told.0 told.1) }
+    ensures memory { OnErr result GrowthRefused }
+{
+    let run = alarm_run(alloc, workload, config, &found.alarm)?;
+    if run.is_some() {
+        return Ok((found, run));
+    }
+    let rest = Exploration {
+        alarm: unshown(found.alarm),
+        ..found
+    };
+    first_replay_but_alarm(alloc, workload, config, rest)
+}
+
+/// The same where no alarm is shown.
+fn first_replay_but_alarm(
+    alloc: Global,
+    workload: &Workload,
+    config: Config,
+    found: Exploration,
+) -> Result<(Exploration, Option<(Closed, Ending)>), Memory>
+    requires bounds { config.bounds ≡ workload.now.bounds }
+    requires no_alarm { IsUnshown found.alarm }
+    ensures told { IfOk result (λ told. IsNoMoreThan workload.now config found told.0) }
+    ensures run { IfOk result (λ told. IsRunOfFirst workload.now config told.0 told.1) }
+    ensures memory { OnErr result GrowthRefused }
+{
+    let run = stuck_run(alloc, workload, config, &found.stuck)?;
+    if run.is_some() {
+        return Ok((found, run));
+    }
+    let rest = Exploration {
+        stuck: unshown(found.stuck),
+        ..found
+    };
+    refusal_replay(alloc, workload, config, rest)
+}
+
+/// The same where no alarm and no deadlock is shown.
+fn refusal_replay(
+    alloc: Global,
+    workload: &Workload,
+    config: Config,
+    found: Exploration,
+) -> Result<(Exploration, Option<(Closed, Ending)>), Memory>
+    requires bounds { config.bounds ≡ workload.now.bounds }
+    requires no_alarm { IsUnshown found.alarm }
+    requires no_deadlock { IsUnshown found.stuck }
+    ensures told { IfOk result (λ told. IsNoMoreThan workload.now config found told.0) }
+    ensures run { IfOk result (λ told. IsRunOfFirst workload.now config told.0 told.1) }
+    ensures memory { OnErr result GrowthRefused }
+{
+    let run = refused_run(alloc, workload, config, &found.refused)?;
+    if run.is_some() {
+        return Ok((found, run));
+    }
+    let rest = Exploration {
+        refused: unshown_refusal(found.refused),
+        ..found
+    };
+    Ok((rest, None))
+}
+
+/// What all schedules of the workload come to, and the replay of the first finding, if there is one: of an alarm, else of a
+/// deadlock, else of a refusal. With `first` the first finding ends the search. The configuration
+/// has to have the workload's bounds.
+///
+/// # Errors
+/// `Memory` where a growth was refused.
+pub fn findings_of(
+    alloc: Global,
+    workload: &Workload,
+    most_states: u32,
+    first: bool,
+    config: Config,
+) -> Result<(Exploration, Option<(Closed, Ending)>), Memory>
+    requires { config.bounds ≡ workload.now.bounds }
+    ensures told { IfOk result (λ told. IsExplorationOf workload.now config most_states told.0) }
+    ensures run { IfOk result (λ told. IsRunOfFirst workload.now config told.0 told.1) }
+    ensures memory { OnErr result GrowthRefused }
+{
+    let found = explore_all(alloc, workload, most_states, first, config)?;
+    first_replay(alloc, workload, config, found)
+}
