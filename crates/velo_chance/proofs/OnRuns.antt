@@ -72,13 +72,13 @@ ComesTo-noted runs run before after notes comes = record {
   stuck = kept (λ r. r.schedule) is_stuck runs run _ _ comes.stuck notes.stuck;
   refused = kept (λ r. (r.schedule, r.ending)) is_refused runs run _ _ comes.refused notes.refused;
   alarms =
-    capped before.alarms (cond (has_alarm run) 1 0) after.alarms
-    (let most = below has_alarm in let one = at_most_one (has_alarm run) in omega (arith, most, one, comes.alarms)) notes.alarms
-    ∙ (ap (λ n. n + cond (has_alarm run) 1 0) comes.alarms ∙ sym (sum_by_push (λ r. cond (has_alarm r) 1 0) runs run));
+      capped before.alarms (cond (has_alarm run) 1 0) after.alarms
+      (let most = below has_alarm in let one = at_most_one (has_alarm run) in omega (arith, most, one, comes.alarms)) notes.alarms
+      ∙ (ap (λ n. n + cond (has_alarm run) 1 0) comes.alarms ∙ sym (sum_by_push (λ r. cond (has_alarm r) 1 0) runs run));
   blamed =
-    AreCounts-same (λ label. count_by (blames label) runs + cond (blames label run) 1 0) (λ label. count_by (blames label) (runs ++ run ∷ [])) after.blamed.items
-    (λ label. sym (sum_by_push (λ r. cond (blames label r) 1 0) runs run))
-    (notes.blamed (λ label. count_by (blames label) runs) (λ label. below (blames label)) comes.blamed);
+      AreCounts-same (λ label. count_by (blames label) runs + cond (blames label run) 1 0) (λ label. count_by (blames label) (runs ++ run ∷ [])) after.blamed.items
+      (λ label. sym (sum_by_push (λ r. cond (blames label r) 1 0) runs run))
+      (notes.blamed (λ label. count_by (blames label) runs) (λ label. below (blames label)) comes.blamed);
 }
   where
     below : (p : Run → Bool) → count_by p runs < 2 ^ 64 - 1
