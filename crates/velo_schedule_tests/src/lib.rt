@@ -1,5 +1,9 @@
-//! Tests of `velo_explore` and `velo_schedules`, through their public calls.
+//! Tests of `velo_explore`, `velo_schedules`, `velo_shrink` and `velo_chance`, through their public calls.
 #![tactic(auto)]
 
+#[cfg(test)]
+mod chances;
+#[cfg(test)]
+mod shrinking;
 #[cfg(test)]
 mod workloads;

@@ -1,0 +1,171 @@
+//! Runs by chance.
+use std::alloc::Global;
+use velo_chance::{Blamed, Chance, DEFAULT_SEED, try_by_chance};
+use velo_events::Config;
+use velo_shrink::{Goal, MOST_TRIES, shrink};
+use velo_turns::append_turns;
+use velo_workload::parse;
+
+/// What so many runs of a workload come to.
+fn tried(alloc: Global, text: &str, runs: u64, seed: u64) -> Option<Chance> {
+    let workload = parse(alloc, text).ok()?;
+    let config = Config::new(1, workload.bounds(), 100_000, 64, false).ok()?;
+    try_by_chance(alloc, &workload, runs, seed, config).ok()
+}
+
+/// Of runs by chance: how many there were and have an alarm, and whether an alarm, a deadlock and a refusal are shown.
+#[derive(Clone, Copy, Debug, PartialEq, Eq)]
+struct Findings {
+    runs: u64,
+    some_alarms: bool,
+    all_alarms: bool,
+    alarm: bool,
+    stuck: bool,
+    refused: bool,
+}
+
+fn findings_of(alloc: Global, text: &str, runs: u64, seed: u64) -> Option<Findings> {
+    let chance = tried(alloc, text, runs, seed)?;
+    Some(Findings {
+        runs: chance.runs,
+        some_alarms: chance.alarms > 0,
+        all_alarms: chance.alarms == runs,
+        alarm: chance.alarm.is_some(),
+        stuck: chance.stuck.is_some(),
+        refused: chance.refused.is_some(),
+    })
+}
+
+/// The schedule of the first alarm, as a short text, and the labels that are blamed.
+fn first_alarm(
+    alloc: Global,
+    text: &str,
+    runs: u64,
+    seed: u64,
+) -> Option<(Vec<u8>, u64, Vec<Blamed>)> {
+    let chance = tried(alloc, text, runs, seed)?;
+    let schedule = chance.alarm?;
+    let mut short = Vec::new(alloc);
+    append_turns(&mut short, &schedule).ok()?;
+    Some((short, chance.alarms, chance.blamed))
+}
+
+/// Whether two seeds lead to the same first alarm, and to the same counts.
+fn are_same(alloc: Global, text: &str, one: u64, other: u64) -> Option<bool> {
+    let (one, alarms, labels) = first_alarm(alloc, text, 50, one)?;
+    let (other, others, other_labels) = first_alarm(alloc, text, 50, other)?;
+    let same = one.as_slice() == other.as_slice() && alarms == others;
+    Some(same && labels.as_slice() == other_labels.as_slice())
+}
+
+/// How many words a short text has.
+fn words(text: &[u8]) -> usize {
+    text.iter().filter(|byte| **byte == b' ').count()
+}
+
+/// The schedule of the first alarm, made simple.
+fn simple(alloc: Global, text: &str) -> Option<Vec<u8>> {
+    let workload = parse(alloc, text).ok()?;
+    let config = Config::new(1, workload.bounds(), 100_000, 64, false).ok()?;
+    let Chance { alarm, .. } = try_by_chance(alloc, &workload, 50, DEFAULT_SEED, config).ok()?;
+    match alarm {
+        Some(schedule) => {
+            let turns = shrink(alloc, &workload, Goal::Alarm, schedule, MOST_TRIES, config).ok()?;
+            let mut short = Vec::new(alloc);
+            append_turns(&mut short, &turns).ok()?;
+            Some(short)
+        }
+        None => None,
+    }
+}
+
+/// Two threads that lose updates.
+static RACE: &str =
+    "var x\nthread main\nfork a\nrepeat 3\nbegin inc\nread x\nadd 1\nwrite x\nend\ndone\njoin a\nthread a\nrepeat 3\nbegin inc\nread x\nadd 1\nwrite x\nend\ndone\n";
+
+/// The same under a lock.
+static LOCKED: &str =
+    "var x\nlock m\nthread main\nfork a\nfork b\njoin a\njoin b\nthread a\nbegin inc\nacquire m\nread x\nadd 1\nwrite x\nrelease m\nend\nbegin inc\nacquire m\nread x\nadd 1\nwrite x\nrelease m\nend\nbegin inc\nacquire m\nread x\nadd 1\nwrite x\nrelease m\nend\nthread b\nbegin inc\nacquire m\nread x\nadd 1\nwrite x\nrelease m\nend\nbegin inc\nacquire m\nread x\nadd 1\nwrite x\nrelease m\nend\nbegin inc\nacquire m\nread x\nadd 1\nwrite x\nrelease m\nend\n";
+
+/// Two locks in both orders.
+static LOCKS: &str =
+    "lock m\nlock n\nthread main\nfork a\nacquire m\nacquire n\nrelease n\nrelease m\nthread a\nacquire n\nacquire m\nrelease m\nrelease n\n";
+
+/// An exit that holds a lock.
+static BAD: &str = "lock m\nthread main\nfork a\njoin a\nthread a\nacquire m\n";
+
+/// Both read what the other wrote.
+static BOTH: &str =
+    "var x\nvar y\nthread main\nfork a\nfork b\njoin a\njoin b\nthread a\nbegin one\nwrite x\nread y\nend\nthread b\nbegin two\nwrite y\nread x\nend\n";
+
+/// Two labels, each with blocks that lose updates.
+static TWO: &str =
+    "var x\nthread main\nfork a\nfork b\njoin a\njoin b\nthread a\nbegin inc\nread x\nadd 1\nwrite x\nend\nthread b\nbegin dec\nread x\nadd 1\nwrite x\nend\n";
+
+/// What nothing is found of.
+fn nothing(runs: u64) -> Findings {
+    Findings {
+        runs,
+        some_alarms: false,
+        all_alarms: runs == 0,
+        alarm: false,
+        stuck: false,
+        refused: false,
+    }
+}
+
+#[test]
+fn what_runs_show_is_told(rt: HostRuntime) {
+    let clean = findings_of(rt.alloc(), LOCKED, 100, DEFAULT_SEED);
+    assert_eq!(rt; clean, Some(nothing(100)));
+    let none = findings_of(rt.alloc(), RACE, 0, DEFAULT_SEED);
+    assert_eq!(rt; none, Some(nothing(0)));
+    let race = findings_of(rt.alloc(), RACE, 100, DEFAULT_SEED);
+    assert_eq!(rt; race.map(|it| it.alarm && it.some_alarms), Some(true));
+    assert_eq!(rt; race.map(|it| it.all_alarms || it.stuck), Some(false));
+    let locks = findings_of(rt.alloc(), LOCKS, 100, DEFAULT_SEED);
+    assert_eq!(rt; locks.map(|it| it.stuck), Some(true));
+    assert_eq!(rt; locks.map(|it| it.alarm || it.refused), Some(false));
+    let bad = findings_of(rt.alloc(), BAD, 1, DEFAULT_SEED);
+    assert_eq!(rt; bad.map(|it| it.refused), Some(true));
+    assert_eq!(rt; bad.map(|it| it.alarm || it.stuck), Some(false));
+}
+
+#[test]
+fn a_seed_draws_the_same_schedules(rt: HostRuntime) {
+    assert_eq!(rt; are_same(rt.alloc(), RACE, 7, 7), Some(true));
+    assert_eq!(rt; are_same(rt.alloc(), RACE, 7, 8), Some(false));
+}
+
+/// Whether both labels of a workload are blamed, the one of more alarms first, and neither by more runs than have an alarm.
+fn are_both_blamed(alloc: Global) -> Option<bool> {
+    let (_, alarms, labels) = first_alarm(alloc, TWO, 200, DEFAULT_SEED)?;
+    let first = labels.first()?;
+    let last = labels.last()?;
+    let counted = first.alarms <= alarms && last.alarms <= first.alarms && last.alarms > 0;
+    Some(counted && labels.len() == 2 && first.label != last.label)
+}
+
+#[test]
+fn labels_are_counted(rt: HostRuntime) {
+    assert_eq!(rt; are_both_blamed(rt.alloc()), Some(true));
+}
+
+#[test]
+fn alarms_by_chance_are_made_simple(rt: HostRuntime) {
+    let race = simple(rt.alloc(), RACE);
+    assert_eq!(rt; race.as_deref(), Some(b" 0*3 1*3 0".as_slice()));
+    let both = simple(rt.alloc(), BOTH);
+    assert_eq!(rt; both.map(|text| words(&text)), Some(4));
+}
+
+#[test]
+fn a_refused_growth_tells_of_no_run(rt: HostRuntime) {
+    let bad = findings_of(rt.alloc(), BAD, 2, DEFAULT_SEED);
+    assert_ne!(rt; bad.map(|it| it.refused), Some(false));
+    let race = simple(rt.alloc(), RACE);
+    assert_eq!(rt;
+        race.map_or(true, |short| short.as_slice() == b" 0*3 1*3 0".as_slice()),
+        true
+    );
+}
