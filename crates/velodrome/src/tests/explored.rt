@@ -4,8 +4,9 @@ use std::alloc::Global;
 use std::process::Abort;
 use std::sync::Wait;
 use std::thread::Threads;
+use velo_events::MOST_EVENTS;
 use velo_logtext::Text;
-use velo_program::{ExploreOptions, Limits, Request, do_request, end_with};
+use velo_program::{ExploreOptions, Limits, MOST_STATES, Request, do_request, end_with};
 
 /// A block that reads and writes, and a thread that writes.
 const LOST_UPDATE: &str =
@@ -181,11 +182,11 @@ fn explore_it<R: Threads + Wait + Abort + Sync>(rt: &R, alloc: Global, row: &Row
     let mut folder = Folder::new(alloc, &files, step);
     let request = Request::Explore(ExploreOptions {
         input: "w",
-        states: row.states,
+        states: row.states.clamp(1, MOST_STATES),
         first: row.first,
         target: row.target,
         limits: Limits {
-            events: row.events,
+            events: row.events.clamp(1, MOST_EVENTS),
             nodes: 64,
         },
         certificate: row.certificate,
