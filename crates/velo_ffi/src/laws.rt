@@ -9,5 +9,6 @@ ghost use Rattle.velo_ffi.specs.Pieces.{LeadToEnd, joined, piece};
 /// ends with it. A piece stays the same where the log grows.
 pub fn pieces_make_the_log()
     ensures whole { (bounds : Bounds) (log : List Event) (ends : List ℕ) → LeadToEnd log 0 ends → joined bounds log 0 ends ≡ log_text bounds log }
-    ensures stays { (bounds : Bounds) (log more : List Event) (from next : ℕ) → from ≤ next → next ≤ length log → piece bounds (log ++ more) from next ≡ piece bounds log from next }
+    ensures stays { (bounds : Bounds) (log more : List Event) (from next : ℕ) → from ≤ next → next ≤ length log
+        → piece bounds (log ++ more) from next ≡ piece bounds log from next }
 {}

@@ -24,7 +24,8 @@ pub extern "C" fn velodrome_open(
     events: u32,
     nodes: u16,
 ) -> u32
-    ensures opens { Opens monitor.old.kept.watch (record { threads = threads; variables = variables; locks = locks }) events nodes result monitor.new.kept.watch }
+    ensures opens { Opens monitor.old.kept.watch (record { threads = threads; variables = variables; locks = locks })
+        events nodes result monitor.new.kept.watch }
     ensures same { result ≢ DONE → monitor.new.kept.watch ≡ monitor.old.kept.watch }
 {
     if monitor.live {

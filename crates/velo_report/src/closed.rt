@@ -24,8 +24,10 @@ fn add_thread<S: Sink>(
     thread: ThreadId,
 ) -> Result<(), WriteFault>
     requires { thread.0 < (world_of told.now).config.bounds.threads }
-    ensures ok { OnOk result (Buffers (S.contents sink.old) (S.contents sink.new) lines.old lines.new (thread_line names.now (world_of told.now).log thread.0)) }
-    ensures err { OnErr result (AppendsBeginning (S.contents sink.old) (S.contents sink.new) (lines.old ++ thread_line names.now (world_of told.now).log thread.0)) }
+    ensures ok { OnOk result (Buffers (S.contents sink.old) (S.contents sink.new)
+        lines.old lines.new (thread_line names.now (world_of told.now).log thread.0)) }
+    ensures err { OnErr result (AppendsBeginning (S.contents sink.old) (S.contents sink.new)
+        (lines.old ++ thread_line names.now (world_of told.now).log thread.0)) }
     ensures no_failure { OnOk result (S.failures sink.new ≡ S.failures sink.old) }
     ensures failure { OnErr result (S.failures sink.new ≡ with_failure (S.failures sink.old)) }
 {
@@ -55,8 +57,10 @@ fn add_threads<S: Sink>(
     names: &Names,
     told: &Told,
 ) -> Result<(), WriteFault>
-    ensures ok { OnOk result (Buffers (S.contents sink.old) (S.contents sink.new) lines.old lines.new (thread_lines names.now (world_of told.now).log (world_of told.now).config.bounds.threads)) }
-    ensures err { OnErr result (AppendsBeginning (S.contents sink.old) (S.contents sink.new) (lines.old ++ thread_lines names.now (world_of told.now).log (world_of told.now).config.bounds.threads)) }
+    ensures ok { OnOk result (Buffers (S.contents sink.old) (S.contents sink.new)
+        lines.old lines.new (thread_lines names.now (world_of told.now).log (world_of told.now).config.bounds.threads)) }
+    ensures err { OnErr result (AppendsBeginning (S.contents sink.old) (S.contents sink.new)
+        (lines.old ++ thread_lines names.now (world_of told.now).log (world_of told.now).config.bounds.threads)) }
     ensures no_failure { OnOk result (S.failures sink.new ≡ S.failures sink.old) }
     ensures failure { OnErr result (S.failures sink.new ≡ with_failure (S.failures sink.old)) }
 {
@@ -127,7 +131,8 @@ fn add_alarm<S: Sink>(
     alarm: &Alarm,
 ) -> Result<(), WriteFault>
     ensures ok { OnOk result (Buffers (S.contents sink.old) (S.contents sink.new) lines.old lines.new (verdict_lines names.now (Some alarm.now))) }
-    ensures err { OnErr result (AppendsBeginning (S.contents sink.old) (S.contents sink.new) (lines.old ++ verdict_lines names.now (Some alarm.now))) }
+    ensures err { OnErr result (AppendsBeginning (S.contents sink.old) (S.contents sink.new)
+        (lines.old ++ verdict_lines names.now (Some alarm.now))) }
     ensures no_failure { OnOk result (S.failures sink.new ≡ S.failures sink.old) }
     ensures failure { OnErr result (S.failures sink.new ≡ with_failure (S.failures sink.old)) }
 {
@@ -145,8 +150,10 @@ fn add_verdict<S: Sink>(
     names: &Names,
     alarm: Option<&Alarm>,
 ) -> Result<(), WriteFault>
-    ensures ok { OnOk result (Buffers (S.contents sink.old) (S.contents sink.new) lines.old lines.new (verdict_lines names.now (option_copied alarm.entry))) }
-    ensures err { OnErr result (AppendsBeginning (S.contents sink.old) (S.contents sink.new) (lines.old ++ verdict_lines names.now (option_copied alarm.entry))) }
+    ensures ok { OnOk result (Buffers (S.contents sink.old) (S.contents sink.new)
+        lines.old lines.new (verdict_lines names.now (option_copied alarm.entry))) }
+    ensures err { OnErr result (AppendsBeginning (S.contents sink.old) (S.contents sink.new)
+        (lines.old ++ verdict_lines names.now (option_copied alarm.entry))) }
     ensures no_failure { OnOk result (S.failures sink.new ≡ S.failures sink.old) }
     ensures failure { OnErr result (S.failures sink.new ≡ with_failure (S.failures sink.old)) }
 {
@@ -158,8 +165,10 @@ fn add_verdict<S: Sink>(
 
 /// Writes the report of a world.
 fn tell<S: Sink>(told: &Told, names: &Names, sink: &mut S) -> Result<(), WriteFault>
-    ensures ok { OnOk result (AppendsReport (S.contents sink.old) (S.contents sink.new) names.now (world_of told.now).config.bounds.threads (world_of told.now).log) }
-    ensures err { OnErr result (AppendsPartOfReport (S.contents sink.old) (S.contents sink.new) names.now (world_of told.now).config.bounds.threads (world_of told.now).log) }
+    ensures ok { OnOk result (AppendsReport (S.contents sink.old) (S.contents sink.new)
+        names.now (world_of told.now).config.bounds.threads (world_of told.now).log) }
+    ensures err { OnErr result (AppendsPartOfReport (S.contents sink.old) (S.contents sink.new)
+        names.now (world_of told.now).config.bounds.threads (world_of told.now).log) }
     ensures no_failure { OnOk result (S.failures sink.new ≡ S.failures sink.old) }
     ensures failure { OnErr result (S.failures sink.new ≡ with_failure (S.failures sink.old)) }
 {
@@ -179,7 +188,8 @@ fn tell<S: Sink>(told: &Told, names: &Names, sink: &mut S) -> Result<(), WriteFa
 /// `WriteFault` where the sink failed. A beginning of the report was written then.
 pub fn report<S: Sink>(closed: &Closed, names: &Names, sink: &mut S) -> Result<(), WriteFault>
     ensures ok { OnOk result (AppendsReport (S.contents sink.old) (S.contents sink.new) names.now closed.now.config.bounds.threads closed.now.log) }
-    ensures err { OnErr result (AppendsPartOfReport (S.contents sink.old) (S.contents sink.new) names.now closed.now.config.bounds.threads closed.now.log) }
+    ensures err { OnErr result (AppendsPartOfReport (S.contents sink.old) (S.contents sink.new)
+        names.now closed.now.config.bounds.threads closed.now.log) }
     ensures no_failure { OnOk result (S.failures sink.new ≡ S.failures sink.old) }
     ensures failure { OnErr result (S.failures sink.new ≡ with_failure (S.failures sink.old)) }
 {
@@ -192,7 +202,8 @@ pub fn report<S: Sink>(closed: &Closed, names: &Names, sink: &mut S) -> Result<(
 /// `WriteFault` where the sink failed. A beginning of the report was written then.
 pub fn report_so_far<S: Sink>(world: &World, names: &Names, sink: &mut S) -> Result<(), WriteFault>
     ensures ok { OnOk result (AppendsReport (S.contents sink.old) (S.contents sink.new) names.now world.now.config.bounds.threads world.now.log) }
-    ensures err { OnErr result (AppendsPartOfReport (S.contents sink.old) (S.contents sink.new) names.now world.now.config.bounds.threads world.now.log) }
+    ensures err { OnErr result (AppendsPartOfReport (S.contents sink.old) (S.contents sink.new)
+        names.now world.now.config.bounds.threads world.now.log) }
     ensures no_failure { OnOk result (S.failures sink.new ≡ S.failures sink.old) }
     ensures failure { OnErr result (S.failures sink.new ≡ with_failure (S.failures sink.old)) }
 {

@@ -13,5 +13,6 @@ pub fn one_schedule()
 
 /// The short text of a schedule is a text of this schedule.
 pub fn reads_back()
-    ensures { (schedule : List ThreadId) → All (λ t. t.0 < MOST_THREADS) schedule → length schedule ≤ MOST_TURNS → IsSchedule (short_text schedule) schedule }
+    ensures { (schedule : List ThreadId) → All (λ t. t.0 < MOST_THREADS) schedule
+        → length schedule ≤ MOST_TURNS → IsSchedule (short_text schedule) schedule }
 {}
