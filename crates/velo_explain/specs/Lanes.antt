@@ -26,15 +26,16 @@ among_below (suc n) numbers = if list_any (nat_eq n) numbers then among_below n 
 abbrev pub shown_of : List Event → List ℕ → List ℕ
 shown_of trace marks = among_below (length trace) marks
 
--- the thread of a position
-abbrev pub thread_at : List Event → ℕ → ℕ
-thread_at trace p = (event_at trace p).thread.0
+-- the thread that acts at a position
+abbrev pub actor_at : List Event → ℕ → ℕ
+actor_at trace p = (event_at trace p).thread.0
 
 -- the threads that have lanes, where these positions are shown. The number of a thread is a byte
 unfoldable pub lanes_of : List Event → List ℕ → List ℕ
-lanes_of trace shown = among_below 256 (map (thread_at trace) shown)
+lanes_of trace shown = among_below 256 (map (actor_at trace) shown)
 
--- how many characters a lane has: with the two spaces before each, six lanes are 72 columns wide, and fewer no more
+-- how many characters a lane has room for, where there are so many lanes. Each has two spaces before it: up to six lanes are
+-- at most 72 columns wide
 abbrev pub room_of : ℕ → ℕ
 room_of count =
     if nat_le count 2 then 34 else if nat_le count 3 then 22 else if nat_le count 4 then 16
@@ -49,12 +50,13 @@ thread_text t = codes "thread " ++ decimal t
 unfoldable pub lane_text : NameLists → ℕ → ℕ → List ℕ
 lane_text names room t = thread_text t ++ shortened (room - length (thread_text t)) (name_text (name_of names of_name.Thread t))
 
--- what is left of the lane before the k-th
+-- the spaces that fill the lane before the k-th, behind what stands over it
 unfoldable pub left_text : NameLists → List ℕ → ℕ → List ℕ
 left_text names lanes k =
     if nat_eq k 0 then []
     else spaces (room_of (length lanes) - characters (lane_text names (room_of (length lanes)) (slice_index lanes (k - 1))))
 
+-- with these before it, what stands over the k-th lane, which is that of thread t
 unfoldable pub heading_cell : NameLists → List ℕ → ℕ → ℕ → List ℕ
 heading_cell names lanes k t = left_text names lanes k ++ (codes "  " ++ lane_text names (room_of (length lanes)) t)
 
@@ -64,10 +66,11 @@ lanes_heading names lanes = codes "    line" ++ (numbered (heading_cell names la
 
 -- ---- the others
 
--- the lanes of threads with smaller numbers, each so wide, which are left blank
+-- in the row of thread t, the lane of thread u is left blank, if it stands before that of t
 abbrev pub blank_before : ℕ → ℕ → ℕ → List ℕ
 blank_before width t u = if nat_lt u t then spaces width else []
 
+-- what stands before the lane of thread t, where each lane is so wide
 abbrev pub indent_within : ℕ → ℕ → List ℕ → List ℕ
 indent_within width t lanes = flat_map (blank_before width t) lanes
 
@@ -81,7 +84,7 @@ operation_text names kind = kind_text kind ++ name_text (name_about names kind)
 -- "       4  rd 0 0"
 unfoldable pub row_text : NameLists → List Event → List ℕ → ℕ → List ℕ
 row_text names trace lanes p =
-    right_text (line_of p) ++ (indent lanes (thread_at trace p)
+    right_text (line_of p) ++ (indent lanes (actor_at trace p)
     ++ (codes "  " ++ (shortened (room_of (length lanes)) (operation_text names (event_at trace p).kind) ++ codes "\n")))
 
 -- how many lines lie between the k-th position and the one before it
@@ -101,21 +104,25 @@ step_text names trace lanes shown k p = between_text (lines_before shown k) ++ r
 
 -- ---- the picture of some positions
 
+-- with these lanes, of these positions
 abbrev pub rows_text : NameLists → List Event → List ℕ → List ℕ → List ℕ
 rows_text names trace lanes shown = lanes_heading names lanes ++ numbered (step_text names trace lanes shown) 0 shown
 
+-- with the lanes that these positions have
 abbrev pub shown_text : NameLists → List Event → List ℕ → List ℕ
 shown_text names trace shown = rows_text names trace (lanes_of trace shown) shown
 
+-- of these positions in the order of the log, each once
 abbrev pub marked_text : NameLists → List Event → List ℕ → List ℕ
 marked_text names trace marks = shown_text names trace (shown_of trace marks)
 
 -- ---- which positions are marked
 
--- the events behind the edges of the cycle
+-- the two events of an edge
 abbrev pub ends_of : EdgeEvents → List ℕ
 ends_of edge = edge.from ∷ edge.to ∷ []
 
+-- those of each edge of the cycle
 abbrev pub cycle_marks : Evidence → List ℕ
 cycle_marks evidence = flat_map ends_of evidence.edges.items
 
@@ -143,6 +150,7 @@ marks_of names trace evidence = fold (with_mark names trace) (cycle_marks eviden
 
 -- ---- the whole picture
 
+-- the cycle, with what else there is room for
 abbrev pub lanes_text : NameLists → List Event → Evidence → List ℕ
 lanes_text names trace evidence = marked_text names trace (marks_of names trace evidence)
 

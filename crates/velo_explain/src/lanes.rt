@@ -2,7 +2,7 @@
 ghost use Rattle.std.specs.Prelude.{◌≡◌, ◌≤◌, ◌<◌, ◌++◌, length, map, get_or, IfOk, OnOk, OnErr};
 ghost use Rattle.velo_events.specs.Refusals.{GrowthRefused};
 ghost use Rattle.velo_events.specs.declared.limits.TheConstants.{MOST_EVENTS};
-ghost use Rattle.velo_explain.specs.Lanes.{lanes_of, lane_text, left_text, heading_cell, lanes_heading, thread_at, indent, row_text, lines_before, between_text, step_text, rows_text, shown_text, marked_text, AreBelow};
+ghost use Rattle.velo_explain.specs.Lanes.{lanes_of, lane_text, left_text, heading_cell, lanes_heading, actor_at, indent, row_text, lines_before, between_text, step_text, rows_text, shown_text, marked_text, AreBelow};
 ghost use Rattle.velo_explain.specs.Pieces.{numbered};
 
 use crate::fitting::{add_right, add_shortened, add_spaces, characters, room_of};
@@ -16,7 +16,7 @@ use velo_names::Names;
 /// The threads of some positions.
 fn threads_of(alloc: Global, events: &[Event], shown: &[usize]) -> Result<Vec<usize>, Memory>
     requires within { AreBelow (length events.now) shown.now }
-    ensures threads { IfOk result (λ threads. threads.items ≡ map (thread_at events.now) shown.now) }
+    ensures threads { IfOk result (λ threads. threads.items ≡ map (actor_at events.now) shown.now) }
     ensures memory { OnErr result GrowthRefused }
 {
     let mut threads = Vec::new(alloc);
