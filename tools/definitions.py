@@ -34,7 +34,7 @@ PARTS = [
         "velo_chance": "Runs Tallies"}),
     ("What is told of a log", {
         "velo_report": "Names Report Alarm Certificate",
-        "velo_explain": "Evidence Text Picture",
+        "velo_explain": "Evidence Lanes Fitting Text Picture",
         "velo_watch": "Watch UnderWay"}),
     ("Which labels are not atomic", {
         "velo_thin": "Left* Thinned",

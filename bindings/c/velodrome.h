@@ -135,7 +135,7 @@ uint32_t velodrome_blamed(velodrome *monitor, velodrome_block *buffer, size_t ro
  */
 uint32_t velodrome_log(velodrome *monitor, size_t from, uint8_t *buffer, size_t room, size_t *count, size_t *next);
 
-/* The report of the events so far, and their explanation in words: the bytes that `velodrome check` and `velodrome explain`
+/* The report of the events so far, and their explanation: the bytes that `velodrome check` and `velodrome explain`
  * write for the text of the log, all of them or none. *count says how many bytes were put into the buffer, without a zero byte
  * behind them. VELODROME_TOO_SHORT where there is no room for all: *count says how many bytes it takes, and the buffer is as it
  * was. VELODROME_NO_MEMORY where memory was refused: nothing has changed. The monitor goes on after each.

@@ -84,7 +84,7 @@ fn explain<'a>(alloc: Global) -> Result<Command<'a>, Memory>
     ensures memory { OnErr result GrowthRefused }
 {
     let command = Command::new(alloc, "explain")
-        .about("Reads a recorded log and explains the verdict in words")
+        .about("Reads a recorded log and explains the verdict in lanes and words")
         .after_help(help::OF_EXPLAIN);
     let command = with_argument(command, log(alloc))?;
     let command = with_argument(command, dot(alloc))?;

@@ -133,10 +133,11 @@ Workload faults: see 'velodrome replay --help'. Refusals: see 'velodrome check -
 pub const OF_EXPLAIN: &str = "\
 Example, a lost update:
   printf 'vlog 1 2 1 0\\n0 fork 1\\n0 begin 7\\n0 rd 0 0\\n1 wr 0 5\\n0 wr 0 1\\n' | velodrome explain -
-It tells which event closes a cycle, which transactions are on the cycle, which two events stand behind each of its
-edges, which blocks are to blame and why, each with its line of the log. Of a log without an alarm it tells how many
-transactions a serial order has; there is no picture then, and OUT is not opened. With --names the words and the picture
-have names behind the numbers.
+It shows the cycle in lanes: a column for each thread, a row for each event with its line of the log, and how many lines
+lie between. Then it tells which event closes the cycle, which transactions are on it, which two events stand behind each
+of its edges, which blocks are to blame and why. Of a log without an alarm it tells how many transactions a serial order
+has; there are no lanes and no picture then, and OUT is not opened. With --names lanes, words and picture have names
+behind the numbers; what is too long for its lane ends in '..'.
 
 LOG and OUT are two files: where they are one, nothing is done to it: 'error: LOG and OUT are one file', with status 2.
 With - for LOG this is not tested.
