@@ -18,7 +18,7 @@ use Rattle.velo_moves.proofs.OnFreeStatements.{private-no_rivals, private-no_twi
 use Rattle.velo_explore.specs.declared.hold.Hold.{Hold}
 use Rattle.velo_explore.specs.declared.note.Note.{Note}
 use Rattle.velo_explore.specs.declared.notes.Notes.{Notes}
-use Rattle.velo_explore.specs.declared.notes.TheConstants.{LISTS}
+use Rattle.velo_explore.specs.declared.listing.TheConstants.{LISTS}
 use Rattle.velo_explore.specs.Free.{done_by_one, hold_after, hold_next, no_hold, SomeExcluded, IsFreeAt}
 use Rattle.velo_explore.specs.Notes.{target_of, list_of, list_at, DoesNotHinder, IsNoted, AreNoted, IsClear, IsClearBehind}
 use Rattle.velo_explore.specs.Runs.{script_of}
@@ -35,18 +35,20 @@ unfolding shares_from
 shares_from-push m had [] k = refl
 shares_from-push m had (l ∷ ks) k = shares_from-push m (shares_after m had l) ks k
 
+abbrev hold_of : Bool → Bool → Hold
+hold_of alone shared = record { alone = alone; shared = shared }
+
 -- 101. one more operation
 pub hold_after-push : (ks : List Kind) (k : Kind) (m : ℕ) → hold_after (ks ++ k ∷ []) m ≡ hold_next m (hold_after ks m) k
 hold_after-push ks k m =
-    ap (λ b. the Hold (record { alone = b; shared = shares_lock m (ks ++ k ∷ []) })) (has_from-push m false ks k)
-    ∙ ap (λ b. the Hold (record { alone = has_after m (has_lock m ks) k; shared = b })) (shares_from-push m false ks k)
+    ap (λ b. hold_of b (shares_lock m (ks ++ k ∷ []))) (has_from-push m false ks k) ∙ ap (hold_of (has_after m (has_lock m ks) k)) (shares_from-push m false ks k)
 
 pub hold_after-nil : (m : ℕ) → hold_after [] m ≡ no_hold
 unfolding has_from shares_from
 hold_after-nil m = refl
 
 -- 102. a lock that two threads can't both have keeps a rival off
-pub DoesNotHinder-by : (mine : List Hold) (k : Kind) (note : Note) → (IsTrue (are_rivals k note.kind) → SomeExcluded mine note.held.items) → IsFalse (are_twins k note.kind) → DoesNotHinder mine k note
+pub DoesNotHinder-by : (mine : List Hold) (k : Kind) (note : Note) → (IsTrue (are_rivals k note.kind) → SomeExcluded mine note.held.locks.items) → IsFalse (are_twins k note.kind) → DoesNotHinder mine k note
 DoesNotHinder-by mine k note guarded single = record {
   each = λ ours theirs here there. or_from _ _
       (false_from_ne_true _ (λ h.
@@ -54,7 +56,7 @@ DoesNotHinder-by mine k note guarded single = record {
       let w = guarded both.0 in
       let m = w.lock in
       let mine_is : slice_index_or mine m no_hold ≡ hold_after ours m = get_or-tabulated mine (hold_after ours) no_hold m here w.is_mine in
-      let theirs_is : slice_index_or note.held.items m no_hold ≡ hold_after theirs m = get_or-tabulated note.held.items (hold_after theirs) no_hold m there w.is_theirs in
+      let theirs_is : slice_index_or note.held.locks.items m no_hold ≡ hold_after theirs m = get_or-tabulated note.held.locks.items (hold_after theirs) no_hold m there w.is_theirs in
       let excluded : IsTrue (exclude m ours theirs) =
       subst (λ (x : Hold). IsTrue ((x.alone && (has_lock m theirs || shares_lock m theirs)) || (x.shared && has_lock m theirs))) mine_is
       (subst (λ (y : Hold). IsTrue (((slice_index_or mine m no_hold).alone && (y.alone || y.shared)) || ((slice_index_or mine m no_hold).shared && y.alone))) theirs_is w.both) in

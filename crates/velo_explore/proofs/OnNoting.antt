@@ -7,6 +7,7 @@ use Rattle.std.proofs.lemmas.Option.{get_or_from_slice_get, slice_get_within, sl
 use Rattle.std.proofs.Math.Seq.{get_or-append_seam}
 use Rattle.velo_events.proofs.OnTraces.{slice_get-push, slice_get-append}
 use Rattle.velo_events.specs.declared.event.Kind.{Kind}
+use Rattle.velo_events.specs.declared.event.Kind.TheVariants.{Read}
 use Rattle.velo_heap.specs.Contents.{Tabulates}
 use Rattle.velo_moves.specs.Free.{is_private}
 use Rattle.velo_explore.specs.declared.hold.Hold.{Hold}
@@ -15,6 +16,10 @@ use Rattle.velo_explore.specs.declared.notes.Notes.{Notes}
 use Rattle.velo_explore.specs.Free.{hold_after, IsMarked, IsFreeAt}
 use Rattle.velo_explore.specs.Notes.{list_of, list_at, IsAmong, IsNoted, IsClear, IsClearBehind}
 use Rattle.velo_explore.specs.Runs.{script_of}
+
+-- what a read past the end of a script would give
+abbrev pub blank_kind : Kind
+blank_kind = Read (record { 0 = 0 }) 0
 
 -- ---- one list
 
@@ -43,6 +48,17 @@ module _ {V X : Type 0} (items : V → List X) (lists : List V) where
 
   pub list-set_other : (at n : ℕ) (v : V) → n ≢ at → slice_index_or (map items (slice_set lists at v)) n [] ≡ slice_index_or (map items lists) n []
   list-set_other at n v differ = ap (λ xs. slice_index_or xs n []) (map-set items lists at v) ∙ get_or-set_other (map items lists) at n (items v) [] differ
+
+  -- what stood in a list stands there still, where the changed one has all that it had
+  pub list-kept : (at : ℕ) (old new : V) → at < length lists → old ≡ slice_index_or lists at old → ((x : X) → Contains (items old) x → Contains (items new) x) →
+      (n : ℕ) (x : X) → Contains (slice_index_or (map items lists) n []) x → Contains (slice_index_or (map items (slice_set lists at new)) n []) x
+  list-kept at old new within is kept n x there = ⊎_elim
+      (λ (same : n ≡ at).
+      subst (λ m. Contains (slice_index_or (map items (slice_set lists at new)) m []) x) (sym same)
+      (subst (λ xs. Contains xs x) (sym (list-set_same at new within))
+      (kept x (subst (λ xs. Contains xs x) (list-here at old within is) (subst (λ m. Contains (slice_index_or (map items lists) m []) x) same there)))))
+      (λ (differ : n ≢ at). subst (λ xs. Contains xs x) (sym (list-set_other at n new differ)) there)
+      (cases_eq n at)
 
   -- one more
   pub list-pushed_before : (n : ℕ) (v : V) → n < length lists → slice_index_or (map items (lists ++ v ∷ [])) n [] ≡ slice_index_or (map items lists) n []
@@ -114,12 +130,12 @@ pub marks-next : {V : Type 0} (items : V → List Bool) (scripts : List (List Ki
 marks-next items scripts free own before here t i k marked there = ⊎_elim
     (λ (earlier : t < length free). before t i k (sym (ap (λ xs. slice_get xs i) (list-pushed_before items free t own earlier)) ∙ marked) there)
     (λ (past : length free ≤ t). ⊎_elim
-        (λ (same : t ≡ length free).
-        subst (λ u. IsFreeAt scripts u i k) (sym same)
-        (here i k
-        (sym (ap (λ xs. slice_get xs i) (list-pushed_here items free own)) ∙ (ap (λ u. slice_get (slice_index_or (map items (free ++ own ∷ [])) u []) i) (sym same) ∙ marked))
-        (ap (λ u. slice_get (script_of scripts u) i) (sym same) ∙ there)))
-        (λ (differ : t ≢ length free).
-        absurd (none-some true (sym (ap (λ xs. slice_get xs i) (list-pushed_past items free t own (omega (arith, past, differ)))) ∙ marked)))
-        (cases_eq t (length free)))
+    (λ (same : t ≡ length free).
+    subst (λ u. IsFreeAt scripts u i k) (sym same)
+    (here i k
+    (sym (ap (λ xs. slice_get xs i) (list-pushed_here items free own)) ∙ (ap (λ u. slice_get (slice_index_or (map items (free ++ own ∷ [])) u []) i) (sym same) ∙ marked))
+    (ap (λ u. slice_get (script_of scripts u) i) (sym same) ∙ there)))
+    (λ (differ : t ≢ length free).
+    absurd (none-some true (sym (ap (λ xs. slice_get xs i) (list-pushed_past items free t own (omega (arith, past, differ)))) ∙ marked)))
+    (cases_eq t (length free)))
     (cases_lt t (length free))

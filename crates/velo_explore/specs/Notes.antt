@@ -10,7 +10,7 @@ use Rattle.velo_moves.specs.Scripts.{hinders}
 use Rattle.velo_explore.specs.declared.hold.Hold.{Hold}
 use Rattle.velo_explore.specs.declared.note.Note.{Note}
 use Rattle.velo_explore.specs.declared.notes.Notes.{Notes}
-use Rattle.velo_explore.specs.declared.notes.TheConstants.{LISTS}
+use Rattle.velo_explore.specs.declared.listing.TheConstants.{LISTS}
 use Rattle.velo_explore.specs.Free.{hold_after}
 use Rattle.velo_explore.specs.Runs.{script_of}
 
@@ -18,7 +18,7 @@ use Rattle.velo_explore.specs.Runs.{script_of}
 
 -- what is noted does not hinder an operation of a thread that has the locks so
 pub record DoesNotHinder (mine : List Hold) (k : Kind) (note : Note) : Type 0 where
-  pub each : (ours theirs : List Kind) → Tabulates mine (hold_after ours) → Tabulates note.held.items (hold_after theirs) → IsFalse (hinders (length mine) ours k theirs note.kind)
+  pub each : (ours theirs : List Kind) → Tabulates mine (hold_after ours) → Tabulates note.held.locks.items (hold_after theirs) → IsFalse (hinders (length mine) ours k theirs note.kind)
 
 -- ---- a list of notes
 
@@ -28,7 +28,7 @@ pub record IsAmong (list : List Note) (t : ℕ) (k : Kind) (held : List Hold) : 
   pub there : Contains list note
   pub thread : note.thread ≡ t
   pub kind : note.kind ≡ k
-  pub locks : note.held.items ≡ held
+  pub locks : note.held.locks.items ≡ held
 
 -- it has the operation of the thread, which comes behind these
 pub record IsNoted (list : List Note) (t : ℕ) (before : List Kind) (k : Kind) : Type 0 where
@@ -36,7 +36,7 @@ pub record IsNoted (list : List Note) (t : ℕ) (before : List Kind) (k : Kind) 
   pub there : Contains list note
   pub thread : note.thread ≡ t
   pub kind : note.kind ≡ k
-  pub locks : Tabulates note.held.items (hold_after before)
+  pub locks : Tabulates note.held.locks.items (hold_after before)
 
 -- ---- all of them
 

@@ -5,7 +5,7 @@ ghost use Rattle.velo_events.specs.Refusals.{GrowthRefused};
 ghost use Rattle.velo_explore.specs.Free.{AreFree, IsMarked};
 ghost use Rattle.velo_explore.specs.Notes.{IsClearBehind};
 
-use crate::held::{none_held, take_in};
+use crate::held::Held;
 use crate::notes::Notes;
 use std::alloc::Global;
 use velo_events::growth::{reserve, with_capacity};
@@ -24,12 +24,12 @@ fn clear_ones(
     ensures memory { OnErr result GrowthRefused }
 {
     let mut clear = with_capacity(alloc, script.len())?;
-    let mut held = none_held(alloc, locks)?;
+    let mut held = Held::none(alloc, locks)?;
     for place in 0..script.len() {
-        let is_clear = notes.are_clear(thread, script[place], &held);
+        let kind = script[place];
         reserve(&mut clear, 1)?;
-        clear.push_reserved(is_clear);
-        take_in(&mut held, script[place]);
+        clear.push_reserved(notes.are_clear(thread, kind, &held));
+        held.take_in(kind);
     }
     Ok(clear)
 }

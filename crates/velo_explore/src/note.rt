@@ -1,7 +1,6 @@
 ghost use Rattle.std.specs.Prelude.{◌≡◌, false};
 
-use crate::held::exclude;
-use crate::hold::Hold;
+use crate::held::Held;
 use crate::rivals::{are_rivals, are_twins};
 use velo_events::Kind;
 
@@ -10,7 +9,7 @@ use velo_events::Kind;
 pub struct Note {
     pub thread: usize,
     pub kind: Kind,
-    pub held: Vec<Hold>,
+    pub held: Held,
 }
 
 impl Note {
@@ -18,9 +17,15 @@ impl Note {
 
     /// Whether it hinders an operation of another thread that has the locks so: it is a rival and no lock keeps the threads
     /// apart, or it is a twin.
-    pub fn hinders(&self, kind: Kind, held: &[Hold]) -> bool
-        ensures { result ≡ false → DoesNotHinder held.now kind self.now }
+    pub fn hinders(&self, kind: Kind, held: &Held) -> bool
+        ensures { result ≡ false → DoesNotHinder held.now.locks.items kind self.now }
     {
-        (are_rivals(kind, self.kind) && !exclude(held, &self.held)) || are_twins(kind, self.kind)
+        if are_twins(kind, self.kind) {
+            return true;
+        }
+        if !are_rivals(kind, self.kind) {
+            return false;
+        }
+        !held.excludes(&self.held)
     }
 }

@@ -23,11 +23,11 @@ returns-clause-settles c =
     let e = c.in-May.event in
     settles_free bounds scripts before after e c.requires.plain
     (λ log run stands.
-        let w = c.in-May.ensures log run stands in
-        let index : c.done_by.result ≡ events_of log t = c.done_by.ensures log stands in
-        let due : slice_get (script_of scripts t) (events_of log t) ≡ Some e.kind = subst (λ u. slice_get (script_of scripts u) (events_of log u) ≡ Some e.kind) w.0 w.1.due in
-        let free : IsFreeAt scripts t c.done_by.result e.kind = c.is_free.ensures c.if-not-is_free.false e.kind (ap (slice_get (script_of scripts t)) index ∙ due) in
-        subst (λ u. IsFreeAt scripts u (events_of log u) e.kind) (sym w.0) (subst (λ n. IsFreeAt scripts t n e.kind) index free))
+    let w = c.in-May.ensures log run stands in
+    let index : c.done_by.result ≡ events_of log t = c.done_by.ensures log stands in
+    let due : slice_get (script_of scripts t) (events_of log t) ≡ Some e.kind = subst (λ u. slice_get (script_of scripts u) (events_of log u) ≡ Some e.kind) w.0 w.1.due in
+    let free : IsFreeAt scripts t c.done_by.result e.kind = c.is_free.ensures c.if-not-is_free.false e.kind (ap (slice_get (script_of scripts t)) index ∙ due) in
+    subst (λ u. IsFreeAt scripts u (events_of log u) e.kind) (sym w.0) (subst (λ n. IsFreeAt scripts t n e.kind) index free))
     (λ log run stands. (c.in-May.ensures log run stands).1)
     c.step.ensures.next
     (λ r. next-reached bounds scripts before after e r (c.in-May.ensures r.log r.run r.stands).1 (c.step.ensures.next r.log r.stands) c.step.ensures.bounds)
