@@ -1,6 +1,6 @@
 -- A free event may be done at once: what is not found after it is not there before it.
-use Rattle.std.proofs.Common.{◌≡◌, ℕ, ◌+◌, ◌^◌, ◌<◌, List, [], ◌∷◌, ◌++◌, length, sym, subst, arith}
-use Rattle.std.specs.Prelude.{IsTrue, slice_index_or}
+use Rattle.std.proofs.Common.{◌≡◌, ◌+◌, ◌^◌, ◌<◌, List, [], ◌∷◌, ◌++◌, length, sym, subst, arith}
+use Rattle.std.specs.Prelude.{slice_index_or}
 use Rattle.std.proofs.lemmas.Option.{slice_get_within}
 use Rattle.velo_events.specs.declared.config.Bounds.{Bounds}
 use Rattle.velo_events.specs.declared.event.Event.{Event}
@@ -20,7 +20,7 @@ use Rattle.velo_explore.specs.Faults.{Fault, Cycle, Stuck, Refusing, IsFault}
 use Rattle.velo_explore.specs.Runs.{script_of, IsRunOf, IsNext, Never}
 use Rattle.velo_explore.specs.States.{IsStateOf}
 use Rattle.velo_explore.specs.Free.{IsFreeAt}
-use Rattle.velo_explore.specs.Search.{ArePlain, AreShort, IsReached, IsClean, Settles}
+use Rattle.velo_explore.specs.Search.{ArePlain, AreShort, IsReached, Settles}
 use Rattle.velo_explore.proofs.OnRuns.{IsRunOf-next}
 use Rattle.velo_explore.proofs.OnRunsOfScripts.{DoesScript, wants_by, IsProgram-scripts, AreWanted-scripts, IsLog-run, IsFree-at}
 use Rattle.velo_explore.proofs.OnWanted.{AreKnown, known-run, searched-stuck, searched-refused, wanted-stuck, wanted-refused}

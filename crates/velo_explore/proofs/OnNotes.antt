@@ -1,16 +1,14 @@
 -- What is noted of all operations tells which are free.
-use Rattle.std.proofs.Common.{◌≡◌, ◌≢◌, ℕ, ◌+◌, ◌*◌, ◌%◌, ◌<◌, Bool, true, false, not, List, [], ◌∷◌, ◌++◌, length, take, Option, Some, None, refl, sym, ap, ◌∙◌, subst, ⊎_elim}
-use Rattle.std.specs.Prelude.{◌==◌, ◌&&◌, ◌||◌, ◌⊎◌, if◌then◌else◌, nat_le, slice_get, slice_index_or, Contains, IsTrue, IsFalse}
+use Rattle.std.proofs.Common.{◌≡◌, ◌≢◌, ℕ, ◌+◌, ◌*◌, ◌%◌, Bool, true, false, not, List, [], ◌∷◌, ◌++◌, length, take, Option, Some, None, refl, sym, ap, ◌∙◌, subst, ⊎_elim}
+use Rattle.std.specs.Prelude.{◌&&◌, ◌||◌, if◌then◌else◌, slice_get, slice_index_or, Contains, IsTrue, IsFalse}
 use Rattle.std.specs.Option.{option_map_or}
-use Rattle.std.proofs.lemmas.Bool.{cases_Bool, and_right, and_from, and_parts, or_cases, or_from, not_from_false, eqb-true, eq-eqb, false≢true, false_from_ne_true, both_ways}
+use Rattle.std.proofs.lemmas.Bool.{cases_Bool, and_parts, or_cases, or_from, not_from_false, eqb-true, eq-eqb, false≢true, false_from_ne_true, both_ways}
 use Rattle.velo_events.specs.declared.event.Access.{Access}
 use Rattle.velo_events.specs.declared.event.Access.TheVariants.{Shared, Exclusive, Nothing}
 use Rattle.velo_events.specs.declared.event.Kind.{Kind}
-use Rattle.velo_events.specs.declared.event.Kind.TheVariants.{Read, Write, Acquire, Release, AcquireShared, ReleaseShared, Begin, End, Fork, Join, Exit}
-use Rattle.velo_events.specs.Event.{are_same, access_of, cell_of, is_exclusive, forked_of, joined_of, forked_by, joined_by}
-use Rattle.velo_events.specs.Block.{any_below}
+use Rattle.velo_events.specs.declared.event.Kind.TheVariants.{Release, ReleaseShared, Begin, End, Exit}
+use Rattle.velo_events.specs.Event.{are_same, access_of, cell_of, forked_of, joined_of, forked_by, joined_by}
 use Rattle.velo_events.proofs.OnBlocks.{any_below-at, any_below-some}
-use Rattle.velo_heap.specs.Contents.{Tabulates}
 use Rattle.velo_heap.proofs.OnTables.{get_or-tabulated}
 use Rattle.velo_moves.specs.Free.{gives_up, do_clash, are_rivals, are_twins, is_private}
 use Rattle.velo_moves.specs.Scripts.{has_after, has_from, has_lock, shares_after, shares_from, shares_lock, exclude, hinders, is_free}
@@ -20,7 +18,7 @@ use Rattle.velo_explore.specs.declared.note.Note.{Note}
 use Rattle.velo_explore.specs.declared.notes.Notes.{Notes}
 use Rattle.velo_explore.specs.declared.listing.TheConstants.{LISTS}
 use Rattle.velo_explore.specs.Free.{done_by_one, hold_after, hold_next, no_hold, SomeExcluded, IsFreeAt}
-use Rattle.velo_explore.specs.Notes.{target_of, list_of, list_at, DoesNotHinder, IsNoted, AreNoted, IsClear, IsClearBehind}
+use Rattle.velo_explore.specs.Notes.{target_of, list_of, list_at, DoesNotHinder, AreNoted, IsClearBehind}
 use Rattle.velo_explore.specs.Runs.{script_of}
 
 -- ---- locks

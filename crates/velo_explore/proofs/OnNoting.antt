@@ -1,20 +1,19 @@
 -- Notes, and what is free, as they are made one operation and one thread after another.
-use Rattle.std.proofs.Common.{◌≡◌, ◌≢◌, ℕ, ◌+◌, ◌<◌, ◌≤◌, Bool, true, false, List, [], ◌∷◌, ◌++◌, length, length-append, take, map, Option, Some, None, refl, sym, ap, ◌∙◌, subst, arith, ⊎_elim, get_or-set_same, get_or-set_other}
+use Rattle.std.proofs.Common.{◌≡◌, ◌≢◌, ℕ, ◌+◌, ◌<◌, ◌≤◌, Bool, true, List, [], ◌∷◌, ◌++◌, length, length-append, take, map, Some, sym, ap, ◌∙◌, subst, arith, ⊎_elim, get_or-set_same, get_or-set_other}
 use Rattle.std.specs.Prelude.{slice_get, slice_index_or, slice_set, Contains}
 use Rattle.std.proofs.lemmas.Bool.{cases_lt, cases_eq}
-use Rattle.std.proofs.lemmas.List.{get_or-map, get_or_past, get_or_default, get_or_append_left, length-map, map-append, map-set, take_more}
-use Rattle.std.proofs.lemmas.Option.{get_or_from_slice_get, slice_get_within, slice_get-get_or, slice_get_past, same_Some, none-some}
+use Rattle.std.proofs.lemmas.List.{get_or-map, get_or_past, get_or_append_left, length-map, map-append, map-set, take_more}
+use Rattle.std.proofs.lemmas.Option.{slice_get_within, slice_get-get_or, same_Some, none-some}
 use Rattle.std.proofs.Math.Seq.{get_or-append_seam}
 use Rattle.velo_events.proofs.OnTraces.{slice_get-push, slice_get-append}
 use Rattle.velo_events.specs.declared.event.Kind.{Kind}
 use Rattle.velo_events.specs.declared.event.Kind.TheVariants.{Read}
 use Rattle.velo_heap.specs.Contents.{Tabulates}
-use Rattle.velo_moves.specs.Free.{is_private}
 use Rattle.velo_explore.specs.declared.hold.Hold.{Hold}
 use Rattle.velo_explore.specs.declared.note.Note.{Note}
 use Rattle.velo_explore.specs.declared.notes.Notes.{Notes}
 use Rattle.velo_explore.specs.Free.{hold_after, IsMarked, IsFreeAt}
-use Rattle.velo_explore.specs.Notes.{list_of, list_at, IsAmong, IsNoted, IsClear, IsClearBehind}
+use Rattle.velo_explore.specs.Notes.{IsAmong, IsNoted, IsClearBehind}
 use Rattle.velo_explore.specs.Runs.{script_of}
 
 -- what a read past the end of a script would give

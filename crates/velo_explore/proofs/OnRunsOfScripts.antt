@@ -23,7 +23,6 @@ use Rattle.velo_events.proofs.OnTraces.{slice_get-push, slice_get-take, slice_ge
 use Rattle.velo_explore.specs.Plain.{plain_kind}
 use Rattle.velo_explore.specs.Free.{done_by_one, IsFreeAt}
 use Rattle.velo_explore.specs.Runs.{script_of, IsRunOf, IsNext}
-use Rattle.velo_explore.proofs.OnRuns.{IsRunOf-next}
 use Rattle.velo_moves.specs.Programs.{own, IsProgram, IsLog}
 use Rattle.velo_moves.specs.Free.{IsFree}
 use Rattle.velo_moves.specs.Wants.{AreWanted}

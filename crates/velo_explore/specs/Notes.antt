@@ -1,5 +1,5 @@
 -- The operations that may hinder others, as they are noted.
-use Rattle.std.specs.Prelude.{◌≡◌, ◌≢◌, ◌⊎◌, ℕ, ◌+◌, ◌*◌, ◌%◌, Bool, false, List, [], length, take, map, slice_get, slice_index_or, Some, Contains, IsTrue, IsFalse}
+use Rattle.std.specs.Prelude.{◌≡◌, ◌≢◌, ◌⊎◌, ℕ, ◌+◌, ◌*◌, ◌%◌, false, List, [], length, take, map, slice_get, slice_index_or, Some, Contains, IsTrue, IsFalse}
 use Rattle.velo_events.specs.declared.event.Access.{Access}
 use Rattle.velo_events.specs.declared.event.Access.TheVariants.{Shared, Exclusive, Nothing}
 use Rattle.velo_events.specs.declared.event.Kind.{Kind}

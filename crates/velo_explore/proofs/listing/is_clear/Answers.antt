@@ -1,5 +1,5 @@
 use Rattle.std.proofs.Common.{◌<◌, length, arith, rules}
-use Rattle.std.specs.Prelude.{◌≢◌, All}
+use Rattle.std.specs.Prelude.{◌≢◌}
 use Rattle.std.proofs.lemmas.List.Elements.{All-contains}
 use Rattle.velo_explore.specs.declared.note.Note.{Note}
 use Rattle.velo_explore.specs.Notes.{DoesNotHinder}

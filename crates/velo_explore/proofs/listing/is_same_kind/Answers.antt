@@ -1,6 +1,5 @@
-use Rattle.std.proofs.Common.{true, refl, sym, ◌≡◌, ◌∙◌}
+use Rattle.std.proofs.Common.{refl, sym, ◌∙◌}
 use Rattle.std.proofs.lemmas.Bool.{and_parts, eqb-true, false≢true}
-use Rattle.velo_events.specs.declared.event.Kind.{Kind}
 use Rattle.velo_events.specs.declared.event.Kind.TheVariants.{Read, Write, Acquire, Release, AcquireShared, ReleaseShared, Begin, End, Fork, Join, Exit}
 use Rattle.velo_heap.proofs.OnSameness.{Tells}
 use Rattle.velo_events.specs.contracts.event.KindPartialEq.TheImpl as of_kind

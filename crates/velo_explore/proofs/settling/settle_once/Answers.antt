@@ -4,7 +4,7 @@ use Rattle.velo_events.specs.Tally.{events_of}
 use Rattle.velo_heap.specs.Contents.{bounds_of}
 use Rattle.velo_explore.specs.Free.{IsFreeAt}
 use Rattle.velo_explore.specs.Runs.{script_of}
-use Rattle.velo_explore.proofs.OnFreeEvents.{settles_same, settles_free, next-reached, counted-next}
+use Rattle.velo_explore.proofs.OnFreeEvents.{settles_free, next-reached, counted-next}
 use Rattle.velo_explore.proofs.settling.settle_once.Goals as goal
 
 pub step-requires-clause-room : goal.step-requires-clause-room

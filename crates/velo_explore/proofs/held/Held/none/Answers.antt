@@ -1,7 +1,7 @@
 use Rattle.std.proofs.Common.{[], sym, ◌∙◌, subst}
 use Rattle.velo_heap.specs.Contents.{Tabulates}
 use Rattle.velo_heap.proofs.OnTables.{Tabulates-replicate}
-use Rattle.velo_explore.specs.Free.{hold_after, no_hold}
+use Rattle.velo_explore.specs.Free.{hold_after}
 use Rattle.velo_explore.proofs.OnNotes.{hold_after-nil}
 use Rattle.velo_explore.proofs.held.Held.none.Goals as goal
 

@@ -1,4 +1,4 @@
-use Rattle.std.proofs.Common.{◌≡◌, ◌+◌, ◌<◌, length, slice_index_or, rules, ap, ◌∙◌}
+use Rattle.std.proofs.Common.{◌≡◌, ◌<◌, length, slice_index_or, rules, ap, ◌∙◌}
 use Rattle.std.proofs.lemmas.List.{length-set, get_or_default}
 use Rattle.velo_explore.specs.Free.{hold_next, no_hold}
 use Rattle.velo_explore.proofs.OnHolds.{done-next, left-next, Tabulates-taken}
