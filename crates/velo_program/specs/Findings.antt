@@ -1,16 +1,17 @@
 -- Words of the contracts of an exploration within the crate: how far each step has come.
-use Rattle.std.specs.Prelude.{◌≡◌, ◌⊎◌, ◌++◌, ◌∷◌, [], ⊤, ℕ, Bool, false, List, decimal, Option, Some, None, Result, Ok, Err}
+use Rattle.std.specs.Prelude.{◌≡◌, ◌⊎◌, ◌++◌, ◌∷◌, [], ⊤, ℕ, Bool, false, List, Option, Some, None, Result, Ok, Err}
 use Rattle.std.specs.Borrow.{Bor}
+use Rattle.std.specs.Global.{Vec}
 use Rattle.velo_events.specs.declared.config.Config.{Config}
 use Rattle.velo_events.specs.declared.event.ThreadId.{ThreadId}
 use Rattle.velo_events.specs.Graph.{HasCycle}
 use Rattle.velo_events.specs.Refusals.{GrowthRefused}
 use Rattle.velo_report.specs.declared.names.Names.{Names}
-use Rattle.velo_schedules.specs.declared.exploration.Exploration.{Exploration}
 use Rattle.velo_schedules.specs.declared.finding.Finding.{Finding}
 use Rattle.velo_schedules.specs.declared.finding.Finding.TheVariants.{Shown, Never, Open}
 use Rattle.velo_schedules.specs.declared.finding.RefusalFinding.{RefusalFinding}
 use Rattle.velo_schedules.specs.declared.finding.RefusalFinding.TheVariants as refusals
+use Rattle.velo_schedules.specs.declared.finding.RefusedRun.{RefusedRun}
 use Rattle.velo_worker.specs.declared.ending.Ending.{Ending}
 use Rattle.velo_worker.specs.declared.ending.Ending.TheVariants.{Refused, Stuck}
 use Rattle.velo_worker.specs.Causes.{EndsByGrowth}
@@ -20,10 +21,13 @@ use Rattle.velo_world.specs.World.{WorldState}
 use Rattle.velo_program.specs.declared.fate.Fate.{Fate}
 use Rattle.velo_program.specs.declared.fate.Fate.TheVariants as fate
 use Rattle.velo_program.specs.declared.request.ExploreOptions.{ExploreOptions}
+use Rattle.velo_program.specs.declared.told.Found.{Found}
+use Rattle.velo_program.specs.declared.told.Told.{Told}
+use Rattle.velo_program.specs.ByChance.{IsSayableFinding, IsSayableRefusal}
 use Rattle.velo_program.specs.Check.{IsOutputOf}
 use Rattle.velo_program.specs.Delivery.{Answer, FailsToSave, IsDelivered, LacksMemory, Saves, SavesPart}
 use Rattle.velo_program.specs.Disk.{Store}
-use Rattle.velo_program.specs.Exploring.{IsExplorationOf, IsExplored, IsFirstReplay, IsSayableFinding, IsSayableRefusal, exploration_text, fate_of_exploration, schedule_of}
+use Rattle.velo_program.specs.Exploring.{IsExplored, IsFirstReplay, fate_of_told, schedule_of, told_text}
 use Rattle.velo_program.specs.Playing.{AreNamesOf, is_unreported, text_of_log}
 use Rattle.velo_program.specs.Steps.{HasAlarm}
 use Rattle.velo_program.specs.Writing.{BreaksOff, Delivers, Writes, WritesNothing, Writing}
@@ -40,6 +44,15 @@ abbrev pub IsRefusalSaidFor : RefusalFinding → RefusalFinding → Type 0
 IsRefusalSaidFor finding said =
     (IsSayableRefusal finding × (said ≡ finding))
     ⊎ ((¬ IsSayableRefusal finding) × (said ≡ refusals.Open))
+
+-- it is shown by the schedule, if there is one
+abbrev pub shown_or_never : Option (Vec ThreadId) → Finding
+shown_or_never (Some schedule) = Shown schedule
+shown_or_never None = Never
+
+abbrev pub refused_or_never : Option RefusedRun → RefusalFinding
+refused_or_never (Some run) = refusals.Shown run
+refused_or_never None = refusals.Never
 
 -- ---- replays
 
@@ -81,16 +94,24 @@ abbrev pub IsUnshown : Finding → Type 0
 IsUnshown (Shown schedule) = ⊥
 IsUnshown finding = ⊤
 
--- what the one tells of the program, if it is so, the other does
-abbrev pub IsNoMoreThan : Program → Config → Exploration → Exploration → Type 0
-IsNoMoreThan program config x y =
-    (most : ℕ) → IsExplorationOf program config most x → IsExplorationOf program config most y
+-- the one, or what is left of it where it is not shown
+abbrev pub IsNoMore : Finding → Finding → Type 0
+IsNoMore one other = (other ≡ one) ⊎ (other ≡ unshown one)
+
+abbrev pub IsNoMoreRefusal : RefusalFinding → RefusalFinding → Type 0
+IsNoMoreRefusal one other = (other ≡ one) ⊎ (other ≡ unshown_refusal one)
+
+-- the other tells no more than the one
+pub record TellsNoMore (one other : Found) : Type 0 where
+  pub alarm : IsNoMore one.alarm other.alarm
+  pub stuck : IsNoMore one.stuck other.stuck
+  pub refused : IsNoMoreRefusal one.refused other.refused
 
 -- the replay of the first finding, if there is one
-abbrev pub IsRunOfFirst : Program → Config → Exploration → Option (WorldState × Ending) → Type 0
-IsRunOfFirst program config x None = schedule_of x ≡ None
-IsRunOfFirst program config x (Some run) =
-    IsFirstReplay program config x run.1 run.0 × HasAlarm run.0.log
+abbrev pub IsRunOfFirst : Program → Config → Found → Option (WorldState × Ending) → Type 0
+IsRunOfFirst program config found None = schedule_of found ≡ None
+IsRunOfFirst program config found (Some run) =
+    IsFirstReplay program config found run.1 run.0 × HasAlarm run.0.log
 
 -- ---- what goes out
 
@@ -145,15 +166,15 @@ abbrev pub fate_behind : {X : Type 0} → Fate → Result X Fate → Fate
 fate_behind f (Ok x) = f
 fate_behind f (Err other) = other
 
--- what telling an exploration and the replay, if there is one, came to
-abbrev pub TellsFindings : ExploreOptions → Program → Exploration → Option (WorldState × Ending)
+-- what telling of the schedules and the replay, if there is one, came to
+abbrev pub TellsFindings : ExploreOptions → Program → Told → Option (WorldState × Ending)
     → Store → Writing → Fate → Type 0
-TellsFindings options program x run store stdout f =
+TellsFindings options program told run store stdout f =
     (GrowthRefused × (f ≡ fate.Memory) × store.is_kept × WritesNothing stdout)
-    ⊎ ((told : Result ⊤ Fate)
-    × TellsRun program (exploration_text program x) options.certificate run
-    store options.target stdout told
-    × (f ≡ fate_behind (fate_of_exploration x) told))
+    ⊎ ((out : Result ⊤ Fate)
+    × TellsRun program (told_text program told) options.certificate run
+    store options.target stdout out
+    × (f ≡ fate_behind (fate_of_told told) out))
 
 -- what exploring a workload came to
 abbrev pub Explores : ExploreOptions → Program → Store → Writing → Fate → Type 0

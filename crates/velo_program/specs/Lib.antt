@@ -1,4 +1,5 @@
 pub mod Auditing
+pub mod ByChance
 pub mod Carrying
 pub mod Causes
 pub mod Check

@@ -2,24 +2,26 @@
 ghost use Rattle.std.specs.Prelude.{◌≡◌, IfSome, is_some};
 ghost use Rattle.velo_program.specs.Check.{IsOrderOrCycle};
 ghost use Rattle.velo_program.specs.Disk.{store};
-ghost use Rattle.velo_program.specs.Exploring.{fate_of_exploration, run_of};
+ghost use Rattle.velo_program.specs.Exploring.{IsToldOf, fate_of_found, run_of};
 ghost use Rattle.velo_program.specs.Findings.{Explores, ReportsOrLacks, TellsFindings, TellsReplay, TellsRun, WritesBehind, fate_of_refusal, fate_without_alarm};
+ghost use Rattle.velo_program.specs.Playing.{IsConfigOf};
 ghost use Rattle.velo_program.specs.Program.{DoesExplore};
 ghost use Rattle.velo_program.specs.Steps.{HasAlarm};
 ghost use Rattle.velo_program.specs.Writing.{writing};
 
 use crate::check::{order_or_cycle_of, write_output};
-use crate::exploration_text::text_of_exploration;
+use crate::exploration_text::text_of_told;
 use crate::fate::Fate;
 use crate::files::Files;
-use crate::findings::findings_of;
+use crate::findings::{first_replay, told_of};
 use crate::request::{ExploreOptions, RunOptions};
+use crate::told::{Found, Told};
 use crate::work::{config_of_run, open_workload, save_log};
 use std::alloc::Global;
-use velo_events::Memory;
+use velo_events::{Config, Memory};
 use velo_logtext::{Sink, WriteFault, write_all};
 use velo_report::Names;
-use velo_schedules::{Exploration, Finding, RefusalFinding};
+use velo_schedules::{Finding, RefusalFinding};
 use velo_worker::Ending;
 use velo_workload::Workload;
 use velo_world::Closed;
@@ -65,21 +67,21 @@ fn fate_without_alarm(stuck: &Finding, refused: &RefusalFinding, otherwise: Fate
     }
 }
 
-/// What an exploration comes to.
-fn fate_of(exploration: &Exploration) -> Fate
-    ensures { result ≡ fate_of_exploration exploration.now }
+/// What the findings come to.
+fn fate_of(found: &Found) -> Fate
+    ensures { result ≡ fate_of_found found.now }
 {
     let clean = Fate::Finished {
         ending: Ending::Done,
         alarm: false,
     };
-    match &exploration.alarm {
+    match &found.alarm {
         Finding::Shown(_) => Fate::Finished {
             ending: Ending::Done,
             alarm: true,
         },
-        Finding::Never => fate_without_alarm(&exploration.stuck, &exploration.refused, clean),
-        Finding::Open => fate_without_alarm(&exploration.stuck, &exploration.refused, Fate::Open),
+        Finding::Never => fate_without_alarm(&found.stuck, &found.refused, clean),
+        Finding::Open => fate_without_alarm(&found.stuck, &found.refused, Fate::Open),
     }
 }
 
@@ -184,32 +186,68 @@ fn tell<F: Files, O: Sink>(
     }
 }
 
-/// Writes what an exploration of a workload found, and behind it what a replay shows, if there is one.
+/// Writes what is told of the schedules of a workload, and behind it what a replay shows, if there is one.
 fn tell_findings<F: Files, O: Sink>(
     alloc: Global,
     workload: &Workload,
-    found: &Exploration,
+    told: &Told,
     run: &Option<(Closed, Ending)>,
     options: &ExploreOptions,
     files: &mut F,
     out: &mut O,
 ) -> Fate
     requires { IfSome run.now (λ run. HasAlarm run.0.log) }
-    ensures { TellsFindings options.now workload.now found.now run.now
+    ensures { TellsFindings options.now workload.now told.now run.now
         (store F.disk files.old files.new)
         (writing O.contents O.failures out.old out.new) result }
 {
-    let text = match text_of_exploration(alloc, workload, found) {
+    let text = match text_of_told(alloc, workload, told) {
         Ok(text) => text,
         Err(Memory) => return Fate::Memory,
     };
     match tell(alloc, workload, run, &text, options, files, out) {
-        Ok(()) => fate_of(found),
+        Ok(()) => fate_of(&told.found),
         Err(fate) => fate,
     }
 }
 
-/// Tries every schedule of a workload, and writes what they come to.
+/// Replays what is told first, and writes what is told, and behind it what the replay shows.
+fn show_told<F: Files, O: Sink>(
+    alloc: Global,
+    workload: &Workload,
+    config: Config,
+    told: Told,
+    options: &ExploreOptions,
+    files: &mut F,
+    out: &mut O,
+) -> Fate
+    requires bounds { config.bounds ≡ workload.now.bounds }
+    requires configured { IsConfigOf workload.now (run_of options.now) config }
+    requires told { IsToldOf workload.now config options.now told }
+    ensures { Explores options.now workload.now (store F.disk files.old files.new)
+        (writing O.contents O.failures out.old out.new) result }
+{
+    let Told {
+        tried,
+        found,
+        blame,
+    } = told;
+    match first_replay(alloc, workload, config, found) {
+        Ok((found, run)) => {
+            let told = Told {
+                tried,
+                found,
+                blame,
+            };
+            let fate = tell_findings(alloc, workload, &told, &run, options, files, out);
+            drop((told, run));
+            fate
+        }
+        Err(Memory) => Fate::Memory,
+    }
+}
+
+/// Tries the schedules of a workload, and writes what they come to.
 fn explore_workload<F: Files, O: Sink>(
     alloc: Global,
     workload: &Workload,
@@ -221,17 +259,13 @@ fn explore_workload<F: Files, O: Sink>(
         (writing O.contents O.failures out.old out.new) result }
 {
     let config = config_of_run(workload, &run_of(options));
-    match findings_of(alloc, workload, options.states, options.first, config) {
-        Ok((found, run)) => {
-            let fate = tell_findings(alloc, workload, &found, &run, options, files, out);
-            drop((found, run));
-            fate
-        }
+    match told_of(alloc, workload, options, config) {
+        Ok(told) => show_told(alloc, workload, config, told, options, files, out),
         Err(Memory) => Fate::Memory,
     }
 }
 
-/// Tries every schedule of the workload that was asked for, and writes what they come to.
+/// Tries the schedules of the workload that was asked for, and writes what they come to.
 pub fn explore_file<F: Files, O: Sink>(
     alloc: Global,
     options: &ExploreOptions,

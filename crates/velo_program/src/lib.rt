@@ -2,6 +2,7 @@
 #![tactic(auto)]
 
 mod auditing;
+mod blaming;
 mod carrying;
 mod check;
 mod doing;
@@ -19,9 +20,11 @@ mod replaying;
 mod request;
 mod running;
 pub mod status;
+mod told;
 mod watching;
 mod work;
 
+pub use blaming::MOST_BLAMING;
 pub use carrying::{CarryFault, carry_run};
 pub use check::{
     CheckFault, Verdict, check_run, config_of, do_log, order_or_cycle_of, write_output,

@@ -1,13 +1,13 @@
 //! Runs by chance.
 use std::alloc::Global;
-use velo_chance::{Blamed, Chance, DEFAULT_SEED, try_by_chance};
+use velo_chance::{Blamed, Tally, DEFAULT_SEED, try_by_chance};
 use velo_events::Config;
 use velo_shrink::{Goal, MOST_TRIES, shrink};
 use velo_turns::append_turns;
 use velo_workload::parse;
 
 /// What so many runs of a workload come to.
-fn tried(alloc: Global, text: &str, runs: u64, seed: u64) -> Option<Chance> {
+fn tried(alloc: Global, text: &str, runs: u64, seed: u64) -> Option<Tally> {
     let workload = parse(alloc, text).ok()?;
     let config = Config::new(1, workload.bounds(), 100_000, 64, false).ok()?;
     try_by_chance(alloc, &workload, runs, seed, config).ok()
@@ -25,14 +25,14 @@ struct Findings {
 }
 
 fn findings_of(alloc: Global, text: &str, runs: u64, seed: u64) -> Option<Findings> {
-    let chance = tried(alloc, text, runs, seed)?;
+    let tally = tried(alloc, text, runs, seed)?;
     Some(Findings {
-        runs: chance.runs,
-        some_alarms: chance.alarms > 0,
-        all_alarms: chance.alarms == runs,
-        alarm: chance.alarm.is_some(),
-        stuck: chance.stuck.is_some(),
-        refused: chance.refused.is_some(),
+        runs: tally.runs,
+        some_alarms: tally.alarms > 0,
+        all_alarms: tally.alarms == runs,
+        alarm: tally.alarm.is_some(),
+        stuck: tally.stuck.is_some(),
+        refused: tally.refused.is_some(),
     })
 }
 
@@ -43,11 +43,11 @@ fn first_alarm(
     runs: u64,
     seed: u64,
 ) -> Option<(Vec<u8>, u64, Vec<Blamed>)> {
-    let chance = tried(alloc, text, runs, seed)?;
-    let schedule = chance.alarm?;
+    let tally = tried(alloc, text, runs, seed)?;
+    let schedule = tally.alarm?;
     let mut short = Vec::new(alloc);
     append_turns(&mut short, &schedule).ok()?;
-    Some((short, chance.alarms, chance.blamed))
+    Some((short, tally.alarms, tally.blamed))
 }
 
 /// Whether two seeds lead to the same first alarm, and to the same counts.
@@ -67,7 +67,7 @@ fn words(text: &[u8]) -> usize {
 fn simple(alloc: Global, text: &str) -> Option<Vec<u8>> {
     let workload = parse(alloc, text).ok()?;
     let config = Config::new(1, workload.bounds(), 100_000, 64, false).ok()?;
-    let Chance { alarm, .. } = try_by_chance(alloc, &workload, 50, DEFAULT_SEED, config).ok()?;
+    let Tally { alarm, .. } = try_by_chance(alloc, &workload, 50, DEFAULT_SEED, config).ok()?;
     match alarm {
         Some(schedule) => {
             let turns = shrink(alloc, &workload, Goal::Alarm, schedule, MOST_TRIES, config).ok()?;
