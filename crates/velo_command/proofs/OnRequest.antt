@@ -93,6 +93,7 @@ a_run rows word has =
         input = a_path word.0;
         stop = is_true (one_of (codes "stop") rows);
         target = a_path_if (first_of (codes "log") rows);
+        names_target = None;
         limits = limits.0;
         certificate = is_true (one_of (codes "certificate") rows);
       },
@@ -139,8 +140,11 @@ an_exploring rows word has_states has =
         states = states;
         first = is_true (one_of (codes "first") rows);
         target = a_path_if (first_of (codes "log") rows);
+        names_target = None;
         limits = limits.0;
         certificate = is_true (one_of (codes "certificate") rows);
+        progress = false;
+        random = None;
         some_state = has_states.2.1;
         few_states = few_states;
       },

@@ -67,6 +67,7 @@ fn run_options<'a>(found: &ArgMatches<'a>) -> Option<RunOptions<'a>>
         input: found.get_str("FILE")?,
         stop: found.get_flag("stop"),
         target: found.get_str("log"),
+        names_target: None,
         limits: limits_of(found)?,
         certificate: found.get_flag("certificate"),
     })
@@ -119,8 +120,11 @@ fn explore_options<'a>(found: &ArgMatches<'a>) -> Option<ExploreOptions<'a>>
         states: states_of(found)?,
         first: found.get_flag("first"),
         target: found.get_str("log"),
+        names_target: None,
         limits: limits_of(found)?,
         certificate: found.get_flag("certificate"),
+        progress: false,
+        random: None,
     })
 }
 

@@ -179,6 +179,7 @@ run_of options =
       input = options.input;
       stop = false;
       target = options.target;
+      names_target = options.names_target;
       limits = options.limits;
       certificate = options.certificate;
     }

@@ -34,6 +34,7 @@ fn run_of<'a>(options: &ExploreOptions<'a>) -> RunOptions<'a>
         input: options.input,
         stop: false,
         target: options.target,
+        names_target: options.names_target,
         limits: options.limits,
         certificate: options.certificate,
     }

@@ -34,6 +34,6 @@ pub use fate::{Fate, end_line, end_with};
 pub use files::Files;
 pub use request::{
     AuditOptions, CarryOptions, CheckOptions, ExplainOptions, ExploreOptions, Ignorable, Limits,
-    MOST_STATES, Operand, ReplayOptions, Request, RunOptions, WatchOptions,
+    MOST_RUNS, MOST_STATES, Operand, RandomRuns, ReplayOptions, Request, RunOptions, WatchOptions,
 };
 pub use velo_turns::{MOST_TURNS, ScheduleFault, schedule_of};

@@ -185,11 +185,14 @@ fn explore_it<R: Threads + Wait + Abort + Sync>(rt: &R, alloc: Global, row: &Row
         states: row.states.clamp(1, MOST_STATES),
         first: row.first,
         target: row.target,
+        names_target: None,
         limits: Limits {
             events: row.events.clamp(1, MOST_EVENTS),
             nodes: 64,
         },
         certificate: row.certificate,
+        progress: false,
+        random: None,
     });
     let mut out = Text::new(alloc);
     let mut err = Text::new(alloc);
