@@ -16,7 +16,7 @@ use crate::work::is_unreported;
 use std::alloc::Global;
 use velo_chance::{Tally, explore_by_chance};
 use velo_events::{Config, MOST_THREADS, Memory, ThreadId};
-use velo_schedules::{Exploration, Finding, RefusalFinding, RefusedRun, explore};
+use velo_schedules::{Exploration, Finding, Quiet, RefusalFinding, RefusedRun, explore};
 use velo_shrink::shrink_told;
 use velo_turns::MOST_TURNS;
 use velo_worker::{Ending, replay};
@@ -88,7 +88,14 @@ fn explore_all(
     ensures memory { OnErr result GrowthRefused }
 {
     let most_states = u64::from(options.states);
-    let found = explore(alloc, workload, most_states, options.first, config)?;
+    let found = explore(
+        alloc,
+        workload,
+        most_states,
+        options.first,
+        config,
+        &mut Quiet,
+    )?;
     let blame = blame_of(alloc, workload, &found.alarms, options.first, config)?;
     let Exploration {
         events,
