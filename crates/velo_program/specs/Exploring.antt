@@ -4,6 +4,7 @@ use Rattle.std.specs.List.{flat_map}
 use Rattle.std.specs.Option.{option_map_or}
 use Rattle.velo_chance.specs.declared.tally.Blamed.{Blamed}
 use Rattle.velo_events.specs.declared.config.Config.{Config}
+use Rattle.velo_events.specs.declared.event.Event.{Event}
 use Rattle.velo_events.specs.declared.event.ThreadId.{ThreadId}
 use Rattle.velo_events.specs.Graph.{HasCycle}
 use Rattle.velo_report.specs.declared.names.Names.{Names}
@@ -13,6 +14,7 @@ use Rattle.velo_schedules.specs.declared.finding.RefusalFinding.{RefusalFinding}
 use Rattle.velo_schedules.specs.declared.finding.RefusalFinding.TheVariants as refusals
 use Rattle.velo_schedules.specs.declared.finding.RefusedRun.{RefusedRun}
 use Rattle.velo_schedules.specs.Told.{AlarmTold, RefusalTold, StuckTold}
+use Rattle.velo_waits.specs.Waits.{waits_text}
 use Rattle.velo_worker.specs.declared.ending.Ending.{Ending}
 use Rattle.velo_worker.specs.declared.ending.Ending.TheVariants.{Done, Refused, Stuck}
 use Rattle.velo_worker.specs.Causes.{EndsByGrowth}
@@ -184,8 +186,15 @@ run_of options =
       certificate = options.certificate;
     }
 
+-- behind the report of a deadlock, who waits for what (`Waits` of `velo_waits`)
+abbrev pub waits_behind : Finding → Finding → Program → List Event → List ℕ
+waits_behind (Shown schedule) stuck program log = []
+waits_behind alarm (Shown schedule) program log = waits_text program log
+waits_behind alarm stuck program log = []
+
 -- The log of the replay is to be saved. What is told is printed, and behind it the report of this
--- log by the program's names, with its certificate if that is asked for.
+-- log by the program's names, with its certificate if that is asked for; and behind that of a
+-- deadlock who waits for what.
 pub record ReportsReplay (options : ExploreOptions) (program : Program) (config : Config)
     (told : Told) (answer : Answer) : Type 0 where
   pub ended : Ending
@@ -197,7 +206,8 @@ pub record ReportsReplay (options : ExploreOptions) (program : Program) (config 
   pub is_report : IsOutputOf names options.certificate world report
   pub said : answer ≡ record {
     saved = Some (text_of_log world);
-    printed = Some (told_text program told ++ report);
+    printed = Some (told_text program told
+        ++ report ++ waits_behind told.found.alarm told.found.stuck program world.log);
     fate = fate_of_told told;
   }
 

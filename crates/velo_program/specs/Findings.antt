@@ -27,7 +27,7 @@ use Rattle.velo_program.specs.ByChance.{IsSayableFinding, IsSayableRefusal}
 use Rattle.velo_program.specs.Check.{IsOutputOf}
 use Rattle.velo_program.specs.Delivery.{Answer, FailsToSave, IsDelivered, LacksMemory, Saves, SavesPart}
 use Rattle.velo_program.specs.Disk.{Store}
-use Rattle.velo_program.specs.Exploring.{IsExplored, IsFirstReplay, fate_of_told, schedule_of, told_text}
+use Rattle.velo_program.specs.Exploring.{IsExplored, IsFirstReplay, fate_of_told, schedule_of, told_text, waits_behind}
 use Rattle.velo_program.specs.Playing.{AreNamesOf, is_unreported, text_of_log}
 use Rattle.velo_program.specs.Steps.{HasAlarm}
 use Rattle.velo_program.specs.Writing.{BreaksOff, Delivers, Writes, WritesNothing, Writing}
@@ -115,12 +115,19 @@ IsRunOfFirst program config found (Some run) =
 
 -- ---- what goes out
 
--- what writing a text and the output of a world behind it came to
-abbrev pub WritesBehind : {X F : Type 0} → List ℕ → Names → Bool → WorldState → Writing
+-- what writing the output of a world and a text behind it came to
+abbrev pub WritesReport : {X F : Type 0} → Names → Bool → WorldState → List ℕ → Writing
     → Result X F → Type 0
-WritesBehind text names certificate w stdout result =
+WritesReport names certificate w behind stdout result =
     (report : List ℕ) × IsOutputOf names certificate w report
-    × Delivers stdout (text ++ report) result
+    × Delivers stdout (report ++ behind) result
+
+-- what writing it behind another text came to
+abbrev pub WritesBehind : {X F : Type 0} → List ℕ → Names → Bool → WorldState → List ℕ → Writing
+    → Result X F → Type 0
+WritesBehind text names certificate w behind stdout result =
+    (report : List ℕ) × IsOutputOf names certificate w report
+    × Delivers stdout (text ++ report ++ behind) result
 
 -- what saving a text and printing another came to
 abbrev pub Puts : {X : Type 0} → Store → Option (Bor (List ℕ)) → Writing
@@ -134,32 +141,34 @@ Puts store target stdout saved printed (Err fate.WriteFailed) =
     ⊎ (Saves store target saved × BreaksOff stdout printed)
 Puts store target stdout saved printed (Err f) = ⊥
 
--- what saving the log of a replay and printing a text and the report behind it came to
-abbrev pub TellsReplay : {X : Type 0} → List ℕ → Names → Bool → WorldState
+-- what saving the log of a replay and printing a text, the report behind it, and a text behind that
+-- came to
+abbrev pub TellsReplay : {X : Type 0} → List ℕ → Names → Bool → WorldState → List ℕ
     → Store → Option (Bor (List ℕ)) → Writing → Result X Fate → Type 0
-TellsReplay text names certificate w store target stdout result =
+TellsReplay text names certificate w behind store target stdout result =
     (report : List ℕ) × IsOutputOf names certificate w report
-    × Puts store target stdout (Some (text_of_log w)) (text ++ report) result
+    × Puts store target stdout (Some (text_of_log w)) (text ++ report ++ behind) result
 
 -- a growth was refused, and nothing was written
 abbrev pub Lacks : {X : Type 0} → Store → Writing → Result X Fate → Type 0
 Lacks store stdout (Err fate.Memory) = GrowthRefused × store.is_kept × WritesNothing stdout
 Lacks store stdout result = ⊥
 
-abbrev pub ReportsOrLacks : {X : Type 0} → Program → List ℕ → Bool → WorldState
+abbrev pub ReportsOrLacks : {X : Type 0} → Program → List ℕ → Bool → WorldState → List ℕ
     → Store → Option (Bor (List ℕ)) → Writing → Result X Fate → Type 0
-ReportsOrLacks program text certificate w store target stdout result =
+ReportsOrLacks program text certificate w behind store target stdout result =
     ((names : Names) × AreNamesOf program names
-    × TellsReplay text names certificate w store target stdout result)
+    × TellsReplay text names certificate w behind store target stdout result)
     ⊎ Lacks store stdout result
 
 -- what telling a text and the replay, if there is one, came to
-abbrev pub TellsRun : {X : Type 0} → Program → List ℕ → Bool → Option (WorldState × Ending)
+abbrev pub TellsRun : {X : Type 0} → Program → Found → List ℕ → Bool → Option (WorldState × Ending)
     → Store → Option (Bor (List ℕ)) → Writing → Result X Fate → Type 0
-TellsRun program text certificate None store target stdout result =
+TellsRun program found text certificate None store target stdout result =
     Puts store target stdout None text result
-TellsRun program text certificate (Some run) store target stdout result =
-    ReportsOrLacks program text certificate run.0 store target stdout result
+TellsRun program found text certificate (Some run) store target stdout result =
+    ReportsOrLacks program text certificate run.0
+    (waits_behind found.alarm found.stuck program run.0.log) store target stdout result
 
 -- what telling came to, as a fate
 abbrev pub fate_behind : {X : Type 0} → Fate → Result X Fate → Fate
@@ -172,7 +181,7 @@ abbrev pub TellsFindings : ExploreOptions → Program → Told → Option (World
 TellsFindings options program told run store stdout f =
     (GrowthRefused × (f ≡ fate.Memory) × store.is_kept × WritesNothing stdout)
     ⊎ ((out : Result ⊤ Fate)
-    × TellsRun program (told_text program told) options.certificate run
+    × TellsRun program told.found (told_text program told) options.certificate run
     store options.target stdout out
     × (f ≡ fate_behind (fate_of_told told) out))
 

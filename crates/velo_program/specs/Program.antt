@@ -144,13 +144,14 @@ DoesReplay options store stdout f =
     ⊎ ((schedule : List ThreadId) × IsSchedule options.schedule.now schedule
     × DoesPlay (ByTurns schedule) options.run store stdout f)
 
--- ---- velodrome explore FILE [--states N] [--first] [--log OUT] [--events N] [--nodes N]
--- [--certificate]
+-- ---- velodrome explore FILE [--states N] [--first] [--random N] [--seed S] [--log OUT] [--events N]
+-- [--nodes N] [--certificate]
 
--- FILE is read whole, and all its schedules are tried. Where one of them was found to have an alarm,
--- a deadlock or a refusal, the log of its replay is saved at OUT. What was found goes to standard
--- output, and then the report of this replay, and its certificate; or nothing, for a reason
--- (`Exploring`).
+-- FILE is read whole, and all its schedules are tried; or with --random so many that are drawn by
+-- chance (`ByChance`). Where one of them was found to have an alarm, a deadlock or a refusal, the log
+-- of its replay is saved at OUT. What was found and who is to blame goes to standard output, and then
+-- the report of this replay, and its certificate, and behind that of a deadlock who waits for what;
+-- or nothing, for a reason (`Exploring`).
 abbrev pub DoesExplore : ExploreOptions → Store → Writing → Fate → Type 0
 DoesExplore options store stdout f =
     DoesNotRead store File options.input.now options.target stdout f

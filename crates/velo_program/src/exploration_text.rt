@@ -136,7 +136,7 @@ fn add_label(text: &mut Vec<u8>, workload: &Workload, label: Label) -> Result<()
         ≡ text.old.items ++ label_text workload.now label.0) }
     ensures memory { OnErr result GrowthRefused }
 {
-    match workload.label_names().get(usize::from(label.0)) {
+    match workload.label_names().get(label.0 as usize) {
         Some(name) => add_bytes(text, name.as_bytes()),
         None => add_number(text, u64::from(label.0)),
     }

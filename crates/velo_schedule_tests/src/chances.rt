@@ -1,9 +1,8 @@
 //! Runs by chance.
 use std::alloc::Global;
-use velo_chance::{Blamed, Tally, DEFAULT_SEED, try_by_chance};
+use velo_chance::{Blamed, DEFAULT_SEED, Tally, explore_by_chance, try_all, try_by_chance};
 use velo_events::Config;
-use velo_shrink::{Goal, MOST_TRIES, shrink};
-use velo_turns::append_turns;
+use velo_turns::{append_turns, schedule_of};
 use velo_workload::parse;
 
 /// What so many runs of a workload come to.
@@ -63,20 +62,32 @@ fn words(text: &[u8]) -> usize {
     text.iter().filter(|byte| **byte == b' ').count()
 }
 
-/// The schedule of the first alarm, made simple.
+/// The schedule of an alarm that is told, which is made simple.
 fn simple(alloc: Global, text: &str) -> Option<Vec<u8>> {
     let workload = parse(alloc, text).ok()?;
     let config = Config::new(1, workload.bounds(), 100_000, 64, false).ok()?;
-    let Tally { alarm, .. } = try_by_chance(alloc, &workload, 50, DEFAULT_SEED, config).ok()?;
+    let Tally { alarm, .. } = explore_by_chance(alloc, &workload, 50, DEFAULT_SEED, config).ok()?;
     match alarm {
         Some(schedule) => {
-            let turns = shrink(alloc, &workload, Goal::Alarm, schedule, MOST_TRIES, config).ok()?;
             let mut short = Vec::new(alloc);
-            append_turns(&mut short, &turns).ok()?;
+            append_turns(&mut short, &schedule).ok()?;
             Some(short)
         }
         None => None,
     }
+}
+
+/// How many of the runs by these schedules have an alarm, how many labels are blamed, and in how many alarms the first is.
+fn blamed_by(alloc: Global, text: &str, schedules: &[&str]) -> Option<(u64, usize, u64)> {
+    let workload = parse(alloc, text).ok()?;
+    let config = Config::new(1, workload.bounds(), 100_000, 64, false).ok()?;
+    let mut turns = Vec::new(alloc);
+    for schedule in schedules {
+        turns.push(schedule_of(alloc, *schedule).ok()?).ok()?;
+    }
+    let tally = try_all(alloc, &workload, &turns, config).ok()?;
+    let first = tally.blamed.first().map_or(0, |blamed| blamed.alarms);
+    Some((tally.alarms, tally.blamed.len(), first))
 }
 
 /// Two threads that lose updates.
@@ -157,6 +168,20 @@ fn alarms_by_chance_are_made_simple(rt: HostRuntime) {
     assert_eq!(rt; race.as_deref(), Some(b" 0*3 1*3 0".as_slice()));
     let both = simple(rt.alloc(), BOTH);
     assert_eq!(rt; both.map(|text| words(&text)), Some(4));
+}
+
+#[test]
+fn given_schedules_are_counted(rt: HostRuntime) {
+    let none = blamed_by(rt.alloc(), RACE, &[]);
+    assert_eq!(rt; none, Some((0, 0, 0)));
+    let some = blamed_by(rt.alloc(), RACE, &["0*3 1*3 0", "", "0*100", "0*3 1*3 0"]);
+    assert_eq!(rt; some, Some((2, 1, 2)));
+    let two = blamed_by(
+        rt.alloc(),
+        TWO,
+        &["0*2 1*2 2*4 1", "0*2 2*2 1*4 2", "0*2 1*2 2*4 1"],
+    );
+    assert_eq!(rt; two, Some((3, 2, 2)));
 }
 
 #[test]

@@ -1,0 +1,2 @@
+pub mod OnReplays
+mod OnWaits
