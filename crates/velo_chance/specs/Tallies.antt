@@ -1,5 +1,5 @@
 -- What runs come to.
-use Rattle.std.specs.Prelude.{◌≡◌, ◌≤◌, ℕ, Bool, IsFalse, ◌==◌, List, All, IfSome, length, map, find, count_by, Option, is_some, option_map}
+use Rattle.std.specs.Prelude.{◌≡◌, ◌≤◌, ◌+◌, ◌-◌, ◌*◌, ◌^◌, ℕ, Bool, IsFalse, ◌==◌, List, All, IfSome, length, map, find, count_by, Option, is_some, option_map}
 use Rattle.std.specs.List.{list_any}
 use Rattle.velo_events.specs.declared.config.Config.{Config}
 use Rattle.velo_events.specs.declared.event.ThreadId.{ThreadId}
@@ -25,6 +25,10 @@ ending_of run = (run.schedule.items, Refused run.thread run.refusal)
 
 abbrev pub is_listed : ℕ → List Blamed → Bool
 is_listed label blamed = list_any (λ b. b.label.0 == label) blamed
+
+-- a label's place among the others: those of most alarms come first, and of as many that of the lesser number
+abbrev pub rank : Blamed → ℕ
+rank b = (2 ^ 64 - 1 - b.alarms) * 2 ^ 32 + b.label.0
 
 -- each label that is listed has so many alarms, one at least, and the others have none
 pub record AreCounts (count : ℕ → ℕ) (blamed : List Blamed) : Type 0 where

@@ -1,11 +1,12 @@
 //! Runs by schedules that are given, or by chance.
 ghost use Rattle.std.specs.Prelude.{◌≡◌, ◌+◌, ◌-◌, ◌<◌, ◌^◌, ◌∷◌, ◌++◌, [], ℕ, List, map, IfOk, IfSome, OnErr};
+ghost use Rattle.std.specs.List.Sorted.{IsNonDecreasingBy};
 ghost use Rattle.velo_events.specs.Refusals.{GrowthRefused};
 ghost use Rattle.velo_events.specs.declared.config.Config.{Config as ConfigOf};
 ghost use Rattle.velo_events.specs.declared.event.ThreadId.{ThreadId as Turn};
 ghost use Rattle.velo_schedules.specs.Told.{ShowsAlarm, ShowsStuck, ShowsRefusal};
 ghost use Rattle.velo_workload.specs.Program.{Program};
-ghost use Rattle.velo_chance.specs.Tallies.{IsTried, IsTriedBy};
+ghost use Rattle.velo_chance.specs.Tallies.{IsTried, IsTriedBy, rank};
 
 use crate::blaming::put_in_order;
 use crate::drawing::{draw, turns_for};
@@ -68,6 +69,7 @@ pub fn try_all(
 ) -> Result<Tally, Memory>
     requires bounds { config.bounds ≡ workload.now.bounds }
     ensures tried { IfOk result (IsTriedBy workload.now config (map (λ schedule. schedule.items) schedules.now)) }
+    ensures order { IfOk result (λ tally. IsNonDecreasingBy rank tally.blamed.items) }
     ensures memory { OnErr result GrowthRefused }
 {
     let mut tally = no_runs(alloc);
@@ -99,6 +101,7 @@ pub fn try_by_chance(
 ) -> Result<Tally, Memory>
     requires bounds { config.bounds ≡ workload.now.bounds }
     ensures tried { IfOk result (IsTried workload.now config runs) }
+    ensures order { IfOk result (λ tally. IsNonDecreasingBy rank tally.blamed.items) }
     ensures alarm { IfOk result (λ tally. IfSome tally.alarm (λ schedule. ShowsAlarm workload.now config schedule.items)) }
     ensures stuck { IfOk result (λ tally. IfSome tally.stuck (λ schedule. ShowsStuck workload.now config schedule.items)) }
     ensures refused { IfOk result (λ tally. IfSome tally.refused (ShowsRefusal workload.now config)) }

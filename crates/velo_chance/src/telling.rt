@@ -1,8 +1,9 @@
 //! Runs by chance, with simple schedules.
 ghost use Rattle.std.specs.Prelude.{◌≡◌, IfOk, IfSome, OnErr, is_some};
+ghost use Rattle.std.specs.List.Sorted.{IsNonDecreasingBy};
 ghost use Rattle.velo_events.specs.Refusals.{GrowthRefused};
 ghost use Rattle.velo_schedules.specs.Told.{ShowsAlarm, ShowsStuck, ShowsRefusal};
-ghost use Rattle.velo_chance.specs.Tallies.{IsTold};
+ghost use Rattle.velo_chance.specs.Tallies.{IsTold, rank};
 
 use crate::running::try_by_chance;
 use crate::tally::Tally;
@@ -105,6 +106,7 @@ pub fn explore_by_chance(
 ) -> Result<Tally, Memory>
     requires { config.bounds ≡ workload.now.bounds }
     ensures told { IfOk result (IsTold workload.now config runs) }
+    ensures order { IfOk result (λ tally. IsNonDecreasingBy rank tally.blamed.items) }
     ensures memory { OnErr result GrowthRefused }
 {
     let Tally {

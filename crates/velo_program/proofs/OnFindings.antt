@@ -7,6 +7,7 @@ use Rattle.std.specs.Io.KnownBytes.{Appends}
 use Rattle.std.specs.Borrow.{Bor}
 use Rattle.std.specs.Global.{Vec}
 use Rattle.std.specs.List.{list_any}
+use Rattle.std.specs.List.Sorted.{IsNonDecreasingBy}
 use Rattle.velo_events.specs.declared.config.Config.{Config}
 use Rattle.velo_events.specs.declared.event.ThreadId.{ThreadId}
 use Rattle.velo_events.specs.declared.limits.TheConstants.{MOST_THREADS}
@@ -48,7 +49,7 @@ use Rattle.velo_program.specs.declared.told.Tried.TheVariants as how
 use Rattle.velo_chance.specs.declared.tally.Tally.{Tally}
 use Rattle.velo_chance.specs.Runs.{Run, is_refused, is_stuck}
 use Rattle.velo_chance.specs.Runs as R
-use Rattle.velo_chance.specs.Tallies.{IsTold}
+use Rattle.velo_chance.specs.Tallies.{IsTold, rank}
 use Rattle.velo_program.specs.declared.check.Verdict.{Verdict}
 use Rattle.velo_program.specs.declared.check.Verdict.TheVariants as verdict
 use Rattle.velo_program.specs.Fate.{is_alarm}
@@ -163,13 +164,13 @@ module _ (program : Program) (config : Config) where
   refusal_of_runs some (Some run) finding said is so was (inl same) = subst (RefusalOfRuns some program config) (sym (same.1 ∙ was)) (sym is, so)
   refusal_of_runs some run finding said is so was (inr none) = subst (RefusalOfRuns some program config) (sym none.1) tt
 
-  pub some_told : (random : RandomRuns) (tally : Tally) (told : Told) (alarm stuck : Finding) (refused : RefusalFinding) → IsTold program config random.runs tally
+  pub some_told : (random : RandomRuns) (tally : Tally) (told : Told) (alarm stuck : Finding) (refused : RefusalFinding) → IsTold program config random.runs tally → IsNonDecreasingBy rank tally.blamed.items
       → told.tried ≡ how.ByChance random.seed tally.runs
       → alarm ≡ shown_or_never tally.alarm → stuck ≡ shown_or_never tally.stuck → refused ≡ refused_or_never tally.refused
       → IsSaidFor alarm told.found.alarm → IsSaidFor stuck told.found.stuck → IsRefusalSaidFor refused told.found.refused
       → told.blame ≡ record { alarms = tally.alarms; labels = tally.blamed }
       → IsByChance program config random told
-  some_told random tally told alarm stuck refused is tried was_alarm was_stuck was_refused said_a said_s said_r blame =
+  some_told random tally told alarm stuck refused is order tried was_alarm was_stuck was_refused said_a said_s said_r blame =
       let tells = is.tells in
       record {
         runs = is.runs;
@@ -182,7 +183,7 @@ module _ (program : Program) (config : Config) where
           refused = refusal_of_runs (list_any is_refused is.runs) tally.refused refused told.found.refused tells.some_refused tells.refused was_refused said_r;
           sayable = are_said alarm stuck refused told.found said_a said_s said_r;
         };
-        blame = subst (IsBlame is.runs) (sym blame) (record { alarms = tells.alarms; labels = tells.blamed });
+        blame = subst (IsBlame is.runs) (sym blame) (record { alarms = tells.alarms; labels = tells.blamed; order = order });
       }
 
   -- ---- a finding that is not shown again

@@ -1,8 +1,9 @@
 -- Runs of a workload by chance, and who is to blame for the alarms of some runs.
 use Rattle.std.specs.Prelude.{◌≡◌, ◌≤◌, ⊤, ℕ, Bool, false, true, All, List, IsFalse, IsTrue, count_by, length, Option, Some, None}
+use Rattle.std.specs.List.Sorted.{IsNonDecreasingBy}
 use Rattle.std.specs.List.{list_any}
 use Rattle.velo_chance.specs.Runs.{IsRun, Run, blames, has_alarm, is_refused, is_stuck}
-use Rattle.velo_chance.specs.Tallies.{AreCounts}
+use Rattle.velo_chance.specs.Tallies.{AreCounts, rank}
 use Rattle.velo_events.specs.declared.config.Config.{Config}
 use Rattle.velo_events.specs.declared.event.ThreadId.{ThreadId}
 use Rattle.velo_schedules.specs.declared.finding.Finding.{Finding}
@@ -41,10 +42,11 @@ pub record AreSayable (found : Found) : Type 0 where
 -- ---- who is to blame
 
 -- of these runs, so many have an alarm; and of each label that is told, so many of these alarms blame a block with it, and of
--- no other label any
+-- no other label any; those of most alarms come first
 pub record IsBlame (runs : List Run) (blame : ToBlame) : Type 0 where
   pub alarms : blame.alarms ≡ count_by has_alarm runs
   pub labels : AreCounts (λ label. count_by (blames label) runs) blame.labels.items
+  pub order : IsNonDecreasingBy rank blame.labels.items
 
 -- this is so of some replays of the program, at most so many
 pub record IsBlameOf (program : Program) (config : Config) (most : ℕ) (blame : ToBlame) : Type 0 where

@@ -7,13 +7,13 @@ pub returns-clause-tried : goal.returns-clause-tried
 returns-clause-tried c =
     let all : c.loop.counter ≡ c.args.runs = omega (arith, c.loop-test.false, c.loop.auto.counter-end) in
     subst (λ n. IsTried c.args.workload.now c.args.config n (record c.loop.tally { blamed = c.put_in_order.new.blamed })) all
-    (IsTried-ordered c.args.workload.now c.args.config c.loop.counter c.loop.tally (record c.loop.tally { blamed = c.put_in_order.new.blamed }) refl c.put_in_order.ensures c.loop.invariant.tried)
+    (IsTried-ordered c.args.workload.now c.args.config c.loop.counter c.loop.tally (record c.loop.tally { blamed = c.put_in_order.new.blamed }) refl c.put_in_order.ensures.moved c.loop.invariant.tried)
 
 pub returns-clause-alarm : goal.returns-clause-alarm
-returns-clause-alarm c = alarm-shown c.args.workload.now c.args.config c.loop.counter c.loop.tally c.loop.invariant.tried
+returns-clause-alarm c = alarm-shown c.args.workload.now c.args.config c.loop.invariant.tried.schedules c.loop.tally c.loop.invariant.tried.tried
 
 pub returns-clause-stuck : goal.returns-clause-stuck
-returns-clause-stuck c = stuck-shown c.args.workload.now c.args.config c.loop.counter c.loop.tally c.loop.invariant.tried
+returns-clause-stuck c = stuck-shown c.args.workload.now c.args.config c.loop.invariant.tried.schedules c.loop.tally c.loop.invariant.tried.tried
 
 pub returns-clause-refused : goal.returns-clause-refused
-returns-clause-refused c = refused-shown c.args.workload.now c.args.config c.loop.counter c.loop.tally c.loop.invariant.tried
+returns-clause-refused c = refused-shown c.args.workload.now c.args.config c.loop.invariant.tried.schedules c.loop.tally c.loop.invariant.tried.tried
