@@ -1,12 +1,11 @@
 -- Counts of labels, with one alarm more.
-use Rattle.std.proofs.Common.{◌≡◌, ℕ, ◌+◌, ◌-◌, ◌^◌, ◌<◌, ◌≤◌, min, Bool, true, false, cond, List, [], ◌∷◌, ◌++◌, map, refl, sym, ap, ◌∙◌, subst, arith, ⊎_elim}
-use Rattle.std.specs.Prelude.{◌==◌, ◌||◌, All, IsTrue, IsFalse, fold, if◌then◌else◌}
-use Rattle.std.specs.List.{list_any}
+use Rattle.std.proofs.Common.{◌≡◌, ℕ, ◌+◌, ◌-◌, ◌^◌, ◌<◌, ◌≤◌, min, Bool, true, false, List, [], ◌∷◌, ◌++◌, map, refl, sym, ap, ◌∙◌, subst, arith, ⊎_elim}
+use Rattle.std.specs.Prelude.{◌==◌, ◌||◌, All, IsTrue, IsFalse, if◌then◌else◌}
 use Rattle.std.proofs.lemmas.Bool.{cases_Bool, eq-eqb, eqb-true, false≢true}
 use Rattle.std.proofs.lemmas.List.Elements.{All-map, All-push, All-weaker}
 use Rattle.std.proofs.lemmas.List.Folds.{list_any-append}
 use Rattle.velo_traces.specs.declared.block.Block.{Block}
-use Rattle.velo_chance.specs.declared.chance.Blamed.{Blamed}
+use Rattle.velo_chance.specs.declared.tally.Blamed.{Blamed}
 use Rattle.velo_chance.specs.Runs.{has_label}
 use Rattle.velo_chance.specs.Tallies.{is_listed, AreCounts}
 use Rattle.velo_chance.specs.Counting.{with_alarm, with_other, with_others}

@@ -1,7 +1,7 @@
 -- What runs come to, with one more.
 use Rattle.std.proofs.Common.{◌≡◌, ℕ, ◌+◌, ◌-◌, ◌^◌, ◌<◌, ◌≤◌, min, Bool, true, false, not, cond, List, [], ◌∷◌, ◌++◌, length, length-append, Option, Some, None, Result, Ok, Err, option_map, refl, sym, ap, ◌∙◌, subst, arith, ⊎_elim}
 use Rattle.std.specs.Borrow.{Bor}
-use Rattle.std.specs.Prelude.{◌==◌, ◌||◌, All, map, IfNone, IsPermutation, IfOk, IfSome, IsFalse, IsTrue, find, count_by, if◌then◌else◌, is_some}
+use Rattle.std.specs.Prelude.{◌==◌, ◌||◌, All, IfNone, IsPermutation, IfOk, IfSome, IsFalse, IsTrue, find, count_by, if◌then◌else◌, is_some}
 use Rattle.std.specs.List.{list_any}
 use Rattle.std.specs.Option.{option_or}
 use Rattle.std.proofs.lemmas.List.{length-map, map_push}

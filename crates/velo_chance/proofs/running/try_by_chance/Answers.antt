@@ -1,7 +1,17 @@
-use Rattle.std.proofs.Common.{◌≡◌, refl, subst, arith}
+use Rattle.std.proofs.Common.{◌≡◌, ◌∙◌, ◌+◌, ap, refl, subst, arith}
 use Rattle.velo_chance.specs.Tallies.{IsTried}
-use Rattle.velo_chance.proofs.OnRuns.{IsTried-ordered, alarm-shown, stuck-shown, refused-shown}
+use Rattle.velo_chance.proofs.OnRuns.{IsTried-none, IsTried-once, IsTried-ordered, alarm-shown, stuck-shown, refused-shown}
 use Rattle.velo_chance.proofs.running.try_by_chance.Goals as goal
+
+pub loop-init : goal.loop-init
+loop-init c = record { tried = IsTried-none c.args.workload.now c.args.config c.no_runs-tally.result (c.no_runs-tally.ensures.tried c.args.workload.now c.args.config); runs = c.no_runs-tally.ensures.runs }
+
+pub loop-preserved : goal.loop-preserved
+loop-preserved c =
+    record {
+      tried = IsTried-once c.args.workload.now c.args.config c.deref.result.now c.loop.tally c.in_ok-tally.tally c.in_ok-tally.ensures.tried c.loop.counter c.loop.invariant.tried;
+      runs = c.in_ok-tally.ensures.runs ∙ ap (λ n. n + 1) c.loop.invariant.runs;
+    }
 
 pub returns-clause-tried : goal.returns-clause-tried
 returns-clause-tried c =
