@@ -1,8 +1,8 @@
 -- The words of small deadlocks, computed.
-use Rattle.std.proofs.Common.{◌≡◌, ℕ, List, [], ◌∷◌, refl}
+use Rattle.std.proofs.Common.{◌≡◌, List, [], ◌∷◌, refl}
 use Rattle.std.specs.Prelude.{codes}
 use Rattle.velo_events.specs.declared.event.Event.{Event}
-use Rattle.velo_events.specs.declared.event.Kind.TheVariants.{Acquire, AcquireShared, Fork}
+use Rattle.velo_events.specs.declared.event.Kind.TheVariants.{Acquire, Fork}
 use Rattle.velo_events.specs.Heap.{happened, latest, times}
 use Rattle.velo_workload.specs.declared.statement.Statement.TheVariants as s
 use Rattle.velo_workload.specs.Program.{Program}
@@ -28,5 +28,5 @@ log =
     ∷ record { thread = record { 0 = 1 }; kind = Acquire (record { 0 = 1 }) } ∷ []
 
 pub crossing_words : waits_text crossing log ≡ codes "waiting: main for lock n, held by a\nwaiting: a for lock m, held by main\n"
-unfolding texts_below levels repeated happened latest times
+unfolding texts_below levels repeated happened latest times walk_of
 crossing_words = refl

@@ -1,5 +1,5 @@
 -- The configuration of a replay stays as it was.
-use Rattle.std.proofs.Common.{◌≡◌, ◌∙◌, ap, sym, refl, List, [], ◌∷◌, Option, Some, None, inl, inr}
+use Rattle.std.proofs.Common.{◌≡◌, ◌∙◌, ap, refl, List, [], ◌∷◌, Option, Some, None, inl, inr}
 use Rattle.velo_events.specs.declared.config.Config.{Config}
 use Rattle.velo_events.specs.declared.event.ThreadId.{ThreadId}
 use Rattle.velo_workload.specs.Program.{Program}

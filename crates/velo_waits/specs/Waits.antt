@@ -1,5 +1,5 @@
 -- Who waits for whom at the end of a run, in words.
-use Rattle.std.specs.Prelude.{ℕ, zero, suc, ◌++◌, List, [], Option, Some, None, codes, decimal, filter, nat_lt, slice_get, option_and_then, if◌then◌else◌}
+use Rattle.std.specs.Prelude.{ℕ, zero, suc, ◌++◌, List, [], Option, Some, codes, decimal, filter, nat_lt, slice_get, option_and_then, if◌then◌else◌}
 use Rattle.std.specs.Option.{option_map_or}
 use Rattle.velo_events.specs.declared.event.Event.{Event}
 use Rattle.velo_events.specs.Event.{are_same}

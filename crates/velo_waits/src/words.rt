@@ -45,6 +45,20 @@ fn add_name(text: &mut Vec<u8>, names: &[String], number: u16) -> Result<(), Mem
     }
 }
 
+/// Adds words, and a thread's name behind them.
+fn add_thread(
+    text: &mut Vec<u8>,
+    words: &[u8],
+    workload: &Workload,
+    thread: ThreadId,
+) -> Result<(), Memory>
+    ensures ok { OnOk result (text.new.items ≡ text.old.items ++ words.now ++ name_or_number workload.now.thread_names thread.0) }
+    ensures memory { OnErr result GrowthRefused }
+{
+    add_bytes(text, words)?;
+    add_name(text, workload.thread_names(), u16::from(thread.0))
+}
+
 /// Adds a thread, if it holds the lock.
 fn add_holder(
     text: &mut Vec<u8>,
@@ -58,13 +72,12 @@ fn add_holder(
     ensures memory { OnErr result GrowthRefused }
 {
     if holds_alone(closed, lock, thread) {
-        add_bytes(text, b", held by ")?;
-    } else if shares(closed, lock, thread) {
-        add_bytes(text, b", shared by ")?;
-    } else {
-        return Ok(());
+        return add_thread(text, b", held by ", workload, thread);
     }
-    add_name(text, workload.thread_names(), u16::from(thread.0))
+    if shares(closed, lock, thread) {
+        return add_thread(text, b", shared by ", workload, thread);
+    }
+    Ok(())
 }
 
 /// Adds the threads that hold a lock, if there is such a lock.
