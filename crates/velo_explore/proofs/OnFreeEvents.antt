@@ -1,6 +1,6 @@
 -- A free event may be done at once: what is not found after it is not there before it.
 use Rattle.std.proofs.Common.{◌≡◌, ◌+◌, ◌^◌, ◌<◌, List, [], ◌∷◌, ◌++◌, length, sym, subst, arith}
-use Rattle.std.specs.Prelude.{IsTrue, slice_index_or}
+use Rattle.std.specs.Prelude.{slice_index_or}
 use Rattle.std.proofs.lemmas.Option.{slice_get_within}
 use Rattle.velo_events.specs.declared.config.Bounds.{Bounds}
 use Rattle.velo_events.specs.declared.event.Event.{Event}
@@ -10,25 +10,24 @@ use Rattle.velo_events.specs.Graph.{HasCycle}
 use Rattle.velo_events.specs.Tally.{events_of}
 use Rattle.velo_heap.specs.Contents.{bounds_of}
 use Rattle.velo_heap.proofs.OnTables.{get_or-tabulated}
-use Rattle.velo_moves.specs.Programs.{own}
-use Rattle.velo_moves.specs.Free.{GoesAlong, is_private}
+use Rattle.velo_moves.specs.Free.{GoesAlong}
 use Rattle.velo_moves.specs.Wants as moves
 use Rattle.velo_moves.proofs.OnRules.{rule_of_one, HasCycle-goes_along}
 use Rattle.velo_moves.proofs.OnStuck.{IsStuck-goes_along}
 use Rattle.velo_moves.proofs.OnRefused.{HasRefusal-goes_along}
-use Rattle.velo_moves.proofs.OnFreeStatements.{IsFree-statement, IsFreeStatement-private}
 use Rattle.velo_explore.specs.declared.state.State.{State}
 use Rattle.velo_explore.specs.Faults.{Fault, Cycle, Stuck, Refusing, IsFault}
 use Rattle.velo_explore.specs.Runs.{script_of, IsRunOf, IsNext, Never}
 use Rattle.velo_explore.specs.States.{IsStateOf}
-use Rattle.velo_explore.specs.Search.{AreShort, IsReached, Settles}
+use Rattle.velo_explore.specs.Free.{IsFreeAt}
+use Rattle.velo_explore.specs.Search.{ArePlain, AreShort, IsReached, Settles}
 use Rattle.velo_explore.proofs.OnRuns.{IsRunOf-next}
-use Rattle.velo_explore.proofs.OnRunsOfScripts.{DoesScript, wants_by, IsProgram-scripts, AreWanted-scripts, IsLog-run}
+use Rattle.velo_explore.proofs.OnRunsOfScripts.{DoesScript, wants_by, IsProgram-scripts, AreWanted-scripts, IsLog-run, IsFree-at}
 use Rattle.velo_explore.proofs.OnWanted.{AreKnown, known-run, searched-stuck, searched-refused, wanted-stuck, wanted-refused}
 
 -- ---- after one log
 
-module _ (bounds : Bounds) (scripts : List (List Kind)) (log : List Event) (e : Event) (run : IsRunOf bounds scripts log) (next : IsNext bounds scripts log e) (free : IsTrue (is_private e.kind)) where
+module _ (bounds : Bounds) (scripts : List (List Kind)) (log : List Event) (e : Event) (run : IsRunOf bounds scripts log) (next : IsNext bounds scripts log e) (plain : ArePlain scripts) (free : IsFreeAt scripts (thread_of e) (events_of log (thread_of e)) e.kind) where
   known : (more : List Event) → IsRunOf bounds scripts more → AreKnown bounds scripts more
   known more longer = known-run bounds scripts (let first = next.follows.known_thread in omega (arith, first)) more longer.well_formed
 
@@ -37,7 +36,7 @@ module _ (bounds : Bounds) (scripts : List (List Kind)) (log : List Event) (e : 
   rule Bad along never more longer =
       rule_of_one bounds (DoesScript scripts) (IsProgram-scripts scripts) Bad along log e
       ((IsLog-run scripts bounds (log ++ e ∷ [])).0 (IsRunOf-next bounds scripts log e run next))
-      (IsFree-statement bounds (DoesScript scripts) log e (IsFreeStatement-private (DoesScript scripts) (own (thread_of e) log) (thread_of e) e.kind free))
+      (IsFree-at scripts bounds plain log e run next free)
       (λ rest all. never rest ((IsLog-run scripts bounds ((log ++ e ∷ []) ++ rest)).1 all))
       more
       ((IsLog-run scripts bounds (log ++ more)).0 longer)
@@ -69,16 +68,17 @@ module _ (bounds : Bounds) (scripts : List (List Kind)) where
   }
 
   -- 97. a free event
-  pub settles_free : (before after : State) (e : Event) → IsTrue (is_private e.kind) →
+  pub settles_free : (before after : State) (e : Event) → ArePlain scripts →
+      ((log : List Event) → IsRunOf bounds scripts log → IsStateOf log before → IsFreeAt scripts (thread_of e) (events_of log (thread_of e)) e.kind) →
       ((log : List Event) → IsRunOf bounds scripts log → IsStateOf log before → IsNext bounds scripts log e) →
       ((log : List Event) → IsStateOf log before → IsStateOf (log ++ e ∷ []) after) →
       (IsReached bounds scripts before → IsReached bounds scripts after) → Settles bounds scripts before after
-  settles_free before after e free next stands reached = record {
+  settles_free before after e plain free next stands reached = record {
     reached = reached;
     clean = λ fault clean. record {
       each = λ log run here.
           let due = next log run here in
-          free-never bounds scripts log e run due free fault (clean.each (log ++ e ∷ []) (IsRunOf-next bounds scripts log e run due) (stands log here));
+          free-never bounds scripts log e run due plain (free log run here) fault (clean.each (log ++ e ∷ []) (IsRunOf-next bounds scripts log e run due) (stands log here));
     };
   }
 

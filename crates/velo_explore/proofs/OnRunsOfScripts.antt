@@ -1,9 +1,9 @@
--- The runs of scripts are the logs of a program: so the rule of one holds for them.
+-- The runs of scripts are the logs of a program, and what is free by the scripts is free after them.
 use Rattle.std.proofs.Common.{◌≡◌, ℕ, ◌+◌, List, [], ◌∷◌, ◌++◌, length, length-append, take, map, Option, Some, None, refl, sym, ap, ◌∙◌, subst, arith, ⊎_elim}
 use Rattle.std.specs.Option.{option_map}
-use Rattle.std.specs.Prelude.{◌↔◌, slice_get, IsTrue}
+use Rattle.std.specs.Prelude.{◌≤◌, ◌==◌, ◌↔◌, if◌then◌else◌, slice_get, IsTrue}
 use Rattle.std.proofs.Math.Seq.{take-length}
-use Rattle.std.proofs.lemmas.Bool.{cases_lt, eqb-true}
+use Rattle.std.proofs.lemmas.Bool.{cases_Bool, cases_lt, eq-eqb, eqb-true}
 use Rattle.std.proofs.lemmas.List.{length-map, map-append, take-append-le, take_more, get_or_past}
 use Rattle.std.proofs.lemmas.List.Elements.{filter_passes}
 use Rattle.std.proofs.lemmas.List.Sums.{length-filter}
@@ -15,22 +15,18 @@ use Rattle.velo_events.specs.declared.event.ThreadId.{ThreadId}
 use Rattle.velo_events.specs.declared.event.Kind.{Kind}
 use Rattle.velo_events.specs.declared.event.Kind.TheVariants.{Read, Write, Acquire, Release, AcquireShared, ReleaseShared, Begin, End, Fork, Join, Exit}
 use Rattle.velo_events.specs.Event.{thread_of, is_by}
-use Rattle.velo_events.specs.Graph.{HasCycle}
 use Rattle.velo_events.specs.Heap.{times}
 use Rattle.velo_events.specs.Meaning.{action_of}
 use Rattle.velo_events.specs.Tally.{events_of}
 use Rattle.velo_events.proofs.OnScans.{take-take_le}
 use Rattle.velo_events.proofs.OnTraces.{slice_get-push, slice_get-take, slice_get-append}
 use Rattle.velo_explore.specs.Plain.{plain_kind}
-use Rattle.velo_explore.specs.Runs.{script_of, IsRunOf, IsNext, NeverCycles}
-use Rattle.velo_explore.proofs.OnRuns.{IsRunOf-next}
+use Rattle.velo_explore.specs.Free.{done_by_one, IsFreeAt}
+use Rattle.velo_explore.specs.Runs.{script_of, IsRunOf, IsNext}
 use Rattle.velo_moves.specs.Programs.{own, IsProgram, IsLog}
-use Rattle.velo_moves.specs.Free.{GoesAlong}
-use Rattle.velo_moves.specs.Wants.{AreWanted, IsStuck, HasRefusal}
+use Rattle.velo_moves.specs.Free.{IsFree}
+use Rattle.velo_moves.specs.Wants.{AreWanted}
 use Rattle.velo_moves.specs.Scripts.{plain, AreScripts, is_free}
-use Rattle.velo_moves.proofs.OnRules.{rule_of_one, HasCycle-goes_along}
-use Rattle.velo_moves.proofs.OnStuck.{IsStuck-goes_along}
-use Rattle.velo_moves.proofs.OnRefused.{HasRefusal-goes_along}
 use Rattle.velo_moves.proofs.OnScripts.{IsFree-script}
 
 -- the events are of thread t, and the first of its script
@@ -47,10 +43,6 @@ same_plain _ = refl
 -- what thread t tries after these events
 abbrev pub wants_by : List (List Kind) → ℕ → List Event → Option Action
 wants_by scripts t events = option_map action_of (slice_get (script_of scripts t) (length events))
-
--- nothing bad is a run that goes on from the log
-abbrev pub NeverComes : Bounds → List (List Kind) → (List Event → Type 0) → List Event → Type 0
-NeverComes bounds scripts Bad log = (more : List Event) → IsRunOf bounds scripts (log ++ more) → ¬ Bad (log ++ more)
 
 module _ (scripts : List (List Kind)) where
   kinds_of : List Event → List Kind
@@ -163,28 +155,26 @@ module _ (scripts : List (List Kind)) where
     joins = λ t events v d now. script-push t.0 events (record { thread = t; kind = Join v }) d refl (join_of (slice_get (script_of scripts t.0) (length events)) v now);
   }
 
-  -- ---- the rule of one, for runs
+  -- ---- what is free at any time is free after each run
 
-  module _ (bounds : Bounds) (plain_ones : (t i : ℕ) (k : Kind) → slice_get (script_of scripts t) i ≡ Some k → plain_kind k ≡ k) (log : List Event) (e : Event) (run : IsRunOf bounds scripts log) (next : IsNext bounds scripts log e) (free : IsTrue (is_free (length scripts) bounds.locks (script_of scripts) (events_of log) (thread_of e) e.kind)) where
-    -- nothing bad comes where the next event is free and none comes after it
-    pub rule_of_one-runs : (Bad : List Event → Type 0) → GoesAlong bounds (DoesScript scripts) Bad → NeverComes bounds scripts Bad (log ++ e ∷ []) → NeverComes bounds scripts Bad log
-    rule_of_one-runs Bad along never more longer =
-        rule_of_one bounds (DoesScript scripts) IsProgram-scripts Bad along log e
-        ((IsLog-run bounds (log ++ e ∷ [])).0 (IsRunOf-next bounds scripts log e run next))
-        (IsFree-script (DoesScript scripts) IsProgram-scripts (length scripts) (script_of scripts) (AreScripts-scripts plain_ones) bounds log e (events_of log)
+  module _ (bounds : Bounds) (plain_ones : (t i : ℕ) (k : Kind) → slice_get (script_of scripts t) i ≡ Some k → plain_kind k ≡ k) (log : List Event) (e : Event) (run : IsRunOf bounds scripts log) (next : IsNext bounds scripts log e) where
+    done_here : done_by_one (thread_of e) (events_of log (thread_of e)) (thread_of e) ≡ length (own (thread_of e) log)
+    done_here = ap (λ b. if b then events_of log (thread_of e) else 0) (eq-eqb (thread_of e) (thread_of e) refl) ∙ sym (length-own (thread_of e) log)
+
+    done_least : (u : ℕ) → done_by_one (thread_of e) (events_of log (thread_of e)) u ≤ length (own u log)
+    done_least u = ⊎_elim
+        (λ same.
+        let is : u ≡ thread_of e = eqb-true u (thread_of e) same in
+        let count : events_of log (thread_of e) ≡ length (own u log) = ap (events_of log) (sym is) ∙ sym (length-own u log) in
+        subst (λ n. n ≤ length (own u log)) (sym (ap (λ b. if b then events_of log (thread_of e) else 0) same)) (omega (arith, count)))
+        (λ differ. subst (λ n. n ≤ length (own u log)) (sym (ap (λ b. if b then events_of log (thread_of e) else 0) differ)) (omega arith))
+        (cases_Bool (u == thread_of e))
+
+    pub IsFree-at : IsFreeAt scripts (thread_of e) (events_of log (thread_of e)) e.kind → IsFree bounds (DoesScript scripts) log e
+    IsFree-at free =
+        IsFree-script (DoesScript scripts) IsProgram-scripts (length scripts) (script_of scripts) (AreScripts-scripts plain_ones) bounds free.locks log e
+        (done_by_one (thread_of e) (events_of log (thread_of e)))
         ((IsLog-run bounds log).0 run)
-        (sym (length-own (thread_of e) log))
-        (λ u. let same = length-own u log in omega (arith, same))
-        (subst (λ k. IsTrue (is_free (length scripts) bounds.locks (script_of scripts) (events_of log) (thread_of e) k)) (sym (plain_ones (thread_of e) (events_of log (thread_of e)) e.kind next.due) ∙ sym (same_plain e.kind)) free))
-        (λ rest all. never rest ((IsLog-run bounds ((log ++ e ∷ []) ++ rest)).1 all))
-        more
-        ((IsLog-run bounds (log ++ more)).0 longer)
-
-    pub no_cycle-runs : NeverCycles bounds scripts (log ++ e ∷ []) → NeverCycles bounds scripts log
-    no_cycle-runs = rule_of_one-runs HasCycle (HasCycle-goes_along bounds (DoesScript scripts))
-
-    pub not_stuck-runs : NeverComes bounds scripts (IsStuck bounds (wants_by scripts)) (log ++ e ∷ []) → NeverComes bounds scripts (IsStuck bounds (wants_by scripts)) log
-    not_stuck-runs = rule_of_one-runs (IsStuck bounds (wants_by scripts)) (IsStuck-goes_along bounds (DoesScript scripts) IsProgram-scripts (wants_by scripts) AreWanted-scripts)
-
-    pub no_refusal-runs : NeverComes bounds scripts (HasRefusal bounds (wants_by scripts)) (log ++ e ∷ []) → NeverComes bounds scripts (HasRefusal bounds (wants_by scripts)) log
-    no_refusal-runs = rule_of_one-runs (HasRefusal bounds (wants_by scripts)) (HasRefusal-goes_along bounds (DoesScript scripts) IsProgram-scripts (wants_by scripts) AreWanted-scripts)
+        done_here
+        done_least
+        (subst (λ k. IsTrue (is_free (length scripts) free.locks (script_of scripts) (done_by_one (thread_of e) (events_of log (thread_of e))) (thread_of e) k)) (sym (plain_ones (thread_of e) (events_of log (thread_of e)) e.kind next.due) ∙ sym (same_plain e.kind)) free.free)

@@ -2,24 +2,13 @@
 ghost use Rattle.std.specs.Prelude.{◌≡◌, ◌<◌, ◌∷◌, ◌++◌, [], List};
 ghost use Rattle.velo_events.specs.declared.event.Event.{Event};
 ghost use Rattle.velo_heap.specs.Contents.{bounds_of};
-ghost use Rattle.velo_moves.specs.Free.{is_private};
 ghost use Rattle.velo_explore.specs.Search.{ArePlain, AreShort, IsReached, Settles};
 
 use crate::next::Next;
 use crate::scripts::Scripts;
 use crate::searching::next_of;
 use crate::state::State;
-use velo_events::{Kind, ThreadId};
-
-/// Whether the operation is free: nobody else can hinder it, or conflict with it before it is done.
-fn is_free(kind: Kind) -> bool
-    ensures { result ≡ is_private kind }
-{
-    matches!(
-        kind,
-        Kind::Begin(_) | Kind::End | Kind::Release(_) | Kind::ReleaseShared(_) | Kind::Exit
-    )
-}
+use velo_events::ThreadId;
 
 /// Does the thread's next operation, if it may do it and it is free. Whether it did.
 fn settle_once(scripts: &Scripts, state: &mut State, thread: ThreadId) -> bool
@@ -30,18 +19,18 @@ fn settle_once(scripts: &Scripts, state: &mut State, thread: ThreadId) -> bool
     ensures bounds { bounds_of state.new.heap ≡ bounds_of state.old.heap }
     ensures settles { Settles (bounds_of state.old.heap) scripts.now state.old state.new }
 {
+    if !scripts.is_free(thread, state.done_by(thread)) {
+        return false;
+    }
     let Next::May(event) = next_of(scripts, state, thread) else {
         return false;
     };
-    if !is_free(event.kind) {
-        return false;
-    }
     state.step(&event);
     true
 }
 
-/// Does the thread's free operations, as long as one comes next.
-fn settle_thread(scripts: &Scripts, state: &mut State, thread: ThreadId)
+/// Does the thread's free operations, as long as one comes next. Whether there was one.
+fn settle_thread(scripts: &Scripts, state: &mut State, thread: ThreadId) -> bool
     requires plain { ArePlain scripts.now }
     requires short { AreShort scripts.now }
     requires thread { thread.0 < (bounds_of state.old.heap).threads }
@@ -49,14 +38,33 @@ fn settle_thread(scripts: &Scripts, state: &mut State, thread: ThreadId)
     ensures bounds { bounds_of state.new.heap ≡ bounds_of state.old.heap }
     ensures settles { Settles (bounds_of state.old.heap) scripts.now state.old state.new }
 {
-    for _step in 0..u32::MAX {
+    for step in 0..u32::MAX {
         if !settle_once(scripts, state, thread) {
-            return;
+            return step != 0;
         }
     }
+    true
 }
 
-/// Does the free operations of all threads, as long as one comes next.
+/// Does the free operations of one thread after another, as long as one comes next there. Whether there was one.
+fn settle_all(scripts: &Scripts, state: &mut State) -> bool
+    requires plain { ArePlain scripts.now }
+    requires short { AreShort scripts.now }
+    requires reached { IsReached (bounds_of state.old.heap) scripts.now state.old }
+    ensures bounds { bounds_of state.new.heap ≡ bounds_of state.old.heap }
+    ensures settles { Settles (bounds_of state.old.heap) scripts.now state.old state.new }
+{
+    let mut any = false;
+    for thread in 0..state.threads() {
+        if settle_thread(scripts, state, ThreadId(thread)) {
+            any = true;
+        }
+    }
+    any
+}
+
+/// Does free operations, as long as one comes next: those of one thread may let another go on, so it begins again while there
+/// was one.
 pub(crate) fn settle(scripts: &Scripts, state: &mut State)
     requires plain { ArePlain scripts.now }
     requires short { AreShort scripts.now }
@@ -64,7 +72,9 @@ pub(crate) fn settle(scripts: &Scripts, state: &mut State)
     ensures bounds { bounds_of state.new.heap ≡ bounds_of state.old.heap }
     ensures settles { Settles (bounds_of state.old.heap) scripts.now state.old state.new }
 {
-    for thread in 0..state.threads() {
-        settle_thread(scripts, state, ThreadId(thread));
+    for _round in 0..u32::MAX {
+        if !settle_all(scripts, state) {
+            return;
+        }
     }
 }

@@ -54,7 +54,7 @@ module _ (bounds : Bounds) (May : ℕ → List Event → Type 0) (log : List Eve
   })
 
 -- begins, ends, releases and exits have no rivals and no twins
-private-no_rivals : (k l : Kind) → IsTrue (is_private k) → IsFalse (are_rivals k l)
+pub private-no_rivals : (k l : Kind) → IsTrue (is_private k) → IsFalse (are_rivals k l)
 private-no_rivals (Begin x) l h = refl
 private-no_rivals End l h = refl
 private-no_rivals (Release m) l h = and_right _ _ refl
@@ -62,7 +62,7 @@ private-no_rivals (ReleaseShared m) l h = and_right _ _ refl
 private-no_rivals Exit l h = refl
 private-no_rivals _ l h = absurd (false≢true h)
 
-private-no_twins : (k l : Kind) → IsTrue (is_private k) → IsFalse (are_twins k l)
+pub private-no_twins : (k l : Kind) → IsTrue (is_private k) → IsFalse (are_twins k l)
 private-no_twins (Begin x) l h = refl
 private-no_twins End l h = refl
 private-no_twins (Release m) l h = refl

@@ -144,15 +144,15 @@ module _ (May : ℕ → List Event → Type 0) (program : IsProgram May) (thread
           ∙ (sym (are.next t (take i events) e.0 upto) ∙ ap (slice_get (script t)) long))
 
   -- Free by the scripts: what each thread has done at least, and this one exactly
-  pub IsFree-script : (bounds : Bounds) (log : List Event) (e : Event) (done : ℕ → ℕ) → IsLog bounds May log → done (thread_of e) ≡ length (own (thread_of e) log) → ((u : ℕ) → done u ≤ length (own u log)) → IsTrue (is_free threads bounds.locks script done (thread_of e) (plain (action_of e.kind))) → IsFree bounds May log e
+  pub IsFree-script : (bounds : Bounds) (locks : ℕ) (log : List Event) (e : Event) (done : ℕ → ℕ) → IsLog bounds May log → done (thread_of e) ≡ length (own (thread_of e) log) → ((u : ℕ) → done u ≤ length (own u log)) → IsTrue (is_free threads locks script done (thread_of e) (plain (action_of e.kind))) → IsFree bounds May log e
   unfolding is_free
-  IsFree-script bounds log e done all exact least h = IsFree-now bounds May log e (record {
+  IsFree-script bounds locks log e done all exact least h = IsFree-now bounds May log e (record {
     guarded = λ more g other may rivals.
         let events = own (thread_of g) log ++ more in
         let u = thread_of g in
         let nothing = or_parts _ _ (clear more g other may) in
         let lock = guard (are_rivals (plain_kind e.kind) (plain_kind g.kind)) _ nothing.0 (plain-rivals e.kind g.kind ∙ rivals) in
-        let m = any_below-some bounds.locks (λ k. exclude k (take (done t) (script t)) (take (length events) (script u))) lock in
+        let m = any_below-some locks (λ k. exclude k (take (done t) (script t)) (take (length events) (script u))) lock in
         let theirs : May u events = program.earlier u events (g ∷ []) may in
         let my_part : (P : List Kind → Type 0) → P (take (done t) (script t)) → P (plain_events (own t log)) = λ P. subst P (ap (λ n. take n (script t)) exact ∙ sym (script_events t (own t log) (all.each t))) in
         let their_part : (P : List Kind → Type 0) → P (take (length events) (script u)) → P (plain_events events) = λ P. subst P (sym (script_events u events theirs)) in
@@ -180,7 +180,7 @@ module _ (May : ℕ → List Event → Type 0) (program : IsProgram May) (thread
       guard false c no_way h = absurd (false≢true h)
 
       -- what another thread comes to does not hinder
-      clear : (more : List Event) (g : Event) → thread_of g ≢ t → May (thread_of g) ((own (thread_of g) log ++ more) ++ g ∷ []) → IsFalse (hinders bounds.locks (take (done t) (script t)) (plain_kind e.kind) (take (length (own (thread_of g) log ++ more)) (script (thread_of g))) (plain_kind g.kind))
+      clear : (more : List Event) (g : Event) → thread_of g ≢ t → May (thread_of g) ((own (thread_of g) log ++ more) ++ g ∷ []) → IsFalse (hinders locks (take (done t) (script t)) (plain_kind e.kind) (take (length (own (thread_of g) log ++ more)) (script (thread_of g))) (plain_kind g.kind))
       clear more g other may = false_from_ne_true _ (λ found.
           let u = thread_of g in
           let events = own u log ++ more in
@@ -189,7 +189,7 @@ module _ (May : ℕ → List Event → Type 0) (program : IsProgram May) (thread
           let inside : j < length (script u) = slice_get_within (script u) j (plain_kind g.kind) here in
           let known : u < threads = ⊎_elim (λ l. l) (λ beyond. absurd (none-some (plain_kind g.kind) (sym (ap (λ ks. slice_get ks j) (are.others u beyond)) ∙ here))) (cases_lt u threads) in
           let later : done u ≤ j = let l = least u in let long = length-append (own u log) more in omega (arith, l, long) in
-          let at_j = and_from _ _ (le-leb (done u) j later) (ap (λ o. option_map_or (hinders bounds.locks (take (done t) (script t)) (plain_kind e.kind) (take j (script u))) o false) here ∙ found) in
+          let at_j = and_from _ _ (le-leb (done u) j later) (ap (λ o. option_map_or (hinders locks (take (done t) (script t)) (plain_kind e.kind) (take j (script u))) o false) here ∙ found) in
           both_ways _ (not-true _ h) (any_below-at threads _ u known (and_from _ _ (not_from_false _ (ne_eqb u t other)) (any_below-at (length (script u)) _ j inside at_j))))
 
 -- threads that want one action after another have scripts in both senses

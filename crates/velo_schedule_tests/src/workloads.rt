@@ -63,11 +63,11 @@ fn explored(alloc: Global, text: &str, most_states: u64, first: bool) -> Option<
     Some(told_of(&exploration))
 }
 
-static ROWS: [Row<'static>; 14] = [
+static ROWS: [Row<'static>; 20] = [
     // lost update, two threads once
     Row {
         text: "var x\nthread main\nfork a\nfork b\njoin a\njoin b\nthread a\nbegin inc\nread x\nadd 1\nwrite x\nend\nthread b\nbegin inc\nread x\nadd 1\nwrite x\nend\n",
-        states: Some(23),
+        states: Some(12),
         alarm: Known::Shown,
         stuck: Known::Never,
         refused: Known::Never,
@@ -75,7 +75,7 @@ static ROWS: [Row<'static>; 14] = [
     // and three times
     Row {
         text: "var x\nthread main\nfork a\nfork b\njoin a\njoin b\nthread a\nrepeat 3\nbegin inc\nread x\nadd 1\nwrite x\nend\ndone\nthread b\nrepeat 3\nbegin inc\nread x\nadd 1\nwrite x\nend\ndone\n",
-        states: Some(129),
+        states: Some(104),
         alarm: Known::Shown,
         stuck: Known::Never,
         refused: Known::Never,
@@ -83,7 +83,7 @@ static ROWS: [Row<'static>; 14] = [
     // the same under a lock
     Row {
         text: "var x\nlock m\nthread main\nfork a\nfork b\njoin a\njoin b\nthread a\nrepeat 3\nbegin inc\nacquire m\nread x\nadd 1\nwrite x\nrelease m\nend\ndone\nthread b\nrepeat 3\nbegin inc\nacquire m\nread x\nadd 1\nwrite x\nrelease m\nend\ndone\n",
-        states: Some(86),
+        states: Some(16),
         alarm: Known::Never,
         stuck: Known::Never,
         refused: Known::Never,
@@ -91,7 +91,7 @@ static ROWS: [Row<'static>; 14] = [
     // both read what the other wrote
     Row {
         text: "var x\nvar y\nthread main\nfork a\nfork b\njoin a\njoin b\nthread a\nbegin one\nwrite x\nread y\nend\nthread b\nbegin two\nwrite y\nread x\nend\n",
-        states: Some(23),
+        states: Some(12),
         alarm: Known::Shown,
         stuck: Known::Never,
         refused: Known::Never,
@@ -99,7 +99,7 @@ static ROWS: [Row<'static>; 14] = [
     // nested blocks
     Row {
         text: "var x\nthread main\nfork a\nfork b\njoin a\njoin b\nthread a\nbegin one\nbegin two\nread x\nend\nbegin three\nwrite x\nend\nend\nthread b\nwrite x\n",
-        states: Some(17),
+        states: Some(8),
         alarm: Known::Shown,
         stuck: Known::Never,
         refused: Known::Never,
@@ -107,7 +107,7 @@ static ROWS: [Row<'static>; 14] = [
     // a fork within a block
     Row {
         text: "var x\nthread main\nbegin one\nfork a\nread x\nend\njoin a\nthread a\nwrite x\n",
-        states: Some(8),
+        states: Some(5),
         alarm: Known::Shown,
         stuck: Known::Never,
         refused: Known::Never,
@@ -115,7 +115,7 @@ static ROWS: [Row<'static>; 14] = [
     // two fork one thread
     Row {
         text: "var x\nthread main\nfork a\nfork b\nthread a\nfork c\nthread b\nfork c\nthread c\nread x\n",
-        states: Some(9),
+        states: Some(3),
         alarm: Known::Never,
         stuck: Known::Never,
         refused: Known::Shown,
@@ -123,7 +123,7 @@ static ROWS: [Row<'static>; 14] = [
     // joined before its fork
     Row {
         text: "var x\nthread main\nfork a\nfork b\nthread a\nwrite x\nfork c\nthread b\nread x\njoin c\nthread c\n",
-        states: Some(11),
+        states: Some(6),
         alarm: Known::Never,
         stuck: Known::Never,
         refused: Known::Shown,
@@ -131,7 +131,7 @@ static ROWS: [Row<'static>; 14] = [
     // two locks in both orders
     Row {
         text: "lock m\nlock n\nthread main\nfork a\nacquire m\nacquire n\nrelease n\nrelease m\nthread a\nacquire n\nacquire m\nrelease m\nrelease n\n",
-        states: Some(10),
+        states: Some(9),
         alarm: Known::Never,
         stuck: Known::Shown,
         refused: Known::Never,
@@ -171,10 +171,58 @@ static ROWS: [Row<'static>; 14] = [
     // an exit that holds a lock
     Row {
         text: "lock m\nthread main\nfork a\njoin a\nthread a\nacquire m\n",
-        states: Some(3),
+        states: Some(1),
         alarm: Known::Never,
         stuck: Known::Never,
         refused: Known::Shown,
+    },
+    // a block of the first thread, a write of another
+    Row {
+        text: "var x\nthread main\nfork a\nbegin inc\nread x\nadd 1\nwrite x\nend\njoin a\nthread a\nset 5\nwrite x\n",
+        states: Some(8),
+        alarm: Known::Shown,
+        stuck: Known::Never,
+        refused: Known::Never,
+    },
+    // the first thread and another, three lost updates each
+    Row {
+        text: "var x\nthread main\nfork a\nrepeat 3\nbegin inc\nread x\nadd 1\nwrite x\nend\ndone\njoin a\nthread a\nrepeat 3\nbegin inc\nread x\nadd 1\nwrite x\nend\ndone\n",
+        states: Some(104),
+        alarm: Known::Shown,
+        stuck: Known::Never,
+        refused: Known::Never,
+    },
+    // a lock taken twice in one block
+    Row {
+        text: "var x\nlock m\nthread main\nfork a\nbegin inc\nacquire m\nread x\nrelease m\nadd 1\nacquire m\nwrite x\nrelease m\nend\njoin a\nthread a\nacquire m\nset 9\nwrite x\nrelease m\n",
+        states: Some(8),
+        alarm: Known::Shown,
+        stuck: Known::Never,
+        refused: Known::Never,
+    },
+    // transfers by two locks in both orders
+    Row {
+        text: "var x\nvar y\nlock m\nlock n\nthread main\nfork a\nbegin pay\nacquire m\nacquire n\nread x\nwrite x\nread y\nwrite y\nrelease n\nrelease m\nend\njoin a\nthread a\nbegin pay\nacquire n\nacquire m\nread y\nwrite y\nread x\nwrite x\nrelease m\nrelease n\nend\n",
+        states: Some(9),
+        alarm: Known::Never,
+        stuck: Known::Shown,
+        refused: Known::Never,
+    },
+    // updates under a lock, a hundred each
+    Row {
+        text: "var x\nlock m\nthread main\nfork a\nrepeat 100\nbegin inc\nacquire m\nread x\nadd 1\nwrite x\nrelease m\nend\ndone\njoin a\nthread a\nrepeat 100\nbegin inc\nacquire m\nread x\nadd 1\nwrite x\nrelease m\nend\ndone\n",
+        states: Some(10_201),
+        alarm: Known::Never,
+        stuck: Known::Never,
+        refused: Known::Never,
+    },
+    // and of three threads, three each
+    Row {
+        text: "var x\nlock m\nthread main\nfork a\nfork b\nfork c\njoin a\njoin b\njoin c\nthread a\nrepeat 3\nbegin inc\nacquire m\nread x\nadd 1\nwrite x\nrelease m\nend\ndone\nthread b\nrepeat 3\nbegin inc\nacquire m\nread x\nadd 1\nwrite x\nrelease m\nend\ndone\nthread c\nrepeat 3\nbegin inc\nacquire m\nread x\nadd 1\nwrite x\nrelease m\nend\ndone\n",
+        states: Some(64),
+        alarm: Known::Never,
+        stuck: Known::Never,
+        refused: Known::Never,
     },
 ];
 
@@ -198,16 +246,26 @@ fn all_schedules_are_told(rt: HostRuntime) {
 }
 
 #[test]
+fn one_state_may_do(rt: HostRuntime) {
+    let all = explored(rt.alloc(), ROWS[13].text, 1, false);
+    assert_eq!(rt; all.map(|told| told.refused), Some(Known::Shown));
+    assert_eq!(rt; all.map(|told| told.alarm), Some(Known::Never));
+    let one = explored(rt.alloc(), ROWS[2].text, 1, false);
+    assert_eq!(rt; one.map(|told| told.states), Some(1));
+    assert_eq!(rt; one.map(|told| told.alarm), Some(Known::Open));
+}
+
+#[test]
 fn a_budget_leaves_open(rt: HostRuntime) {
     let text = ROWS[2].text;
     let exact = Told {
-        states: 86,
+        states: 16,
         alarm: Known::Never,
         stuck: Known::Never,
         refused: Known::Never,
     };
-    assert_eq!(rt; explored(rt.alloc(), text, 86, false), Some(exact));
-    let short = explored(rt.alloc(), text, 85, false);
+    assert_eq!(rt; explored(rt.alloc(), text, 16, false), Some(exact));
+    let short = explored(rt.alloc(), text, 15, false);
     assert_eq!(rt; short.map(|told| told.alarm), Some(Known::Open));
     assert_eq!(rt; short.map(|told| told.stuck), Some(Known::Open));
     assert_eq!(rt; short.map(|told| told.refused), Some(Known::Open));
@@ -225,7 +283,7 @@ fn is_first(told: Option<Told>, alarm: Known, stuck: Known, refused: Known) -> b
 fn the_first_finding_ends_it(rt: HostRuntime) {
     let alarm = explored(rt.alloc(), ROWS[1].text, 100_000, true);
     assert!(rt; is_first(alarm, Known::Shown, Known::Open, Known::Open));
-    let fewer = alarm.map(|told| told.states < 129);
+    let fewer = alarm.map(|told| told.states < 104);
     assert_eq!(rt; fewer, Some(true));
     let stuck = explored(rt.alloc(), ROWS[8].text, 100_000, true);
     assert!(rt; is_first(stuck, Known::Open, Known::Shown, Known::Open));
@@ -245,10 +303,10 @@ fn an_alarm_comes_before_a_refusal(rt: HostRuntime) {
 #[test]
 fn without_a_finding_all_is_tried(rt: HostRuntime) {
     let exact = Told {
-        states: 86,
+        states: 16,
         alarm: Known::Never,
         stuck: Known::Never,
         refused: Known::Never,
     };
-    assert_eq!(rt; explored(rt.alloc(), ROWS[2].text, 86, true), Some(exact));
+    assert_eq!(rt; explored(rt.alloc(), ROWS[2].text, 16, true), Some(exact));
 }

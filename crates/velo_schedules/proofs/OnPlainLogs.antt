@@ -21,7 +21,7 @@ use Rattle.velo_worker.specs.Progress.{action_for}
 use Rattle.velo_worker.specs.Walk.{walk_of}
 use Rattle.velo_explore.specs.Plain.{plain_kind, plain_log}
 use Rattle.velo_explore.specs.Plain as values
-use Rattle.velo_explore.specs.Runs.{script_of, IsRunOf, NeverCycles}
+use Rattle.velo_explore.specs.Runs.{script_of, IsRunOf, Never, NeverCycles}
 use Rattle.velo_explore.proofs.OnPlain.{HasCycle-plain, IsWellFormed-plain, status_in-plain, depth_in-plain, holder_in-plain, shares_in-plain}
 use Rattle.velo_moves.specs.Programs.{own}
 use Rattle.velo_moves.specs.Scripts.{plain}
@@ -33,7 +33,7 @@ use Rattle.velo_schedules.specs.Bodies.{operation, operations_of, operations_by,
 use Rattle.velo_schedules.proofs.OnBodyScripts.{HaveScripts-bodies, scripts-done}
 use Rattle.velo_schedules.proofs.OnReplays.{IsLogOf-replays}
 use Rattle.velo_schedules.proofs.OnEndings.{IsStuck-replays, HasRefusal-replays}
-use Rattle.velo_explore.proofs.OnRunsOfScripts.{same_plain, wants_by, NeverComes, length-own}
+use Rattle.velo_explore.proofs.OnRunsOfScripts.{same_plain, wants_by, length-own}
 
 -- ---- the events of a thread, without values
 
@@ -167,13 +167,13 @@ module _ (program : Program) where
       (serializable_law-none closed.log).0 (λ c. never (plain_log closed.log) (IsRunOf-plain closed.log all) (HasCycle-plain closed.log c))
 
   -- where none is stuck, no replay is
-  pub NeverStuck-runs : NeverComes program.bounds (all_scripts program) (IsStuck program.bounds (wants_by (all_scripts program))) [] → NeverStuck program
+  pub NeverStuck-runs : Never (IsStuck program.bounds (wants_by (all_scripts program))) program.bounds (all_scripts program) [] → NeverStuck program
   NeverStuck-runs never schedule config closed is r =
       let all = IsLogOf-replays program schedule config Stuck closed is r in
       never (plain_log closed.log) (IsRunOf-plain closed.log all) (IsStuck-plain closed.log all (IsStuck-replays program schedule config closed is r))
 
   -- and where in none a thread is refused, replays are for want of room alone
-  pub NeverRefused-runs : NeverComes program.bounds (all_scripts program) (HasRefusal program.bounds (wants_by (all_scripts program))) [] → NeverRefused program
+  pub NeverRefused-runs : Never (HasRefusal program.bounds (wants_by (all_scripts program))) program.bounds (all_scripts program) [] → NeverRefused program
   NeverRefused-runs never schedule config u r closed is w =
       let all = IsLogOf-replays program schedule config (Refused u r) closed is w in
       ⊎_elim (λ refused. absurd (never (plain_log closed.log) (IsRunOf-plain closed.log all) (HasRefusal-plain closed.log all refused))) (λ room. room)

@@ -86,5 +86,5 @@ pub(crate) fn scripts_of(alloc: Global, workload: &Workload) -> Result<Scripts, 
         reserve(&mut threads, 1)?;
         threads.push_reserved(own);
     }
-    Ok(Scripts::new(threads))
+    Scripts::new(alloc, threads, workload.bounds().locks)
 }

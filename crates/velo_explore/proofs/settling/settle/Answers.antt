@@ -1,25 +1,34 @@
-use Rattle.std.proofs.Common.{◌<◌, refl, sym, ◌∙◌, subst, arith}
+use Rattle.std.proofs.Common.{refl, sym, ◌∙◌, subst}
 use Rattle.velo_heap.specs.Contents.{bounds_of}
 use Rattle.velo_explore.specs.Search.{IsReached, Settles}
 use Rattle.velo_explore.proofs.OnFreeEvents.{settles_same, settles_next}
 use Rattle.velo_explore.proofs.settling.settle.Goals as goal
 
-pub loop-thread-init : goal.loop-thread-init
-loop-thread-init c = record { same = refl; settles = settles_same (bounds_of c.args.state.now.heap) c.args.scripts.now c.args.state.now }
+pub loop-round-init : goal.loop-round-init
+loop-round-init c = record { same = refl; settles = settles_same (bounds_of c.args.state.now.heap) c.args.scripts.now c.args.state.now }
 
-pub settle_thread-requires-clause-thread : goal.settle_thread-requires-clause-thread
-settle_thread-requires-clause-thread c =
-    let below : c.loop-thread.thread < (bounds_of c.args.state.now.heap).threads = omega (arith, c.loop-thread-test.true, c.threads-thread-end.ensures) in
-    subst (λ b. c.loop-thread.thread < b.threads) (sym c.loop-thread.invariant.same) below
+pub settle_all-requires-clause-reached : goal.settle_all-requires-clause-reached
+settle_all-requires-clause-reached c =
+    subst (λ b. IsReached b c.args.scripts.now c.loop-round.state) (sym c.loop-round.invariant.same) (c.loop-round.invariant.settles.reached c.requires.reached)
 
-pub settle_thread-requires-clause-reached : goal.settle_thread-requires-clause-reached
-settle_thread-requires-clause-reached c =
-    subst (λ b. IsReached b c.args.scripts.now c.loop-thread.state) (sym c.loop-thread.invariant.same) (c.loop-thread.invariant.settles.reached c.requires.reached)
-
-pub loop-thread-preserved : goal.loop-thread-preserved
-loop-thread-preserved c = record {
-  same = c.settle_thread.ensures.bounds ∙ c.loop-thread.invariant.same;
+pub loop-round-preserved : goal.loop-round-preserved
+loop-round-preserved c = record {
+  same = c.settle_all.ensures.bounds ∙ c.loop-round.invariant.same;
   settles =
-      settles_next (bounds_of c.args.state.now.heap) c.args.scripts.now c.args.state.now c.loop-thread.state c.settle_thread.new.state c.loop-thread.invariant.settles
-      (subst (λ b. Settles b c.args.scripts.now c.loop-thread.state c.settle_thread.new.state) c.loop-thread.invariant.same c.settle_thread.ensures.settles);
+      settles_next (bounds_of c.args.state.now.heap) c.args.scripts.now c.args.state.now c.loop-round.state c.settle_all.new.state c.loop-round.invariant.settles
+      (subst (λ b. Settles b c.args.scripts.now c.loop-round.state c.settle_all.new.state) c.loop-round.invariant.same c.settle_all.ensures.settles);
 }
+
+pub returns-then-not-settle_all-clause-bounds : goal.returns-then-not-settle_all-clause-bounds
+returns-then-not-settle_all-clause-bounds c = c.settle_all.ensures.bounds ∙ c.loop-round.invariant.same
+
+pub returns-then-not-settle_all-clause-settles : goal.returns-then-not-settle_all-clause-settles
+returns-then-not-settle_all-clause-settles c =
+    settles_next (bounds_of c.args.state.now.heap) c.args.scripts.now c.args.state.now c.loop-round.state c.settle_all.new.state c.loop-round.invariant.settles
+    (subst (λ b. Settles b c.args.scripts.now c.loop-round.state c.settle_all.new.state) c.loop-round.invariant.same c.settle_all.ensures.settles)
+
+pub returns-clause-bounds : goal.returns-clause-bounds
+returns-clause-bounds c = c.loop-round.invariant.same
+
+pub returns-clause-settles : goal.returns-clause-settles
+returns-clause-settles c = c.loop-round.invariant.settles

@@ -1,5 +1,9 @@
-use Rattle.std.proofs.Common.{refl, sym, ◌∙◌}
+use Rattle.std.proofs.Common.{◌≡◌, Some, refl, sym, ap, ◌∙◌, subst}
+use Rattle.std.specs.Prelude.{slice_get}
+use Rattle.velo_events.specs.Tally.{events_of}
 use Rattle.velo_heap.specs.Contents.{bounds_of}
+use Rattle.velo_explore.specs.Free.{IsFreeAt}
+use Rattle.velo_explore.specs.Runs.{script_of}
 use Rattle.velo_explore.proofs.OnFreeEvents.{settles_free, next-reached, counted-next}
 use Rattle.velo_explore.proofs.settling.settle_once.Goals as goal
 
@@ -13,10 +17,17 @@ pub returns-clause-settles : goal.returns-clause-settles
 returns-clause-settles c =
     let bounds = bounds_of c.args.state.now.heap in
     let scripts = c.args.scripts.now in
+    let t = c.args.thread.0 in
     let before = c.args.state.now in
     let after = c.step.new.self in
     let e = c.in-May.event in
-    settles_free bounds scripts before after e (sym c.is_free.ensures ∙ c.if-not-is_free.false)
+    settles_free bounds scripts before after e c.requires.plain
+    (λ log run stands.
+    let w = c.in-May.ensures log run stands in
+    let index : c.done_by.result ≡ events_of log t = c.done_by.ensures log stands in
+    let due : slice_get (script_of scripts t) (events_of log t) ≡ Some e.kind = subst (λ u. slice_get (script_of scripts u) (events_of log u) ≡ Some e.kind) w.0 w.1.due in
+    let free : IsFreeAt scripts t c.done_by.result e.kind = c.is_free.ensures c.if-not-is_free.false e.kind (ap (slice_get (script_of scripts t)) index ∙ due) in
+    subst (λ u. IsFreeAt scripts u (events_of log u) e.kind) (sym w.0) (subst (λ n. IsFreeAt scripts t n e.kind) index free))
     (λ log run stands. (c.in-May.ensures log run stands).1)
     c.step.ensures.next
     (λ r. next-reached bounds scripts before after e r (c.in-May.ensures r.log r.run r.stands).1 (c.step.ensures.next r.log r.stands) c.step.ensures.bounds)

@@ -1,0 +1,95 @@
+//! The schedules that lead to first alarms, and what is told of the levels.
+use std::alloc::Global;
+use velo_events::{Config, ThreadId};
+use velo_schedules::{Exploration, Progress, Quiet, explore, replayed};
+use velo_workload::{Workload, parse};
+
+/// Whether the replay by a schedule has an alarm.
+fn has_alarm(
+    alloc: Global,
+    workload: &Workload,
+    schedule: &[ThreadId],
+    config: Config,
+) -> Option<bool> {
+    let run = replayed(alloc, workload, schedule, config).ok()?;
+    let alarm = run.0.alarm().is_some();
+    drop(run);
+    Some(alarm)
+}
+
+/// How many schedules to alarms are handed out, and how many of them lead to one.
+fn count_alarms(alloc: Global, text: &str, first: bool) -> Option<(usize, usize)> {
+    let workload = parse(alloc, text).ok()?;
+    let config = Config::new(1, workload.bounds(), 10_000, 64, false).ok()?;
+    let Exploration { alarms, .. } = explore(
+        alloc, &workload, 100_000, first, config, &mut Quiet,
+    ).ok()?;
+    let mut shown = 0;
+    for schedule in &alarms {
+        if has_alarm(alloc, &workload, schedule, config)? {
+            shown += 1;
+        }
+    }
+    Some((alarms.len(), shown))
+}
+
+static LOST: &str =
+    "var x\nthread main\nfork a\nbegin inc\nread x\nadd 1\nwrite x\nend\njoin a\nthread a\nset 5\nwrite x\n";
+
+static RACE: &str =
+    "var x\nthread main\nfork a\nrepeat 3\nbegin inc\nread x\nadd 1\nwrite x\nend\ndone\njoin a\nthread a\nrepeat 3\nbegin inc\nread x\nadd 1\nwrite x\nend\ndone\n";
+
+static MANY: &str =
+    "var x\nthread main\nfork a\nrepeat 9\nbegin inc\nread x\nadd 1\nwrite x\nend\ndone\njoin a\nthread a\nrepeat 9\nbegin inc\nread x\nadd 1\nwrite x\nend\ndone\n";
+
+static ALONE: &str = "var x\nthread main\nbegin all\nfork a\njoin a\nend\nthread a\nwrite x\n";
+
+#[test]
+fn each_decision_that_closes_a_cycle_is_handed_out(rt: HostRuntime) {
+    // as many as a model counts
+    assert_eq!(rt; count_alarms(rt.alloc(), LOST, false), Some((1, 1)));
+    assert_eq!(rt; count_alarms(rt.alloc(), RACE, false), Some((30, 30)));
+    // no more than a hundred
+    assert_eq!(rt; count_alarms(rt.alloc(), MANY, false), Some((100, 100)));
+    // before any decision
+    assert_eq!(rt; count_alarms(rt.alloc(), ALONE, false), Some((1, 1)));
+    assert_eq!(rt; count_alarms(rt.alloc(), RACE, true), Some((0, 0)));
+}
+
+/// What it was told: how often, and the last numbers.
+#[derive(Clone, Copy, Debug)]
+struct Heard {
+    times: u64,
+    levels: u64,
+    states: u64,
+}
+
+impl Progress for Heard {
+    fn level_done(&mut self, levels: u64, states: u64) {
+        self.times = self.times.saturating_add(1);
+        self.levels = levels;
+        self.states = states;
+    }
+}
+
+/// How often a level was told, how many there were at the end, and how many states then and in all.
+fn told_levels(alloc: Global, text: &str) -> Option<(u64, u64, u64, u64)> {
+    let workload = parse(alloc, text).ok()?;
+    let config = Config::new(1, workload.bounds(), 10_000, 64, false).ok()?;
+    let mut heard = Heard {
+        times: 0,
+        levels: 0,
+        states: 0,
+    };
+    let Exploration { states, .. } = explore(
+        alloc, &workload, 100_000, false, config, &mut heard,
+    ).ok()?;
+    Some((heard.times, heard.levels, heard.states, states))
+}
+
+#[test]
+fn each_level_is_told(rt: HostRuntime) {
+    // twelve decisions, and the start
+    assert_eq!(rt; told_levels(rt.alloc(), RACE), Some((13, 13, 104, 104)));
+    assert_eq!(rt; told_levels(rt.alloc(), ALONE), Some((1, 1, 1, 1)));
+}
