@@ -77,7 +77,7 @@ clash_of (Audit options) given =
 abbrev pub line_of_clash : Clash → List ℕ
 line_of_clash InputTwice = codes "error: standard input can be read once\n"
 line_of_clash NamesWithoutLog = codes "error: --names-out goes only with --log\n"
-line_of_clash OnePath = codes "error: --log and --names-out are one path\n"
+line_of_clash OnePath = codes "error: OUT and NAMES are one file\n"
 line_of_clash SearchByChance =
     codes "error: --random goes with neither --states nor --first nor --progress\n"
 line_of_clash SeedAlone = codes "error: --seed goes only with --random\n"

@@ -171,7 +171,7 @@ fn line_of_clash(clash: Clash) -> &'static [u8]
     match clash {
         Clash::InputTwice => b"error: standard input can be read once\n",
         Clash::NamesWithoutLog => b"error: --names-out goes only with --log\n",
-        Clash::OnePath => b"error: --log and --names-out are one path\n",
+        Clash::OnePath => b"error: OUT and NAMES are one file\n",
         Clash::SearchByChance => {
             b"error: --random goes with neither --states nor --first nor --progress\n"
         }
