@@ -1,12 +1,11 @@
 -- Counts of labels, with one alarm more.
-use Rattle.std.proofs.Common.{◌≡◌, ℕ, ◌+◌, ◌-◌, ◌^◌, ◌<◌, min, Bool, true, false, cond, List, [], ◌∷◌, ◌++◌, map, refl, sym, ap, ◌∙◌, subst, arith, ⊎_elim}
-use Rattle.std.specs.Prelude.{◌==◌, ◌||◌, All, IsTrue, IsFalse, fold, if◌then◌else◌}
-use Rattle.std.specs.List.{list_any}
+use Rattle.std.proofs.Common.{◌≡◌, ℕ, ◌+◌, ◌-◌, ◌^◌, ◌<◌, ◌≤◌, min, Bool, true, false, List, [], ◌∷◌, ◌++◌, map, refl, sym, ap, ◌∙◌, subst, arith, ⊎_elim}
+use Rattle.std.specs.Prelude.{◌==◌, ◌||◌, All, IsTrue, IsFalse, if◌then◌else◌}
 use Rattle.std.proofs.lemmas.Bool.{cases_Bool, eq-eqb, eqb-true, false≢true}
 use Rattle.std.proofs.lemmas.List.Elements.{All-map, All-push, All-weaker}
 use Rattle.std.proofs.lemmas.List.Folds.{list_any-append}
 use Rattle.velo_traces.specs.declared.block.Block.{Block}
-use Rattle.velo_chance.specs.declared.chance.Blamed.{Blamed}
+use Rattle.velo_chance.specs.declared.tally.Blamed.{Blamed}
 use Rattle.velo_chance.specs.Runs.{has_label}
 use Rattle.velo_chance.specs.Tallies.{is_listed, AreCounts}
 use Rattle.velo_chance.specs.Counting.{with_alarm, with_other, with_others}
@@ -52,6 +51,18 @@ IsCount-with_alarm count blocks few b is = ⊎_elim
     (λ h. subst (IsCountIf count blocks b) (sym h) (as_before b.alarms (count b.label.0) is ∙ sym (ap (λ t. count b.label.0 + (if t then 1 else 0)) h)))
     (cases_Bool (has_label b.label.0 blocks))
 
+abbrev IsSome : Blamed → Type 0
+IsSome b = 1 ≤ b.alarms
+
+capped-some : (n : ℕ) → 1 ≤ n → 1 ≤ min (n + 1) (2 ^ 64 - 1)
+capped-some n some = omega (arith, some)
+
+IsSome-with_alarm : (blocks : List Block) (b : Blamed) → IsSome b → IsSome (with_alarm blocks b)
+IsSome-with_alarm blocks b some = ⊎_elim
+    (λ h. subst (λ t. IsSome (counted_if b t)) (sym h) (capped-some b.alarms some))
+    (λ h. subst (λ t. IsSome (counted_if b t)) (sym h) some)
+    (cases_Bool (has_label b.label.0 blocks))
+
 -- ---- those that are added
 
 or-left : (a b : Bool) → IsFalse (a || b) → IsFalse a
@@ -77,6 +88,7 @@ or-first true b yes_a = refl
 -- what a list of labels has still to come to
 record Lacks (count : ℕ → ℕ) (blocks : List Block) (blamed : List Blamed) : Type 0 where
   pub each : All (IsCount count) blamed
+  pub some : All IsSome blamed
   pub ones : (label : ℕ) → IsTrue (has_label label blocks) → IsFalse (is_listed label blamed) → count label ≡ 1
   pub others : (label : ℕ) → IsFalse (has_label label blocks) → IsFalse (is_listed label blamed) → count label ≡ 0
 
@@ -94,11 +106,13 @@ Lacks-next : (count : ℕ → ℕ) (b : Block) (blocks : List Block) (blamed : L
 Lacks-next count b blocks blamed lacks = ⊎_elim
     (λ h. subst (λ t. Lacks count blocks (if t then blamed else blamed ++ one_of b ∷ [])) (sym h) (record {
       each = lacks.each;
+      some = lacks.some;
       ones = λ label yes none. lacks.ones label (or-some (b.label.0 == label) (has_label label blocks) yes) none;
       others = λ label no none. lacks.others label (or-none (b.label.0 == label) (has_label label blocks) (not-that b label blamed h none) no) none;
     }))
     (λ h. subst (λ t. Lacks count blocks (if t then blamed else blamed ++ one_of b ∷ [])) (sym h) (record {
       each = All-push (IsCount count) blamed (one_of b) lacks.each (sym (lacks.ones b.label.0 (or-first (b.label.0 == b.label.0) (has_label b.label.0 blocks) (eq-eqb b.label.0 b.label.0 refl)) h));
+      some = All-push IsSome blamed (one_of b) lacks.some (omega arith);
       ones = λ label yes none. lacks.ones label (or-some (b.label.0 == label) (has_label label blocks) yes) (before label none);
       others = λ label no none. lacks.others label (or-none (b.label.0 == label) (has_label label blocks) (apart label none) no) (before label none);
     }))
@@ -114,7 +128,7 @@ Lacks-next count b blocks blamed lacks = ⊎_elim
     apart label none = or-left (b.label.0 == label) false (or-right (is_listed label blamed) ((b.label.0 == label) || false) (both label none))
 
 AreCounts-added : (count : ℕ → ℕ) (blocks : List Block) (blamed : List Blamed) → Lacks count blocks blamed → AreCounts count (with_others blocks blamed)
-AreCounts-added count [] blamed lacks = record { each = lacks.each; others = λ label none. lacks.others label refl none }
+AreCounts-added count [] blamed lacks = record { each = lacks.each; some = lacks.some; others = λ label none. lacks.others label refl none }
 AreCounts-added count (b ∷ blocks) blamed lacks = AreCounts-added count blocks (with_other blamed b) (Lacks-next count b blocks blamed lacks)
 
 -- ---- both
@@ -122,6 +136,7 @@ AreCounts-added count (b ∷ blocks) blamed lacks = AreCounts-added count blocks
 pub AreCounts-alarm : (count : ℕ → ℕ) (blocks : List Block) (blamed : List Blamed) → ((label : ℕ) → count label < 2 ^ 64 - 1) → AreCounts count blamed → AreCounts (more count blocks) (with_others blocks (map (with_alarm blocks) blamed))
 AreCounts-alarm count blocks blamed few counts = AreCounts-added (more count blocks) blocks (map (with_alarm blocks) blamed) (record {
   each = All-map (IsCount (more count blocks)) (with_alarm blocks) blamed (All-weaker (IsCount count) (λ b. IsCount (more count blocks) (with_alarm blocks b)) (IsCount-with_alarm count blocks few) blamed counts.each);
+  some = All-map IsSome (with_alarm blocks) blamed (All-weaker IsSome (λ b. IsSome (with_alarm blocks b)) (IsSome-with_alarm blocks) blamed counts.some);
   ones = λ label yes none. ap (λ t. count label + (if t then 1 else 0)) yes ∙ ap (λ n. n + 1) (zero_of label none);
   others = λ label no none. ap (λ t. count label + (if t then 1 else 0)) no ∙ ap (λ n. n + 0) (zero_of label none);
 })
@@ -133,6 +148,7 @@ AreCounts-alarm count blocks blamed few counts = AreCounts-added (more count blo
 pub AreCounts-same : (count other : ℕ → ℕ) (blamed : List Blamed) → ((label : ℕ) → count label ≡ other label) → AreCounts count blamed → AreCounts other blamed
 AreCounts-same count other blamed same counts = record {
   each = All-weaker (IsCount count) (IsCount other) (λ b is. is ∙ same b.label.0) blamed counts.each;
+  some = counts.some;
   others = λ label none. sym (same label) ∙ counts.others label none;
 }
 

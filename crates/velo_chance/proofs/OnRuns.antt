@@ -1,8 +1,10 @@
 -- What runs come to, with one more.
 use Rattle.std.proofs.Common.{◌≡◌, ℕ, ◌+◌, ◌-◌, ◌^◌, ◌<◌, ◌≤◌, min, Bool, true, false, not, cond, List, [], ◌∷◌, ◌++◌, length, length-append, Option, Some, None, Result, Ok, Err, option_map, refl, sym, ap, ◌∙◌, subst, arith, ⊎_elim}
 use Rattle.std.specs.Borrow.{Bor}
-use Rattle.std.specs.Prelude.{◌==◌, All, IfNone, IsPermutation, IfOk, IfSome, IsFalse, IsTrue, find, count_by, if◌then◌else◌, is_some}
+use Rattle.std.specs.Prelude.{◌==◌, ◌||◌, All, IfNone, IsPermutation, IfOk, IfSome, IsFalse, IsTrue, find, count_by, if◌then◌else◌, is_some}
+use Rattle.std.specs.List.{list_any}
 use Rattle.std.specs.Option.{option_or}
+use Rattle.std.proofs.lemmas.List.{length-map, map_push}
 use Rattle.std.proofs.lemmas.Bool.{cases_Bool, false≢true}
 use Rattle.std.proofs.lemmas.List.Elements.{All-head, All-push, All-tail}
 use Rattle.std.proofs.lemmas.List.Folds.{find-append}
@@ -23,10 +25,10 @@ use Rattle.velo_schedules.specs.declared.finding.RefusedRun.{RefusedRun}
 use Rattle.velo_schedules.specs.Logs.{ends_refused, is_for_room}
 use Rattle.velo_schedules.specs.Told.{ShowsAlarm, ShowsStuck, ShowsRefusal}
 use Rattle.std.proofs.lemmas.List.Sums.{count_by-le-length, sum_by_push}
-use Rattle.velo_chance.specs.declared.chance.Blamed.{Blamed}
-use Rattle.velo_chance.specs.declared.chance.Chance.{Chance}
+use Rattle.velo_chance.specs.declared.tally.Blamed.{Blamed}
+use Rattle.velo_chance.specs.declared.tally.Tally.{Tally}
 use Rattle.velo_chance.specs.Runs.{Run, IsRun, has_alarm, is_stuck, is_refused, blames, blocks_of, ends_stuck, has_label}
-use Rattle.velo_chance.specs.Tallies.{ComesTo, IsTried, AreCounts, ending_of}
+use Rattle.velo_chance.specs.Tallies.{ComesTo, IsTold, IsTried, IsTriedBy, AreCounts, ending_of}
 use Rattle.velo_chance.proofs.OnCounts.{AreCounts-none, AreCounts-same}
 
 map-or : {X Y : Type 0} (f : X → Y) (o p : Option X) → option_map f (option_or o p) ≡ option_or (option_map f o) (option_map f p)
@@ -56,7 +58,7 @@ at_most_one true = omega arith
 at_most_one false = omega arith
 
 -- one more run is noted so
-pub record Notes (before : Chance) (run : Run) (after : Chance) : Type 0 where
+pub record Notes (before : Tally) (run : Run) (after : Tally) : Type 0 where
   pub few : before.runs < 2 ^ 64 - 1
   pub runs : after.runs ≡ before.runs + 1
   pub alarm : option_map (λ schedule. schedule.items) after.alarm ≡ option_or (option_map (λ schedule. schedule.items) before.alarm) (if has_alarm run then Some run.schedule else None)
@@ -65,7 +67,7 @@ pub record Notes (before : Chance) (run : Run) (after : Chance) : Type 0 where
   pub alarms : after.alarms ≡ min (before.alarms + (if has_alarm run then 1 else 0)) (2 ^ 64 - 1)
   pub blamed : (count : ℕ → ℕ) → ((label : ℕ) → count label < 2 ^ 64 - 1) → AreCounts count before.blamed.items → AreCounts (λ label. count label + (if has_label label (blocks_of run.alarm) then 1 else 0)) after.blamed.items
 
-pub ComesTo-noted : (runs : List Run) (run : Run) (before after : Chance) → Notes before run after → ComesTo runs before → ComesTo (runs ++ run ∷ []) after
+pub ComesTo-noted : (runs : List Run) (run : Run) (before after : Tally) → Notes before run after → ComesTo runs before → ComesTo (runs ++ run ∷ []) after
 ComesTo-noted runs run before after notes comes = record {
   count = notes.runs ∙ (ap (λ n. n + 1) comes.count ∙ sym (length-append runs (run ∷ [])));
   alarm = kept (λ r. r.schedule) has_alarm runs run _ _ comes.alarm notes.alarm;
@@ -97,8 +99,25 @@ AreCounts-no_alarm count alarm blamed is counts = subst (λ o. AreCounts (counte
 AreCounts-permutation : (count : ℕ → ℕ) (before after : List Blamed) → IsPermutation before after → AreCounts count before → AreCounts count after
 AreCounts-permutation count before after moved counts = record {
   each = All-permutation (λ b. b.alarms ≡ count b.label.0) before after moved counts.each;
+  some = All-permutation (λ b. 1 ≤ b.alarms) before after moved counts.some;
   others = λ label none. counts.others label (list_any-IsPermutation (λ b. b.label.0 == label) before after moved ∙ none);
 }
+
+-- ---- whether there is a first
+
+some-map_of : {X Y : Type 0} (f : X → Y) (o : Option X) → is_some (option_map f o) ≡ is_some o
+some-map_of f None = refl
+some-map_of f (Some x) = refl
+
+is_some-find : (p : Run → Bool) (runs : List Run) → is_some (find p runs) ≡ list_any p runs
+is_some-find p [] = refl
+is_some-find p (run ∷ runs) = ⊎_elim
+    (λ h. ap (λ b. is_some (cond b (Some run) (find p runs))) h ∙ sym (ap (λ b. b || list_any p runs) h))
+    (λ h. ap (λ b. is_some (cond b (Some run) (find p runs))) h ∙ (is_some-find p runs ∙ sym (ap (λ b. b || list_any p runs) h)))
+    (cases_Bool (p run))
+
+some-first : {A Y : Type 0} (g : A → Y) (f : Run → Y) (p : Run → Bool) (o : Option A) (runs : List Run) → option_map g o ≡ option_map f (find p runs) → is_some o ≡ list_any p runs
+some-first g f p o runs same = sym (some-map_of g o) ∙ (ap (λ x. is_some x) same ∙ (some-map_of f (find p runs) ∙ is_some-find p runs))
 
 -- ---- replays
 
@@ -115,19 +134,21 @@ if_ok (Ok x) step given = step x given
 if_ok (Err e) step given = tt
 
 module _ (program : Program) (config : Config) where
-  pub IsTried-once : (run : Run) → IsRun program config run → (before after : Chance) → ((runs : List Run) → ComesTo runs before → ComesTo (runs ++ run ∷ []) after) → (n : ℕ) → IsTried program config n before → IsTried program config (n + 1) after
-  IsTried-once run is before after step n tried = record {
+  pub IsTriedBy-once : (run : Run) → IsRun program config run → (before after : Tally) → ((runs : List Run) → ComesTo runs before → ComesTo (runs ++ run ∷ []) after)
+      → (schedules : List (List ThreadId)) → IsTriedBy program config schedules before → IsTriedBy program config (schedules ++ run.schedule ∷ []) after
+  IsTriedBy-once run is before after step schedules tried = record {
     runs = tried.runs ++ run ∷ [];
     replayed = All-push (IsRun program config) tried.runs run tried.replayed is;
-    count = length-append tried.runs (run ∷ []) ∙ ap (λ k. k + 1) tried.count;
+    by = map_push (λ r. r.schedule) tried.runs run ∙ ap (λ (l : List (List ThreadId)). l ++ run.schedule ∷ []) tried.by;
     comes_to = step tried.runs tried.comes_to;
   }
 
-  pub IsTried-ordered : (n : ℕ) (before after : Chance) → after ≡ record before { blamed = after.blamed } → IsPermutation before.blamed.items after.blamed.items → IsTried program config n before → IsTried program config n after
-  IsTried-ordered n before after same moved tried = record {
+  pub IsTriedBy-ordered : (schedules : List (List ThreadId)) (before after : Tally) → after ≡ record before { blamed = after.blamed } → IsPermutation before.blamed.items after.blamed.items
+      → IsTriedBy program config schedules before → IsTriedBy program config schedules after
+  IsTriedBy-ordered schedules before after same moved tried = record {
     runs = tried.runs;
     replayed = tried.replayed;
-    count = tried.count;
+    by = tried.by;
     comes_to = record {
       count = ap (λ c. c.runs) same ∙ tried.comes_to.count;
       alarm = ap (λ c. option_map (λ schedule. schedule.items) c.alarm) same ∙ tried.comes_to.alarm;
@@ -137,6 +158,22 @@ module _ (program : Program) (config : Config) where
       blamed = AreCounts-permutation (λ label. count_by (blames label) tried.runs) before.blamed.items after.blamed.items moved tried.comes_to.blamed;
     };
   }
+
+  -- so many schedules, with one more
+  pub IsTried-once : (schedule : List ThreadId) (before after : Tally) → ((schedules : List (List ThreadId)) → IsTriedBy program config schedules before → IsTriedBy program config (schedules ++ schedule ∷ []) after)
+      → (n : ℕ) → IsTried program config n before → IsTried program config (n + 1) after
+  IsTried-once schedule before after step n is = record {
+    schedules = is.schedules ++ schedule ∷ [];
+    count = length-append is.schedules (schedule ∷ []) ∙ ap (λ k. k + 1) is.count;
+    tried = step is.schedules is.tried;
+  }
+
+  pub IsTried-ordered : (n : ℕ) (before after : Tally) → after ≡ record before { blamed = after.blamed } → IsPermutation before.blamed.items after.blamed.items → IsTried program config n before → IsTried program config n after
+  IsTried-ordered n before after same moved is =
+      record { schedules = is.schedules; count = is.count; tried = IsTriedBy-ordered is.schedules before after same moved is.tried }
+
+  pub IsTried-none : (tally : Tally) → IsTriedBy program config [] tally → IsTried program config 0 tally
+  IsTried-none tally tried = record { schedules = []; count = refl; tried = tried }
 
   -- ---- what is shown
 
@@ -194,13 +231,42 @@ module _ (program : Program) (config : Config) where
   refused-some None ends = tt
   refused-some (Some run) ends = record { closed = ends.closed; replays = ends.replays; lasting = not-true (is_for_room run.refusal) ends.lasting }
 
-  module _ (n : ℕ) (chance : Chance) (tried : IsTried program config n chance) where
-    pub alarm-shown : IfSome chance.alarm (λ schedule. ShowsAlarm program config schedule.items)
-    alarm-shown = shown (λ schedule. schedule.items) (λ run. run.schedule) has_alarm chance.alarm (find has_alarm tried.runs) (ShowsAlarm program config) tried.comes_to.alarm shows-alarm (found has_alarm tried.runs tried.replayed)
+  module _ (schedules : List (List ThreadId)) (tally : Tally) (tried : IsTriedBy program config schedules tally) where
+    pub alarm-shown : IfSome tally.alarm (λ schedule. ShowsAlarm program config schedule.items)
+    alarm-shown = shown (λ schedule. schedule.items) (λ run. run.schedule) has_alarm tally.alarm (find has_alarm tried.runs) (ShowsAlarm program config) tried.comes_to.alarm shows-alarm (found has_alarm tried.runs tried.replayed)
 
-    pub stuck-shown : IfSome chance.stuck (λ schedule. ShowsStuck program config schedule.items)
-    stuck-shown = shown (λ schedule. schedule.items) (λ run. run.schedule) is_stuck chance.stuck (find is_stuck tried.runs) (ShowsStuck program config) tried.comes_to.stuck shows-stuck (found is_stuck tried.runs tried.replayed)
+    pub stuck-shown : IfSome tally.stuck (λ schedule. ShowsStuck program config schedule.items)
+    stuck-shown = shown (λ schedule. schedule.items) (λ run. run.schedule) is_stuck tally.stuck (find is_stuck tried.runs) (ShowsStuck program config) tried.comes_to.stuck shows-stuck (found is_stuck tried.runs tried.replayed)
 
-    pub refused-shown : IfSome chance.refused (ShowsRefusal program config)
-    refused-shown = refused-some chance.refused (shown ending_of (λ run. (run.schedule, run.ending)) is_refused chance.refused (find is_refused tried.runs) EndsRefused tried.comes_to.refused
+    pub refused-shown : IfSome tally.refused (ShowsRefusal program config)
+    refused-shown = refused-some tally.refused (shown ending_of (λ run. (run.schedule, run.ending)) is_refused tally.refused (find is_refused tried.runs) EndsRefused tried.comes_to.refused
         (λ run passes. record { closed = passes.0.closed; replays = passes.0.replays; lasting = passes.1 }) (found is_refused tried.runs tried.replayed))
+
+  -- ---- what is told
+
+  -- what simple schedules show is told in place of the first
+  pub IsTold-simple : (n : ℕ) (before after : Tally) → IsTried program config n before
+      → after ≡ record before { alarm = after.alarm; stuck = after.stuck; refused = after.refused }
+      → is_some after.alarm ≡ is_some before.alarm → IfSome after.alarm (λ schedule. ShowsAlarm program config schedule.items)
+      → is_some after.stuck ≡ is_some before.stuck → IfSome after.stuck (λ schedule. ShowsStuck program config schedule.items)
+      → is_some after.refused ≡ is_some before.refused → IfSome after.refused (ShowsRefusal program config)
+      → IsTold program config n after
+  IsTold-simple n before after is same some_alarm alarm some_stuck stuck some_refused refused =
+      let tried = is.tried in
+      let to = tried.comes_to in
+      record {
+        runs = tried.runs;
+        replayed = tried.replayed;
+        count = sym (length-map tried.runs (λ run. run.schedule)) ∙ (ap (λ (l : List (List ThreadId)). length l) tried.by ∙ is.count);
+        tells = record {
+          count = ap (λ c. c.runs) same ∙ to.count;
+          some_alarm = some_alarm ∙ some-first (λ schedule. schedule.items) (λ run. run.schedule) has_alarm before.alarm tried.runs to.alarm;
+          alarm = alarm;
+          some_stuck = some_stuck ∙ some-first (λ schedule. schedule.items) (λ run. run.schedule) is_stuck before.stuck tried.runs to.stuck;
+          stuck = stuck;
+          some_refused = some_refused ∙ some-first ending_of (λ run. (run.schedule, run.ending)) is_refused before.refused tried.runs to.refused;
+          refused = refused;
+          alarms = ap (λ c. c.alarms) same ∙ to.alarms;
+          blamed = subst (λ (b : List Blamed). AreCounts (λ label. count_by (blames label) tried.runs) b) (sym (ap (λ c. c.blamed.items) same)) to.blamed;
+        };
+      }

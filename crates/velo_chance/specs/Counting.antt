@@ -1,7 +1,7 @@
 -- How one more alarm is counted.
-use Rattle.std.specs.Prelude.{ℕ, ◌+◌, ◌-◌, ◌^◌, min, List, [], ◌∷◌, ◌++◌, fold, if◌then◌else◌}
+use Rattle.std.specs.Prelude.{◌+◌, ◌-◌, ◌^◌, min, List, [], ◌∷◌, ◌++◌, fold, if◌then◌else◌}
 use Rattle.velo_traces.specs.declared.block.Block.{Block}
-use Rattle.velo_chance.specs.declared.chance.Blamed.{Blamed}
+use Rattle.velo_chance.specs.declared.tally.Blamed.{Blamed}
 use Rattle.velo_chance.specs.Runs.{has_label}
 use Rattle.velo_chance.specs.Tallies.{is_listed}
 

@@ -7,7 +7,7 @@ ghost use Rattle.velo_chance.specs.Runs.{Run, blocks_of, ends_stuck, has_label};
 ghost use Rattle.velo_chance.specs.Tallies.{AreCounts, ComesTo, ending_of};
 
 use crate::blaming::count_alarm;
-use crate::chance::{Blamed, Chance};
+use crate::tally::{Blamed, Tally};
 use std::alloc::Global;
 use velo_events::growth::reserve;
 use velo_events::{Memory, ThreadId};
@@ -108,31 +108,31 @@ fn count_if(count: u64, one_more: bool) -> u64
 /// What runs come to with one more, by its schedule, with this ending and this alarm.
 pub(crate) fn note(
     alloc: Global,
-    chance: Chance,
+    tally: Tally,
     schedule: &[ThreadId],
     ending: Ending,
     alarm: Option<&Alarm>,
-) -> Result<Chance, Memory>
-    requires few { chance.runs < 2 ^ 64 - 1 }
-    ensures comes_to { IfOk result (λ after. (runs : List Run) → ComesTo runs chance →
+) -> Result<Tally, Memory>
+    requires few { tally.runs < 2 ^ 64 - 1 }
+    ensures comes_to { IfOk result (λ after. (runs : List Run) → ComesTo runs tally →
         ComesTo (runs ++ record { schedule = schedule.now; ending = ending; alarm = option_map (λ a. a.now) alarm.entry } ∷ []) after) }
-    ensures runs { IfOk result (λ after. after.runs ≡ chance.runs + 1) }
+    ensures runs { IfOk result (λ after. after.runs ≡ tally.runs + 1) }
     ensures memory { OnErr result GrowthRefused }
 {
-    let Chance {
+    let Tally {
         runs,
         alarm: first_alarm,
         stuck,
         refused,
         alarms,
         blamed,
-    } = chance;
+    } = tally;
     let has_alarm = alarm.is_some();
     let first_alarm = first_of(alloc, first_alarm, has_alarm, schedule)?;
     let stuck = first_of(alloc, stuck, ends_stuck(ending), schedule)?;
     let refused = first_refused(alloc, refused, ending, schedule)?;
     let blamed = blamed_with(alloc, blamed, alarm)?;
-    Ok(Chance {
+    Ok(Tally {
         runs: runs + 1,
         alarm: first_alarm,
         stuck,

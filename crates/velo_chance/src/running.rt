@@ -1,13 +1,17 @@
-//! Runs by chance.
-ghost use Rattle.std.specs.Prelude.{◌≡◌, ◌+◌, ◌-◌, ◌<◌, ◌^◌, ℕ, IfOk, IfSome, OnErr};
+//! Runs by schedules that are given, or by chance.
+ghost use Rattle.std.specs.Prelude.{◌≡◌, ◌+◌, ◌-◌, ◌<◌, ◌^◌, ◌∷◌, ◌++◌, [], ℕ, List, map, IfOk, IfSome, OnErr};
+ghost use Rattle.std.specs.List.Sorted.{IsNonDecreasingBy};
 ghost use Rattle.velo_events.specs.Refusals.{GrowthRefused};
+ghost use Rattle.velo_events.specs.declared.config.Config.{Config as ConfigOf};
+ghost use Rattle.velo_events.specs.declared.event.ThreadId.{ThreadId as Turn};
 ghost use Rattle.velo_schedules.specs.Told.{ShowsAlarm, ShowsStuck, ShowsRefusal};
-ghost use Rattle.velo_chance.specs.Tallies.{IsTried};
+ghost use Rattle.velo_workload.specs.Program.{Program};
+ghost use Rattle.velo_chance.specs.Tallies.{IsTried, IsTriedBy, rank};
 
 use crate::blaming::put_in_order;
-use crate::chance::Chance;
 use crate::drawing::{draw, turns_for};
 use crate::noting::note;
+use crate::tally::Tally;
 use rand_core::SeedableRng;
 use rand_xoshiro::Xoshiro256PlusPlus;
 use std::alloc::Global;
@@ -18,23 +22,62 @@ use velo_workload::Workload;
 /// The seed where none is named.
 pub const DEFAULT_SEED: u64 = 1;
 
+/// What no runs come to.
+fn no_runs(alloc: Global) -> Tally
+    ensures runs { result.runs ≡ 0 }
+    ensures tried { (program : Program) (config : ConfigOf) → IsTriedBy program config [] result }
+{
+    Tally {
+        runs: 0,
+        alarm: None,
+        stuck: None,
+        refused: None,
+        alarms: 0,
+        blamed: Vec::new(alloc),
+    }
+}
+
 /// What runs come to with one more.
 fn run_once(
     alloc: Global,
     workload: &Workload,
     schedule: &[ThreadId],
     config: Config,
-    chance: Chance,
-) -> Result<Chance, Memory>
+    tally: Tally,
+) -> Result<Tally, Memory>
     requires bounds { config.bounds ≡ workload.now.bounds }
-    requires few { chance.runs < 2 ^ 64 - 1 }
-    ensures tried { IfOk result (λ after. (count : ℕ) → IsTried workload.now config count chance →
-        IsTried workload.now config (count + 1) after) }
-    ensures runs { IfOk result (λ after. after.runs ≡ chance.runs + 1) }
+    requires few { tally.runs < 2 ^ 64 - 1 }
+    ensures tried { IfOk result (λ after. (schedules : List (List Turn)) → IsTriedBy workload.now config schedules tally →
+        IsTriedBy workload.now config (schedules ++ schedule.now ∷ []) after) }
+    ensures runs { IfOk result (λ after. after.runs ≡ tally.runs + 1) }
     ensures memory { OnErr result GrowthRefused }
 {
     let (closed, ending) = replayed(alloc, workload, schedule, config)?;
-    note(alloc, chance, schedule, ending, closed.alarm())
+    note(alloc, tally, schedule, ending, closed.alarm())
+}
+
+/// Makes a run by each of these schedules, and then in rounds, and tells what they come to. The configuration has to have the
+/// workload's bounds.
+///
+/// # Errors
+/// `Memory` where a growth was refused.
+pub fn try_all(
+    alloc: Global,
+    workload: &Workload,
+    schedules: &[Vec<ThreadId>],
+    config: Config,
+) -> Result<Tally, Memory>
+    requires bounds { config.bounds ≡ workload.now.bounds }
+    ensures tried { IfOk result (IsTriedBy workload.now config (map (λ schedule. schedule.items) schedules.now)) }
+    ensures order { IfOk result (λ tally. IsNonDecreasingBy rank tally.blamed.items) }
+    ensures memory { OnErr result GrowthRefused }
+{
+    let mut tally = no_runs(alloc);
+    for place in 0..schedules.len() {
+        tally = run_once(alloc, workload, &schedules[place], config, tally)?;
+    }
+    put_in_order(&mut tally.blamed);
+    Ok(tally)
 }
 
 /// Makes so many runs, each by a schedule that is drawn by chance and then in rounds, and tells what they come to. The
@@ -55,28 +98,22 @@ pub fn try_by_chance(
     runs: u64,
     seed: u64,
     config: Config,
-) -> Result<Chance, Memory>
+) -> Result<Tally, Memory>
     requires bounds { config.bounds ≡ workload.now.bounds }
     ensures tried { IfOk result (IsTried workload.now config runs) }
-    ensures alarm { IfOk result (λ chance. IfSome chance.alarm (λ schedule. ShowsAlarm workload.now config schedule.items)) }
-    ensures stuck { IfOk result (λ chance. IfSome chance.stuck (λ schedule. ShowsStuck workload.now config schedule.items)) }
-    ensures refused { IfOk result (λ chance. IfSome chance.refused (ShowsRefusal workload.now config)) }
+    ensures order { IfOk result (λ tally. IsNonDecreasingBy rank tally.blamed.items) }
+    ensures alarm { IfOk result (λ tally. IfSome tally.alarm (λ schedule. ShowsAlarm workload.now config schedule.items)) }
+    ensures stuck { IfOk result (λ tally. IfSome tally.stuck (λ schedule. ShowsStuck workload.now config schedule.items)) }
+    ensures refused { IfOk result (λ tally. IfSome tally.refused (ShowsRefusal workload.now config)) }
     ensures memory { OnErr result GrowthRefused }
 {
     let mut random = Xoshiro256PlusPlus::seed_from_u64(seed);
     let turns = turns_for(workload);
-    let mut chance = Chance {
-        runs: 0,
-        alarm: None,
-        stuck: None,
-        refused: None,
-        alarms: 0,
-        blamed: Vec::new(alloc),
-    };
+    let mut tally = no_runs(alloc);
     for _ in 0..runs {
         let schedule = draw(alloc, &mut random, workload.bounds().threads, turns)?;
-        chance = run_once(alloc, workload, &schedule, config, chance)?;
+        tally = run_once(alloc, workload, &schedule, config, tally)?;
     }
-    put_in_order(&mut chance.blamed);
-    Ok(chance)
+    put_in_order(&mut tally.blamed);
+    Ok(tally)
 }

@@ -275,11 +275,13 @@ fn has_body(workload: &Workload, thread: ThreadId, body: &[Statement]) -> bool {
     thread.0 < workload.bounds().threads && workload.body(thread) == body
 }
 
-/// The names of the threads, and those of the labels.
+/// The names of the threads, the variables, the locks and the labels.
 fn names_of(rt: &impl Abort, alloc: Global, workload: &Workload) -> String {
     let threads = workload.thread_names();
+    let variables = workload.variable_names();
+    let locks = workload.lock_names();
     let labels = workload.label_names();
-    format!(in alloc; "{threads:?} {labels:?}").expect(rt, "memory")
+    format!(in alloc; "{threads:?} {variables:?} {locks:?} {labels:?}").expect(rt, "memory")
 }
 
 #[test]
@@ -290,7 +292,8 @@ fn a_program(rt: HostRuntime) {
     assert!(rt; has_body(&workload, ThreadId(1), OTHER_BODY));
     let names = names_of(&rt, rt.alloc(), &workload);
     drop(workload);
-    assert_eq!(rt; names.as_str(), "[\"main\", \"b\"] [\"inc\", \"dec\"]");
+    let wanted = "[\"main\", \"b\"] [\"y\", \"x\"] [\"end\"] [\"inc\", \"dec\"]";
+    assert_eq!(rt; names.as_str(), wanted);
 }
 
 /// The fault of bytes that are no text.

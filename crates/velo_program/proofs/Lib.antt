@@ -12,3 +12,4 @@ mod OnNaming
 mod OnAuditing
 mod OnIgnoring
 mod OnListing
+mod OnScheduling

@@ -5,18 +5,22 @@ use Rattle.std.proofs.lemmas.Bool.{false≢true}
 use Rattle.std.specs.Prelude.{◌≢◌, ◌↔◌, ◌⊎◌, ◌+◌, ◌-◌, ◌^◌, ◌≤◌, ◌<◌, ◌++◌, ◌∷◌, [], ℕ, Bool, true, false, All, List, decimal, length, min, sum_by, Option, Some, None, Result, Ok, Err, IfOk, IfSome, IsTrue, OnOk, is_some}
 use Rattle.std.specs.Io.KnownBytes.{Appends}
 use Rattle.std.specs.Borrow.{Bor}
+use Rattle.std.specs.Global.{Vec}
+use Rattle.std.specs.List.{list_any}
+use Rattle.std.specs.List.Sorted.{IsNonDecreasingBy}
 use Rattle.velo_events.specs.declared.config.Config.{Config}
 use Rattle.velo_events.specs.declared.event.ThreadId.{ThreadId}
 use Rattle.velo_events.specs.declared.limits.TheConstants.{MOST_THREADS}
 use Rattle.velo_logtext.proofs.OnDevices.{appends_nothing, appends_then, beginning_then}
 use Rattle.velo_logtext.specs.Device.{with_failure}
 use Rattle.velo_report.specs.declared.names.Names.{Names}
-use Rattle.velo_schedules.specs.declared.exploration.Exploration.{Exploration}
+use Rattle.velo_schedules.specs.declared.finding.RefusedRun.{RefusedRun}
 use Rattle.velo_schedules.specs.declared.finding.Finding.{Finding}
 use Rattle.velo_schedules.specs.declared.finding.Finding.TheVariants.{Shown, Never, Open}
 use Rattle.velo_schedules.specs.declared.finding.RefusalFinding.{RefusalFinding}
 use Rattle.velo_schedules.specs.declared.finding.RefusalFinding.TheVariants as refusals
 use Rattle.velo_schedules.specs.Told.{AlarmTold, RefusalTold, StuckTold}
+use Rattle.velo_schedules.specs.Told as S
 use Rattle.velo_events.specs.declared.event.Event.{Event}
 use Rattle.velo_events.specs.declared.refusal.Refusal.TheVariants as refusal
 use Rattle.velo_events.specs.Graph.{HasCycle}
@@ -25,6 +29,7 @@ use Rattle.velo_worker.specs.declared.ending.Ending.{Ending}
 use Rattle.velo_worker.specs.declared.ending.Ending.TheVariants as ending
 use Rattle.velo_worker.specs.Counts.{body_events}
 use Rattle.velo_worker.specs.Causes.{EndsByGrowth}
+use Rattle.velo_waits.proofs.OnReplays.{Replays-config}
 use Rattle.velo_workload.specs.Program.{Program}
 use Rattle.velo_world.specs.World.{WorldState}
 use Rattle.velo_program.specs.declared.fate.Fate.{Fate}
@@ -32,21 +37,30 @@ use Rattle.velo_program.specs.declared.fate.Fate.TheVariants as fate
 use Rattle.velo_program.specs.declared.request.ExploreOptions.{ExploreOptions}
 use Rattle.velo_turns.specs.declared.limits.TheConstants.{MOST_TURNS}
 use Rattle.velo_program.specs.Causes.{ComesByRefusal, Growths}
-use Rattle.velo_program.specs.Check.{IsOrderOrCycle, IsVerdict, WritesOutput}
+use Rattle.velo_program.specs.Check.{IsOrderOrCycle, IsOutputOf, IsVerdict}
 use Rattle.velo_program.specs.Delivery.{Answer, IsDelivered, LacksMemory, printing, silent}
 use Rattle.velo_program.specs.Disk.{Store}
-use Rattle.velo_program.specs.Exploring.{HasFirst, IsExplorationOf, IsExplored, IsFirstReplay, IsPrintedAlone, IsSayable, IsSayableFinding, IsSayableRefusal, fate_by, ReportsReplay, exploration_text, fate_of_exploration, first_schedule, run_of}
+use Rattle.velo_program.specs.ByChance.{AreOfRuns, AreSayable, IsBlame, IsBlameOf, IsByChance, IsSayable, IsSayableFinding, IsSayableRefusal, OfRuns, RefusalOfRuns}
+use Rattle.velo_program.specs.Exploring.{AreOfAll, HasFirst, IsExplorationOf, IsExplored, IsFirstReplay, IsPrintedAlone, IsToldBy, IsToldOf, ReportsReplay, fate_by, fate_of_told, first_schedule, most_to_blame, run_of, told_text, waits_behind}
+use Rattle.velo_program.specs.declared.request.RandomRuns.{RandomRuns}
+use Rattle.velo_program.specs.declared.told.Found.{Found}
+use Rattle.velo_program.specs.declared.told.Told.{Told}
+use Rattle.velo_program.specs.declared.told.Tried.TheVariants as how
+use Rattle.velo_chance.specs.declared.tally.Tally.{Tally}
+use Rattle.velo_chance.specs.Runs.{Run, is_refused, is_stuck}
+use Rattle.velo_chance.specs.Runs as R
+use Rattle.velo_chance.specs.Tallies.{IsTold, rank}
 use Rattle.velo_program.specs.declared.check.Verdict.{Verdict}
 use Rattle.velo_program.specs.declared.check.Verdict.TheVariants as verdict
 use Rattle.velo_program.specs.Fate.{is_alarm}
-use Rattle.velo_program.specs.Findings.{Explores, IsNoMoreThan, IsReplayBy, IsRunOfFirst, IsRefusalSaidFor, IsSaidFor, IsUnshown, Lacks, Puts, ReportsOrLacks, ShowsAlarm, ShowsRefusal, ShowsStuck, TellsReplay, TellsFindings, TellsRun, WritesBehind, fate_behind, unshown, unshown_refusal}
+use Rattle.velo_program.specs.Findings.{Explores, IsNoMore, IsNoMoreRefusal, IsReplayBy, IsRunOfFirst, IsRefusalSaidFor, IsSaidFor, IsUnshown, Lacks, Puts, ReportsOrLacks, ShowsAlarm, ShowsRefusal, ShowsStuck, TellsNoMore, TellsReplay, TellsFindings, TellsRun, WritesBehind, WritesReport, fate_behind, refused_or_never, shown_or_never, unshown, unshown_refusal}
 use Rattle.velo_program.specs.Playing.{AreNamesOf, IsConfigOf, is_unreported, text_of_log}
 use Rattle.velo_program.specs.Reading.{failures_told}
 use Rattle.velo_turns.specs.Short.{short_text}
 use Rattle.velo_turns.proofs.OnShort.{short_reads_back}
 use Rattle.velo_turns.proofs.OnTexts.{threads_of_schedule}
 use Rattle.velo_program.specs.Steps.{HasAlarm, IsSaved}
-use Rattle.velo_program.specs.Writing.{BreaksOff, Writing, WritesNothing}
+use Rattle.velo_program.specs.Writing.{BreaksOff, Delivers, Writing, WritesNothing}
 use Rattle.velo_program.proofs.OnDelivery.{delivered_reads, same_fate}
 use Rattle.velo_program.proofs.OnVerdicts.{output_exists}
 
@@ -78,6 +92,16 @@ said_sayable_refusal : (finding said : RefusalFinding) → IsRefusalSaidFor find
 said_sayable_refusal finding said (inl same) = subst IsSayableRefusal (sym same.1) same.0
 said_sayable_refusal finding said (inr none) = subst IsSayableRefusal (sym none.1) tt
 
+-- what is told of the three can be said
+are_said : (alarm stuck : Finding) (refused : RefusalFinding) (found : Found) → IsSaidFor alarm found.alarm → IsSaidFor stuck found.stuck → IsRefusalSaidFor refused found.refused → AreSayable found
+are_said alarm stuck refused found said_a said_s said_r =
+    record { alarm = said_sayable alarm found.alarm said_a; stuck = said_sayable stuck found.stuck said_s; refused = said_sayable_refusal refused found.refused said_r }
+
+unshown_twice : (finding : Finding) → unshown (unshown finding) ≡ unshown finding
+unshown_twice Never = refl
+unshown_twice Open = refl
+unshown_twice (Shown schedule) = refl
+
 -- ---- a replay
 
 -- a run without a report is one in which a growth was refused
@@ -105,20 +129,61 @@ module _ (program : Program) (config : Config) where
   said_refusal finding said (inr none) told = subst (RefusalTold program config) (sym none.1) tt
 
   -- what is told of all schedules is so
-  pub all_told : (most : ℕ) (x y : Exploration) → x.events ≡ min (sum_by body_events program.bodies) (2 ^ 64 - 1) → x.states ≤ most
-      → AlarmTold program config x.alarm → StuckTold program config x.stuck → RefusalTold program config x.refused
-      → y.events ≡ x.events → y.states ≡ x.states → IsSaidFor x.alarm y.alarm → IsSaidFor x.stuck y.stuck → IsRefusalSaidFor x.refused y.refused
-      → IsExplorationOf program config most y
-  all_told most x y events states alarm stuck refused same_events same_states said_a said_s said_r =
+  pub all_told : (options : ExploreOptions) (told : Told) (events states : ℕ) (alarm stuck : Finding) (refused : RefusalFinding)
+      → events ≡ min (sum_by body_events program.bodies) (2 ^ 64 - 1) → states ≤ options.states → told.tried ≡ how.All events states
+      → AlarmTold program config alarm → StuckTold program config stuck → RefusalTold program config refused
+      → IsSaidFor alarm told.found.alarm → IsSaidFor stuck told.found.stuck → IsRefusalSaidFor refused told.found.refused
+      → IsBlameOf program config (most_to_blame options.first) told.blame
+      → IsExplorationOf program config options told
+  all_told options told events states alarm stuck refused are_events few tried is_alarm is_stuck is_refused said_a said_s said_r blame =
       record {
-        events = same_events ∙ events;
-        states = subst (λ (n : ℕ). n ≤ most) (sym same_states) states;
-        alarm = said_alarm x.alarm y.alarm said_a alarm;
-        stuck = said_stuck x.stuck y.stuck said_s stuck;
-        refused = said_refusal x.refused y.refused said_r refused;
-        alarm_sayable = said_sayable x.alarm y.alarm said_a;
-        stuck_sayable = said_sayable x.stuck y.stuck said_s;
-        refused_sayable = said_sayable_refusal x.refused y.refused said_r;
+        states = states;
+        few = few;
+        tried = tried ∙ ap (λ (n : ℕ). how.All n states) are_events;
+        found = record {
+          alarm = said_alarm alarm told.found.alarm said_a is_alarm;
+          stuck = said_stuck stuck told.found.stuck said_s is_stuck;
+          refused = said_refusal refused told.found.refused said_r is_refused;
+          sayable = are_said alarm stuck refused told.found said_a said_s said_r;
+        };
+        blame = blame;
+      }
+
+  -- ---- runs by chance
+
+  -- what a run shows is told so
+  of_runs : (some : Bool) (shows : List ThreadId → Type 0) (schedule : Option (Vec ThreadId)) (finding said : Finding)
+      → is_some schedule ≡ some → IfSome schedule (λ schedule. shows schedule.items) → finding ≡ shown_or_never schedule → IsSaidFor finding said → OfRuns some shows said
+  of_runs some shows None finding said is so was (inl same) = subst (OfRuns some shows) (sym (same.1 ∙ was)) (sym is)
+  of_runs some shows (Some schedule) finding said is so was (inl same) = subst (OfRuns some shows) (sym (same.1 ∙ was)) (sym is, so)
+  of_runs some shows schedule finding said is so was (inr none) = subst (OfRuns some shows) (sym none.1) tt
+
+  refusal_of_runs : (some : Bool) (run : Option RefusedRun) (finding said : RefusalFinding)
+      → is_some run ≡ some → IfSome run (S.ShowsRefusal program config) → finding ≡ refused_or_never run → IsRefusalSaidFor finding said → RefusalOfRuns some program config said
+  refusal_of_runs some None finding said is so was (inl same) = subst (RefusalOfRuns some program config) (sym (same.1 ∙ was)) (sym is)
+  refusal_of_runs some (Some run) finding said is so was (inl same) = subst (RefusalOfRuns some program config) (sym (same.1 ∙ was)) (sym is, so)
+  refusal_of_runs some run finding said is so was (inr none) = subst (RefusalOfRuns some program config) (sym none.1) tt
+
+  pub some_told : (random : RandomRuns) (tally : Tally) (told : Told) (alarm stuck : Finding) (refused : RefusalFinding) → IsTold program config random.runs tally → IsNonDecreasingBy rank tally.blamed.items
+      → told.tried ≡ how.ByChance random.seed tally.runs
+      → alarm ≡ shown_or_never tally.alarm → stuck ≡ shown_or_never tally.stuck → refused ≡ refused_or_never tally.refused
+      → IsSaidFor alarm told.found.alarm → IsSaidFor stuck told.found.stuck → IsRefusalSaidFor refused told.found.refused
+      → told.blame ≡ record { alarms = tally.alarms; labels = tally.blamed }
+      → IsByChance program config random told
+  some_told random tally told alarm stuck refused is order tried was_alarm was_stuck was_refused said_a said_s said_r blame =
+      let tells = is.tells in
+      record {
+        runs = is.runs;
+        replayed = is.replayed;
+        count = is.count;
+        tried = tried ∙ ap (λ (n : ℕ). how.ByChance random.seed n) (tells.count ∙ is.count);
+        found = record {
+          alarm = of_runs (list_any R.has_alarm is.runs) (S.ShowsAlarm program config) tally.alarm alarm told.found.alarm tells.some_alarm tells.alarm was_alarm said_a;
+          stuck = of_runs (list_any is_stuck is.runs) (S.ShowsStuck program config) tally.stuck stuck told.found.stuck tells.some_stuck tells.stuck was_stuck said_s;
+          refused = refusal_of_runs (list_any is_refused is.runs) tally.refused refused told.found.refused tells.some_refused tells.refused was_refused said_r;
+          sayable = are_said alarm stuck refused told.found said_a said_s said_r;
+        };
+        blame = subst (IsBlame is.runs) (sym blame) (record { alarms = tells.alarms; labels = tells.blamed; order = order });
       }
 
   -- ---- a finding that is not shown again
@@ -148,47 +213,97 @@ module _ (program : Program) (config : Config) where
   sayable_unshown_refusal refusals.Open = tt
   sayable_unshown_refusal (refusals.Shown run) = tt
 
-  pub without_alarm : (x : Exploration) (alarm : Finding) → alarm ≡ unshown x.alarm
-      → IsNoMoreThan program config x (record { events = x.events; states = x.states; alarm = alarm; stuck = x.stuck; refused = x.refused })
-  without_alarm x alarm is most so =
+  -- a finding that is so, is so where it is told as no more
+  no_more_alarm : (one other : Finding) → IsNoMore one other → AlarmTold program config one → AlarmTold program config other
+  no_more_alarm one other (inl same) told = subst (AlarmTold program config) (sym same) told
+  no_more_alarm one other (inr less) told = subst (AlarmTold program config) (sym less) (unshown_alarm one told)
+
+  no_more_stuck : (one other : Finding) → IsNoMore one other → StuckTold program config one → StuckTold program config other
+  no_more_stuck one other (inl same) told = subst (StuckTold program config) (sym same) told
+  no_more_stuck one other (inr less) told = subst (StuckTold program config) (sym less) (unshown_stuck one told)
+
+  no_more_refused : (one other : RefusalFinding) → IsNoMoreRefusal one other → RefusalTold program config one → RefusalTold program config other
+  no_more_refused one other (inl same) told = subst (RefusalTold program config) (sym same) told
+  no_more_refused one other (inr less) told = subst (RefusalTold program config) (sym less) (unshown_refused one told)
+
+  no_more_sayable : (one other : Finding) → IsNoMore one other → IsSayableFinding one → IsSayableFinding other
+  no_more_sayable one other (inl same) said = subst IsSayableFinding (sym same) said
+  no_more_sayable one other (inr less) said = subst IsSayableFinding (sym less) (sayable_unshown one)
+
+  no_more_sayable_refusal : (one other : RefusalFinding) → IsNoMoreRefusal one other → IsSayableRefusal one → IsSayableRefusal other
+  no_more_sayable_refusal one other (inl same) said = subst IsSayableRefusal (sym same) said
+  no_more_sayable_refusal one other (inr less) said = subst IsSayableRefusal (sym less) (sayable_unshown_refusal one)
+
+  no_more_of_runs : (some : Bool) (shows : List ThreadId → Type 0) (one other : Finding) → IsNoMore one other → OfRuns some shows one → OfRuns some shows other
+  no_more_of_runs some shows one other (inl same) told = subst (OfRuns some shows) (sym same) told
+  no_more_of_runs some shows one other (inr less) told = subst (OfRuns some shows) (sym less) (left one told)
+    where
+      left : (one : Finding) → OfRuns some shows one → OfRuns some shows (unshown one)
+      left Never told = told
+      left Open told = tt
+      left (Shown schedule) told = tt
+
+  no_more_refusal_of_runs : (some : Bool) (one other : RefusalFinding) → IsNoMoreRefusal one other → RefusalOfRuns some program config one → RefusalOfRuns some program config other
+  no_more_refusal_of_runs some one other (inl same) told = subst (RefusalOfRuns some program config) (sym same) told
+  no_more_refusal_of_runs some one other (inr less) told = subst (RefusalOfRuns some program config) (sym less) (left one told)
+    where
+      left : (one : RefusalFinding) → RefusalOfRuns some program config one → RefusalOfRuns some program config (unshown_refusal one)
+      left refusals.Never told = told
+      left refusals.Open told = tt
+      left (refusals.Shown run) told = tt
+
+  no_more_said : (one other : Found) → TellsNoMore one other → AreSayable one → AreSayable other
+  no_more_said one other less said =
       record {
-        events = so.events;
-        states = so.states;
-        alarm = subst (AlarmTold program config) (sym is) (unshown_alarm x.alarm so.alarm);
-        stuck = so.stuck;
-        refused = so.refused;
-        alarm_sayable = subst IsSayableFinding (sym is) (sayable_unshown x.alarm);
-        stuck_sayable = so.stuck_sayable;
-        refused_sayable = so.refused_sayable;
+        alarm = no_more_sayable one.alarm other.alarm less.alarm said.alarm;
+        stuck = no_more_sayable one.stuck other.stuck less.stuck said.stuck;
+        refused = no_more_sayable_refusal one.refused other.refused less.refused said.refused;
       }
 
-  pub without_stuck : (x : Exploration) (stuck : Finding) → stuck ≡ unshown x.stuck
-      → IsNoMoreThan program config x (record { events = x.events; states = x.states; alarm = x.alarm; stuck = stuck; refused = x.refused })
-  without_stuck x stuck is most so =
+  no_more_of_all : (one other : Found) → TellsNoMore one other → AreOfAll program config one → AreOfAll program config other
+  no_more_of_all one other less are =
       record {
-        events = so.events;
-        states = so.states;
-        alarm = so.alarm;
-        stuck = subst (StuckTold program config) (sym is) (unshown_stuck x.stuck so.stuck);
-        refused = so.refused;
-        alarm_sayable = so.alarm_sayable;
-        stuck_sayable = subst IsSayableFinding (sym is) (sayable_unshown x.stuck);
-        refused_sayable = so.refused_sayable;
+        alarm = no_more_alarm one.alarm other.alarm less.alarm are.alarm;
+        stuck = no_more_stuck one.stuck other.stuck less.stuck are.stuck;
+        refused = no_more_refused one.refused other.refused less.refused are.refused;
+        sayable = no_more_said one other less are.sayable;
       }
 
-  pub without_refusal : (x : Exploration) (refused : RefusalFinding) → refused ≡ unshown_refusal x.refused
-      → IsNoMoreThan program config x (record { events = x.events; states = x.states; alarm = x.alarm; stuck = x.stuck; refused = refused })
-  without_refusal x refused is most so =
+  no_more_of_some : (runs : List Run) (one other : Found) → TellsNoMore one other → AreOfRuns program config runs one → AreOfRuns program config runs other
+  no_more_of_some runs one other less are =
       record {
-        events = so.events;
-        states = so.states;
-        alarm = so.alarm;
-        stuck = so.stuck;
-        refused = subst (RefusalTold program config) (sym is) (unshown_refused x.refused so.refused);
-        alarm_sayable = so.alarm_sayable;
-        stuck_sayable = so.stuck_sayable;
-        refused_sayable = subst IsSayableRefusal (sym is) (sayable_unshown_refusal x.refused);
+        alarm = no_more_of_runs _ _ one.alarm other.alarm less.alarm are.alarm;
+        stuck = no_more_of_runs _ _ one.stuck other.stuck less.stuck are.stuck;
+        refused = no_more_refusal_of_runs _ one.refused other.refused less.refused are.refused;
+        sayable = no_more_said one other less are.sayable;
       }
+
+  -- what is told of the schedules is so, where its findings are told as no more
+  pub still_told : (options : ExploreOptions) (one other : Told) → other.tried ≡ one.tried → TellsNoMore one.found other.found → other.blame ≡ one.blame
+      → IsToldOf program config options one → IsToldOf program config options other
+  still_told options one other tried less blame so = by options.random so
+    where
+      by : (random : Option RandomRuns) → IsToldBy program config options random one → IsToldBy program config options random other
+      by None so =
+          record {
+            states = so.states;
+            few = so.few;
+            tried = tried ∙ so.tried;
+            found = no_more_of_all one.found other.found less so.found;
+            blame = subst (IsBlameOf program config (most_to_blame options.first)) (sym blame) so.blame;
+          }
+      by (Some random) so =
+          record {
+            runs = so.runs;
+            replayed = so.replayed;
+            count = so.count;
+            tried = tried ∙ so.tried;
+            found = no_more_of_some so.runs one.found other.found less so.found;
+            blame = subst (IsBlame so.runs) (sym blame) so.blame;
+          }
+
+  pub asked_told : (options : ExploreOptions) (random : Option RandomRuns) (told : Told) → options.random ≡ random → IsToldBy program config options random told → IsToldOf program config options told
+  asked_told options random told is so = subst (λ (r : Option RandomRuns). IsToldBy program config options r told) (sym is) so
 
   -- ---- the replay of the first finding
 
@@ -219,51 +334,73 @@ module _ (program : Program) (config : Config) where
   refusal_first alarm stuck refusals.Never ended w none nor shows = absurd shows
   refusal_first alarm stuck refusals.Open ended w none nor shows = absurd shows
 
-  is_first : (x : Exploration) (ended : Ending) (w : WorldState) → IsFirst x.alarm x.stuck x.refused ended w → IsFirstReplay program config x ended w × HasAlarm w.log
+  is_first : (x : Found) (ended : Ending) (w : WorldState) → IsFirst x.alarm x.stuck x.refused ended w → IsFirstReplay program config x ended w × HasAlarm w.log
   is_first x ended w h =
       (record { schedule = h.0; told = h.1; replays = h.3.replays; has_first = h.2; cause = h.3.cause; reported = h.3.reported }, h.3.alarm)
 
-  pub first_by_alarm : (x : Exploration) (ended : Ending) (w : WorldState) → ShowsAlarm program config x.alarm ended w → IsFirstReplay program config x ended w × HasAlarm w.log
+  pub first_by_alarm : (x : Found) (ended : Ending) (w : WorldState) → ShowsAlarm program config x.alarm ended w → IsFirstReplay program config x ended w × HasAlarm w.log
   first_by_alarm x ended w shows = is_first x ended w (alarm_first x.alarm x.stuck x.refused ended w shows)
 
-  pub first_by_stuck : (x : Exploration) (ended : Ending) (w : WorldState) → IsUnshown x.alarm → ShowsStuck program config x.stuck ended w → IsFirstReplay program config x ended w × HasAlarm w.log
+  pub first_by_stuck : (x : Found) (ended : Ending) (w : WorldState) → IsUnshown x.alarm → ShowsStuck program config x.stuck ended w → IsFirstReplay program config x ended w × HasAlarm w.log
   first_by_stuck x ended w none shows = is_first x ended w (stuck_first x.alarm x.stuck x.refused ended w none shows)
 
-  pub first_by_refusal : (x : Exploration) (ended : Ending) (w : WorldState) → IsUnshown x.alarm → IsUnshown x.stuck → ShowsRefusal program config x.refused ended w → IsFirstReplay program config x ended w × HasAlarm w.log
+  pub first_by_refusal : (x : Found) (ended : Ending) (w : WorldState) → IsUnshown x.alarm → IsUnshown x.stuck → ShowsRefusal program config x.refused ended w → IsFirstReplay program config x ended w × HasAlarm w.log
   first_by_refusal x ended w none nor shows = is_first x ended w (refusal_first x.alarm x.stuck x.refused ended w none nor shows)
 
   -- the run of the first finding
-  pub run_by_alarm : (x : Exploration) (run : Option (WorldState × Ending)) → is_some run ≡ true
+  pub run_by_alarm : (x : Found) (run : Option (WorldState × Ending)) → is_some run ≡ true
       → IfSome run (λ run. ShowsAlarm program config x.alarm run.1 run.0) → IsRunOfFirst program config x run
   run_by_alarm x None is shows = absurd (false≢true is)
   run_by_alarm x (Some run) is shows = first_by_alarm x run.1 run.0 shows
 
-  pub run_by_stuck : (x : Exploration) (run : Option (WorldState × Ending)) → IsUnshown x.alarm → is_some run ≡ true
+  pub run_by_stuck : (x : Found) (run : Option (WorldState × Ending)) → IsUnshown x.alarm → is_some run ≡ true
       → IfSome run (λ run. ShowsStuck program config x.stuck run.1 run.0) → IsRunOfFirst program config x run
   run_by_stuck x None none is shows = absurd (false≢true is)
   run_by_stuck x (Some run) none is shows = first_by_stuck x run.1 run.0 none shows
 
-  pub run_by_refusal : (x : Exploration) (run : Option (WorldState × Ending)) → IsUnshown x.alarm → IsUnshown x.stuck → is_some run ≡ true
+  pub run_by_refusal : (x : Found) (run : Option (WorldState × Ending)) → IsUnshown x.alarm → IsUnshown x.stuck → is_some run ≡ true
       → IfSome run (λ run. ShowsRefusal program config x.refused run.1 run.0) → IsRunOfFirst program config x run
   run_by_refusal x None none nor is shows = absurd (false≢true is)
   run_by_refusal x (Some run) none nor is shows = first_by_refusal x run.1 run.0 none nor shows
 
+  -- a replay that was made has the bounds of the program
+  pub run_bounds : (x : Found) (run : Option (WorldState × Ending)) → config.bounds ≡ program.bounds → IsRunOfFirst program config x run → IfSome run (λ run. run.0.config.bounds ≡ program.bounds)
+  run_bounds x None is first = tt
+  run_bounds x (Some run) is first = ap (λ (c : Config). c.bounds) (Replays-config program first.0.schedule config run.1 run.0 first.0.replays) ∙ is
+
   -- a replay that was made has its alarm known
-  pub has_alarm : (x : Exploration) (run : Option (WorldState × Ending)) → IsRunOfFirst program config x run → IfSome run (λ run. HasAlarm run.0.log)
+  pub has_alarm : (x : Found) (run : Option (WorldState × Ending)) → IsRunOfFirst program config x run → IfSome run (λ run. HasAlarm run.0.log)
   has_alarm x None first = tt
   has_alarm x (Some run) first = first.1
 
-  -- what is no more than what is no more
-  pub told_less : (x y : Exploration) → IsNoMoreThan program config x y → {A F : Type 0} (told : A → Exploration) (result : Result A F)
-      → IfOk result (λ a. IsNoMoreThan program config y (told a)) → IfOk result (λ a. IsNoMoreThan program config x (told a))
-  told_less x y less told (Ok a) h = λ most so. h most (less most so)
-  told_less x y less told (Err f) h = tt
+-- nothing is left out
+pub tells_same : (found : Found) → TellsNoMore found found
+tells_same found = record { alarm = inl refl; stuck = inl refl; refused = inl refl }
 
-  -- what was told of all schedules, told again with no more
-  pub told_all : (most : ℕ) (x : Exploration) → IsExplorationOf program config most x → {A F : Type 0} (told : A → Exploration) (result : Result A F)
-      → IfOk result (λ a. IsNoMoreThan program config x (told a)) → IfOk result (λ a. IsExplorationOf program config most (told a))
-  told_all most x so told (Ok a) h = h most so
-  told_all most x so told (Err f) h = tt
+pub tells_no_alarm : (found other : Found) (alarm : Finding) → alarm ≡ unshown found.alarm
+    → TellsNoMore (record { alarm = alarm; stuck = found.stuck; refused = found.refused }) other → TellsNoMore found other
+tells_no_alarm found other alarm is less = record { alarm = by less.alarm; stuck = less.stuck; refused = less.refused }
+  where
+    by : IsNoMore alarm other.alarm → IsNoMore found.alarm other.alarm
+    by (inl same) = inr (same ∙ is)
+    by (inr none) = inr (none ∙ (ap unshown is ∙ unshown_twice found.alarm))
+
+pub tells_no_deadlock : (found other : Found) (stuck : Finding) → stuck ≡ unshown found.stuck
+    → TellsNoMore (record { alarm = found.alarm; stuck = stuck; refused = found.refused }) other → TellsNoMore found other
+tells_no_deadlock found other stuck is less = record { alarm = less.alarm; stuck = by less.stuck; refused = less.refused }
+  where
+    by : IsNoMore stuck other.stuck → IsNoMore found.stuck other.stuck
+    by (inl same) = inr (same ∙ is)
+    by (inr none) = inr (none ∙ (ap unshown is ∙ unshown_twice found.stuck))
+
+pub tells_no_refusal : (found : Found) (refused : RefusalFinding) → refused ≡ unshown_refusal found.refused → TellsNoMore found (record { alarm = found.alarm; stuck = found.stuck; refused = refused })
+tells_no_refusal found refused is = record { alarm = inl refl; stuck = inl refl; refused = inr is }
+
+-- the rest tells no more, and so does what tells no more than the rest
+pub told_less : (x y : Found) → ((z : Found) → TellsNoMore y z → TellsNoMore x z) → {A F : Type 0} (told : A → Found) (result : Result A F)
+    → IfOk result (λ a. TellsNoMore y (told a)) → IfOk result (λ a. TellsNoMore x (told a))
+told_less x y less told (Ok a) h = less (told a) h
+told_less x y less told (Err f) h = tt
 
 pub is_unshown : (finding said : Finding) → said ≡ unshown finding → IsUnshown said
 is_unshown Never said is = subst IsUnshown (sym is) tt
@@ -322,21 +459,38 @@ plain_fate Open Open refusals.Open = plain_open
 
 -- ---- what goes out
 
+-- the text went out behind the report, or a beginning of it
+pub report_then : {X F : Type 0} (names : Names) (certificate : Bool) (w : WorldState) (behind : List ℕ) (out : Writing) (report : List ℕ) → IsOutputOf names certificate w report
+    → (middle : Option (List ℕ)) (count : ℕ) → Appends out.old middle report → count ≡ out.failures_before → (result : Result X F)
+    → Delivers (record { old = middle; new = out.new; failures_before = count; failures_after = out.failures_after }) behind result → WritesReport names certificate w behind out result
+report_then names certificate w behind out report is middle count first kept (Ok x) h =
+    (report, is, (appends_then out.old middle out.new report behind first h.0, h.1 ∙ kept))
+report_then names certificate w behind out report is middle count first kept (Err f) h =
+    (report, is, (beginning_then out.old middle out.new report behind [] (report ++ behind) first h.0 (sym (append-nil (report ++ behind))), h.1 ∙ ap with_failure kept))
+
+-- the report broke off
+pub report_breaks : {X F : Type 0} (names : Names) (certificate : Bool) (w : WorldState) (behind : List ℕ) (out : Writing) (report : List ℕ) → IsOutputOf names certificate w report
+    → (f : F) → BreaksOff out report → WritesReport {X = X} {F = F} names certificate w behind out (Err f)
+report_breaks names certificate w behind out report is f broke =
+    (report, is, (beginning_then out.old out.old out.new [] report behind (report ++ behind) (appends_nothing out.old) broke.0 refl, broke.1))
+
 -- the report went out behind the text, or a beginning of it
-pub behind_text : {X F : Type 0} (text : List ℕ) (names : Names) (certificate : Bool) (w : WorldState) (out : Writing) (middle : Option (List ℕ)) (count : ℕ)
+pub behind_text : {X F : Type 0} (text : List ℕ) (names : Names) (certificate : Bool) (w : WorldState) (behind : List ℕ) (out : Writing) (middle : Option (List ℕ)) (count : ℕ)
     → Appends out.old middle text → count ≡ out.failures_before → (result : Result X F)
-    → WritesOutput names certificate w (record { old = middle; new = out.new; failures_before = count; failures_after = out.failures_after }) result → WritesBehind text names certificate w out result
-behind_text text names certificate w out middle count first kept (Ok x) h =
-    (h.0, h.1, (appends_then out.old middle out.new text h.0 first h.2.0, h.2.1 ∙ kept))
-behind_text text names certificate w out middle count first kept (Err f) h =
-    (h.0, h.1, (beginning_then out.old middle out.new text h.0 [] (text ++ h.0) first h.2.0 (sym (append-nil (text ++ h.0))), h.2.1 ∙ ap with_failure kept))
+    → WritesReport names certificate w behind (record { old = middle; new = out.new; failures_before = count; failures_after = out.failures_after }) result
+    → WritesBehind text names certificate w behind out result
+behind_text text names certificate w behind out middle count first kept (Ok x) h =
+    (h.0, h.1, (appends_then out.old middle out.new text (h.0 ++ behind) first h.2.0, h.2.1 ∙ kept))
+behind_text text names certificate w behind out middle count first kept (Err f) h =
+    let rest = h.0 ++ behind in
+    (h.0, h.1, (beginning_then out.old middle out.new text rest [] (text ++ rest) first h.2.0 (sym (append-nil (text ++ rest))), h.2.1 ∙ ap with_failure kept))
 
 -- the text broke off
-pub text_breaks : {F : Type 0} (text : List ℕ) (names : Names) (w : WorldState) (list : Option (Bor (List ℕ))) → IfSome list (λ list. IsOrderOrCycle w.log list.now) → HasAlarm w.log
-    → (out : Writing) (f : F) → BreaksOff out text → WritesBehind {X = ℕ} {F = F} text names (is_some list) w out (Err f)
-text_breaks text names w list certifies alarm out f broke =
+pub text_breaks : {F : Type 0} (text : List ℕ) (names : Names) (w : WorldState) (behind : List ℕ) (list : Option (Bor (List ℕ))) → IfSome list (λ list. IsOrderOrCycle w.log list.now) → HasAlarm w.log
+    → (out : Writing) (f : F) → BreaksOff out text → WritesBehind {X = ℕ} {F = F} text names (is_some list) w behind out (Err f)
+text_breaks text names w behind list certifies alarm out f broke =
     let output = output_exists names w.config.bounds.threads w.log list certifies alarm in
-    (output.0, output.1, (beginning_then out.old out.old out.new [] text output.0 (text ++ output.0) (appends_nothing out.old) broke.0 refl, broke.1))
+    (output.0, output.1, (beginning_then out.old out.old out.new [] text (output.0 ++ behind) (text ++ output.0 ++ behind) (appends_nothing out.old) broke.0 refl, broke.1))
 
 -- where the log is not saved nothing goes out
 pub unsaved_puts : (store : Store) (target : Option (Bor (List ℕ))) (out : Writing) (log text : List ℕ) (f : Fate)
@@ -346,11 +500,11 @@ unsaved_puts store target out log text fate.WriteFailed h nothing = inl (h, noth
 unsaved_puts store target out log text f h nothing = absurd h
 
 -- by the program's names, and with the certificate that was asked for
-pub reported_by : {X : Type 0} (program : Program) (text : List ℕ) (names : Names) (given certificate : Bool) (w : WorldState)
+pub reported_by : {X : Type 0} (program : Program) (text : List ℕ) (names : Names) (given certificate : Bool) (w : WorldState) (behind : List ℕ)
     (store : Store) (target : Option (Bor (List ℕ))) (out : Writing) (result : Result X Fate)
-    → TellsReplay text names given w store target out result → certificate ≡ given → AreNamesOf program names → ReportsOrLacks program text certificate w store target out result
-reported_by program text names given certificate w store target out result told is are =
-    inl (names, are, subst (λ (b : Bool). TellsReplay text names b w store target out result) (sym is) told)
+    → TellsReplay text names given w behind store target out result → certificate ≡ given → AreNamesOf program names → ReportsOrLacks program text certificate w behind store target out result
+reported_by program text names given certificate w behind store target out result told is are =
+    inl (names, are, subst (λ (b : Bool). TellsReplay text names b w behind store target out result) (sym is) told)
 
 module _ (store : Store) (target : Option (Bor (List ℕ))) (stdout : Writing) where
   delivered : (saved : Option (List ℕ)) (printed : List ℕ) (f : Fate) → IsPlain f → {X : Type 0} (x : X) → Puts store target stdout saved printed (Ok x)
@@ -376,48 +530,48 @@ module _ (store : Store) (target : Option (Bor (List ℕ))) (stdout : Writing) w
       → (f : Fate) → IsDelivered store target stdout answer f → failures_told f n ≡ n
   explores_reads options program answer n is f h = delivered_reads store target stdout answer n (by_fate is) f h
     where
-      of_said : (config : Config) (x : Exploration) → IsPlain (fate_of_exploration x) → ReportsReplay options program config x answer ⊎ IsPrintedAlone program x answer → failures_told answer.fate n ≡ n
+      of_said : (config : Config) (x : Told) → IsPlain (fate_of_told x) → ReportsReplay options program config x answer ⊎ IsPrintedAlone program x answer → failures_told answer.fate n ≡ n
       of_said config x plain (inl r) = same_fate answer _ n r.said (plain.read n)
       of_said config x plain (inr alone) = same_fate answer _ n alone.1 (plain.read n)
 
       by_fate : IsExplored options program answer ⊎ LacksMemory answer → failures_told answer.fate n ≡ n
-      by_fate (inl e) = of_said e.config e.exploration (plain_fate e.exploration.alarm e.exploration.stuck e.exploration.refused) e.says
+      by_fate (inl e) = of_said e.config e.told (plain_fate e.told.found.alarm e.told.found.stuck e.told.found.refused) e.says
       by_fate (inr lacks) = same_fate answer _ n lacks.1 refl
 
 -- what was told is an answer to the program that was read
-pub explored : {X : Type 0} (options : ExploreOptions) (program : Program) (config : Config) (x : Exploration) (run : Option (WorldState × Ending)) (text : List ℕ) (store : Store) (stdout : Writing) (result : Result X Fate)
-    → IsConfigOf program (run_of options) config → IsExplorationOf program config options.states x → IsRunOfFirst program config x run → text ≡ exploration_text program x
-    → TellsRun program text options.certificate run store options.target stdout result → Explores options program store stdout (fate_behind (fate_of_exploration x) result)
+pub explored : {X : Type 0} (options : ExploreOptions) (program : Program) (config : Config) (x : Told) (run : Option (WorldState × Ending)) (text : List ℕ) (store : Store) (stdout : Writing) (result : Result X Fate)
+    → IsConfigOf program (run_of options) config → IsToldOf program config options x → IsRunOfFirst program config x.found run → text ≡ told_text program x
+    → TellsRun program x.found text options.certificate run store options.target stdout result → Explores options program store stdout (fate_behind (fate_of_told x) result)
 explored options program config x None text store stdout result configured so none is told = (
-  printing (exploration_text program x) (fate_of_exploration x),
-  inl (record { config = config; configured = configured; exploration = x; is_so = so; says = inr (none, refl) }),
-  put store options.target stdout None (exploration_text program x) (fate_of_exploration x) (plain_fate x.alarm x.stuck x.refused) result
+  printing (told_text program x) (fate_of_told x),
+  inl (record { config = config; configured = configured; told = x; is_so = so; says = inr (none, refl) }),
+  put store options.target stdout None (told_text program x) (fate_of_told x) (plain_fate x.found.alarm x.found.stuck x.found.refused) result
       (subst (λ (t : List ℕ). Puts store options.target stdout None t result) is told),
 )
 explored options program config x (Some run) text store stdout result configured so first is (inl told) = (
-  record { saved = Some (text_of_log run.0); printed = Some (exploration_text program x ++ told.2.0); fate = fate_of_exploration x },
+  record { saved = Some (text_of_log run.0); printed = Some (told_text program x ++ told.2.0 ++ waits_behind x.found.alarm x.found.stuck program run.0.log); fate = fate_of_told x },
   inl (record {
     config = config;
     configured = configured;
-    exploration = x;
+    told = x;
     is_so = so;
     says = inl (record { ended = run.1; world = run.0; replay = first.0; names = told.0; are_names = told.1; report = told.2.0; is_report = told.2.1; said = refl });
   }),
-  put store options.target stdout (Some (text_of_log run.0)) (exploration_text program x ++ told.2.0) (fate_of_exploration x) (plain_fate x.alarm x.stuck x.refused) result
-      (subst (λ (t : List ℕ). Puts store options.target stdout (Some (text_of_log run.0)) (t ++ told.2.0) result) is told.2.2),
+  put store options.target stdout (Some (text_of_log run.0)) (told_text program x ++ told.2.0 ++ waits_behind x.found.alarm x.found.stuck program run.0.log) (fate_of_told x) (plain_fate x.found.alarm x.found.stuck x.found.refused) result
+      (subst (λ (t : List ℕ). Puts store options.target stdout (Some (text_of_log run.0)) (t ++ told.2.0 ++ waits_behind x.found.alarm x.found.stuck program run.0.log) result) is told.2.2),
 )
 explored options program config x (Some run) text store stdout result configured so first is (inr lacks) =
-    let lack = lacked store options.target stdout (fate_of_exploration x) result lacks in
+    let lack = lacked store options.target stdout (fate_of_told x) result lacks in
     (lack.0, inr lack.1, lack.2)
 
 -- so was what was found
-pub told_found : (options : ExploreOptions) (program : Program) (config : Config) (x : Exploration) (run : Option (WorldState × Ending)) (store : Store) (stdout : Writing) (f : Fate)
-    → IsConfigOf program (run_of options) config → IsExplorationOf program config options.states x → IsRunOfFirst program config x run → TellsFindings options program x run store stdout f
+pub told_found : (options : ExploreOptions) (program : Program) (config : Config) (x : Told) (run : Option (WorldState × Ending)) (store : Store) (stdout : Writing) (f : Fate)
+    → IsConfigOf program (run_of options) config → IsToldOf program config options x → IsRunOfFirst program config x.found run → TellsFindings options program x run store stdout f
     → Explores options program store stdout f
 told_found options program config x run store stdout f configured so first (inl lacks) =
     subst (λ (f : Fate). Explores options program store stdout f) (sym lacks.1) (silent fate.Memory, inr (lacks.0, refl), (refl, lacks.2, lacks.3))
 told_found options program config x run store stdout f configured so first (inr told) =
-    subst (λ (f : Fate). Explores options program store stdout f) (sym told.2) (explored options program config x run (exploration_text program x) store stdout told.0 configured so first refl told.1)
+    subst (λ (f : Fate). Explores options program store stdout f) (sym told.2) (explored options program config x run (told_text program x) store stdout told.0 configured so first refl told.1)
 
 -- ---- want of memory
 
@@ -460,9 +614,9 @@ caused_alone Open Open refusals.Open none = tt
 
 -- of what is said of an exploration
 pub caused : (options : ExploreOptions) (program : Program) (answer : Answer) → IsExplored options program answer → ComesByRefusal Growths answer.fate
-caused options program answer e = by e.config e.exploration e.says
+caused options program answer e = by e.config e.told e.says
   where
-    by : (config : Config) (x : Exploration) → ReportsReplay options program config x answer ⊎ IsPrintedAlone program x answer → ComesByRefusal Growths answer.fate
+    by : (config : Config) (x : Told) → ReportsReplay options program config x answer ⊎ IsPrintedAlone program x answer → ComesByRefusal Growths answer.fate
     by config x (inl r) =
-        subst (λ (a : Answer). ComesByRefusal Growths a.fate) (sym r.said) (caused_first x.alarm x.stuck x.refused r.ended r.world r.replay.has_first r.replay.cause)
-    by config x (inr alone) = subst (λ (a : Answer). ComesByRefusal Growths a.fate) (sym alone.1) (caused_alone x.alarm x.stuck x.refused alone.0)
+        subst (λ (a : Answer). ComesByRefusal Growths a.fate) (sym r.said) (caused_first x.found.alarm x.found.stuck x.found.refused r.ended r.world r.replay.has_first r.replay.cause)
+    by config x (inr alone) = subst (λ (a : Answer). ComesByRefusal Growths a.fate) (sym alone.1) (caused_alone x.found.alarm x.found.stuck x.found.refused alone.0)

@@ -1,16 +1,20 @@
 -- What an exploration of a workload has to say, by the bytes of its text and by the definitions.
-use Rattle.std.specs.Prelude.{◌≡◌, ◌⊎◌, ◌≤◌, ◌-◌, ◌^◌, ◌++◌, ◌∷◌, [], ⊤, ℕ, true, false, List, codes, decimal, min, slice_get, sum_by, Option, Some, None}
+use Rattle.std.specs.Prelude.{◌≡◌, ◌⊎◌, ◌≤◌, ◌-◌, ◌^◌, ◌++◌, ◌∷◌, [], ℕ, Bool, true, false, List, codes, decimal, min, slice_get, sum_by, Option, Some, None, if◌then◌else◌}
+use Rattle.std.specs.List.{flat_map}
+use Rattle.std.specs.Option.{option_map_or}
+use Rattle.velo_chance.specs.declared.tally.Blamed.{Blamed}
 use Rattle.velo_events.specs.declared.config.Config.{Config}
+use Rattle.velo_events.specs.declared.event.Event.{Event}
 use Rattle.velo_events.specs.declared.event.ThreadId.{ThreadId}
 use Rattle.velo_events.specs.Graph.{HasCycle}
 use Rattle.velo_report.specs.declared.names.Names.{Names}
-use Rattle.velo_schedules.specs.declared.exploration.Exploration.{Exploration}
 use Rattle.velo_schedules.specs.declared.finding.Finding.{Finding}
 use Rattle.velo_schedules.specs.declared.finding.Finding.TheVariants.{Shown, Never, Open}
 use Rattle.velo_schedules.specs.declared.finding.RefusalFinding.{RefusalFinding}
 use Rattle.velo_schedules.specs.declared.finding.RefusalFinding.TheVariants as refusals
 use Rattle.velo_schedules.specs.declared.finding.RefusedRun.{RefusedRun}
 use Rattle.velo_schedules.specs.Told.{AlarmTold, RefusalTold, StuckTold}
+use Rattle.velo_waits.specs.Waits.{waits_text}
 use Rattle.velo_worker.specs.declared.ending.Ending.{Ending}
 use Rattle.velo_worker.specs.declared.ending.Ending.TheVariants.{Done, Refused, Stuck}
 use Rattle.velo_worker.specs.Causes.{EndsByGrowth}
@@ -21,40 +25,52 @@ use Rattle.velo_world.specs.World.{WorldState}
 use Rattle.velo_program.specs.declared.fate.Fate.{Fate}
 use Rattle.velo_program.specs.declared.fate.Fate.TheVariants as fate
 use Rattle.velo_program.specs.declared.request.ExploreOptions.{ExploreOptions}
+use Rattle.velo_program.specs.declared.request.RandomRuns.{RandomRuns}
 use Rattle.velo_program.specs.declared.request.RunOptions.{RunOptions}
+use Rattle.velo_program.specs.declared.blaming.TheConstants.{MOST_BLAMING}
+use Rattle.velo_program.specs.declared.told.Found.{Found}
+use Rattle.velo_program.specs.declared.told.ToBlame.{ToBlame}
+use Rattle.velo_program.specs.declared.told.Told.{Told}
+use Rattle.velo_program.specs.declared.told.Tried.{Tried}
+use Rattle.velo_program.specs.declared.told.Tried.TheVariants as how
+use Rattle.velo_program.specs.ByChance.{AreSayable, IsBlameOf, IsByChance}
 use Rattle.velo_program.specs.Check.{IsOutputOf}
 use Rattle.velo_program.specs.Delivery.{Answer, LacksMemory, printing, silent}
 use Rattle.velo_program.specs.Fate.{number_of}
 use Rattle.velo_program.specs.Playing.{AreNamesOf, IsConfigOf, IsTextOf, IsUnread, is_unreported, text_of_log}
-use Rattle.velo_turns.specs.Schedule.{IsSchedule, spaced}
-use Rattle.velo_turns.specs.Short.{longest, short_text}
+use Rattle.velo_turns.specs.Schedule.{spaced}
+use Rattle.velo_turns.specs.Short.{longest}
 
 -- ---- what is told of all schedules
 
--- a replay takes the text of this schedule
-abbrev pub IsSayable : List ThreadId → Type 0
-IsSayable schedule = IsSchedule (short_text schedule) schedule
-
-abbrev pub IsSayableFinding : Finding → Type 0
-IsSayableFinding (Shown schedule) = IsSayable schedule.items
-IsSayableFinding finding = ⊤
-
-abbrev pub IsSayableRefusal : RefusalFinding → Type 0
-IsSayableRefusal (refusals.Shown run) = IsSayable run.schedule.items
-IsSayableRefusal finding = ⊤
-
--- What is told of the program is so, whatever the schedule: what is shown, its schedule shows; what
+-- What is found in the program is so, whatever the schedule: what is shown, its schedule shows; what
 -- is never, is so by none. Of what is open nothing is said.
-pub record IsExplorationOf (program : Program) (config : Config) (most : ℕ) (x : Exploration)
+pub record AreOfAll (program : Program) (config : Config) (found : Found) : Type 0 where
+  pub alarm : AlarmTold program config found.alarm
+  pub stuck : StuckTold program config found.stuck
+  pub refused : RefusalTold program config found.refused
+  pub sayable : AreSayable found
+
+-- the most replays that are asked whom they blame; none where the first finding ends the search
+abbrev pub most_to_blame : Bool → ℕ
+most_to_blame first = if first then 0 else MOST_BLAMING
+
+-- all schedules of the program are tried, and this is told of them
+pub record IsExplorationOf (program : Program) (config : Config) (options : ExploreOptions) (told : Told)
     : Type 0 where
-  pub events : x.events ≡ min (sum_by body_events program.bodies) (2 ^ 64 - 1)
-  pub states : x.states ≤ most
-  pub alarm : AlarmTold program config x.alarm
-  pub stuck : StuckTold program config x.stuck
-  pub refused : RefusalTold program config x.refused
-  pub alarm_sayable : IsSayableFinding x.alarm
-  pub stuck_sayable : IsSayableFinding x.stuck
-  pub refused_sayable : IsSayableRefusal x.refused
+  pub states : ℕ
+  pub few : states ≤ options.states
+  pub tried : told.tried ≡ how.All (min (sum_by body_events program.bodies) (2 ^ 64 - 1)) states
+  pub found : AreOfAll program config told.found
+  pub blame : IsBlameOf program config (most_to_blame options.first) told.blame
+
+-- all of them are tried; or where runs by chance are asked for, so many (`ByChance`)
+abbrev pub IsToldBy : Program → Config → ExploreOptions → Option RandomRuns → Told → Type 0
+IsToldBy program config options None told = IsExplorationOf program config options told
+IsToldBy program config options (Some random) told = IsByChance program config random told
+
+abbrev pub IsToldOf : Program → Config → ExploreOptions → Told → Type 0
+IsToldOf program config options told = IsToldBy program config options options.random told
 
 -- ---- its text
 
@@ -83,11 +99,33 @@ refusal_text program (refusals.Shown run) = refused_text program run
 refusal_text program refusals.Never = codes " none"
 refusal_text program refusals.Open = codes " open"
 
-abbrev pub exploration_text : Program → Exploration → List ℕ
-exploration_text program x =
-    codes "events " ++ decimal x.events ++ codes "\nstates " ++ decimal x.states
-    ++ codes "\nalarm" ++ finding_text x.alarm ++ codes "\nstuck" ++ finding_text x.stuck
-    ++ codes "\nrefused" ++ refusal_text program x.refused ++ codes "\n"
+-- "events 9\nstates 11" or "seed 1\nruns 100"
+abbrev pub tried_text : Tried → List ℕ
+tried_text (how.All events states) =
+    codes "events " ++ decimal events ++ codes "\nstates " ++ decimal states
+tried_text (how.ByChance seed runs) = codes "seed " ++ decimal seed ++ codes "\nruns " ++ decimal runs
+
+abbrev pub found_text : Program → Found → List ℕ
+found_text program found =
+    codes "\nalarm" ++ finding_text found.alarm ++ codes "\nstuck" ++ finding_text found.stuck
+    ++ codes "\nrefused" ++ refusal_text program found.refused ++ codes "\n"
+
+-- the name of a label; its number, if it has none
+abbrev pub label_text : Program → ℕ → List ℕ
+label_text program label = option_map_or (λ name. name) (slice_get program.label_names label) (decimal label)
+
+-- "to blame inc (3 of 4 alarms)\n"
+abbrev pub blamed_text : Program → ℕ → Blamed → List ℕ
+blamed_text program alarms blamed =
+    codes "to blame " ++ label_text program blamed.label.0 ++ codes " (" ++ decimal blamed.alarms
+    ++ codes " of " ++ decimal alarms ++ codes " alarms)\n"
+
+abbrev pub blame_text : Program → ToBlame → List ℕ
+blame_text program blame = flat_map (blamed_text program blame.alarms) blame.labels.items
+
+abbrev pub told_text : Program → Told → List ℕ
+told_text program told =
+    tried_text told.tried ++ found_text program told.found ++ blame_text program told.blame
 
 -- ---- what it comes to
 
@@ -99,8 +137,11 @@ fate_by alarm stuck (refusals.Shown run) = fate.Finished (Refused run.thread run
 fate_by Never Never refusals.Never = fate.Finished Done false
 fate_by alarm stuck refused = fate.Open
 
-abbrev pub fate_of_exploration : Exploration → Fate
-fate_of_exploration x = fate_by x.alarm x.stuck x.refused
+abbrev pub fate_of_found : Found → Fate
+fate_of_found found = fate_by found.alarm found.stuck found.refused
+
+abbrev pub fate_of_told : Told → Fate
+fate_of_told told = fate_of_found told.found
 
 -- ---- the replay that is reported
 
@@ -111,8 +152,8 @@ first_schedule alarm (Shown schedule) refused = Some schedule.items
 first_schedule alarm stuck (refusals.Shown run) = Some run.schedule.items
 first_schedule alarm stuck refused = None
 
-abbrev pub schedule_of : Exploration → Option (List ThreadId)
-schedule_of x = first_schedule x.alarm x.stuck x.refused
+abbrev pub schedule_of : Found → Option (List ThreadId)
+schedule_of found = first_schedule found.alarm found.stuck found.refused
 
 -- a run that ended so has the alarm, else the deadlock, else the refusal
 abbrev pub HasFirst : Finding → Finding → RefusalFinding → Ending → WorldState → Type 0
@@ -122,12 +163,12 @@ HasFirst alarm stuck (refusals.Shown run) ended w = ended ≡ Refused run.thread
 HasFirst alarm stuck refused ended w = ⊥
 
 -- the replay by the schedule that is told first has what was found
-pub record IsFirstReplay (program : Program) (config : Config) (x : Exploration)
+pub record IsFirstReplay (program : Program) (config : Config) (found : Found)
     (ended : Ending) (w : WorldState) : Type 0 where
   pub schedule : List ThreadId
-  pub told : schedule_of x ≡ Some schedule
+  pub told : schedule_of found ≡ Some schedule
   pub replays : Replays program schedule config ended w
-  pub has_first : HasFirst x.alarm x.stuck x.refused ended w
+  pub has_first : HasFirst found.alarm found.stuck found.refused ended w
   pub cause : EndsByGrowth ended
   pub reported : is_unreported ended ≡ false
 
@@ -140,42 +181,51 @@ run_of options =
       input = options.input;
       stop = false;
       target = options.target;
+      names_target = options.names_target;
       limits = options.limits;
       certificate = options.certificate;
     }
 
--- The log of the replay is to be saved. The exploration is printed, and behind it the report of this
--- log by the program's names, with its certificate if that is asked for.
+-- behind the report of a deadlock, who waits for what (`Waits` of `velo_waits`)
+abbrev pub waits_behind : Finding → Finding → Program → List Event → List ℕ
+waits_behind (Shown schedule) stuck program log = []
+waits_behind alarm (Shown schedule) program log = waits_text program log
+waits_behind alarm stuck program log = []
+
+-- The log of the replay is to be saved. What is told is printed, and behind it the report of this
+-- log by the program's names, with its certificate if that is asked for; and behind that of a
+-- deadlock who waits for what.
 pub record ReportsReplay (options : ExploreOptions) (program : Program) (config : Config)
-    (x : Exploration) (answer : Answer) : Type 0 where
+    (told : Told) (answer : Answer) : Type 0 where
   pub ended : Ending
   pub world : WorldState
-  pub replay : IsFirstReplay program config x ended world
+  pub replay : IsFirstReplay program config told.found ended world
   pub names : Names
   pub are_names : AreNamesOf program names
   pub report : List ℕ
   pub is_report : IsOutputOf names options.certificate world report
   pub said : answer ≡ record {
     saved = Some (text_of_log world);
-    printed = Some (exploration_text program x ++ report);
-    fate = fate_of_exploration x;
+    printed = Some (told_text program told
+        ++ report ++ waits_behind told.found.alarm told.found.stuck program world.log);
+    fate = fate_of_told told;
   }
 
--- where no schedule is told the exploration alone is printed, and there is nothing to be saved
-abbrev pub IsPrintedAlone : Program → Exploration → Answer → Type 0
-IsPrintedAlone program x answer =
-    (schedule_of x ≡ None)
-    × (answer ≡ printing (exploration_text program x) (fate_of_exploration x))
+-- where no schedule is told the rest is printed alone, and there is nothing to be saved
+abbrev pub IsPrintedAlone : Program → Told → Answer → Type 0
+IsPrintedAlone program told answer =
+    (schedule_of told.found ≡ None)
+    × (answer ≡ printing (told_text program told) (fate_of_told told))
 
--- all schedules of the program are explored within the limits that were asked for, and this is said
+-- the schedules of the program are tried within the limits that were asked for, and this is said
 pub record IsExplored (options : ExploreOptions) (program : Program) (answer : Answer)
     : Type 0 where
   pub config : Config
   pub configured : IsConfigOf program (run_of options) config
-  pub exploration : Exploration
-  pub is_so : IsExplorationOf program config options.states exploration
-  pub says : ReportsReplay options program config exploration answer
-      ⊎ IsPrintedAlone program exploration answer
+  pub told : Told
+  pub is_so : IsToldOf program config options told
+  pub says : ReportsReplay options program config told answer
+      ⊎ IsPrintedAlone program told answer
 
 -- What an exploration of the workload that was read has to say; or nothing, for a reason.
 abbrev pub IsExploreAnswer : ExploreOptions → Option (List ℕ) → Answer → Type 0

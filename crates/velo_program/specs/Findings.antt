@@ -1,16 +1,17 @@
 -- Words of the contracts of an exploration within the crate: how far each step has come.
-use Rattle.std.specs.Prelude.{◌≡◌, ◌⊎◌, ◌++◌, ◌∷◌, [], ⊤, ℕ, Bool, false, List, decimal, Option, Some, None, Result, Ok, Err}
+use Rattle.std.specs.Prelude.{◌≡◌, ◌⊎◌, ◌++◌, ◌∷◌, [], ⊤, ℕ, Bool, false, List, Option, Some, None, Result, Ok, Err}
 use Rattle.std.specs.Borrow.{Bor}
+use Rattle.std.specs.Global.{Vec}
 use Rattle.velo_events.specs.declared.config.Config.{Config}
 use Rattle.velo_events.specs.declared.event.ThreadId.{ThreadId}
 use Rattle.velo_events.specs.Graph.{HasCycle}
 use Rattle.velo_events.specs.Refusals.{GrowthRefused}
 use Rattle.velo_report.specs.declared.names.Names.{Names}
-use Rattle.velo_schedules.specs.declared.exploration.Exploration.{Exploration}
 use Rattle.velo_schedules.specs.declared.finding.Finding.{Finding}
 use Rattle.velo_schedules.specs.declared.finding.Finding.TheVariants.{Shown, Never, Open}
 use Rattle.velo_schedules.specs.declared.finding.RefusalFinding.{RefusalFinding}
 use Rattle.velo_schedules.specs.declared.finding.RefusalFinding.TheVariants as refusals
+use Rattle.velo_schedules.specs.declared.finding.RefusedRun.{RefusedRun}
 use Rattle.velo_worker.specs.declared.ending.Ending.{Ending}
 use Rattle.velo_worker.specs.declared.ending.Ending.TheVariants.{Refused, Stuck}
 use Rattle.velo_worker.specs.Causes.{EndsByGrowth}
@@ -20,10 +21,13 @@ use Rattle.velo_world.specs.World.{WorldState}
 use Rattle.velo_program.specs.declared.fate.Fate.{Fate}
 use Rattle.velo_program.specs.declared.fate.Fate.TheVariants as fate
 use Rattle.velo_program.specs.declared.request.ExploreOptions.{ExploreOptions}
+use Rattle.velo_program.specs.declared.told.Found.{Found}
+use Rattle.velo_program.specs.declared.told.Told.{Told}
+use Rattle.velo_program.specs.ByChance.{IsSayableFinding, IsSayableRefusal}
 use Rattle.velo_program.specs.Check.{IsOutputOf}
 use Rattle.velo_program.specs.Delivery.{Answer, FailsToSave, IsDelivered, LacksMemory, Saves, SavesPart}
 use Rattle.velo_program.specs.Disk.{Store}
-use Rattle.velo_program.specs.Exploring.{IsExplorationOf, IsExplored, IsFirstReplay, IsSayableFinding, IsSayableRefusal, exploration_text, fate_of_exploration, schedule_of}
+use Rattle.velo_program.specs.Exploring.{IsExplored, IsFirstReplay, fate_of_told, schedule_of, told_text, waits_behind}
 use Rattle.velo_program.specs.Playing.{AreNamesOf, is_unreported, text_of_log}
 use Rattle.velo_program.specs.Steps.{HasAlarm}
 use Rattle.velo_program.specs.Writing.{BreaksOff, Delivers, Writes, WritesNothing, Writing}
@@ -40,6 +44,15 @@ abbrev pub IsRefusalSaidFor : RefusalFinding → RefusalFinding → Type 0
 IsRefusalSaidFor finding said =
     (IsSayableRefusal finding × (said ≡ finding))
     ⊎ ((¬ IsSayableRefusal finding) × (said ≡ refusals.Open))
+
+-- it is shown by the schedule, if there is one
+abbrev pub shown_or_never : Option (Vec ThreadId) → Finding
+shown_or_never (Some schedule) = Shown schedule
+shown_or_never None = Never
+
+abbrev pub refused_or_never : Option RefusedRun → RefusalFinding
+refused_or_never (Some run) = refusals.Shown run
+refused_or_never None = refusals.Never
 
 -- ---- replays
 
@@ -81,25 +94,40 @@ abbrev pub IsUnshown : Finding → Type 0
 IsUnshown (Shown schedule) = ⊥
 IsUnshown finding = ⊤
 
--- what the one tells of the program, if it is so, the other does
-abbrev pub IsNoMoreThan : Program → Config → Exploration → Exploration → Type 0
-IsNoMoreThan program config x y =
-    (most : ℕ) → IsExplorationOf program config most x → IsExplorationOf program config most y
+-- the one, or what is left of it where it is not shown
+abbrev pub IsNoMore : Finding → Finding → Type 0
+IsNoMore one other = (other ≡ one) ⊎ (other ≡ unshown one)
+
+abbrev pub IsNoMoreRefusal : RefusalFinding → RefusalFinding → Type 0
+IsNoMoreRefusal one other = (other ≡ one) ⊎ (other ≡ unshown_refusal one)
+
+-- the other tells no more than the one
+pub record TellsNoMore (one other : Found) : Type 0 where
+  pub alarm : IsNoMore one.alarm other.alarm
+  pub stuck : IsNoMore one.stuck other.stuck
+  pub refused : IsNoMoreRefusal one.refused other.refused
 
 -- the replay of the first finding, if there is one
-abbrev pub IsRunOfFirst : Program → Config → Exploration → Option (WorldState × Ending) → Type 0
-IsRunOfFirst program config x None = schedule_of x ≡ None
-IsRunOfFirst program config x (Some run) =
-    IsFirstReplay program config x run.1 run.0 × HasAlarm run.0.log
+abbrev pub IsRunOfFirst : Program → Config → Found → Option (WorldState × Ending) → Type 0
+IsRunOfFirst program config found None = schedule_of found ≡ None
+IsRunOfFirst program config found (Some run) =
+    IsFirstReplay program config found run.1 run.0 × HasAlarm run.0.log
 
 -- ---- what goes out
 
--- what writing a text and the output of a world behind it came to
-abbrev pub WritesBehind : {X F : Type 0} → List ℕ → Names → Bool → WorldState → Writing
+-- what writing the output of a world and a text behind it came to
+abbrev pub WritesReport : {X F : Type 0} → Names → Bool → WorldState → List ℕ → Writing
     → Result X F → Type 0
-WritesBehind text names certificate w stdout result =
+WritesReport names certificate w behind stdout result =
     (report : List ℕ) × IsOutputOf names certificate w report
-    × Delivers stdout (text ++ report) result
+    × Delivers stdout (report ++ behind) result
+
+-- what writing it behind another text came to
+abbrev pub WritesBehind : {X F : Type 0} → List ℕ → Names → Bool → WorldState → List ℕ → Writing
+    → Result X F → Type 0
+WritesBehind text names certificate w behind stdout result =
+    (report : List ℕ) × IsOutputOf names certificate w report
+    × Delivers stdout (text ++ report ++ behind) result
 
 -- what saving a text and printing another came to
 abbrev pub Puts : {X : Type 0} → Store → Option (Bor (List ℕ)) → Writing
@@ -113,47 +141,49 @@ Puts store target stdout saved printed (Err fate.WriteFailed) =
     ⊎ (Saves store target saved × BreaksOff stdout printed)
 Puts store target stdout saved printed (Err f) = ⊥
 
--- what saving the log of a replay and printing a text and the report behind it came to
-abbrev pub TellsReplay : {X : Type 0} → List ℕ → Names → Bool → WorldState
+-- what saving the log of a replay and printing a text, the report behind it, and a text behind that
+-- came to
+abbrev pub TellsReplay : {X : Type 0} → List ℕ → Names → Bool → WorldState → List ℕ
     → Store → Option (Bor (List ℕ)) → Writing → Result X Fate → Type 0
-TellsReplay text names certificate w store target stdout result =
+TellsReplay text names certificate w behind store target stdout result =
     (report : List ℕ) × IsOutputOf names certificate w report
-    × Puts store target stdout (Some (text_of_log w)) (text ++ report) result
+    × Puts store target stdout (Some (text_of_log w)) (text ++ report ++ behind) result
 
 -- a growth was refused, and nothing was written
 abbrev pub Lacks : {X : Type 0} → Store → Writing → Result X Fate → Type 0
 Lacks store stdout (Err fate.Memory) = GrowthRefused × store.is_kept × WritesNothing stdout
 Lacks store stdout result = ⊥
 
-abbrev pub ReportsOrLacks : {X : Type 0} → Program → List ℕ → Bool → WorldState
+abbrev pub ReportsOrLacks : {X : Type 0} → Program → List ℕ → Bool → WorldState → List ℕ
     → Store → Option (Bor (List ℕ)) → Writing → Result X Fate → Type 0
-ReportsOrLacks program text certificate w store target stdout result =
+ReportsOrLacks program text certificate w behind store target stdout result =
     ((names : Names) × AreNamesOf program names
-    × TellsReplay text names certificate w store target stdout result)
+    × TellsReplay text names certificate w behind store target stdout result)
     ⊎ Lacks store stdout result
 
 -- what telling a text and the replay, if there is one, came to
-abbrev pub TellsRun : {X : Type 0} → Program → List ℕ → Bool → Option (WorldState × Ending)
+abbrev pub TellsRun : {X : Type 0} → Program → Found → List ℕ → Bool → Option (WorldState × Ending)
     → Store → Option (Bor (List ℕ)) → Writing → Result X Fate → Type 0
-TellsRun program text certificate None store target stdout result =
+TellsRun program found text certificate None store target stdout result =
     Puts store target stdout None text result
-TellsRun program text certificate (Some run) store target stdout result =
-    ReportsOrLacks program text certificate run.0 store target stdout result
+TellsRun program found text certificate (Some run) store target stdout result =
+    ReportsOrLacks program text certificate run.0
+    (waits_behind found.alarm found.stuck program run.0.log) store target stdout result
 
 -- what telling came to, as a fate
 abbrev pub fate_behind : {X : Type 0} → Fate → Result X Fate → Fate
 fate_behind f (Ok x) = f
 fate_behind f (Err other) = other
 
--- what telling an exploration and the replay, if there is one, came to
-abbrev pub TellsFindings : ExploreOptions → Program → Exploration → Option (WorldState × Ending)
+-- what telling of the schedules and the replay, if there is one, came to
+abbrev pub TellsFindings : ExploreOptions → Program → Told → Option (WorldState × Ending)
     → Store → Writing → Fate → Type 0
-TellsFindings options program x run store stdout f =
+TellsFindings options program told run store stdout f =
     (GrowthRefused × (f ≡ fate.Memory) × store.is_kept × WritesNothing stdout)
-    ⊎ ((told : Result ⊤ Fate)
-    × TellsRun program (exploration_text program x) options.certificate run
-    store options.target stdout told
-    × (f ≡ fate_behind (fate_of_exploration x) told))
+    ⊎ ((out : Result ⊤ Fate)
+    × TellsRun program told.found (told_text program told) options.certificate run
+    store options.target stdout out
+    × (f ≡ fate_behind (fate_of_told told) out))
 
 -- what exploring a workload came to
 abbrev pub Explores : ExploreOptions → Program → Store → Writing → Fate → Type 0

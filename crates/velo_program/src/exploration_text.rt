@@ -1,14 +1,16 @@
-//! The text of an exploration.
+//! The text of what is told of the schedules of a workload.
 ghost use Rattle.std.specs.Prelude.{◌≡◌, ◌++◌, decimal, slice_get, IfOk, OnErr, OnOk};
 ghost use Rattle.velo_events.specs.Refusals.{GrowthRefused};
-ghost use Rattle.velo_program.specs.Exploring.{exploration_text, finding_text, name_text, refused_text, refusal_text};
+ghost use Rattle.velo_program.specs.Exploring.{blame_text, blamed_text, finding_text, found_text, label_text, name_text, refused_text, refusal_text, told_text, tried_text};
 
 use crate::fate::number_of;
+use crate::told::{Found, ToBlame, Told, Tried};
 use std::alloc::Global;
+use velo_chance::Blamed;
 use velo_events::growth::reserve;
-use velo_events::{Memory, ThreadId};
+use velo_events::{Label, Memory, ThreadId};
 use velo_logtext::put_number;
-use velo_schedules::{Exploration, Finding, RefusalFinding, RefusedRun};
+use velo_schedules::{Finding, RefusalFinding, RefusedRun};
 use velo_turns::append_turns;
 use velo_workload::Workload;
 
@@ -92,43 +94,98 @@ fn add_refusal(
     }
 }
 
-/// Adds the lines of an exploration.
-fn add_exploration(
-    text: &mut Vec<u8>,
-    workload: &Workload,
-    exploration: &Exploration,
-) -> Result<(), Memory>
-    ensures ok { OnOk result (text.new.items
-        ≡ text.old.items ++ exploration_text workload.now exploration.now) }
+/// Adds how schedules were tried.
+fn add_tried(text: &mut Vec<u8>, tried: Tried) -> Result<(), Memory>
+    ensures ok { OnOk result (text.new.items ≡ text.old.items ++ tried_text tried) }
     ensures memory { OnErr result GrowthRefused }
 {
-    add_bytes(text, b"events ")?;
-    add_number(text, exploration.events)?;
-    add_bytes(text, b"\nstates ")?;
-    add_number(text, exploration.states)?;
+    match tried {
+        Tried::All { events, states } => {
+            add_bytes(text, b"events ")?;
+            add_number(text, events)?;
+            add_bytes(text, b"\nstates ")?;
+            add_number(text, states)
+        }
+        Tried::ByChance { seed, runs } => {
+            add_bytes(text, b"seed ")?;
+            add_number(text, seed)?;
+            add_bytes(text, b"\nruns ")?;
+            add_number(text, runs)
+        }
+    }
+}
+
+/// Adds the lines of what was found.
+fn add_found(text: &mut Vec<u8>, workload: &Workload, found: &Found) -> Result<(), Memory>
+    ensures ok { OnOk result (text.new.items
+        ≡ text.old.items ++ found_text workload.now found.now) }
+    ensures memory { OnErr result GrowthRefused }
+{
     add_bytes(text, b"\nalarm")?;
-    add_finding(text, &exploration.alarm)?;
+    add_finding(text, &found.alarm)?;
     add_bytes(text, b"\nstuck")?;
-    add_finding(text, &exploration.stuck)?;
+    add_finding(text, &found.stuck)?;
     add_bytes(text, b"\nrefused")?;
-    add_refusal(text, workload, &exploration.refused)?;
+    add_refusal(text, workload, &found.refused)?;
     add_bytes(text, b"\n")
 }
 
-/// The text of an exploration.
+/// Adds the name of a label, or its number, if it has none.
+fn add_label(text: &mut Vec<u8>, workload: &Workload, label: Label) -> Result<(), Memory>
+    ensures ok { OnOk result (text.new.items
+        ≡ text.old.items ++ label_text workload.now label.0) }
+    ensures memory { OnErr result GrowthRefused }
+{
+    match workload.label_names().get(label.0 as usize) {
+        Some(name) => add_bytes(text, name.as_bytes()),
+        None => add_number(text, u64::from(label.0)),
+    }
+}
+
+/// Adds the line of a label that is to blame for some of so many alarms.
+fn add_blamed(
+    text: &mut Vec<u8>,
+    workload: &Workload,
+    alarms: u64,
+    blamed: Blamed,
+) -> Result<(), Memory>
+    ensures ok { OnOk result (text.new.items
+        ≡ text.old.items ++ blamed_text workload.now alarms blamed) }
+    ensures memory { OnErr result GrowthRefused }
+{
+    add_bytes(text, b"to blame ")?;
+    add_label(text, workload, blamed.label)?;
+    add_bytes(text, b" (")?;
+    add_number(text, blamed.alarms)?;
+    add_bytes(text, b" of ")?;
+    add_number(text, alarms)?;
+    add_bytes(text, b" alarms)\n")
+}
+
+/// Adds the lines of the labels that are to blame.
+fn add_blame(text: &mut Vec<u8>, workload: &Workload, blame: &ToBlame) -> Result<(), Memory>
+    ensures ok { OnOk result (text.new.items
+        ≡ text.old.items ++ blame_text workload.now blame.now) }
+    ensures memory { OnErr result GrowthRefused }
+{
+    let labels = blame.labels.as_slice();
+    for place in 0..labels.len() {
+        add_blamed(text, workload, blame.alarms, labels[place])?;
+    }
+    Ok(())
+}
+
+/// The text of what is told of the schedules of a workload.
 ///
 /// # Errors
 /// `Memory` where a growth was refused.
-pub fn text_of_exploration(
-    alloc: Global,
-    workload: &Workload,
-    exploration: &Exploration,
-) -> Result<Vec<u8>, Memory>
-    ensures ok { IfOk result (λ text. text.items
-        ≡ exploration_text workload.now exploration.now) }
+pub fn text_of_told(alloc: Global, workload: &Workload, told: &Told) -> Result<Vec<u8>, Memory>
+    ensures ok { IfOk result (λ text. text.items ≡ told_text workload.now told.now) }
     ensures memory { OnErr result GrowthRefused }
 {
     let mut text = Vec::new(alloc);
-    add_exploration(&mut text, workload, exploration)?;
+    add_tried(&mut text, told.tried)?;
+    add_found(&mut text, workload, &told.found)?;
+    add_blame(&mut text, workload, &told.blame)?;
     Ok(text)
 }

@@ -1,25 +1,29 @@
 //! `velodrome explore`.
-ghost use Rattle.std.specs.Prelude.{◌≡◌, IfSome, is_some};
+ghost use Rattle.std.specs.Prelude.{◌≡◌, IfOk, IfSome, OnErr, is_some};
+ghost use Rattle.velo_events.specs.Refusals.{GrowthRefused};
 ghost use Rattle.velo_program.specs.Check.{IsOrderOrCycle};
 ghost use Rattle.velo_program.specs.Disk.{store};
-ghost use Rattle.velo_program.specs.Exploring.{fate_of_exploration, run_of};
-ghost use Rattle.velo_program.specs.Findings.{Explores, ReportsOrLacks, TellsFindings, TellsReplay, TellsRun, WritesBehind, fate_of_refusal, fate_without_alarm};
+ghost use Rattle.velo_program.specs.Exploring.{IsToldOf, fate_of_found, run_of, waits_behind};
+ghost use Rattle.velo_program.specs.Findings.{Explores, ReportsOrLacks, TellsFindings, TellsReplay, TellsRun, WritesBehind, WritesReport, fate_of_refusal, fate_without_alarm};
+ghost use Rattle.velo_program.specs.Playing.{IsConfigOf};
 ghost use Rattle.velo_program.specs.Program.{DoesExplore};
 ghost use Rattle.velo_program.specs.Steps.{HasAlarm};
 ghost use Rattle.velo_program.specs.Writing.{writing};
 
 use crate::check::{order_or_cycle_of, write_output};
-use crate::exploration_text::text_of_exploration;
+use crate::exploration_text::text_of_told;
 use crate::fate::Fate;
 use crate::files::Files;
-use crate::findings::findings_of;
+use crate::findings::{first_replay, told_of};
 use crate::request::{ExploreOptions, RunOptions};
+use crate::told::{Found, Told};
 use crate::work::{config_of_run, open_workload, save_log};
 use std::alloc::Global;
-use velo_events::Memory;
+use velo_events::{Config, Memory};
 use velo_logtext::{Sink, WriteFault, write_all};
 use velo_report::Names;
-use velo_schedules::{Exploration, Finding, RefusalFinding};
+use velo_schedules::{Finding, RefusalFinding};
+use velo_waits::waits_of;
 use velo_worker::Ending;
 use velo_workload::Workload;
 use velo_world::Closed;
@@ -32,6 +36,7 @@ fn run_of<'a>(options: &ExploreOptions<'a>) -> RunOptions<'a>
         input: options.input,
         stop: false,
         target: options.target,
+        names_target: options.names_target,
         limits: options.limits,
         certificate: options.certificate,
     }
@@ -65,56 +70,79 @@ fn fate_without_alarm(stuck: &Finding, refused: &RefusalFinding, otherwise: Fate
     }
 }
 
-/// What an exploration comes to.
-fn fate_of(exploration: &Exploration) -> Fate
-    ensures { result ≡ fate_of_exploration exploration.now }
+/// What the findings come to.
+fn fate_of(found: &Found) -> Fate
+    ensures { result ≡ fate_of_found found.now }
 {
     let clean = Fate::Finished {
         ending: Ending::Done,
         alarm: false,
     };
-    match &exploration.alarm {
+    match &found.alarm {
         Finding::Shown(_) => Fate::Finished {
             ending: Ending::Done,
             alarm: true,
         },
-        Finding::Never => fate_without_alarm(&exploration.stuck, &exploration.refused, clean),
-        Finding::Open => fate_without_alarm(&exploration.stuck, &exploration.refused, Fate::Open),
+        Finding::Never => fate_without_alarm(&found.stuck, &found.refused, clean),
+        Finding::Open => fate_without_alarm(&found.stuck, &found.refused, Fate::Open),
     }
 }
 
-/// Writes a text, and behind it the report of a closed world, and the certificate, if there is an order or a cycle.
+/// Writes the report of a closed world, and the certificate, if there is an order or a cycle, and behind them a text.
+fn write_report<O: Sink>(
+    closed: &Closed,
+    names: &Names,
+    list: Option<&[usize]>,
+    behind: &[u8],
+    out: &mut O,
+) -> Result<(), WriteFault>
+    requires list { IfSome list (λ list. IsOrderOrCycle closed.now.log list.now) }
+    requires alarm { HasAlarm closed.now.log }
+    ensures { WritesReport names.now (is_some list.entry) closed.now behind.now
+        (writing O.contents O.failures out.old out.new) result }
+{
+    match write_output(closed, names, list, out) {
+        Ok(()) => write_all(out, behind),
+        Err(fault) => Err(fault),
+    }
+}
+
+/// Writes a text, and behind it the report of a closed world, and the certificate, if there is an order or a cycle; and then
+/// another text.
 fn write_behind<O: Sink>(
     text: &[u8],
     closed: &Closed,
     names: &Names,
     list: Option<&[usize]>,
+    behind: &[u8],
     out: &mut O,
 ) -> Result<(), WriteFault>
     requires list { IfSome list (λ list. IsOrderOrCycle closed.now.log list.now) }
     requires alarm { HasAlarm closed.now.log }
-    ensures { WritesBehind text.now names.now (is_some list.entry) closed.now
+    ensures { WritesBehind text.now names.now (is_some list.entry) closed.now behind.now
         (writing O.contents O.failures out.old out.new) result }
 {
     match write_all(out, text) {
-        Ok(()) => write_output(closed, names, list, out),
+        Ok(()) => write_report(closed, names, list, behind, out),
         Err(fault) => Err(fault),
     }
 }
 
-/// Saves the log of a replay at the target, if there is one, then writes the text, and behind it the report.
+/// Saves the log of a replay at the target, if there is one, then writes the text, behind it the report, and then the other
+/// text.
 fn report_by<F: Files, O: Sink>(
     closed: &Closed,
     names: &Names,
     list: Option<&[usize]>,
     text: &[u8],
+    behind: &[u8],
     target: Option<&str>,
     files: &mut F,
     out: &mut O,
 ) -> Result<(), Fate>
     requires list { IfSome list (λ list. IsOrderOrCycle closed.now.log list.now) }
     requires alarm { HasAlarm closed.now.log }
-    ensures { TellsReplay text.now names.now (is_some list.entry) closed.now
+    ensures { TellsReplay text.now names.now (is_some list.entry) closed.now behind.now
         (store F.disk files.old files.new) target.entry
         (writing O.contents O.failures out.old out.new) result }
 {
@@ -122,25 +150,26 @@ fn report_by<F: Files, O: Sink>(
         Ok(()) => {}
         Err(fate) => return Err(fate),
     }
-    match write_behind(text, closed, names, list, out) {
+    match write_behind(text, closed, names, list, behind, out) {
         Ok(()) => Ok(()),
         Err(WriteFault) => Err(Fate::WriteFailed),
     }
 }
 
-/// Saves the log of a replay at the target, if there is one, then writes the text, and behind it the report, and the
-/// certificate, if that was asked for. The certificate is made before anything is opened.
+/// Saves the log of a replay at the target, if there is one, then writes the text, and behind it the report, the certificate,
+/// if that was asked for, and the other text. The certificate is made before anything is opened.
 fn report<F: Files, O: Sink>(
     alloc: Global,
     workload: &Workload,
     closed: &Closed,
     text: &[u8],
+    behind: &[u8],
     options: &ExploreOptions,
     files: &mut F,
     out: &mut O,
 ) -> Result<(), Fate>
     requires { HasAlarm closed.now.log }
-    ensures { ReportsOrLacks workload.now text.now options.now.certificate closed.now
+    ensures { ReportsOrLacks workload.now text.now options.now.certificate closed.now behind.now
         (store F.disk files.old files.new) options.now.target
         (writing O.contents O.failures out.old out.new) result }
 {
@@ -149,14 +178,53 @@ fn report<F: Files, O: Sink>(
         labels: workload.label_names(),
     };
     if !options.certificate {
-        return report_by(closed, &names, None, text, options.target, files, out);
+        return report_by(
+            closed,
+            &names,
+            None,
+            text,
+            behind,
+            options.target,
+            files,
+            out,
+        );
     }
     match order_or_cycle_of(alloc, closed) {
         Ok(list) => {
             let list = Some(list.as_slice());
-            report_by(closed, &names, list, text, options.target, files, out)
+            report_by(
+                closed,
+                &names,
+                list,
+                text,
+                behind,
+                options.target,
+                files,
+                out,
+            )
         }
         Err(Memory) => Err(Fate::Memory),
+    }
+}
+
+/// Who waits for what in a world, where a deadlock is reported.
+fn waits_behind(
+    alloc: Global,
+    workload: &Workload,
+    found: &Found,
+    closed: &Closed,
+) -> Result<Vec<u8>, Memory>
+    requires { closed.now.config.bounds ≡ workload.now.bounds }
+    ensures text { IfOk result (λ text. text.items
+        ≡ waits_behind found.now.alarm found.now.stuck workload.now closed.now.log) }
+    ensures memory { OnErr result GrowthRefused }
+{
+    match &found.alarm {
+        Finding::Shown(_) => Ok(Vec::new(alloc)),
+        Finding::Never | Finding::Open => match &found.stuck {
+            Finding::Shown(_) => waits_of(alloc, workload, closed),
+            Finding::Never | Finding::Open => Ok(Vec::new(alloc)),
+        },
     }
 }
 
@@ -164,19 +232,24 @@ fn report<F: Files, O: Sink>(
 fn tell<F: Files, O: Sink>(
     alloc: Global,
     workload: &Workload,
+    found: &Found,
     run: &Option<(Closed, Ending)>,
     text: &[u8],
     options: &ExploreOptions,
     files: &mut F,
     out: &mut O,
 ) -> Result<(), Fate>
-    requires { IfSome run.now (λ run. HasAlarm run.0.log) }
-    ensures { TellsRun workload.now text.now options.now.certificate run.now
+    requires bounds { IfSome run.now (λ run. run.0.config.bounds ≡ workload.now.bounds) }
+    requires alarm { IfSome run.now (λ run. HasAlarm run.0.log) }
+    ensures { TellsRun workload.now found.now text.now options.now.certificate run.now
         (store F.disk files.old files.new) options.now.target
         (writing O.contents O.failures out.old out.new) result }
 {
     match run {
-        Some((closed, _)) => report(alloc, workload, closed, text, options, files, out),
+        Some((closed, _)) => match waits_behind(alloc, workload, found, closed) {
+            Ok(behind) => report(alloc, workload, closed, text, &behind, options, files, out),
+            Err(Memory) => Err(Fate::Memory),
+        },
         None => match write_all(out, text) {
             Ok(()) => Ok(()),
             Err(WriteFault) => Err(Fate::WriteFailed),
@@ -184,32 +257,78 @@ fn tell<F: Files, O: Sink>(
     }
 }
 
-/// Writes what an exploration of a workload found, and behind it what a replay shows, if there is one.
+/// Writes what is told of the schedules of a workload, and behind it what a replay shows, if there is one.
 fn tell_findings<F: Files, O: Sink>(
     alloc: Global,
     workload: &Workload,
-    found: &Exploration,
+    told: &Told,
     run: &Option<(Closed, Ending)>,
     options: &ExploreOptions,
     files: &mut F,
     out: &mut O,
 ) -> Fate
-    requires { IfSome run.now (λ run. HasAlarm run.0.log) }
-    ensures { TellsFindings options.now workload.now found.now run.now
+    requires bounds { IfSome run.now (λ run. run.0.config.bounds ≡ workload.now.bounds) }
+    requires alarm { IfSome run.now (λ run. HasAlarm run.0.log) }
+    ensures { TellsFindings options.now workload.now told.now run.now
         (store F.disk files.old files.new)
         (writing O.contents O.failures out.old out.new) result }
 {
-    let text = match text_of_exploration(alloc, workload, found) {
+    let text = match text_of_told(alloc, workload, told) {
         Ok(text) => text,
         Err(Memory) => return Fate::Memory,
     };
-    match tell(alloc, workload, run, &text, options, files, out) {
-        Ok(()) => fate_of(found),
+    match tell(
+        alloc,
+        workload,
+        &told.found,
+        run,
+        &text,
+        options,
+        files,
+        out,
+    ) {
+        Ok(()) => fate_of(&told.found),
         Err(fate) => fate,
     }
 }
 
-/// Tries every schedule of a workload, and writes what they come to.
+/// Replays what is told first, and writes what is told, and behind it what the replay shows.
+fn show_told<F: Files, O: Sink>(
+    alloc: Global,
+    workload: &Workload,
+    config: Config,
+    told: Told,
+    options: &ExploreOptions,
+    files: &mut F,
+    out: &mut O,
+) -> Fate
+    requires bounds { config.bounds ≡ workload.now.bounds }
+    requires configured { IsConfigOf workload.now (run_of options.now) config }
+    requires told { IsToldOf workload.now config options.now told }
+    ensures { Explores options.now workload.now (store F.disk files.old files.new)
+        (writing O.contents O.failures out.old out.new) result }
+{
+    let Told {
+        tried,
+        found,
+        blame,
+    } = told;
+    match first_replay(alloc, workload, config, found) {
+        Ok((found, run)) => {
+            let told = Told {
+                tried,
+                found,
+                blame,
+            };
+            let fate = tell_findings(alloc, workload, &told, &run, options, files, out);
+            drop((told, run));
+            fate
+        }
+        Err(Memory) => Fate::Memory,
+    }
+}
+
+/// Tries the schedules of a workload, and writes what they come to.
 fn explore_workload<F: Files, O: Sink>(
     alloc: Global,
     workload: &Workload,
@@ -221,17 +340,13 @@ fn explore_workload<F: Files, O: Sink>(
         (writing O.contents O.failures out.old out.new) result }
 {
     let config = config_of_run(workload, &run_of(options));
-    match findings_of(alloc, workload, options.states, options.first, config) {
-        Ok((found, run)) => {
-            let fate = tell_findings(alloc, workload, &found, &run, options, files, out);
-            drop((found, run));
-            fate
-        }
+    match told_of(alloc, workload, options, config) {
+        Ok(told) => show_told(alloc, workload, config, told, options, files, out),
         Err(Memory) => Fate::Memory,
     }
 }
 
-/// Tries every schedule of the workload that was asked for, and writes what they come to.
+/// Tries the schedules of the workload that was asked for, and writes what they come to.
 pub fn explore_file<F: Files, O: Sink>(
     alloc: Global,
     options: &ExploreOptions,

@@ -2,13 +2,19 @@
 ghost use Rattle.std.specs.Prelude.{◌≡◌, ◌<◌, ◌↔◌, All, IfOk, IfSome, IsTrue, OnErr};
 ghost use Rattle.velo_events.specs.Refusals.{GrowthRefused};
 ghost use Rattle.velo_events.specs.declared.limits.TheConstants.{MOST_THREADS};
+ghost use Rattle.velo_program.specs.ByChance.{IsByChance, IsSayable};
 ghost use Rattle.velo_program.specs.Check.{IsVerdict};
-ghost use Rattle.velo_program.specs.Exploring.{IsExplorationOf, IsSayable};
-ghost use Rattle.velo_program.specs.Findings.{IsNoMoreThan, IsReplayBy, IsRunOfFirst, IsSaidFor, IsRefusalSaidFor, IsUnshown, ShowsAlarm, ShowsRefusal, ShowsStuck, unshown, unshown_refusal};
+ghost use Rattle.velo_program.specs.Exploring.{IsExplorationOf, IsToldOf};
+ghost use Rattle.velo_program.specs.Findings.{IsReplayBy, IsRunOfFirst, IsSaidFor, IsRefusalSaidFor, IsUnshown, ShowsAlarm, ShowsRefusal, ShowsStuck};
+ghost use Rattle.velo_program.specs.Findings.{TellsNoMore, refused_or_never, shown_or_never, unshown, unshown_refusal};
 
+use crate::blaming::blame_of;
 use crate::check::{Verdict, is_alarm, verdict_of};
+use crate::request::{ExploreOptions, RandomRuns};
+use crate::told::{Found, ToBlame, Told, Tried};
 use crate::work::is_unreported;
 use std::alloc::Global;
+use velo_chance::{Tally, explore_by_chance};
 use velo_events::{Config, MOST_THREADS, Memory, ThreadId};
 use velo_schedules::{Exploration, Finding, Quiet, RefusalFinding, RefusedRun, explore};
 use velo_shrink::shrink_told;
@@ -70,36 +76,119 @@ fn sayable_refusal(finding: RefusalFinding) -> RefusalFinding
     }
 }
 
-/// What all schedules of the workload come to, by simple schedules, as far as it can be told.
+/// What all schedules of the workload come to, by simple schedules, as far as it can be told, and who is to blame.
 fn explore_all(
     alloc: Global,
     workload: &Workload,
-    most_states: u32,
-    first: bool,
+    options: &ExploreOptions,
     config: Config,
-) -> Result<Exploration, Memory>
+) -> Result<Told, Memory>
     requires { config.bounds ≡ workload.now.bounds }
-    ensures exploration { IfOk result (IsExplorationOf workload.now config most_states) }
+    ensures told { IfOk result (IsExplorationOf workload.now config options.now) }
     ensures memory { OnErr result GrowthRefused }
 {
-    let most_states = u64::from(most_states);
-    let found = explore(alloc, workload, most_states, first, config, &mut Quiet)?;
+    let most_states = u64::from(options.states);
+    let found = explore(
+        alloc,
+        workload,
+        most_states,
+        options.first,
+        config,
+        &mut Quiet,
+    )?;
+    let blame = blame_of(alloc, workload, &found.alarms, options.first, config)?;
     let Exploration {
         events,
         states,
         alarm,
         stuck,
         refused,
-        alarms,
+        ..
     } = shrink_told(alloc, workload, found, config)?;
-    Ok(Exploration {
-        events,
-        states,
-        alarm: sayable(alarm),
-        stuck: sayable(stuck),
-        refused: sayable_refusal(refused),
-        alarms,
+    Ok(Told {
+        tried: Tried::All { events, states },
+        found: Found {
+            alarm: sayable(alarm),
+            stuck: sayable(stuck),
+            refused: sayable_refusal(refused),
+        },
+        blame,
     })
+}
+
+/// The finding that the schedule shows; that there is none, where there is no schedule.
+fn shown_or_never(schedule: Option<Vec<ThreadId>>) -> Finding
+    ensures { result ≡ shown_or_never schedule }
+{
+    match schedule {
+        Some(schedule) => Finding::Shown(schedule),
+        None => Finding::Never,
+    }
+}
+
+/// The finding that the refused run shows; that there is none, where there is no run.
+fn refused_or_never(run: Option<RefusedRun>) -> RefusalFinding
+    ensures { result ≡ refused_or_never run }
+{
+    match run {
+        Some(run) => RefusalFinding::Shown(run),
+        None => RefusalFinding::Never,
+    }
+}
+
+/// What so many runs of the workload by chance come to, by simple schedules, as far as it can be told, and who is to blame.
+fn try_some(
+    alloc: Global,
+    workload: &Workload,
+    random: RandomRuns,
+    config: Config,
+) -> Result<Told, Memory>
+    requires { config.bounds ≡ workload.now.bounds }
+    ensures told { IfOk result (IsByChance workload.now config random) }
+    ensures memory { OnErr result GrowthRefused }
+{
+    let RandomRuns { runs, seed } = random;
+    let Tally {
+        runs,
+        alarm,
+        stuck,
+        refused,
+        alarms,
+        blamed,
+    } = explore_by_chance(alloc, workload, u64::from(runs), seed, config)?;
+    Ok(Told {
+        tried: Tried::ByChance { seed, runs },
+        found: Found {
+            alarm: sayable(shown_or_never(alarm)),
+            stuck: sayable(shown_or_never(stuck)),
+            refused: sayable_refusal(refused_or_never(refused)),
+        },
+        blame: ToBlame {
+            alarms,
+            labels: blamed,
+        },
+    })
+}
+
+/// What all schedules of the workload come to, or runs by chance, where they are asked for; and who is to blame. The
+/// configuration has to have the workload's bounds.
+///
+/// # Errors
+/// `Memory` where a growth was refused.
+pub fn told_of(
+    alloc: Global,
+    workload: &Workload,
+    options: &ExploreOptions,
+    config: Config,
+) -> Result<Told, Memory>
+    requires { config.bounds ≡ workload.now.bounds }
+    ensures told { IfOk result (IsToldOf workload.now config options.now) }
+    ensures memory { OnErr result GrowthRefused }
+{
+    match options.random {
+        Some(random) => try_some(alloc, workload, random, config),
+        None => explore_all(alloc, workload, options, config),
+    }
 }
 
 /// The replay by a schedule, and its verdict. One in which a growth was refused is none.
@@ -212,15 +301,19 @@ fn unshown_refusal(finding: RefusalFinding) -> RefusalFinding
     }
 }
 
-/// What was found, and the replay of its first finding. A finding that its replay does not have is open.
-fn first_replay(
+/// What was found, and the replay of its first finding, if there is one: of an alarm, else of a deadlock, else of a refusal. A
+/// finding that its replay does not have is open. The configuration has to have the workload's bounds.
+///
+/// # Errors
+/// `Memory` where a growth was refused.
+pub fn first_replay(
     alloc: Global,
     workload: &Workload,
     config: Config,
-    found: Exploration,
-) -> Result<(Exploration, Option<(Closed, Ending)>), Memory>
+    found: Found,
+) -> Result<(Found, Option<(Closed, Ending)>), Memory>
     requires { config.bounds ≡ workload.now.bounds }
-    ensures told { IfOk result (λ told. IsNoMoreThan workload.now config found told.0) }
+    ensures told { IfOk result (λ told. TellsNoMore found told.0) }
     ensures run { IfOk result (λ told. IsRunOfFirst workload.now config told.0 told.1) }
     ensures memory { OnErr result GrowthRefused }
 {
@@ -228,7 +321,7 @@ fn first_replay(
     if run.is_some() {
         return Ok((found, run));
     }
-    let rest = Exploration {
+    let rest = Found {
         alarm: unshown(found.alarm),
         ..found
     };
@@ -240,11 +333,11 @@ fn first_replay_but_alarm(
     alloc: Global,
     workload: &Workload,
     config: Config,
-    found: Exploration,
-) -> Result<(Exploration, Option<(Closed, Ending)>), Memory>
+    found: Found,
+) -> Result<(Found, Option<(Closed, Ending)>), Memory>
     requires bounds { config.bounds ≡ workload.now.bounds }
     requires no_alarm { IsUnshown found.alarm }
-    ensures told { IfOk result (λ told. IsNoMoreThan workload.now config found told.0) }
+    ensures told { IfOk result (λ told. TellsNoMore found told.0) }
     ensures run { IfOk result (λ told. IsRunOfFirst workload.now config told.0 told.1) }
     ensures memory { OnErr result GrowthRefused }
 {
@@ -252,7 +345,7 @@ fn first_replay_but_alarm(
     if run.is_some() {
         return Ok((found, run));
     }
-    let rest = Exploration {
+    let rest = Found {
         stuck: unshown(found.stuck),
         ..found
     };
@@ -264,12 +357,12 @@ fn refusal_replay(
     alloc: Global,
     workload: &Workload,
     config: Config,
-    found: Exploration,
-) -> Result<(Exploration, Option<(Closed, Ending)>), Memory>
+    found: Found,
+) -> Result<(Found, Option<(Closed, Ending)>), Memory>
     requires bounds { config.bounds ≡ workload.now.bounds }
     requires no_alarm { IsUnshown found.alarm }
     requires no_deadlock { IsUnshown found.stuck }
-    ensures told { IfOk result (λ told. IsNoMoreThan workload.now config found told.0) }
+    ensures told { IfOk result (λ told. TellsNoMore found told.0) }
     ensures run { IfOk result (λ told. IsRunOfFirst workload.now config told.0 told.1) }
     ensures memory { OnErr result GrowthRefused }
 {
@@ -277,31 +370,9 @@ fn refusal_replay(
     if run.is_some() {
         return Ok((found, run));
     }
-    let rest = Exploration {
+    let rest = Found {
         refused: unshown_refusal(found.refused),
         ..found
     };
     Ok((rest, None))
-}
-
-/// What all schedules of the workload come to, and the replay of the first finding, if there is one: of an alarm, else of a
-/// deadlock, else of a refusal. With `first` the first finding ends the search. The configuration
-/// has to have the workload's bounds.
-///
-/// # Errors
-/// `Memory` where a growth was refused.
-pub fn findings_of(
-    alloc: Global,
-    workload: &Workload,
-    most_states: u32,
-    first: bool,
-    config: Config,
-) -> Result<(Exploration, Option<(Closed, Ending)>), Memory>
-    requires { config.bounds ≡ workload.now.bounds }
-    ensures told { IfOk result (λ told. IsExplorationOf workload.now config most_states told.0) }
-    ensures run { IfOk result (λ told. IsRunOfFirst workload.now config told.0 told.1) }
-    ensures memory { OnErr result GrowthRefused }
-{
-    let found = explore_all(alloc, workload, most_states, first, config)?;
-    first_replay(alloc, workload, config, found)
 }

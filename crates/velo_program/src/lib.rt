@@ -2,6 +2,7 @@
 #![tactic(auto)]
 
 mod auditing;
+mod blaming;
 mod carrying;
 mod check;
 mod doing;
@@ -18,10 +19,13 @@ mod reading;
 mod replaying;
 mod request;
 mod running;
+mod scheduling;
 pub mod status;
+mod told;
 mod watching;
 mod work;
 
+pub use blaming::MOST_BLAMING;
 pub use carrying::{CarryFault, carry_run};
 pub use check::{
     CheckFault, Verdict, check_run, config_of, do_log, order_or_cycle_of, write_output,
@@ -30,7 +34,8 @@ pub use doing::do_request;
 pub use fate::{Fate, end_line, end_with};
 pub use files::Files;
 pub use request::{
-    AuditOptions, CarryOptions, CheckOptions, ExplainOptions, ExploreOptions, Ignorable, Limits,
-    MOST_STATES, Operand, ReplayOptions, Request, RunOptions, WatchOptions,
+    AuditOptions, CarryOptions, CheckOptions, DEFAULT_SEED, ExplainOptions, ExploreOptions,
+    Ignorable, Limits, MOST_RUNS, MOST_STATES, Operand, RandomRuns, ReplayOptions, Request,
+    RunOptions, ScheduleSource, WatchOptions,
 };
-pub use velo_turns::{MOST_TURNS, ScheduleFault, schedule_of};
+pub use velo_turns::{MOST_SCHEDULE_BYTES, MOST_TURNS, ScheduleFault, schedule_of};

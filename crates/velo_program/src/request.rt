@@ -1,7 +1,7 @@
 //! What the program can be asked for.
 ghost use Rattle.std.specs.Prelude.{◌≤◌};
 ghost use Rattle.velo_events.specs.declared.limits.TheConstants.{MOST_EVENTS, MOST_NODES};
-ghost use Rattle.velo_program.specs.declared.request.TheConstants.{MOST_STATES};
+ghost use Rattle.velo_program.specs.declared.request.TheConstants.{MOST_RUNS, MOST_STATES};
 
 /// The limits of a run.
 #[derive(Clone, Copy, Debug)]
@@ -38,17 +38,28 @@ pub struct RunOptions<'a> {
     pub stop: bool,
     /// The path where the log of the run is saved.
     pub target: Option<&'a str>,
+    /// The path where the names of the workload are saved.
+    pub names_target: Option<&'a str>,
     /// The limits of the run.
     pub limits: Limits,
     /// Whether the certificate of the verdict is written behind the report.
     pub certificate: bool,
 }
 
+/// Where the text of a schedule stands.
+#[derive(Clone, Copy, Debug)]
+pub enum ScheduleSource<'a> {
+    /// This is the text.
+    Text(&'a str),
+    /// In the file at this path, or on standard input with `-`.
+    File(&'a str),
+}
+
 /// What `velodrome replay` was asked for.
 #[derive(Clone, Copy, Debug)]
 pub struct ReplayOptions<'a> {
-    /// The text of the schedule.
-    pub schedule: &'a str,
+    /// Where the schedule stands.
+    pub schedule: ScheduleSource<'a>,
     /// The rest, which is as for `velodrome run`.
     pub run: RunOptions<'a>,
 }
@@ -76,6 +87,23 @@ pub struct CarryOptions<'a> {
 /// The most states that a search may look at.
 pub const MOST_STATES: u32 = 16_777_216;
 
+/// The most runs by chance: each is a whole replay.
+pub const MOST_RUNS: u32 = 1_000_000;
+
+/// The seed of runs by chance where none is given.
+pub const DEFAULT_SEED: u64 = 1;
+
+/// Runs of a workload whose turns are drawn by chance.
+#[derive(Clone, Copy, Debug)]
+pub struct RandomRuns {
+    /// How many runs there are, 1 to [`MOST_RUNS`].
+    pub runs: u32,
+    /// The seed that the turns are drawn by.
+    pub seed: u64,
+    ghost some_run: { 1 ≤ runs },
+    ghost few_runs: { runs ≤ MOST_RUNS },
+}
+
 /// What `velodrome explore` was asked for.
 #[derive(Clone, Copy, Debug)]
 pub struct ExploreOptions<'a> {
@@ -87,10 +115,16 @@ pub struct ExploreOptions<'a> {
     pub first: bool,
     /// The path where the log of the replay that is told is saved.
     pub target: Option<&'a str>,
+    /// The path where the names of the workload are saved, behind that log.
+    pub names_target: Option<&'a str>,
     /// The limits of a replay.
     pub limits: Limits,
     /// Whether the certificate of the verdict is written behind the report.
     pub certificate: bool,
+    /// Whether the progress of the search is told wherever standard error goes.
+    pub progress: bool,
+    /// The runs by chance that stand for the search, if they are asked for.
+    pub random: Option<RandomRuns>,
     ghost some_state: { 1 ≤ states },
     ghost few_states: { states ≤ MOST_STATES },
 }

@@ -1,13 +1,12 @@
 //! Runs by chance.
 use std::alloc::Global;
-use velo_chance::{Blamed, Chance, DEFAULT_SEED, try_by_chance};
+use velo_chance::{Blamed, DEFAULT_SEED, Tally, explore_by_chance, try_all, try_by_chance};
 use velo_events::Config;
-use velo_shrink::{Goal, MOST_TRIES, shrink};
-use velo_turns::append_turns;
+use velo_turns::{append_turns, schedule_of};
 use velo_workload::parse;
 
 /// What so many runs of a workload come to.
-fn tried(alloc: Global, text: &str, runs: u64, seed: u64) -> Option<Chance> {
+fn tried(alloc: Global, text: &str, runs: u64, seed: u64) -> Option<Tally> {
     let workload = parse(alloc, text).ok()?;
     let config = Config::new(1, workload.bounds(), 100_000, 64, false).ok()?;
     try_by_chance(alloc, &workload, runs, seed, config).ok()
@@ -25,14 +24,14 @@ struct Findings {
 }
 
 fn findings_of(alloc: Global, text: &str, runs: u64, seed: u64) -> Option<Findings> {
-    let chance = tried(alloc, text, runs, seed)?;
+    let tally = tried(alloc, text, runs, seed)?;
     Some(Findings {
-        runs: chance.runs,
-        some_alarms: chance.alarms > 0,
-        all_alarms: chance.alarms == runs,
-        alarm: chance.alarm.is_some(),
-        stuck: chance.stuck.is_some(),
-        refused: chance.refused.is_some(),
+        runs: tally.runs,
+        some_alarms: tally.alarms > 0,
+        all_alarms: tally.alarms == runs,
+        alarm: tally.alarm.is_some(),
+        stuck: tally.stuck.is_some(),
+        refused: tally.refused.is_some(),
     })
 }
 
@@ -43,11 +42,11 @@ fn first_alarm(
     runs: u64,
     seed: u64,
 ) -> Option<(Vec<u8>, u64, Vec<Blamed>)> {
-    let chance = tried(alloc, text, runs, seed)?;
-    let schedule = chance.alarm?;
+    let tally = tried(alloc, text, runs, seed)?;
+    let schedule = tally.alarm?;
     let mut short = Vec::new(alloc);
     append_turns(&mut short, &schedule).ok()?;
-    Some((short, chance.alarms, chance.blamed))
+    Some((short, tally.alarms, tally.blamed))
 }
 
 /// Whether two seeds lead to the same first alarm, and to the same counts.
@@ -63,20 +62,32 @@ fn words(text: &[u8]) -> usize {
     text.iter().filter(|byte| **byte == b' ').count()
 }
 
-/// The schedule of the first alarm, made simple.
+/// The schedule of an alarm that is told, which is made simple.
 fn simple(alloc: Global, text: &str) -> Option<Vec<u8>> {
     let workload = parse(alloc, text).ok()?;
     let config = Config::new(1, workload.bounds(), 100_000, 64, false).ok()?;
-    let Chance { alarm, .. } = try_by_chance(alloc, &workload, 50, DEFAULT_SEED, config).ok()?;
+    let Tally { alarm, .. } = explore_by_chance(alloc, &workload, 50, DEFAULT_SEED, config).ok()?;
     match alarm {
         Some(schedule) => {
-            let turns = shrink(alloc, &workload, Goal::Alarm, schedule, MOST_TRIES, config).ok()?;
             let mut short = Vec::new(alloc);
-            append_turns(&mut short, &turns).ok()?;
+            append_turns(&mut short, &schedule).ok()?;
             Some(short)
         }
         None => None,
     }
+}
+
+/// How many of the runs by these schedules have an alarm, how many labels are blamed, and in how many alarms the first is.
+fn blamed_by(alloc: Global, text: &str, schedules: &[&str]) -> Option<(u64, usize, u64)> {
+    let workload = parse(alloc, text).ok()?;
+    let config = Config::new(1, workload.bounds(), 100_000, 64, false).ok()?;
+    let mut turns = Vec::new(alloc);
+    for schedule in schedules {
+        turns.push(schedule_of(alloc, *schedule).ok()?).ok()?;
+    }
+    let tally = try_all(alloc, &workload, &turns, config).ok()?;
+    let first = tally.blamed.first().map_or(0, |blamed| blamed.alarms);
+    Some((tally.alarms, tally.blamed.len(), first))
 }
 
 /// Two threads that lose updates.
@@ -157,6 +168,20 @@ fn alarms_by_chance_are_made_simple(rt: HostRuntime) {
     assert_eq!(rt; race.as_deref(), Some(b" 0*3 1*3 0".as_slice()));
     let both = simple(rt.alloc(), BOTH);
     assert_eq!(rt; both.map(|text| words(&text)), Some(4));
+}
+
+#[test]
+fn given_schedules_are_counted(rt: HostRuntime) {
+    let none = blamed_by(rt.alloc(), RACE, &[]);
+    assert_eq!(rt; none, Some((0, 0, 0)));
+    let some = blamed_by(rt.alloc(), RACE, &["0*3 1*3 0", "", "0*100", "0*3 1*3 0"]);
+    assert_eq!(rt; some, Some((2, 1, 2)));
+    let two = blamed_by(
+        rt.alloc(),
+        TWO,
+        &["0*2 1*2 2*4 1", "0*2 2*2 1*4 2", "0*2 1*2 2*4 1"],
+    );
+    assert_eq!(rt; two, Some((3, 2, 2)));
 }
 
 #[test]

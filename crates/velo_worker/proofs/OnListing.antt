@@ -1,5 +1,5 @@
 -- The events of a list of statements, one statement after another.
-use Rattle.std.proofs.Common.{◌≡◌, List, [], ◌∷◌, ◌++◌, drop, Some, None, sym, ap, ◌∙◌, append_assoc, append-nil}
+use Rattle.std.proofs.Common.{◌≡◌, ℕ, List, [], ◌∷◌, ◌++◌, drop, Some, None, refl, sym, ap, ◌∙◌, append_assoc, append-nil}
 use Rattle.std.specs.Prelude.{filter, slice_get}
 use Rattle.std.proofs.lemmas.List.Elements.{filter-append}
 use Rattle.std.proofs.lemmas.Option.{same_Some, none-some}
@@ -18,3 +18,8 @@ listed-next listed (x ∷ left) s h =
 pub listed-all : (listed left : List Statement) → slice_get left 0 ≡ None → listed ≡ listed ++ filter has_event left
 listed-all listed [] h = sym (append-nil listed)
 listed-all listed (x ∷ left) h = absurd (none-some x (sym h))
+
+-- and there is none at any number
+pub at-end : (left : List Statement) (n : ℕ) → slice_get left 0 ≡ None → slice_get (filter has_event left) n ≡ None
+at-end [] n h = refl
+at-end (x ∷ left) n h = absurd (none-some x (sym h))

@@ -20,6 +20,6 @@ mod worker;
 pub use counting::count_events;
 pub use ending::Ending;
 pub use gate::{Gate, OpenGate};
-pub use listing::list_events;
+pub use listing::{event_at, list_events};
 pub use living::{LiveFault, live};
 pub use replaying::replay;

@@ -1,5 +1,5 @@
 //! The statements of a body that are events, in their order.
-ghost use Rattle.std.specs.Prelude.{◌≡◌, [], ◌∷◌, ◌++◌, filter, IfOk, OnOk, OnErr};
+ghost use Rattle.std.specs.Prelude.{◌≡◌, [], ◌∷◌, ◌++◌, filter, slice_get, IfOk, OnOk, OnErr};
 ghost use Rattle.velo_events.specs.Refusals.{GrowthRefused};
 ghost use Rattle.velo_workload.specs.Bodies.{IsBody};
 ghost use Rattle.velo_worker.specs.Counts.{has_event};
@@ -42,4 +42,30 @@ fn note_event(events: &mut Vec<Statement>, statement: Statement) -> Result<(), M
     reserve(events, 1)?;
     events.push_reserved(statement);
     Ok(())
+}
+
+/// The event of a body at a number, counted from 0, its repeats written out: none where it has no more. Those before it are
+/// passed over one by one.
+///
+/// # Errors
+/// `Memory` where a growth was refused.
+pub fn event_at(alloc: Global, body: &[Statement], number: u64) -> Result<Option<Statement>, Memory>
+    requires { IsBody body.now }
+    ensures event { IfOk result (λ event. event ≡ slice_get (filter has_event (walk_of body.now)) number) }
+    ensures memory { OnErr result GrowthRefused }
+{
+    let mut left = Walk::start(alloc, body)?;
+    let mut before = number;
+    while let Some(statement) = left.next() {
+        left.advance();
+        let quiet = is_quiet(statement);
+        if quiet {
+            continue;
+        }
+        if before == 0 {
+            return Ok(Some(statement));
+        }
+        before -= 1;
+    }
+    Ok(None)
 }

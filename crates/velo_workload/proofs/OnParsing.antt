@@ -53,7 +53,7 @@ module _ (text : List ℕ) where
 
   -- the program that is put together
   abbrev pub made : Names → List (List Statement) → Program
-  made names found = record { bounds = record { threads = length names.threads; variables = length names.variables; locks = length names.locks }; thread_names = names.threads; label_names = names.labels; bodies = found }
+  made names found = record { bounds = record { threads = length names.threads; variables = length names.variables; locks = length names.locks }; thread_names = names.threads; variable_names = names.variables; lock_names = names.locks; label_names = names.labels; bodies = found }
 
   pub all_right : (names : Names) (found : List (List Statement)) (w : Program) → names ≡ names_in (known (phrases text)) → first_fault (phrases text) ≡ None → first_unknown names 0 (phrases text) ≡ None
       → found ≡ bodies names (phrases text) → w ≡ made names found → meaning_of text ≡ Ok w

@@ -1,14 +1,17 @@
 -- The program that a text means.
-use Rattle.std.specs.Prelude.{ℕ, ◌≡◌, ◌+◌, List, [], ◌∷◌, ◌++◌, length, position, Option, Some, None, is_some, option_map, Result, Ok, Err, if◌then◌else◌}
+use Rattle.std.specs.Prelude.{ℕ, ◌≡◌, ◌≤◌, ◌+◌, IsTrue, List, [], ◌∷◌, ◌++◌, length, position, Option, Some, None, is_some, option_map, Result, Ok, Err, if◌then◌else◌}
+use Rattle.std.specs.List.{AllByRecursion}
 use Rattle.std.specs.Option.{option_to_list}
 use Rattle.std.specs.Str.{bytes_eq}
 use Rattle.velo_events.specs.Refusals.{GrowthRefused}
 use Rattle.velo_events.specs.declared.config.Bounds.{Bounds}
+use Rattle.velo_events.specs.declared.limits.TheConstants.{MOST_THREADS, MOST_LOCKS}
+use Rattle.velo_workload.specs.declared.limits.TheConstants.{MOST_VARIABLES, MOST_STATEMENTS}
 use Rattle.velo_workload.specs.declared.fault.WorkFault.{WorkFault}
 use Rattle.velo_workload.specs.declared.fault.WorkFault.TheVariants.{Unknown, Memory}
 use Rattle.velo_workload.specs.declared.statement.Statement.{Statement}
 use Rattle.velo_workload.specs.declared.statement.Statement.TheVariants as of_statement
-use Rattle.velo_workload.specs.Words.{Word}
+use Rattle.velo_workload.specs.Words.{Word, is_name}
 use Rattle.velo_workload.specs.Phrase.{phrases, Spoken, Read, Write, Set, Add, Acquire, Release, Share, Unshare, Begin, End, Fork, Join, Repeat, Done, Phrase, Thread, Body}
 use Rattle.velo_workload.specs.Outline.{Names, names_in, known, first_fault, first_of_two}
 
@@ -63,6 +66,8 @@ bodies names (p ∷ ps) = bodies names ps
 pub record Program : Type 0 where
   pub bounds : Bounds
   pub thread_names : List Word
+  pub variable_names : List Word
+  pub lock_names : List Word
   pub label_names : List Word
   pub bodies : List (List Statement)
 
@@ -72,6 +77,8 @@ program ps =
     record {
       bounds = record { threads = length names.threads; variables = length names.variables; locks = length names.locks };
       thread_names = names.threads;
+      variable_names = names.variables;
+      lock_names = names.locks;
       label_names = names.labels;
       bodies = bodies names ps;
     }
@@ -93,3 +100,19 @@ abbrev pub ParsesAs : Result Program WorkFault → Result Program WorkFault → 
 ParsesAs meaning (Ok w) = meaning ≡ Ok w
 ParsesAs meaning (Err Memory) = GrowthRefused
 ParsesAs meaning (Err f) = meaning ≡ Err f
+
+-- ---- its names
+
+abbrev pub AreWellNamed : List Word → Type 0
+AreWellNamed names = AllByRecursion (λ name. IsTrue (is_name name)) names
+
+-- each name is one of the language, and there are no more of a kind than may be
+pub record IsWellNamed (w : Program) : Type 0 where
+  pub threads : AreWellNamed w.thread_names
+  pub variables : AreWellNamed w.variable_names
+  pub locks : AreWellNamed w.lock_names
+  pub labels : AreWellNamed w.label_names
+  pub few_threads : length w.thread_names ≤ MOST_THREADS
+  pub few_variables : length w.variable_names ≤ MOST_VARIABLES
+  pub few_locks : length w.lock_names ≤ MOST_LOCKS
+  pub few_labels : length w.label_names ≤ MOST_STATEMENTS

@@ -5,6 +5,7 @@ mod bodies;
 mod draft;
 mod fault;
 mod growth;
+mod laws;
 mod limits;
 mod names;
 mod naming;
@@ -18,6 +19,7 @@ mod words;
 mod workload;
 
 pub use fault::WorkFault;
+pub use laws::well_named;
 pub use limits::{
     MOST_COST, MOST_NAME_LENGTH, MOST_OPEN_REPEATS, MOST_STATEMENTS, MOST_VARIABLES,
     MOST_WORKLOAD_BYTES,

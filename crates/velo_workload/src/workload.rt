@@ -30,6 +30,8 @@ use velo_events::{Bounds, Memory, ThreadId};
 pub struct Workload {
     bounds: Bounds,
     threads: Vec<String>,
+    variables: Vec<String>,
+    locks: Vec<String>,
     labels: Vec<String>,
     bodies: Vec<Vec<Statement>>,
 }
@@ -42,7 +44,7 @@ impl Model for Workload {
 
     ghost Value = { Program };
 
-    ghost view = { λ w. record { bounds = w.bounds; thread_names = map string_bytes w.threads.items; label_names = map string_bytes w.labels.items; bodies = map (λ body. body.items) w.bodies.items } };
+    ghost view = { λ w. record { bounds = w.bounds; thread_names = map string_bytes w.threads.items; variable_names = map string_bytes w.variables.items; lock_names = map string_bytes w.locks.items; label_names = map string_bytes w.labels.items; bodies = map (λ body. body.items) w.bodies.items } };
 
     ghost invariant = { λ w. (length w.bodies.items ≡ w.bounds.threads) × AreBodies (map (λ body. body.items) w.bodies.items) × AreInRange w.bounds };
 }
@@ -65,6 +67,20 @@ impl Workload {
         ensures { map string_bytes result.now ≡ self.now.thread_names }
     {
         self.threads.as_slice()
+    }
+
+    /// The names of its variables, in the order of their numbers.
+    pub fn variable_names(&self) -> &[String]
+        ensures { map string_bytes result.now ≡ self.now.variable_names }
+    {
+        self.variables.as_slice()
+    }
+
+    /// The names of its locks, in the order of their numbers.
+    pub fn lock_names(&self) -> &[String]
+        ensures { map string_bytes result.now ≡ self.now.lock_names }
+    {
+        self.locks.as_slice()
     }
 
     /// The names of its labels, in the order of their numbers.
@@ -108,10 +124,12 @@ fn assemble(
     requires some_thread { 1 ≤ length (known_of outline.now).threads }
     requires each { length bodies.items ≡ length (known_of outline.now).threads }
     requires nested { AreBodies (map (λ body. body.items) bodies.items) }
-    ensures workload { IfOk result (λ w. w ≡ record { bounds = record { threads = length (known_of outline.now).threads; variables = length (known_of outline.now).variables; locks = length (known_of outline.now).locks }; thread_names = (known_of outline.now).threads; label_names = (known_of outline.now).labels; bodies = map (λ body. body.items) bodies.items }) }
+    ensures workload { IfOk result (λ w. w ≡ record { bounds = record { threads = length (known_of outline.now).threads; variables = length (known_of outline.now).variables; locks = length (known_of outline.now).locks }; thread_names = (known_of outline.now).threads; variable_names = (known_of outline.now).variables; lock_names = (known_of outline.now).locks; label_names = (known_of outline.now).labels; bodies = map (λ body. body.items) bodies.items }) }
     ensures memory { OnErr result GrowthRefused }
 {
     let threads = copies(alloc, outline.threads.as_slice())?;
+    let variables = copies(alloc, outline.variables.as_slice())?;
+    let locks = copies(alloc, outline.locks.as_slice())?;
     let labels = copies(alloc, outline.labels.as_slice())?;
     let bounds = Bounds {
         threads: count(&outline.threads) as u8,
@@ -121,6 +139,8 @@ fn assemble(
     Ok(Workload {
         bounds,
         threads,
+        variables,
+        locks,
         labels,
         bodies,
     })

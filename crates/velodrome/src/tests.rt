@@ -11,6 +11,7 @@ mod hostile;
 mod logs;
 mod precedence;
 mod reports;
+mod scheduled;
 mod slow;
 mod watching;
 mod workloads;

@@ -17,6 +17,8 @@ fn a_refused_growth_of_a_program(rt: HostRuntime) {
     assert!(rt; has_body(&program, ThreadId(0), MAIN_BODY));
     assert!(rt; has_body(&program, ThreadId(1), OTHER_BODY));
     assert!(rt; are(program.thread_names(), &["main", "b"]));
+    assert!(rt; are(program.variable_names(), &["y", "x"]));
+    assert!(rt; are(program.lock_names(), &["end"]));
     assert!(rt; are(program.label_names(), &["inc", "dec"]));
     drop(program);
 }

@@ -6,7 +6,9 @@ use std::sync::Wait;
 use std::thread::Threads;
 use velo_events::MOST_EVENTS;
 use velo_logtext::Text;
-use velo_program::{ExploreOptions, Limits, MOST_STATES, Request, do_request, end_with};
+use velo_program::{
+    ExploreOptions, Limits, MOST_RUNS, MOST_STATES, RandomRuns, Request, do_request, end_with,
+};
 
 /// A block that reads and writes, and a thread that writes.
 const LOST_UPDATE: &str =
@@ -35,6 +37,8 @@ struct Row {
     first: bool,
     target: Option<&'static str>,
     certificate: bool,
+    /// How many runs by chance are made, and their seed.
+    random: Option<(u32, u64)>,
     out: &'static str,
     err: &'static str,
     log: Option<&'static str>,
@@ -48,6 +52,7 @@ const ASKED: Row = Row {
     first: false,
     target: None,
     certificate: false,
+    random: None,
     out: "",
     err: "",
     log: None,
@@ -176,6 +181,17 @@ static ROWS: [Row; 16] = [
     },
 ];
 
+/// The runs by chance that are asked for.
+fn runs_of(random: Option<(u32, u64)>) -> Option<RandomRuns> {
+    match random {
+        Some((runs, seed)) => Some(RandomRuns {
+            runs: runs.clamp(1, MOST_RUNS),
+            seed,
+        }),
+        None => None,
+    }
+}
+
 /// Explores a workload that comes so many bytes at a time.
 fn explore_it<R: Threads + Wait + Abort + Sync>(rt: &R, alloc: Global, row: &Row, step: usize) {
     let files = [("w", row.workload)];
@@ -185,11 +201,14 @@ fn explore_it<R: Threads + Wait + Abort + Sync>(rt: &R, alloc: Global, row: &Row
         states: row.states.clamp(1, MOST_STATES),
         first: row.first,
         target: row.target,
+        names_target: None,
         limits: Limits {
             events: row.events.clamp(1, MOST_EVENTS),
             nodes: 64,
         },
         certificate: row.certificate,
+        progress: false,
+        random: runs_of(row.random),
     });
     let mut out = Text::new(alloc);
     let mut err = Text::new(alloc);

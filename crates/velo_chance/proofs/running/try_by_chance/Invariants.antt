@@ -4,6 +4,6 @@ use Rattle.velo_chance.proofs.running.try_by_chance.Given as goal
 
 abbrev pub invariant-loop : goal.invariant-loop
 invariant-loop l = record {
-  tried : IsTried l.fn.workload l.fn.config l.counter l.chance;
-  runs : l.chance.runs ≡ l.counter;
+  tried : IsTried l.fn.workload l.fn.config l.counter l.tally;
+  runs : l.tally.runs ≡ l.counter;
 }

@@ -1,12 +1,12 @@
 use Rattle.std.proofs.Common.{◌∙◌, sym, Option}
-use Rattle.velo_schedules.specs.declared.exploration.Exploration.{Exploration}
 use Rattle.velo_worker.specs.declared.ending.Ending.{Ending}
 use Rattle.velo_world.specs.World.{WorldState}
-use Rattle.velo_program.proofs.OnFindings.{is_unshown, run_by_alarm, told_less, without_alarm}
+use Rattle.velo_program.specs.declared.told.Found.{Found}
+use Rattle.velo_program.proofs.OnFindings.{is_unshown, run_by_alarm, tells_no_alarm, tells_same, told_less}
 use Rattle.velo_program.proofs.findings.first_replay.Goals as goal
 
 pub returns-then-is_some-clause-told : goal.returns-then-is_some-clause-told
-returns-then-is_some-clause-told c = λ most so. so
+returns-then-is_some-clause-told c = tells_same c.args.found
 
 pub returns-then-is_some-clause-run : goal.returns-then-is_some-clause-run
 returns-then-is_some-clause-run c = run_by_alarm c.args.workload.now c.args.config c.args.found c.in_ok-run.run' (sym c.is_some.ensures ∙ c.if-is_some.true) c.in_ok-run.ensures.run
@@ -16,5 +16,5 @@ first_replay_but_alarm-requires-clause-no_alarm c = is_unshown c.args.found.alar
 
 pub returns-clause-told : goal.returns-clause-told
 returns-clause-told c =
-    told_less c.args.workload.now c.args.config c.args.found _ (without_alarm c.args.workload.now c.args.config c.args.found _ c.unshown.ensures)
-    (λ (t : Exploration × Option (WorldState × Ending)). t.0) c.first_replay_but_alarm.result c.first_replay_but_alarm.ensures.told
+    told_less c.args.found (record c.args.found { alarm = c.unshown.result }) (λ other. tells_no_alarm c.args.found other c.unshown.result c.unshown.ensures)
+    (λ (t : Found × Option (WorldState × Ending)). t.0) c.first_replay_but_alarm.result c.first_replay_but_alarm.ensures.told

@@ -1,12 +1,12 @@
 use Rattle.std.proofs.Common.{◌∙◌, sym, Option}
-use Rattle.velo_schedules.specs.declared.exploration.Exploration.{Exploration}
 use Rattle.velo_worker.specs.declared.ending.Ending.{Ending}
 use Rattle.velo_world.specs.World.{WorldState}
-use Rattle.velo_program.proofs.OnFindings.{is_unshown, run_by_stuck, told_less, without_stuck}
+use Rattle.velo_program.specs.declared.told.Found.{Found}
+use Rattle.velo_program.proofs.OnFindings.{is_unshown, run_by_stuck, tells_no_deadlock, tells_same, told_less}
 use Rattle.velo_program.proofs.findings.first_replay_but_alarm.Goals as goal
 
 pub returns-then-is_some-clause-told : goal.returns-then-is_some-clause-told
-returns-then-is_some-clause-told c = λ most so. so
+returns-then-is_some-clause-told c = tells_same c.args.found
 
 pub returns-then-is_some-clause-run : goal.returns-then-is_some-clause-run
 returns-then-is_some-clause-run c =
@@ -17,5 +17,5 @@ refusal_replay-requires-clause-no_deadlock c = is_unshown c.args.found.stuck _ c
 
 pub returns-clause-told : goal.returns-clause-told
 returns-clause-told c =
-    told_less c.args.workload.now c.args.config c.args.found _ (without_stuck c.args.workload.now c.args.config c.args.found _ c.unshown.ensures)
-    (λ (t : Exploration × Option (WorldState × Ending)). t.0) c.refusal_replay.result c.refusal_replay.ensures.told
+    told_less c.args.found (record c.args.found { stuck = c.unshown.result }) (λ other. tells_no_deadlock c.args.found other c.unshown.result c.unshown.ensures)
+    (λ (t : Found × Option (WorldState × Ending)). t.0) c.refusal_replay.result c.refusal_replay.ensures.told

@@ -1,0 +1,131 @@
+//! Runs by chance, with simple schedules.
+ghost use Rattle.std.specs.Prelude.{◌≡◌, IfOk, IfSome, OnErr, is_some};
+ghost use Rattle.std.specs.List.Sorted.{IsNonDecreasingBy};
+ghost use Rattle.velo_events.specs.Refusals.{GrowthRefused};
+ghost use Rattle.velo_schedules.specs.Told.{ShowsAlarm, ShowsStuck, ShowsRefusal};
+ghost use Rattle.velo_chance.specs.Tallies.{IsTold, rank};
+
+use crate::running::try_by_chance;
+use crate::tally::Tally;
+use std::alloc::Global;
+use velo_events::{Config, Memory, ThreadId};
+use velo_schedules::RefusedRun;
+use velo_shrink::{Goal, MOST_TRIES, shrink};
+use velo_workload::Workload;
+
+/// A simple schedule with an alarm, if there is one.
+fn simple_alarm(
+    alloc: Global,
+    workload: &Workload,
+    alarm: Option<Vec<ThreadId>>,
+    config: Config,
+) -> Result<Option<Vec<ThreadId>>, Memory>
+    requires bounds { config.bounds ≡ workload.now.bounds }
+    requires shows { IfSome alarm (λ schedule. ShowsAlarm workload.now config schedule.items) }
+    ensures some { IfOk result (λ simple. is_some simple ≡ is_some alarm) }
+    ensures shows { IfOk result (λ simple. IfSome simple (λ schedule. ShowsAlarm workload.now config schedule.items)) }
+    ensures memory { OnErr result GrowthRefused }
+{
+    match alarm {
+        Some(schedule) => {
+            let simple = shrink(alloc, workload, Goal::Alarm, schedule, MOST_TRIES, config)?;
+            Ok(Some(simple))
+        }
+        None => Ok(None),
+    }
+}
+
+/// A simple schedule that is stuck, if there is one.
+fn simple_deadlock(
+    alloc: Global,
+    workload: &Workload,
+    stuck: Option<Vec<ThreadId>>,
+    config: Config,
+) -> Result<Option<Vec<ThreadId>>, Memory>
+    requires bounds { config.bounds ≡ workload.now.bounds }
+    requires shows { IfSome stuck (λ schedule. ShowsStuck workload.now config schedule.items) }
+    ensures some { IfOk result (λ simple. is_some simple ≡ is_some stuck) }
+    ensures shows { IfOk result (λ simple. IfSome simple (λ schedule. ShowsStuck workload.now config schedule.items)) }
+    ensures memory { OnErr result GrowthRefused }
+{
+    match stuck {
+        Some(schedule) => {
+            let simple = shrink(alloc, workload, Goal::Stuck, schedule, MOST_TRIES, config)?;
+            Ok(Some(simple))
+        }
+        None => Ok(None),
+    }
+}
+
+/// A run with a simple schedule that is refused alike, if there is one.
+fn simple_refusal(
+    alloc: Global,
+    workload: &Workload,
+    refused: Option<RefusedRun>,
+    config: Config,
+) -> Result<Option<RefusedRun>, Memory>
+    requires bounds { config.bounds ≡ workload.now.bounds }
+    requires shows { IfSome refused (ShowsRefusal workload.now config) }
+    ensures some { IfOk result (λ simple. is_some simple ≡ is_some refused) }
+    ensures shows { IfOk result (λ simple. IfSome simple (ShowsRefusal workload.now config)) }
+    ensures memory { OnErr result GrowthRefused }
+{
+    match refused {
+        Some(run) => {
+            let RefusedRun {
+                schedule,
+                thread,
+                refusal,
+            } = run;
+            let goal = Goal::Refused(thread, refusal);
+            let schedule = shrink(alloc, workload, goal, schedule, MOST_TRIES, config)?;
+            Ok(Some(RefusedRun {
+                schedule,
+                thread,
+                refusal,
+            }))
+        }
+        None => Ok(None),
+    }
+}
+
+/// Makes so many runs by chance (see [`try_by_chance`]), and tells what they come to, each schedule made simple (see
+/// [`shrink`]). The configuration has to have the workload's bounds.
+///
+/// A finding is told exactly where one of these runs has it, and its schedule shows it. Each count is of these runs. Of other
+/// schedules nothing is said.
+///
+/// # Errors
+/// `Memory` where a growth was refused.
+pub fn explore_by_chance(
+    alloc: Global,
+    workload: &Workload,
+    runs: u64,
+    seed: u64,
+    config: Config,
+) -> Result<Tally, Memory>
+    requires { config.bounds ≡ workload.now.bounds }
+    ensures told { IfOk result (IsTold workload.now config runs) }
+    ensures order { IfOk result (λ tally. IsNonDecreasingBy rank tally.blamed.items) }
+    ensures memory { OnErr result GrowthRefused }
+{
+    let Tally {
+        runs,
+        alarm,
+        stuck,
+        refused,
+        alarms,
+        blamed,
+    } = try_by_chance(alloc, workload, runs, seed, config)?;
+    let alarm = simple_alarm(alloc, workload, alarm, config)?;
+    let stuck = simple_deadlock(alloc, workload, stuck, config)?;
+    let refused = simple_refusal(alloc, workload, refused, config)?;
+    Ok(Tally {
+        runs,
+        alarm,
+        stuck,
+        refused,
+        alarms,
+        blamed,
+    })
+}

@@ -1,0 +1,3 @@
+pub mod OnReplays
+mod OnWaits
+mod OnExamples

@@ -1,0 +1,7 @@
+//! A deadlock in words: who waits for which lock, held by whom, or for whose end.
+#![tactic(auto)]
+
+mod standing;
+mod words;
+
+pub use words::waits_of;
