@@ -20,12 +20,13 @@ use Rattle.velo_world.specs.World.{WorldState}
 use Rattle.velo_program.specs.declared.fate.Fate.{Fate}
 use Rattle.velo_program.specs.declared.fate.Fate.TheVariants as fate
 use Rattle.velo_program.specs.declared.request.ExploreOptions.{ExploreOptions}
+use Rattle.velo_program.specs.declared.saving.Saving.{Saving}
 use Rattle.velo_program.specs.Check.{IsOutputOf}
-use Rattle.velo_program.specs.Delivery.{Answer, FailsToSave, IsDelivered, LacksMemory, Saves, SavesPart}
-use Rattle.velo_program.specs.Disk.{Store}
+use Rattle.velo_program.specs.Delivery.{Answer, FailsToSave, IsDeliveredInTurn, LacksMemory, Saves, SavesPart}
+use Rattle.velo_program.specs.Disk.{Store, behind, up_to}
 use Rattle.velo_program.specs.Exploring.{IsExplorationOf, IsExplored, IsFirstReplay, IsSayableFinding, IsSayableRefusal, exploration_text, fate_of_exploration, schedule_of}
-use Rattle.velo_program.specs.Playing.{AreNamesOf, is_unreported, text_of_log}
-use Rattle.velo_program.specs.Steps.{HasAlarm}
+use Rattle.velo_program.specs.Playing.{AreNamesOf, is_unreported, text_of_log, text_of_names}
+use Rattle.velo_program.specs.Steps.{HasAlarm, IsUnsaved}
 use Rattle.velo_program.specs.Writing.{BreaksOff, Delivers, Writes, WritesNothing, Writing}
 
 -- ---- what can be told
@@ -113,32 +114,52 @@ Puts store target stdout saved printed (Err fate.WriteFailed) =
     ⊎ (Saves store target saved × BreaksOff stdout printed)
 Puts store target stdout saved printed (Err f) = ⊥
 
--- what saving the log of a replay and printing a text and the report behind it came to
+-- printing comes to this: the log was not saved, and nothing was printed; or it was, and then the
+-- names were saved at their path
+abbrev pub PutsBy : {X : Type 0} → Option (List ℕ) → Option (Bor (List ℕ)) → Store
+    → Option (Bor (List ℕ)) → List ℕ → Writing → List ℕ → Result X Fate → Type 0
+PutsBy (Some log) (Some path) store target names stdout printed result =
+    (IsUnsaved store target log result × WritesNothing stdout)
+    ⊎ ((between : store.State) × Saves (up_to store between) target (Some log)
+    × Puts (behind store between) (Some path) stdout (Some names) printed result)
+PutsBy saved path store target names stdout printed result =
+    Puts store target stdout saved printed result
+
+-- what saving the log of a replay, and the names, and printing a text and the report behind it came to
 abbrev pub TellsReplay : {X : Type 0} → List ℕ → Names → Bool → WorldState
-    → Store → Option (Bor (List ℕ)) → Writing → Result X Fate → Type 0
-TellsReplay text names certificate w store target stdout result =
+    → Store → Saving → Writing → Result X Fate → Type 0
+TellsReplay text names certificate w store saving stdout result =
     (report : List ℕ) × IsOutputOf names certificate w report
-    × Puts store target stdout (Some (text_of_log w)) (text ++ report) result
+    × PutsBy (Some (text_of_log w)) saving.names_target store saving.target saving.names.now stdout
+    (text ++ report) result
 
 -- a growth was refused, and nothing was written
 abbrev pub Lacks : {X : Type 0} → Store → Writing → Result X Fate → Type 0
 Lacks store stdout (Err fate.Memory) = GrowthRefused × store.is_kept × WritesNothing stdout
 Lacks store stdout result = ⊥
 
-abbrev pub ReportsOrLacks : {X : Type 0} → Program → List ℕ → Bool → WorldState
-    → Store → Option (Bor (List ℕ)) → Writing → Result X Fate → Type 0
-ReportsOrLacks program text certificate w store target stdout result =
+abbrev pub TellsOrLacks : {X : Type 0} → List ℕ → Names → Bool → WorldState
+    → Store → Saving → Writing → Result X Fate → Type 0
+TellsOrLacks text names certificate w store saving stdout result =
+    TellsReplay text names certificate w store saving stdout result ⊎ Lacks store stdout result
+
+-- by the program's names, at the paths that were asked for
+abbrev pub ReportsOrLacks : {X : Type 0} → Program → List ℕ → ExploreOptions → WorldState
+    → Store → Writing → Result X Fate → Type 0
+ReportsOrLacks program text options w store stdout result =
     ((names : Names) × AreNamesOf program names
-    × TellsReplay text names certificate w store target stdout result)
+    × ((report : List ℕ) × IsOutputOf names options.certificate w report
+    × PutsBy (Some (text_of_log w)) options.names_target store options.target
+    (text_of_names program) stdout (text ++ report) result))
     ⊎ Lacks store stdout result
 
 -- what telling a text and the replay, if there is one, came to
-abbrev pub TellsRun : {X : Type 0} → Program → List ℕ → Bool → Option (WorldState × Ending)
-    → Store → Option (Bor (List ℕ)) → Writing → Result X Fate → Type 0
-TellsRun program text certificate None store target stdout result =
-    Puts store target stdout None text result
-TellsRun program text certificate (Some run) store target stdout result =
-    ReportsOrLacks program text certificate run.0 store target stdout result
+abbrev pub TellsRun : {X : Type 0} → Program → List ℕ → ExploreOptions → Option (WorldState × Ending)
+    → Store → Writing → Result X Fate → Type 0
+TellsRun program text options None store stdout result =
+    Puts store options.target stdout None text result
+TellsRun program text options (Some run) store stdout result =
+    ReportsOrLacks program text options run.0 store stdout result
 
 -- what telling came to, as a fate
 abbrev pub fate_behind : {X : Type 0} → Fate → Result X Fate → Fate
@@ -151,15 +172,15 @@ abbrev pub TellsFindings : ExploreOptions → Program → Exploration → Option
 TellsFindings options program x run store stdout f =
     (GrowthRefused × (f ≡ fate.Memory) × store.is_kept × WritesNothing stdout)
     ⊎ ((told : Result ⊤ Fate)
-    × TellsRun program (exploration_text program x) options.certificate run
-    store options.target stdout told
+    × TellsRun program (exploration_text program x) options run store stdout told
     × (f ≡ fate_behind (fate_of_exploration x) told))
 
 -- what exploring a workload came to
 abbrev pub Explores : ExploreOptions → Program → Store → Writing → Fate → Type 0
 Explores options program store stdout f =
     (answer : Answer) × (IsExplored options program answer ⊎ LacksMemory answer)
-    × IsDelivered store options.target stdout answer f
+    × IsDeliveredInTurn store options.target options.names_target (text_of_names program) stdout
+    answer f
 
 -- ---- what it comes to, finding by finding
 
