@@ -13,12 +13,14 @@ mod fate;
 mod files;
 mod findings;
 mod ignoring;
+mod laws;
 mod listing;
 mod naming;
 mod reading;
 mod replaying;
 mod request;
 mod running;
+mod saving;
 mod scheduling;
 pub mod status;
 mod told;
@@ -33,6 +35,7 @@ pub use check::{
 pub use doing::do_request;
 pub use fate::{Fate, end_line, end_with};
 pub use files::Files;
+pub use laws::names_read_back;
 pub use request::{
     AuditOptions, CarryOptions, CheckOptions, DEFAULT_SEED, ExplainOptions, ExploreOptions,
     Ignorable, Limits, MOST_RUNS, MOST_STATES, Operand, RandomRuns, ReplayOptions, Request,
