@@ -62,7 +62,7 @@ const ASKED: Row = Row {
 static ROWS: [Row; 16] = [
     Row {
         target: Some("o"),
-        out: "events 9\nstates 11\nalarm 0*3 1 0\nstuck none\nrefused none\nevents 9\nthread 0 main 7\nthread 1 a 2\nverdict alarm 4\ntransaction 1\nblame 1 inc\n",
+        out: "events 9\nstates 8\nalarm 0*3 1 0\nstuck none\nrefused none\nevents 9\nthread 0 main 7\nthread 1 a 2\nverdict alarm 4\ntransaction 1\nblame 1 inc\n",
         log: Some(
             "vlog 2 2 1 0\n0 fork 1\n0 begin 0\n0 rd 0 0\n1 wr 0 5\n0 wr 0 1\n0 end\n1 exit\n0 join 1\n0 exit\n",
         ),
@@ -71,7 +71,7 @@ static ROWS: [Row; 16] = [
     },
     Row {
         certificate: true,
-        out: "events 9\nstates 11\nalarm 0*3 1 0\nstuck none\nrefused none\nevents 9\nthread 0 main 7\nthread 1 a 2\nverdict alarm 4\ntransaction 1\nblame 1 inc\ncycle 1 3\n",
+        out: "events 9\nstates 8\nalarm 0*3 1 0\nstuck none\nrefused none\nevents 9\nthread 0 main 7\nthread 1 a 2\nverdict alarm 4\ntransaction 1\nblame 1 inc\ncycle 1 3\n",
         status: 3,
         ..ASKED
     },
@@ -79,14 +79,14 @@ static ROWS: [Row; 16] = [
         workload: LOCKED,
         target: Some("o"),
         certificate: true,
-        out: "events 13\nstates 12\nalarm none\nstuck none\nrefused none\n",
+        out: "events 13\nstates 4\nalarm none\nstuck none\nrefused none\n",
         ..ASKED
     },
     Row {
         workload: CROSSING,
         target: Some("o"),
         certificate: true,
-        out: "events 11\nstates 10\nalarm none\nstuck 0*2 1\nrefused none\nevents 3\nthread 0 main 2\nthread 1 a 1\nverdict clean\nserial 0\nserial 1\nserial 2\n",
+        out: "events 11\nstates 9\nalarm none\nstuck 0*2 1\nrefused none\nevents 3\nthread 0 main 2\nthread 1 a 1\nverdict clean\nserial 0\nserial 1\nserial 2\n",
         err: "stuck\n",
         log: Some("vlog 2 2 0 2\n0 fork 1\n0 acq 0\n1 acq 1\n"),
         status: 4,
@@ -95,7 +95,7 @@ static ROWS: [Row; 16] = [
     Row {
         workload: UNHELD,
         target: Some("o"),
-        out: "events 5\nstates 2\nalarm none\nstuck none\nrefused 8 thread 1 a 0*2\nevents 1\nthread 0 main 1\nthread 1 a 0\nverdict clean\n",
+        out: "events 5\nstates 1\nalarm none\nstuck none\nrefused 8 thread 1 a 0*2\nevents 1\nthread 0 main 1\nthread 1 a 0\nverdict clean\n",
         err: "refused 8 thread 1\n",
         log: Some("vlog 2 2 0 1\n0 fork 1\n"),
         status: 4,
@@ -103,7 +103,7 @@ static ROWS: [Row; 16] = [
     },
     Row {
         workload: BOTH,
-        out: "events 16\nstates 33\nalarm 0*3 1 0\nstuck 0*6 1*2\nrefused none\nevents 8\nthread 0 main 6\nthread 1 a 2\nverdict alarm 4\ntransaction 1\nblame 1 inc\n",
+        out: "events 16\nstates 32\nalarm 0*3 1 0\nstuck 0*6 1*2\nrefused none\nevents 8\nthread 0 main 6\nthread 1 a 2\nverdict alarm 4\ntransaction 1\nblame 1 inc\n",
         status: 3,
         ..ASKED
     },
@@ -116,15 +116,15 @@ static ROWS: [Row; 16] = [
     },
     Row {
         workload: LOCKED,
-        states: 12,
-        out: "events 13\nstates 12\nalarm none\nstuck none\nrefused none\n",
+        states: 4,
+        out: "events 13\nstates 4\nalarm none\nstuck none\nrefused none\n",
         ..ASKED
     },
     Row {
         workload: LOCKED,
-        states: 11,
+        states: 3,
         target: Some("o"),
-        out: "events 13\nstates 11\nalarm open\nstuck open\nrefused open\n",
+        out: "events 13\nstates 3\nalarm open\nstuck open\nrefused open\n",
         err: "open\n",
         status: 4,
         ..ASKED
@@ -139,7 +139,7 @@ static ROWS: [Row; 16] = [
     },
     Row {
         events: 9,
-        out: "events 9\nstates 11\nalarm 0*3 1 0\nstuck none\nrefused none\nevents 9\nthread 0 main 7\nthread 1 a 2\nverdict alarm 4\ntransaction 1\nblame 1 inc\n",
+        out: "events 9\nstates 8\nalarm 0*3 1 0\nstuck none\nrefused none\nevents 9\nthread 0 main 7\nthread 1 a 2\nverdict alarm 4\ntransaction 1\nblame 1 inc\n",
         status: 3,
         ..ASKED
     },
