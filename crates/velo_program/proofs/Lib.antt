@@ -8,6 +8,7 @@ mod OnFindings
 mod OnPlaying
 mod OnWatching
 mod OnReading
+mod OnSaving
 mod OnNaming
 mod OnAuditing
 mod OnIgnoring

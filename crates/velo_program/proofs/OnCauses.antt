@@ -49,8 +49,8 @@ use Rattle.velo_program.specs.Causes.{AnswersWithCause, CheckByGrowth, ComesByRe
 use Rattle.velo_program.specs.Auditing.{IsAuditAnswer}
 use Rattle.velo_program.specs.Carrying.{IsCarryAnswer, IsPut}
 use Rattle.velo_program.specs.Check.{IsCheckAnswer, IsFaultOfInput}
-use Rattle.velo_program.specs.Delivery.{Answer, IsDelivered, IsPrinted, LacksMemory, silent}
-use Rattle.velo_program.specs.Disk.{Disk, IsBarred, Store}
+use Rattle.velo_program.specs.Delivery.{Answer, DeliversBy, FailsSaving, IsDelivered, IsDeliveredInTurn, IsPrinted, LacksMemory, silent}
+use Rattle.velo_program.specs.Disk.{Disk, IsBarred, IsBarredRun, Store, behind}
 use Rattle.velo_program.specs.Explaining.{IsExplanation}
 use Rattle.velo_program.specs.Exploring.{IsExploreAnswer}
 use Rattle.velo_program.specs.Ignoring.{AsksInVain, MeanNothing}
@@ -151,20 +151,34 @@ module _ (needs : Needs) where
   of_end program certificate ended w answer (inl is) cause = said answer _ is.1 cause
   of_end program certificate ended w answer (inr is) cause = said answer _ is.1.2.said cause
 
-  of_play : (play : Play) (options : RunOptions) (read : Option (List ℕ)) (answer : Answer) → ((program : Program) (ended : Ending) (w : WorldState) → IsRunOf play options program ended w → EndsByRefusal needs ended)
-      → IsPlayAnswer play options read answer → HasCause answer
-  of_play play options read answer so (inl (program, text, inl played)) =
+  of_play : (play : Play) (options : RunOptions) (read : Option (List ℕ)) (answer : Answer) (names : List ℕ) → ((program : Program) (ended : Ending) (w : WorldState) → IsRunOf play options program ended w → EndsByRefusal needs ended)
+      → IsPlayAnswer play options read answer names → HasCause answer
+  of_play play options read answer names so (inl (program, text, are, inl played)) =
       of_end program options.certificate played.ended played.world answer played.says (so program played.ended played.world played.is_run)
-  of_play (ByTurns schedule) options read answer so (inl (program, text, inr (inl lost))) = absurd lost
-  of_play ByThreads options read answer so (inl (program, text, inr (inl lost))) = said answer (silent fate.Lost) lost tt
-  of_play play options read answer so (inl (program, text, inr (inr lacks))) = of_lack answer lacks
-  of_play play options read answer so (inr (f, unread, is)) = said answer (silent f) is (of_unread read f unread)
+  of_play (ByTurns schedule) options read answer names so (inl (program, text, are, inr (inl lost))) = absurd lost
+  of_play ByThreads options read answer names so (inl (program, text, are, inr (inl lost))) = said answer (silent fate.Lost) lost tt
+  of_play play options read answer names so (inl (program, text, are, inr (inr lacks))) = of_lack answer lacks
+  of_play play options read answer names so (inr (f, unread, is)) = said answer (silent f) is (of_unread read f unread)
 
   -- what became of the answer has its cause
   of_delivered : (store : Store) (path : Option (Bor (List ℕ))) (out : Writing) (answer : Answer) (f : Fate) → HasCause answer → IsDelivered store path out answer f → ComesByRefusal needs f
   of_delivered store path out answer fate.CannotOpen cause put = tt
   of_delivered store path out answer fate.WriteFailed cause put = tt
   of_delivered store path out answer f cause put = subst (ComesByRefusal needs) (sym put.0) cause
+
+  of_in_turn : (store : Store) (target path : Option (Bor (List ℕ))) (names : List ℕ) (out : Writing) (answer : Answer) (f : Fate) → HasCause answer → IsDeliveredInTurn store target path names out answer f → ComesByRefusal needs f
+  of_in_turn store target path names out answer f cause put = by answer.saved path put
+    where
+      failed : (log : List ℕ) (f : Fate) → FailsSaving store target (Some log) f → ComesByRefusal needs f
+      failed log fate.CannotOpen h = tt
+      failed log fate.WriteFailed h = tt
+      failed log f h = absurd h
+
+      by : (saved : Option (List ℕ)) (path : Option (Bor (List ℕ))) → DeliversBy saved path store target names out answer f → ComesByRefusal needs f
+      by (Some log) (Some path) (inl h) = failed log f h.0
+      by (Some log) (Some path) (inr h) = of_delivered (behind store h.0) (Some path) out (record answer { saved = Some names }) f cause h.2
+      by (Some log) None h = of_delivered store target out answer f cause h
+      by None path h = of_delivered store target out answer f cause h
 
   of_put : (sink : Writing) (answer : Answer) (f : Fate) → HasCause answer → IsPut sink answer f → ComesByRefusal needs f
   of_put sink answer fate.WriteFailed cause put = tt
@@ -184,6 +198,12 @@ of_schedule options schedule_fault.Memory is = is
 unread : (needs : Needs) (disk : Disk) (operand : Operand) (input : List ℕ) (target : Option (Bor (List ℕ))) (f : Fate) → IsBarred disk operand input target f → ComesByRefusal needs f
 unread needs disk operand input target f (inl closed) = subst (ComesByRefusal needs) (sym closed.0) tt
 unread needs disk operand input target f (inr one) = subst (ComesByRefusal needs) (sym one.0) tt
+
+-- nor is a workload that is not read
+unplayed : (needs : Needs) (disk : Disk) (input : List ℕ) (target names : Option (Bor (List ℕ))) (f : Fate) → IsBarredRun disk input target names f → ComesByRefusal needs f
+unplayed needs disk input target names f (inl barred) = unread needs disk File input target f barred
+unplayed needs disk input target names f (inr (inl one)) = subst (ComesByRefusal needs) (sym one.0) tt
+unplayed needs disk input target names f (inr (inr one)) = subst (ComesByRefusal needs) (sym one.0) tt
 
 -- nor names
 of_names : (read : Option (List ℕ)) (f : NamesFault) → HaveFaultOfNames read f → NamesByGrowth f
@@ -235,16 +255,17 @@ unmeant needs names options f (inl locks) = of_words needs names Lock options.ig
 unmeant needs names options f (inr variables) = of_words needs names Variable options.ignored_variables.now f variables.1
 
 -- of a workload whose schedules were tried
-of_exploration : (options : ExploreOptions) (read : Option (List ℕ)) (answer : Answer) → IsExploreAnswer options read answer → HasCause Growths answer
-of_exploration options read answer (inl (program, text, inl explored)) = caused options program answer explored
-of_exploration options read answer (inl (program, text, inr lacks)) = of_lack Growths answer lacks
-of_exploration options read answer (inr (f, unread, is)) = said Growths answer (silent f) is (of_unread Growths read f unread)
+of_exploration : (options : ExploreOptions) (read : Option (List ℕ)) (answer : Answer) (names : List ℕ) → IsExploreAnswer options read answer names → HasCause Growths answer
+of_exploration options read answer names (inl (program, text, are, inl explored)) = caused options program answer explored
+of_exploration options read answer names (inl (program, text, are, inr lacks)) = of_lack Growths answer lacks
+of_exploration options read answer names (inr (f, unread, is)) = said Growths answer (silent f) is (of_unread Growths read f unread)
 
 -- of a workload that was played
 played : (needs : Needs) (play : Play) (options : RunOptions) (store : Store) (stdout : Writing) (f : Fate)
     → ((program : Program) (ended : Ending) (w : WorldState) → IsRunOf play options program ended w → EndsByRefusal needs ended) → DoesPlay play options store stdout f → ComesByRefusal needs f
-played needs play options store stdout f so (inl h) = unread needs store.disk File options.input.now options.target f h.0
-played needs play options store stdout f so (inr h) = of_delivered needs store options.target stdout h.1 f (of_play needs play options h.0.bytes h.1 so h.4) h.5
+played needs play options store stdout f so (inl h) = unplayed needs store.disk options.input.now options.target options.names_target f h.0
+played needs play options store stdout f so (inr h) =
+    of_in_turn needs store options.target options.names_target h.2 stdout h.1 f (of_play needs play options h.0.bytes h.1 h.2 so h.5) h.6
 
 -- of a log that was watched
 of_end_behind : (limit nodes : ℕ) (read : Option (List ℕ)) (bounds : Bounds) (log : List Event) (f : CheckFault) → EndsBehind limit nodes read bounds log f → CheckByGrowth f
@@ -284,8 +305,9 @@ of_done store (request.Carry options) stdout f (inr (inr h)) = of_put Growths h.
 of_done store (request.Run options) stdout f h = played GrowthsAndStarts ByThreads options store stdout f (λ program ended w run. run.cause) h
 of_done store (request.Replay options) stdout f (inl bad) = subst (ComesByRefusal Growths) (sym bad.2) (of_schedule options bad.0 bad.1)
 of_done store (request.Replay options) stdout f (inr h) = played Growths (ByTurns h.0) options.run store stdout f (λ program ended w run. run.cause) h.2
-of_done store (request.Explore options) stdout f (inl h) = unread Growths store.disk File options.input.now options.target f h.0
-of_done store (request.Explore options) stdout f (inr h) = of_delivered Growths store options.target stdout h.1 f (of_exploration options h.0.bytes h.1 h.4) h.5
+of_done store (request.Explore options) stdout f (inl h) = unplayed Growths store.disk options.input.now options.target options.names_target f h.0
+of_done store (request.Explore options) stdout f (inr h) =
+    of_in_turn Growths store options.target options.names_target h.2 stdout h.1 f (of_exploration options h.0.bytes h.1 h.2 h.5) h.6
 of_done store (request.Watch options) stdout f (inl h) = unnamed Growths store.disk options.names f h.0
 of_done store (request.Watch options) stdout f (inr (names, read, (shown, are, inl h))) = unread Growths store.disk Log options.input.now None f h.0
 of_done store (request.Watch options) stdout f (inr (names, read, (shown, are, inr h))) = of_watch shown options h.0.bytes stdout f h.3

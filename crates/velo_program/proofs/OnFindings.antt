@@ -35,11 +35,12 @@ use Rattle.velo_world.specs.World.{WorldState}
 use Rattle.velo_program.specs.declared.fate.Fate.{Fate}
 use Rattle.velo_program.specs.declared.fate.Fate.TheVariants as fate
 use Rattle.velo_program.specs.declared.request.ExploreOptions.{ExploreOptions}
+use Rattle.velo_program.specs.declared.saving.Saving.{Saving}
 use Rattle.velo_turns.specs.declared.limits.TheConstants.{MOST_TURNS}
 use Rattle.velo_program.specs.Causes.{ComesByRefusal, Growths}
 use Rattle.velo_program.specs.Check.{IsOrderOrCycle, IsOutputOf, IsVerdict}
-use Rattle.velo_program.specs.Delivery.{Answer, IsDelivered, LacksMemory, printing, silent}
-use Rattle.velo_program.specs.Disk.{Store}
+use Rattle.velo_program.specs.Delivery.{Answer, FailsSaving, IsDelivered, IsDeliveredInTurn, LacksMemory, printing, silent}
+use Rattle.velo_program.specs.Disk.{Store, behind as store_behind}
 use Rattle.velo_program.specs.ByChance.{AreOfRuns, AreSayable, IsBlame, IsBlameOf, IsByChance, IsSayable, IsSayableFinding, IsSayableRefusal, OfRuns, RefusalOfRuns}
 use Rattle.velo_program.specs.Exploring.{AreOfAll, HasFirst, IsExplorationOf, IsExplored, IsFirstReplay, IsPrintedAlone, IsToldBy, IsToldOf, ReportsReplay, fate_by, fate_of_told, first_schedule, most_to_blame, run_of, told_text, waits_behind}
 use Rattle.velo_program.specs.declared.request.RandomRuns.{RandomRuns}
@@ -53,15 +54,15 @@ use Rattle.velo_chance.specs.Tallies.{IsTold, rank}
 use Rattle.velo_program.specs.declared.check.Verdict.{Verdict}
 use Rattle.velo_program.specs.declared.check.Verdict.TheVariants as verdict
 use Rattle.velo_program.specs.Fate.{is_alarm}
-use Rattle.velo_program.specs.Findings.{Explores, IsNoMore, IsNoMoreRefusal, IsReplayBy, IsRunOfFirst, IsRefusalSaidFor, IsSaidFor, IsUnshown, Lacks, Puts, ReportsOrLacks, ShowsAlarm, ShowsRefusal, ShowsStuck, TellsNoMore, TellsReplay, TellsFindings, TellsRun, WritesBehind, WritesReport, fate_behind, refused_or_never, shown_or_never, unshown, unshown_refusal}
-use Rattle.velo_program.specs.Playing.{AreNamesOf, IsConfigOf, is_unreported, text_of_log}
+use Rattle.velo_program.specs.Findings.{Explores, IsNoMore, IsNoMoreRefusal, IsReplayBy, IsRunOfFirst, IsRefusalSaidFor, IsSaidFor, IsUnshown, Lacks, Puts, PutsBy, ReportsOrLacks, ShowsAlarm, ShowsRefusal, ShowsStuck, TellsNoMore, TellsOrLacks, TellsReplay, TellsFindings, TellsRun, WritesBehind, WritesReport, fate_behind, refused_or_never, shown_or_never, unshown, unshown_refusal}
+use Rattle.velo_program.specs.Playing.{AreNamesOf, IsConfigOf, is_unreported, text_of_log, text_of_names}
 use Rattle.velo_program.specs.Reading.{failures_told}
 use Rattle.velo_turns.specs.Short.{short_text}
 use Rattle.velo_turns.proofs.OnShort.{short_reads_back}
 use Rattle.velo_turns.proofs.OnTexts.{threads_of_schedule}
-use Rattle.velo_program.specs.Steps.{HasAlarm, IsSaved}
-use Rattle.velo_program.specs.Writing.{BreaksOff, Delivers, Writing, WritesNothing}
-use Rattle.velo_program.proofs.OnDelivery.{delivered_reads, same_fate}
+use Rattle.velo_program.specs.Steps.{AreNamesFor, HasAlarm, IsSavedInTurn}
+use Rattle.velo_program.specs.Writing.{BreaksOff, Delivers, Writes, Writing, WritesNothing}
+use Rattle.velo_program.proofs.OnDelivery.{in_turn_reads, same_fate}
 use Rattle.velo_program.proofs.OnVerdicts.{output_exists}
 
 -- one part more behind those that are there
@@ -492,19 +493,56 @@ text_breaks text names w behind list certifies alarm out f broke =
     let output = output_exists names w.config.bounds.threads w.log list certifies alarm in
     (output.0, output.1, (beginning_then out.old out.old out.new [] text (output.0 ++ behind) (text ++ output.0 ++ behind) (appends_nothing out.old) broke.0 refl, broke.1))
 
--- where the log is not saved nothing goes out
-pub unsaved_puts : (store : Store) (target : Option (Bor (List ℕ))) (out : Writing) (log text : List ℕ) (f : Fate)
-    → IsSaved {X = ℕ} store target log (Err f) → WritesNothing out → Puts {X = ℕ} store target out (Some log) text (Err f)
-unsaved_puts store target out log text fate.CannotOpen h nothing = (h, nothing)
-unsaved_puts store target out log text fate.WriteFailed h nothing = inl (h, nothing)
-unsaved_puts store target out log text f h nothing = absurd h
+-- where a text is not saved nothing goes out
+unsaved_puts : (X : Type 0) (store : Store) (target : Option (Bor (List ℕ))) (out : Writing) (log text : List ℕ) (f : Fate)
+    → FailsSaving store target (Some log) f → WritesNothing out → Puts {X = X} store target out (Some log) text (Err f)
+unsaved_puts X store target out log text fate.CannotOpen h nothing = (h, nothing)
+unsaved_puts X store target out log text fate.WriteFailed h nothing = inl (h, nothing)
+unsaved_puts X store target out log text f h nothing = absurd h
 
--- by the program's names, and with the certificate that was asked for
-pub reported_by : {X : Type 0} (program : Program) (text : List ℕ) (names : Names) (given certificate : Bool) (w : WorldState) (behind : List ℕ)
-    (store : Store) (target : Option (Bor (List ℕ))) (out : Writing) (result : Result X Fate)
-    → TellsReplay text names given w behind store target out result → certificate ≡ given → AreNamesOf program names → ReportsOrLacks program text certificate w behind store target out result
-reported_by program text names given certificate w behind store target out result told is are =
-    inl (names, are, subst (λ (b : Bool). TellsReplay text names b w behind store target out result) (sym is) told)
+module _ (store : Store) (target : Option (Bor (List ℕ))) (names log : List ℕ) (out : Writing) (text : List ℕ) where
+  -- nor where the names are not
+  pub unsaved_puts_in_turn : (X Y : Type 0) (path : Option (Bor (List ℕ))) (f : Fate) → IsSavedInTurn {X = Y} store target path names log (Err f) → WritesNothing out
+      → PutsBy {X = X} (Some log) path store target names out text (Err f)
+  unsaved_puts_in_turn X Y None f h nothing = unsaved_puts X store target out log text f h nothing
+  unsaved_puts_in_turn X Y (Some path) f (inl h) nothing = inl (h, nothing)
+  unsaved_puts_in_turn X Y (Some path) f (inr h) nothing = inr (h.0, h.1, unsaved_puts X (store_behind store h.0) (Some path) out names text f h.2 nothing)
+
+  -- what was saved, and then printed
+  pub printed_in_turn : {X Y : Type 0} (x : X) (y : Y) (path : Option (Bor (List ℕ))) → IsSavedInTurn store target path names log (Ok y) → Writes out text
+      → PutsBy (Some log) path store target names out text (Ok x)
+  printed_in_turn x y None h went = (h, went)
+  printed_in_turn x y (Some path) (inl h) went = absurd h
+  printed_in_turn x y (Some path) (inr h) went = inr (h.0, h.1, (h.2, went))
+
+  -- what was saved, where the print broke off
+  pub broken_in_turn : (X : Type 0) {Y : Type 0} (y : Y) (path : Option (Bor (List ℕ))) → IsSavedInTurn store target path names log (Ok y) → BreaksOff out text
+      → PutsBy {X = X} (Some log) path store target names out text (Err fate.WriteFailed)
+  broken_in_turn X y None h broke = inr (h, broke)
+  broken_in_turn X y (Some path) (inl h) broke = absurd h
+  broken_in_turn X y (Some path) (inr h) broke = inr (h.0, h.1, inr (h.2, broke))
+
+  -- the names are the program's
+  puts_named : {X : Type 0} (path : Option (Bor (List ℕ))) (program : Program) (result : Result X Fate) → AreNamesFor path program names → PutsBy (Some log) path store target names out text result
+      → PutsBy (Some log) path store target (text_of_names program) out text result
+  puts_named None program result are h = h
+  puts_named (Some path) program result are h = subst (λ (n : List ℕ). PutsBy (Some log) (Some path) store target n out text result) are h
+
+-- with the certificate that was asked for
+pub reported_by : {X : Type 0} (text : List ℕ) (names : Names) (given certificate : Bool) (w : WorldState) (behind : List ℕ)
+    (store : Store) (saving : Saving) (out : Writing) (result : Result X Fate)
+    → TellsReplay text names given w behind store saving out result → certificate ≡ given → TellsOrLacks text names certificate w behind store saving out result
+reported_by text names given certificate w behind store saving out result told is =
+    inl (subst (λ (b : Bool). TellsReplay text names b w behind store saving out result) (sym is) told)
+
+-- by the program's names
+pub reported_named : {X : Type 0} (program : Program) (text : List ℕ) (names : Names) (options : ExploreOptions) (w : WorldState) (behind : List ℕ)
+    (store : Store) (listed : Bor (List ℕ)) (out : Writing) (result : Result X Fate)
+    → TellsOrLacks text names options.certificate w behind store (record { target = options.target; names_target = options.names_target; names = listed }) out result
+    → AreNamesOf program names → AreNamesFor options.names_target program listed.now → ReportsOrLacks program text options w behind store out result
+reported_named program text names options w behind store listed out result (inl told) are for =
+    inl (names, are, (told.0, told.1, puts_named store options.target listed.now (text_of_log w) out (text ++ told.0 ++ behind) options.names_target program result for told.2))
+reported_named program text names options w behind store listed out result (inr lacks) are for = inr lacks
 
 module _ (store : Store) (target : Option (Bor (List ℕ))) (stdout : Writing) where
   delivered : (saved : Option (List ℕ)) (printed : List ℕ) (f : Fate) → IsPlain f → {X : Type 0} (x : X) → Puts store target stdout saved printed (Ok x)
@@ -521,27 +559,37 @@ module _ (store : Store) (target : Option (Bor (List ℕ))) (stdout : Writing) w
   put saved printed f plain (Err other) h = absurd h
 
   -- a growth was refused
-  pub lacked : {X : Type 0} (f : Fate) (result : Result X Fate) → Lacks store stdout result → (answer : Answer) × LacksMemory answer × IsDelivered store target stdout answer (fate_behind f result)
-  lacked f (Err fate.Memory) h = (silent fate.Memory, (h.0, refl), (refl, h.1, h.2))
+  pub lacked : {X : Type 0} (f : Fate) (result : Result X Fate) → Lacks store stdout result → LacksMemory (silent fate.Memory) × IsDelivered store target stdout (silent fate.Memory) (fate_behind f result)
+  lacked f (Err fate.Memory) h = ((h.0, refl), (refl, h.1, h.2))
   lacked f result h = absurd h
 
-  -- no exploration is told as a failed read
-  pub explores_reads : (options : ExploreOptions) (program : Program) (answer : Answer) (n : ℕ) → IsExplored options program answer ⊎ LacksMemory answer
-      → (f : Fate) → IsDelivered store target stdout answer f → failures_told f n ≡ n
-  explores_reads options program answer n is f h = delivered_reads store target stdout answer n (by_fate is) f h
-    where
-      of_said : (config : Config) (x : Told) → IsPlain (fate_of_told x) → ReportsReplay options program config x answer ⊎ IsPrintedAlone program x answer → failures_told answer.fate n ≡ n
-      of_said config x plain (inl r) = same_fate answer _ n r.said (plain.read n)
-      of_said config x plain (inr alone) = same_fate answer _ n alone.1 (plain.read n)
+-- with names behind the log
+pub put_in_turn : {X : Type 0} (store : Store) (target path : Option (Bor (List ℕ))) (names : List ℕ) (stdout : Writing) (log printed : List ℕ) (f : Fate) → IsPlain f → (result : Result X Fate)
+    → PutsBy (Some log) path store target names stdout printed result
+    → IsDeliveredInTurn store target path names stdout (record { saved = Some log; printed = Some printed; fate = f }) (fate_behind f result)
+put_in_turn store target None names stdout log printed f plain result h = put store target stdout (Some log) printed f plain result h
+put_in_turn store target (Some path) names stdout log printed f plain (Ok x) (inl h) = absurd h.0
+put_in_turn store target (Some path) names stdout log printed f plain (Err other) (inl h) = inl h
+put_in_turn store target (Some path) names stdout log printed f plain result (inr h) =
+    inr (h.0, h.1, put (store_behind store h.0) (Some path) stdout (Some names) printed f plain result h.2)
 
-      by_fate : IsExplored options program answer ⊎ LacksMemory answer → failures_told answer.fate n ≡ n
-      by_fate (inl e) = of_said e.config e.told (plain_fate e.told.found.alarm e.told.found.stuck e.told.found.refused) e.says
-      by_fate (inr lacks) = same_fate answer _ n lacks.1 refl
+-- no exploration is told as a failed read
+pub explores_reads : (store : Store) (names : List ℕ) (stdout : Writing) (options : ExploreOptions) (program : Program) (answer : Answer) (n : ℕ) → IsExplored options program answer ⊎ LacksMemory answer
+    → (f : Fate) → IsDeliveredInTurn store options.target options.names_target names stdout answer f → failures_told f n ≡ n
+explores_reads store names stdout options program answer n is f h = in_turn_reads store options.target names stdout answer f options.names_target n (by_fate is) h
+  where
+    of_said : (config : Config) (x : Told) → IsPlain (fate_of_told x) → ReportsReplay options program config x answer ⊎ IsPrintedAlone program x answer → failures_told answer.fate n ≡ n
+    of_said config x plain (inl r) = same_fate answer _ n r.said (plain.read n)
+    of_said config x plain (inr alone) = same_fate answer _ n alone.1 (plain.read n)
+
+    by_fate : IsExplored options program answer ⊎ LacksMemory answer → failures_told answer.fate n ≡ n
+    by_fate (inl e) = of_said e.config e.told (plain_fate e.told.found.alarm e.told.found.stuck e.told.found.refused) e.says
+    by_fate (inr lacks) = same_fate answer _ n lacks.1 refl
 
 -- what was told is an answer to the program that was read
 pub explored : {X : Type 0} (options : ExploreOptions) (program : Program) (config : Config) (x : Told) (run : Option (WorldState × Ending)) (text : List ℕ) (store : Store) (stdout : Writing) (result : Result X Fate)
     → IsConfigOf program (run_of options) config → IsToldOf program config options x → IsRunOfFirst program config x.found run → text ≡ told_text program x
-    → TellsRun program x.found text options.certificate run store options.target stdout result → Explores options program store stdout (fate_behind (fate_of_told x) result)
+    → TellsRun program x.found text options run store stdout result → Explores options program store stdout (fate_behind (fate_of_told x) result)
 explored options program config x None text store stdout result configured so none is told = (
   printing (told_text program x) (fate_of_told x),
   inl (record { config = config; configured = configured; told = x; is_so = so; says = inr (none, refl) }),
@@ -557,12 +605,12 @@ explored options program config x (Some run) text store stdout result configured
     is_so = so;
     says = inl (record { ended = run.1; world = run.0; replay = first.0; names = told.0; are_names = told.1; report = told.2.0; is_report = told.2.1; said = refl });
   }),
-  put store options.target stdout (Some (text_of_log run.0)) (told_text program x ++ told.2.0 ++ waits_behind x.found.alarm x.found.stuck program run.0.log) (fate_of_told x) (plain_fate x.found.alarm x.found.stuck x.found.refused) result
-      (subst (λ (t : List ℕ). Puts store options.target stdout (Some (text_of_log run.0)) (t ++ told.2.0 ++ waits_behind x.found.alarm x.found.stuck program run.0.log) result) is told.2.2),
+  put_in_turn store options.target options.names_target (text_of_names program) stdout (text_of_log run.0) (told_text program x ++ told.2.0 ++ waits_behind x.found.alarm x.found.stuck program run.0.log) (fate_of_told x) (plain_fate x.found.alarm x.found.stuck x.found.refused) result
+      (subst (λ (t : List ℕ). PutsBy (Some (text_of_log run.0)) options.names_target store options.target (text_of_names program) stdout (t ++ told.2.0 ++ waits_behind x.found.alarm x.found.stuck program run.0.log) result) is told.2.2),
 )
 explored options program config x (Some run) text store stdout result configured so first is (inr lacks) =
     let lack = lacked store options.target stdout (fate_of_told x) result lacks in
-    (lack.0, inr lack.1, lack.2)
+    (silent fate.Memory, inr lack.0, lack.1)
 
 -- so was what was found
 pub told_found : (options : ExploreOptions) (program : Program) (config : Config) (x : Told) (run : Option (WorldState × Ending)) (store : Store) (stdout : Writing) (f : Fate)

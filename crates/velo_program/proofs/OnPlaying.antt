@@ -13,14 +13,14 @@ use Rattle.velo_world.specs.World.{WorldState}
 use Rattle.velo_program.specs.declared.fate.Fate.{Fate}
 use Rattle.velo_program.specs.declared.fate.Fate.TheVariants as fate
 use Rattle.velo_program.specs.declared.request.RunOptions.{RunOptions}
-use Rattle.velo_program.specs.Delivery.{Answer, IsDelivered, silent}
+use Rattle.velo_program.specs.Delivery.{Answer, IsDelivered, IsDeliveredInTurn, silent}
 use Rattle.velo_program.specs.Disk.{Disk, Store}
 use Rattle.velo_program.specs.Playing.{ByThreads, ByTurns, IsFaultOfText, IsFaultOfWork, IsRunAnswer, IsSaidOfRun, IsTextOf, IsUnread, Play}
 use Rattle.velo_program.specs.Reading.{FailuresAsTold, Reading, failures_told}
 use Rattle.velo_turns.specs.Schedule.{IsSchedule}
 use Rattle.velo_program.specs.Writing.{Writing, WritesNothing}
-use Rattle.velo_program.specs.Steps.{IsReadOf, IsSaved, OpensNoProgram, OpensProgram}
-use Rattle.velo_program.proofs.OnDelivery.{delivered_reads, same_fate}
+use Rattle.velo_program.specs.Steps.{IsReadOf, OpensNoProgram, OpensProgram}
+use Rattle.velo_program.proofs.OnDelivery.{in_turn_reads, same_fate}
 
 -- ---- from the bytes that were read to those of the file
 
@@ -54,17 +54,10 @@ fault_read (Some all) bytes (work_fault.TooMany n) is h = fault_of_text all byte
 
 -- ---- what a run has to say
 
--- where the log is not saved nothing goes out
-pub unsaved : (store : Store) (path : Option (Bor (List ℕ))) (out : Writing) (log : List ℕ) (text : Option (List ℕ)) (end f : Fate)
-    → IsSaved {X = ℕ} store path log (Err f) → WritesNothing out → IsDelivered store path out (record { saved = Some log; printed = text; fate = end }) f
-unsaved store path out log text end fate.CannotOpen h nothing = (h, nothing)
-unsaved store path out log text end fate.WriteFailed h nothing = inl (h, nothing)
-unsaved store path out log text end f h nothing = absurd h
-
 -- no run is told as a failed read
 pub plays_reads : (play : Play) (options : RunOptions) (program : Program) (answer : Answer) (n : ℕ) → IsRunAnswer play options program answer
-    → (store : Store) (path : Option (Bor (List ℕ))) (out : Writing) (f : Fate) → IsDelivered store path out answer f → failures_told f n ≡ n
-plays_reads play options program answer n is store path out f put = delivered_reads store path out answer n (by_end play is) f put
+    → (store : Store) (names : List ℕ) (out : Writing) (f : Fate) → IsDeliveredInTurn store options.target options.names_target names out answer f → failures_told f n ≡ n
+plays_reads play options program answer n is store names out f put = in_turn_reads store options.target names out answer f options.names_target n (by_end play is) put
   where
     of_end : (certificate : Bool) (ended : Ending) (w : WorldState) → IsSaidOfRun program certificate ended w answer → failures_told answer.fate n ≡ n
     of_end certificate ended w (inl says) = same_fate answer _ n says.1 refl

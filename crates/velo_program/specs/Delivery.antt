@@ -2,7 +2,7 @@
 use Rattle.std.specs.Prelude.{◌≡◌, ◌⊎◌, ℕ, List, Option, Some, None}
 use Rattle.std.specs.Borrow.{Bor}
 use Rattle.velo_events.specs.Refusals.{GrowthRefused}
-use Rattle.velo_program.specs.Disk.{Store, IsWritten}
+use Rattle.velo_program.specs.Disk.{Store, IsWritten, behind, up_to}
 use Rattle.velo_program.specs.Writing.{Writing, Writes, BreaksOff, WritesNothing}
 use Rattle.velo_program.specs.declared.fate.Fate.{Fate}
 use Rattle.velo_program.specs.declared.fate.Fate.TheVariants.{CannotOpen, Memory, WriteFailed}
@@ -81,3 +81,27 @@ IsDelivered store target stdout answer WriteFailed =
     ⊎ (Saves store target answer.saved × TakesPart stdout answer.printed)
 IsDelivered store target stdout answer f =
     (f ≡ answer.fate) × Saves store target answer.saved × Takes stdout answer.printed
+
+-- ---- a log at the target, and behind it names at their path
+
+-- the text was not saved, or not whole, and it comes to this
+abbrev pub FailsSaving : Store → Option (Bor (List ℕ)) → Option (List ℕ) → Fate → Type 0
+FailsSaving store target saved CannotOpen = FailsToSave store target saved
+FailsSaving store target saved WriteFailed = SavesPart store target saved
+FailsSaving store target saved f = ⊥
+
+-- What became of an answer whose log is to be saved, if it has one, and then the names at their
+-- path, if there is one. The log is saved first: where this fails nothing else is done. Then it is
+-- as if the names were what is to be saved. Without a log, or a path for them, there are no names.
+abbrev pub DeliversBy : Option (List ℕ) → Option (Bor (List ℕ)) → Store → Option (Bor (List ℕ))
+    → List ℕ → Writing → Answer → Fate → Type 0
+DeliversBy (Some log) (Some path) store target names stdout answer f =
+    (FailsSaving store target (Some log) f × WritesNothing stdout)
+    ⊎ ((between : store.State) × Saves (up_to store between) target (Some log)
+    × IsDelivered (behind store between) (Some path) stdout (record answer { saved = Some names }) f)
+DeliversBy log path store target names stdout answer f = IsDelivered store target stdout answer f
+
+abbrev pub IsDeliveredInTurn : Store → Option (Bor (List ℕ)) → Option (Bor (List ℕ)) → List ℕ
+    → Writing → Answer → Fate → Type 0
+IsDeliveredInTurn store target path names stdout answer f =
+    DeliversBy answer.saved path store target names stdout answer f

@@ -2,8 +2,9 @@
 use Rattle.std.specs.Prelude.{◌≡◌, ◌≢◌, ◌⊎◌, ⊤, ℕ, List, Option, Some, None, codes}
 use Rattle.std.specs.Borrow.{Bor}
 use Rattle.velo_program.specs.declared.fate.Fate.{Fate}
-use Rattle.velo_program.specs.declared.fate.Fate.TheVariants.{CannotOpen, OneFile}
+use Rattle.velo_program.specs.declared.fate.Fate.TheVariants.{CannotOpen, NamesAtInput, NamesAtTarget, OneFile}
 use Rattle.velo_program.specs.declared.request.Operand.{Operand}
+use Rattle.velo_program.specs.declared.request.Operand.TheVariants.{File}
 use Rattle.velo_program.specs.Reading.{Reading, reading}
 use Rattle.velo_program.specs.Writing.{Writing}
 
@@ -35,14 +36,36 @@ untold = record {
 }
 
 -- What a command found and what it left: the disk before it; how it left the file that it closed;
--- and that the files are as they were, so that none was opened to be written.
+-- and that the files are as they were, so that none was opened to be written. Between the state of
+-- the files that it found and the one that it left they may be in others: of each the disk says
+-- something.
 pub record Store : Type 1 where
   pub disk : Disk
   pub closed : List ℕ → Option (List ℕ) → ℕ → Type 0
   pub is_kept : Type 0
+  pub State : Type 0
+  pub said : State → Disk
+  pub found : State
+  pub left : State
 
 abbrev pub store : {F : Type 0} → (F → Disk) → F → F → Store
-store disk old new = record { disk = disk old; closed = (disk new).closed; is_kept = new ≡ old }
+store {F = F} disk old new =
+    record {
+      disk = disk old;
+      closed = (disk new).closed;
+      is_kept = new ≡ old;
+      State = F;
+      said = disk;
+      found = old;
+      left = new;
+    }
+
+-- what was done up to a state, and what was done behind it
+abbrev pub up_to : (store : Store) → store.State → Store
+up_to whole between = store whole.said whole.found between
+
+abbrev pub behind : (store : Store) → store.State → Store
+behind whole between = store whole.said between whole.left
 
 -- ---- a file that is read
 
@@ -68,6 +91,27 @@ IsBarred disk operand input target f =
     ((f ≡ CannotOpen) × FailsToOpen disk input)
     ⊎ ((f ≡ OneFile operand) × IsTarget disk input target
     × ((read : Reading) × disk.gives input read))
+
+-- the two files to be written are one
+abbrev pub AreOneTarget : Disk → Option (Bor (List ℕ)) → Option (Bor (List ℕ)) → Type 0
+AreOneTarget disk None names = ⊥
+AreOneTarget disk (Some target) None = ⊥
+AreOneTarget disk (Some target) (Some names) = disk.one target.now names.now
+
+-- Why names are not to be saved at their path: the file there is the target; or it is the input,
+-- which opens.
+abbrev pub IsBarredByNames : Disk → List ℕ → Option (Bor (List ℕ)) → Option (Bor (List ℕ))
+    → Fate → Type 0
+IsBarredByNames disk input target names f =
+    ((f ≡ NamesAtTarget) × AreOneTarget disk target names)
+    ⊎ ((f ≡ NamesAtInput) × IsTarget disk input names
+    × ((read : Reading) × disk.gives input read))
+
+-- why a workload is not read whose run is to be saved at the target, and its names at theirs
+abbrev pub IsBarredRun : Disk → List ℕ → Option (Bor (List ℕ)) → Option (Bor (List ℕ))
+    → Fate → Type 0
+IsBarredRun disk input target names f =
+    IsBarred disk File input target f ⊎ IsBarredByNames disk input target names f
 
 -- ---- a file that is written
 

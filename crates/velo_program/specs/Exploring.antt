@@ -37,7 +37,7 @@ use Rattle.velo_program.specs.ByChance.{AreSayable, IsBlameOf, IsByChance}
 use Rattle.velo_program.specs.Check.{IsOutputOf}
 use Rattle.velo_program.specs.Delivery.{Answer, LacksMemory, printing, silent}
 use Rattle.velo_program.specs.Fate.{number_of}
-use Rattle.velo_program.specs.Playing.{AreNamesOf, IsConfigOf, IsTextOf, IsUnread, is_unreported, text_of_log}
+use Rattle.velo_program.specs.Playing.{AreNamesOf, IsConfigOf, IsTextOf, IsUnread, is_unreported, text_of_log, text_of_names}
 use Rattle.velo_turns.specs.Schedule.{spaced}
 use Rattle.velo_turns.specs.Short.{longest}
 
@@ -227,9 +227,10 @@ pub record IsExplored (options : ExploreOptions) (program : Program) (answer : A
   pub says : ReportsReplay options program config told answer
       ⊎ IsPrintedAlone program told answer
 
--- What an exploration of the workload that was read has to say; or nothing, for a reason.
-abbrev pub IsExploreAnswer : ExploreOptions → Option (List ℕ) → Answer → Type 0
-IsExploreAnswer options read answer =
-    ((program : Program) × IsTextOf read program
+-- What an exploration of the workload that was read has to say, and the text of its names; or
+-- nothing, for a reason.
+abbrev pub IsExploreAnswer : ExploreOptions → Option (List ℕ) → Answer → List ℕ → Type 0
+IsExploreAnswer options read answer names =
+    ((program : Program) × IsTextOf read program × (names ≡ text_of_names program)
     × (IsExplored options program answer ⊎ LacksMemory answer))
     ⊎ ((f : Fate) × IsUnread read f × (answer ≡ silent f))

@@ -26,7 +26,7 @@ use Rattle.velo_program.specs.declared.check.Verdict.TheVariants as verdict
 use Rattle.velo_program.specs.declared.check.CheckFault.{CheckFault}
 use Rattle.velo_program.specs.declared.check.CheckFault.TheVariants.{Log, Refused, WrongValue, Write, Memory}
 use Rattle.velo_program.specs.declared.fate.Fate.{Fate}
-use Rattle.velo_program.specs.declared.fate.Fate.TheVariants.{Finished, Schedule, Work, Names, Check, CannotOpen, OneFile, ReadFailed, WriteFailed, Lost, Open}
+use Rattle.velo_program.specs.declared.fate.Fate.TheVariants.{Finished, Schedule, Work, Names, Check, CannotOpen, NamesAtInput, NamesAtTarget, OneFile, ReadFailed, WriteFailed, Lost, Open}
 use Rattle.velo_program.specs.declared.fate.Fate.TheVariants as fate
 use Rattle.velo_program.specs.declared.request.Ignorable.{Ignorable}
 use Rattle.velo_program.specs.declared.request.Ignorable.TheVariants as ignorable
@@ -113,6 +113,8 @@ status_of (Check fault) = status_of_check fault
 status_of CannotOpen = 5
 status_of (fate.Ignored what) = 2
 status_of (OneFile operand) = 2
+status_of NamesAtInput = 2
+status_of NamesAtTarget = 2
 status_of ReadFailed = 5
 status_of WriteFailed = 5
 status_of fate.Memory = 5
@@ -199,6 +201,8 @@ line_of (fate.Ignored what) = line_of_ignored what
 line_of (Check fault) = line_of_check fault
 line_of CannotOpen = codes "cannot open\n"
 line_of (OneFile operand) = line_of_one_file operand
+line_of NamesAtInput = codes "error: FILE and NAMES are one file\n"
+line_of NamesAtTarget = codes "error: OUT and NAMES are one file\n"
 line_of ReadFailed = codes "read failed\n"
 line_of Lost = codes "seat lost\n"
 line_of Open = codes "open\n"

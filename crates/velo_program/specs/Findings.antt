@@ -21,15 +21,16 @@ use Rattle.velo_world.specs.World.{WorldState}
 use Rattle.velo_program.specs.declared.fate.Fate.{Fate}
 use Rattle.velo_program.specs.declared.fate.Fate.TheVariants as fate
 use Rattle.velo_program.specs.declared.request.ExploreOptions.{ExploreOptions}
+use Rattle.velo_program.specs.declared.saving.Saving.{Saving}
 use Rattle.velo_program.specs.declared.told.Found.{Found}
 use Rattle.velo_program.specs.declared.told.Told.{Told}
 use Rattle.velo_program.specs.ByChance.{IsSayableFinding, IsSayableRefusal}
 use Rattle.velo_program.specs.Check.{IsOutputOf}
-use Rattle.velo_program.specs.Delivery.{Answer, FailsToSave, IsDelivered, LacksMemory, Saves, SavesPart}
-use Rattle.velo_program.specs.Disk.{Store}
+use Rattle.velo_program.specs.Delivery.{Answer, FailsToSave, IsDeliveredInTurn, LacksMemory, Saves, SavesPart}
+use Rattle.velo_program.specs.Disk.{Store, behind as store_behind, up_to}
 use Rattle.velo_program.specs.Exploring.{IsExplored, IsFirstReplay, fate_of_told, schedule_of, told_text, waits_behind}
-use Rattle.velo_program.specs.Playing.{AreNamesOf, is_unreported, text_of_log}
-use Rattle.velo_program.specs.Steps.{HasAlarm}
+use Rattle.velo_program.specs.Playing.{AreNamesOf, is_unreported, text_of_log, text_of_names}
+use Rattle.velo_program.specs.Steps.{HasAlarm, IsUnsaved}
 use Rattle.velo_program.specs.Writing.{BreaksOff, Delivers, Writes, WritesNothing, Writing}
 
 -- ---- what can be told
@@ -141,34 +142,54 @@ Puts store target stdout saved printed (Err fate.WriteFailed) =
     ⊎ (Saves store target saved × BreaksOff stdout printed)
 Puts store target stdout saved printed (Err f) = ⊥
 
--- what saving the log of a replay and printing a text, the report behind it, and a text behind that
--- came to
+-- printing comes to this: the log was not saved, and nothing was printed; or it was, and then the
+-- names were saved at their path
+abbrev pub PutsBy : {X : Type 0} → Option (List ℕ) → Option (Bor (List ℕ)) → Store
+    → Option (Bor (List ℕ)) → List ℕ → Writing → List ℕ → Result X Fate → Type 0
+PutsBy (Some log) (Some path) store target names stdout printed result =
+    (IsUnsaved store target log result × WritesNothing stdout)
+    ⊎ ((between : store.State) × Saves (up_to store between) target (Some log)
+    × Puts (store_behind store between) (Some path) stdout (Some names) printed result)
+PutsBy saved path store target names stdout printed result =
+    Puts store target stdout saved printed result
+
+-- what saving the log of a replay, and the names, and printing a text, the report behind it, and a
+-- text behind that came to
 abbrev pub TellsReplay : {X : Type 0} → List ℕ → Names → Bool → WorldState → List ℕ
-    → Store → Option (Bor (List ℕ)) → Writing → Result X Fate → Type 0
-TellsReplay text names certificate w behind store target stdout result =
+    → Store → Saving → Writing → Result X Fate → Type 0
+TellsReplay text names certificate w behind store saving stdout result =
     (report : List ℕ) × IsOutputOf names certificate w report
-    × Puts store target stdout (Some (text_of_log w)) (text ++ report ++ behind) result
+    × PutsBy (Some (text_of_log w)) saving.names_target store saving.target saving.names.now stdout
+    (text ++ report ++ behind) result
 
 -- a growth was refused, and nothing was written
 abbrev pub Lacks : {X : Type 0} → Store → Writing → Result X Fate → Type 0
 Lacks store stdout (Err fate.Memory) = GrowthRefused × store.is_kept × WritesNothing stdout
 Lacks store stdout result = ⊥
 
-abbrev pub ReportsOrLacks : {X : Type 0} → Program → List ℕ → Bool → WorldState → List ℕ
-    → Store → Option (Bor (List ℕ)) → Writing → Result X Fate → Type 0
-ReportsOrLacks program text certificate w behind store target stdout result =
+abbrev pub TellsOrLacks : {X : Type 0} → List ℕ → Names → Bool → WorldState → List ℕ
+    → Store → Saving → Writing → Result X Fate → Type 0
+TellsOrLacks text names certificate w behind store saving stdout result =
+    TellsReplay text names certificate w behind store saving stdout result ⊎ Lacks store stdout result
+
+-- by the program's names, at the paths that were asked for
+abbrev pub ReportsOrLacks : {X : Type 0} → Program → List ℕ → ExploreOptions → WorldState → List ℕ
+    → Store → Writing → Result X Fate → Type 0
+ReportsOrLacks program text options w behind store stdout result =
     ((names : Names) × AreNamesOf program names
-    × TellsReplay text names certificate w behind store target stdout result)
+    × ((report : List ℕ) × IsOutputOf names options.certificate w report
+    × PutsBy (Some (text_of_log w)) options.names_target store options.target
+    (text_of_names program) stdout (text ++ report ++ behind) result))
     ⊎ Lacks store stdout result
 
 -- what telling a text and the replay, if there is one, came to
-abbrev pub TellsRun : {X : Type 0} → Program → Found → List ℕ → Bool → Option (WorldState × Ending)
-    → Store → Option (Bor (List ℕ)) → Writing → Result X Fate → Type 0
-TellsRun program found text certificate None store target stdout result =
-    Puts store target stdout None text result
-TellsRun program found text certificate (Some run) store target stdout result =
-    ReportsOrLacks program text certificate run.0
-    (waits_behind found.alarm found.stuck program run.0.log) store target stdout result
+abbrev pub TellsRun : {X : Type 0} → Program → Found → List ℕ → ExploreOptions → Option (WorldState × Ending)
+    → Store → Writing → Result X Fate → Type 0
+TellsRun program found text options None store stdout result =
+    Puts store options.target stdout None text result
+TellsRun program found text options (Some run) store stdout result =
+    ReportsOrLacks program text options run.0
+    (waits_behind found.alarm found.stuck program run.0.log) store stdout result
 
 -- what telling came to, as a fate
 abbrev pub fate_behind : {X : Type 0} → Fate → Result X Fate → Fate
@@ -181,15 +202,15 @@ abbrev pub TellsFindings : ExploreOptions → Program → Told → Option (World
 TellsFindings options program told run store stdout f =
     (GrowthRefused × (f ≡ fate.Memory) × store.is_kept × WritesNothing stdout)
     ⊎ ((out : Result ⊤ Fate)
-    × TellsRun program told.found (told_text program told) options.certificate run
-    store options.target stdout out
+    × TellsRun program told.found (told_text program told) options run store stdout out
     × (f ≡ fate_behind (fate_of_told told) out))
 
 -- what exploring a workload came to
 abbrev pub Explores : ExploreOptions → Program → Store → Writing → Fate → Type 0
 Explores options program store stdout f =
     (answer : Answer) × (IsExplored options program answer ⊎ LacksMemory answer)
-    × IsDelivered store options.target stdout answer f
+    × IsDeliveredInTurn store options.target options.names_target (text_of_names program) stdout
+    answer f
 
 -- ---- what it comes to, finding by finding
 

@@ -1,11 +1,13 @@
 -- What a run of a workload has to say, by the bytes of its text and by the definitions.
-use Rattle.std.specs.Prelude.{◌≡◌, ◌⊎◌, ◌≤◌, ◌<◌, ⊤, ℕ, Bool, true, false, List, length, map, string_bytes, Option, Some, IfSome, Ok, Err}
+use Rattle.std.specs.Prelude.{◌≡◌, ◌⊎◌, ◌≤◌, ◌<◌, ◌+◌, ⊤, ℕ, Bool, true, false, List, length, map, string_bytes, Option, Some, IfSome, Ok, Err}
 use Rattle.std.specs.Str.{IsUtf8}
 use Rattle.velo_events.specs.declared.config.Config.{Config}
 use Rattle.velo_events.specs.declared.event.ThreadId.{ThreadId}
 use Rattle.velo_events.specs.declared.refusal.Refusal.TheVariants as refusal
 use Rattle.velo_events.specs.Refusals.{GrowthRefused}
 use Rattle.velo_logtext.specs.Text.{log_text}
+use Rattle.velo_names.specs.declared.limits.TheConstants.{MOST_NAME_LINES, MOST_NAMES_BYTES}
+use Rattle.velo_names.specs.Names.{NameLists, by_place, names_text}
 use Rattle.velo_report.specs.declared.names.Names.{Names}
 use Rattle.velo_report.specs.declared.names.Names.TheVariants.{Listed, Numbers, Words}
 use Rattle.velo_worker.specs.declared.ending.Ending.{Ending}
@@ -112,6 +114,26 @@ AreNamesOf program (Words threads labels) =
     (map string_bytes threads.now ≡ program.thread_names)
     × (map string_bytes labels.now ≡ program.label_names)
 
+-- the names of its threads, variables, locks and labels, each by its number
+abbrev pub listed : Program → NameLists
+listed program =
+    record {
+      threads = by_place program.thread_names;
+      variables = by_place program.variable_names;
+      locks = by_place program.lock_names;
+      labels = by_place program.label_names;
+    }
+
+-- the file of names that says them
+abbrev pub text_of_names : Program → List ℕ
+text_of_names program = names_text (listed program)
+
+-- it is no longer than a file of names may be
+pub record FitsNames (program : Program) : Type 0 where
+  pub few_lines : length program.thread_names + (length program.variable_names
+      + (length program.lock_names + length program.label_names)) ≤ MOST_NAME_LINES
+  pub few_bytes : length (text_of_names program) ≤ MOST_NAMES_BYTES
+
 -- the text of the world's log
 abbrev pub text_of_log : WorldState → List ℕ
 text_of_log w = log_text w.config.bounds w.log
@@ -168,9 +190,10 @@ abbrev pub IsRunAnswer : Play → RunOptions → Program → Answer → Type 0
 IsRunAnswer play options program answer =
     IsPlayed play options program answer ⊎ (LosesSeat play answer ⊎ LacksMemory answer)
 
--- What a run of the workload that was read has to say; or nothing, for the reason that there is
--- none.
-abbrev pub IsPlayAnswer : Play → RunOptions → Option (List ℕ) → Answer → Type 0
-IsPlayAnswer play options read answer =
-    ((program : Program) × IsTextOf read program × IsRunAnswer play options program answer)
+-- What a run of the workload that was read has to say, and the text of its names; or nothing, for the
+-- reason that there is none.
+abbrev pub IsPlayAnswer : Play → RunOptions → Option (List ℕ) → Answer → List ℕ → Type 0
+IsPlayAnswer play options read answer names =
+    ((program : Program) × IsTextOf read program × (names ≡ text_of_names program)
+    × IsRunAnswer play options program answer)
     ⊎ ((f : Fate) × IsUnread read f × (answer ≡ silent f))

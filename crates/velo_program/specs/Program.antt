@@ -18,7 +18,7 @@ use Rattle.velo_program.specs.declared.request.CheckOptions.{CheckOptions}
 use Rattle.velo_program.specs.declared.request.ExplainOptions.{ExplainOptions}
 use Rattle.velo_program.specs.declared.request.ExploreOptions.{ExploreOptions}
 use Rattle.velo_program.specs.declared.request.Operand.{Operand}
-use Rattle.velo_program.specs.declared.request.Operand.TheVariants.{File, Log}
+use Rattle.velo_program.specs.declared.request.Operand.TheVariants.{Log}
 use Rattle.velo_program.specs.declared.request.ReplayOptions.{ReplayOptions}
 use Rattle.velo_program.specs.declared.request.Request.{Request}
 use Rattle.velo_program.specs.declared.request.Request.TheVariants.{Audit, Carry, Check, Explain, Explore, Replay, Run, Watch}
@@ -28,8 +28,8 @@ use Rattle.velo_turns.specs.declared.schedule.ScheduleFault.{ScheduleFault}
 use Rattle.velo_program.specs.Auditing.{IsAuditAnswer}
 use Rattle.velo_program.specs.Carrying.{IsCarryAnswer, IsPut}
 use Rattle.velo_program.specs.Check.{IsCheckAnswer}
-use Rattle.velo_program.specs.Delivery.{Answer, IsDelivered}
-use Rattle.velo_program.specs.Disk.{IsBarred, IsWritten, Store}
+use Rattle.velo_program.specs.Delivery.{Answer, IsDelivered, IsDeliveredInTurn}
+use Rattle.velo_program.specs.Disk.{IsBarred, IsBarredRun, IsWritten, Store}
 use Rattle.velo_program.specs.Explaining.{IsExplanation}
 use Rattle.velo_program.specs.Exploring.{IsExploreAnswer}
 use Rattle.velo_program.specs.Ignoring.{AsksInVain, IsAsked}
@@ -52,6 +52,13 @@ WritesNowhere store stdout = store.is_kept × WritesNothing stdout
 abbrev pub DoesNotRead : Store → Operand → List ℕ → Option (Bor (List ℕ)) → Writing → Fate → Type 0
 DoesNotRead store operand input target stdout f =
     IsBarred store.disk operand input target f × WritesNowhere store stdout
+
+-- the workload does not open, or two of the files are one; no file was opened to be written, nothing
+-- was printed
+abbrev pub DoesNotPlay : Store → List ℕ → Option (Bor (List ℕ)) → Option (Bor (List ℕ)) → Writing
+    → Fate → Type 0
+DoesNotPlay store input target names stdout f =
+    IsBarredRun store.disk input target names f × WritesNowhere store stdout
 
 -- the file of names at the path is not read, or says none; no file was opened to be written, nothing
 -- was printed
@@ -117,18 +124,19 @@ DoesCarry options store stdout f =
     × IsCarryAnswer read.bytes answer
     × IsWritten store options.target.now file × IsPut file answer f × WritesNothing stdout)
 
--- ---- velodrome run FILE [--stop] [--log OUT] [--events N] [--nodes N] [--certificate]
+-- ---- velodrome run FILE [--stop] [--log OUT] [--names-out NAMES] [--events N] [--nodes N]
+-- ---- [--certificate]
 
--- FILE is read whole, and its threads are played. The log of the run is saved at OUT, and then the
--- report goes to standard output, and the certificate behind it; or nothing, for a reason
--- (`Playing`).
+-- FILE is read whole, and its threads are played. The log of the run is saved at OUT, then the names
+-- of the workload at NAMES, and then the report goes to standard output, and the certificate behind
+-- it; or nothing, for a reason (`Playing`).
 abbrev pub DoesPlay : Play → RunOptions → Store → Writing → Fate → Type 0
 DoesPlay play options store stdout f =
-    DoesNotRead store File options.input.now options.target stdout f
-    ⊎ ((read : Reading) × (answer : Answer)
+    DoesNotPlay store options.input.now options.target options.names_target stdout f
+    ⊎ ((read : Reading) × (answer : Answer) × (names : List ℕ)
     × store.disk.gives options.input.now read × FailuresAsTold read f
-    × IsPlayAnswer play options read.bytes answer
-    × IsDelivered store options.target stdout answer f)
+    × IsPlayAnswer play options read.bytes answer names
+    × IsDeliveredInTurn store options.target options.names_target names stdout answer f)
 
 abbrev pub DoesRun : RunOptions → Store → Writing → Fate → Type 0
 DoesRun options store stdout f = DoesPlay ByThreads options store stdout f
@@ -144,21 +152,21 @@ DoesReplay options store stdout f =
     ⊎ ((schedule : List ThreadId) × IsSchedule options.schedule.now schedule
     × DoesPlay (ByTurns schedule) options.run store stdout f)
 
--- ---- velodrome explore FILE [--states N] [--first] [--random N] [--seed S] [--log OUT] [--events N]
--- [--nodes N] [--certificate]
+-- ---- velodrome explore FILE [--states N] [--first] [--random N] [--seed S] [--log OUT]
+-- ---- [--names-out NAMES] [--events N] [--nodes N] [--certificate]
 
 -- FILE is read whole, and all its schedules are tried; or with --random so many that are drawn by
 -- chance (`ByChance`). Where one of them was found to have an alarm, a deadlock or a refusal, the log
--- of its replay is saved at OUT. What was found and who is to blame goes to standard output, and then
--- the report of this replay, and its certificate, and behind that of a deadlock who waits for what;
--- or nothing, for a reason (`Exploring`).
+-- of its replay is saved at OUT, and then the names of the workload at NAMES. What was found and who
+-- is to blame goes to standard output, and then the report of this replay, and its certificate, and
+-- behind that of a deadlock who waits for what; or nothing, for a reason (`Exploring`).
 abbrev pub DoesExplore : ExploreOptions → Store → Writing → Fate → Type 0
 DoesExplore options store stdout f =
-    DoesNotRead store File options.input.now options.target stdout f
-    ⊎ ((read : Reading) × (answer : Answer)
+    DoesNotPlay store options.input.now options.target options.names_target stdout f
+    ⊎ ((read : Reading) × (answer : Answer) × (names : List ℕ)
     × store.disk.gives options.input.now read × FailuresAsTold read f
-    × IsExploreAnswer options read.bytes answer
-    × IsDelivered store options.target stdout answer f)
+    × IsExploreAnswer options read.bytes answer names
+    × IsDeliveredInTurn store options.target options.names_target names stdout answer f)
 
 -- ---- velodrome watch LOG [--names FILE] [--stop] [--events N] [--nodes N] [--certificate]
 

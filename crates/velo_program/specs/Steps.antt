@@ -16,17 +16,17 @@ use Rattle.velo_program.specs.declared.check.CheckFault.{CheckFault}
 use Rattle.velo_program.specs.declared.check.CheckFault.TheVariants as check_fault
 use Rattle.velo_program.specs.declared.check.Verdict.{Verdict}
 use Rattle.velo_program.specs.declared.fate.Fate.{Fate}
-use Rattle.velo_program.specs.declared.fate.Fate.TheVariants.{CannotOpen, Memory, WriteFailed}
+use Rattle.velo_program.specs.declared.fate.Fate.TheVariants.{CannotOpen, Memory}
 use Rattle.velo_program.specs.declared.reading.ReadFault.{ReadFault}
 use Rattle.velo_program.specs.declared.reading.ReadFault.TheVariants as read_fault
-use Rattle.velo_program.specs.declared.request.Operand.TheVariants.{File}
 use Rattle.velo_program.specs.declared.request.RunOptions.{RunOptions}
+use Rattle.velo_program.specs.declared.saving.Saving.{Saving}
 use Rattle.velo_program.specs.Carrying.{Carries}
 use Rattle.velo_program.specs.Check.{IsOutputOf, IsVerdict}
-use Rattle.velo_program.specs.Delivery.{Answer, FailsToSave, IsDelivered, IsPrinted, LacksMemory, Saves, SavesPart}
-use Rattle.velo_program.specs.Disk.{Disk, IsBarred, IsWritten, Store}
+use Rattle.velo_program.specs.Delivery.{Answer, FailsSaving, IsDelivered, IsDeliveredInTurn, IsPrinted, LacksMemory, Saves}
+use Rattle.velo_program.specs.Disk.{Disk, IsBarredRun, IsWritten, Store, behind, up_to}
 use Rattle.velo_program.specs.Explaining.{ExplainsVerdict, IsExplanation}
-use Rattle.velo_program.specs.Playing.{IsReported, IsRunAnswer, IsSaidOfRun, IsTextOf, IsUnread, Play}
+use Rattle.velo_program.specs.Playing.{IsReported, IsRunAnswer, IsSaidOfRun, IsTextOf, IsUnread, Play, text_of_names}
 use Rattle.velo_program.specs.Reading.{FailuresAsTold, Reading}
 use Rattle.velo_program.specs.Writing.{BreaksOff, Writes, WritesNothing, Writing}
 
@@ -103,32 +103,50 @@ ExplainsInput names target store read stdout f =
 abbrev pub IsSaved : {X : Type 0} → Store → Option (Bor (List ℕ)) → List ℕ → Result X Fate
     → Type 0
 IsSaved store target text (Ok x) = Saves store target (Some text)
-IsSaved store target text (Err CannotOpen) = FailsToSave store target (Some text)
-IsSaved store target text (Err WriteFailed) = SavesPart store target (Some text)
-IsSaved store target text (Err f) = ⊥
+IsSaved store target text (Err f) = FailsSaving store target (Some text) f
+
+-- writing the file failed
+abbrev pub IsUnsaved : {X : Type 0} → Store → Option (Bor (List ℕ)) → List ℕ → Result X Fate
+    → Type 0
+IsUnsaved store target text (Ok x) = ⊥
+IsUnsaved store target text (Err f) = FailsSaving store target (Some text) f
+
+-- what writing a log came to, and then names at their path, if there is one
+abbrev pub IsSavedInTurn : {X : Type 0} → Store → Option (Bor (List ℕ)) → Option (Bor (List ℕ))
+    → List ℕ → List ℕ → Result X Fate → Type 0
+IsSavedInTurn store target None names log result = IsSaved store target log result
+IsSavedInTurn store target (Some path) names log result =
+    IsUnsaved store target log result
+    ⊎ ((between : store.State) × Saves (up_to store between) target (Some log)
+    × IsSaved (behind store between) (Some path) names result)
+
+-- the text is that of the names of the program, where there is a path for it
+abbrev pub AreNamesFor : Option (Bor (List ℕ)) → Program → List ℕ → Type 0
+AreNamesFor None program text = ⊤
+AreNamesFor (Some path) program text = text ≡ text_of_names program
 
 -- ---- a run
 
--- what writing a report came to, whose log was written before
-abbrev pub Reports : Names → Bool → Ending → WorldState
-    → Store → Option (Bor (List ℕ)) → Writing → Fate → Type 0
-Reports names certificate ended w store target stdout f =
+-- what writing a report came to, whose log and names were written before
+abbrev pub Reports : Names → Bool → Ending → WorldState → Store → Saving → Writing → Fate → Type 0
+Reports names certificate ended w store saving stdout f =
     (answer : Answer) × (IsReported names certificate ended w answer ⊎ LacksMemory answer)
-    × IsDelivered store target stdout answer f
+    × IsDeliveredInTurn store saving.target saving.names_target saving.names.now stdout answer f
 
 -- what telling how a run ended came to
-abbrev pub TellsEnd : Program → Bool → Ending → WorldState
-    → Store → Option (Bor (List ℕ)) → Writing → Fate → Type 0
-TellsEnd program certificate ended w store target stdout f =
+abbrev pub TellsEnd : Program → RunOptions → Ending → WorldState → Store → Writing → Fate → Type 0
+TellsEnd program options ended w store stdout f =
     (answer : Answer)
-    × (IsSaidOfRun program certificate ended w answer ⊎ LacksMemory answer)
-    × IsDelivered store target stdout answer f
+    × (IsSaidOfRun program options.certificate ended w answer ⊎ LacksMemory answer)
+    × IsDeliveredInTurn store options.target options.names_target (text_of_names program) stdout
+    answer f
 
 -- what playing a workload came to
 abbrev pub Plays : Play → RunOptions → Program → Store → Writing → Fate → Type 0
 Plays play options program store stdout f =
     (answer : Answer) × IsRunAnswer play options program answer
-    × IsDelivered store options.target stdout answer f
+    × IsDeliveredInTurn store options.target options.names_target (text_of_names program) stdout
+    answer f
 
 -- ---- carrying over
 
@@ -157,4 +175,5 @@ pub record IsNoWorkload (disk : Disk) (path : List ℕ) (fate : Fate) : Type 0 w
 
 abbrev pub OpensNoProgram : Disk → RunOptions → Fate → Type 0
 OpensNoProgram disk options f =
-    IsNoWorkload disk options.input.now f ⊎ IsBarred disk File options.input.now options.target f
+    IsNoWorkload disk options.input.now f
+    ⊎ IsBarredRun disk options.input.now options.target options.names_target f

@@ -32,7 +32,7 @@ use velo_world::Closed;
 ///
 /// # Errors
 /// `CannotOpen` where no file opens there; `WriteFailed` where it failed, behind a beginning.
-fn save<F: Files>(text: &[u8], path: &str, files: &mut F) -> Result<(), Fate>
+pub fn save<F: Files>(text: &[u8], path: &str, files: &mut F) -> Result<(), Fate>
     ensures { IsSaved (store F.disk files.old files.new) (Some path.entry) text.now result }
 {
     let Some(mut file) = files.create(path) else {

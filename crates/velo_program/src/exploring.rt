@@ -4,10 +4,10 @@ ghost use Rattle.velo_events.specs.Refusals.{GrowthRefused};
 ghost use Rattle.velo_program.specs.Check.{IsOrderOrCycle};
 ghost use Rattle.velo_program.specs.Disk.{store};
 ghost use Rattle.velo_program.specs.Exploring.{IsToldOf, fate_of_found, run_of, waits_behind};
-ghost use Rattle.velo_program.specs.Findings.{Explores, ReportsOrLacks, TellsFindings, TellsReplay, TellsRun, WritesBehind, WritesReport, fate_of_refusal, fate_without_alarm};
+ghost use Rattle.velo_program.specs.Findings.{Explores, ReportsOrLacks, TellsFindings, TellsOrLacks, TellsReplay, TellsRun, WritesBehind, WritesReport, fate_of_refusal, fate_without_alarm};
 ghost use Rattle.velo_program.specs.Playing.{IsConfigOf};
 ghost use Rattle.velo_program.specs.Program.{DoesExplore};
-ghost use Rattle.velo_program.specs.Steps.{HasAlarm};
+ghost use Rattle.velo_program.specs.Steps.{AreNamesFor, HasAlarm};
 ghost use Rattle.velo_program.specs.Writing.{writing};
 
 use crate::check::{order_or_cycle_of, write_output};
@@ -16,8 +16,9 @@ use crate::fate::Fate;
 use crate::files::Files;
 use crate::findings::{first_replay, told_of};
 use crate::request::{ExploreOptions, RunOptions};
+use crate::saving::{Saving, names_for, save_run};
 use crate::told::{Found, Told};
-use crate::work::{config_of_run, open_workload, save_log};
+use crate::work::{config_of_run, open_workload};
 use std::alloc::Global;
 use velo_events::{Config, Memory};
 use velo_logtext::{Sink, WriteFault, write_all};
@@ -128,25 +129,25 @@ fn write_behind<O: Sink>(
     }
 }
 
-/// Saves the log of a replay at the target, if there is one, then writes the text, behind it the report, and then the other
-/// text.
+/// Saves the log of a replay and the names, where there are paths for them, then writes the text, behind it the report, and then
+/// the other text.
 fn report_by<F: Files, O: Sink>(
     closed: &Closed,
     names: &Names,
     list: Option<&[usize]>,
     text: &[u8],
     behind: &[u8],
-    target: Option<&str>,
+    saving: &Saving,
     files: &mut F,
     out: &mut O,
 ) -> Result<(), Fate>
     requires list { IfSome list (λ list. IsOrderOrCycle closed.now.log list.now) }
     requires alarm { HasAlarm closed.now.log }
     ensures { TellsReplay text.now names.now (is_some list.entry) closed.now behind.now
-        (store F.disk files.old files.new) target.entry
+        (store F.disk files.old files.new) saving.now
         (writing O.contents O.failures out.old out.new) result }
 {
-    match save_log(closed, target, files) {
+    match save_run(closed, saving, files) {
         Ok(()) => {}
         Err(fate) => return Err(fate),
     }
@@ -156,8 +157,77 @@ fn report_by<F: Files, O: Sink>(
     }
 }
 
-/// Saves the log of a replay at the target, if there is one, then writes the text, and behind it the report, the certificate,
-/// if that was asked for, and the other text. The certificate is made before anything is opened.
+/// Saves the log of a replay and the names, where there are paths for them, then writes the text, and behind it the report, the
+/// certificate, if that was asked for, and the other text. The certificate is made before anything is opened.
+fn report_with<F: Files, O: Sink>(
+    alloc: Global,
+    closed: &Closed,
+    names: &Names,
+    text: &[u8],
+    behind: &[u8],
+    certificate: bool,
+    saving: &Saving,
+    files: &mut F,
+    out: &mut O,
+) -> Result<(), Fate>
+    requires { HasAlarm closed.now.log }
+    ensures { TellsOrLacks text.now names.now certificate closed.now behind.now
+        (store F.disk files.old files.new) saving.now
+        (writing O.contents O.failures out.old out.new) result }
+{
+    if !certificate {
+        return report_by(closed, names, None, text, behind, saving, files, out);
+    }
+    match order_or_cycle_of(alloc, closed) {
+        Ok(list) => {
+            let list = Some(list.as_slice());
+            report_by(closed, names, list, text, behind, saving, files, out)
+        }
+        Err(Memory) => Err(Fate::Memory),
+    }
+}
+
+/// Tells a text and a replay, by the names of the workload, of which this is the text, where it is to be saved.
+fn show_replay<F: Files, O: Sink>(
+    alloc: Global,
+    workload: &Workload,
+    closed: &Closed,
+    listed: &[u8],
+    text: &[u8],
+    behind: &[u8],
+    options: &ExploreOptions,
+    files: &mut F,
+    out: &mut O,
+) -> Result<(), Fate>
+    requires alarm { HasAlarm closed.now.log }
+    requires names { AreNamesFor options.now.names_target workload.now listed.now }
+    ensures { ReportsOrLacks workload.now text.now options.now closed.now behind.now
+        (store F.disk files.old files.new)
+        (writing O.contents O.failures out.old out.new) result }
+{
+    let names = Names::Words {
+        threads: workload.thread_names(),
+        labels: workload.label_names(),
+    };
+    let saving = Saving {
+        target: options.target,
+        names_target: options.names_target,
+        names: listed,
+    };
+    report_with(
+        alloc,
+        closed,
+        &names,
+        text,
+        behind,
+        options.certificate,
+        &saving,
+        files,
+        out,
+    )
+}
+
+/// Tells a text and a replay. The names that are to be saved are made before anything is opened.
 fn report<F: Files, O: Sink>(
     alloc: Global,
     workload: &Workload,
@@ -169,39 +239,15 @@ fn report<F: Files, O: Sink>(
     out: &mut O,
 ) -> Result<(), Fate>
     requires { HasAlarm closed.now.log }
-    ensures { ReportsOrLacks workload.now text.now options.now.certificate closed.now behind.now
-        (store F.disk files.old files.new) options.now.target
+    ensures { ReportsOrLacks workload.now text.now options.now closed.now behind.now
+        (store F.disk files.old files.new)
         (writing O.contents O.failures out.old out.new) result }
 {
-    let names = Names::Words {
-        threads: workload.thread_names(),
-        labels: workload.label_names(),
-    };
-    if !options.certificate {
-        return report_by(
-            closed,
-            &names,
-            None,
-            text,
-            behind,
-            options.target,
-            files,
-            out,
-        );
-    }
-    match order_or_cycle_of(alloc, closed) {
-        Ok(list) => {
-            let list = Some(list.as_slice());
-            report_by(
-                closed,
-                &names,
-                list,
-                text,
-                behind,
-                options.target,
-                files,
-                out,
-            )
+    match names_for(alloc, workload, options.names_target) {
+        Ok(listed) => {
+            let told = show_replay(alloc, workload, closed, &listed, text, behind, options, files, out);
+            drop(listed);
+            told
         }
         Err(Memory) => Err(Fate::Memory),
     }
@@ -241,8 +287,8 @@ fn tell<F: Files, O: Sink>(
 ) -> Result<(), Fate>
     requires bounds { IfSome run.now (λ run. run.0.config.bounds ≡ workload.now.bounds) }
     requires alarm { IfSome run.now (λ run. HasAlarm run.0.log) }
-    ensures { TellsRun workload.now found.now text.now options.now.certificate run.now
-        (store F.disk files.old files.new) options.now.target
+    ensures { TellsRun workload.now found.now text.now options.now run.now
+        (store F.disk files.old files.new)
         (writing O.contents O.failures out.old out.new) result }
 {
     match run {

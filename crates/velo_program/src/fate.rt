@@ -40,6 +40,10 @@ pub enum Fate {
     CannotOpen,
     /// The file that was to be written is the one that the operand names. It is untouched.
     OneFile(Operand),
+    /// The file that the names were to be written to is the workload. It is untouched.
+    NamesAtInput,
+    /// The file that the names were to be written to is the one of the log. It is untouched.
+    NamesAtTarget,
     /// A file could not be read.
     ReadFailed,
     /// A file, a report or help could not be written.
@@ -147,7 +151,7 @@ fn status_of(fate: Fate) -> u8
         Fate::List(fault) => status_of_list(fault),
         Fate::Check(fault) => status_of_check(fault),
         Fate::Ignored(_) => BAD_INPUT,
-        Fate::OneFile(_) => BAD_INPUT,
+        Fate::OneFile(_) | Fate::NamesAtInput | Fate::NamesAtTarget => BAD_INPUT,
         Fate::Open => INCOMPLETE,
         Fate::CannotOpen | Fate::ReadFailed | Fate::WriteFailed | Fate::Memory | Fate::Lost => {
             FAILED
@@ -354,6 +358,8 @@ fn put_line(buffer: &mut [u8], fate: Fate) -> usize
         Fate::Check(fault) => put_check_fault(buffer, fault),
         Fate::CannotOpen => put_bytes(buffer, 0, b"cannot open\n"),
         Fate::OneFile(operand) => put_one_file(buffer, operand),
+        Fate::NamesAtInput => put_bytes(buffer, 0, b"error: FILE and NAMES are one file\n"),
+        Fate::NamesAtTarget => put_bytes(buffer, 0, b"error: OUT and NAMES are one file\n"),
         Fate::ReadFailed => put_bytes(buffer, 0, b"read failed\n"),
         Fate::Lost => put_bytes(buffer, 0, b"seat lost\n"),
         Fate::WriteFailed => put_bytes(buffer, 0, b"write failed\n"),

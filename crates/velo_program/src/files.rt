@@ -1,6 +1,6 @@
 //! Files of the program.
 ghost use Rattle.std.specs.Prelude.{◌≡◌, ◌≢◌, ◌↔◌, codes, IfErr, IfOk, IfSome, IsNone, IsTrue};
-ghost use Rattle.velo_program.specs.Disk.{Disk, IsBarred, IsOpened, untold};
+ghost use Rattle.velo_program.specs.Disk.{AreOneTarget, Disk, IsBarred, IsBarredRun, IsOpened, untold};
 
 use crate::fate::Fate;
 use crate::request::Operand;
@@ -30,8 +30,8 @@ pub trait Files {
         ensures { IsOpened (disk self.now) (codes "-")
             Self.StandardInput.remaining Self.StandardInput.failures result };
 
-    /// Whether the file that opened at a path to be read is the file at another one, which is to be emptied: where this is
-    /// not known, it is another file.
+    /// Whether the file at a path is the file at another one, which is to be emptied: where this is not known, it is another
+    /// file.
     fn are_one(&self, input: &str, target: &str) -> bool
         ensures { IsTrue result → (disk self.now).one input.now target.now }
     {
@@ -78,6 +78,42 @@ pub fn open_input<F: Files>(
     };
     match target {
         Some(target) if files.are_one(input, target) => Err(Fate::OneFile(operand)),
+        _ => Ok(file),
+    }
+}
+
+/// Whether the two files that are to be written are one, if there are two.
+pub fn are_one_target<F: Files>(files: &F, target: Option<&str>, names: Option<&str>) -> bool
+    ensures { IsTrue result → AreOneTarget (F.disk files.now) target.entry names.entry }
+{
+    match (target, names) {
+        (Some(target), Some(names)) => files.are_one(target, names),
+        _ => false,
+    }
+}
+
+/// Opens the file of a workload. It may be neither the target of its log nor that of its names, if there are such.
+///
+/// # Errors
+/// `CannotOpen` where it does not open; else `OneFile` where it is the target, and else `NamesAtInput`.
+pub fn open_to_run<F: Files>(
+    files: &F,
+    input: &str,
+    target: Option<&str>,
+    names: Option<&str>,
+) -> Result<F::Input, Fate>
+    requires { input.now ≢ codes "-" }
+    ensures given { IfOk result (IsOpened (F.disk files.now) input.now
+        F.Input.remaining F.Input.failures) }
+    ensures barred { IfErr result (IsBarredRun (F.disk files.now) input.now target.entry
+        names.entry) }
+{
+    let file = match open_input(files, Operand::File, input, target) {
+        Ok(file) => file,
+        Err(fate) => return Err(fate),
+    };
+    match names {
+        Some(names) if files.are_one(input, names) => Err(Fate::NamesAtInput),
         _ => Ok(file),
     }
 }

@@ -13,12 +13,14 @@ mod fate;
 mod files;
 mod findings;
 mod ignoring;
+mod laws;
 mod listing;
 mod naming;
 mod reading;
 mod replaying;
 mod request;
 mod running;
+mod saving;
 pub mod status;
 mod told;
 mod watching;
@@ -32,6 +34,7 @@ pub use check::{
 pub use doing::do_request;
 pub use fate::{Fate, end_line, end_with};
 pub use files::Files;
+pub use laws::names_read_back;
 pub use request::{
     AuditOptions, CarryOptions, CheckOptions, ExplainOptions, ExploreOptions, Ignorable, Limits,
     MOST_RUNS, MOST_STATES, Operand, RandomRuns, ReplayOptions, Request, RunOptions, WatchOptions,

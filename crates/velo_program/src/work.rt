@@ -1,17 +1,18 @@
 //! Workloads that run: where they are read, and what their runs show.
-ghost use Rattle.std.specs.Prelude.{◌≡◌, Some, IfOk, IfErr, IfSome, OnOk, is_some};
+ghost use Rattle.std.specs.Prelude.{◌≡◌, false, Some, IfOk, IfErr, IfSome, OnOk, is_some};
 ghost use Rattle.velo_program.specs.Check.{IsOrderOrCycle};
 ghost use Rattle.velo_program.specs.Reading.{failures_told};
 ghost use Rattle.velo_program.specs.Playing.{IsConfigOf, IsFaultOfWork, IsTextOf, IsUnread, is_unreported, text_of_log};
 ghost use Rattle.velo_program.specs.Disk.{store};
 ghost use Rattle.velo_program.specs.Writing.{writing};
-ghost use Rattle.velo_program.specs.Steps.{IsSaved, OpensNoProgram, OpensProgram, Reports, TellsEnd};
+ghost use Rattle.velo_program.specs.Steps.{AreNamesFor, IsSaved, OpensNoProgram, OpensProgram, Reports, TellsEnd};
 
 use crate::check::{is_alarm, order_or_cycle_of, verdict_of, write_output};
 use crate::fate::Fate;
-use crate::files::{Files, is_standard_input, open_input};
+use crate::files::{Files, are_one_target, is_standard_input, open_to_run};
 use crate::reading::{ReadFault, read_whole};
-use crate::request::{Operand, RunOptions};
+use crate::request::RunOptions;
+use crate::saving::{Saving, names_for, save_run};
 use std::alloc::Global;
 use velo_events::{Config, Memory, Refusal};
 use velo_logtext::{Sink, Source, WriteFault, write_log};
@@ -62,10 +63,13 @@ pub fn open_workload<F: Files>(
     ensures some { IfOk result (OpensProgram (F.disk files.now) options.now.input.now) }
     ensures none { IfErr result (OpensNoProgram (F.disk files.now) options.now) }
 {
+    if are_one_target(files, options.target, options.names_target) {
+        return Err(Fate::NamesAtTarget);
+    }
     if is_standard_input(options.input) {
         return read_workload(alloc, &mut files.standard_input());
     }
-    match open_input(files, Operand::File, options.input, options.target) {
+    match open_to_run(files, options.input, options.target, options.names_target) {
         Ok(mut file) => read_workload(alloc, &mut file),
         Err(fate) => Err(fate),
     }
@@ -117,24 +121,24 @@ pub fn save_log<F: Files>(closed: &Closed, target: Option<&str>, files: &mut F) 
     }
 }
 
-/// Saves the log of a run at the target, if there is one, then writes the report, and then the certificate, if there is an
-/// order or a cycle.
+/// Saves the log of a run and the names, where there are paths for them, then writes the report, and then the certificate, if
+/// there is an order or a cycle.
 fn report_by<F: Files, O: Sink>(
     closed: &Closed,
     ending: Ending,
     names: &Names,
     list: Option<&[usize]>,
-    target: Option<&str>,
+    saving: &Saving,
     files: &mut F,
     out: &mut O,
 ) -> Fate
     requires { IfSome list (λ list. IsOrderOrCycle closed.now.log list.now) }
     ensures { Reports names.now (is_some list.entry) ending closed.now
-        (store F.disk files.old files.new) target.entry
+        (store F.disk files.old files.new) saving.now
         (writing O.contents O.failures out.old out.new) result }
 {
     let verdict = verdict_of(closed);
-    match save_log(closed, target, files) {
+    match save_run(closed, saving, files) {
         Ok(()) => {}
         Err(fate) => return fate,
     }
@@ -147,35 +151,29 @@ fn report_by<F: Files, O: Sink>(
     }
 }
 
-/// Writes what a run shows: its log at the target, if there is one, then the report, then the certificate, if that was asked
-/// for. The certificate is made before anything is opened.
+/// Writes what a run shows: its log and the names, where there are paths for them, then the report, then the certificate, if
+/// that was asked for. The certificate is made before anything is opened.
 fn tell<F: Files, O: Sink>(
     alloc: Global,
     closed: &Closed,
     ending: Ending,
     names: &Names,
-    options: &RunOptions,
+    certificate: bool,
+    saving: &Saving,
     files: &mut F,
     out: &mut O,
 ) -> Fate
-    ensures { Reports names.now options.now.certificate ending closed.now
-        (store F.disk files.old files.new) options.now.target
+    ensures { Reports names.now certificate ending closed.now
+        (store F.disk files.old files.new) saving.now
         (writing O.contents O.failures out.old out.new) result }
 {
-    if !options.certificate {
-        return report_by(closed, ending, names, None, options.target, files, out);
+    if !certificate {
+        return report_by(closed, ending, names, None, saving, files, out);
     }
     match order_or_cycle_of(alloc, closed) {
         Ok(list) => {
-            let fate = report_by(
-                closed,
-                ending,
-                names,
-                Some(list.as_slice()),
-                options.target,
-                files,
-                out,
-            );
+            let some = Some(list.as_slice());
+            let fate = report_by(closed, ending, names, some, saving, files, out);
             drop(list);
             fate
         }
@@ -192,8 +190,8 @@ pub fn finish_run<F: Files, O: Sink>(
     files: &mut F,
     out: &mut O,
 ) -> Fate
-    ensures { TellsEnd workload.now options.now.certificate ended.1 ended.0
-        (store F.disk files.old files.new) options.now.target
+    ensures { TellsEnd workload.now options.now ended.1 ended.0
+        (store F.disk files.old files.new)
         (writing O.contents O.failures out.old out.new) result }
 {
     let (closed, ending) = ended;
@@ -202,7 +200,8 @@ pub fn finish_run<F: Files, O: Sink>(
     fate
 }
 
-/// Writes what a run of a workload shows, by its names. A run in which a growth was refused has no report.
+/// Writes what a run of a workload shows, by its names. A run in which a growth was refused has no report. The names to be
+/// saved are made before anything is opened.
 fn show_run<F: Files, O: Sink>(
     alloc: Global,
     workload: &Workload,
@@ -212,8 +211,8 @@ fn show_run<F: Files, O: Sink>(
     files: &mut F,
     out: &mut O,
 ) -> Fate
-    ensures { TellsEnd workload.now options.now.certificate ending closed.now
-        (store F.disk files.old files.new) options.now.target
+    ensures { TellsEnd workload.now options.now ending closed.now
+        (store F.disk files.old files.new)
         (writing O.contents O.failures out.old out.new) result }
 {
     if is_unreported(ending) {
@@ -222,9 +221,50 @@ fn show_run<F: Files, O: Sink>(
             alarm: false,
         };
     }
+    match names_for(alloc, workload, options.names_target) {
+        Ok(text) => {
+            let fate = show_with(alloc, workload, closed, ending, &text, options, files, out);
+            drop(text);
+            fate
+        }
+        Err(Memory) => Fate::Memory,
+    }
+}
+
+/// Writes what a run of a workload shows, by its names, of which this is the text, where it is to be saved.
+fn show_with<F: Files, O: Sink>(
+    alloc: Global,
+    workload: &Workload,
+    closed: &Closed,
+    ending: Ending,
+    text: &[u8],
+    options: &RunOptions,
+    files: &mut F,
+    out: &mut O,
+) -> Fate
+    requires reported { is_unreported ending ≡ false }
+    requires names { AreNamesFor options.now.names_target workload.now text.now }
+    ensures { TellsEnd workload.now options.now ending closed.now
+        (store F.disk files.old files.new)
+        (writing O.contents O.failures out.old out.new) result }
+{
     let names = Names::Words {
         threads: workload.thread_names(),
         labels: workload.label_names(),
     };
-    tell(alloc, closed, ending, &names, options, files, out)
+    let saving = Saving {
+        target: options.target,
+        names_target: options.names_target,
+        names: text,
+    };
+    tell(
+        alloc,
+        closed,
+        ending,
+        &names,
+        options.certificate,
+        &saving,
+        files,
+        out,
+    )
 }

@@ -9,6 +9,7 @@ mod explored;
 mod growths;
 mod hostile;
 mod logs;
+mod named;
 mod precedence;
 mod reports;
 mod slow;

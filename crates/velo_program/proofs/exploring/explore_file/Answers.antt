@@ -1,7 +1,8 @@
-use Rattle.std.proofs.Common.{◌∙◌, inl, inr, refl, subst, sym, ⊎_elim}
+use Rattle.std.proofs.Common.{◌∙◌, [], inl, inr, refl, subst, sym, ⊎_elim}
 use Rattle.velo_program.specs.declared.request.RunOptions.{RunOptions}
 use Rattle.velo_program.specs.Delivery.{silent}
 use Rattle.velo_program.specs.Disk.{store}
+use Rattle.velo_program.specs.Playing.{text_of_names}
 use Rattle.velo_program.specs.Steps.{OpensNoProgram, OpensProgram}
 use Rattle.velo_program.specs.Writing.{writing}
 use Rattle.velo_program.proofs.OnFindings.{explores_reads}
@@ -18,9 +19,10 @@ returns-in-Ok g c =
     inr (
       from.read,
       told.0,
+      text_of_names c.in-Ok.workload,
       from.given,
-      from.no_failure ∙ sym (explores_reads files options.target stdout options c.in-Ok.workload told.0 _ told.1 c.explore_workload-fate.result told.2),
-      inl (c.in-Ok.workload, from.is_text, told.1),
+      from.no_failure ∙ sym (explores_reads files (text_of_names c.in-Ok.workload) stdout options c.in-Ok.workload told.0 _ told.1 c.explore_workload-fate.result told.2),
+      inl (c.in-Ok.workload, from.is_text, refl, told.1),
       told.2,
     )
 
@@ -30,6 +32,7 @@ returns-in-Err g c =
     (λ none. inr (
       none.read,
       silent c.in-Err.fate,
+      [],
       none.given,
       none.failures,
       inr (c.in-Err.fate, none.unread, refl),

@@ -1,6 +1,6 @@
-use Rattle.std.proofs.Common.{◌∙◌, inl, inr, refl, sym, ⊎_elim}
+use Rattle.std.proofs.Common.{◌∙◌, [], inl, inr, refl, sym, ⊎_elim}
 use Rattle.velo_program.specs.Delivery.{silent}
-use Rattle.velo_program.specs.Playing.{ByThreads}
+use Rattle.velo_program.specs.Playing.{ByThreads, text_of_names}
 use Rattle.velo_program.specs.Disk.{store}
 use Rattle.velo_program.specs.Writing.{writing}
 use Rattle.velo_program.proofs.OnPlaying.{plays_reads, unread_put}
@@ -15,9 +15,10 @@ returns-in-Ok g c =
     inr (
       from.read,
       played.0,
+      text_of_names c.in-Ok.workload,
       from.given,
-      from.no_failure ∙ sym (plays_reads ByThreads c.args.options.now c.in-Ok.workload played.0 _ played.1 files c.args.options.now.target stdout c.run_workload-fate.result played.2),
-      inl (c.in-Ok.workload, from.is_text, played.1),
+      from.no_failure ∙ sym (plays_reads ByThreads c.args.options.now c.in-Ok.workload played.0 _ played.1 files (text_of_names c.in-Ok.workload) stdout c.run_workload-fate.result played.2),
+      inl (c.in-Ok.workload, from.is_text, refl, played.1),
       played.2,
     )
 
@@ -27,6 +28,7 @@ returns-in-Err g c =
     (λ none. inr (
       none.read,
       silent c.in-Err.fate,
+      [],
       none.given,
       none.failures,
       inr (c.in-Err.fate, none.unread, refl),

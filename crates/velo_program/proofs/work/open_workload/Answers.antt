@@ -1,4 +1,4 @@
-use Rattle.std.proofs.Common.{◌≡◌, inr, rules, subst, sym, codes}
+use Rattle.std.proofs.Common.{◌≡◌, inl, inr, refl, rules, subst, sym, codes}
 use Rattle.std.specs.Prelude.{ℕ, List}
 use Rattle.velo_program.specs.Reading.{reading}
 use Rattle.velo_program.proofs.OnPlaying.{not_opened, opened}
@@ -19,6 +19,9 @@ returns-then-is_standard_input-clause-none g c =
     let read = reading g.F.StandardInput.Source.remaining g.F.StandardInput.Source.failures c.standard_input.result c.read_workload.new.source in
     not_opened disk c.args.options.now read (subst (λ (path : List ℕ). disk.gives path read) (sym is) (c.standard_input.ensures c.read_workload.new.source))
     c.read_workload.result c.read_workload.ensures.none c.read_workload.ensures.failure
+
+pub returns-then-are_one_target-clause-none : goal.returns-then-are_one_target-clause-none
+returns-then-are_one_target-clause-none g c = inr (inr (inl (refl, c.are_one_target.ensures c.if-are_one_target.true)))
 
 pub returns-in-Ok-clause-some : goal.returns-in-Ok-clause-some
 returns-in-Ok-clause-some g c =

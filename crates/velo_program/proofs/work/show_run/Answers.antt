@@ -1,6 +1,7 @@
-use Rattle.std.proofs.Common.{◌∙◌, false, inl, inr, refl, sym, ⊎_elim}
-use Rattle.velo_program.specs.declared.fate.Fate.TheVariants.{Finished}
+use Rattle.std.proofs.Common.{◌∙◌, false, inl, inr, refl, sym}
+use Rattle.velo_program.specs.declared.fate.Fate.TheVariants.{Finished, Memory}
 use Rattle.velo_program.specs.Delivery.{silent}
+use Rattle.velo_program.proofs.OnSaving.{names_lent}
 use Rattle.velo_program.proofs.work.show_run.Goals as goal
 
 pub returns-then-is_unreported : goal.returns-then-is_unreported
@@ -10,13 +11,11 @@ returns-then-is_unreported g c = (
   (refl, refl, (refl, refl)),
 )
 
-pub returns : goal.returns
-returns g c =
-    let told = c.tell.ensures in (
-      told.0,
-      ⊎_elim
-          (λ reported. inl (inr (sym c.is_unreported.ensures ∙ c.if-is_unreported.false, (_, (c.thread_names.ensures, c.label_names.ensures), reported))))
-          (λ lacks. inr lacks)
-          told.1,
-      told.2,
-    )
+pub show_with-fate-requires-clause-reported : goal.show_with-fate-requires-clause-reported
+show_with-fate-requires-clause-reported g c = sym c.is_unreported.ensures ∙ c.if-is_unreported.false
+
+pub show_with-fate-requires-clause-names : goal.show_with-fate-requires-clause-names
+show_with-fate-requires-clause-names g c = names_lent c.args.options.now.names_target c.args.workload.now _ _ c.deref.ensures.value c.in-Ok.ensures.names
+
+pub returns-in-Err : goal.returns-in-Err
+returns-in-Err g c = (silent Memory, inr (c.in-Err.ensures.memory, refl), (refl, refl, (refl, refl)))

@@ -6,15 +6,15 @@ use Rattle.velo_program.specs.Writing.{writing}
 use Rattle.velo_program.specs.Steps.{Reports}
 use Rattle.velo_program.proofs.work.tell.Goals as goal
 
-pub returns-then-not-options : goal.returns-then-not-options
-returns-then-not-options g c =
-    subst (λ (b : Bool). Reports c.args.names.now b c.args.ending c.args.closed.now (store g.F.Files.disk c.args.files.now c.report_by.new.files) c.args.options.now.target (writing g.O.Sink.contents g.O.Sink.failures c.args.out.now c.report_by.new.out) c.report_by.result)
-    (sym c.if-not-options.true) c.report_by.ensures
+pub returns-then-not-certificate : goal.returns-then-not-certificate
+returns-then-not-certificate g c =
+    subst (λ (b : Bool). Reports c.args.names.now b c.args.ending c.args.closed.now (store g.F.Files.disk c.args.files.now c.report_by.new.files) c.args.saving.now (writing g.O.Sink.contents g.O.Sink.failures c.args.out.now c.report_by.new.out) c.report_by.result)
+    (sym c.if-not-certificate.true) c.report_by.ensures
 
 pub returns-in-Ok : goal.returns-in-Ok
 returns-in-Ok g c =
-    subst (λ (b : Bool). Reports c.args.names.now b c.args.ending c.args.closed.now (store g.F.Files.disk c.args.files.now c.report_by-fate.new.files) c.args.options.now.target (writing g.O.Sink.contents g.O.Sink.failures c.args.out.now c.report_by-fate.new.out) c.report_by-fate.result)
-    (sym c.if-not-options.false) c.report_by-fate.ensures
+    subst (λ (b : Bool). Reports c.args.names.now b c.args.ending c.args.closed.now (store g.F.Files.disk c.args.files.now c.report_by-fate.new.files) c.args.saving.now (writing g.O.Sink.contents g.O.Sink.failures c.args.out.now c.report_by-fate.new.out) c.report_by-fate.result)
+    (sym c.if-not-certificate.false) c.report_by-fate.ensures
 
 pub returns-in-Err : goal.returns-in-Err
 returns-in-Err g c = (silent Memory, inr (c.in-Err.ensures.memory, refl), (refl, refl, (refl, refl)))
