@@ -127,7 +127,7 @@ abbrev pub WritesBehind : {X F : Type 0} → List ℕ → Names → Bool → Wor
     → Result X F → Type 0
 WritesBehind text names certificate w behind stdout result =
     (report : List ℕ) × IsOutputOf names certificate w report
-    × Delivers stdout (text ++ report ++ behind) result
+    × Delivers stdout (text ++ (report ++ behind)) result
 
 -- what saving a text and printing another came to
 abbrev pub Puts : {X : Type 0} → Store → Option (Bor (List ℕ)) → Writing
@@ -147,7 +147,7 @@ abbrev pub TellsReplay : {X : Type 0} → List ℕ → Names → Bool → WorldS
     → Store → Option (Bor (List ℕ)) → Writing → Result X Fate → Type 0
 TellsReplay text names certificate w behind store target stdout result =
     (report : List ℕ) × IsOutputOf names certificate w report
-    × Puts store target stdout (Some (text_of_log w)) (text ++ report ++ behind) result
+    × Puts store target stdout (Some (text_of_log w)) (text ++ (report ++ behind)) result
 
 -- a growth was refused, and nothing was written
 abbrev pub Lacks : {X : Type 0} → Store → Writing → Result X Fate → Type 0
