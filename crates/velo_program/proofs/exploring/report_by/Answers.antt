@@ -13,7 +13,7 @@ returns-in-Err g c =
       output.0,
       output.1,
       unsaved_puts (store g.F.Files.disk c.args.files.now c.save_log.new.files) c.args.target (writing g.O.Sink.contents g.O.Sink.failures c.args.out.now c.args.out.now)
-          (text_of_log w) (c.args.text.now ++ output.0 ++ c.args.behind.now) c.in-Err.fate c.in-Err.ensures (refl, refl),
+          (text_of_log w) (c.args.text.now ++ (output.0 ++ c.args.behind.now)) c.in-Err.fate c.in-Err.ensures (refl, refl),
     )
 
 pub returns-in-Ok-write_behind : goal.returns-in-Ok-write_behind
