@@ -1,3 +1,4 @@
+use Rattle.std.proofs.Common.{ℕ}
 use Rattle.std.specs.Prelude.{is_some}
 use Rattle.velo_program.specs.Writing.{writing}
 use Rattle.velo_program.proofs.OnFindings.{delivers, report_breaks, report_then}
@@ -14,5 +15,5 @@ returns-in-Ok g c =
 pub returns-in-Err : goal.returns-in-Err
 returns-in-Err g c =
     let wrote = c.in-Err.ensures in
-    report_breaks _ c.args.names.now (is_some c.args.list) c.args.closed.now c.args.behind.now (writing g.O.Sink.contents g.O.Sink.failures c.args.out.now c.write_output.new.sink)
+    report_breaks ℕ c.args.names.now (is_some c.args.list) c.args.closed.now c.args.behind.now (writing g.O.Sink.contents g.O.Sink.failures c.args.out.now c.write_output.new.sink)
     wrote.0 wrote.1 c.in-Err.fault wrote.2
