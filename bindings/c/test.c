@@ -156,6 +156,12 @@ int main(void) {
     expect_text("report", &m, velodrome_report, report);
     expect_text("explanation", &m, velodrome_explanation,
         "The blocks of this log cannot be serialized.\n"
+        "    line  thread 0                            thread 1\n"
+        "       3  begin 7\n"
+        "       4  begin 8\n"
+        "       5  rd 0 0\n"
+        "       6                                      wr 0 5\n"
+        "       7  wr 0 1\n"
         "Line 7 `0 wr 0 1` closes a cycle of 2 transactions:\n"
         "  T1: thread 0, block 7, lines 3 to 7\n"
         "  T2: thread 1, outside blocks, line 6\n"

@@ -33,7 +33,7 @@ typedef struct velodrome {
 #define VELODROME_MOST_BLAMED 32
 #define VELODROME_REPORT_ROOM 4096 /* bytes, always enough for a report */
 
-/* 0: done. 1 to 22: the event is refused. Nothing has changed where it is not 0. */
+/* 0: done. 1 to 19: the event is refused. Nothing has changed where it is not 0. */
 enum velodrome_status {
     VELODROME_DONE = 0,
     VELODROME_HALTED = 1,
@@ -135,7 +135,7 @@ uint32_t velodrome_blamed(velodrome *monitor, velodrome_block *buffer, size_t ro
  */
 uint32_t velodrome_log(velodrome *monitor, size_t from, uint8_t *buffer, size_t room, size_t *count, size_t *next);
 
-/* The report of the events so far, and their explanation in words: the bytes that `velodrome check` and `velodrome explain`
+/* The report of the events so far, and their explanation: the bytes that `velodrome check` and `velodrome explain`
  * write for the text of the log, all of them or none. *count says how many bytes were put into the buffer, without a zero byte
  * behind them. VELODROME_TOO_SHORT where there is no room for all: *count says how many bytes it takes, and the buffer is as it
  * was. VELODROME_NO_MEMORY where memory was refused: nothing has changed. The monitor goes on after each.
@@ -144,8 +144,9 @@ uint32_t velodrome_log(velodrome *monitor, size_t from, uint8_t *buffer, size_t 
 uint32_t velodrome_report(velodrome *monitor, uint8_t *buffer, size_t room, size_t *count);
 uint32_t velodrome_explanation(velodrome *monitor, uint8_t *buffer, size_t room, size_t *count);
 
-/* The words of a refusal, 1 to 22, without a zero byte behind them; *count says how many bytes. VELODROME_BAD_NUMBER for another
- * number; VELODROME_TOO_SHORT where there is no room, and *count says how much it takes. Room for 32 is always enough. */
+/* The words of a refusal, 1 to 22 (20 to 22 refuse no event here), without a zero byte behind them; *count says how many
+ * bytes. VELODROME_BAD_NUMBER for another number; VELODROME_TOO_SHORT where there is no room, and *count says how much it takes.
+ * Room for 32 is always enough. */
 uint32_t velodrome_refusal(uint32_t number, uint8_t *buffer, size_t room, size_t *count);
 
 #ifdef __cplusplus

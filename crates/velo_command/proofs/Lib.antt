@@ -1,6 +1,7 @@
 mod OnBuilding
 pub mod OnCommandLine
 mod OnAsked
+mod OnTogether
 mod OnWalk
 mod OnStop
 mod OnRows

@@ -1,11 +1,12 @@
 -- What the getters of `clap` give, by the rows of the matches.
-use Rattle.std.proofs.Common.{◌≡◌, ◌∙◌, ap, sym, refl, subst, ℕ, Bool, true, false, not, List, map, Option, Some, None, Result, Ok, Err, codes, Bor}
-use Rattle.std.specs.Prelude.{[], IfNone, option_map, unwrap_or}
+use Rattle.std.proofs.Common.{◌≡◌, ◌∙◌, ap, sym, refl, subst, ℕ, Bool, true, false, not, List, map, Option, Some, None, Result, Ok, Err, codes, inl, inr, Bor}
+use Rattle.std.specs.Prelude.{[], IfNone, IfSome, option_map, unwrap_or}
 use Rattle.std.specs.Str.Parse.{ParsesUnsigned}
-use Rattle.clap.specs.Words.{ReadsOne, Text, all_of, first_of, first_value, matched_of, one_of, one_text, raw_values, rows_of}
+use Rattle.clap.specs.Words.{ReadsOne, Row, Text, all_of, first_of, first_value, matched_of, one_of, one_text, raw_values, rows_of}
 use Rattle.clap.specs.declared.parser.matches.Found.{Found}
 use Rattle.clap.proofs.WalkLemmas.{first_value-rows, one_text-rows, raw_values-rows}
-use Rattle.velo_command.specs.Asked.{IsFlag, WritesNumber}
+use Rattle.velo_program.specs.declared.request.RandomRuns.{RandomRuns}
+use Rattle.velo_command.specs.Asked.{AreRandomRuns, IsFlag, IsSeed, WritesNumber}
 
 pub option_read : (f : Found) (id : Text) (r : Option (Bor Text)) → option_map (λ s. s.now) r ≡ first_value f id
     → first_of id (rows_of f) ≡ option_map (λ s. s.now) r
@@ -73,7 +74,19 @@ words_read f id r none words read is empty =
     ap (λ (t : Option (List Text)). unwrap_or t []) (sym (raw_values-rows f id) ∙ sym read) ∙ or_none r none empty
     ∙ ap (λ (s : Bor (List (Bor Text))). map (λ w. w.now) s.now) (sym is)
 
+-- a word that is not given
+pub no_word_read : (f : Found) (id : Text) (r : Option (Bor Text)) → option_map (λ s. s.now) r ≡ first_value f id → r ≡ None → first_of id (rows_of f) ≡ None
+no_word_read f id r read none = option_read f id r read ∙ ap (option_map (λ s. s.now)) none
+
 -- ---- where nothing is asked for
+
+pub if_some : {T : Type 0} (r : Option T) (P : T → Type 0) → ((x : T) → r ≡ Some x → P x) → IfSome r P
+if_some None P holds = tt
+if_some (Some x) P holds = holds x refl
+
+pub if_none : {T : Type 0} (r : Option T) (P : Type 0) → (r ≡ None → P) → IfNone r P
+if_none None P holds = holds refl
+if_none (Some x) P holds = tt
 
 -- what asks for nothing asks for nothing where there is no value
 pub on_none : {T X : Type 0} (r : Option T) (Asks : X → Type 0) → ((x : X) → ¬ Asks x) → IfNone r ((x : X) → ¬ Asks x)
@@ -104,3 +117,18 @@ no_number E G bits f id r n only value none =
 pub one_number : (bits : ℕ) (text : Option Text) (m n : ℕ) → WritesNumber bits text m → WritesNumber bits text n → m ≡ n
 one_number bits None m n first second = absurd first
 one_number bits (Some text) m n first second = first.2 ∙ sym second.2
+
+-- a seed that is given is no number
+pub no_seed : (rows : List Row) (word : Text) (n : ℕ) → first_of (codes "seed") rows ≡ Some word → ¬ WritesNumber 64 (one_of (codes "seed") rows) n → ¬ IsSeed rows n
+no_seed rows word n given none (inl absent) =
+    let bad : None ≡ Some word = sym absent.0 ∙ given in
+    cc
+no_seed rows word n given none (inr written) = none written
+
+-- runs by chance that are asked for are none
+pub no_runs : (rows : List Row) (word : Text) → first_of (codes "random") rows ≡ Some word → ((random : RandomRuns) → ¬ AreRandomRuns rows (Some random))
+    → (random : Option RandomRuns) → ¬ AreRandomRuns rows random
+no_runs rows word given none None absent =
+    let bad : None ≡ Some word = sym absent ∙ given in
+    cc
+no_runs rows word given none (Some random) asks = none random asks

@@ -1,6 +1,6 @@
 -- What the getters read of rows whose values were accepted: a word has a text, and a limit a number in its range.
-use Rattle.std.proofs.Common.{◌≡◌, ◌∙◌, ◌≤◌, ◌&&◌, ◌==◌, ℕ, ℤ, Bool, cond, true, false, zero, suc, refl, sym, ap, subst, List, [], ◌∷◌, drop, Some, None, true≢false}
-use Rattle.std.specs.Prelude.{int_le, neg_ℤ, option_and_then, option_map, pos, slice_get, unwrap_or}
+use Rattle.std.proofs.Common.{◌≡◌, ◌∙◌, ◌≤◌, ◌&&◌, ◌==◌, ℕ, ℤ, ◌⊎◌, ◌<◌, ◌^◌, Bool, cond, true, false, zero, suc, inl, inr, refl, sym, ap, subst, List, [], ◌∷◌, drop, Option, Some, None, ⊎_elim, true≢false}
+use Rattle.std.specs.Prelude.{find, int_le, neg_ℤ, option_and_then, option_map, pos, slice_get, unwrap_or}
 use Rattle.std.specs.Str.{bytes_eq}
 use Rattle.std.specs.Str.Parse.{IsNumeral, digits_value, without_leading_plus}
 use Rattle.std.proofs.lemmas.Bool.{leb-true}
@@ -12,10 +12,10 @@ use Rattle.clap.specs.Kinds.{value_kinds}
 use Rattle.clap.specs.Walk.{Row, Rule, Text, first_of, one_of, reading_by, row_text}
 use Rattle.clap.specs.Faults.{values_fault}
 use Rattle.clap.specs.declared.builder.value_parser.ValueParser.{ValueParser}
-use Rattle.clap.specs.declared.builder.value_parser.ValueParser.TheVariants.{Signed}
+use Rattle.clap.specs.declared.builder.value_parser.ValueParser.TheVariants.{Signed, Unsigned}
 use Rattle.clap.proofs.ValueTestLemmas.{accepts-Accepts}
 use Rattle.clap.proofs.WalkLemmas.{both}
-use Rattle.velo_command.proofs.OnWalk.{neither}
+use Rattle.velo_command.proofs.OnWalk.{Each, found_has, neither}
 use Rattle.velo_command.proofs.OnRows.{HasRow, IsFilled}
 
 -- the text writes a number from 1 to `most`
@@ -105,3 +105,49 @@ limit_read P a most rows all parser has =
           ap (option_and_then row_text) has.1 ∙ first ∙ ap (λ how. Some (read_as how v)) (how ∙ ap (λ p. reading_of (parser_of_value p)) parser),
           accepted_writes a.ignore_case most v (faultless_accepted a.ignore_case (Signed (pos 1) (pos most)) v limit),
         )
+
+-- they read a text that writes a number of 64 bits
+abbrev pub HasWide : Text → List Row → Type 0
+HasWide id rows =
+    (text : Text) × (one_of id rows ≡ Some text) × IsNumeral 10 (without_leading_plus text) × (digits_value 10 (without_leading_plus text) < 2 ^ 64)
+
+abbrev wide : ValueParser
+wide = Unsigned 0 18446744073709551615
+
+pub wide_read : (P : Row → Type 0) (a : Rule) (rows : List Row) → ((r : Row) → P r → IsFilled r.values × IsAccepted a r) → a.parser ≡ Some wide → HasRow P a.id rows → HasWide a.id rows
+wide_read P a rows all parser has =
+    let holds = all has.0 has.3 in
+    let accepted = holds.1 has.2 in
+    go has.0.values refl holds.0 accepted.0 accepted.1
+  where
+    go : (vs : List Text) → has.0.values ≡ vs → IsFilled vs → has.0.reading ≡ reading_by a → values_fault a vs ≡ [] → HasWide a.id rows
+    go [] is none how fault = absurd none
+    go (v ∷ vs) is some how fault =
+        let passed : value_kinds a.ignore_case (parser_of_value a.parser) v ≡ [] = (neither (value_kinds a.ignore_case (parser_of_value a.parser) v) _ fault).0 in
+        let right : value_kinds a.ignore_case wide v ≡ [] = subst (λ p. value_kinds a.ignore_case (parser_of_value p) v ≡ []) parser passed in
+        let first : row_text has.0 ≡ Some (read_as has.0.reading v) = ap (λ xs. option_map (read_as has.0.reading) (slice_get xs 0)) is in
+        let number = accepts-Accepts a.ignore_case wide v (faultless_accepted a.ignore_case wide v right) in (
+          v,
+          ap (option_and_then row_text) has.1 ∙ first ∙ ap (λ how. Some (read_as how v)) (how ∙ ap (λ p. reading_of (parser_of_value p)) parser),
+          number.0,
+          number.1,
+        )
+
+-- ---- what need not be given
+
+-- an id has no row, so that nothing is read; or it has one
+pub row_if : (P : Row → Type 0) (id : Text) (rows : List Row) → Each P rows → (first_of id rows ≡ None) ⊎ HasRow P id rows
+row_if P id rows all = go (find (λ x. bytes_eq x.id id) rows) refl
+  where
+    go : (o : Option Row) → find (λ x. bytes_eq x.id id) rows ≡ o → (first_of id rows ≡ None) ⊎ HasRow P id rows
+    go None found = inl (ap (option_and_then (λ r. slice_get r.values 0)) found)
+    go (Some r) found =
+        let is = found_has P (λ x. bytes_eq x.id id) rows r all found in
+        inr (r, found, is.1, is.0)
+
+-- nothing is given, or it is this
+abbrev pub MayHave : Text → List Row → Type 0 → Type 0
+MayHave id rows Has = (first_of id rows ≡ None) ⊎ Has
+
+pub may_have : (P : Row → Type 0) (id : Text) (rows : List Row) (Has : Type 0) → Each P rows → (HasRow P id rows → Has) → MayHave id rows Has
+may_have P id rows Has all has = ⊎_elim (λ none. inl none) (λ row. inr (has row)) (row_if P id rows all)

@@ -1,6 +1,7 @@
 -- The request that right words ask for.
-use Rattle.std.proofs.Common.{◌≡◌, ◌≤◌, ◌<◌, ◌^◌, Bool, true, false, not, refl, sym, ap, arith, subst, inl, inr, List, [], ◌∷◌, map, Option, Some, None, codes, Bor}
+use Rattle.std.proofs.Common.{◌≡◌, ◌≤◌, ◌<◌, ◌^◌, ℕ, Bool, get_or, ⊎_elim, true, false, not, refl, sym, ap, arith, subst, inl, inr, List, [], ◌∷◌, map, Option, Some, None, codes, Bor}
 use Rattle.std.specs.Prelude.{option_map, unwrap_or}
+use Rattle.std.proofs.lemmas.Bool.Decides.{eqb_tells}
 use Rattle.std.specs.Option.{option_map_or}
 use Rattle.std.specs.Str.{bytes_eq}
 use Rattle.std.specs.Str.Parse.{digits_value, without_leading_plus}
@@ -13,13 +14,17 @@ use Rattle.velo_program.specs.declared.request.RunOptions.{RunOptions}
 use Rattle.velo_program.specs.declared.request.ReplayOptions.{ReplayOptions}
 use Rattle.velo_program.specs.declared.request.ExplainOptions.{ExplainOptions}
 use Rattle.velo_program.specs.declared.request.ExploreOptions.{ExploreOptions}
+use Rattle.velo_program.specs.declared.request.RandomRuns.{RandomRuns}
+use Rattle.velo_program.specs.declared.request.ScheduleSource.{ScheduleSource}
+use Rattle.velo_program.specs.declared.request.ScheduleSource.TheVariants as source
+use Rattle.velo_program.specs.declared.request.TheConstants.{DEFAULT_SEED}
 use Rattle.velo_program.specs.declared.request.WatchOptions.{WatchOptions}
 use Rattle.velo_program.specs.declared.request.Request.{Request}
 use Rattle.velo_program.specs.declared.request.Request.TheVariants.{Audit, Carry, Check, Explain, Explore, Replay, Run, Watch}
-use Rattle.velo_command.specs.Asked.{AreLimits, AsksFor, AsksForNothing, IsAudit, IsCarrying, IsCheck, IsExplanation, IsExploring, IsFlag, IsReplay, IsRun, IsWatch, WritesNumber}
+use Rattle.velo_command.specs.Asked.{AreLimits, AreRandomRuns, AsksFor, AsksForNothing, IsAudit, IsCarrying, IsCheck, IsExplanation, IsExploring, IsFlag, IsReplay, IsRun, IsSchedule, IsSeed, IsWatch, WritesNumber}
 use Rattle.velo_command.specs.CommandLine.{asked_by, faults_of}
-use Rattle.velo_command.proofs.OnLimits.{HasLimit, HasWord}
-use Rattle.velo_command.proofs.OnRight.{HasLimits, IsRight, faultless_is_right}
+use Rattle.velo_command.proofs.OnLimits.{HasLimit, HasWide, HasWord, MayHave}
+use Rattle.velo_command.proofs.OnRight.{HasLimits, HasSearch, IsRight, faultless_is_right}
 
 -- ---- the parts of a request
 
@@ -93,7 +98,7 @@ a_run rows word has =
         input = a_path word.0;
         stop = is_true (one_of (codes "stop") rows);
         target = a_path_if (first_of (codes "log") rows);
-        names_target = None;
+        names_target = a_path_if (first_of (codes "names-out") rows);
         limits = limits.0;
         certificate = is_true (one_of (codes "certificate") rows);
       },
@@ -101,16 +106,25 @@ a_run rows word has =
         word.1,
         is_flag (one_of (codes "stop") rows),
         path_of (first_of (codes "log") rows),
+        path_of (first_of (codes "names-out") rows),
         limits.1,
         is_flag (one_of (codes "certificate") rows),
       ),
     )
 
+a_schedule : (word : Text) → (source : ScheduleSource) × IsSchedule word source
+unfolding a_path
+a_schedule [] = (source.Text (a_path []), (refl, λ path e. cc))
+a_schedule (b ∷ rest) =
+    ⊎_elim (λ at. (source.File (a_path rest), ap (λ c. c ∷ rest) at.1)) (λ other. (source.Text (a_path (b ∷ rest)), (refl, λ path e. other.1 (ap (λ xs. get_or xs 0 0) e))))
+    (eqb_tells b 64)
+
 a_replay : (rows : List Row) → HasWord (codes "FILE") rows → HasLimits rows → (options : ReplayOptions) × IsReplay rows options
 unfolding a_path
 a_replay rows word has =
     let run = a_run rows word has in
-    (record { schedule = a_path (unwrap_or (first_of (codes "schedule") rows) []); run = run.0 }, (refl, run.1))
+    let schedule = a_schedule (unwrap_or (first_of (codes "schedule") rows) []) in
+    (record { schedule = schedule.0; run = run.0 }, (schedule.1, run.1))
 
 an_explanation : (rows : List Row) → HasWord (codes "LOG") rows → (options : ExplainOptions) × IsExplanation rows options
 unfolding a_path
@@ -127,11 +141,29 @@ a_carrying : (rows : List Row) → HasWord (codes "LOG") rows → HasWord (codes
 unfolding a_path
 a_carrying rows word out = (record { input = a_path word.0; target = a_path out.0 }, (word.1, out.1))
 
-an_exploring : (rows : List Row) → HasWord (codes "FILE") rows → HasLimit (codes "states") 16777216 rows → HasLimits rows
-    → (options : ExploreOptions) × IsExploring rows options
+a_seed : (rows : List Row) → MayHave (codes "seed") rows (HasWide (codes "seed") rows) → (seed : ℕ) × IsSeed rows seed
+a_seed rows (inl none) = (DEFAULT_SEED, inl (none, refl))
+a_seed rows (inr has) =
+    let seed = digits_value 10 (without_leading_plus has.0) in
+    (seed, inr (subst (λ text. WritesNumber 64 text seed) (sym has.1) (has.2, has.3, refl)))
+
+random_runs : (rows : List Row) → MayHave (codes "random") rows (HasLimit (codes "random") 1000000 rows) → (seed : ℕ) × IsSeed rows seed
+    → (random : Option RandomRuns) × AreRandomRuns rows random
+random_runs rows (inl none) seed = (None, none)
+random_runs rows (inr has) seed =
+    let runs = digits_value 10 (without_leading_plus has.0) in
+    let few_runs : runs ≤ 1000000 = has.2.2 in
+    let runs_fit : runs < 2 ^ 32 = omega arith in (
+      Some (record { runs = runs; seed = seed.0; some_run = has.2.1; few_runs = few_runs }),
+      (subst (λ text. WritesNumber 32 text runs) (sym has.1) (has.2.0, runs_fit, refl), seed.1),
+    )
+
+an_exploring : (rows : List Row) → HasWord (codes "FILE") rows → HasSearch rows → (options : ExploreOptions) × IsExploring rows options
 unfolding a_path
-an_exploring rows word has_states has =
-    let limits = a_limits rows has in
+an_exploring rows word has =
+    let has_states = has.0 in
+    let limits = a_limits rows has.1 in
+    let random = random_runs rows has.2 (a_seed rows has.3) in
     let states = digits_value 10 (without_leading_plus has_states.0) in
     let few_states : states ≤ 16777216 = has_states.2.2 in
     let states_fit : states < 2 ^ 32 = omega arith in (
@@ -140,11 +172,11 @@ an_exploring rows word has_states has =
         states = states;
         first = is_true (one_of (codes "first") rows);
         target = a_path_if (first_of (codes "log") rows);
-        names_target = None;
+        names_target = a_path_if (first_of (codes "names-out") rows);
         limits = limits.0;
         certificate = is_true (one_of (codes "certificate") rows);
-        progress = false;
-        random = None;
+        progress = is_true (one_of (codes "progress") rows);
+        random = random.0;
         some_state = has_states.2.1;
         few_states = few_states;
       },
@@ -152,7 +184,10 @@ an_exploring rows word has_states has =
         word.1,
         subst (λ text. WritesNumber 32 text states) (sym has_states.1) (has_states.2.0, states_fit, refl),
         is_flag (one_of (codes "first") rows),
+        is_flag (one_of (codes "progress") rows),
+        random.1,
         path_of (first_of (codes "log") rows),
+        path_of (first_of (codes "names-out") rows),
         limits.1,
         is_flag (one_of (codes "certificate") rows),
       ),
@@ -219,7 +254,7 @@ right_asks found (inr (inr (inr (inr (inl is))))) =
     let options = a_carrying found.1 is.1 is.2 in
     (Carry options.0, (is.0, options.1))
 right_asks found (inr (inr (inr (inr (inr (inl is)))))) =
-    let options = an_exploring found.1 is.1 is.2 is.3 in
+    let options = an_exploring found.1 is.1 is.2 in
     (Explore options.0, (is.0, options.1))
 right_asks found (inr (inr (inr (inr (inr (inr (inl is))))))) =
     let options = a_watch found.1 is.1 is.2 in

@@ -14,12 +14,12 @@ use Rattle.clap.specs.Values.{reading_of}
 use Rattle.clap.specs.Faults.{built_fault, defaults_fault, entered_fault, fault_of, level_fault, settle_fault, values_fault, walk_fault}
 use Rattle.clap.specs.declared.parser.matches.ValueSource.{ValueSource}
 use Rattle.velo_events.specs.declared.limits.TheConstants.{MOST_EVENTS, MOST_NODES}
-use Rattle.velo_program.specs.declared.request.TheConstants.{MOST_STATES}
-use Rattle.velo_command.specs.CommandLine.{audit, carry, check, command_line, events, explain, explore, flag, needed, nodes, repeated, replay, run, states, valued, watch, word}
+use Rattle.velo_program.specs.declared.request.TheConstants.{MOST_RUNS, MOST_STATES}
+use Rattle.velo_command.specs.CommandLine.{audit, carry, check, command_line, events, explain, explore, flag, needed, nodes, random, repeated, replay, run, seed, states, valued, watch, word}
 use Rattle.velo_command.proofs.OnWalk.{Each, found_has, level_keeps, neither}
 use Rattle.velo_command.proofs.OnStop.{StopsNotAtHelp, walk_stops}
 use Rattle.velo_command.proofs.OnRows.{IsFilled, MakesRows, default_keeps, defaults_have, is_plain, more_row, new_row, required_given, row_given, row_there, subcommand_there, used_keeps}
-use Rattle.velo_command.proofs.OnLimits.{HasLimit, HasWord, IsAccepted, limit_read, word_read}
+use Rattle.velo_command.proofs.OnLimits.{HasLimit, HasWide, HasWord, IsAccepted, MayHave, limit_read, may_have, wide_read, word_read}
 
 -- ---- the subcommand
 
@@ -114,7 +114,7 @@ level_has limits s words once plain e =
 
 -- the limits
 abbrev limits : List Rule
-limits = filled (events (codes "1048576")) ∷ filled (nodes (codes "1024")) ∷ filled states ∷ []
+limits = filled (events (codes "1048576")) ∷ filled (nodes (codes "1024")) ∷ filled states ∷ filled random ∷ filled seed ∷ []
 
 -- those of a graph are read
 abbrev pub HasLimits : List Row → Type 0
@@ -133,19 +133,31 @@ states_there : (rows : List Row) → Each (Passes limits) rows → has_row (code
 states_there rows passes there =
     limit_read (Passes limits) (filled states) MOST_STATES rows (λ r holds. (holds.0, holds.1.1.1.0)) refl (row_there (Passes limits) (codes "states") rows passes there)
 
+-- so many runs may be asked for, and a seed given
+runs_there : (rows : List Row) → Each (Passes limits) rows → MayHave (codes "random") rows (HasLimit (codes "random") MOST_RUNS rows)
+runs_there rows passes = may_have (Passes limits) (codes "random") rows _ passes (limit_read (Passes limits) (filled random) MOST_RUNS rows (λ r holds. (holds.0, holds.1.1.1.1.0)) refl)
+
+seed_there : (rows : List Row) → Each (Passes limits) rows → MayHave (codes "seed") rows (HasWide (codes "seed") rows)
+seed_there rows passes = may_have (Passes limits) (codes "seed") rows _ passes (wide_read (Passes limits) (filled seed) rows (λ r holds. (holds.0, holds.1.1.1.1.1.0)) refl)
+
 -- a name that is no limit's
 abbrev is_other : Text → Bool
-is_other name = not (bytes_eq name (codes "events")) && (not (bytes_eq name (codes "nodes")) && not (bytes_eq name (codes "states")))
+is_other name = not (bytes_eq name (codes "events")) && (not (bytes_eq name (codes "nodes")) && (not (bytes_eq name (codes "states")) && (not (bytes_eq name (codes "random")) && not (bytes_eq name (codes "seed")))))
 
 others : (a : Rule) → is_other a.id ≡ true → Each (Suits a) limits
-others a e = go (bytes_eq a.id (codes "events")) refl (bytes_eq a.id (codes "nodes")) refl (bytes_eq a.id (codes "states")) refl e
+others a e =
+    let is = bytes_eq a.id in
+    go (is (codes "events")) refl (is (codes "nodes")) refl (is (codes "states")) refl (is (codes "random")) refl (is (codes "seed")) refl e
   where
     go : (b : Bool) → bytes_eq a.id (codes "events") ≡ b → (d : Bool) → bytes_eq a.id (codes "nodes") ≡ d → (f : Bool) → bytes_eq a.id (codes "states") ≡ f
-        → (not b && (not d && not f)) ≡ true → Each (Suits a) limits
-    go true events_is d nodes_is f states_is e = absurd (true≢false (sym e))
-    go false events_is true nodes_is f states_is e = absurd (true≢false (sym e))
-    go false events_is false nodes_is true states_is e = absurd (true≢false (sym e))
-    go false events_is false nodes_is false states_is e = (inl events_is, (inl nodes_is, (inl states_is, tt)))
+        → (g : Bool) → bytes_eq a.id (codes "random") ≡ g → (h : Bool) → bytes_eq a.id (codes "seed") ≡ h
+        → (not b && (not d && (not f && (not g && not h)))) ≡ true → Each (Suits a) limits
+    go true b-is d d-is f f-is g g-is h h-is e = absurd (true≢false (sym e))
+    go false b-is true d-is f f-is g g-is h h-is e = absurd (true≢false (sym e))
+    go false b-is false d-is true f-is g g-is h h-is e = absurd (true≢false (sym e))
+    go false b-is false d-is false f-is true g-is h h-is e = absurd (true≢false (sym e))
+    go false b-is false d-is false f-is false g-is true h-is e = absurd (true≢false (sym e))
+    go false b-is false d-is false f-is false g-is false h-is e = (inl b-is, (inl d-is, (inl f-is, (inl g-is, (inl h-is, tt)))))
 
 -- each argument is plain
 makes_word : (name : Text) → is_other name ≡ true → MakesRows (Passes limits) (with_index 1 (filled (word name)))
@@ -164,13 +176,19 @@ makes_flag : (name : Text) → is_other name ≡ true → MakesRows (Passes limi
 makes_flag name other = makes limits (filled (flag name)) refl (others (filled (flag name)) other)
 
 makes_events : (default : Text) → MakesRows (Passes limits) (filled (events default))
-makes_events default = makes limits (filled (events default)) refl (inr (refl, refl, refl), (inl refl, (inl refl, tt)))
+makes_events default = makes limits (filled (events default)) refl (inr (refl, refl, refl), (inl refl, (inl refl, (inl refl, (inl refl, tt)))))
 
 makes_nodes : (default : Text) → MakesRows (Passes limits) (filled (nodes default))
-makes_nodes default = makes limits (filled (nodes default)) refl (inl refl, (inr (refl, refl, refl), (inl refl, tt)))
+makes_nodes default = makes limits (filled (nodes default)) refl (inl refl, (inr (refl, refl, refl), (inl refl, (inl refl, (inl refl, tt)))))
 
 makes_states : MakesRows (Passes limits) (filled states)
-makes_states = makes limits (filled states) refl (inl refl, (inl refl, (inr (refl, refl, refl), tt)))
+makes_states = makes limits (filled states) refl (inl refl, (inl refl, (inr (refl, refl, refl), (inl refl, (inl refl, tt)))))
+
+makes_random : MakesRows (Passes limits) (filled random)
+makes_random = makes limits (filled random) refl (inl refl, (inl refl, (inl refl, (inr (refl, refl, refl), (inl refl, tt)))))
+
+makes_seed : MakesRows (Passes limits) (filled seed)
+makes_seed = makes limits (filled seed) refl (inl refl, (inl refl, (inl refl, (inl refl, (inr (refl, refl, refl), tt)))))
 
 makes_help : MakesRows (Passes limits) (filled help_rule)
 makes_help = makes limits (filled help_rule) refl (others (filled help_rule) refl)
@@ -191,14 +209,14 @@ check_right words e =
 run_right : (words : List Text) → level_fault (leaf run) [] nothing_held words false [] ≡ []
     → HasWord (codes "FILE") (rows_of_leaf run words) × HasLimits (rows_of_leaf run words)
 run_right words e =
-    let level = level_has limits (leaf run) words refl (makes_word (codes "FILE") refl, (makes_flag (codes "stop") refl, (makes_valued (codes "log") refl, (makes_events (codes "1048576"), (makes_nodes (codes "1024"), (makes_flag (codes "certificate") refl, (makes_help, tt))))))) e in
-    (word_there (codes "FILE") (rows_of_leaf run words) level.passes (level.given.0 refl), limits_there (rows_of_leaf run words) level.passes (level.defaults.1.1.1.0 tt) (level.defaults.1.1.1.1.0 tt))
+    let level = level_has limits (leaf run) words refl (makes_word (codes "FILE") refl, (makes_flag (codes "stop") refl, (makes_valued (codes "log") refl, (makes_valued (codes "names-out") refl, (makes_events (codes "1048576"), (makes_nodes (codes "1024"), (makes_flag (codes "certificate") refl, (makes_help, tt)))))))) e in
+    (word_there (codes "FILE") (rows_of_leaf run words) level.passes (level.given.0 refl), limits_there (rows_of_leaf run words) level.passes (level.defaults.1.1.1.1.0 tt) (level.defaults.1.1.1.1.1.0 tt))
 
 replay_right : (words : List Text) → level_fault (leaf replay) [] nothing_held words false [] ≡ []
     → HasWord (codes "FILE") (rows_of_leaf replay words) × HasLimits (rows_of_leaf replay words)
 replay_right words e =
-    let level = level_has limits (leaf replay) words refl (makes_word (codes "FILE") refl, (makes_valued (codes "schedule") refl, (makes_flag (codes "stop") refl, (makes_valued (codes "log") refl, (makes_events (codes "1048576"), (makes_nodes (codes "1024"), (makes_flag (codes "certificate") refl, (makes_help, tt)))))))) e in
-    (word_there (codes "FILE") (rows_of_leaf replay words) level.passes (level.given.0 refl), limits_there (rows_of_leaf replay words) level.passes (level.defaults.1.1.1.1.0 tt) (level.defaults.1.1.1.1.1.0 tt))
+    let level = level_has limits (leaf replay) words refl (makes_word (codes "FILE") refl, (makes_valued (codes "schedule") refl, (makes_flag (codes "stop") refl, (makes_valued (codes "log") refl, (makes_valued (codes "names-out") refl, (makes_events (codes "1048576"), (makes_nodes (codes "1024"), (makes_flag (codes "certificate") refl, (makes_help, tt))))))))) e in
+    (word_there (codes "FILE") (rows_of_leaf replay words) level.passes (level.given.0 refl), limits_there (rows_of_leaf replay words) level.passes (level.defaults.1.1.1.1.1.0 tt) (level.defaults.1.1.1.1.1.1.0 tt))
 
 explain_right : (words : List Text) → level_fault (leaf explain) [] nothing_held words false [] ≡ []
     → HasWord (codes "LOG") (rows_of_leaf explain words)
@@ -212,11 +230,18 @@ carry_right words e =
     let level = level_has limits (leaf carry) words refl (makes_word (codes "LOG") refl, (makes_needed (codes "log") refl, (makes_help, tt))) e in
     (word_there (codes "LOG") (rows_of_leaf carry words) level.passes (level.given.0 refl), word_there (codes "log") (rows_of_leaf carry words) level.passes (level.given.1.0 refl))
 
+-- what an exploration has besides its word
+abbrev pub HasSearch : List Row → Type 0
+HasSearch rows =
+    HasLimit (codes "states") MOST_STATES rows × HasLimits rows
+    × MayHave (codes "random") rows (HasLimit (codes "random") MOST_RUNS rows) × MayHave (codes "seed") rows (HasWide (codes "seed") rows)
+
 explore_right : (words : List Text) → level_fault (leaf explore) [] nothing_held words false [] ≡ []
-    → HasWord (codes "FILE") (rows_of_leaf explore words) × HasLimit (codes "states") MOST_STATES (rows_of_leaf explore words) × HasLimits (rows_of_leaf explore words)
+    → HasWord (codes "FILE") (rows_of_leaf explore words) × HasSearch (rows_of_leaf explore words)
 explore_right words e =
-    let level = level_has limits (leaf explore) words refl (makes_word (codes "FILE") refl, (makes_states, (makes_flag (codes "first") refl, (makes_valued (codes "log") refl, (makes_events (codes "1048576"), (makes_nodes (codes "1024"), (makes_flag (codes "certificate") refl, (makes_help, tt)))))))) e in
-    (word_there (codes "FILE") (rows_of_leaf explore words) level.passes (level.given.0 refl), states_there (rows_of_leaf explore words) level.passes (level.defaults.1.0 tt), limits_there (rows_of_leaf explore words) level.passes (level.defaults.1.1.1.1.0 tt) (level.defaults.1.1.1.1.1.0 tt))
+    let rows = rows_of_leaf explore words in
+    let level = level_has limits (leaf explore) words refl (makes_word (codes "FILE") refl, (makes_states, (makes_flag (codes "first") refl, (makes_flag (codes "progress") refl, (makes_random, (makes_seed, (makes_valued (codes "log") refl, (makes_valued (codes "names-out") refl, (makes_events (codes "1048576"), (makes_nodes (codes "1024"), (makes_flag (codes "certificate") refl, (makes_help, tt)))))))))))) e in
+    (word_there (codes "FILE") rows level.passes (level.given.0 refl), states_there rows level.passes (level.defaults.1.0 tt), limits_there rows level.passes (level.defaults.1.1.1.1.1.1.1.1.0 tt) (level.defaults.1.1.1.1.1.1.1.1.1.0 tt), runs_there rows level.passes, seed_there rows level.passes)
 
 watch_right : (words : List Text) → level_fault (leaf watch) [] nothing_held words false [] ≡ []
     → HasWord (codes "LOG") (rows_of_leaf watch words) × HasLimits (rows_of_leaf watch words)
@@ -239,7 +264,7 @@ IsRight found = ((found.0 ≡ codes "check") × HasWord (codes "LOG") found.1 ×
     ⊎ (((found.0 ≡ codes "run") × HasWord (codes "FILE") found.1 × HasLimits found.1)
     ⊎ (((found.0 ≡ codes "explain") × HasWord (codes "LOG") found.1)
     ⊎ (((found.0 ≡ codes "carry") × HasWord (codes "LOG") found.1 × HasWord (codes "log") found.1)
-    ⊎ (((found.0 ≡ codes "explore") × HasWord (codes "FILE") found.1 × HasLimit (codes "states") MOST_STATES found.1 × HasLimits found.1)
+    ⊎ (((found.0 ≡ codes "explore") × HasWord (codes "FILE") found.1 × HasSearch found.1)
     ⊎ (((found.0 ≡ codes "watch") × HasWord (codes "LOG") found.1 × HasLimits found.1)
     ⊎ (((found.0 ≡ codes "audit") × HasWord (codes "LOG") found.1 × HasLimits found.1))))))))
 
@@ -255,7 +280,7 @@ not_help name apart hit = true≢false (sym ((bytes_eq-Decides name (codes "help
     alone false e = e
 
 each_right : (name : Text) (words : List Text) → bytes_eq name (codes "help") ≡ false → Each (IsRightAt name words) (built command_line).subs
-each_right name words apart = (λ hit e. inl (refl, (check_right words e).0, (check_right words e).1), (λ hit e. inr (inl (refl, (replay_right words e).0, (replay_right words e).1)), (λ hit e. inr (inr (inl (refl, (run_right words e).0, (run_right words e).1))), (λ hit e. inr (inr (inr (inl (refl, explain_right words e)))), (λ hit e. inr (inr (inr (inr (inl (refl, (carry_right words e).0, (carry_right words e).1))))), (λ hit e. inr (inr (inr (inr (inr (inl (refl, (explore_right words e).0, (explore_right words e).1, (explore_right words e).2)))))), (λ hit e. inr (inr (inr (inr (inr (inr (inl (refl, (watch_right words e).0, (watch_right words e).1))))))), (λ hit e. inr (inr (inr (inr (inr (inr (inr ((refl, (audit_right words e).0, (audit_right words e).1)))))))), (λ hit e. absurd (not_help name apart hit), tt)))))))))
+each_right name words apart = (λ hit e. inl (refl, (check_right words e).0, (check_right words e).1), (λ hit e. inr (inl (refl, (replay_right words e).0, (replay_right words e).1)), (λ hit e. inr (inr (inl (refl, (run_right words e).0, (run_right words e).1))), (λ hit e. inr (inr (inr (inl (refl, explain_right words e)))), (λ hit e. inr (inr (inr (inr (inl (refl, (carry_right words e).0, (carry_right words e).1))))), (λ hit e. inr (inr (inr (inr (inr (inl (refl, (explore_right words e).0, (explore_right words e).1)))))), (λ hit e. inr (inr (inr (inr (inr (inr (inl (refl, (watch_right words e).0, (watch_right words e).1))))))), (λ hit e. inr (inr (inr (inr (inr (inr (inr ((refl, (audit_right words e).0, (audit_right words e).1)))))))), (λ hit e. absurd (not_help name apart hit), tt)))))))))
 
 -- words without a fault ask for a request
 pub faultless_is_right : (words : List Text) → fault_of command_line words ≡ []

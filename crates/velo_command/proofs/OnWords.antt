@@ -1,5 +1,5 @@
 -- What some command lines ask for, and why others ask for nothing: by computing.
-use Rattle.std.proofs.Common.{◌≡◌, ◌∷◌, [], refl, sym, ap, codes, true, false, List, map, rules}
+use Rattle.std.proofs.Common.{◌≡◌, ◌∷◌, [], arith, refl, subst, sym, ap, codes, true, false, List, get_or, map, rules, Bor}
 use Rattle.std.specs.Prelude.{Some, None, option_map}
 use Rattle.clap.specs.Faults.{defaults_fault, walk_fault}
 use Rattle.clap.specs.Walk.{walked}
@@ -12,10 +12,12 @@ use Rattle.velo_program.specs.declared.request.ExplainOptions.{ExplainOptions}
 use Rattle.velo_program.specs.declared.request.ReplayOptions.{ReplayOptions}
 use Rattle.velo_program.specs.declared.request.RunOptions.{RunOptions}
 use Rattle.velo_program.specs.declared.request.ExploreOptions.{ExploreOptions}
+use Rattle.velo_program.specs.declared.request.ScheduleSource.TheVariants as source
 use Rattle.velo_program.specs.declared.request.WatchOptions.{WatchOptions}
 use Rattle.velo_program.specs.declared.request.Request.TheVariants.{Audit, Carry, Check, Explain, Explore, Replay, Run, Watch}
-use Rattle.velo_command.specs.Asked.{AsksFor}
+use Rattle.velo_command.specs.Asked.{AreRandomRuns, AsksFor, IsSchedule}
 use Rattle.velo_command.specs.CommandLine.{asked_by, faults_of}
+use Rattle.velo_command.specs.Together.{given_by}
 
 -- ---- right words
 
@@ -35,18 +37,18 @@ check_asks options log events nodes certificate names =
 
 -- a workload with all options
 abbrev run_words : List Text
-run_words = codes "velodrome" ∷ codes "run" ∷ codes "--events=5" ∷ codes "w" ∷ codes "--nodes" ∷ codes "+2" ∷ codes "--log" ∷ codes "o" ∷ codes "--stop" ∷ codes "--certificate" ∷ []
+run_words = codes "velodrome" ∷ codes "run" ∷ codes "--events=5" ∷ codes "w" ∷ codes "--nodes" ∷ codes "+2" ∷ codes "--log" ∷ codes "o" ∷ codes "--stop" ∷ codes "--names-out=n" ∷ codes "--certificate" ∷ []
 
 run_is_right : faults_of run_words ≡ []
 unfolding faults_of walk_fault walked defaults_fault
 run_is_right = refl
 
 run_asks : (options : RunOptions) → options.input.now ≡ codes "w" → options.stop ≡ true → option_map (λ path. path.now) options.target ≡ Some (codes "o")
-    → options.limits.events ≡ 5 → options.limits.nodes ≡ 2 → options.certificate ≡ true
+    → option_map (λ path. path.now) options.names_target ≡ Some (codes "n") → options.limits.events ≡ 5 → options.limits.nodes ≡ 2 → options.certificate ≡ true
     → AsksFor (asked_by run_words) (Run options)
 unfolding asked_by walked
-run_asks options file stop log events nodes certificate =
-    (refl, (ap Some (sym file), search rules, sym log, search rules, search rules))
+run_asks options file stop log names events nodes certificate =
+    (refl, (ap Some (sym file), search rules, sym log, sym names, search rules, search rules))
 
 -- a schedule is one word, and none is the empty one
 abbrev replay_words : List Text
@@ -56,13 +58,39 @@ replay_is_right : faults_of replay_words ≡ []
 unfolding faults_of walk_fault walked defaults_fault
 replay_is_right = refl
 
-replay_asks : (options : ReplayOptions) → options.schedule.now ≡ codes "0 1" → options.run.input.now ≡ codes "-" → options.run.stop ≡ false → options.run.target ≡ None
-    → options.run.limits.events ≡ 1048576 → options.run.limits.nodes ≡ 1024 → options.run.certificate ≡ false
+zero_is_no_at : 48 ≡ 64 → ⊥
+zero_is_no_at e = omega (arith, e)
+
+replay_asks : (options : ReplayOptions) (text : Bor Text) → options.schedule ≡ source.Text text → text.now ≡ codes "0 1" → options.run.input.now ≡ codes "-" → options.run.stop ≡ false
+    → options.run.target ≡ None → options.run.names_target ≡ None → options.run.limits.events ≡ 1048576 → options.run.limits.nodes ≡ 1024 → options.run.certificate ≡ false
     → AsksFor (asked_by replay_words) (Replay options)
 unfolding asked_by walked
-replay_asks options schedule file stop log events nodes certificate = (
+replay_asks options text schedule says file stop log names events nodes certificate = (
   refl,
-  (sym schedule, (ap Some (sym file), search rules, ap (option_map (λ path. path.now)) (sym log), search rules, search rules)),
+  (
+    subst (IsSchedule (codes "0 1")) (sym schedule) (sym says, λ path e. zero_is_no_at (ap (λ xs. get_or xs 0 0) e)),
+    (ap Some (sym file), search rules, ap (option_map (λ path. path.now)) (sym log), ap (option_map (λ path. path.now)) (sym names), search rules, search rules),
+  ),
+)
+
+-- a schedule of a file
+abbrev replay_file_words : List Text
+replay_file_words = codes "velodrome" ∷ codes "replay" ∷ codes "w" ∷ codes "--schedule" ∷ codes "@s" ∷ []
+
+replay_file_is_right : faults_of replay_file_words ≡ []
+unfolding faults_of walk_fault walked defaults_fault
+replay_file_is_right = refl
+
+replay_file_asks : (options : ReplayOptions) (path : Bor Text) → options.schedule ≡ source.File path → path.now ≡ codes "s" → options.run.input.now ≡ codes "w" → options.run.stop ≡ false
+    → options.run.target ≡ None → options.run.names_target ≡ None → options.run.limits.events ≡ 1048576 → options.run.limits.nodes ≡ 1024 → options.run.certificate ≡ false
+    → AsksFor (asked_by replay_file_words) (Replay options)
+unfolding asked_by walked
+replay_file_asks options path schedule says file stop log names events nodes certificate = (
+  refl,
+  (
+    subst (IsSchedule (codes "@s")) (sym schedule) (ap (λ rest. 64 ∷ rest) (sym says)),
+    (ap Some (sym file), search rules, ap (option_map (λ path. path.now)) (sym log), ap (option_map (λ path. path.now)) (sym names), search rules, search rules),
+  ),
 )
 
 -- a log and a picture
@@ -98,11 +126,39 @@ explore_is_right : faults_of explore_words ≡ []
 unfolding faults_of walk_fault walked defaults_fault
 explore_is_right = refl
 
-explore_asks : (options : ExploreOptions) → options.input.now ≡ codes "w" → options.states ≡ 2097152 → options.first ≡ false → options.target ≡ None
-    → options.limits.events ≡ 1048576 → options.limits.nodes ≡ 1024 → options.certificate ≡ false → AsksFor (asked_by explore_words) (Explore options)
+explore_asks : (options : ExploreOptions) → options.input.now ≡ codes "w" → options.states ≡ 2097152 → options.first ≡ false → options.progress ≡ false → options.random ≡ None
+    → options.target ≡ None → options.names_target ≡ None → options.limits.events ≡ 1048576 → options.limits.nodes ≡ 1024 → options.certificate ≡ false → AsksFor (asked_by explore_words) (Explore options)
 unfolding asked_by walked
-explore_asks options file states first log events nodes certificate =
-    (refl, (ap Some (sym file), search rules, search rules, ap (option_map (λ path. path.now)) (sym log), search rules, search rules))
+explore_asks options file states first progress random log names events nodes certificate = (
+  refl,
+  (
+    ap Some (sym file),
+    search rules,
+    search rules,
+    search rules,
+    subst (AreRandomRuns _) (sym random) refl,
+    ap (option_map (λ path. path.now)) (sym log),
+    ap (option_map (λ path. path.now)) (sym names),
+    search rules,
+    search rules,
+  ),
+)
+
+explore_gives : given_by (asked_by explore_words) ≡ record { states = false; seed = false }
+unfolding asked_by walked
+explore_gives = refl
+
+-- runs by chance
+abbrev chance_words : List Text
+chance_words = codes "velodrome" ∷ codes "explore" ∷ codes "w" ∷ codes "--random=9" ∷ codes "--seed" ∷ codes "18446744073709551615" ∷ []
+
+chance_is_right : faults_of chance_words ≡ []
+unfolding faults_of walk_fault walked defaults_fault
+chance_is_right = refl
+
+chance_gives : given_by (asked_by chance_words) ≡ record { states = false; seed = true }
+unfolding asked_by walked
+chance_gives = refl
 
 -- a log that is watched
 abbrev watch_words : List Text
@@ -164,6 +220,14 @@ too_many_nodes = refl
 too_many_states : faults_of (codes "velodrome" ∷ codes "explore" ∷ codes "w" ∷ codes "--states" ∷ codes "16777217" ∷ []) ≡ ValueValidation ∷ []
 unfolding faults_of walk_fault walked defaults_fault
 too_many_states = refl
+
+too_many_runs : faults_of (codes "velodrome" ∷ codes "explore" ∷ codes "w" ∷ codes "--random" ∷ codes "1000001" ∷ []) ≡ ValueValidation ∷ []
+unfolding faults_of walk_fault walked defaults_fault
+too_many_runs = refl
+
+too_great_a_seed : faults_of (codes "velodrome" ∷ codes "explore" ∷ codes "w" ∷ codes "--random=1" ∷ codes "--seed=18446744073709551616" ∷ []) ≡ ValueValidation ∷ []
+unfolding faults_of walk_fault walked defaults_fault
+too_great_a_seed = refl
 
 names_twice : faults_of (codes "velodrome" ∷ codes "audit" ∷ codes "a" ∷ codes "--names" ∷ codes "m" ∷ codes "--names" ∷ codes "n" ∷ []) ≡ ArgumentConflict ∷ []
 unfolding faults_of walk_fault walked defaults_fault

@@ -1,5 +1,5 @@
 -- What the matches of the command line ask for: the values of a subcommand, by the names of its arguments.
-use Rattle.std.specs.Prelude.{◌≡◌, ◌<◌, ◌^◌, ℕ, Bool, true, false, not, List, [], map, Option, Some, None, codes, option_map, unwrap_or}
+use Rattle.std.specs.Prelude.{◌≡◌, ◌≢◌, ◌⊎◌, ◌<◌, ◌^◌, ◌++◌, ℕ, Bool, true, false, not, List, [], map, Option, Some, None, codes, option_map, unwrap_or}
 use Rattle.std.specs.Borrow.{Bor}
 use Rattle.std.specs.Str.Parse.{IsNumeral, digits_value, without_leading_plus}
 use Rattle.clap.specs.Words.{Row, Text, all_of, first_of, one_of}
@@ -8,8 +8,12 @@ use Rattle.velo_program.specs.declared.request.AuditOptions.{AuditOptions}
 use Rattle.velo_program.specs.declared.request.CarryOptions.{CarryOptions}
 use Rattle.velo_program.specs.declared.request.CheckOptions.{CheckOptions}
 use Rattle.velo_program.specs.declared.request.ExploreOptions.{ExploreOptions}
+use Rattle.velo_program.specs.declared.request.RandomRuns.{RandomRuns}
 use Rattle.velo_program.specs.declared.request.RunOptions.{RunOptions}
 use Rattle.velo_program.specs.declared.request.ReplayOptions.{ReplayOptions}
+use Rattle.velo_program.specs.declared.request.ScheduleSource.{ScheduleSource}
+use Rattle.velo_program.specs.declared.request.ScheduleSource.TheVariants as schedule
+use Rattle.velo_program.specs.declared.request.TheConstants.{DEFAULT_SEED}
 use Rattle.velo_program.specs.declared.request.ExplainOptions.{ExplainOptions}
 use Rattle.velo_program.specs.declared.request.WatchOptions.{WatchOptions}
 use Rattle.velo_program.specs.declared.request.Request.{Request}
@@ -53,12 +57,19 @@ IsRun rows options =
     (first_of (codes "FILE") rows ≡ Some options.input.now)
     × IsFlag (one_of (codes "stop") rows) options.stop
     × IsPath (codes "log") rows options.target
+    × IsPath (codes "names-out") rows options.names_target
     × AreLimits rows options.limits × IsFlag (one_of (codes "certificate") rows) options.certificate
+
+-- what stands behind an @ is the path of a schedule, and any other word is its text
+abbrev pub IsSchedule : Text → ScheduleSource → Type 0
+IsSchedule word (schedule.Text text) =
+    (word ≡ text.now) × ((path : Text) → word ≢ codes "@" ++ path)
+IsSchedule word (schedule.File path) = word ≡ codes "@" ++ path.now
 
 -- no schedule is the empty one
 abbrev pub IsReplay : List Row → ReplayOptions → Type 0
 IsReplay rows options =
-    (unwrap_or (first_of (codes "schedule") rows) [] ≡ options.schedule.now)
+    IsSchedule (unwrap_or (first_of (codes "schedule") rows) []) options.schedule
     × IsRun rows options.run
 
 abbrev pub IsExplanation : List Row → ExplainOptions → Type 0
@@ -72,12 +83,27 @@ IsCarrying rows options =
     (first_of (codes "LOG") rows ≡ Some options.input.now)
     × (first_of (codes "log") rows ≡ Some options.target.now)
 
+-- the seed that is given, or the one by default
+abbrev pub IsSeed : List Row → ℕ → Type 0
+IsSeed rows seed =
+    ((first_of (codes "seed") rows ≡ None) × (seed ≡ DEFAULT_SEED))
+    ⊎ WritesNumber 64 (one_of (codes "seed") rows) seed
+
+-- so many runs by chance are asked for, or none
+abbrev pub AreRandomRuns : List Row → Option RandomRuns → Type 0
+AreRandomRuns rows None = first_of (codes "random") rows ≡ None
+AreRandomRuns rows (Some random) =
+    WritesNumber 32 (one_of (codes "random") rows) random.runs × IsSeed rows random.seed
+
 abbrev pub IsExploring : List Row → ExploreOptions → Type 0
 IsExploring rows options =
     (first_of (codes "FILE") rows ≡ Some options.input.now)
     × WritesNumber 32 (one_of (codes "states") rows) options.states
     × IsFlag (one_of (codes "first") rows) options.first
+    × IsFlag (one_of (codes "progress") rows) options.progress
+    × AreRandomRuns rows options.random
     × IsPath (codes "log") rows options.target
+    × IsPath (codes "names-out") rows options.names_target
     × AreLimits rows options.limits × IsFlag (one_of (codes "certificate") rows) options.certificate
 
 abbrev pub IsWatch : List Row → WatchOptions → Type 0

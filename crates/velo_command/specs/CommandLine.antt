@@ -6,9 +6,9 @@ use Rattle.clap.specs.declared.builder.action.ArgAction.TheVariants.{Append, Set
 use Rattle.clap.specs.declared.builder.arg.Arg.{Arg}
 use Rattle.clap.specs.declared.builder.command.Command.{Command}
 use Rattle.clap.specs.declared.builder.command.Command.TheViews.{out-Command}
-use Rattle.clap.specs.declared.builder.value_parser.ValueParser.TheVariants.{Signed}
+use Rattle.clap.specs.declared.builder.value_parser.ValueParser.TheVariants.{Signed, Unsigned}
 use Rattle.velo_events.specs.declared.limits.TheConstants.{MOST_EVENTS, MOST_NODES}
-use Rattle.velo_program.specs.declared.request.TheConstants.{MOST_STATES}
+use Rattle.velo_program.specs.declared.request.TheConstants.{MOST_RUNS, MOST_STATES}
 
 -- ---- the arguments
 
@@ -53,14 +53,26 @@ states = record (valued (codes "states")) {
   defaults = codes "2097152" ∷ [];
 }
 
+-- how many runs by chance, where they are asked for
+abbrev pub random : Rule
+random = record (valued (codes "random")) { parser = Some (Signed (pos 1) (pos MOST_RUNS)) }
+
+-- the seed of runs by chance, which 64 bits hold
+abbrev pub seed : Rule
+seed = record (valued (codes "seed")) { parser = Some (Unsigned 0 18446744073709551615) }
+
 -- the options of each command that keeps a graph
 abbrev pub graph_options : List Rule
 graph_options =
     events (codes "1048576") ∷ nodes (codes "1024") ∷ flag (codes "certificate") ∷ []
 
+-- the options of each command that saves a run
+abbrev pub saved_options : List Rule
+saved_options = valued (codes "log") ∷ valued (codes "names-out") ∷ graph_options
+
 -- the options of each command that runs a workload
 abbrev pub run_options : List Rule
-run_options = flag (codes "stop") ∷ valued (codes "log") ∷ graph_options
+run_options = flag (codes "stop") ∷ saved_options
 
 -- ---- the subcommands
 
@@ -85,7 +97,8 @@ carry = subcommand (codes "carry") (word (codes "LOG") ∷ needed (codes "log") 
 
 abbrev pub explore : Shape
 explore = subcommand (codes "explore")
-    (word (codes "FILE") ∷ states ∷ flag (codes "first") ∷ valued (codes "log") ∷ graph_options)
+    (word (codes "FILE") ∷ states ∷ flag (codes "first") ∷ flag (codes "progress")
+    ∷ random ∷ seed ∷ saved_options)
 
 abbrev pub watch : Shape
 watch = subcommand (codes "watch")

@@ -10,7 +10,7 @@ use Rattle.velo_program.specs.declared.fate.Fate.{Fate}
 use Rattle.velo_program.specs.declared.request.Request.{Request}
 use Rattle.velo_command.specs.Asked.{AsksFor, Asked}
 use Rattle.velo_command.specs.CommandLine.{asked_by, faults_of}
-use Rattle.velo_command.specs.Together.{clash_of, line_of_clash}
+use Rattle.velo_command.specs.Together.{clash_of, given_by, line_of_clash}
 use Rattle.velo_command.specs.Usage.{Console, LacksMemory, TellsError, bad_usage}
 use Rattle.velo_command.specs.declared.together.Clash.{Clash}
 
@@ -20,7 +20,7 @@ pub record DoesRequest (asked : Asked) (store : Store) (console : Console) : Typ
   pub request : Request
   pub fate : Fate
   pub asks : AsksFor asked request
-  pub together : clash_of request ≡ None
+  pub together : clash_of request (given_by asked) ≡ None
   pub done : Does store request console.stdout fate
   pub cause : AnswersWithCause request fate
   pub ended : Ends fate console.stderr console.status
@@ -31,7 +31,7 @@ pub record TellsClash (asked : Asked) (console : Console) : Type 0 where
   pub request : Request
   pub clash : Clash
   pub asks : AsksFor asked request
-  pub apart : clash_of request ≡ Some clash
+  pub apart : clash_of request (given_by asked) ≡ Some clash
   pub kept : console.is_kept
   pub told : Closes bad_usage (line_of_clash clash) console.stderr console.status
 

@@ -2,20 +2,20 @@
 ghost use Rattle.std.specs.Prelude.{◌≡◌, IfOk, OnErr, codes};
 ghost use Rattle.clap.specs.Words.{app_of};
 ghost use Rattle.velo_events.specs.Refusals.{GrowthRefused};
-ghost use Rattle.velo_command.specs.CommandLine.{AddsRules, IsArgument, IsSubcommand, audit, bare, carry, check, command_line, events, explain, explore, flag, graph_options, needed, nodes, repeated, replay, run, run_options, states, valued, watch, word};
+ghost use Rattle.velo_command.specs.CommandLine.{AddsRules, IsArgument, IsSubcommand, audit, bare, carry, check, command_line, events, explain, explore, flag, graph_options, needed, nodes, random, repeated, replay, run, run_options, saved_options, seed, states, valued, watch, word};
 
 use crate::growth::{with_argument, with_subcommand};
 use crate::help;
 use clap::{Arg, ArgAction, Command, value_parser};
 use std::alloc::Global;
 use velo_events::{MOST_EVENTS, MOST_NODES, Memory};
-use velo_program::MOST_STATES;
+use velo_program::{MOST_RUNS, MOST_STATES};
 
 /// The command line of the program, as [`run`](crate::run) reads its words: the subcommands `check`, `replay`, `run`,
 /// `explain`, `carry`, `explore`, `watch` and `audit`, each with its operand and its options. A word of no subcommand, or a
 /// limit out of its range, is a fault of usage: `--events` is 1 to [`MOST_EVENTS`], and 1,048,576 where it is not given;
 /// `--nodes` is 1 to [`MOST_NODES`], and 1,024; for `audit` both are the greatest where they are not given. `--states` is 1 to
-/// [`MOST_STATES`], and 2,097,152.
+/// [`MOST_STATES`], and 2,097,152. `--random` is 1 to [`MOST_RUNS`], and `--seed` is what 64 bits hold.
 ///
 /// # Errors
 /// `Memory` where a growth was refused.
@@ -84,7 +84,7 @@ fn explain<'a>(alloc: Global) -> Result<Command<'a>, Memory>
     ensures memory { OnErr result GrowthRefused }
 {
     let command = Command::new(alloc, "explain")
-        .about("Reads a recorded log and explains the verdict in words")
+        .about("Reads a recorded log and explains the verdict in lanes and words")
         .after_help(help::OF_EXPLAIN);
     let command = with_argument(command, log(alloc))?;
     let command = with_argument(command, dot(alloc))?;
@@ -112,7 +112,11 @@ fn explore<'a>(alloc: Global) -> Result<Command<'a>, Memory>
     let command = with_argument(command, file(alloc))?;
     let command = with_argument(command, states_argument(alloc))?;
     let command = with_argument(command, first(alloc))?;
+    let command = with_argument(command, progress(alloc))?;
+    let command = with_argument(command, random(alloc))?;
+    let command = with_argument(command, seed(alloc))?;
     let command = with_argument(command, found_log(alloc))?;
+    let command = with_argument(command, saved_names(alloc))?;
     with_graph_options(alloc, command)
 }
 
@@ -153,6 +157,7 @@ fn with_run_options<'a>(alloc: Global, command: Command<'a>) -> Result<Command<'
 {
     let command = with_argument(command, stop(alloc))?;
     let command = with_argument(command, out(alloc))?;
+    let command = with_argument(command, saved_names(alloc))?;
     with_graph_options(alloc, command)
 }
 
@@ -189,7 +194,7 @@ fn schedule<'a>(alloc: Global) -> Arg<'a>
         alloc,
         "schedule",
         "TEXT",
-        "Whose turns come first: thread numbers from 0 to 63, parted by one space; THREAD*N for N turns",
+        "Whose turns come first: thread numbers from 0 to 63, parted by one space; THREAD*N for N turns; or @PATH of a file with this text",
     )
 }
 
@@ -210,6 +215,17 @@ fn out<'a>(alloc: Global) -> Arg<'a>
     )
 }
 
+fn saved_names<'a>(alloc: Global) -> Arg<'a>
+    ensures { IsArgument (valued (codes "names-out")) result }
+{
+    valued(
+        alloc,
+        "names-out",
+        "NAMES",
+        "Write the names of the workload to this path, behind the log",
+    )
+}
+
 fn names<'a>(alloc: Global) -> Arg<'a>
     ensures { IsArgument (valued (codes "names")) result }
 {
@@ -225,6 +241,38 @@ fn first<'a>(alloc: Global) -> Arg<'a>
     ensures { IsArgument (flag (codes "first")) result }
 {
     flag(alloc, "first", "End the search at the first finding")
+}
+
+fn progress<'a>(alloc: Global) -> Arg<'a>
+    ensures { IsArgument (flag (codes "progress")) result }
+{
+    flag(
+        alloc,
+        "progress",
+        "Tell on standard error how far the search is, also where that is no terminal",
+    )
+}
+
+/// How many runs by chance there are.
+fn random<'a>(alloc: Global) -> Arg<'a>
+    ensures { IsArgument random result }
+{
+    Arg::new(alloc, "random")
+        .long("random")
+        .value_name("N")
+        .help("Make so many runs by chance in place of the search, 1 to 1000000")
+        .value_parser(value_parser!(u32).range(1..=i64::from(MOST_RUNS)))
+}
+
+/// The seed of the runs by chance.
+fn seed<'a>(alloc: Global) -> Arg<'a>
+    ensures { IsArgument seed result }
+{
+    Arg::new(alloc, "seed")
+        .long("seed")
+        .value_name("S")
+        .help("What the runs by chance are drawn by, 0 to 18446744073709551615 [default: 1]")
+        .value_parser(value_parser!(u64))
 }
 
 fn found_log<'a>(alloc: Global) -> Arg<'a>

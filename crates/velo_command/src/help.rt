@@ -76,7 +76,9 @@ Refusals:
 /// Behind the help of `replay`.
 pub const OF_REPLAY: &str = "\
 Example, two threads that take two locks in opposite orders:
-  printf 'lock m\\nlock n\\nthread main\\nfork a\\nacquire m\\nacquire n\\nrelease n\\nrelease m\\nthread a\\nacquire n\\nacquire m\\nrelease m\\nrelease n\\n' | velodrome replay - --schedule '0*2 1'
+  printf 'lock m\\nlock n\\nthread main\\nfork a\\nacquire m\\nacquire n\\nrelease n\\nrelease m\\n' > two
+  printf 'thread a\\nacquire n\\nacquire m\\nrelease m\\nrelease n\\n' >> two
+  velodrome replay two --schedule '0*2 1'
 It reports three events and 'verdict clean', and says 'stuck', with status 4.
 
 The workload: 'var NAME' and 'lock NAME' first; then for each thread a line 'thread NAME' and its statements, one a
@@ -85,13 +87,18 @@ line: 'read x', 'write x', 'set n', 'add n', 'acquire m', 'release m', 'share m'
 are forked. docs/REFERENCE.md describes it whole, and the report.
 
 The schedule: in its turn a thread goes up to its next event and tries that; it passes where it must wait. After the
-turns of the schedule all threads have turns in rounds, up to the end.
+turns of the schedule all threads have turns in rounds, up to the end. With @PATH its text is that of a file, read before
+FILE, or with @- that of standard input; one newline may stand behind it. One of FILE and PATH can be -.
 
-FILE and OUT are two files: where they are one, nothing is done to it. With - for FILE this is not tested.
+The names: --names-out writes the names of the workload to NAMES, behind the log, for 'velodrome explain OUT --names NAMES'.
+It goes only with --log.
+
+FILE, OUT and NAMES are files of their own: where two are one, nothing is done to it. With - for FILE this is not tested.
 
 Statuses, each with the lines on standard error:
   0  done without an alarm, or help
-  2  usage; 'bad schedule'; 'error: FILE and OUT are one file'; the text is no workload:
+  2  usage; 'error: standard input can be read once'; 'error: --names-out goes only with --log'; 'bad schedule';
+     'error: FILE and OUT are one file', the same of FILE and NAMES, and of OUT and NAMES; the text is no workload:
      'workload fault K line N'
   3  an alarm: no serial reordering of the run exists
   4  the run could not go on: 'stuck', 'refused K thread T'; the report is written all the same
@@ -109,19 +116,24 @@ Refusals: see 'velodrome check --help'.";
 /// Behind the help of `run`.
 pub const OF_RUN: &str = "\
 Example, two threads that add to one counter under a lock, each in a block:
-  printf 'var x\\nlock m\\nthread main\\nfork a\\nbegin inc\\nacquire m\\nread x\\nadd 1\\nwrite x\\nrelease m\\nend\\njoin a\\nthread a\\nbegin inc\\nacquire m\\nread x\\nadd 1\\nwrite x\\nrelease m\\nend\\n' | velodrome run -
+  printf 'var x\\nlock m\\nthread main\\nfork a\\nbegin inc\\nacquire m\\nread x\\nadd 1\\nwrite x\\nrelease m\\nend\\njoin a\\n' > count
+  printf 'thread a\\nbegin inc\\nacquire m\\nread x\\nadd 1\\nwrite x\\nrelease m\\nend\\n' >> count
+  velodrome run count
 It reports 16 events and 'verdict clean', with status 0, in whatever order the two get the lock.
 
 Each thread of the workload is a thread of the system, and they run at once: two runs of a workload may differ in their
 logs and in their verdicts. 'velodrome replay --help' describes the workload. A thread waits for a lock that another one
 holds, and for the end of a thread that it joins; where that chain of waits comes back to it, the run ends as 'stuck'.
 
-FILE and OUT are two files: where they are one, nothing is done to it. With - for FILE this is not tested.
+The names: --names-out writes the names of the workload to NAMES, behind the log, for 'velodrome explain OUT --names NAMES'.
+It goes only with --log.
+
+FILE, OUT and NAMES are files of their own: where two are one, nothing is done to it. With - for FILE this is not tested.
 
 Statuses, each with the lines on standard error:
   0  done without an alarm, or help
-  2  usage; 'error: FILE and OUT are one file'; the text is no workload:
-     'workload fault K line N'
+  2  usage; 'error: --names-out goes only with --log'; 'error: FILE and OUT are one file', the same of FILE and NAMES,
+     and of OUT and NAMES; the text is no workload: 'workload fault K line N'
   3  an alarm: no serial reordering of the run exists
   4  the run could not go on: 'stuck', 'refused K thread T'; the report is written all the same
   5  memory or a device failed: 'out of memory', 'read failed', 'write failed', 'cannot open'; or a thread was lost for
@@ -133,16 +145,25 @@ Workload faults: see 'velodrome replay --help'. Refusals: see 'velodrome check -
 pub const OF_EXPLAIN: &str = "\
 Example, a lost update:
   printf 'vlog 1 2 1 0\\n0 fork 1\\n0 begin 7\\n0 rd 0 0\\n1 wr 0 5\\n0 wr 0 1\\n' | velodrome explain -
-It tells which event closes a cycle, which transactions are on the cycle, which two events stand behind each of its
-edges, which blocks are to blame and why, each with its line of the log. Of a log without an alarm it tells how many
-transactions a serial order has; there is no picture then, and OUT is not opened. With --names the words and the picture
-have names behind the numbers.
+It shows the cycle in lanes: a column for each thread, a row for each event with its line of the log, and how many lines
+lie between. Then it tells which event closes the cycle, which transactions are on it, which two events stand behind each
+of its edges, which blocks are to blame and why. Of a log without an alarm it tells how many transactions a serial order
+has; there are no lanes and no picture then, and OUT is not opened. With --names lanes, words and picture have names
+behind the numbers; what is too long for its lane ends in '..'.
 
-LOG and OUT are two files: where they are one, nothing is done to it: 'error: LOG and OUT are one file', with status 2.
-With - for LOG this is not tested.
+A log has as many events and nodes as any check may have, so no limit is met.
 
-The log, the names, the other statuses and what their numbers mean are those of 'velodrome check --help'. A log has as
-many events and nodes as any check may have.";
+LOG and OUT are two files: where they are one, nothing is done to it. With - for LOG this is not tested.
+
+Statuses, each with the lines on standard error:
+  0  no alarm, or help
+  2  usage; 'error: standard input can be read once'; 'error: LOG and OUT are one file'; the text is no log: 'log fault K',
+     'log fault K line N'; an event can't come about: 'refused K at P', 'wrong value at P'; the names are at fault:
+     'names fault K line N'
+  3  an alarm: no serial reordering of the log exists
+  5  memory or a device failed: 'out of memory', 'read failed', 'write failed', 'cannot open'
+
+Log, names, faults and refusals: see 'velodrome check --help'.";
 
 /// Behind the help of `carry`.
 pub const OF_CARRY: &str = "\
@@ -164,7 +185,9 @@ Log faults: see 'velodrome check --help'.";
 /// Behind the help of `explore`.
 pub const OF_EXPLORE: &str = "\
 Example, two threads that add to one counter, each in a block:
-  printf 'var x\\nthread main\\nfork a\\nbegin inc\\nread x\\nadd 1\\nwrite x\\nend\\njoin a\\nthread a\\nbegin inc\\nread x\\nadd 1\\nwrite x\\nend\\n' | velodrome explore -
+  printf 'var x\\nthread main\\nfork a\\nbegin inc\\nread x\\nadd 1\\nwrite x\\nend\\njoin a\\n' > lost
+  printf 'thread a\\nbegin inc\\nread x\\nadd 1\\nwrite x\\nend\\n' >> lost
+  velodrome explore lost
 It finds a schedule with an alarm, no deadlock and no refusal, and reports that schedule's replay, with status 3.
 
 It writes 'events N', those of all threads together, and 'states N', how many the search looked at; then three findings:
@@ -175,16 +198,28 @@ It writes 'events N', those of all threads together, and 'states N', how many th
   'alarm open', 'stuck open', 'refused open'
                   the search ended before its end: at --states, or with --first at a finding; nothing is said
 Behind them is the report of the replay by the schedule of the alarm, else of the deadlock, else of the refusal, as
-'velodrome replay' writes it; --certificate and --log are about that replay. Where no schedule was found, there is none, and
-OUT is not opened. A workload with more events than --events is not searched: 'states 0', and all three are open.
+'velodrome replay' writes it; --certificate, --log and --names-out are about that replay. Where no schedule was found, there
+is none, and OUT and NAMES are not opened. A workload with more events than --events is not searched: 'states 0', and all
+three are open.
 
-FILE and OUT are two files: where they are one, nothing is done to it. With - for FILE this is not tested.
+With --random N it makes N runs in place of the search, whose turns are drawn by chance: by the same seed the same runs. Then
+'seed S' and 'runs N' come first, and 'none' says only that none of these runs has it. --random goes with neither --states nor
+--first nor --progress, and --seed only with --random.
+
+A search that takes more than two seconds tells how far it is in one line on a terminal where standard error goes there, and
+clears the line at its end. With --progress it does so wherever standard error goes, at most one line in two seconds.
+
+The names: --names-out writes the names of the workload to NAMES, behind the log. It goes only with --log.
+
+FILE, OUT and NAMES are files of their own: where two are one, nothing is done to it. With - for FILE this is not tested.
 
 Statuses, each with the lines on standard error:
-  0  every schedule was tried, and nothing was found; or help
-  2  usage; 'error: FILE and OUT are one file'; the text is no workload: 'workload fault K line N'
+  0  every schedule was tried, or every run made, and nothing was found; or help
+  2  usage; 'error: --random goes with neither --states nor --first nor --progress'; 'error: --seed goes only with --random';
+     'error: --names-out goes only with --log'; 'error: FILE and OUT are one file', the same of FILE and NAMES,
+     and of OUT and NAMES; the text is no workload: 'workload fault K line N'
   3  an alarm was found: by that schedule no serial reordering of the run exists
-  4  no alarm was found, but a deadlock, a refusal, or the search is open: 'stuck', 'refused K thread T', 'open'
+  4  no alarm was found, but a deadlock, a refusal, or a finding is open: 'stuck', 'refused K thread T', 'open'
   5  memory or a device failed: 'out of memory', 'read failed', 'write failed', 'cannot open'
 
 Workload and its faults: see 'velodrome replay --help'. Refusals: see 'velodrome check --help'.";

@@ -14,7 +14,7 @@ use crate::arguments::command;
 use crate::growth::matches_of;
 use crate::requests::request_of;
 use crate::telling::{tell_error, tell_fault};
-use crate::together::{clash_of, tell_clash};
+use crate::together::{clash_of, given_by, tell_clash};
 use clap::ArgMatches;
 use std::alloc::Global;
 use std::convert::AsStr;
@@ -75,7 +75,7 @@ fn do_asked<R: Threads + Wait + Sync, F: Files, O: Sink, E: Sink>(
         (writing E.contents E.failures err.old err.new) result) }
 {
     match request_of(matches) {
-        Some(request) => match clash_of(&request) {
+        Some(request) => match clash_of(&request, given_by(matches)) {
             Some(clash) => tell_clash(clash, err),
             None => end_with(&do_request(rt, alloc, &request, files, out), err),
         },

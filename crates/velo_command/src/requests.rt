@@ -1,5 +1,5 @@
 //! What the matches of the command line ask for.
-ghost use Rattle.std.specs.Prelude.{◌≤◌, ℕ, codes, IfNone, IfSome};
+ghost use Rattle.std.specs.Prelude.{◌≤◌, ℕ, Option, Some, codes, IfNone, IfSome};
 ghost use Rattle.clap.specs.Words.{found_of, one_of, rows_of, subcommand_rows_of};
 ghost use Rattle.velo_program.specs.declared.request.Limits.{Limits};
 ghost use Rattle.velo_program.specs.declared.request.AuditOptions.{AuditOptions};
@@ -7,17 +7,19 @@ ghost use Rattle.velo_program.specs.declared.request.CarryOptions.{CarryOptions}
 ghost use Rattle.velo_program.specs.declared.request.CheckOptions.{CheckOptions};
 ghost use Rattle.velo_program.specs.declared.request.ExplainOptions.{ExplainOptions};
 ghost use Rattle.velo_program.specs.declared.request.ExploreOptions.{ExploreOptions};
+ghost use Rattle.velo_program.specs.declared.request.RandomRuns.{RandomRuns};
 ghost use Rattle.velo_program.specs.declared.request.ReplayOptions.{ReplayOptions};
 ghost use Rattle.velo_program.specs.declared.request.RunOptions.{RunOptions};
 ghost use Rattle.velo_program.specs.declared.request.TheConstants.{MOST_STATES};
 ghost use Rattle.velo_program.specs.declared.request.WatchOptions.{WatchOptions};
-ghost use Rattle.velo_command.specs.Asked.{AreLimits, AsksFor, AsksForNothing, IsAudit, IsCarrying, IsCheck, IsExplanation, IsExploring, IsReplay, IsRun, IsWatch, WritesNumber};
+ghost use Rattle.velo_command.specs.Asked.{AreLimits, AreRandomRuns, AsksFor, AsksForNothing, IsAudit, IsCarrying, IsCheck, IsExplanation, IsExploring, IsReplay, IsRun, IsSchedule, IsSeed, IsWatch, WritesNumber};
 
 use clap::ArgMatches;
 use velo_events::{MOST_EVENTS, MOST_NODES};
 use velo_program::{
-    AuditOptions, CarryOptions, CheckOptions, ExplainOptions, ExploreOptions, Limits, MOST_STATES,
-    ReplayOptions, Request, RunOptions, WatchOptions,
+    AuditOptions, CarryOptions, CheckOptions, DEFAULT_SEED, ExplainOptions, ExploreOptions, Limits,
+    MOST_RUNS, MOST_STATES, RandomRuns, ReplayOptions, Request, RunOptions, ScheduleSource,
+    WatchOptions,
 };
 
 /// Reads the limits from the matches of a subcommand; none where one is out of its range.
@@ -47,13 +49,23 @@ fn check_options<'a>(found: &ArgMatches<'a>) -> Option<CheckOptions<'a>>
     })
 }
 
+/// Where the schedule of this word stands: what stands behind an `@` is a path.
+fn schedule_of<'a>(word: &'a str) -> ScheduleSource<'a>
+    ensures { IsSchedule word.entry.now result }
+{
+    match word.strip_prefix('@') {
+        Some(path) => ScheduleSource::File(path),
+        None => ScheduleSource::Text(word),
+    }
+}
+
 fn replay_options<'a>(found: &ArgMatches<'a>) -> Option<ReplayOptions<'a>>
     ensures some { IfSome result (IsReplay (rows_of (found_of found.now))) }
     ensures none { IfNone result ((options : ReplayOptions)
         → ¬ IsReplay (rows_of (found_of found.now)) options) }
 {
     Some(ReplayOptions {
-        schedule: found.get_str("schedule").unwrap_or(""),
+        schedule: schedule_of(found.get_str("schedule").unwrap_or("")),
         run: run_options(found)?,
     })
 }
@@ -67,7 +79,7 @@ fn run_options<'a>(found: &ArgMatches<'a>) -> Option<RunOptions<'a>>
         input: found.get_str("FILE")?,
         stop: found.get_flag("stop"),
         target: found.get_str("log"),
-        names_target: None,
+        names_target: found.get_str("names-out"),
         limits: limits_of(found)?,
         certificate: found.get_flag("certificate"),
     })
@@ -110,6 +122,44 @@ fn states_of(found: &ArgMatches) -> Option<u32>
     Some(states)
 }
 
+/// Reads the seed of runs by chance; none where it is no number that 64 bits hold.
+fn seed_of(found: &ArgMatches) -> Option<u64>
+    ensures some { IfSome result (IsSeed (rows_of (found_of found.now))) }
+    ensures none { IfNone result ((seed : ℕ) → ¬ IsSeed (rows_of (found_of found.now)) seed) }
+{
+    match found.get_str("seed") {
+        Some(_) => found.get_one::<u64>("seed"),
+        None => Some(DEFAULT_SEED),
+    }
+}
+
+/// Reads the runs by chance; none where one of their numbers is missing or out of its range.
+fn random_of(found: &ArgMatches) -> Option<RandomRuns>
+    ensures some { IfSome result (λ random.
+        AreRandomRuns (rows_of (found_of found.now)) (Some random)) }
+    ensures none { IfNone result ((random : RandomRuns)
+        → ¬ AreRandomRuns (rows_of (found_of found.now)) (Some random)) }
+{
+    let runs = found.get_one::<u32>("random")?;
+    let seed = seed_of(found)?;
+    if runs < 1 || runs > MOST_RUNS {
+        return None;
+    }
+    Some(RandomRuns { runs, seed })
+}
+
+/// Reads the runs by chance, if they are asked for; none where one of their numbers is out of its range.
+fn random_if(found: &ArgMatches) -> Option<Option<RandomRuns>>
+    ensures some { IfSome result (AreRandomRuns (rows_of (found_of found.now))) }
+    ensures none { IfNone result ((random : Option RandomRuns)
+        → ¬ AreRandomRuns (rows_of (found_of found.now)) random) }
+{
+    match found.get_str("random") {
+        Some(_) => Some(Some(random_of(found)?)),
+        None => Some(None),
+    }
+}
+
 fn explore_options<'a>(found: &ArgMatches<'a>) -> Option<ExploreOptions<'a>>
     ensures some { IfSome result (IsExploring (rows_of (found_of found.now))) }
     ensures none { IfNone result ((options : ExploreOptions)
@@ -119,12 +169,12 @@ fn explore_options<'a>(found: &ArgMatches<'a>) -> Option<ExploreOptions<'a>>
         input: found.get_str("FILE")?,
         states: states_of(found)?,
         first: found.get_flag("first"),
+        progress: found.get_flag("progress"),
+        random: random_if(found)?,
         target: found.get_str("log"),
-        names_target: None,
+        names_target: found.get_str("names-out"),
         limits: limits_of(found)?,
         certificate: found.get_flag("certificate"),
-        progress: false,
-        random: None,
     })
 }
 

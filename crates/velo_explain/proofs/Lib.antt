@@ -1,3 +1,4 @@
 pub mod OnPieces
 pub mod OnEvidence
 pub mod OnReasons
+pub mod OnLanes

@@ -5,8 +5,7 @@ use Rattle.std.specs.List.{flat_map}
 use Rattle.std.proofs.lemmas.Grind.{flat_map-append}
 use Rattle.std.proofs.lemmas.List.{append-nil, map-append}
 use Rattle.velo_explain.specs.declared.pieces.Piece.{Piece}
-use Rattle.velo_explain.specs.Pieces.{joined, piece_text, pieces_text}
-use Rattle.velo_explain.specs.Text.{numbered}
+use Rattle.velo_explain.specs.Pieces.{joined, numbered, piece_text, pieces_text}
 
 joined-append : (xs ys : List (List ℕ)) → joined (xs ++ ys) ≡ joined xs ++ joined ys
 joined-append [] ys = refl
@@ -40,15 +39,22 @@ texts-more text xs i x is =
     ∙ sym (flat_map-append text (take i xs) (x ∷ []))
     ∙ ap (flat_map text) (sym is)
 
--- five texts, one after the other
-pub five_parts : (none one two three four five a b c d e : List ℕ) → none ≡ [] → one ≡ none ++ a → two ≡ one ++ b → three ≡ two ++ c → four ≡ three ++ d → five ≡ four ++ e → five ≡ a ++ (b ++ (c ++ (d ++ e)))
-five_parts none one two three four five a b c d e is0 is1 is2 is3 is4 is5 =
+-- five texts, one after the other, behind what is there
+pub five_more : (start one two three four five a b c d e : List ℕ) → one ≡ start ++ a → two ≡ one ++ b → three ≡ two ++ c → four ≡ three ++ d → five ≡ four ++ e → five ≡ start ++ (a ++ (b ++ (c ++ (d ++ e))))
+five_more start one two three four five a b c d e is1 is2 is3 is4 is5 =
     is5
     ∙ ap (λ (t : List ℕ). t ++ e) is4 ∙ append_assoc three d e
     ∙ ap (λ (t : List ℕ). t ++ (d ++ e)) is3 ∙ append_assoc two c (d ++ e)
     ∙ ap (λ (t : List ℕ). t ++ (c ++ (d ++ e))) is2 ∙ append_assoc one b (c ++ (d ++ e))
-    ∙ ap (λ (t : List ℕ). t ++ (b ++ (c ++ (d ++ e)))) is1 ∙ append_assoc none a (b ++ (c ++ (d ++ e)))
-    ∙ ap (λ (t : List ℕ). t ++ (a ++ (b ++ (c ++ (d ++ e))))) is0
+    ∙ ap (λ (t : List ℕ). t ++ (b ++ (c ++ (d ++ e)))) is1 ∙ append_assoc start a (b ++ (c ++ (d ++ e)))
+
+-- three texts
+pub three_parts : (none one two three a b c : List ℕ) → none ≡ [] → one ≡ none ++ a → two ≡ one ++ b → three ≡ two ++ c → three ≡ a ++ (b ++ c)
+three_parts none one two three a b c is0 is1 is2 is3 =
+    is3
+    ∙ ap (λ (t : List ℕ). t ++ c) is2 ∙ append_assoc one b c
+    ∙ ap (λ (t : List ℕ). t ++ (b ++ c)) is1 ∙ append_assoc none a (b ++ c)
+    ∙ ap (λ (t : List ℕ). t ++ (a ++ (b ++ c))) is0
 
 -- four
 pub four_parts : (none one two three four a b c d : List ℕ) → none ≡ [] → one ≡ none ++ a → two ≡ one ++ b → three ≡ two ++ c → four ≡ three ++ d → four ≡ a ++ (b ++ (c ++ d))

@@ -1,6 +1,9 @@
 pub mod Pieces
+pub mod Fitting
 pub mod Spans
 pub mod Evidence
+pub mod Order
+pub mod Lanes
 pub mod Text
 pub mod Picture
 pub mod Count

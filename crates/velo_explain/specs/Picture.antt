@@ -7,7 +7,7 @@ use Rattle.velo_names.specs.declared.kind.NameKind.TheVariants as of_name
 use Rattle.velo_names.specs.Names.{NameLists, no_names, name_of}
 use Rattle.velo_explain.specs.declared.spans.Span.{Span}
 use Rattle.velo_explain.specs.declared.evidence.Evidence.{Evidence}
-use Rattle.velo_explain.specs.Pieces.{event_text, block_text, lines_text, joined, block_name, escaped_text}
+use Rattle.velo_explain.specs.Pieces.{event_text, block_text, lines_text, joined, name_about, block_name, escaped_text}
 use Rattle.velo_explain.specs.Text.{line_of, numbered, next_number}
 
 unfoldable pub start_text : List ℕ
@@ -25,12 +25,14 @@ box_text names trace k span = joined (
     ∷ escaped_text (block_name names (event_at trace span.first).kind)
     ∷ codes "\\n" ∷ lines_text (line_of span.first) (line_of span.last) ∷ codes "\"]; }\n" ∷ [])
 
--- "  T1 -> T2 [label="line 4: 0 rd 0 0\nline 5: 1 wr 0 5"];"
-unfoldable pub arrow_text : List Event → ℕ → ℕ → EdgeEvents → List ℕ
-arrow_text trace count k edge = joined (
+-- "  T1 -> T2 [label="line 4: 0 rd 0 0\nline 5: 1 wr 0 5"];". Behind each event stands the name of what it is about.
+unfoldable pub arrow_text : NameLists → List Event → ℕ → ℕ → EdgeEvents → List ℕ
+arrow_text names trace count k edge = joined (
     codes "  T" ∷ decimal (k + 1) ∷ codes " -> T" ∷ decimal (next_number count k)
     ∷ codes " [label=\"line " ∷ decimal (line_of edge.from) ∷ codes ": " ∷ event_text (event_at trace edge.from)
-    ∷ codes "\\nline " ∷ decimal (line_of edge.to) ∷ codes ": " ∷ event_text (event_at trace edge.to) ∷ codes "\"];\n" ∷ [])
+    ∷ escaped_text (name_about names (event_at trace edge.from).kind)
+    ∷ codes "\\nline " ∷ decimal (line_of edge.to) ∷ codes ": " ∷ event_text (event_at trace edge.to)
+    ∷ escaped_text (name_about names (event_at trace edge.to).kind) ∷ codes "\"];\n" ∷ [])
 
 unfoldable pub end_text : List ℕ
 end_text = codes "}\n"
@@ -40,7 +42,7 @@ abbrev pub named_picture_text : NameLists → List Event → Evidence → List �
 named_picture_text names trace evidence =
     start_text
     ++ (numbered (box_text names trace) 0 evidence.spans.items
-    ++ (numbered (arrow_text trace (length evidence.edges.items)) 0 evidence.edges.items
+    ++ (numbered (arrow_text names trace (length evidence.edges.items)) 0 evidence.edges.items
     ++ end_text))
 
 -- and without

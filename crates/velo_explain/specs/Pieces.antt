@@ -1,5 +1,5 @@
 -- Pieces of text. Private contracts cite these words.
-use Rattle.std.specs.Prelude.{ℕ, ◌==◌, if◌then◌else◌, List, [], ◌∷◌, ◌++◌, codes, decimal, map, ◌||◌, Option, Some, None}
+use Rattle.std.specs.Prelude.{ℕ, ◌+◌, ◌==◌, if◌then◌else◌, List, [], ◌∷◌, ◌++◌, codes, decimal, map, ◌||◌, Option, Some, None}
 use Rattle.std.specs.List.{flat_map}
 use Rattle.velo_events.specs.declared.event.Event.{Event}
 use Rattle.velo_events.specs.declared.event.Kind.{Kind}
@@ -8,7 +8,7 @@ use Rattle.velo_logtext.specs.Text.{kind_text}
 use Rattle.velo_names.specs.declared.kind.NameKind.TheVariants as of_name
 use Rattle.velo_names.specs.Names.{NameLists, name_of}
 use Rattle.velo_explain.specs.declared.pieces.Piece.{Piece}
-use Rattle.velo_explain.specs.declared.pieces.Piece.TheVariants.{Text, Number, Words, Block, Lines, ThreadName, KindName, BlockName, EscapedThread, EscapedBlock}
+use Rattle.velo_explain.specs.declared.pieces.Piece.TheVariants.{Text, Number, Words, Block, Lines, Operation, ThreadName, KindName, BlockName, EscapedThread, EscapedKind, EscapedBlock}
 
 -- an event as it stands in the log
 abbrev pub event_text : Event → List ℕ
@@ -29,6 +29,15 @@ lines_text first last =
 abbrev pub joined : List (List ℕ) → List ℕ
 joined [] = []
 joined (text ∷ texts) = text ++ joined texts
+
+-- the number of the line on which a position stands, behind the header on line 1
+abbrev pub line_of : ℕ → ℕ
+line_of i = i + 2
+
+-- a text for each of some things, with its number from k on
+abbrev pub numbered : {X : Type 0} → (ℕ → X → List ℕ) → ℕ → List X → List ℕ
+numbered text k [] = []
+numbered text k (x ∷ xs) = text k x ++ numbered text (k + 1) xs
 
 -- ---- names
 
@@ -73,10 +82,12 @@ piece_text (Number number) = decimal number
 piece_text (Words event) = event_text event
 piece_text (Block kind) = block_text kind
 piece_text (Lines first last) = lines_text first last
+piece_text (Operation kind) = kind_text kind
 piece_text (ThreadName names t) = name_text (name_of names.now of_name.Thread t.0)
 piece_text (KindName names kind) = name_text (name_about names.now kind)
 piece_text (BlockName names kind) = name_text (block_name names.now kind)
 piece_text (EscapedThread names t) = escaped_text (name_of names.now of_name.Thread t.0)
+piece_text (EscapedKind names kind) = escaped_text (name_about names.now kind)
 piece_text (EscapedBlock names kind) = escaped_text (block_name names.now kind)
 
 abbrev pub pieces_text : List Piece → List ℕ

@@ -11,23 +11,18 @@ use Rattle.velo_explain.specs.declared.spans.Span.{Span}
 use Rattle.velo_explain.specs.declared.evidence.Blame.{Blame}
 use Rattle.velo_explain.specs.declared.evidence.Evidence.{Evidence}
 use Rattle.velo_explain.specs.Pieces.{event_text, block_text, lines_text, joined, name_about, block_name, name_text}
-
--- the number of the line on which a position stands, behind the header on line 1
-abbrev pub line_of : ℕ → ℕ
-line_of i = i + 2
-
--- a text for each of some things, with its number from k on
-abbrev pub numbered : {X : Type 0} → (ℕ → X → List ℕ) → ℕ → List X → List ℕ
-numbered text k [] = []
-numbered text k (x ∷ xs) = text k x ++ numbered text (k + 1) xs
+use Rattle.velo_explain.specs.Lanes.{lanes_text}
+pub use Rattle.velo_explain.specs.Pieces.{line_of, numbered}
 
 -- ---- an alarm. The names of what a line tells of, where there are any, are its last words
+
+unfoldable pub alarm_text : List ℕ
+alarm_text = codes "The blocks of this log cannot be serialized.\n"
 
 -- "Line 6 `0 wr 0 1` closes a cycle of 2 transactions:"
 unfoldable pub heading_text : NameLists → List Event → ℕ → ℕ → List ℕ
 heading_text names trace p count = joined (
-    codes "The blocks of this log cannot be serialized.\nLine "
-    ∷ decimal (line_of p) ∷ codes " `" ∷ event_text (event_at trace p)
+    codes "Line " ∷ decimal (line_of p) ∷ codes " `" ∷ event_text (event_at trace p)
     ∷ codes "` closes a cycle of " ∷ decimal count ∷ codes " transactions:"
     ∷ name_text (name_about names (event_at trace p).kind) ∷ codes "\n" ∷ [])
 
@@ -76,14 +71,18 @@ abbrev pub blames_text : NameLists → List Event → ℕ → List Blame → Lis
 blames_text names trace p [] = nobody_text
 blames_text names trace p (blame ∷ blames) = to_blame_text names trace p ++ flat_map (blame_text names trace p) (blame ∷ blames)
 
--- what is written of an alarm at position p with names
-abbrev pub named_explanation_text : NameLists → List Event → ℕ → Evidence → List ℕ
-named_explanation_text names trace p evidence =
+-- the words of an alarm at position p
+abbrev pub words_text : NameLists → List Event → ℕ → Evidence → List ℕ
+words_text names trace p evidence =
     heading_text names trace p (length evidence.spans.items)
     ++ (numbered (member_text names trace) 0 evidence.spans.items
     ++ (order_text
     ++ (numbered (edge_text names trace (length evidence.edges.items)) 0 evidence.edges.items
     ++ blames_text names trace p evidence.blames.items)))
+
+-- what is written of an alarm at position p with names: what it is, the picture, and the words
+abbrev pub named_explanation_text : NameLists → List Event → ℕ → Evidence → List ℕ
+named_explanation_text names trace p evidence = alarm_text ++ (lanes_text names trace evidence ++ words_text names trace p evidence)
 
 -- and without
 abbrev pub explanation_text : List Event → ℕ → Evidence → List ℕ

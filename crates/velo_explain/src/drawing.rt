@@ -91,6 +91,7 @@ fn add_boxes(page: &mut Page, names: &Names, events: &[Event], spans: &[Span]) -
 #[tactic(auto, unfolding(crate::specs::Picture::arrow_text))]
 fn add_arrow(
     page: &mut Page,
+    names: &Names,
     events: &[Event],
     count: usize,
     k: usize,
@@ -100,7 +101,7 @@ fn add_arrow(
     requires to { edge.to < length events.now }
     requires few { length events.now ≤ MOST_EVENTS }
     requires place { k < count }
-    ensures ok { OnOk result (page.new ≡ page.old ++ arrow_text events.now count k edge) }
+    ensures ok { OnOk result (page.new ≡ page.old ++ arrow_text names.now events.now count k edge) }
     ensures memory { OnErr result GrowthRefused }
 {
     page.add(&[
@@ -112,24 +113,31 @@ fn add_arrow(
         Piece::Number(line_of(edge.from)),
         Piece::Text(": "),
         Piece::Words(events[edge.from]),
+        Piece::EscapedKind(names, events[edge.from].kind),
         Piece::Text("\\nline "),
         Piece::Number(line_of(edge.to)),
         Piece::Text(": "),
         Piece::Words(events[edge.to]),
+        Piece::EscapedKind(names, events[edge.to].kind),
         Piece::Text("\"];\n"),
     ])?;
     Ok(())
 }
 
 /// Adds the arrows of the edges.
-fn add_arrows(page: &mut Page, events: &[Event], edges: &[EdgeEvents]) -> Result<(), Memory>
+fn add_arrows(
+    page: &mut Page,
+    names: &Names,
+    events: &[Event],
+    edges: &[EdgeEvents],
+) -> Result<(), Memory>
     requires within { AreEdgesWithin (length events.now) edges.now }
     requires few { length events.now ≤ MOST_EVENTS }
-    ensures ok { OnOk result (page.new ≡ page.old ++ numbered (arrow_text events.now (length edges.now)) 0 edges.now) }
+    ensures ok { OnOk result (page.new ≡ page.old ++ numbered (arrow_text names.now events.now (length edges.now)) 0 edges.now) }
     ensures memory { OnErr result GrowthRefused }
 {
     for k in 0..edges.len() {
-        add_arrow(page, events, edges.len(), k, edges[k])?;
+        add_arrow(page, names, events, edges.len(), k, edges[k])?;
     }
     Ok(())
 }
@@ -153,7 +161,7 @@ pub(crate) fn picture_of(
     let mut page = Page::new(alloc);
     add_start(&mut page)?;
     add_boxes(&mut page, names, events, evidence.spans.as_slice())?;
-    add_arrows(&mut page, events, evidence.edges.as_slice())?;
+    add_arrows(&mut page, names, events, evidence.edges.as_slice())?;
     add_end(&mut page)?;
     Ok(page)
 }

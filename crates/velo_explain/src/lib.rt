@@ -5,12 +5,17 @@
 mod count;
 mod drawing;
 mod evidence;
+mod fitting;
+mod lanes;
+mod marks;
+mod order;
 mod pieces;
 mod spans;
 mod words;
 mod writing;
 
 pub use evidence::{Blame, Evidence, evidence_of};
+pub use fitting::{LEAST_LANE, SCREEN_LANES, SCREEN_LINES};
 pub use pieces::Page;
 pub use spans::Span;
 pub use writing::{explain, explain_clean, explain_named, picture, picture_named};

@@ -28,6 +28,8 @@ pub(crate) enum Piece<'a> {
     Block(Kind),
     /// A first and a last line.
     Lines(u64, u64),
+    /// An operation as it stands in the log.
+    Operation(Kind),
     /// The name of a thread behind a space, if it has one.
     ThreadName(&'a Names<'a>, ThreadId),
     /// The name of what an operation is about behind a space, if it has one.
@@ -36,6 +38,8 @@ pub(crate) enum Piece<'a> {
     BlockName(&'a Names<'a>, Kind),
     /// The name of a thread in a picture.
     EscapedThread(&'a Names<'a>, ThreadId),
+    /// The name of what an operation is about, in a picture.
+    EscapedKind(&'a Names<'a>, Kind),
     /// The name of the label of the block that an operation begins, in a picture.
     EscapedBlock(&'a Names<'a>, Kind),
 }
@@ -105,7 +109,10 @@ impl Page {
     }
 
     /// Adds bytes.
-    fn add_bytes(&mut self, bytes: &[u8]) -> Result<(), Memory>
+    ///
+    /// # Errors
+    /// `Memory` where a growth was refused.
+    pub(crate) fn add_bytes(&mut self, bytes: &[u8]) -> Result<(), Memory>
         ensures ok { OnOk result (self.new ≡ self.old ++ bytes.now) }
         ensures memory { OnErr result GrowthRefused }
     {
@@ -126,6 +133,16 @@ impl Page {
         self.add_bytes(&buffer[..end])
     }
 
+    /// Adds an operation as it stands in the log.
+    fn add_operation(&mut self, kind: Kind) -> Result<(), Memory>
+        ensures ok { OnOk result (self.new ≡ self.old ++ kind_text kind) }
+        ensures memory { OnErr result GrowthRefused }
+    {
+        let mut buffer = [0u8; 60];
+        let end = put_kind(&mut buffer, 0, kind);
+        self.add_bytes(&buffer[..end])
+    }
+
     /// Adds an event as it stands in the log.
     fn add_event(&mut self, event: Event) -> Result<(), Memory>
         ensures ok { OnOk result (self.new ≡ self.old ++ event_text event) }
@@ -133,10 +150,7 @@ impl Page {
     {
         self.add_number(u64::from(event.thread.0))?;
         self.add_bytes(b" ")?;
-        let mut buffer = [0u8; 60];
-        let end = put_kind(&mut buffer, 0, event.kind);
-        self.add_bytes(&buffer[..end])?;
-        Ok(())
+        self.add_operation(event.kind)
     }
 
     /// Adds what a transaction is.
@@ -232,10 +246,12 @@ impl Page {
             Piece::Words(event) => self.add_event(event),
             Piece::Block(kind) => self.add_block(kind),
             Piece::Lines(first, last) => self.add_lines(first, last),
+            Piece::Operation(kind) => self.add_operation(kind),
             Piece::ThreadName(names, thread) => self.add_name(thread_name(names, thread)),
             Piece::KindName(names, kind) => self.add_name(name_about(names, kind)),
             Piece::BlockName(names, kind) => self.add_name(block_name(names, kind)),
             Piece::EscapedThread(names, thread) => self.add_escaped(thread_name(names, thread)),
+            Piece::EscapedKind(names, kind) => self.add_escaped(name_about(names, kind)),
             Piece::EscapedBlock(names, kind) => self.add_escaped(block_name(names, kind)),
         }
     }

@@ -3,9 +3,11 @@ ghost use Rattle.std.specs.Prelude.{◌≡◌, ◌≤◌, ◌<◌, ◌++◌, len
 ghost use Rattle.velo_events.specs.Refusals.{GrowthRefused};
 ghost use Rattle.velo_events.specs.declared.limits.TheConstants.{MOST_EVENTS};
 ghost use Rattle.velo_explain.specs.Evidence.{AreSpansWithin, AreEdgesWithin, AreBlamesWithin, IsWithin};
-ghost use Rattle.velo_explain.specs.Text.{line_of, numbered, heading_text, member_text, next_number, edge_text, blame_text, to_blame_text, nobody_text, order_text, blames_text, named_explanation_text, clean_text};
+ghost use Rattle.velo_explain.specs.Lanes.{lanes_text};
+ghost use Rattle.velo_explain.specs.Text.{line_of, numbered, alarm_text, heading_text, member_text, next_number, edge_text, blame_text, to_blame_text, nobody_text, order_text, blames_text, words_text, named_explanation_text, clean_text};
 
 use crate::evidence::{Blame, Evidence};
+use crate::marks::add_lanes;
 use crate::pieces::{Page, Piece};
 use crate::spans::Span;
 use std::alloc::Global;
@@ -29,6 +31,16 @@ pub(crate) fn next_number(count: usize, k: usize) -> u64
     if k + 1 < count { k as u64 + 2 } else { 1 }
 }
 
+/// Adds what an alarm is.
+#[tactic(auto, unfolding(crate::specs::Text::alarm_text))]
+fn add_alarm(page: &mut Page) -> Result<(), Memory>
+    ensures ok { OnOk result (page.new ≡ page.old ++ alarm_text) }
+    ensures memory { OnErr result GrowthRefused }
+{
+    page.add(&[Piece::Text("The blocks of this log cannot be serialized.\n")])?;
+    Ok(())
+}
+
 /// Adds the closing event.
 #[tactic(auto, unfolding(crate::specs::Text::heading_text))]
 fn add_heading(
@@ -44,7 +56,7 @@ fn add_heading(
     ensures memory { OnErr result GrowthRefused }
 {
     page.add(&[
-        Piece::Text("The blocks of this log cannot be serialized.\nLine "),
+        Piece::Text("Line "),
         Piece::Number(line_of(position)),
         Piece::Text(" `"),
         Piece::Words(events[position]),
@@ -260,6 +272,28 @@ fn add_blames(
     Ok(())
 }
 
+/// Adds the words of an alarm at a position.
+fn add_words(
+    page: &mut Page,
+    names: &Names,
+    events: &[Event],
+    position: usize,
+    evidence: &Evidence,
+) -> Result<(), Memory>
+    requires within { IsWithin (length events.now) position evidence.now }
+    requires few { length events.now ≤ MOST_EVENTS }
+    ensures ok { OnOk result (page.new ≡ page.old ++ words_text names.now events.now position evidence.now) }
+    ensures memory { OnErr result GrowthRefused }
+{
+    let spans = evidence.spans.as_slice();
+    add_heading(page, names, events, position, spans.len())?;
+    add_members(page, names, events, spans)?;
+    add_order(page)?;
+    add_edges(page, names, events, &evidence.edges)?;
+    add_blames(page, names, events, position, &evidence.blames)?;
+    Ok(())
+}
+
 /// The explanation of an alarm at a position.
 ///
 /// # Errors
@@ -277,12 +311,9 @@ pub(crate) fn explanation(
     ensures memory { OnErr result GrowthRefused }
 {
     let mut page = Page::new(alloc);
-    let spans = evidence.spans.as_slice();
-    add_heading(&mut page, names, events, position, spans.len())?;
-    add_members(&mut page, names, events, spans)?;
-    add_order(&mut page)?;
-    add_edges(&mut page, names, events, &evidence.edges)?;
-    add_blames(&mut page, names, events, position, &evidence.blames)?;
+    add_alarm(&mut page)?;
+    add_lanes(&mut page, alloc, names, events, evidence)?;
+    add_words(&mut page, names, events, position, evidence)?;
     Ok(page)
 }
 

@@ -18,9 +18,14 @@ use velo_events::Memory;
 use velo_names::Names;
 use velo_traces::Trace;
 
-/// What an alarm at the position means: the closing event, the transactions of the cycle with their threads, blocks and
-/// lines, the two events behind each edge, and the blocks to blame, each with an event of another thread that parts it. The
-/// log has a header, so position P stands on line P + 2.
+/// What an alarm at the position means: first as a picture with a lane for each thread and a row for each event, then in
+/// words: the closing event, the transactions of the cycle with their threads, blocks and lines, the two events behind each
+/// edge, and the blocks to blame, each with an event of another thread that parts it. The log has a header, so position P
+/// stands on line P + 2.
+///
+/// The picture shows the events behind the edges, and as long as it has at most [`SCREEN_LINES`](crate::SCREEN_LINES) lines
+/// and [`SCREEN_LANES`](crate::SCREEN_LANES) lanes also the events that part the blocks to blame, the first events of the
+/// transactions, and those of these blocks. A text that is too long for its lane ends in `..`.
 ///
 /// The evidence has to be as `evidence_of` gives it for the trace and the position, and the trace has at most
 /// [`MOST_EVENTS`](velo_events::MOST_EVENTS) events.
@@ -45,7 +50,7 @@ pub fn explain(
     told
 }
 
-/// The same with names: those of what a line tells of are its last words.
+/// The same with names: those of what a line tells of are its last words, also in a lane.
 ///
 /// # Errors
 /// As `explain`.
@@ -87,7 +92,7 @@ pub fn picture(
     drawn
 }
 
-/// The same with the names of threads and labels, with quotes and backslashes escaped.
+/// The same with the names of threads, of labels and of what the events are about. Quotes and backslashes are escaped.
 ///
 /// # Errors
 /// As `picture`.

@@ -50,6 +50,11 @@ fn alarms(rt: HostRuntime) -> Result<(), Fail> {
         blamed: &[block(1, 7)],
         text: "\
 The blocks of this log cannot be serialized.
+    line  thread 0                            thread 1
+       3  begin 7
+       4  rd 0 0
+       5                                      wr 0 5
+       6  wr 0 1
 Line 6 `0 wr 0 1` closes a cycle of 2 transactions:
   T1: thread 0, block 7, lines 3 to 6
   T2: thread 1, outside blocks, line 5
@@ -84,6 +89,13 @@ digraph cycle {
         blamed: &[],
         text: "\
 The blocks of this log cannot be serialized.
+    line  thread 0                            thread 1
+       3  begin 1
+       4  wr 0 1
+       5                                      begin 2
+       6                                      wr 1 1
+       7  rd 1 1
+       8                                      rd 0 1
 Line 8 `1 rd 0 1` closes a cycle of 2 transactions:
   T1: thread 1, block 2, lines 5 to 8
   T2: thread 0, block 1, lines 3 to 7
@@ -118,6 +130,14 @@ digraph cycle {
         blamed: &[block(1, 1), block(4, 2)],
         text: "\
 The blocks of this log cannot be serialized.
+    line  thread 0                            thread 1
+       3  begin 1
+      .. 1 line ..
+       5  rel 3
+      .. 1 line ..
+       7                                      acq 3
+      .. 1 line ..
+       9  acq 3
 Line 9 `0 acq 3` closes a cycle of 2 transactions:
   T1: thread 0, block 1, lines 3 to 9
   T2: thread 1, outside blocks, line 7
@@ -153,6 +173,13 @@ fn alarms_by_sharers_and_of_nested_blocks(rt: HostRuntime) -> Result<(), Fail> {
         blamed: &[block(1, 1)],
         text: "\
 The blocks of this log cannot be serialized.
+    line  thread 0                            thread 1
+       3  begin 1
+      .. 1 line ..
+       5  rels 0
+       6                                      acq 0
+      .. 1 line ..
+       8  acqs 0
 Line 8 `0 acqs 0` closes a cycle of 2 transactions:
   T1: thread 0, block 1, lines 3 to 8
   T2: thread 1, outside blocks, line 6
@@ -179,6 +206,12 @@ digraph cycle {
         blamed: &[block(1, 1), block(2, 2)],
         text: "\
 The blocks of this log cannot be serialized.
+    line  thread 0                            thread 1
+       3  begin 1
+       4  begin 2
+       5  rd 0 0
+       6                                      wr 0 3
+       7  wr 0 4
 Line 7 `0 wr 0 4` closes a cycle of 2 transactions:
   T1: thread 0, block 1, lines 3 to 7
   T2: thread 1, outside blocks, line 6

@@ -13,6 +13,8 @@ mod growths;
 #[cfg(test)]
 mod heap;
 #[cfg(test)]
+mod lanes;
+#[cfg(test)]
 mod ledger;
 #[cfg(test)]
 mod logtext;

@@ -13,3 +13,4 @@ mod OnNaming
 mod OnAuditing
 mod OnIgnoring
 mod OnListing
+mod OnScheduling

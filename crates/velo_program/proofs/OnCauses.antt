@@ -32,11 +32,12 @@ use Rattle.velo_program.specs.declared.request.Ignorable.{Ignorable}
 use Rattle.velo_program.specs.declared.request.Ignorable.TheVariants.{Lock, Variable}
 use Rattle.velo_program.specs.declared.request.Operand.{Operand}
 use Rattle.velo_program.specs.declared.request.Operand.TheVariants.{File, Log}
-use Rattle.velo_program.specs.declared.request.ReplayOptions.{ReplayOptions}
 use Rattle.velo_program.specs.declared.request.RunOptions.{RunOptions}
 use Rattle.velo_program.specs.declared.request.Request.{Request}
 use Rattle.velo_program.specs.declared.request.WatchOptions.{WatchOptions}
 use Rattle.velo_program.specs.declared.request.Request.TheVariants as request
+use Rattle.velo_program.specs.declared.request.ScheduleSource.{ScheduleSource}
+use Rattle.velo_program.specs.declared.request.ScheduleSource.TheVariants as source
 use Rattle.velo_turns.specs.declared.schedule.ScheduleFault.{ScheduleFault}
 use Rattle.velo_turns.specs.declared.schedule.ScheduleFault.TheVariants as schedule_fault
 use Rattle.velo_worker.specs.declared.ending.Ending.{Ending}
@@ -59,6 +60,7 @@ use Rattle.velo_program.specs.Naming.{HaveFaultOfNames, LacksNames, SayNoNames}
 use Rattle.velo_program.specs.Playing.{ByThreads, ByTurns, IsPlayAnswer, IsRunOf, IsSaidOfRun, IsUnread, Play}
 use Rattle.velo_program.specs.Program.{Does, DoesPlay}
 use Rattle.velo_turns.specs.Schedule.{IsFaultOfSchedule}
+use Rattle.velo_program.specs.Scheduling.{HaveFaultOfSchedule, LacksSchedule, SayNoSchedule}
 use Rattle.velo_program.specs.Watching.{EndsBehind, IsFaultOfHeader, IsWatchAnswer, Watches}
 use Rattle.velo_program.specs.Writing.{Writing}
 use Rattle.velo_program.proofs.OnFindings.{caused}
@@ -190,9 +192,24 @@ module _ (needs : Needs) where
 
 -- ---- by what was done
 
-of_schedule : (options : ReplayOptions) (fault : ScheduleFault) → IsFaultOfSchedule options.schedule.now fault → ScheduleByGrowth fault
-of_schedule options schedule_fault.Bad is = tt
-of_schedule options schedule_fault.Memory is = is
+of_schedule : (text : List ℕ) (fault : ScheduleFault) → IsFaultOfSchedule text fault → ScheduleByGrowth fault
+of_schedule text schedule_fault.Bad is = tt
+of_schedule text schedule_fault.Memory is = is
+
+of_schedule_read : (read : Option (List ℕ)) (fault : ScheduleFault) → HaveFaultOfSchedule read fault → ScheduleByGrowth fault
+of_schedule_read read schedule_fault.Bad is = tt
+of_schedule_read read schedule_fault.Memory is = is
+
+unscheduled_by : (needs : Needs) (read : Option (List ℕ)) (f : Fate) → SayNoSchedule read f → ComesByRefusal needs f
+unscheduled_by needs read (fate.Schedule fault) is = of_schedule_read read fault is
+unscheduled_by needs read fate.ReadFailed is = tt
+unscheduled_by needs read fate.Memory is = is
+unscheduled_by needs read f is = absurd is
+
+unscheduled : (needs : Needs) (disk : Disk) (source : ScheduleSource) (f : Fate) → LacksSchedule disk source f → ComesByRefusal needs f
+unscheduled needs disk (source.Text text) f lacks = subst (ComesByRefusal needs) (sym lacks.2) (of_schedule text.now lacks.0 lacks.1)
+unscheduled needs disk (source.File path) f (inl closed) = subst (ComesByRefusal needs) (sym closed.0) tt
+unscheduled needs disk (source.File path) f (inr broken) = unscheduled_by needs broken.read.bytes f broken.unsaid
 
 -- what was not read is told otherwise
 unread : (needs : Needs) (disk : Disk) (operand : Operand) (input : List ℕ) (target : Option (Bor (List ℕ))) (f : Fate) → IsBarred disk operand input target f → ComesByRefusal needs f
@@ -303,7 +320,7 @@ of_done store (request.Carry options) stdout f (inl h) = unread Growths store.di
 of_done store (request.Carry options) stdout f (inr (inl h)) = subst (ComesByRefusal Growths) (sym h.0) tt
 of_done store (request.Carry options) stdout f (inr (inr h)) = of_put Growths h.2 h.1 f (of_carry Growths h.0.bytes h.1 tt h.5) h.7
 of_done store (request.Run options) stdout f h = played GrowthsAndStarts ByThreads options store stdout f (λ program ended w run. run.cause) h
-of_done store (request.Replay options) stdout f (inl bad) = subst (ComesByRefusal Growths) (sym bad.2) (of_schedule options bad.0 bad.1)
+of_done store (request.Replay options) stdout f (inl lacks) = unscheduled Growths store.disk options.schedule f lacks.0
 of_done store (request.Replay options) stdout f (inr h) = played Growths (ByTurns h.0) options.run store stdout f (λ program ended w run. run.cause) h.2
 of_done store (request.Explore options) stdout f (inl h) = unplayed Growths store.disk options.input.now options.target options.names_target f h.0
 of_done store (request.Explore options) stdout f (inr h) =

@@ -9,7 +9,7 @@ use Rattle.velo_program.specs.Check.{IsCheckAnswer}
 use Rattle.velo_program.specs.Delivery.{Answer, DeliversBy, FailsSaving, IsDelivered, IsDeliveredInTurn, IsPrinted, IsTaken, Saves}
 use Rattle.velo_program.specs.Disk.{Store, behind}
 use Rattle.velo_program.specs.Playing.{text_of_names}
-use Rattle.velo_program.specs.Steps.{AreNamesFor, IsSaved, IsSavedInTurn}
+use Rattle.velo_program.specs.Steps.{AreNamesFor, IsSavedInTurn}
 use Rattle.velo_workload.specs.Program.{Program}
 use Rattle.velo_program.specs.Reading.{failures_told}
 use Rattle.velo_program.specs.Writing.{Writing, WritesNothing}

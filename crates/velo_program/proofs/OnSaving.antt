@@ -1,5 +1,5 @@
 -- The names that are saved behind a log.
-use Rattle.std.proofs.Common.{◌≡◌, ◌∙◌, ◌≤◌, ◌<◌, ◌+◌, ℕ, Bool, true, false, cond, eqb, List, [], ◌∷◌, ◌++◌, length, map, Option, Some, None, Err, Ok, inl, inr, refl, sym, ap, subst, append_assoc, arith}
+use Rattle.std.proofs.Common.{◌≡◌, ◌≤◌, ◌<◌, ◌+◌, ℕ, true, false, List, [], ◌∷◌, ◌++◌, length, Option, Some, None, Err, Ok, inl, refl, sym, ap, subst, arith}
 use Rattle.std.specs.Prelude.{◌&&◌, ◌^◌, IsTrue, codes, decimal, nat_eq, nat_le, nat_lt, not}
 use Rattle.std.specs.Borrow.{Bor}
 use Rattle.std.specs.List.{AllByRecursion, enumerate_from, list_all}
@@ -15,7 +15,7 @@ use Rattle.velo_names.specs.declared.kind.NameKind.{NameKind}
 use Rattle.velo_names.specs.declared.kind.NameKind.TheVariants.{Thread, Variable, Lock, Label}
 use Rattle.velo_names.specs.Line as line
 use Rattle.velo_names.specs.Line.{IsNaming, Naming, greatest, has_control, is_control, kind_text, naming_text}
-use Rattle.velo_names.specs.Names.{AreFresh, AreNames, FitsKind, IsMapping, NameList, Stands, by_place, list_text, name_in, naming_line, names_text}
+use Rattle.velo_names.specs.Names.{AreFresh, AreNames, FitsKind, IsMapping, NameList, Stands, by_place, list_text, name_in, naming_line}
 use Rattle.velo_names.proofs.OnTexts.{reads_back}
 use Rattle.velo_workload.specs.Program.{AreWellNamed, IsWellNamed, Program, meaning_of}
 use Rattle.velo_workload.specs.Words.{Word, is_name, is_name_byte}

@@ -183,8 +183,8 @@ ReportsOrLacks program text options w behind store stdout result =
     ⊎ Lacks store stdout result
 
 -- what telling a text and the replay, if there is one, came to
-abbrev pub TellsRun : {X : Type 0} → Program → Found → List ℕ → ExploreOptions → Option (WorldState × Ending)
-    → Store → Writing → Result X Fate → Type 0
+abbrev pub TellsRun : {X : Type 0} → Program → Found → List ℕ → ExploreOptions
+    → Option (WorldState × Ending) → Store → Writing → Result X Fate → Type 0
 TellsRun program found text options None store stdout result =
     Puts store options.target stdout None text result
 TellsRun program found text options (Some run) store stdout result =

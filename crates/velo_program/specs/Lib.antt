@@ -16,6 +16,7 @@ pub mod Naming
 pub mod Playing
 pub mod Program
 pub mod Reading
+pub mod Scheduling
 pub mod Steps
 pub mod Watching
 pub mod Writing

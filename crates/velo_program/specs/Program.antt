@@ -11,7 +11,7 @@ use Rattle.velo_names.specs.Names.{NameLists}
 use Rattle.velo_audit_text.specs.declared.words.Asked.{Asked}
 use Rattle.velo_report.specs.declared.names.Names.{Names}
 use Rattle.velo_program.specs.declared.fate.Fate.{Fate}
-use Rattle.velo_program.specs.declared.fate.Fate.TheVariants.{CannotOpen, Schedule}
+use Rattle.velo_program.specs.declared.fate.Fate.TheVariants.{CannotOpen}
 use Rattle.velo_program.specs.declared.request.AuditOptions.{AuditOptions}
 use Rattle.velo_program.specs.declared.request.CarryOptions.{CarryOptions}
 use Rattle.velo_program.specs.declared.request.CheckOptions.{CheckOptions}
@@ -24,7 +24,6 @@ use Rattle.velo_program.specs.declared.request.Request.{Request}
 use Rattle.velo_program.specs.declared.request.Request.TheVariants.{Audit, Carry, Check, Explain, Explore, Replay, Run, Watch}
 use Rattle.velo_program.specs.declared.request.RunOptions.{RunOptions}
 use Rattle.velo_program.specs.declared.request.WatchOptions.{WatchOptions}
-use Rattle.velo_turns.specs.declared.schedule.ScheduleFault.{ScheduleFault}
 use Rattle.velo_program.specs.Auditing.{IsAuditAnswer}
 use Rattle.velo_program.specs.Carrying.{IsCarryAnswer, IsPut}
 use Rattle.velo_program.specs.Check.{IsCheckAnswer}
@@ -37,7 +36,7 @@ use Rattle.velo_program.specs.Listing.{AreLabelsOf, LacksLabels}
 use Rattle.velo_program.specs.Naming.{AreNamesOf, AreShown, LacksNames}
 use Rattle.velo_program.specs.Playing.{ByThreads, ByTurns, IsPlayAnswer, Play}
 use Rattle.velo_program.specs.Reading.{FailuresAsTold, Reading}
-use Rattle.velo_turns.specs.Schedule.{IsFaultOfSchedule, IsSchedule}
+use Rattle.velo_program.specs.Scheduling.{IsScheduleOf, LacksSchedule}
 use Rattle.velo_program.specs.Watching.{Watches}
 use Rattle.velo_program.specs.Writing.{Writing, WritesNothing}
 
@@ -141,15 +140,14 @@ DoesPlay play options store stdout f =
 abbrev pub DoesRun : RunOptions → Store → Writing → Fate → Type 0
 DoesRun options store stdout f = DoesPlay ByThreads options store stdout f
 
--- ---- velodrome replay FILE [--schedule TEXT] and the options of run
+-- ---- velodrome replay FILE [--schedule TEXT|@PATH] and the options of run
 
--- TEXT is no schedule, and no file was opened to be written; or FILE is played by the turns of this
--- schedule (`Schedule`, `Playing`).
+-- The schedule is that of the text, or of the file at the path, which is read first. There is none,
+-- and no file was opened to be written; or FILE is played by its turns (`Scheduling`, `Playing`).
 abbrev pub DoesReplay : ReplayOptions → Store → Writing → Fate → Type 0
 DoesReplay options store stdout f =
-    ((fault : ScheduleFault) × IsFaultOfSchedule options.schedule.now fault
-    × (f ≡ Schedule fault) × WritesNowhere store stdout)
-    ⊎ ((schedule : List ThreadId) × IsSchedule options.schedule.now schedule
+    (LacksSchedule store.disk options.schedule f × WritesNowhere store stdout)
+    ⊎ ((schedule : List ThreadId) × IsScheduleOf store.disk options.schedule schedule
     × DoesPlay (ByTurns schedule) options.run store stdout f)
 
 -- ---- velodrome explore FILE [--states N] [--first] [--random N] [--seed S] [--log OUT]

@@ -129,8 +129,8 @@ fn write_behind<O: Sink>(
     }
 }
 
-/// Saves the log of a replay and the names, where there are paths for them, then writes the text, behind it the report, and then
-/// the other text.
+/// Saves the log of a replay and the names, where there are paths for them, then writes the text, behind it the report, and
+/// then the other text.
 fn report_by<F: Files, O: Sink>(
     closed: &Closed,
     names: &Names,
@@ -187,7 +187,8 @@ fn report_with<F: Files, O: Sink>(
     }
 }
 
-/// Tells a text and a replay, by the names of the workload, of which this is the text, where it is to be saved.
+/// Tells a text and a replay, and another text, by the names of the workload, of which this is the text, where it is to be
+/// saved.
 fn show_replay<F: Files, O: Sink>(
     alloc: Global,
     workload: &Workload,
@@ -227,7 +228,7 @@ fn show_replay<F: Files, O: Sink>(
     )
 }
 
-/// Tells a text and a replay. The names that are to be saved are made before anything is opened.
+/// Tells a text and a replay, and another text. The names that are to be saved are made before anything is opened.
 fn report<F: Files, O: Sink>(
     alloc: Global,
     workload: &Workload,
@@ -245,7 +246,9 @@ fn report<F: Files, O: Sink>(
 {
     match names_for(alloc, workload, options.names_target) {
         Ok(listed) => {
-            let told = show_replay(alloc, workload, closed, &listed, text, behind, options, files, out);
+            let told = show_replay(
+                alloc, workload, closed, &listed, text, behind, options, files, out,
+            );
             drop(listed);
             told
         }

@@ -21,6 +21,7 @@ mod replaying;
 mod request;
 mod running;
 mod saving;
+mod scheduling;
 pub mod status;
 mod told;
 mod watching;
@@ -36,7 +37,8 @@ pub use fate::{Fate, end_line, end_with};
 pub use files::Files;
 pub use laws::names_read_back;
 pub use request::{
-    AuditOptions, CarryOptions, CheckOptions, ExplainOptions, ExploreOptions, Ignorable, Limits,
-    MOST_RUNS, MOST_STATES, Operand, RandomRuns, ReplayOptions, Request, RunOptions, WatchOptions,
+    AuditOptions, CarryOptions, CheckOptions, DEFAULT_SEED, ExplainOptions, ExploreOptions,
+    Ignorable, Limits, MOST_RUNS, MOST_STATES, Operand, RandomRuns, ReplayOptions, Request,
+    RunOptions, ScheduleSource, WatchOptions,
 };
-pub use velo_turns::{MOST_TURNS, ScheduleFault, schedule_of};
+pub use velo_turns::{MOST_SCHEDULE_BYTES, MOST_TURNS, ScheduleFault, schedule_of};

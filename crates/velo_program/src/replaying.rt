@@ -8,11 +8,11 @@ ghost use Rattle.velo_program.specs.Steps.{Plays};
 use crate::fate::Fate;
 use crate::files::Files;
 use crate::request::{ReplayOptions, RunOptions};
+use crate::scheduling::schedule_of_source;
 use crate::work::{config_of_run, finish_run, open_workload};
 use std::alloc::Global;
 use velo_events::{Memory, ThreadId};
 use velo_logtext::Sink;
-use velo_turns::schedule_of;
 use velo_worker::replay;
 use velo_workload::Workload;
 
@@ -57,8 +57,8 @@ fn replay_by<F: Files, O: Sink>(
     }
 }
 
-/// Replays the workload that was asked for, and writes what it shows. A schedule that is none is told before any file is
-/// opened.
+/// Replays the workload that was asked for, and writes what it shows. The schedule is read before the workload, and where it is
+/// none that is told.
 pub fn replay_file<F: Files, O: Sink>(
     alloc: Global,
     options: &ReplayOptions,
@@ -68,12 +68,12 @@ pub fn replay_file<F: Files, O: Sink>(
     ensures { DoesReplay options.now (store F.disk files.old files.new)
         (writing O.contents O.failures out.old out.new) result }
 {
-    match schedule_of(alloc, options.schedule) {
+    match schedule_of_source(alloc, options.schedule, files) {
         Ok(schedule) => {
             let fate = replay_by(alloc, &schedule, &options.run, files, out);
             drop(schedule);
             fate
         }
-        Err(fault) => Fate::Schedule(fault),
+        Err(fate) => fate,
     }
 }

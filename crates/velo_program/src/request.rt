@@ -46,11 +46,20 @@ pub struct RunOptions<'a> {
     pub certificate: bool,
 }
 
+/// Where the text of a schedule stands.
+#[derive(Clone, Copy, Debug)]
+pub enum ScheduleSource<'a> {
+    /// This is the text.
+    Text(&'a str),
+    /// In the file at this path, or on standard input with `-`.
+    File(&'a str),
+}
+
 /// What `velodrome replay` was asked for.
 #[derive(Clone, Copy, Debug)]
 pub struct ReplayOptions<'a> {
-    /// The text of the schedule.
-    pub schedule: &'a str,
+    /// Where the schedule stands.
+    pub schedule: ScheduleSource<'a>,
     /// The rest, which is as for `velodrome run`.
     pub run: RunOptions<'a>,
 }
@@ -80,6 +89,9 @@ pub const MOST_STATES: u32 = 16_777_216;
 
 /// The most runs by chance: each is a whole replay.
 pub const MOST_RUNS: u32 = 1_000_000;
+
+/// The seed of runs by chance where none is given.
+pub const DEFAULT_SEED: u64 = 1;
 
 /// Runs of a workload whose turns are drawn by chance.
 #[derive(Clone, Copy, Debug)]

@@ -1,3 +1,4 @@
 pub mod OnWords
 pub mod OnTexts
+pub mod OnFile
 pub mod OnShort

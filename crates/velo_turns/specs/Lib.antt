@@ -1,3 +1,4 @@
+pub mod File
 pub mod Schedule
 pub mod Short
 pub mod Words

@@ -1,6 +1,7 @@
 //! Schedules as text: `0*3 1 0` is three turns of thread 0, one of thread 1 and one more of thread 0.
 #![tactic(auto)]
 
+mod file;
 mod laws;
 mod limits;
 mod schedule;
@@ -9,7 +10,8 @@ mod short;
 mod tests;
 mod turns;
 
+pub use file::schedule_in;
 pub use laws::{one_schedule, reads_back};
-pub use limits::MOST_TURNS;
+pub use limits::{MOST_SCHEDULE_BYTES, MOST_TURNS};
 pub use schedule::{ScheduleFault, schedule_of};
 pub use short::append_turns;

@@ -1,5 +1,5 @@
 //! Live runs of a workload: each of its threads is a thread.
-ghost use Rattle.std.specs.Prelude.{◌≡◌, [], All, Err, IfOk, IfSome, IsTrue, OnErr};
+ghost use Rattle.std.specs.Prelude.{◌≡◌, [], All, Err, IfOk, IfSome, IsTrue, OnErr, map};
 ghost use Rattle.velo_events.specs.Refusals.{GrowthRefused};
 ghost use Rattle.velo_worker.specs.declared.ending.Ending.TheVariants as ending;
 ghost use Rattle.velo_worker.specs.declared.living.LiveFault.TheVariants as live_fault;
@@ -7,13 +7,14 @@ ghost use Rattle.velo_worker.specs.declared.outcome.Outcome.TheVariants as outco
 ghost use Rattle.velo_worker.specs.Causes.{EndsWithCause};
 ghost use Rattle.velo_worker.specs.Live.{AllDone, EndsAs, HasDone};
 ghost use Rattle.velo_worker.specs.Logs.{IsLogOf};
+ghost use Rattle.velo_worker.specs.Progress.{start_of};
 
 use crate::counting::count_events;
 use crate::ending::Ending;
 use crate::gate::Gate;
 use crate::growth::channel;
 use crate::outcome::{Ended, Outcome, ending_of};
-use crate::progress::threads_of;
+use crate::progress::{Progress, threads_of};
 use crate::retracing::all_follow;
 use crate::starting::{Unstarted, start_worker};
 use crate::worker::{Birth, Message, Site};
@@ -73,14 +74,14 @@ pub fn live<G: Gate + Sync, R: Threads + Wait + Sync>(
     ensures cause { IfOk result (λ run. EndsWithCause run.1) }
     ensures memory { result ≡ Err live_fault.Memory → GrowthRefused }
 {
-    let Ok((shared, seat)) = Shared::open(alloc, config) else {
-        return Err(LiveFault::Memory);
-    };
     let (sender, messages) = channel(alloc)?;
     let (nursery, births) = channel(alloc)?;
     let mut ended = with_capacity(alloc, usize::from(config.bounds.threads))?;
     let seats = with_capacity(alloc, usize::from(config.bounds.threads))?;
     let threads = threads_of(alloc, workload)?;
+    let Ok((shared, seat)) = Shared::open(alloc, config) else {
+        return Err(LiveFault::Memory);
+    };
     let first = Birth {
         seat,
         messages: sender,
@@ -98,10 +99,27 @@ pub fn live<G: Gate + Sync, R: Threads + Wait + Sync>(
     };
     run(rt, &site, &messages, &mut ended);
     let (closed, ending) = finish(workload, shared, ended, seats)?;
-    if !all_follow(threads, closed.log().as_slice()) {
-        return Err(LiveFault::Lost);
+    retraced(workload, threads, closed, ending)
+}
+
+/// The closed world and how its run ended, if each thread's events are those that its body leads to.
+fn retraced(
+    workload: &Workload,
+    threads: Vec<Progress>,
+    closed: Closed,
+    ending: Ending,
+) -> Result<(Closed, Ending), LiveFault>
+    requires bounds { closed.config.bounds ≡ workload.now.bounds }
+    requires threads { threads.items ≡ map start_of workload.now.bodies }
+    ensures same { IfOk result (λ run. (run.0 ≡ closed) × (run.1 ≡ ending)) }
+    ensures log { IfOk result (λ run. IsLogOf workload.now run.0.log) }
+    ensures lost { OnErr result (result ≡ Err live_fault.Lost) }
+{
+    if all_follow(threads, closed.log().as_slice()) {
+        Ok((closed, ending))
+    } else {
+        Err(LiveFault::Lost)
     }
-    Ok((closed, ending))
 }
 
 /// Has each thread that is born done by a worker, and returns once all have ended.

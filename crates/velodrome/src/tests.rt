@@ -12,6 +12,7 @@ mod logs;
 mod named;
 mod precedence;
 mod reports;
+mod scheduled;
 mod slow;
 mod watching;
 mod workloads;

@@ -7,7 +7,7 @@ use std::test::Fail;
 use velo_command::{end_without_words, help};
 use velo_events::{MOST_EVENTS, MOST_NODES, MOST_THREADS, Refusal};
 use velo_logtext::Text;
-use velo_program::MOST_STATES;
+use velo_program::{DEFAULT_SEED, MOST_RUNS, MOST_STATES};
 
 /// Right words, with the status and standard error: of the two logs one raises an alarm at its last event.
 const RIGHT_WORDS: [(&[&str], u8, &str); 9] = [
@@ -48,7 +48,7 @@ const RIGHT_WORDS: [(&[&str], u8, &str); 9] = [
     (&["velodrome", "--help"], 0, ""),
 ];
 
-const WRONG_WORDS: [&[&str]; 29] = [
+const WRONG_WORDS: [&[&str]; 35] = [
     &["velodrome"],
     &["velodrome", "check"],
     &["velodrome", "race", "a.log"],
@@ -97,6 +97,20 @@ const WRONG_WORDS: [&[&str]; 29] = [
     &["velodrome", "explore", "w", "--states", "16777217"],
     &["velodrome", "explore", "w", "--stop"],
     &["velodrome", "explore", "w", "--schedule", "0"],
+    &["velodrome", "explore", "w", "--random"],
+    &["velodrome", "explore", "w", "--random", "0"],
+    &["velodrome", "explore", "w", "--random", "1000001"],
+    &["velodrome", "explore", "w", "--seed=-1"],
+    &["velodrome", "run", "w", "--random", "9"],
+    &[
+        "velodrome",
+        "carry",
+        "a.log",
+        "--log",
+        "o",
+        "--names-out",
+        "n",
+    ],
     &["velodrome", "watch"],
     &["velodrome", "watch", "a.log", "--dot", "o.dot"],
     &["velodrome", "audit", "a.log", "--certificate"],
@@ -113,7 +127,7 @@ const WRONG_WORDS: [&[&str]; 29] = [
 ];
 
 /// Right words that do not go together, with the line that says so.
-const WORDS_APART: [(&[&str], &str); 3] = [
+const WORDS_APART: [(&[&str], &str); 15] = [
     (
         &["velodrome", "check", "-", "--names", "-"],
         "error: standard input can be read once\n",
@@ -125,6 +139,77 @@ const WORDS_APART: [(&[&str], &str); 3] = [
     (
         &["velodrome", "audit", "-", "--names", "-"],
         "error: standard input can be read once\n",
+    ),
+    (
+        &["velodrome", "replay", "-", "--schedule", "@-"],
+        "error: standard input can be read once\n",
+    ),
+    (
+        &["velodrome", "replay", "w", "--names-out", "n"],
+        "error: --names-out goes only with --log\n",
+    ),
+    (
+        &["velodrome", "run", "--names-out=n", "w"],
+        "error: --names-out goes only with --log\n",
+    ),
+    (
+        &["velodrome", "explore", "w", "--names-out", "n"],
+        "error: --names-out goes only with --log\n",
+    ),
+    (
+        &["velodrome", "replay", "w", "--log", "o", "--names-out", "o"],
+        "error: OUT and NAMES are one file\n",
+    ),
+    (
+        &["velodrome", "explore", "w", "--names-out=o", "--log=o"],
+        "error: OUT and NAMES are one file\n",
+    ),
+    (
+        &[
+            "velodrome",
+            "explore",
+            "w",
+            "--random",
+            "9",
+            "--states",
+            "2097152",
+        ],
+        "error: --random goes with neither --states nor --first nor --progress\n",
+    ),
+    (
+        &["velodrome", "explore", "w", "--first", "--random", "9"],
+        "error: --random goes with neither --states nor --first nor --progress\n",
+    ),
+    (
+        &["velodrome", "explore", "w", "--random=9", "--progress"],
+        "error: --random goes with neither --states nor --first nor --progress\n",
+    ),
+    (
+        &["velodrome", "explore", "w", "--seed", "1"],
+        "error: --seed goes only with --random\n",
+    ),
+    (
+        &[
+            "velodrome",
+            "explore",
+            "w",
+            "--first",
+            "--seed=7",
+            "--states=9",
+        ],
+        "error: --seed goes only with --random\n",
+    ),
+    (
+        &[
+            "velodrome",
+            "explore",
+            "w",
+            "--seed",
+            "7",
+            "--names-out",
+            "n",
+        ],
+        "error: --seed goes only with --random\n",
     ),
 ];
 
@@ -219,7 +304,7 @@ fn help_goes_to_standard_output(rt: HostRuntime) {
 }
 
 /// The words of a command's help before a limit and after it.
-const LIMITS: [(&str, &str, u32, &str); 12] = [
+const LIMITS: [(&str, &str, u32, &str); 14] = [
     ("check", "have, 1 to ", MOST_EVENTS, " ["),
     ("check", "one time, 1 to ", MOST_NODES as u32, " ["),
     ("replay", "have, 1 to ", MOST_EVENTS, " ["),
@@ -229,6 +314,8 @@ const LIMITS: [(&str, &str, u32, &str); 12] = [
     ("run", "one time, 1 to ", MOST_NODES as u32, " ["),
     ("explore", "have, 1 to ", MOST_EVENTS, " ["),
     ("explore", "look at, 1 to ", MOST_STATES, " ["),
+    ("explore", "search, 1 to ", MOST_RUNS, "\n"),
+    ("explore", "615 [default: ", DEFAULT_SEED as u32, "]"),
     ("watch", "have, 1 to ", MOST_EVENTS, " ["),
     ("audit", "have, 1 to ", MOST_EVENTS, " ["),
     ("audit", "one time, 1 to ", MOST_NODES as u32, " ["),

@@ -208,6 +208,13 @@ fn long_log(alloc: Global, blocks: usize) -> Result<String, Fail> {
 
 const LONG_EXPLAINED: &str = "\
 The blocks of this log cannot be serialized.
+    line  thread 0                            thread 1
+       3  begin 7
+       4  wr 0 1
+       5                                      begin 1
+       6                                      rd 0 1
+      .. 14998 lines ..
+   15005  wr 0 2
 Line 15005 `0 wr 0 2` closes a cycle of 2 transactions:
   T1: thread 0, block 7, lines 3 to 15005
   T2: thread 1, block 1, lines 5 to 7

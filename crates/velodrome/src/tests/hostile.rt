@@ -130,6 +130,16 @@ fn reads_fail_at_each_byte(rt: HostRuntime) {
     }
 }
 
+/// The text of a schedule, which fails after so many bytes.
+#[test]
+fn reads_of_a_schedule_fail_at_each_byte(rt: HostRuntime) {
+    let words = ["velodrome", "replay", "w", "--schedule", "@s"];
+    let text = "0*3 1 0\n";
+    for count in 0..=text.len() {
+        fail_read(&rt, rt.alloc(), &words, text, count);
+    }
+}
+
 /// Compares what went out before a write failed with the beginning of what was to go out.
 fn compare_failed(rt: &impl Abort, written: &Text, whole: &Text, count: usize, shown: &Shown) {
     let told = (Some(written.as_slice()), shown.err.as_slice(), shown.status);

@@ -428,6 +428,11 @@ fn logs_are_checked(rt: HostRuntime) {
 
 const LOST_UPDATE_EXPLAINED: &str = "\
 The blocks of this log cannot be serialized.
+    line  thread 0                            thread 1
+       3  begin 7
+       4  rd 0 0
+       5                                      wr 0 5
+       6  wr 0 1
 Line 6 `0 wr 0 1` closes a cycle of 2 transactions:
   T1: thread 0, block 7, lines 3 to 6
   T2: thread 1, outside blocks, line 5
@@ -451,6 +456,13 @@ digraph cycle {
 
 const SHARED_TWICE_EXPLAINED: &str = "\
 The blocks of this log cannot be serialized.
+    line  thread 0                            thread 1
+       3  begin 1
+      .. 1 line ..
+       5  rels 0
+       6                                      acq 0
+      .. 1 line ..
+       8  acqs 0
 Line 8 `0 acqs 0` closes a cycle of 2 transactions:
   T1: thread 0, block 1, lines 3 to 8
   T2: thread 1, outside blocks, line 6

@@ -52,7 +52,7 @@ const SHARING_TWICE: &str =
 pub const COLLIDING_LOG: &str =
     "vlog 2 2 1 0\n0 fork 1\n0 begin 0\n0 rd 0 0\n1 wr 0 5\n0 wr 0 1\n0 end\n1 exit\n0 join 1\n0 exit\n";
 
-const COLLIDING_REPORT: &str =
+pub const COLLIDING_REPORT: &str =
     "events 9\nthread 0 main 7\nthread 1 a 2\nverdict alarm 4\ntransaction 1\nblame 1 inc\n";
 
 /// What the program does with a workload, and the log that it writes.

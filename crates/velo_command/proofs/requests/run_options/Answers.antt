@@ -10,6 +10,7 @@ returns-clause-some c =
       word_read f (codes "FILE") c.get_str.result c.in_ok-get_str.field-0 c.get_str.ensures c.in_ok-get_str.was,
       flag_read f (codes "stop") c.get_flag.result c.get_flag.ensures.none c.get_flag.ensures.value c.get_flag.ensures.other,
       option_read f (codes "log") c.get_str-2.result c.get_str-2.ensures,
+      option_read f (codes "names-out") c.get_str-3.result c.get_str-3.ensures,
       c.in_ok-limits_of.ensures.some,
       flag_read f (codes "certificate") c.get_flag-2.result c.get_flag-2.ensures.none c.get_flag-2.ensures.value c.get_flag-2.ensures.other,
     )
@@ -19,4 +20,4 @@ returns-in_err-get_str-clause-none c = on_none _ (IsRun (rows_of (found_of c.arg
     no_word (found_of c.args.found.now) (codes "FILE") c.get_str.result options.input.now c.get_str.ensures c.in_err-get_str.was asks.0)
 
 pub returns-in_err-limits_of-clause-none : goal.returns-in_err-limits_of-clause-none
-returns-in_err-limits_of-clause-none c = on_none _ (IsRun (rows_of (found_of c.args.found.now))) (λ options asks. c.in_err-limits_of.ensures.none options.limits asks.3)
+returns-in_err-limits_of-clause-none c = on_none _ (IsRun (rows_of (found_of c.args.found.now))) (λ options asks. c.in_err-limits_of.ensures.none options.limits asks.4)

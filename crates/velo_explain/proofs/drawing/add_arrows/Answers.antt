@@ -9,7 +9,7 @@ use Rattle.velo_explain.proofs.drawing.add_arrows.Goals as goal
 pub loop-k-preserved : goal.loop-k-preserved
 loop-k-preserved c =
     let edges = c.args.edges.now in let k = c.loop-k.k in let nothing : EdgeEvents = record { from = 0; to = 0 } in let item = get_or edges k nothing in
-    let text = arrow_text c.args.events.now (length c.args.edges.now) in
+    let text = arrow_text c.args.names.now c.args.events.now (length c.args.edges.now) in
     let more : take (k + 1) edges ≡ take k edges ++ item ∷ [] = take_more edges k nothing c.loop-k-test.true in
     c.in_ok-add_arrow.ensures.ok
     ∙ ap (λ (t : List ℕ). t ++ text k item) c.loop-k.invariant

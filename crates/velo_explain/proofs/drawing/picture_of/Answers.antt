@@ -10,10 +10,10 @@ returns-clause-ok c =
     four_parts _ _ _ _ _
     start_text
     (numbered (box_text names trace) 0 evidence.spans.items)
-    (numbered (arrow_text trace (length evidence.edges.items)) 0 evidence.edges.items)
+    (numbered (arrow_text names trace (length evidence.edges.items)) 0 evidence.edges.items)
     end_text
     c.new-page.ensures
     c.in_ok-add_start.ensures.ok
     (subst (λ xs. c.add_boxes.new.page ≡ c.add_start.new.page ++ numbered (box_text names trace) 0 xs) c.as_slice.ensures.value c.in_ok-add_boxes.ensures.ok)
-    (subst (λ xs. c.add_arrows.new.page ≡ c.add_boxes.new.page ++ numbered (arrow_text trace (length xs)) 0 xs) c.as_slice-2.ensures.value c.in_ok-add_arrows.ensures.ok)
+    (subst (λ xs. c.add_arrows.new.page ≡ c.add_boxes.new.page ++ numbered (arrow_text names trace (length xs)) 0 xs) c.as_slice-2.ensures.value c.in_ok-add_arrows.ensures.ok)
     c.in_ok-add_end.ensures.ok

@@ -1,20 +1,16 @@
-use Rattle.std.proofs.Common.{◌≡◌, ◌++◌, length, subst}
-use Rattle.velo_explain.specs.Text.{numbered, heading_text, member_text, order_text, edge_text, blames_text}
-use Rattle.velo_explain.proofs.OnPieces.{five_parts}
+use Rattle.velo_explain.specs.Lanes.{lanes_text}
+use Rattle.velo_explain.specs.Text.{alarm_text, words_text}
+use Rattle.velo_explain.proofs.OnPieces.{three_parts}
 use Rattle.velo_explain.proofs.words.explanation.Goals as goal
 
 pub returns-clause-ok : goal.returns-clause-ok
 returns-clause-ok c =
     let names = c.args.names.now in let trace = c.args.events.now in let p = c.args.position in let evidence = c.args.evidence.now in
-    five_parts _ _ _ _ _ _
-    (heading_text names trace p (length evidence.spans.items))
-    (numbered (member_text names trace) 0 evidence.spans.items)
-    order_text
-    (numbered (edge_text names trace (length evidence.edges.items)) 0 evidence.edges.items)
-    (blames_text names trace p evidence.blames.items)
+    three_parts _ _ _ _
+    alarm_text
+    (lanes_text names trace evidence)
+    (words_text names trace p evidence)
     c.new-page.ensures
-    (subst (λ xs. c.add_heading.new.page ≡ c.new-page.result ++ heading_text names trace p (length xs)) c.as_slice-spans.ensures.value c.in_ok-add_heading.ensures.ok)
-    (subst (λ xs. c.add_members.new.page ≡ c.add_heading.new.page ++ numbered (member_text names trace) 0 xs) c.as_slice-spans.ensures.value c.in_ok-add_members.ensures.ok)
-    c.in_ok-add_order.ensures.ok
-    (subst (λ xs. c.add_edges.new.page ≡ c.add_order.new.page ++ numbered (edge_text names trace (length xs)) 0 xs) c.deref.ensures.value c.in_ok-add_edges.ensures.ok)
-    (subst (λ xs. c.add_blames.new.page ≡ c.add_edges.new.page ++ blames_text names trace p xs) c.deref-2.ensures.value c.in_ok-add_blames.ensures.ok)
+    c.in_ok-add_alarm.ensures.ok
+    c.in_ok-add_lanes.ensures.ok
+    c.in_ok-add_words.ensures.ok

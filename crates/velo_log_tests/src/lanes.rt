@@ -1,0 +1,242 @@
+use crate::words::{acquire, begin, end, fork, read, release, trace_of, write};
+use std::alloc::Global;
+use std::process::Abort;
+use std::test::Fail;
+use velo_events::{Event, Label};
+use velo_explain::{evidence_of, explain_named, picture_named};
+use velo_names::Names;
+use velo_traces::Block;
+
+/// A log with names and its alarm, the first lines of what is to be written, and whether they are those of the picture for
+/// Graphviz.
+#[derive(Clone, Copy)]
+struct Known<'a> {
+    names: &'a str,
+    events: &'a [Event],
+    position: usize,
+    blamed: &'a [Block],
+    text: &'a str,
+    dot: bool,
+}
+
+fn block(first: usize, label: u32) -> Block {
+    Block {
+        first,
+        label: Label(label),
+    }
+}
+
+/// Compares the first lines of what is written of an alarm with what is wanted.
+fn compare(rt: &impl Abort, alloc: Global, known: &Known) -> Result<(), Fail> {
+    let trace = trace_of(alloc, known.events)?;
+    assert!(rt; trace.len() < 100);
+    let evidence = evidence_of(alloc, &trace, known.position, known.blamed)?;
+    let Ok(names) = Names::parse(alloc, known.names.as_bytes()) else {
+        panic!(rt; "the names have a fault");
+    };
+    let written = if known.dot {
+        picture_named(alloc, &trace, known.position, &evidence, &names)?
+    } else {
+        explain_named(alloc, &trace, known.position, &evidence, &names)?
+    };
+    assert!(rt; written.as_slice().starts_with(known.text.as_bytes()));
+    Ok(())
+}
+
+/// Three transactions. The names are cut before a character of two bytes, and behind one; one just fits.
+fn three_lanes(rt: &impl Abort, alloc: Global) -> Result<(), Fail> {
+    let known = Known {
+        names: "\
+thread 0 main
+thread 1 a worker with a long name
+variable 0 Zähler der offenen Aufträge
+variable 1 aaaaaaaaaaaaéééé
+variable 2 exactly fifteen
+label 1 Übertrag
+",
+        events: &[
+            fork(0, 1),
+            fork(0, 2),
+            begin(0, 1),
+            write(0, 0, 1),
+            begin(1, 2),
+            read(1, 0, 1),
+            write(1, 1, 1),
+            end(1),
+            begin(2, 3),
+            read(2, 1, 1),
+            write(2, 2, 1),
+            read(0, 2, 1),
+        ],
+        position: 11,
+        blamed: &[block(2, 1)],
+        text: "\
+The blocks of this log cannot be serialized.
+    line  thread 0 main           thread 1 a worker wi..  thread 2
+       4  begin 1 Übertrag
+       5  wr 0 1 Zähler der of..
+       6                          begin 2
+       7                          rd 0 1 Zähler der of..
+       8                          wr 1 1 aaaaaaaaaaaaé..
+      .. 1 line ..
+      10                                                  begin 3
+      11                                                  rd 1 1 aaaaaaaaaaaaé..
+      12                                                  wr 2 1 exactly fifteen
+      13  rd 2 1 exactly fifteen
+Line 13 `0 rd 2 1` closes a cycle of 3 transactions: exactly fifteen
+",
+        dot: false,
+    };
+    compare(rt, alloc, &known)
+}
+
+/// The event that parts the block is not on the cycle. Two events of thread 1 stand side by side.
+fn witness_beside_the_cycle(rt: &impl Abort, alloc: Global) -> Result<(), Fail> {
+    let known = Known {
+        names: "lock 0 table\n",
+        events: &[
+            begin(0, 1),
+            begin(0, 9),
+            end(0),
+            fork(0, 1),
+            begin(1, 2),
+            acquire(1, 0),
+            write(1, 0, 1),
+            write(1, 0, 2),
+            release(1, 0),
+            acquire(0, 0),
+        ],
+        position: 9,
+        blamed: &[block(0, 1)],
+        text: "\
+The blocks of this log cannot be serialized.
+    line  thread 0                            thread 1
+       2  begin 1
+      .. 2 lines ..
+       5  fork 1
+       6                                      begin 2
+       7                                      acq 0 table
+      .. 2 lines ..
+      10                                      rel 0 table
+      11  acq 0 table
+Line 11 `0 acq 0` closes a cycle of 2 transactions: table
+",
+        dot: false,
+    };
+    compare(rt, alloc, &known)
+}
+
+/// Six transactions of six threads, with lines between any two events of the cycle: a screen is full, and no begin is shown.
+fn six_lanes(rt: &impl Abort, alloc: Global) -> Result<(), Fail> {
+    let known = Known {
+        names: "thread 0 main\nvariable 0 total\nvariable 5 abc\n",
+        events: &[
+            fork(0, 1),
+            fork(0, 2),
+            fork(0, 3),
+            fork(0, 4),
+            fork(0, 5),
+            begin(0, 1),
+            write(0, 0, 1),
+            read(0, 9, 0),
+            begin(1, 2),
+            read(1, 0, 1),
+            read(0, 9, 0),
+            write(1, 1, 1),
+            read(0, 9, 0),
+            begin(2, 3),
+            read(2, 1, 1),
+            read(0, 9, 0),
+            write(2, 2, 1),
+            read(0, 9, 0),
+            begin(3, 4),
+            read(3, 2, 1),
+            read(0, 9, 0),
+            write(3, 3, 1),
+            read(0, 9, 0),
+            begin(4, 5),
+            read(4, 3, 1),
+            read(0, 9, 0),
+            write(4, 4, 1),
+            read(0, 9, 0),
+            begin(5, 6),
+            read(5, 4, 1),
+            read(0, 9, 0),
+            write(5, 5, 1),
+            read(0, 9, 0),
+            read(0, 5, 1),
+        ],
+        position: 33,
+        blamed: &[block(5, 1)],
+        text: "\
+The blocks of this log cannot be serialized.
+    line  thread 0..  thread 1    thread 2    thread 3    thread 4    thread 5
+       8  wr 0 1 t..
+      .. 2 lines ..
+      11              rd 0 1 t..
+      .. 1 line ..
+      13              wr 1 1
+      .. 2 lines ..
+      16                          rd 1 1
+      .. 1 line ..
+      18                          wr 2 1
+      .. 2 lines ..
+      21                                      rd 2 1
+      .. 1 line ..
+      23                                      wr 3 1
+      .. 2 lines ..
+      26                                                  rd 3 1
+      .. 1 line ..
+      28                                                  wr 4 1
+      .. 2 lines ..
+      31                                                              rd 4 1
+      .. 1 line ..
+      33                                                              wr 5 1 abc
+      .. 1 line ..
+      35  rd 5 1 abc
+Line 35 `0 rd 5 1` closes a cycle of 6 transactions: abc
+",
+        dot: false,
+    };
+    compare(rt, alloc, &known)
+}
+
+/// Quotes and backslashes of names are escaped.
+fn names_in_a_picture(rt: &impl Abort, alloc: Global) -> Result<(), Fail> {
+    let known = Known {
+        names: "thread 0 \"main\"\nthread 1 C:\\pool\nvariable 0 a\\\"b\nlabel 7 f<\"x\">\n",
+        events: &[
+            fork(0, 1),
+            begin(0, 7),
+            read(0, 0, 0),
+            write(1, 0, 5),
+            write(0, 0, 1),
+        ],
+        position: 4,
+        blamed: &[],
+        text: "\
+digraph cycle {
+  rankdir=LR;
+  node [shape=box];
+  subgraph cluster_0 { label=\"thread 0 \\\"main\\\"\"; T1 [label=\"T1: block 7 f<\\\"x\\\">\\nlines 3 to 6\"]; }
+  subgraph cluster_1 { label=\"thread 1 C:\\\\pool\"; T2 [label=\"T2: outside blocks\\nline 5\"]; }
+  T1 -> T2 [label=\"line 4: 0 rd 0 0 a\\\\\\\"b\\nline 5: 1 wr 0 5 a\\\\\\\"b\"];
+  T2 -> T1 [label=\"line 5: 1 wr 0 5 a\\\\\\\"b\\nline 6: 0 wr 0 1 a\\\\\\\"b\"];
+}
+",
+        dot: true,
+    };
+    compare(rt, alloc, &known)
+}
+
+#[test]
+fn lanes(rt: HostRuntime) -> Result<(), Fail> {
+    three_lanes(&rt, rt.alloc())?;
+    witness_beside_the_cycle(&rt, rt.alloc())?;
+    six_lanes(&rt, rt.alloc())
+}
+
+#[test]
+fn pictures_with_names(rt: HostRuntime) -> Result<(), Fail> {
+    names_in_a_picture(&rt, rt.alloc())
+}

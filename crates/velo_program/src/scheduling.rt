@@ -1,0 +1,62 @@
+//! The schedule of a replay.
+ghost use Rattle.std.specs.Prelude.{IfErr, IfOk};
+ghost use Rattle.velo_turns.specs.File.{IsScheduleIn};
+ghost use Rattle.velo_program.specs.Scheduling.{IsNoScheduleIn, IsScheduleOf, LacksSchedule, LacksScheduleAt, ReadsSchedule};
+
+use crate::fate::Fate;
+use crate::files::Files;
+use crate::naming::read_file;
+use crate::request::ScheduleSource;
+use std::alloc::Global;
+use velo_events::ThreadId;
+use velo_turns::{MOST_SCHEDULE_BYTES, schedule_in, schedule_of};
+
+/// The schedule that the bytes of a file say.
+///
+/// # Errors
+/// `Schedule` with the fault for which they say none.
+fn schedule_of_bytes(alloc: Global, bytes: &[u8]) -> Result<Vec<ThreadId>, Fate>
+    ensures schedule { IfOk result (λ schedule. IsScheduleIn bytes.now schedule.items) }
+    ensures fault { IfErr result (IsNoScheduleIn bytes.now) }
+{
+    match schedule_in(alloc, bytes) {
+        Ok(schedule) => Ok(schedule),
+        Err(fault) => Err(Fate::Schedule(fault)),
+    }
+}
+
+/// The schedule of the file at a path.
+fn schedule_at<F: Files>(alloc: Global, path: &str, files: &F) -> Result<Vec<ThreadId>, Fate>
+    ensures schedule { IfOk result (λ schedule. ReadsSchedule (F.disk files.now) path.now
+        schedule.items) }
+    ensures none { IfErr result (LacksScheduleAt (F.disk files.now) path.now) }
+{
+    let bytes = match read_file(alloc, path, MOST_SCHEDULE_BYTES, files) {
+        Ok(bytes) => bytes,
+        Err(fate) => return Err(fate),
+    };
+    schedule_of_bytes(alloc, &bytes)
+}
+
+/// The schedule that a replay is given, by its text or by the path of a file.
+///
+/// # Errors
+/// `Schedule` where there is none; for a file also `CannotOpen` where it does not open, `ReadFailed` where it failed, `Memory`
+/// where a growth was refused.
+pub fn schedule_of_source<F: Files>(
+    alloc: Global,
+    source: ScheduleSource,
+    files: &F,
+) -> Result<Vec<ThreadId>, Fate>
+    ensures schedule { IfOk result (λ schedule. IsScheduleOf (F.disk files.now) source.entry
+        schedule.items) }
+    ensures none { IfErr result (LacksSchedule (F.disk files.now) source.entry) }
+{
+    match source {
+        ScheduleSource::Text(text) => match schedule_of(alloc, text) {
+            Ok(schedule) => Ok(schedule),
+            Err(fault) => Err(Fate::Schedule(fault)),
+        },
+        ScheduleSource::File(path) => schedule_at(alloc, path, files),
+    }
+}

@@ -1,0 +1,36 @@
+//! Reading a schedule of a file.
+ghost use Rattle.std.specs.Prelude.{IfErr, IfOk};
+ghost use Rattle.velo_turns.specs.File.{AreOfText, IsFaultOfBytes, IsScheduleIn};
+
+use crate::limits::MOST_SCHEDULE_BYTES;
+use crate::schedule::{ScheduleFault, schedule_of};
+use std::alloc::Global;
+use velo_events::ThreadId;
+
+/// The text without one newline at its end.
+fn without_newline(text: &str) -> &str
+    ensures { AreOfText text.now result.now }
+{
+    match text.strip_suffix('\n') {
+        Some(text) => text,
+        None => text,
+    }
+}
+
+/// Reads the schedule that the bytes of a file say: its text, as [`schedule_of`] takes it, and at most one newline behind it.
+/// More bytes than [`MOST_SCHEDULE_BYTES`] say none.
+///
+/// # Errors
+/// `Bad` for other bytes, `Memory` where a growth was refused.
+pub fn schedule_in(alloc: Global, bytes: &[u8]) -> Result<Vec<ThreadId>, ScheduleFault>
+    ensures schedule { IfOk result (λ schedule. IsScheduleIn bytes.now schedule.items) }
+    ensures fault { IfErr result (IsFaultOfBytes bytes.now) }
+{
+    if bytes.len() > MOST_SCHEDULE_BYTES {
+        return Err(ScheduleFault::Bad);
+    }
+    match std::str::from_utf8(bytes) {
+        Ok(text) => schedule_of(alloc, without_newline(text)),
+        Err(_) => Err(ScheduleFault::Bad),
+    }
+}

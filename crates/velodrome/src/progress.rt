@@ -1,0 +1,150 @@
+//! How far a search is, on standard error. Nothing of this is proved but that it is safe and ends.
+
+use std::alloc::Global;
+use std::cmp::max;
+use std::fs;
+use std::os::unix::fs::MetadataExt;
+use std::time::{Clock, Duration};
+use velo_logtext::{Sink, write_all};
+use velo_program::{ExploreProgress, Progress};
+
+/// A search that takes no longer is not told of on a terminal, and lines that stay are no nearer to one another.
+const PAUSE: Duration = Duration::from_secs(2);
+
+/// A line that is written over is not written more often.
+const BLINK: Duration = Duration::from_millis(100);
+
+/// When a search is told of, and in what form.
+#[derive(Clone, Copy, Debug)]
+struct Manner {
+    /// Each line is written over the one before.
+    over: bool,
+    /// How long a search takes at least that is told of.
+    patience: Duration,
+    /// How far the lines are at least from one another.
+    pause: Duration,
+}
+
+/// In what manner a search is told of, if it is.
+fn manner_of(is_terminal: bool, always: bool) -> Option<Manner> {
+    match (is_terminal, always) {
+        (true, _) => Some(Manner {
+            over: true,
+            patience: if always { Duration::ZERO } else { PAUSE },
+            pause: BLINK,
+        }),
+        (false, true) => Some(Manner {
+            over: false,
+            patience: Duration::ZERO,
+            pause: PAUSE,
+        }),
+        (false, false) => None,
+    }
+}
+
+/// Tells how far a search is.
+#[derive(Drop)]
+pub struct ProgressLine<'a, C, S> {
+    clock: &'a C,
+    alloc: Global,
+    sink: S,
+    is_terminal: bool,
+    /// In what manner the search is told of, if it is.
+    manner: Option<Manner>,
+    /// When the search began, on the clock.
+    begun: Duration,
+    /// How long the search had taken when it was last told of, if it was.
+    told: Option<Duration>,
+}
+
+impl<'a, C: Clock, S: Sink> ProgressLine<'a, C, S> {
+    /// Tells it on a sink that is a terminal, or is none.
+    pub fn new(clock: &'a C, alloc: Global, sink: S, is_terminal: bool) -> ProgressLine<'a, C, S> {
+        ProgressLine {
+            clock,
+            alloc,
+            sink,
+            is_terminal,
+            manner: None,
+            begun: Duration::ZERO,
+            told: None,
+        }
+    }
+
+    /// Tells of a search that has taken so long. Behind a failure nothing more is told.
+    fn tell(&mut self, over: bool, taken: Duration, levels: u64, states: u64) {
+        self.told = Some(taken);
+        let (before, after) = if over { ("\r", "\x1b[K") } else { ("", "\n") };
+        let rate = states_a_second(states, taken);
+        let text = format!(in self.alloc;
+            "{before}levels {levels} states {states}, {rate} a second{after}");
+        let is_told = match text {
+            Ok(text) => write_all(&mut self.sink, text.as_bytes()).is_ok(),
+            Err(_) => false,
+        };
+        if !is_told {
+            self.manner = None;
+        }
+    }
+}
+
+/// How many states were looked at in a second.
+fn states_a_second(states: u64, taken: Duration) -> u128 {
+    u128::from(states) * 1000 / max(taken.as_millis(), 1)
+}
+
+/// Whether it is time to tell of a search that has taken so long, and was last told of then.
+fn is_due(manner: Manner, taken: Duration, told: Option<Duration>) -> bool {
+    match told {
+        Some(told) => taken.saturating_sub(told) >= manner.pause,
+        None => taken >= manner.patience,
+    }
+}
+
+impl<C: Clock, S: Sink> Progress for ProgressLine<'_, C, S> {
+    fn level_done(&mut self, levels: u64, states: u64) {
+        let Some(manner) = self.manner else {
+            return;
+        };
+        let Ok(now) = self.clock.monotonic() else {
+            return;
+        };
+        let taken = now.saturating_sub(self.begun);
+        if is_due(manner, taken, self.told) {
+            self.tell(manner.over, taken, levels, states);
+        }
+    }
+}
+
+impl<C: Clock, S: Sink> ExploreProgress for ProgressLine<'_, C, S> {
+    fn begin(&mut self, always: bool) {
+        self.told = None;
+        self.manner = None;
+        if let Ok(now) = self.clock.monotonic() {
+            self.begun = now;
+            self.manner = manner_of(self.is_terminal, always);
+        }
+    }
+
+    fn end(&mut self) {
+        if self.told.is_some() && self.manner.is_some_and(|manner| manner.over) {
+            let _ = write_all(&mut self.sink, b"\r\x1b[K");
+        }
+        self.manner = None;
+    }
+}
+
+/// Whether a file of this mode, for this device, is a terminal: a character device with the major number of terminals, consoles
+/// or their pseudo ones, as Linux counts them.
+fn is_terminal_device(mode: u32, device: u64) -> bool {
+    let major = device >> 8 & 0xfff;
+    mode & 0o170_000 == 0o020_000 && matches!(major, 4 | 5 | 136..=143)
+}
+
+/// Whether standard error is a terminal, as far as this can be seen.
+pub fn is_terminal(files: &impl fs::Files) -> bool {
+    match fs::metadata(files, "/proc/self/fd/2") {
+        Ok(metadata) => is_terminal_device(metadata.mode(), metadata.rdev()),
+        Err(_) => false,
+    }
+}
