@@ -1,8 +1,8 @@
 -- What an exploration comes to.
-use Rattle.std.proofs.Common.{◌≡◌, ◌∙◌, ap, append_assoc, inl, inr, refl, subst, sym}
-use Rattle.std.proofs.lemmas.List.{append-nil}
+use Rattle.std.proofs.Common.{◌≡◌, ◌∙◌, ap, append_assoc, arith, inl, inr, refl, subst, sym, take}
+use Rattle.std.proofs.lemmas.List.{append-nil, length-map, length-take}
 use Rattle.std.proofs.lemmas.Bool.{false≢true}
-use Rattle.std.specs.Prelude.{◌≢◌, ◌↔◌, ◌⊎◌, ◌-◌, ◌^◌, ◌≤◌, ◌<◌, ◌++◌, [], ℕ, Bool, true, false, All, List, length, min, sum_by, Option, Some, None, Result, Ok, Err, IfOk, IfSome, IsTrue, OnOk, is_some}
+use Rattle.std.specs.Prelude.{◌≢◌, ◌↔◌, ◌⊎◌, ◌+◌, ◌-◌, ◌^◌, ◌≤◌, ◌<◌, ◌++◌, ◌∷◌, [], ℕ, Bool, true, false, All, List, decimal, length, map, min, sum_by, Option, Some, None, Result, Ok, Err, IfOk, IfSome, IsTrue, OnErr, OnOk, is_some}
 use Rattle.std.specs.Io.KnownBytes.{Appends}
 use Rattle.std.specs.Borrow.{Bor}
 use Rattle.std.specs.Global.{Vec}
@@ -12,7 +12,7 @@ use Rattle.velo_events.specs.declared.config.Config.{Config}
 use Rattle.velo_events.specs.declared.event.ThreadId.{ThreadId}
 use Rattle.velo_events.specs.declared.limits.TheConstants.{MOST_THREADS}
 use Rattle.velo_logtext.proofs.OnDevices.{appends_nothing, appends_then, beginning_then}
-use Rattle.velo_logtext.specs.Device.{with_failure}
+use Rattle.velo_logtext.specs.Device.{AppendsBeginning, with_failure}
 use Rattle.velo_report.specs.declared.names.Names.{Names}
 use Rattle.velo_schedules.specs.declared.finding.RefusedRun.{RefusedRun}
 use Rattle.velo_schedules.specs.declared.finding.Finding.{Finding}
@@ -50,7 +50,7 @@ use Rattle.velo_program.specs.declared.told.Tried.TheVariants as how
 use Rattle.velo_chance.specs.declared.tally.Tally.{Tally}
 use Rattle.velo_chance.specs.Runs.{Run, is_refused, is_stuck}
 use Rattle.velo_chance.specs.Runs as R
-use Rattle.velo_chance.specs.Tallies.{IsTold, rank}
+use Rattle.velo_chance.specs.Tallies.{IsTold, IsTriedBy, rank}
 use Rattle.velo_program.specs.declared.check.Verdict.{Verdict}
 use Rattle.velo_program.specs.declared.check.Verdict.TheVariants as verdict
 use Rattle.velo_program.specs.Fate.{is_alarm}
@@ -148,6 +148,23 @@ module _ (program : Program) (config : Config) where
           sayable = are_said alarm stuck refused told.found said_a said_s said_r;
         };
         blame = blame;
+      }
+
+  -- ---- who is to blame
+
+  pub blamed : (schedules : List (Vec ThreadId)) (n most : ℕ) (tally : Tally) → IsTriedBy program config (map (λ s. s.items) (take n schedules)) tally → IsNonDecreasingBy rank tally.blamed.items → n ≤ most
+      → IsBlameOf program config most (record { alarms = tally.alarms; labels = tally.blamed })
+  blamed schedules n most tally tried order small =
+      record {
+        runs = tried.runs;
+        replayed = tried.replayed;
+        few =
+            let runs : length (map (λ (run : Run). run.schedule) tried.runs) ≡ length tried.runs = length-map tried.runs (λ run. run.schedule) in
+            let taken : length (map (λ (s : Vec ThreadId). s.items) (take n schedules)) ≡ length (take n schedules) = length-map (take n schedules) (λ s. s.items) in
+            let same : length (map (λ (run : Run). run.schedule) tried.runs) ≡ length (map (λ (s : Vec ThreadId). s.items) (take n schedules)) = ap (λ (l : List (List ThreadId)). length l) tried.by in
+            let short = length-take n schedules in
+            omega (arith, runs, taken, same, short, small);
+        are = record { alarms = tried.comes_to.alarms; labels = tried.comes_to.blamed; order = order };
       }
 
   -- ---- runs by chance
@@ -460,6 +477,12 @@ plain_fate Open Open refusals.Open = plain_open
 
 -- ---- what goes out
 
+-- what a writer's clauses say
+pub delivers : {X F : Type 0} (out : Writing) (text : List ℕ) (result : Result X F) → OnOk result (Appends out.old out.new text) → OnErr result (AppendsBeginning out.old out.new text)
+    → OnOk result (out.failures_after ≡ out.failures_before) → OnErr result (out.failures_after ≡ with_failure out.failures_before) → Delivers out text result
+delivers out text (Ok x) went broke none failed = (went, none)
+delivers out text (Err f) went broke none failed = (broke, failed)
+
 -- the text went out behind the report, or a beginning of it
 pub report_then : {X F : Type 0} (names : Names) (certificate : Bool) (w : WorldState) (behind : List ℕ) (out : Writing) (report : List ℕ) → IsOutputOf names certificate w report
     → (middle : Option (List ℕ)) (count : ℕ) → Appends out.old middle report → count ≡ out.failures_before → (result : Result X F)
@@ -470,9 +493,9 @@ report_then names certificate w behind out report is middle count first kept (Er
     (report, is, (beginning_then out.old middle out.new report behind [] (report ++ behind) first h.0 (sym (append-nil (report ++ behind))), h.1 ∙ ap with_failure kept))
 
 -- the report broke off
-pub report_breaks : {X F : Type 0} (names : Names) (certificate : Bool) (w : WorldState) (behind : List ℕ) (out : Writing) (report : List ℕ) → IsOutputOf names certificate w report
+pub report_breaks : (X : Type 0) {F : Type 0} (names : Names) (certificate : Bool) (w : WorldState) (behind : List ℕ) (out : Writing) (report : List ℕ) → IsOutputOf names certificate w report
     → (f : F) → BreaksOff out report → WritesReport {X = X} {F = F} names certificate w behind out (Err f)
-report_breaks names certificate w behind out report is f broke =
+report_breaks X names certificate w behind out report is f broke =
     (report, is, (beginning_then out.old out.old out.new [] report behind (report ++ behind) (appends_nothing out.old) broke.0 refl, broke.1))
 
 -- the report went out behind the text, or a beginning of it
@@ -491,7 +514,7 @@ pub text_breaks : {F : Type 0} (text : List ℕ) (names : Names) (w : WorldState
     → (out : Writing) (f : F) → BreaksOff out text → WritesBehind {X = ℕ} {F = F} text names (is_some list) w behind out (Err f)
 text_breaks text names w behind list certifies alarm out f broke =
     let output = output_exists names w.config.bounds.threads w.log list certifies alarm in
-    (output.0, output.1, (beginning_then out.old out.old out.new [] text (output.0 ++ behind) (text ++ output.0 ++ behind) (appends_nothing out.old) broke.0 refl, broke.1))
+    (output.0, output.1, (beginning_then out.old out.old out.new [] text (output.0 ++ behind) (text ++ (output.0 ++ behind)) (appends_nothing out.old) broke.0 refl, broke.1))
 
 -- where a text is not saved nothing goes out
 unsaved_puts : (X : Type 0) (store : Store) (target : Option (Bor (List ℕ))) (out : Writing) (log text : List ℕ) (f : Fate)
@@ -541,7 +564,7 @@ pub reported_named : {X : Type 0} (program : Program) (text : List ℕ) (names :
     → TellsOrLacks text names options.certificate w behind store (record { target = options.target; names_target = options.names_target; names = listed }) out result
     → AreNamesOf program names → AreNamesFor options.names_target program listed.now → ReportsOrLacks program text options w behind store out result
 reported_named program text names options w behind store listed out result (inl told) are for =
-    inl (names, are, (told.0, told.1, puts_named store options.target listed.now (text_of_log w) out (text ++ told.0 ++ behind) options.names_target program result for told.2))
+    inl (names, are, (told.0, told.1, puts_named store options.target listed.now (text_of_log w) out (text ++ (told.0 ++ behind)) options.names_target program result for told.2))
 reported_named program text names options w behind store listed out result (inr lacks) are for = inr lacks
 
 module _ (store : Store) (target : Option (Bor (List ℕ))) (stdout : Writing) where
@@ -597,7 +620,7 @@ explored options program config x None text store stdout result configured so no
       (subst (λ (t : List ℕ). Puts store options.target stdout None t result) is told),
 )
 explored options program config x (Some run) text store stdout result configured so first is (inl told) = (
-  record { saved = Some (text_of_log run.0); printed = Some (told_text program x ++ told.2.0 ++ waits_behind x.found.alarm x.found.stuck program run.0.log); fate = fate_of_told x },
+  record { saved = Some (text_of_log run.0); printed = Some (told_text program x ++ (told.2.0 ++ waits_behind x.found.alarm x.found.stuck program run.0.log)); fate = fate_of_told x },
   inl (record {
     config = config;
     configured = configured;
@@ -605,8 +628,8 @@ explored options program config x (Some run) text store stdout result configured
     is_so = so;
     says = inl (record { ended = run.1; world = run.0; replay = first.0; names = told.0; are_names = told.1; report = told.2.0; is_report = told.2.1; said = refl });
   }),
-  put_in_turn store options.target options.names_target (text_of_names program) stdout (text_of_log run.0) (told_text program x ++ told.2.0 ++ waits_behind x.found.alarm x.found.stuck program run.0.log) (fate_of_told x) (plain_fate x.found.alarm x.found.stuck x.found.refused) result
-      (subst (λ (t : List ℕ). PutsBy (Some (text_of_log run.0)) options.names_target store options.target (text_of_names program) stdout (t ++ told.2.0 ++ waits_behind x.found.alarm x.found.stuck program run.0.log) result) is told.2.2),
+  put_in_turn store options.target options.names_target (text_of_names program) stdout (text_of_log run.0) (told_text program x ++ (told.2.0 ++ waits_behind x.found.alarm x.found.stuck program run.0.log)) (fate_of_told x) (plain_fate x.found.alarm x.found.stuck x.found.refused) result
+      (subst (λ (t : List ℕ). PutsBy (Some (text_of_log run.0)) options.names_target store options.target (text_of_names program) stdout (t ++ (told.2.0 ++ waits_behind x.found.alarm x.found.stuck program run.0.log)) result) is told.2.2),
 )
 explored options program config x (Some run) text store stdout result configured so first is (inr lacks) =
     let lack = lacked store options.target stdout (fate_of_told x) result lacks in

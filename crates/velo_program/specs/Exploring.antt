@@ -207,7 +207,7 @@ pub record ReportsReplay (options : ExploreOptions) (program : Program) (config 
   pub said : answer ≡ record {
     saved = Some (text_of_log world);
     printed = Some (told_text program told
-        ++ report ++ waits_behind told.found.alarm told.found.stuck program world.log);
+        ++ (report ++ waits_behind told.found.alarm told.found.stuck program world.log));
     fate = fate_of_told told;
   }
 

@@ -128,7 +128,7 @@ abbrev pub WritesBehind : {X F : Type 0} → List ℕ → Names → Bool → Wor
     → Result X F → Type 0
 WritesBehind text names certificate w behind stdout result =
     (report : List ℕ) × IsOutputOf names certificate w report
-    × Delivers stdout (text ++ report ++ behind) result
+    × Delivers stdout (text ++ (report ++ behind)) result
 
 -- what saving a text and printing another came to
 abbrev pub Puts : {X : Type 0} → Store → Option (Bor (List ℕ)) → Writing
@@ -160,7 +160,7 @@ abbrev pub TellsReplay : {X : Type 0} → List ℕ → Names → Bool → WorldS
 TellsReplay text names certificate w behind store saving stdout result =
     (report : List ℕ) × IsOutputOf names certificate w report
     × PutsBy (Some (text_of_log w)) saving.names_target store saving.target saving.names.now stdout
-    (text ++ report ++ behind) result
+    (text ++ (report ++ behind)) result
 
 -- a growth was refused, and nothing was written
 abbrev pub Lacks : {X : Type 0} → Store → Writing → Result X Fate → Type 0
@@ -179,7 +179,7 @@ ReportsOrLacks program text options w behind store stdout result =
     ((names : Names) × AreNamesOf program names
     × ((report : List ℕ) × IsOutputOf names options.certificate w report
     × PutsBy (Some (text_of_log w)) options.names_target store options.target
-    (text_of_names program) stdout (text ++ report ++ behind) result))
+    (text_of_names program) stdout (text ++ (report ++ behind)) result))
     ⊎ Lacks store stdout result
 
 -- what telling a text and the replay, if there is one, came to

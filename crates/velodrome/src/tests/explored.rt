@@ -29,6 +29,14 @@ const UNHELD: &str = "lock m\nthread main\nfork a\njoin a\nthread a\nrelease m\n
 const BOTH: &str =
     "var x\nlock m\nlock n\nthread main\nfork a\nbegin inc\nread x\nwrite x\nend\nacquire m\nacquire n\nrelease n\nrelease m\nthread a\nwrite x\nacquire n\nacquire m\nrelease m\nrelease n\n";
 
+/// A thread that waits for the end of another, which waits for its lock.
+const JOINED: &str =
+    "lock m\nthread main\nacquire m\nfork a\njoin a\nrelease m\nthread a\nacquire m\nrelease m\n";
+
+/// A lock that two threads share, and another that they wait for.
+const SHARED: &str =
+    "lock m\nlock n\nthread main\nfork a\nfork b\nacquire n\nacquire m\nrelease m\nrelease n\nthread a\nshare m\nacquire n\nrelease n\nunshare m\nthread b\nshare m\nacquire n\nrelease n\nunshare m\n";
+
 /// How a workload is explored, and what that comes to. Of no log nothing was opened.
 struct Row {
     workload: &'static str,
@@ -59,10 +67,10 @@ const ASKED: Row = Row {
     status: 0,
 };
 
-static ROWS: [Row; 16] = [
+static ROWS: [Row; 24] = [
     Row {
         target: Some("o"),
-        out: "events 9\nstates 8\nalarm 0*3 1 0\nstuck none\nrefused none\nevents 9\nthread 0 main 7\nthread 1 a 2\nverdict alarm 4\ntransaction 1\nblame 1 inc\n",
+        out: "events 9\nstates 8\nalarm 0*3 1 0\nstuck none\nrefused none\nto blame inc (1 of 1 alarms)\nevents 9\nthread 0 main 7\nthread 1 a 2\nverdict alarm 4\ntransaction 1\nblame 1 inc\n",
         log: Some(
             "vlog 2 2 1 0\n0 fork 1\n0 begin 0\n0 rd 0 0\n1 wr 0 5\n0 wr 0 1\n0 end\n1 exit\n0 join 1\n0 exit\n",
         ),
@@ -71,7 +79,7 @@ static ROWS: [Row; 16] = [
     },
     Row {
         certificate: true,
-        out: "events 9\nstates 8\nalarm 0*3 1 0\nstuck none\nrefused none\nevents 9\nthread 0 main 7\nthread 1 a 2\nverdict alarm 4\ntransaction 1\nblame 1 inc\ncycle 1 3\n",
+        out: "events 9\nstates 8\nalarm 0*3 1 0\nstuck none\nrefused none\nto blame inc (1 of 1 alarms)\nevents 9\nthread 0 main 7\nthread 1 a 2\nverdict alarm 4\ntransaction 1\nblame 1 inc\ncycle 1 3\n",
         status: 3,
         ..ASKED
     },
@@ -86,7 +94,7 @@ static ROWS: [Row; 16] = [
         workload: CROSSING,
         target: Some("o"),
         certificate: true,
-        out: "events 11\nstates 9\nalarm none\nstuck 0*2 1\nrefused none\nevents 3\nthread 0 main 2\nthread 1 a 1\nverdict clean\nserial 0\nserial 1\nserial 2\n",
+        out: "events 11\nstates 9\nalarm none\nstuck 0*2 1\nrefused none\nevents 3\nthread 0 main 2\nthread 1 a 1\nverdict clean\nserial 0\nserial 1\nserial 2\nwaiting: main for lock n, held by a\nwaiting: a for lock m, held by main\n",
         err: "stuck\n",
         log: Some("vlog 2 2 0 2\n0 fork 1\n0 acq 0\n1 acq 1\n"),
         status: 4,
@@ -103,14 +111,14 @@ static ROWS: [Row; 16] = [
     },
     Row {
         workload: BOTH,
-        out: "events 16\nstates 32\nalarm 0*3 1 0\nstuck 0*6 1*2\nrefused none\nevents 8\nthread 0 main 6\nthread 1 a 2\nverdict alarm 4\ntransaction 1\nblame 1 inc\n",
+        out: "events 16\nstates 32\nalarm 0*3 1 0\nstuck 0*6 1*2\nrefused none\nto blame inc (3 of 3 alarms)\nevents 8\nthread 0 main 6\nthread 1 a 2\nverdict alarm 4\ntransaction 1\nblame 1 inc\n",
         status: 3,
         ..ASKED
     },
     Row {
         workload: BOTH,
         first: true,
-        out: "events 16\nstates 11\nalarm 0*3 1 0\nstuck open\nrefused open\nevents 8\nthread 0 main 6\nthread 1 a 2\nverdict alarm 4\ntransaction 1\nblame 1 inc\n",
+        out: "events 16\nstates 10\nalarm 0*3 1 0\nstuck open\nrefused open\nevents 8\nthread 0 main 6\nthread 1 a 2\nverdict alarm 4\ntransaction 1\nblame 1 inc\n",
         status: 3,
         ..ASKED
     },
@@ -139,7 +147,7 @@ static ROWS: [Row; 16] = [
     },
     Row {
         events: 9,
-        out: "events 9\nstates 8\nalarm 0*3 1 0\nstuck none\nrefused none\nevents 9\nthread 0 main 7\nthread 1 a 2\nverdict alarm 4\ntransaction 1\nblame 1 inc\n",
+        out: "events 9\nstates 8\nalarm 0*3 1 0\nstuck none\nrefused none\nto blame inc (1 of 1 alarms)\nevents 9\nthread 0 main 7\nthread 1 a 2\nverdict alarm 4\ntransaction 1\nblame 1 inc\n",
         status: 3,
         ..ASKED
     },
@@ -177,6 +185,74 @@ static ROWS: [Row; 16] = [
         out: "",
         err: "workload fault 2 line 2\n",
         status: 2,
+        ..ASKED
+    },
+    // runs by chance
+    Row {
+        random: Some((50, 1)),
+        target: Some("o"),
+        out: "seed 1\nruns 50\nalarm 0*3 1 0\nstuck none\nrefused none\nto blame inc (8 of 8 alarms)\nevents 9\nthread 0 main 7\nthread 1 a 2\nverdict alarm 4\ntransaction 1\nblame 1 inc\n",
+        log: Some(
+            "vlog 2 2 1 0\n0 fork 1\n0 begin 0\n0 rd 0 0\n1 wr 0 5\n0 wr 0 1\n0 end\n1 exit\n0 join 1\n0 exit\n",
+        ),
+        status: 3,
+        ..ASKED
+    },
+    Row {
+        workload: LOCKED,
+        random: Some((20, 1)),
+        target: Some("o"),
+        certificate: true,
+        out: "seed 1\nruns 20\nalarm none\nstuck none\nrefused none\n",
+        ..ASKED
+    },
+    Row {
+        workload: CROSSING,
+        random: Some((50, 3)),
+        target: Some("o"),
+        certificate: true,
+        out: "seed 3\nruns 50\nalarm none\nstuck 0*2 1\nrefused none\nevents 3\nthread 0 main 2\nthread 1 a 1\nverdict clean\nserial 0\nserial 1\nserial 2\nwaiting: main for lock n, held by a\nwaiting: a for lock m, held by main\n",
+        err: "stuck\n",
+        log: Some("vlog 2 2 0 2\n0 fork 1\n0 acq 0\n1 acq 1\n"),
+        status: 4,
+        ..ASKED
+    },
+    Row {
+        workload: UNHELD,
+        random: Some((1, 1)),
+        out: "seed 1\nruns 1\nalarm none\nstuck none\nrefused 8 thread 1 a 0 1\nevents 1\nthread 0 main 1\nthread 1 a 0\nverdict clean\n",
+        err: "refused 8 thread 1\n",
+        status: 4,
+        ..ASKED
+    },
+    Row {
+        workload: BOTH,
+        random: Some((100, 1)),
+        out: "seed 1\nruns 100\nalarm 0*3 1 0\nstuck 0*6 1*2\nrefused none\nto blame inc (25 of 25 alarms)\nevents 8\nthread 0 main 6\nthread 1 a 2\nverdict alarm 4\ntransaction 1\nblame 1 inc\n",
+        status: 3,
+        ..ASKED
+    },
+    // deadlocks in words
+    Row {
+        workload: JOINED,
+        out: "events 7\nstates 3\nalarm none\nstuck\nrefused none\nevents 2\nthread 0 main 2\nthread 1 a 0\nverdict clean\nwaiting: main for the end of a\nwaiting: a for lock m, held by main\n",
+        err: "stuck\n",
+        status: 4,
+        ..ASKED
+    },
+    Row {
+        workload: SHARED,
+        out: "events 17\nstates 3\nalarm none\nstuck 0*3 1\nrefused none\nevents 5\nthread 0 main 3\nthread 1 a 1\nthread 2 b 1\nverdict clean\nwaiting: main for lock m, shared by a, shared by b\nwaiting: a for lock n, held by main\nwaiting: b for lock n, held by main\n",
+        err: "stuck\n",
+        status: 4,
+        ..ASKED
+    },
+    Row {
+        workload: CROSSING,
+        target: Some("full"),
+        err: "write failed\n",
+        log: Some("vlog 2 2 "),
+        status: 5,
         ..ASKED
     },
 ];

@@ -14,7 +14,7 @@ returns-in-Err g c =
       output.0,
       output.1,
       unsaved_puts_in_turn (store g.F.Files.disk c.args.files.now c.save_run.new.files) saving.target saving.names.now (text_of_log w) (writing g.O.Sink.contents g.O.Sink.failures c.args.out.now c.args.out.now)
-          (c.args.text.now ++ output.0 ++ c.args.behind.now) _ _ saving.names_target c.in-Err.fate c.in-Err.ensures (refl, refl),
+          (c.args.text.now ++ (output.0 ++ c.args.behind.now)) _ _ saving.names_target c.in-Err.fate c.in-Err.ensures (refl, refl),
     )
 
 pub returns-in-Ok-write_behind : goal.returns-in-Ok-write_behind
@@ -24,7 +24,7 @@ returns-in-Ok-write_behind g c =
       said.0,
       said.1,
       printed_in_turn (store g.F.Files.disk c.args.files.now c.save_run.new.files) saving.target saving.names.now (text_of_log c.args.closed.now) (writing g.O.Sink.contents g.O.Sink.failures c.args.out.now c.write_behind.new.out)
-          (c.args.text.now ++ said.0 ++ c.args.behind.now) tt tt saving.names_target c.in-Ok.ensures said.2,
+          (c.args.text.now ++ (said.0 ++ c.args.behind.now)) tt tt saving.names_target c.in-Ok.ensures said.2,
     )
 
 pub returns-in-Err-write_behind : goal.returns-in-Err-write_behind
@@ -34,5 +34,5 @@ returns-in-Err-write_behind g c =
       said.0,
       said.1,
       broken_in_turn (store g.F.Files.disk c.args.files.now c.save_run.new.files) saving.target saving.names.now (text_of_log c.args.closed.now) (writing g.O.Sink.contents g.O.Sink.failures c.args.out.now c.write_behind.new.out)
-          (c.args.text.now ++ said.0 ++ c.args.behind.now) _ tt saving.names_target c.in-Ok.ensures said.2,
+          (c.args.text.now ++ (said.0 ++ c.args.behind.now)) _ tt saving.names_target c.in-Ok.ensures said.2,
     )

@@ -1,4 +1,7 @@
-use Rattle.std.proofs.Common.{inr, refl}
+use Rattle.std.proofs.Common.{◌∙◌, ℕ, List, inr, refl, subst}
+use Rattle.velo_program.specs.Disk.{store}
+use Rattle.velo_program.specs.Findings.{ReportsOrLacks}
+use Rattle.velo_program.specs.Writing.{writing}
 use Rattle.velo_program.proofs.exploring.tell.Goals as goal
 
 pub waits_behind-requires : goal.waits_behind-requires
@@ -7,5 +10,18 @@ waits_behind-requires g c = rw c.in-Some.is at c.requires.bounds
 pub report-requires : goal.report-requires
 report-requires g c = rw c.in-Some.is at c.requires.alarm
 
-pub returns-in-None-Ok : goal.returns-in-None-Ok
-returns-in-None-Ok g c = rw c.in-None.is (refl, (c.in-Ok.ensures.ok, c.in-Ok.ensures.no_failure))
+pub returns-in-Ok : goal.returns-in-Ok
+returns-in-Ok g c =
+    rw c.in-Some.is
+        (subst (λ (behind : List ℕ). ReportsOrLacks c.args.workload.now c.args.text.now c.args.options.now c.in-Some.closed behind
+            (store g.F.Files.disk c.args.files.now c.report.new.files) (writing g.O.Sink.contents g.O.Sink.failures c.args.out.now c.report.new.out) c.report.result)
+        (c.deref.ensures.value ∙ c.in-Ok.ensures.text) c.report.ensures)
+
+pub returns-in-Err : goal.returns-in-Err
+returns-in-Err g c = rw c.in-Some.is (inr (c.in-Err.ensures.memory, refl, (refl, refl)))
+
+pub returns-in-Ok-write_all : goal.returns-in-Ok-write_all
+returns-in-Ok-write_all g c = rw c.in-None.is (refl, (c.in-Ok-write_all.ensures.ok, c.in-Ok-write_all.ensures.no_failure))
+
+pub returns-in-Err-write_all : goal.returns-in-Err-write_all
+returns-in-Err-write_all g c = rw c.in-None.is (inr (refl, (c.in-Err-write_all.ensures.err, c.in-Err-write_all.ensures.failure)))
