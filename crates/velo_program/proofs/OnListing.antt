@@ -3,7 +3,6 @@ use Rattle.std.proofs.Common.{◌≡◌, arith, inl, inr, subst}
 use Rattle.std.specs.Prelude.{ℕ, List, Option, Some, None, Result, Ok, Err, IfErr}
 use Rattle.velo_list.specs.declared.fault.ListFault.{ListFault}
 use Rattle.velo_list.specs.declared.fault.ListFault.TheVariants as list_fault
-use Rattle.velo_list.specs.Line.{Entry}
 use Rattle.velo_list.specs.List.{HasFault, Stands}
 use Rattle.velo_names.specs.declared.limits.TheConstants.{MOST_NAMES_BYTES}
 use Rattle.velo_names.specs.Names.{NameLists}

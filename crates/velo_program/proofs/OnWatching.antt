@@ -1,5 +1,5 @@
 -- What a watch came to.
-use Rattle.std.proofs.Common.{◌≡◌, ℕ, ◌∷◌, ◌++◌, [], ◌∙◌, ◌≤◌, Bool, true, false, List, length, Option, Some, None, Result, Ok, Err, refl, sym, ap, subst, inl, inr}
+use Rattle.std.proofs.Common.{◌≡◌, ℕ, ◌∷◌, ◌++◌, [], ◌∙◌, ◌≤◌, Bool, true, false, List, length, Option, Result, Ok, Err, refl, sym, ap, subst, inl, inr}
 use Rattle.std.proofs.lemmas.List.{append-nil}
 use Rattle.std.specs.Prelude.{◌⊎◌}
 use Rattle.velo_events.specs.declared.config.Bounds.{Bounds}
@@ -13,8 +13,7 @@ use Rattle.velo_logtext.specs.declared.fault.LogFault.TheVariants as log_fault
 use Rattle.velo_logtext.specs.Device.{with_failure}
 use Rattle.velo_logtext.specs.Reader.{IsMetBehind, IsMetInHeader}
 use Rattle.velo_logtext.proofs.OnDevices.{appends_then, beginning_then}
-use Rattle.velo_report.specs.Alarm.{alarm_line}
-use Rattle.velo_watch.specs.UnderWay.{Advances, CameAbout, FailsAfter, HasTold, IsFaultOfOpening, IsUnderWay, Steps, read_failures, write_failures}
+use Rattle.velo_watch.specs.UnderWay.{Advances, CameAbout, HasTold, IsFaultOfOpening, IsUnderWay, Steps, read_failures, write_failures}
 use Rattle.velo_watch.specs.Watch.{IsFront, Tells, told_text}
 use Rattle.velo_watch.specs.declared.fault.WatchFault.{WatchFault}
 use Rattle.velo_watch.specs.declared.fault.WatchFault.TheVariants as watch_fault
@@ -29,7 +28,6 @@ use Rattle.velo_program.specs.declared.check.CheckFault.TheVariants.{Log, Refuse
 use Rattle.velo_program.specs.declared.check.Verdict.{Verdict}
 use Rattle.velo_program.specs.declared.fate.Fate.TheVariants.{Check, Finished}
 use Rattle.velo_program.specs.declared.request.WatchOptions.{WatchOptions}
-use Rattle.velo_program.specs.Check.{IsFaultOfLogText}
 use Rattle.velo_program.specs.Delivery.{printing, silent}
 use Rattle.velo_program.specs.Fate.{fate_of, is_alarm}
 use Rattle.velo_program.specs.Reading.{failures_told}

@@ -1,5 +1,5 @@
 -- Runs of a workload by chance, and who is to blame for the alarms of some runs.
-use Rattle.std.specs.Prelude.{◌≡◌, ◌≤◌, ⊤, ℕ, Bool, false, true, All, List, IsFalse, IsTrue, count_by, length, Option, Some, None}
+use Rattle.std.specs.Prelude.{◌≡◌, ◌≤◌, ⊤, ℕ, Bool, All, List, IsFalse, IsTrue, count_by, length}
 use Rattle.std.specs.List.Sorted.{IsNonDecreasingBy}
 use Rattle.std.specs.List.{list_any}
 use Rattle.velo_chance.specs.Runs.{IsRun, Run, blames, has_alarm, is_refused, is_stuck}

@@ -1,5 +1,5 @@
 -- What an exploration of a workload has to say, by the bytes of its text and by the definitions.
-use Rattle.std.specs.Prelude.{◌≡◌, ◌⊎◌, ◌≤◌, ◌-◌, ◌^◌, ◌++◌, ◌∷◌, [], ℕ, Bool, true, false, List, codes, decimal, min, slice_get, sum_by, Option, Some, None, if◌then◌else◌}
+use Rattle.std.specs.Prelude.{◌≡◌, ◌⊎◌, ◌≤◌, ◌-◌, ◌^◌, ◌++◌, [], ℕ, Bool, true, false, List, codes, decimal, min, slice_get, sum_by, Option, Some, None, if◌then◌else◌}
 use Rattle.std.specs.List.{flat_map}
 use Rattle.std.specs.Option.{option_map_or}
 use Rattle.velo_chance.specs.declared.tally.Blamed.{Blamed}

@@ -1,4 +1,4 @@
-use Rattle.std.proofs.Common.{◌≡◌, ◌∙◌, Bool, true, false, List, ℕ, Option, Ok, sym, subst}
+use Rattle.std.proofs.Common.{◌∙◌, Bool, ℕ, Ok, sym, subst}
 use Rattle.std.proofs.lemmas.Result.{err_from_is_err_and}
 use Rattle.velo_watch.specs.UnderWay.{Advances, Steps}
 use Rattle.velo_program.proofs.OnWatching.{follows_to_alarm, follows_to_end, follows_to_fault, not_both}
