@@ -235,7 +235,7 @@ static ROWS: [Row; 24] = [
     // deadlocks in words
     Row {
         workload: JOINED,
-        out: "events 7\nstates 3\nalarm none\nstuck\nrefused none\nevents 2\nthread 0 main 2\nthread 1 a 0\nverdict clean\nwaiting: main for the end of a\nwaiting: a for lock m, held by main\n",
+        out: "events 8\nstates 2\nalarm none\nstuck 0*2\nrefused none\nevents 2\nthread 0 main 2\nthread 1 a 0\nverdict clean\nwaiting: main for the end of a\nwaiting: a for lock m, held by main\n",
         err: "stuck\n",
         status: 4,
         ..ASKED
