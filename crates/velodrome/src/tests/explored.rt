@@ -235,14 +235,14 @@ static ROWS: [Row; 24] = [
     // deadlocks in words
     Row {
         workload: JOINED,
-        out: "events 7\nstates 3\nalarm none\nstuck\nrefused none\nevents 2\nthread 0 main 2\nthread 1 a 0\nverdict clean\nwaiting: main for the end of a\nwaiting: a for lock m, held by main\n",
+        out: "events 8\nstates 2\nalarm none\nstuck 0*2\nrefused none\nevents 2\nthread 0 main 2\nthread 1 a 0\nverdict clean\nwaiting: main for the end of a\nwaiting: a for lock m, held by main\n",
         err: "stuck\n",
         status: 4,
         ..ASKED
     },
     Row {
         workload: SHARED,
-        out: "events 17\nstates 3\nalarm none\nstuck 0*3 1\nrefused none\nevents 5\nthread 0 main 3\nthread 1 a 1\nthread 2 b 1\nverdict clean\nwaiting: main for lock m, shared by a, shared by b\nwaiting: a for lock n, held by main\nwaiting: b for lock n, held by main\n",
+        out: "events 17\nstates 27\nalarm none\nstuck 0*3 1 2\nrefused none\nevents 5\nthread 0 main 3\nthread 1 a 1\nthread 2 b 1\nverdict clean\nwaiting: main for lock m, shared by a, shared by b\nwaiting: a for lock n, held by main\nwaiting: b for lock n, held by main\n",
         err: "stuck\n",
         status: 4,
         ..ASKED
