@@ -119,6 +119,26 @@ fn turns_if_any(
     Ok(Some(turns))
 }
 
+/// The turns of each of the runs in which these threads were chosen.
+fn turns_of_each(
+    alloc: Global,
+    config: &Config,
+    scripts: &Scripts,
+    chosen: &[Vec<ThreadId>],
+) -> Result<Vec<Vec<ThreadId>>, Memory>
+    requires plain { ArePlain scripts.now }
+    requires short { AreShort scripts.now }
+    ensures memory { OnErr result GrowthRefused }
+{
+    let mut each = Vec::new(alloc);
+    for threads in chosen {
+        let turns = turns_of(alloc, config, scripts, threads)?;
+        reserve(&mut each, 1)?;
+        each.push_reserved(turns);
+    }
+    Ok(each)
+}
+
 /// All turns of the runs in which these threads were chosen.
 ///
 /// # Errors
@@ -137,13 +157,16 @@ pub(crate) fn all_turns(
         alarm,
         stuck,
         refused,
+        alarms,
     } = chosen;
     let alarm = turns_if_any(alloc, config, scripts, alarm)?;
     let stuck = turns_if_any(alloc, config, scripts, stuck)?;
     let refused = turns_if_any(alloc, config, scripts, refused)?;
+    let alarms = turns_of_each(alloc, config, scripts, &alarms)?;
     Ok(Schedules {
         alarm,
         stuck,
         refused,
+        alarms,
     })
 }

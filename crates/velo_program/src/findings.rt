@@ -10,7 +10,7 @@ use crate::check::{Verdict, is_alarm, verdict_of};
 use crate::work::is_unreported;
 use std::alloc::Global;
 use velo_events::{Config, MOST_THREADS, Memory, ThreadId};
-use velo_schedules::{Exploration, Finding, RefusalFinding, RefusedRun, explore};
+use velo_schedules::{Exploration, Finding, Quiet, RefusalFinding, RefusedRun, explore};
 use velo_shrink::shrink_told;
 use velo_turns::MOST_TURNS;
 use velo_worker::{Ending, replay};
@@ -82,13 +82,15 @@ fn explore_all(
     ensures exploration { IfOk result (IsExplorationOf workload.now config most_states) }
     ensures memory { OnErr result GrowthRefused }
 {
-    let found = explore(alloc, workload, u64::from(most_states), first, config)?;
+    let most_states = u64::from(most_states);
+    let found = explore(alloc, workload, most_states, first, config, &mut Quiet)?;
     let Exploration {
         events,
         states,
         alarm,
         stuck,
         refused,
+        alarms,
     } = shrink_told(alloc, workload, found, config)?;
     Ok(Exploration {
         events,
@@ -96,6 +98,7 @@ fn explore_all(
         alarm: sayable(alarm),
         stuck: sayable(stuck),
         refused: sayable_refusal(refused),
+        alarms,
     })
 }
 

@@ -1,7 +1,7 @@
 //! How simple schedules become.
 use std::alloc::Global;
 use velo_events::{Config, ThreadId};
-use velo_schedules::{Exploration, Finding, RefusalFinding, RefusedRun, explore};
+use velo_schedules::{Exploration, Finding, Quiet, RefusalFinding, RefusedRun, explore};
 use velo_shrink::{Goal, MOST_TRIES, shrink};
 use velo_turns::append_turns;
 use velo_workload::parse;
@@ -10,7 +10,9 @@ use velo_workload::parse;
 fn to_alarm(alloc: Global, text: &str) -> Option<Vec<ThreadId>> {
     let workload = parse(alloc, text).ok()?;
     let config = Config::new(1, workload.bounds(), 100_000, 64, false).ok()?;
-    let Exploration { alarm, .. } = explore(alloc, &workload, 100_000, false, config).ok()?;
+    let Exploration { alarm, .. } = explore(
+        alloc, &workload, 100_000, false, config, &mut Quiet,
+    ).ok()?;
     match alarm {
         Finding::Shown(schedule) => {
             shrink(alloc, &workload, Goal::Alarm, schedule, MOST_TRIES, config).ok()
@@ -23,7 +25,9 @@ fn to_alarm(alloc: Global, text: &str) -> Option<Vec<ThreadId>> {
 fn to_deadlock(alloc: Global, text: &str) -> Option<Vec<ThreadId>> {
     let workload = parse(alloc, text).ok()?;
     let config = Config::new(1, workload.bounds(), 100_000, 64, false).ok()?;
-    let Exploration { stuck, .. } = explore(alloc, &workload, 100_000, false, config).ok()?;
+    let Exploration { stuck, .. } = explore(
+        alloc, &workload, 100_000, false, config, &mut Quiet,
+    ).ok()?;
     match stuck {
         Finding::Shown(schedule) => {
             shrink(alloc, &workload, Goal::Stuck, schedule, MOST_TRIES, config).ok()
@@ -36,7 +40,9 @@ fn to_deadlock(alloc: Global, text: &str) -> Option<Vec<ThreadId>> {
 fn to_refusal(alloc: Global, text: &str) -> Option<Vec<ThreadId>> {
     let workload = parse(alloc, text).ok()?;
     let config = Config::new(1, workload.bounds(), 100_000, 64, false).ok()?;
-    let Exploration { refused, .. } = explore(alloc, &workload, 100_000, false, config).ok()?;
+    let Exploration { refused, .. } = explore(
+        alloc, &workload, 100_000, false, config, &mut Quiet,
+    ).ok()?;
     match refused {
         RefusalFinding::Shown(run) => {
             let RefusedRun {

@@ -1,7 +1,7 @@
 //! Workloads, and what all their schedules come to.
 use std::alloc::Global;
 use velo_events::Config;
-use velo_schedules::{Exploration, Finding, RefusalFinding, explore};
+use velo_schedules::{Exploration, Finding, Quiet, RefusalFinding, explore};
 use velo_workload::parse;
 
 /// What is known of a fault.
@@ -59,7 +59,7 @@ fn told_of(exploration: &Exploration) -> Told {
 fn explored(alloc: Global, text: &str, most_states: u64, first: bool) -> Option<Told> {
     let workload = parse(alloc, text).ok()?;
     let config = Config::new(1, workload.bounds(), 10_000, 64, false).ok()?;
-    let exploration = explore(alloc, &workload, most_states, first, config).ok()?;
+    let exploration = explore(alloc, &workload, most_states, first, config, &mut Quiet).ok()?;
     Some(told_of(&exploration))
 }
 

@@ -1,4 +1,5 @@
 use crate::finding::{Finding, RefusalFinding};
+use velo_events::ThreadId;
 
 /// What the schedules of a workload come to.
 #[derive(Debug, Drop)]
@@ -13,4 +14,7 @@ pub struct Exploration {
     pub stuck: Finding,
     /// Replays that end as refused.
     pub refused: RefusalFinding,
+    /// The schedules that lead to the first decisions that close a first cycle, for whoever asks whom the alarms blame: see
+    /// [`velo_explore::Schedules::alarms`]. Nothing is proved of them, and none was replayed.
+    pub alarms: Vec<Vec<ThreadId>>,
 }

@@ -11,7 +11,7 @@ use crate::scripts::{count_all, scripts_of};
 use crate::showing::{tell_alarm, tell_refused, tell_stuck};
 use std::alloc::Global;
 use velo_events::{Config, Memory};
-use velo_explore::{Schedules, Searched, search};
+use velo_explore::{Progress, Schedules, Searched, search};
 use velo_workload::Workload;
 
 /// Tries all schedules of a workload, as long as no more than so many states are to be looked at, and tells whether some
@@ -20,16 +20,18 @@ use velo_workload::Workload;
 ///
 /// With `first` it ends as soon as it finds one of the three, and tells the others as open.
 ///
-/// What is shown was replayed. What is said never to be is so by no schedule. Of what is open nothing is said.
+/// What is shown was replayed. What is said never to be is so by no schedule. Of what is open nothing is said. `progress` is
+/// told of each level of the search.
 ///
 /// # Errors
 /// `Memory` where a growth was refused.
-pub fn explore(
+pub fn explore<P: Progress>(
     alloc: Global,
     workload: &Workload,
     most_states: u64,
     first: bool,
     config: Config,
+    progress: &mut P,
 ) -> Result<Exploration, Memory>
     requires bounds { config.bounds ≡ workload.now.bounds }
     ensures events { IfOk result (λ x. x.events ≡ min (sum_by body_events workload.now.bodies) (2 ^ 64 - 1)) }
@@ -47,6 +49,7 @@ pub fn explore(
             alarm: Finding::Open,
             stuck: Finding::Open,
             refused: RefusalFinding::Open,
+            alarms: Vec::new(alloc),
         });
     }
     let Searched {
@@ -54,11 +57,12 @@ pub fn explore(
         schedules,
         states,
         whole,
-    } = search_all(alloc, workload, most_states, first, &config)?;
+    } = search_all(alloc, workload, most_states, first, &config, progress)?;
     let Schedules {
         alarm: to_alarm,
         stuck: to_stuck,
         refused: to_refusal,
+        alarms,
     } = schedules;
     let alarm_ruled_out = whole && !found.alarm;
     let alarm = tell_alarm(alloc, workload, config, alarm_ruled_out, to_alarm)?;
@@ -72,16 +76,18 @@ pub fn explore(
         alarm,
         stuck,
         refused,
+        alarms,
     })
 }
 
 /// Searches the runs of the workload's scripts.
-fn search_all(
+fn search_all<P: Progress>(
     alloc: Global,
     workload: &Workload,
     most_states: u64,
     first: bool,
     config: &Config,
+    progress: &mut P,
 ) -> Result<Searched, Memory>
     requires bounds { config.now.bounds ≡ workload.now.bounds }
     requires few { sum_by body_events workload.now.bodies ≤ config.now.events }
@@ -92,6 +98,6 @@ fn search_all(
     ensures memory { OnErr result GrowthRefused }
 {
     let scripts = scripts_of(alloc, workload)?;
-    let searched = search(alloc, config, &scripts, most_states, first)?;
+    let searched = search(alloc, config, &scripts, most_states, first, progress)?;
     Ok(searched)
 }

@@ -12,3 +12,4 @@ pub use exploring::explore;
 pub use finding::{Finding, RefusalFinding, RefusedRun};
 pub use scripts::count_all;
 pub use showing::{lasting_refusal, replayed};
+pub use velo_explore::{Progress, Quiet};

@@ -114,6 +114,7 @@ pub fn shrink_told(
         alarm,
         stuck,
         refused,
+        alarms,
     } = told;
     let alarm = shrink_alarm(alloc, workload, alarm, config)?;
     let stuck = shrink_stuck(alloc, workload, stuck, config)?;
@@ -124,5 +125,6 @@ pub fn shrink_told(
         alarm,
         stuck,
         refused,
+        alarms,
     })
 }

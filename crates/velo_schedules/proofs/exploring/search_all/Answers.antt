@@ -4,20 +4,20 @@ use Rattle.velo_explore.specs.Faults.{Cycle, Stuck, Refusing}
 use Rattle.velo_schedules.proofs.exploring.search_all.Goals as goal
 
 pub search-requires-clause-plain : goal.search-requires-clause-plain
-search-requires-clause-plain c = plain-scripts c.args.workload.now c.args.config.now.bounds c.requires.bounds c.in_ok-scripts.scripts c.in_ok-scripts.ensures.scripts
+search-requires-clause-plain g c = plain-scripts c.args.workload.now c.args.config.now.bounds c.requires.bounds c.in_ok-scripts.scripts c.in_ok-scripts.ensures.scripts
 
 pub search-requires-clause-short : goal.search-requires-clause-short
-search-requires-clause-short c =
+search-requires-clause-short g c =
     short-scripts c.args.workload.now c.args.config.now.bounds c.requires.bounds c.in_ok-scripts.scripts c.in_ok-scripts.ensures.scripts c.args.config.now.events c.requires.few (let few = c.args.config.now.few_events in omega (arith, few))
 
 pub returns-clause-alarm : goal.returns-clause-alarm
-returns-clause-alarm c = λ whole none.
+returns-clause-alarm g c = λ whole none.
     alarm-ruled_out c.args.workload.now c.args.config.now.bounds c.requires.bounds c.in_ok-scripts.scripts c.in_ok-scripts.ensures.scripts (c.in_ok-searched.ensures.whole whole Cycle none)
 
 pub returns-clause-stuck : goal.returns-clause-stuck
-returns-clause-stuck c = λ whole none.
+returns-clause-stuck g c = λ whole none.
     stuck-ruled_out c.args.workload.now c.args.config.now.bounds c.requires.bounds c.in_ok-scripts.scripts c.in_ok-scripts.ensures.scripts c.in_ok-scripts.ensures.count (c.in_ok-searched.ensures.whole whole Stuck none)
 
 pub returns-clause-refused : goal.returns-clause-refused
-returns-clause-refused c = λ whole none.
+returns-clause-refused g c = λ whole none.
     refusal-ruled_out c.args.workload.now c.args.config.now.bounds c.requires.bounds c.in_ok-scripts.scripts c.in_ok-scripts.ensures.scripts c.in_ok-scripts.ensures.count (c.in_ok-searched.ensures.whole whole Refusing none)
