@@ -102,7 +102,7 @@ fn clash_of_inputs(input: &str, other: Option<&str>) -> Option<Clash>
 
 /// The path of a schedule, if it stands in a file.
 fn path_of_schedule<'a>(schedule: ScheduleSource<'a>) -> Option<&'a str>
-    ensures { path_if result ≡ schedule_path_if schedule }
+    ensures { path_if result ≡ schedule_path_if schedule.entry }
 {
     match schedule {
         ScheduleSource::Text(_) => None,

@@ -1,5 +1,5 @@
 -- The schedule that a replay is given, by its text or by the path of a file.
-use Rattle.std.specs.Prelude.{◌≡◌, ◌×◌, ◌⊎◌, ⊤, ℕ, List, Option, IfSome}
+use Rattle.std.specs.Prelude.{◌≡◌, ◌⊎◌, ⊤, ℕ, List, Option, IfSome}
 use Rattle.velo_events.specs.declared.event.ThreadId.{ThreadId}
 use Rattle.velo_events.specs.Refusals.{GrowthRefused}
 use Rattle.velo_turns.specs.File.{IsScheduleIn}

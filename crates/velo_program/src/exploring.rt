@@ -13,6 +13,7 @@ use crate::exploration_text::text_of_exploration;
 use crate::fate::Fate;
 use crate::files::Files;
 use crate::findings::findings_of;
+use crate::progress::ExploreProgress;
 use crate::request::{ExploreOptions, RunOptions};
 use crate::work::{config_of_run, open_workload, save_log};
 use std::alloc::Global;
@@ -211,18 +212,29 @@ fn tell_findings<F: Files, O: Sink>(
 }
 
 /// Tries every schedule of a workload, and writes what they come to.
-fn explore_workload<F: Files, O: Sink>(
+fn explore_workload<F: Files, O: Sink, P: ExploreProgress>(
     alloc: Global,
     workload: &Workload,
     options: &ExploreOptions,
     files: &mut F,
     out: &mut O,
+    progress: &mut P,
 ) -> Fate
     ensures { Explores options.now workload.now (store F.disk files.old files.new)
         (writing O.contents O.failures out.old out.new) result }
 {
     let config = config_of_run(workload, &run_of(options));
-    match findings_of(alloc, workload, options.states, options.first, config) {
+    progress.begin(options.progress);
+    let findings = findings_of(
+        alloc,
+        workload,
+        options.states,
+        options.first,
+        config,
+        progress,
+    );
+    progress.end();
+    match findings {
         Ok((found, run)) => {
             let fate = tell_findings(alloc, workload, &found, &run, options, files, out);
             drop((found, run));
@@ -232,19 +244,21 @@ fn explore_workload<F: Files, O: Sink>(
     }
 }
 
-/// Tries every schedule of the workload that was asked for, and writes what they come to.
-pub fn explore_file<F: Files, O: Sink>(
+/// Tries every schedule of the workload that was asked for, and writes what they come to. How far the search is goes to
+/// `progress`, which has ended before anything is written.
+pub fn explore_file<F: Files, O: Sink, P: ExploreProgress>(
     alloc: Global,
     options: &ExploreOptions,
     files: &mut F,
     out: &mut O,
+    progress: &mut P,
 ) -> Fate
     ensures { DoesExplore options.now (store F.disk files.old files.new)
         (writing O.contents O.failures out.old out.new) result }
 {
     match open_workload(alloc, &run_of(options), files) {
         Ok(workload) => {
-            let fate = explore_workload(alloc, &workload, options, files, out);
+            let fate = explore_workload(alloc, &workload, options, files, out, progress);
             drop(workload);
             fate
         }

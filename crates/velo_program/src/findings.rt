@@ -10,7 +10,7 @@ use crate::check::{Verdict, is_alarm, verdict_of};
 use crate::work::is_unreported;
 use std::alloc::Global;
 use velo_events::{Config, MOST_THREADS, Memory, ThreadId};
-use velo_schedules::{Exploration, Finding, Quiet, RefusalFinding, RefusedRun, explore};
+use velo_schedules::{Exploration, Finding, Progress, RefusalFinding, RefusedRun, explore};
 use velo_shrink::shrink_told;
 use velo_turns::MOST_TURNS;
 use velo_worker::{Ending, replay};
@@ -71,19 +71,20 @@ fn sayable_refusal(finding: RefusalFinding) -> RefusalFinding
 }
 
 /// What all schedules of the workload come to, by simple schedules, as far as it can be told.
-fn explore_all(
+fn explore_all<P: Progress>(
     alloc: Global,
     workload: &Workload,
     most_states: u32,
     first: bool,
     config: Config,
+    progress: &mut P,
 ) -> Result<Exploration, Memory>
     requires { config.bounds ≡ workload.now.bounds }
     ensures exploration { IfOk result (IsExplorationOf workload.now config most_states) }
     ensures memory { OnErr result GrowthRefused }
 {
     let most_states = u64::from(most_states);
-    let found = explore(alloc, workload, most_states, first, config, &mut Quiet)?;
+    let found = explore(alloc, workload, most_states, first, config, progress)?;
     let Exploration {
         events,
         states,
@@ -286,22 +287,23 @@ fn refusal_replay(
 
 /// What all schedules of the workload come to, and the replay of the first finding, if there is one: of an alarm, else of a
 /// deadlock, else of a refusal. With `first` the first finding ends the search. The configuration
-/// has to have the workload's bounds.
+/// has to have the workload's bounds. `progress` is told of each level of the search.
 ///
 /// # Errors
 /// `Memory` where a growth was refused.
-pub fn findings_of(
+pub fn findings_of<P: Progress>(
     alloc: Global,
     workload: &Workload,
     most_states: u32,
     first: bool,
     config: Config,
+    progress: &mut P,
 ) -> Result<(Exploration, Option<(Closed, Ending)>), Memory>
     requires { config.bounds ≡ workload.now.bounds }
     ensures told { IfOk result (λ told. IsExplorationOf workload.now config most_states told.0) }
     ensures run { IfOk result (λ told. IsRunOfFirst workload.now config told.0 told.1) }
     ensures memory { OnErr result GrowthRefused }
 {
-    let found = explore_all(alloc, workload, most_states, first, config)?;
+    let found = explore_all(alloc, workload, most_states, first, config, progress)?;
     first_replay(alloc, workload, config, found)
 }

@@ -48,9 +48,9 @@ pub fn schedule_of_source<F: Files>(
     source: ScheduleSource,
     files: &F,
 ) -> Result<Vec<ThreadId>, Fate>
-    ensures schedule { IfOk result (λ schedule. IsScheduleOf (F.disk files.now) source
+    ensures schedule { IfOk result (λ schedule. IsScheduleOf (F.disk files.now) source.entry
         schedule.items) }
-    ensures none { IfErr result (LacksSchedule (F.disk files.now) source) }
+    ensures none { IfErr result (LacksSchedule (F.disk files.now) source.entry) }
 {
     match source {
         ScheduleSource::Text(text) => match schedule_of(alloc, text) {

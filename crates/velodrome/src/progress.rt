@@ -77,7 +77,8 @@ impl<'a, C: Clock, S: Sink> ProgressLine<'a, C, S> {
         let (before, after) = if over { ("\r", "\x1b[K") } else { ("", "\n") };
         let rate = states_a_second(states, taken);
         let text = format!(in self.alloc;
-            "{before}levels {levels} states {states}, {rate} a second{after}");
+            "{before}levels {levels} states {states}, {rate} a second{after}"
+        );
         let is_told = match text {
             Ok(text) => write_all(&mut self.sink, text.as_bytes()).is_ok(),
             Err(_) => false,
@@ -148,3 +149,6 @@ pub fn is_terminal(files: &impl fs::Files) -> bool {
         Err(_) => false,
     }
 }
+
+#[cfg(test)]
+mod tests;

@@ -6,7 +6,7 @@ use std::sync::Wait;
 use std::thread::Threads;
 use velo_events::MOST_EVENTS;
 use velo_logtext::Text;
-use velo_program::{ExploreOptions, Limits, MOST_STATES, Request, do_request, end_with};
+use velo_program::{ExploreOptions, Limits, MOST_STATES, Quiet, Request, do_request, end_with};
 
 /// A block that reads and writes, and a thread that writes.
 const LOST_UPDATE: &str =
@@ -196,7 +196,7 @@ fn explore_it<R: Threads + Wait + Abort + Sync>(rt: &R, alloc: Global, row: &Row
     });
     let mut out = Text::new(alloc);
     let mut err = Text::new(alloc);
-    let fate = do_request(rt, alloc, &request, &mut folder, &mut out);
+    let fate = do_request(rt, alloc, &request, &mut folder, &mut out, &mut Quiet);
     let status = end_with(&fate, &mut err);
     let shown = Shown { out, err, status };
     compare(rt, &shown, row.out, row.err, row.status, row.workload);
