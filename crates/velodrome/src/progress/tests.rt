@@ -63,7 +63,8 @@ fn compare(rt: &impl Abort, alloc: Global, is_terminal: bool, always: bool, text
     line.end();
     line.level_done(9, 9);
     assert_eq!(rt; line.sink.as_slice(), text.as_bytes());
-    drop((line, clock));
+    drop(line);
+    drop(clock);
 }
 
 #[test]
