@@ -6,6 +6,6 @@ use Rattle.velo_program.proofs.OnFindings.{told_all}
 use Rattle.velo_program.proofs.findings.findings_of.Goals as goal
 
 pub returns-clause-told : goal.returns-clause-told
-returns-clause-told c =
+returns-clause-told g c =
     told_all c.args.workload.now c.args.config c.args.most_states c.in_ok-found.found c.in_ok-found.ensures.exploration
     (λ (t : Exploration × Option (WorldState × Ending)). t.0) c.first_replay.result c.first_replay.ensures.told
