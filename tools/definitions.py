@@ -28,7 +28,7 @@ PARTS = [
         "velo_runtime": "Rooms Steps Turns Waits Seats"}),
     ("Runs of a workload, and every schedule", {
         "velo_worker": "Progress Schedule Live Logs Causes",
-        "velo_turns": "Schedule Short",
+        "velo_turns": "Schedule Short File",
         "velo_schedules": "Logs* Told*",
         "velo_shrink": "Shown",
         "velo_chance": "Runs Tallies"}),
@@ -42,8 +42,8 @@ PARTS = [
         "velo_audit_text": "Text",
         "velo_list": "Line* Known* List"}),
     ("What the program does", {
-        "velo_program": "Program* Check Explaining Carrying Playing Exploring* Delivery Disk Writing Reading Fate Causes",
-        "velo_command": "CommandLine Asked Running Usage"}),
+        "velo_program": "Program* Check Explaining Carrying Scheduling Playing Exploring* Delivery Disk Writing Reading Fate Causes",
+        "velo_command": "CommandLine Asked Together Running Usage"}),
     ("The library for other languages", {
         "velo_ffi": "Answers Texts* Pieces*"}),
 ]

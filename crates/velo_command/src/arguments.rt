@@ -271,9 +271,7 @@ fn seed<'a>(alloc: Global) -> Arg<'a>
     Arg::new(alloc, "seed")
         .long("seed")
         .value_name("S")
-        .help(
-            "What the runs by chance are drawn by, 0 to 18446744073709551615; 1 where it is not given",
-        )
+        .help("What the runs by chance are drawn by, 0 to 18446744073709551615 [default: 1]")
         .value_parser(value_parser!(u64))
 }
 

@@ -98,7 +98,7 @@ FILE, OUT and NAMES are files of their own: where two are one, nothing is done t
 Statuses, each with the lines on standard error:
   0  done without an alarm, or help
   2  usage; 'error: standard input can be read once'; 'error: --names-out goes only with --log'; 'bad schedule';
-     'error: FILE and OUT are one file', the same of 'FILE and NAMES', 'OUT and NAMES'; the text is no workload:
+     'error: FILE and OUT are one file', the same of FILE and NAMES, and of OUT and NAMES; the text is no workload:
      'workload fault K line N'
   3  an alarm: no serial reordering of the run exists
   4  the run could not go on: 'stuck', 'refused K thread T'; the report is written all the same
@@ -132,8 +132,8 @@ FILE, OUT and NAMES are files of their own: where two are one, nothing is done t
 
 Statuses, each with the lines on standard error:
   0  done without an alarm, or help
-  2  usage; 'error: --names-out goes only with --log'; 'error: FILE and OUT are one file', the same of 'FILE and NAMES',
-     'OUT and NAMES'; the text is no workload: 'workload fault K line N'
+  2  usage; 'error: --names-out goes only with --log'; 'error: FILE and OUT are one file', the same of FILE and NAMES,
+     and of OUT and NAMES; the text is no workload: 'workload fault K line N'
   3  an alarm: no serial reordering of the run exists
   4  the run could not go on: 'stuck', 'refused K thread T'; the report is written all the same
   5  memory or a device failed: 'out of memory', 'read failed', 'write failed', 'cannot open'; or a thread was lost for
@@ -215,8 +215,8 @@ FILE, OUT and NAMES are files of their own: where two are one, nothing is done t
 Statuses, each with the lines on standard error:
   0  every schedule was tried, or every run made, and nothing was found; or help
   2  usage; 'error: --random goes with neither --states nor --first nor --progress'; 'error: --seed goes only with --random';
-     'error: --names-out goes only with --log'; 'error: FILE and OUT are one file', the same of 'FILE and NAMES',
-     'OUT and NAMES'; the text is no workload: 'workload fault K line N'
+     'error: --names-out goes only with --log'; 'error: FILE and OUT are one file', the same of FILE and NAMES,
+     and of OUT and NAMES; the text is no workload: 'workload fault K line N'
   3  an alarm was found: by that schedule no serial reordering of the run exists
   4  no alarm was found, but a deadlock, a refusal, or a finding is open: 'stuck', 'refused K thread T', 'open'
   5  memory or a device failed: 'out of memory', 'read failed', 'write failed', 'cannot open'

@@ -1,5 +1,5 @@
 -- A schedule that is read from a file.
-use Rattle.std.proofs.Common.{◌≡◌, arith, inl, inr, subst}
+use Rattle.std.proofs.Common.{◌≡◌, ◌≤◌, arith, inl, inr, subst}
 use Rattle.std.specs.Prelude.{ℕ, List, length, Option, Some, None, Result, Ok, Err, IfErr}
 use Rattle.velo_events.specs.declared.event.ThreadId.{ThreadId}
 use Rattle.velo_turns.specs.declared.limits.TheConstants.{MOST_SCHEDULE_BYTES}

@@ -315,7 +315,7 @@ const LIMITS: [(&str, &str, u32, &str); 14] = [
     ("explore", "have, 1 to ", MOST_EVENTS, " ["),
     ("explore", "look at, 1 to ", MOST_STATES, " ["),
     ("explore", "search, 1 to ", MOST_RUNS, "\n"),
-    ("explore", "615; ", DEFAULT_SEED as u32, " where"),
+    ("explore", "615 [default: ", DEFAULT_SEED as u32, "]"),
     ("watch", "have, 1 to ", MOST_EVENTS, " ["),
     ("audit", "have, 1 to ", MOST_EVENTS, " ["),
     ("audit", "one time, 1 to ", MOST_NODES as u32, " ["),
