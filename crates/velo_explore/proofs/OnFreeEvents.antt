@@ -1,5 +1,5 @@
 -- A free event may be done at once: what is not found after it is not there before it.
-use Rattle.std.proofs.Common.{◌≡◌, ℕ, ◌+◌, ◌^◌, ◌<◌, List, [], ◌∷◌, ◌++◌, length, sym, subst, arith}
+use Rattle.std.proofs.Common.{◌≡◌, ◌+◌, ◌^◌, ◌<◌, List, [], ◌∷◌, ◌++◌, length, sym, subst, arith}
 use Rattle.std.specs.Prelude.{IsTrue, slice_index_or}
 use Rattle.std.proofs.lemmas.Option.{slice_get_within}
 use Rattle.velo_events.specs.declared.config.Bounds.{Bounds}
@@ -21,7 +21,7 @@ use Rattle.velo_explore.specs.declared.state.State.{State}
 use Rattle.velo_explore.specs.Faults.{Fault, Cycle, Stuck, Refusing, IsFault}
 use Rattle.velo_explore.specs.Runs.{script_of, IsRunOf, IsNext, Never}
 use Rattle.velo_explore.specs.States.{IsStateOf}
-use Rattle.velo_explore.specs.Search.{AreShort, IsReached, IsClean, Settles}
+use Rattle.velo_explore.specs.Search.{AreShort, IsReached, Settles}
 use Rattle.velo_explore.proofs.OnRuns.{IsRunOf-next}
 use Rattle.velo_explore.proofs.OnRunsOfScripts.{DoesScript, wants_by, IsProgram-scripts, AreWanted-scripts, IsLog-run}
 use Rattle.velo_explore.proofs.OnWanted.{AreKnown, known-run, searched-stuck, searched-refused, wanted-stuck, wanted-refused}

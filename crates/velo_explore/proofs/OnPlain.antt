@@ -10,7 +10,7 @@ use Rattle.velo_events.specs.declared.config.Bounds.{Bounds}
 use Rattle.velo_events.specs.declared.event.Event.{Event}
 use Rattle.velo_events.specs.declared.event.Kind.{Kind}
 use Rattle.velo_events.specs.declared.event.Kind.TheVariants.{Read, Write, Acquire, Release, AcquireShared, ReleaseShared, Begin, End, Fork, Join, Exit}
-use Rattle.velo_events.specs.Event.{are_same, thread_of, variable_of, locked_by, shared_by, access_of, cell_of, is_exclusive, forked_of, joined_of, handled_of, value_of, is_write, is_acquire, is_release, is_acquire_shared, is_release_shared, is_begin, is_end, is_exit, is_by, is_begin_by, is_end_by, is_acquire_by, is_release_by, is_acquire_shared_by, is_release_shared_by, is_exit_by, is_write_of, is_on_lock, is_on_share, is_fork_of, is_join_of}
+use Rattle.velo_events.specs.Event.{are_same, thread_of, variable_of, locked_by, shared_by, access_of, forked_of, joined_of, value_of, is_write, is_acquire, is_release, is_acquire_shared, is_release_shared, is_begin, is_end, is_exit, is_by, is_begin_by, is_end_by, is_acquire_by, is_release_by, is_acquire_shared_by, is_release_shared_by, is_exit_by, is_write_of, is_on_lock, is_on_share, is_fork_of, is_join_of}
 use Rattle.velo_events.specs.Conflict.{conflict}
 use Rattle.velo_events.specs.Heap.{latest, happened, times, value_in, holder_in, shares_in, was_born, status_in, depth_in}
 use Rattle.velo_events.specs.Block.{any_below, passes_at, is_balanced, is_open_at, is_in_block, owner}

@@ -1,6 +1,6 @@
 use Rattle.std.proofs.Common.{refl, sym, ◌∙◌}
 use Rattle.velo_heap.specs.Contents.{bounds_of}
-use Rattle.velo_explore.proofs.OnFreeEvents.{settles_same, settles_free, next-reached, counted-next}
+use Rattle.velo_explore.proofs.OnFreeEvents.{settles_free, next-reached, counted-next}
 use Rattle.velo_explore.proofs.settling.settle_once.Goals as goal
 
 pub step-requires-clause-room : goal.step-requires-clause-room

@@ -1,4 +1,4 @@
-use Rattle.std.proofs.Common.{refl, sym, ◌∙◌, subst}
+use Rattle.std.proofs.Common.{refl, sym, subst}
 use Rattle.velo_heap.specs.Contents.{bounds_of}
 use Rattle.velo_explore.specs.Search.{IsReached, Settles}
 use Rattle.velo_explore.proofs.OnTold.{start-reached}
