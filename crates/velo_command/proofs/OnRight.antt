@@ -241,7 +241,7 @@ explore_right : (words : List Text) → level_fault (leaf explore) [] nothing_he
 explore_right words e =
     let rows = rows_of_leaf explore words in
     let level = level_has limits (leaf explore) words refl (makes_word (codes "FILE") refl, (makes_states, (makes_flag (codes "first") refl, (makes_flag (codes "progress") refl, (makes_random, (makes_seed, (makes_valued (codes "log") refl, (makes_valued (codes "names-out") refl, (makes_events (codes "1048576"), (makes_nodes (codes "1024"), (makes_flag (codes "certificate") refl, (makes_help, tt)))))))))))) e in
-    (word_there (codes "FILE") rows level.passes (level.given.0 refl), states_there rows level.passes (level.defaults.1.0 tt), limits_there rows level.passes (level.defaults.1.1.1.1.1.1.1.1.0 tt) (level.defaults.1.1.1.1.1.1.1.1.1.0 tt), runs_there rows level.passes, seed_there rows level.passes)
+    (word_there (codes "FILE") rows level.passes (level.given.0 refl), (states_there rows level.passes (level.defaults.1.0 tt), limits_there rows level.passes (level.defaults.1.1.1.1.1.1.1.1.0 tt) (level.defaults.1.1.1.1.1.1.1.1.1.0 tt), runs_there rows level.passes, seed_there rows level.passes))
 
 watch_right : (words : List Text) → level_fault (leaf watch) [] nothing_held words false [] ≡ []
     → HasWord (codes "LOG") (rows_of_leaf watch words) × HasLimits (rows_of_leaf watch words)

@@ -2,7 +2,7 @@
 use Rattle.std.proofs.Common.{◌≡◌, ◌∙◌, ap, refl, sym, Bool, true, false, Option, Some, None, is_some}
 use Rattle.std.specs.Prelude.{option_and_then}
 use Rattle.std.specs.Option.{option_map_or}
-use Rattle.clap.specs.Facts.{explicit_source, is_present}
+use Rattle.clap.specs.Facts.{explicit_source}
 use Rattle.clap.specs.Takes.{is_given}
 use Rattle.clap.specs.Words.{Text, matched_of, rows_of}
 use Rattle.clap.specs.declared.parser.matches.Found.{Found}

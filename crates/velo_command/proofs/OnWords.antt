@@ -1,9 +1,14 @@
 -- What some command lines ask for, and why others ask for nothing: by computing.
-use Rattle.std.proofs.Common.{◌≡◌, ◌∷◌, [], arith, refl, subst, sym, ap, codes, true, false, List, get_or, map, rules, Bor}
+use Rattle.std.proofs.Common.{◌≡◌, ◌^◌, ◌∷◌, [], ℕ, Bool, arith, refl, subst, sym, ap, codes, true, false, List, get_or, map, nat_lt, rules, Bor}
 use Rattle.std.specs.Prelude.{Some, None, option_map}
+use Rattle.std.specs.Str.Parse.{digits_value, without_leading_plus}
+use Rattle.std.proofs.lemmas.Bool.{ltb-true}
 use Rattle.clap.specs.Faults.{defaults_fault, walk_fault}
 use Rattle.clap.specs.Walk.{walked}
+use Rattle.clap.specs.ValueTests.{accepts}
 use Rattle.clap.specs.Words.{Text}
+use Rattle.clap.specs.declared.builder.value_parser.ValueParser.TheVariants.{Unsigned}
+use Rattle.clap.proofs.ValueTestLemmas.{accepts-Accepts}
 use Rattle.clap.specs.declared.error.kind.ErrorKind.TheVariants.{ArgumentConflict, DisplayHelp, DisplayVersion, InvalidSubcommand, MissingRequiredArgument, MissingSubcommand, UnknownArgument, ValueValidation}
 use Rattle.velo_program.specs.declared.request.AuditOptions.{AuditOptions}
 use Rattle.velo_program.specs.declared.request.CarryOptions.{CarryOptions}
@@ -15,7 +20,7 @@ use Rattle.velo_program.specs.declared.request.ExploreOptions.{ExploreOptions}
 use Rattle.velo_program.specs.declared.request.ScheduleSource.TheVariants as source
 use Rattle.velo_program.specs.declared.request.WatchOptions.{WatchOptions}
 use Rattle.velo_program.specs.declared.request.Request.TheVariants.{Audit, Carry, Check, Explain, Explore, Replay, Run, Watch}
-use Rattle.velo_command.specs.Asked.{AreRandomRuns, AsksFor, IsSchedule}
+use Rattle.velo_command.specs.Asked.{AsksFor, IsFlag, IsSchedule, WritesNumber}
 use Rattle.velo_command.specs.CommandLine.{asked_by, faults_of}
 use Rattle.velo_command.specs.Together.{given_by}
 
@@ -58,7 +63,7 @@ replay_is_right : faults_of replay_words ≡ []
 unfolding faults_of walk_fault walked defaults_fault
 replay_is_right = refl
 
-zero_is_no_at : 48 ≡ 64 → ⊥
+zero_is_no_at : ◌≡◌ {A = ℕ} 48 64 → ⊥
 zero_is_no_at e = omega (arith, e)
 
 replay_asks : (options : ReplayOptions) (text : Bor Text) → options.schedule ≡ source.Text text → text.now ≡ codes "0 1" → options.run.input.now ≡ codes "-" → options.run.stop ≡ false
@@ -118,6 +123,15 @@ carry_asks : (options : CarryOptions) → options.input.now ≡ codes "a" → op
 unfolding asked_by walked
 carry_asks options log out = (refl, (ap Some (sym log), ap Some (sym out)))
 
+-- a number by its digits
+writes : (text : Text) (bits n : ℕ) → accepts false (Unsigned 0 18446744073709551615) text ≡ true → nat_lt (digits_value 10 (without_leading_plus text)) (2 ^ bits) ≡ true
+    → n ≡ digits_value 10 (without_leading_plus text) → WritesNumber bits (Some text) n
+writes text bits n numeral fits is = ((accepts-Accepts false (Unsigned 0 18446744073709551615) text numeral).0, ltb-true _ _ fits, is)
+
+-- a flag that is not given
+is_unset : (flag : Bool) → flag ≡ false → IsFlag (Some (codes "false")) flag
+is_unset flag is = (λ e. cc, λ e. is, λ e. is)
+
 -- a workload, with the states and limits that are there by default
 abbrev explore_words : List Text
 explore_words = codes "velodrome" ∷ codes "explore" ∷ codes "w" ∷ []
@@ -133,14 +147,14 @@ explore_asks options file states first progress random log names events nodes ce
   refl,
   (
     ap Some (sym file),
-    search rules,
-    search rules,
-    search rules,
-    subst (AreRandomRuns _) (sym random) refl,
+    writes (codes "2097152") 32 options.states refl refl states,
+    is_unset options.first first,
+    is_unset options.progress progress,
+    rw random refl,
     ap (option_map (λ path. path.now)) (sym log),
     ap (option_map (λ path. path.now)) (sym names),
-    search rules,
-    search rules,
+    (writes (codes "1048576") 32 options.limits.events refl refl events, writes (codes "1024") 16 options.limits.nodes refl refl nodes),
+    is_unset options.certificate certificate,
   ),
 )
 

@@ -74,6 +74,11 @@ saved_options = valued (codes "log") ∷ valued (codes "names-out") ∷ graph_op
 abbrev pub run_options : List Rule
 run_options = flag (codes "stop") ∷ saved_options
 
+-- the options of each command that searches
+abbrev pub search_options : List Rule
+search_options =
+    states ∷ flag (codes "first") ∷ flag (codes "progress") ∷ random ∷ seed ∷ saved_options
+
 -- ---- the subcommands
 
 abbrev pub subcommand : Text → List Rule → Shape
@@ -96,9 +101,7 @@ abbrev pub carry : Shape
 carry = subcommand (codes "carry") (word (codes "LOG") ∷ needed (codes "log") ∷ [])
 
 abbrev pub explore : Shape
-explore = subcommand (codes "explore")
-    (word (codes "FILE") ∷ states ∷ flag (codes "first") ∷ flag (codes "progress")
-    ∷ random ∷ seed ∷ saved_options)
+explore = subcommand (codes "explore") (word (codes "FILE") ∷ search_options)
 
 abbrev pub watch : Shape
 watch = subcommand (codes "watch")

@@ -2,7 +2,7 @@
 ghost use Rattle.std.specs.Prelude.{◌≡◌, IfOk, OnErr, codes};
 ghost use Rattle.clap.specs.Words.{app_of};
 ghost use Rattle.velo_events.specs.Refusals.{GrowthRefused};
-ghost use Rattle.velo_command.specs.CommandLine.{AddsRules, IsArgument, IsSubcommand, audit, bare, carry, check, command_line, events, explain, explore, flag, graph_options, needed, nodes, random, repeated, replay, run, run_options, saved_options, seed, states, valued, watch, word};
+ghost use Rattle.velo_command.specs.CommandLine.{AddsRules, IsArgument, IsSubcommand, audit, bare, carry, check, command_line, events, explain, explore, flag, graph_options, needed, nodes, random, repeated, replay, run, run_options, search_options, seed, states, valued, watch, word};
 
 use crate::growth::{with_argument, with_subcommand};
 use crate::help;
@@ -110,14 +110,7 @@ fn explore<'a>(alloc: Global) -> Result<Command<'a>, Memory>
         .about("Tries every schedule of a workload and reports what it finds")
         .after_help(help::OF_EXPLORE);
     let command = with_argument(command, file(alloc))?;
-    let command = with_argument(command, states_argument(alloc))?;
-    let command = with_argument(command, first(alloc))?;
-    let command = with_argument(command, progress(alloc))?;
-    let command = with_argument(command, random(alloc))?;
-    let command = with_argument(command, seed(alloc))?;
-    let command = with_argument(command, found_log(alloc))?;
-    let command = with_argument(command, saved_names(alloc))?;
-    with_graph_options(alloc, command)
+    with_search_options(alloc, command)
 }
 
 fn watch<'a>(alloc: Global) -> Result<Command<'a>, Memory>
@@ -157,6 +150,21 @@ fn with_run_options<'a>(alloc: Global, command: Command<'a>) -> Result<Command<'
 {
     let command = with_argument(command, stop(alloc))?;
     let command = with_argument(command, out(alloc))?;
+    let command = with_argument(command, saved_names(alloc))?;
+    with_graph_options(alloc, command)
+}
+
+/// The command with the options of each command that searches.
+fn with_search_options<'a>(alloc: Global, command: Command<'a>) -> Result<Command<'a>, Memory>
+    ensures adds { IfOk result (AddsRules search_options command.entry) }
+    ensures memory { OnErr result GrowthRefused }
+{
+    let command = with_argument(command, states_argument(alloc))?;
+    let command = with_argument(command, first(alloc))?;
+    let command = with_argument(command, progress(alloc))?;
+    let command = with_argument(command, random(alloc))?;
+    let command = with_argument(command, seed(alloc))?;
+    let command = with_argument(command, found_log(alloc))?;
     let command = with_argument(command, saved_names(alloc))?;
     with_graph_options(alloc, command)
 }
