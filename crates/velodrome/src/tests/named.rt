@@ -8,8 +8,8 @@ use std::thread::Threads;
 use velo_events::MOST_EVENTS;
 use velo_logtext::{Bytes, Text, WriterSink};
 use velo_program::{
-    ExploreOptions, Fate, Files, Limits, Quiet, ReplayOptions, Request, RunOptions, do_request,
-    end_with,
+    ExploreOptions, Fate, Files, Limits, Quiet, ReplayOptions, Request, RunOptions, ScheduleSource,
+    do_request, end_with,
 };
 
 /// A block that reads and writes, and a thread that writes under a lock: there is a name of each kind.
@@ -139,7 +139,7 @@ fn request_of<'a>(
     match how {
         How::Run => Request::Run(run),
         How::Replay => Request::Replay(ReplayOptions {
-            schedule: SCHEDULE,
+            schedule: ScheduleSource::Text(SCHEDULE),
             run,
         }),
         How::Explore => Request::Explore(ExploreOptions {
