@@ -23,17 +23,18 @@ use std::sync::Wait;
 use std::thread::Threads;
 use velo_events::Memory;
 use velo_logtext::Sink;
-use velo_program::{Fate, Files, do_request, end_with};
+use velo_program::{ExploreProgress, Fate, Files, do_request, end_with};
 
 /// Does what the words ask for, with reports and help on the one sink and all else on the other, and answers the status
-/// to end with.
-pub fn run<R: Threads + Wait + Sync, F: Files, W: AsStr, O: Sink, E: Sink>(
+/// to end with. How far a search is goes to `progress`.
+pub fn run<R: Threads + Wait + Sync, F: Files, W: AsStr, O: Sink, E: Sink, P: ExploreProgress>(
     rt: &R,
     alloc: Global,
     words: &[W],
     files: &mut F,
     out: &mut O,
     err: &mut E,
+    progress: &mut P,
 ) -> u8
     ensures { Runs (map W.text words.now) (store F.disk files.old files.new)
         (console_of (out.new ≡ out.old)
@@ -46,7 +47,7 @@ pub fn run<R: Threads + Wait + Sync, F: Files, W: AsStr, O: Sink, E: Sink>(
     };
     match matches_of(command, words) {
         Ok(matches) => {
-            let status = do_asked(rt, alloc, &matches, files, out, err);
+            let status = do_asked(rt, alloc, &matches, files, out, err, progress);
             drop(matches);
             status
         }
@@ -60,13 +61,14 @@ pub fn run<R: Threads + Wait + Sync, F: Files, W: AsStr, O: Sink, E: Sink>(
 
 /// Does what the matches ask for, if its options go together, and answers the status to end with. Behind words without a
 /// fault they ask for something.
-fn do_asked<R: Threads + Wait + Sync, F: Files, O: Sink, E: Sink>(
+fn do_asked<R: Threads + Wait + Sync, F: Files, O: Sink, E: Sink, P: ExploreProgress>(
     rt: &R,
     alloc: Global,
     matches: &ArgMatches,
     files: &mut F,
     out: &mut O,
     err: &mut E,
+    progress: &mut P,
 ) -> u8
     requires { ¬ AsksForNothing (subcommand_rows_of matches.now) }
     ensures { Answers (subcommand_rows_of matches.now) (store F.disk files.old files.new)
@@ -77,7 +79,7 @@ fn do_asked<R: Threads + Wait + Sync, F: Files, O: Sink, E: Sink>(
     match request_of(matches) {
         Some(request) => match clash_of(&request, given_by(matches)) {
             Some(clash) => tell_clash(clash, err),
-            None => end_with(&do_request(rt, alloc, &request, files, out), err),
+            None => end_with(&do_request(rt, alloc, &request, files, out, progress), err),
         },
         None => unreachable!(),
     }

@@ -11,6 +11,7 @@ use crate::explaining::explain_file;
 use crate::exploring::explore_file;
 use crate::fate::Fate;
 use crate::files::Files;
+use crate::progress::ExploreProgress;
 use crate::replaying::replay_file;
 use crate::request::Request;
 use crate::running::run_file;
@@ -21,13 +22,15 @@ use std::thread::Threads;
 use velo_logtext::Sink;
 
 /// Does what was asked for, with the report, the certificate or the words of an explanation on the sink, and answers what it
-/// came to. A run of a workload by threads of its own may wait; the other commands start no thread.
-pub fn do_request<R: Threads + Wait + Sync, F: Files, O: Sink>(
+/// came to. How far a search is goes to `progress`. A run of a workload by threads of its own may wait; the other commands start
+/// no thread.
+pub fn do_request<R: Threads + Wait + Sync, F: Files, O: Sink, P: ExploreProgress>(
     rt: &R,
     alloc: Global,
     request: &Request,
     files: &mut F,
     out: &mut O,
+    progress: &mut P,
 ) -> Fate
     ensures done { Does (store F.disk files.old files.new) request.now
         (writing O.contents O.failures out.old out.new) result }
@@ -39,7 +42,7 @@ pub fn do_request<R: Threads + Wait + Sync, F: Files, O: Sink>(
         Request::Run(options) => run_file(rt, alloc, options, files, out),
         Request::Explain(options) => explain_file(alloc, options, files, out),
         Request::Carry(options) => carry_file(alloc, options, files),
-        Request::Explore(options) => explore_file(alloc, options, files, out),
+        Request::Explore(options) => explore_file(alloc, options, files, out, progress),
         Request::Watch(options) => watch_file(alloc, options, files, out),
         Request::Audit(options) => audit_file(alloc, options, files, out),
     }

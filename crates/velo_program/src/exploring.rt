@@ -15,6 +15,7 @@ use crate::exploration_text::text_of_told;
 use crate::fate::Fate;
 use crate::files::Files;
 use crate::findings::{first_replay, told_of};
+use crate::progress::ExploreProgress;
 use crate::request::{ExploreOptions, RunOptions};
 use crate::saving::{Saving, names_for, save_run};
 use crate::told::{Found, Told};
@@ -378,36 +379,42 @@ fn show_told<F: Files, O: Sink>(
 }
 
 /// Tries the schedules of a workload, and writes what they come to.
-fn explore_workload<F: Files, O: Sink>(
+fn explore_workload<F: Files, O: Sink, P: ExploreProgress>(
     alloc: Global,
     workload: &Workload,
     options: &ExploreOptions,
     files: &mut F,
     out: &mut O,
+    progress: &mut P,
 ) -> Fate
     ensures { Explores options.now workload.now (store F.disk files.old files.new)
         (writing O.contents O.failures out.old out.new) result }
 {
     let config = config_of_run(workload, &run_of(options));
-    match told_of(alloc, workload, options, config) {
+    progress.begin(options.progress);
+    let told = told_of(alloc, workload, options, config, progress);
+    progress.end();
+    match told {
         Ok(told) => show_told(alloc, workload, config, told, options, files, out),
         Err(Memory) => Fate::Memory,
     }
 }
 
-/// Tries the schedules of the workload that was asked for, and writes what they come to.
-pub fn explore_file<F: Files, O: Sink>(
+/// Tries the schedules of the workload that was asked for, and writes what they come to. How far the search is goes to
+/// `progress`, which has ended before anything is written.
+pub fn explore_file<F: Files, O: Sink, P: ExploreProgress>(
     alloc: Global,
     options: &ExploreOptions,
     files: &mut F,
     out: &mut O,
+    progress: &mut P,
 ) -> Fate
     ensures { DoesExplore options.now (store F.disk files.old files.new)
         (writing O.contents O.failures out.old out.new) result }
 {
     match open_workload(alloc, &run_of(options), files) {
         Ok(workload) => {
-            let fate = explore_workload(alloc, &workload, options, files, out);
+            let fate = explore_workload(alloc, &workload, options, files, out, progress);
             drop(workload);
             fate
         }

@@ -16,7 +16,7 @@ use crate::work::is_unreported;
 use std::alloc::Global;
 use velo_chance::{Tally, explore_by_chance};
 use velo_events::{Config, MOST_THREADS, Memory, ThreadId};
-use velo_schedules::{Exploration, Finding, Quiet, RefusalFinding, RefusedRun, explore};
+use velo_schedules::{Exploration, Finding, Progress, RefusalFinding, RefusedRun, explore};
 use velo_shrink::shrink_told;
 use velo_turns::MOST_TURNS;
 use velo_worker::{Ending, replay};
@@ -77,11 +77,12 @@ fn sayable_refusal(finding: RefusalFinding) -> RefusalFinding
 }
 
 /// What all schedules of the workload come to, by simple schedules, as far as it can be told, and who is to blame.
-fn explore_all(
+fn explore_all<P: Progress>(
     alloc: Global,
     workload: &Workload,
     options: &ExploreOptions,
     config: Config,
+    progress: &mut P,
 ) -> Result<Told, Memory>
     requires { config.bounds ≡ workload.now.bounds }
     ensures told { IfOk result (IsExplorationOf workload.now config options.now) }
@@ -94,7 +95,7 @@ fn explore_all(
         most_states,
         options.first,
         config,
-        &mut Quiet,
+        progress,
     )?;
     let blame = blame_of(alloc, workload, &found.alarms, options.first, config)?;
     let Exploration {
@@ -171,15 +172,16 @@ fn try_some(
 }
 
 /// What all schedules of the workload come to, or runs by chance, where they are asked for; and who is to blame. The
-/// configuration has to have the workload's bounds.
+/// configuration has to have the workload's bounds. `progress` is told of each level of the search.
 ///
 /// # Errors
 /// `Memory` where a growth was refused.
-pub fn told_of(
+pub fn told_of<P: Progress>(
     alloc: Global,
     workload: &Workload,
     options: &ExploreOptions,
     config: Config,
+    progress: &mut P,
 ) -> Result<Told, Memory>
     requires { config.bounds ≡ workload.now.bounds }
     ensures told { IfOk result (IsToldOf workload.now config options.now) }
@@ -187,7 +189,7 @@ pub fn told_of(
 {
     match options.random {
         Some(random) => try_some(alloc, workload, random, config),
-        None => explore_all(alloc, workload, options, config),
+        None => explore_all(alloc, workload, options, config, progress),
     }
 }
 

@@ -16,6 +16,7 @@ mod ignoring;
 mod laws;
 mod listing;
 mod naming;
+mod progress;
 mod reading;
 mod replaying;
 mod request;
@@ -36,9 +37,11 @@ pub use doing::do_request;
 pub use fate::{Fate, end_line, end_with};
 pub use files::Files;
 pub use laws::names_read_back;
+pub use progress::ExploreProgress;
 pub use request::{
     AuditOptions, CarryOptions, CheckOptions, DEFAULT_SEED, ExplainOptions, ExploreOptions,
     Ignorable, Limits, MOST_RUNS, MOST_STATES, Operand, RandomRuns, ReplayOptions, Request,
     RunOptions, ScheduleSource, WatchOptions,
 };
+pub use velo_schedules::{Progress, Quiet};
 pub use velo_turns::{MOST_SCHEDULE_BYTES, MOST_TURNS, ScheduleFault, schedule_of};

@@ -2,8 +2,10 @@
 #![tactic(auto)]
 
 mod host;
+mod progress;
 
 use host::HostFiles;
+use progress::{ProgressLine, is_terminal};
 use std::io::ErrorKind;
 use std::process::ExitCode;
 use velo_command::{end_without_words, run};
@@ -23,6 +25,8 @@ fn words_of(rt: &HostRuntime) -> Result<Vec<String>, ErrorKind> {
 fn main(rt: HostRuntime) -> ExitCode {
     let mut out = WriterSink::new(rt.stdout());
     let mut err = WriterSink::new(rt.stderr());
+    let told = WriterSink::new(rt.stderr());
+    let mut progress = ProgressLine::new(&rt, rt.alloc(), told, is_terminal(&rt));
     let status = match words_of(&rt) {
         Ok(words) => run(
             &rt,
@@ -31,6 +35,7 @@ fn main(rt: HostRuntime) -> ExitCode {
             &mut HostFiles::new(&rt),
             &mut out,
             &mut err,
+            &mut progress,
         ),
         Err(kind) => end_without_words(kind, &mut err),
     };

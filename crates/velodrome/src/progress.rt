@@ -8,21 +8,22 @@ use std::time::{Clock, Duration};
 use velo_logtext::{Sink, write_all};
 use velo_program::{ExploreProgress, Progress};
 
-/// A search that takes no longer is not told of on a terminal, and lines that stay are no nearer to one another.
-const PAUSE: Duration = Duration::from_secs(2);
+/// A search that takes no longer is not told of on a terminal, and lines that stay are no nearer to one another: in
+/// milliseconds.
+const PAUSE: u128 = 2_000;
 
-/// A line that is written over is not written more often.
-const BLINK: Duration = Duration::from_millis(100);
+/// A line that is written over is not written more often: in milliseconds.
+const BLINK: u128 = 100;
 
 /// When a search is told of, and in what form.
 #[derive(Clone, Copy, Debug)]
 struct Manner {
     /// Each line is written over the one before.
     over: bool,
-    /// How long a search takes at least that is told of.
-    patience: Duration,
-    /// How far the lines are at least from one another.
-    pause: Duration,
+    /// How long a search takes at least that is told of, in milliseconds.
+    patience: u128,
+    /// How far the lines are at least from one another, in milliseconds.
+    pause: u128,
 }
 
 /// In what manner a search is told of, if it is.
@@ -30,12 +31,12 @@ fn manner_of(is_terminal: bool, always: bool) -> Option<Manner> {
     match (is_terminal, always) {
         (true, _) => Some(Manner {
             over: true,
-            patience: if always { Duration::ZERO } else { PAUSE },
+            patience: if always { 0 } else { PAUSE },
             pause: BLINK,
         }),
         (false, true) => Some(Manner {
             over: false,
-            patience: Duration::ZERO,
+            patience: 0,
             pause: PAUSE,
         }),
         (false, false) => None,
@@ -53,8 +54,8 @@ pub struct ProgressLine<'a, C, S> {
     manner: Option<Manner>,
     /// When the search began, on the clock.
     begun: Duration,
-    /// How long the search had taken when it was last told of, if it was.
-    told: Option<Duration>,
+    /// How many milliseconds the search had taken when it was last told of, if it was.
+    told: Option<u128>,
 }
 
 impl<'a, C: Clock, S: Sink> ProgressLine<'a, C, S> {
@@ -71,13 +72,14 @@ impl<'a, C: Clock, S: Sink> ProgressLine<'a, C, S> {
         }
     }
 
-    /// Tells of a search that has taken so long. Behind a failure nothing more is told.
-    fn tell(&mut self, over: bool, taken: Duration, levels: u64, states: u64) {
+    /// Tells of a search that has taken so many milliseconds. Behind a failure nothing more is told.
+    fn tell(&mut self, over: bool, taken: u128, levels: u64, states: u64) {
         self.told = Some(taken);
         let (before, after) = if over { ("\r", "\x1b[K") } else { ("", "\n") };
         let rate = states_a_second(states, taken);
         let text = format!(in self.alloc;
-            "{before}levels {levels} states {states}, {rate} a second{after}");
+            "{before}levels {levels} states {states}, {rate} a second{after}"
+        );
         let is_told = match text {
             Ok(text) => write_all(&mut self.sink, text.as_bytes()).is_ok(),
             Err(_) => false,
@@ -88,13 +90,13 @@ impl<'a, C: Clock, S: Sink> ProgressLine<'a, C, S> {
     }
 }
 
-/// How many states were looked at in a second.
-fn states_a_second(states: u64, taken: Duration) -> u128 {
-    u128::from(states) * 1000 / max(taken.as_millis(), 1)
+/// How many of the states were looked at in a second, of so many milliseconds.
+fn states_a_second(states: u64, taken: u128) -> u128 {
+    u128::from(states) * 1000 / max(taken, 1)
 }
 
-/// Whether it is time to tell of a search that has taken so long, and was last told of then.
-fn is_due(manner: Manner, taken: Duration, told: Option<Duration>) -> bool {
+/// Whether it is time to tell of a search that has taken so many milliseconds, and was last told of then.
+fn is_due(manner: Manner, taken: u128, told: Option<u128>) -> bool {
     match told {
         Some(told) => taken.saturating_sub(told) >= manner.pause,
         None => taken >= manner.patience,
@@ -109,7 +111,7 @@ impl<C: Clock, S: Sink> Progress for ProgressLine<'_, C, S> {
         let Ok(now) = self.clock.monotonic() else {
             return;
         };
-        let taken = now.saturating_sub(self.begun);
+        let taken = now.saturating_sub(self.begun).as_millis();
         if is_due(manner, taken, self.told) {
             self.tell(manner.over, taken, levels, states);
         }
@@ -148,3 +150,6 @@ pub fn is_terminal(files: &impl fs::Files) -> bool {
         Err(_) => false,
     }
 }
+
+#[cfg(test)]
+mod tests;

@@ -23,7 +23,7 @@ use std::sync::Wait;
 use std::thread::Threads;
 use velo_command::run;
 use velo_logtext::{Bytes, Text};
-use velo_program::Files;
+use velo_program::{Files, Quiet};
 
 const LOST_UPDATE: &str = "vlog 1 2 1 0\n0 fork 1\n0 begin 7\n0 rd 0 0\n1 wr 0 5\n0 wr 0 1\n";
 
@@ -127,7 +127,7 @@ fn show_on<R: Threads + Wait + Sync, F: Files>(
     mut out: Text,
     mut err: Text,
 ) -> Shown {
-    let status = run(rt, alloc, words, files, &mut out, &mut err);
+    let status = run(rt, alloc, words, files, &mut out, &mut err, &mut Quiet);
     Shown { out, err, status }
 }
 

@@ -6,7 +6,7 @@ use std::sync::Wait;
 use std::thread::Threads;
 use velo_command::run;
 use velo_logtext::{Bytes, Text};
-use velo_program::Files;
+use velo_program::{Files, Quiet};
 
 /// Two paths, and whether one regular file stands at both.
 const PATHS: [(&str, &str, bool); 6] = [
@@ -145,7 +145,7 @@ fn play<R: Threads + Wait + Abort + Sync>(rt: &R, alloc: Global, row: &Row) {
     };
     let mut out = Text::new(alloc);
     let mut err = Text::new(alloc);
-    let told = run(rt, alloc, words, &mut files, &mut out, &mut err);
+    let told = run(rt, alloc, words, &mut files, &mut out, &mut err, &mut Quiet);
     assert_eq!(rt; (told, files.is_emptied), (status, is_emptied), "{line}");
     assert_eq!(rt; err.as_slice(), line.as_bytes());
     drop((files, out, err));

@@ -7,7 +7,7 @@ use std::thread::Threads;
 use velo_command::run;
 use velo_events::{MOST_EVENTS, Refusal};
 use velo_logtext::{Bytes, LogFault, Text, WriterSink};
-use velo_program::{CheckFault, Fate, check_run, end_with};
+use velo_program::{CheckFault, Fate, Quiet, check_run, end_with};
 
 #[test]
 fn reads_fail(rt: HostRuntime) {
@@ -84,7 +84,15 @@ fn writes_of<R: Threads + Wait + Sync>(rt: &R, alloc: Global, words: &[&str]) ->
     let mut folder = Folder::new(alloc, &FILES, usize::MAX);
     let mut out = WriterSink::new(Calls(0));
     let mut err = WriterSink::new(Calls(0));
-    let _status = run(rt, alloc, words, &mut folder, &mut out, &mut err);
+    let _status = run(
+        rt,
+        alloc,
+        words,
+        &mut folder,
+        &mut out,
+        &mut err,
+        &mut Quiet,
+    );
     drop(folder);
     (out.writer.0, err.writer.0)
 }

@@ -7,7 +7,8 @@ use std::thread::Threads;
 use velo_events::MOST_EVENTS;
 use velo_logtext::Text;
 use velo_program::{
-    ExploreOptions, Limits, MOST_RUNS, MOST_STATES, RandomRuns, Request, do_request, end_with,
+    ExploreOptions, Limits, MOST_RUNS, MOST_STATES, Quiet, RandomRuns, Request, do_request,
+    end_with,
 };
 
 /// A block that reads and writes, and a thread that writes.
@@ -288,7 +289,7 @@ fn explore_it<R: Threads + Wait + Abort + Sync>(rt: &R, alloc: Global, row: &Row
     });
     let mut out = Text::new(alloc);
     let mut err = Text::new(alloc);
-    let fate = do_request(rt, alloc, &request, &mut folder, &mut out);
+    let fate = do_request(rt, alloc, &request, &mut folder, &mut out, &mut Quiet);
     let status = end_with(&fate, &mut err);
     let shown = Shown { out, err, status };
     compare(rt, &shown, row.out, row.err, row.status, row.workload);

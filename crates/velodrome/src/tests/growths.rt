@@ -8,7 +8,7 @@ use std::thread::Threads;
 use velo_command::run;
 use velo_events::{Action, Refusal, ThreadId, VarId};
 use velo_logtext::{Bytes, LogFault, WriterSink, read_log};
-use velo_program::{CarryFault, CheckFault, Verdict, carry_run, check_run, config_of};
+use velo_program::{CarryFault, CheckFault, Quiet, Verdict, carry_run, check_run, config_of};
 use velo_world::{LogReplayFault, World};
 
 /// What the call answers, or where a growth is refused what the same call answers then.
@@ -122,7 +122,15 @@ fn audit_into<R: Threads + Wait + Sync>(
     let mut folder = Folder::new(alloc, &AUDIT_FILES, usize::MAX);
     let mut out = WriterSink::new(out);
     let mut err = WriterSink::new(err);
-    let status = run(rt, alloc, AUDIT, &mut folder, &mut out, &mut err);
+    let status = run(
+        rt,
+        alloc,
+        AUDIT,
+        &mut folder,
+        &mut out,
+        &mut err,
+        &mut Quiet,
+    );
     drop((out, err, folder));
     status
 }

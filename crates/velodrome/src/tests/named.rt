@@ -8,7 +8,8 @@ use std::thread::Threads;
 use velo_events::MOST_EVENTS;
 use velo_logtext::{Bytes, Text, WriterSink};
 use velo_program::{
-    ExploreOptions, Fate, Files, Limits, ReplayOptions, Request, RunOptions, do_request, end_with,
+    ExploreOptions, Fate, Files, Limits, Quiet, ReplayOptions, Request, RunOptions, ScheduleSource,
+    do_request, end_with,
 };
 
 /// A block that reads and writes, and a thread that writes under a lock: there is a name of each kind.
@@ -138,7 +139,7 @@ fn request_of<'a>(
     match how {
         How::Run => Request::Run(run),
         How::Replay => Request::Replay(ReplayOptions {
-            schedule: SCHEDULE,
+            schedule: ScheduleSource::Text(SCHEDULE),
             run,
         }),
         How::Explore => Request::Explore(ExploreOptions {
@@ -164,7 +165,7 @@ fn play<R: Threads + Wait + Sync>(
 ) -> Shown {
     let mut out = Text::new(alloc);
     let mut err = Text::new(alloc);
-    let fate = do_request(rt, alloc, request, shelf, &mut out);
+    let fate = do_request(rt, alloc, request, shelf, &mut out, &mut Quiet);
     let status = end_with(&fate, &mut err);
     Shown { out, err, status }
 }
@@ -475,7 +476,7 @@ fn count_opened<R: Threads + Wait + Sync>(
 ) -> (Fate, u32) {
     let mut files = Opened(0);
     let mut out = WriterSink::new(out);
-    let fate = do_request(rt, alloc, request, &mut files, &mut out);
+    let fate = do_request(rt, alloc, request, &mut files, &mut out, &mut Quiet);
     let count = files.0;
     drop((out, files));
     (fate, count)

@@ -6,7 +6,7 @@ use std::sync::Wait;
 use std::thread::Threads;
 use velo_events::{MOST_EVENTS, Refusal};
 use velo_logtext::{Bytes, LogFault, Sink, Text, WriterSink};
-use velo_program::{CheckFault, Fate, Files, Limits, Request, WatchOptions, do_request};
+use velo_program::{CheckFault, Fate, Files, Limits, Quiet, Request, WatchOptions, do_request};
 use velo_worker::Ending;
 
 /// The lost update, and events behind its alarm.
@@ -92,7 +92,7 @@ fn watch<R: Threads + Wait + Sync, O: Sink>(
     mut pipe: Pipe,
     out: &mut O,
 ) -> Fate {
-    do_request(rt, alloc, request, &mut pipe, out)
+    do_request(rt, alloc, request, &mut pipe, out, &mut Quiet)
 }
 
 /// Compares what was told and what it came to with what is wanted.

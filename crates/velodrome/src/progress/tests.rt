@@ -1,0 +1,92 @@
+//! When the progress of a search is told, and in which words.
+use crate::progress::{ProgressLine, is_terminal_device};
+use std::alloc::Global;
+use std::cell::Cell;
+use std::io;
+use std::process::Abort;
+use std::time::{Clock, Duration};
+use velo_logtext::Text;
+use velo_program::{ExploreProgress, Progress};
+
+/// A clock that is set by hand, in milliseconds.
+#[derive(Drop)]
+struct Hand {
+    millis: Cell<u64>,
+}
+
+impl Clock for Hand {
+    fn monotonic(&self) -> io::Result<Duration> {
+        Ok(Duration::from_millis(self.millis.get()))
+    }
+
+    fn since_1970(&self) -> io::Result<Duration> {
+        self.monotonic()
+    }
+}
+
+/// Whether standard error is a terminal, whether progress is told always, and what is told of the levels below.
+const MANNERS: [(bool, bool, &str); 4] = [
+    (
+        true,
+        false,
+        "\rlevels 3 states 90, 45 a second\x1b[K\rlevels 5 states 630, 300 a second\x1b[K\r\x1b[K",
+    ),
+    (
+        true,
+        true,
+        "\rlevels 1 states 5, 5000 a second\x1b[K\rlevels 2 states 30, 30 a second\x1b[K\rlevels 3 states 90, 45 a second\x1b[K\rlevels 5 states 630, 300 a second\x1b[K\r\x1b[K",
+    ),
+    (false, false, ""),
+    (
+        false,
+        true,
+        "levels 1 states 5, 5000 a second\nlevels 4 states 300, 146 a second\n",
+    ),
+];
+
+/// Levels: how long the search has taken, in milliseconds, and how many states it has looked at.
+const LEVELS: [(u64, u64); 5] = [(1, 5), (1000, 30), (2000, 90), (2050, 300), (2100, 630)];
+
+/// Compares what is told of the levels. Behind the end nothing is.
+fn compare(rt: &impl Abort, alloc: Global, is_terminal: bool, always: bool, text: &str) {
+    let clock = Hand {
+        millis: Cell::new(7),
+    };
+    let mut line = ProgressLine::new(&clock, alloc, Text::new(alloc), is_terminal);
+    line.begin(always);
+    let mut levels = 0;
+    for (millis, states) in LEVELS {
+        clock.millis.set(7 + millis);
+        levels += 1;
+        line.level_done(levels, states);
+    }
+    line.end();
+    line.level_done(9, 9);
+    assert_eq!(rt; line.sink.as_slice(), text.as_bytes());
+    drop(line);
+    drop(clock);
+}
+
+#[test]
+fn progress_is_told_in_time(rt: HostRuntime) {
+    for (is_terminal, always, text) in MANNERS {
+        compare(&rt, rt.alloc(), is_terminal, always, text);
+    }
+}
+
+/// Modes and devices, with whether they are of terminals: of a pseudo one, a console, the null device, a disk, a file.
+const DEVICES: [(u32, u64, bool); 6] = [
+    (0o020_620, 136 << 8 | 2, true),
+    (0o020_620, 4 << 8 | 64, true),
+    (0o020_666, 1 << 8 | 3, false),
+    (0o060_660, 8 << 8, false),
+    (0o100_644, 0, false),
+    (0o010_600, 136 << 8, false),
+];
+
+#[test]
+fn terminals_are_known(rt: HostRuntime) {
+    for (mode, device, is) in DEVICES {
+        assert_eq!(&rt; is_terminal_device(mode, device), is, "{mode} {device}");
+    }
+}
