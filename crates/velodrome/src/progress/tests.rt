@@ -44,8 +44,14 @@ const MANNERS: [(bool, bool, &str); 4] = [
     ),
 ];
 
-/// Levels: how long the search has taken, in milliseconds, and how many states it has looked at.
-const LEVELS: [(u64, u64); 5] = [(1, 5), (1000, 30), (2000, 90), (2050, 300), (2100, 630)];
+/// Levels: the number of each, how long the search has taken, in milliseconds, and how many states it has looked at.
+const LEVELS: [(u64, u64, u64); 5] = [
+    (1, 1, 5),
+    (2, 1000, 30),
+    (3, 2000, 90),
+    (4, 2050, 300),
+    (5, 2100, 630),
+];
 
 /// Compares what is told of the levels. Behind the end nothing is.
 fn compare(rt: &impl Abort, alloc: Global, is_terminal: bool, always: bool, text: &str) {
@@ -54,11 +60,9 @@ fn compare(rt: &impl Abort, alloc: Global, is_terminal: bool, always: bool, text
     };
     let mut line = ProgressLine::new(&clock, alloc, Text::new(alloc), is_terminal);
     line.begin(always);
-    let mut levels = 0;
-    for (millis, states) in LEVELS {
+    for (level, millis, states) in LEVELS {
         clock.millis.set(7 + millis);
-        levels += 1;
-        line.level_done(levels, states);
+        line.level_done(level, states);
     }
     line.end();
     line.level_done(9, 9);
