@@ -1,5 +1,5 @@
 //! The names of a workload are saved behind the log of its run.
-use crate::tests::{Folder, Shown, compare, show};
+use crate::tests::{Shown, compare, show_on};
 use std::alloc::Global;
 use std::io::Write;
 use std::process::Abort;
@@ -388,20 +388,71 @@ fn no_names_without_a_finding(rt: HostRuntime) {
     assert_eq!(rt; (status, calls), (0, 0));
 }
 
+/// A writer that takes all.
+#[derive(Drop)]
+struct Nowhere;
+
+impl Write for Nowhere {
+    fn write(&mut self, piece: &[u8]) -> std::io::Result<usize> {
+        Ok(piece.len())
+    }
+
+    fn flush(&mut self) -> std::io::Result<()> {
+        Ok(())
+    }
+}
+
+/// A log that was saved, at the path `l`, and the names that were saved behind it, at `n`.
+#[derive(Drop)]
+struct Saved<'a> {
+    log: &'a [u8],
+    names: &'a [u8],
+}
+
+impl<'a> Files for Saved<'a> {
+    type Input = Bytes<'a>;
+
+    type StandardInput = Bytes<'a>;
+
+    type Output = WriterSink<Nowhere>;
+
+    fn open(&self, path: &str) -> Option<Bytes<'a>> {
+        if path == "l" {
+            Some(Bytes::new(self.log))
+        } else {
+            Some(Bytes::new(self.names))
+        }
+    }
+
+    fn standard_input(&self) -> Bytes<'a> {
+        Bytes::new(self.log)
+    }
+
+    fn create(&mut self, _path: &str) -> Option<WriterSink<Nowhere>> {
+        None
+    }
+
+    fn close(&mut self, _path: &str, file: WriterSink<Nowhere>) {
+        drop(file);
+    }
+}
+
 /// What a command prints of a log that was saved, by the names that were saved behind it.
 fn print_saved<R: Threads + Wait + Sync>(
     rt: &R,
     alloc: Global,
-    command: &str,
+    command: &'static str,
     shelf: &Shelf,
 ) -> Shown {
-    let log = std::str::from_utf8(shelf.log.as_slice()).unwrap_or("");
-    let names = std::str::from_utf8(shelf.names.as_slice()).unwrap_or("");
-    let files = [("l", log), ("n", names)];
-    let mut folder = Folder::new(alloc, &files, usize::MAX);
+    let mut saved = Saved {
+        log: shelf.log.as_slice(),
+        names: shelf.names.as_slice(),
+    };
     let words = ["velodrome", command, "l", "--names", "n"];
-    let shown = show(rt, &words, &mut folder);
-    drop(folder);
+    let out = Text::new(alloc);
+    let err = Text::new(alloc);
+    let shown = show_on(rt, alloc, &words, &mut saved, out, err);
+    drop(saved);
     shown
 }
 
@@ -427,20 +478,6 @@ fn names_are_read_back(rt: HostRuntime) {
 /// Counts the calls that open a file, and takes no growth itself.
 #[derive(Drop)]
 struct Opened(u32);
-
-/// A writer that takes all.
-#[derive(Drop)]
-struct Nowhere;
-
-impl Write for Nowhere {
-    fn write(&mut self, piece: &[u8]) -> std::io::Result<usize> {
-        Ok(piece.len())
-    }
-
-    fn flush(&mut self) -> std::io::Result<()> {
-        Ok(())
-    }
-}
 
 impl Files for Opened {
     type Input = Bytes<'static>;
