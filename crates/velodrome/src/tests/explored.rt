@@ -105,7 +105,7 @@ static ROWS: [Row; 16] = [
     Row {
         workload: BOTH,
         first: true,
-        out: "events 16\nstates 11\nalarm 0*3 1 0\nstuck open\nrefused open\nevents 8\nthread 0 main 6\nthread 1 a 2\nverdict alarm 4\ntransaction 1\nblame 1 inc\n",
+        out: "events 16\nstates 10\nalarm 0*3 1 0\nstuck open\nrefused open\nevents 8\nthread 0 main 6\nthread 1 a 2\nverdict alarm 4\ntransaction 1\nblame 1 inc\n",
         status: 3,
         ..ASKED
     },
