@@ -51,7 +51,8 @@ impl Held {
 
     /// Takes one more operation of the thread in.
     pub fn take_in(&mut self, kind: Kind)
-        ensures { (before : List Kind) → Tabulates self.old.locks.items (hold_after before) → Tabulates self.new.locks.items (hold_after (before ++ kind ∷ [])) }
+        ensures { (before : List Kind) → Tabulates self.old.locks.items (hold_after before) →
+            Tabulates self.new.locks.items (hold_after (before ++ kind ∷ [])) }
     {
         for lock in 0..self.locks.len() {
             self.locks[lock] = self.locks[lock].after(lock, kind);

@@ -59,7 +59,8 @@ impl Notes {
         locks: usize,
     ) -> Result<(), Memory>
         ensures before { OnOk result ((n : ℕ) (note : Note) → Contains (list_at self.old n) note → Contains (list_at self.new n) note) }
-        ensures there { OnOk result ((i : ℕ) (k : Kind) → slice_get script.now i ≡ Some k → is_private k ≡ false → IsNoted (list_at self.new (list_of k)) thread (take i script.now) k) }
+        ensures there { OnOk result ((i : ℕ) (k : Kind) → slice_get script.now i ≡ Some k → is_private k ≡ false →
+            IsNoted (list_at self.new (list_of k)) thread (take i script.now) k) }
         ensures memory { OnErr result GrowthRefused }
     {
         let mut held = Held::none(alloc, locks)?;

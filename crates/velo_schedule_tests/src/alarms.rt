@@ -1,4 +1,6 @@
 //! The schedules that lead to first alarms, and what is told of the levels.
+ghost use Rattle.std.specs.Prelude.{◌≡◌};
+
 use std::alloc::Global;
 use velo_events::{Config, ThreadId};
 use velo_schedules::{Exploration, Progress, Quiet, explore, replayed};
@@ -10,7 +12,9 @@ fn has_alarm(
     workload: &Workload,
     schedule: &[ThreadId],
     config: Config,
-) -> Option<bool> {
+) -> Option<bool>
+    requires { config.bounds ≡ workload.now.bounds }
+{
     let run = replayed(alloc, workload, schedule, config).ok()?;
     let alarm = run.0.alarm().is_some();
     drop(run);
@@ -24,10 +28,10 @@ fn count_alarms(alloc: Global, text: &str, first: bool) -> Option<(usize, usize)
     let Exploration { alarms, .. } = explore(
         alloc, &workload, 100_000, first, config, &mut Quiet,
     ).ok()?;
-    let mut shown = 0;
+    let mut shown = 0usize;
     for schedule in &alarms {
         if has_alarm(alloc, &workload, schedule, config)? {
-            shown += 1;
+            shown = shown.saturating_add(1);
         }
     }
     Some((alarms.len(), shown))
