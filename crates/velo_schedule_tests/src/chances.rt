@@ -175,7 +175,7 @@ fn given_schedules_are_counted(rt: HostRuntime) {
     let none = blamed_by(rt.alloc(), RACE, &[]);
     assert_eq!(rt; none, Some((0, 0, 0)));
     let some = blamed_by(rt.alloc(), RACE, &["0*3 1*3 0", "", "0*100", "0*3 1*3 0"]);
-    assert_eq!(rt; some, Some((2, 1, 2)));
+    assert_eq!(rt; some, Some((3, 1, 3)));
     let two = blamed_by(
         rt.alloc(),
         TWO,
