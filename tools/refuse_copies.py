@@ -17,20 +17,7 @@ ROOT = os.path.dirname(os.path.dirname(os.path.abspath(__file__)))
 SOURCE = "crates/velo_worker/src/growth.rt"
 CALL = "match sender.clone() {\n        Ok(copy) => Ok(copy),\n"
 REFUSED = "match sender.clone() {\n        Ok(_) => Err(Memory),\n"
-WORKLOAD = """var x
-lock m
-thread main
-fork a
-repeat 1000
-acquire m
-read x
-add 1
-write x
-release m
-done
-join a
-thread a
-repeat 1000
+ROUNDS = """repeat 1000
 acquire m
 read x
 add 1
@@ -38,6 +25,7 @@ write x
 release m
 done
 """
+WORKLOAD = f"var x\nlock m\nthread main\nfork a\n{ROUNDS}join a\nthread a\n{ROUNDS}"
 
 
 def copy_repository(folder):

@@ -1,29 +1,9 @@
 -- Texts one after the other, one more.
 use Rattle.std.proofs.Common.{◌≡◌, ℕ, ◌+◌, List, [], ◌∷◌, ◌++◌, take, refl, sym, ap, ◌∙◌, append_assoc}
-use Rattle.std.specs.Prelude.{map, OnOk, Result, Ok, Err}
+use Rattle.std.specs.Prelude.{OnOk, Result, Ok, Err}
 use Rattle.std.specs.List.{flat_map}
 use Rattle.std.proofs.lemmas.Grind.{flat_map-append}
-use Rattle.std.proofs.lemmas.List.{append-nil, map-append}
-use Rattle.velo_explain.specs.Pieces.{joined}
-use Rattle.velo_audit_text.specs.declared.page.Piece.{Piece}
-use Rattle.velo_audit_text.specs.declared.page.Piece.TheVariants.{Text}
-use Rattle.velo_audit_text.specs.Pieces.{piece_text, pieces_text}
-
--- what is read past the end of some pieces
-abbrev pub no_piece : Piece
-no_piece = Text (record { ref_ptr = (0, 0); now = [] })
-
-joined-append : (xs ys : List (List ℕ)) → joined (xs ++ ys) ≡ joined xs ++ joined ys
-joined-append [] ys = refl
-joined-append (x ∷ xs) ys = ap (λ (t : List ℕ). x ++ t) (joined-append xs ys) ∙ sym (append_assoc x (joined xs) (joined ys))
-
--- pieces
-pub pieces-more : (pieces : List Piece) (i : ℕ) (piece : Piece) → take (i + 1) pieces ≡ take i pieces ++ piece ∷ [] → pieces_text (take i pieces) ++ piece_text piece ≡ pieces_text (take (i + 1) pieces)
-pieces-more pieces i piece is =
-    ap (λ (t : List ℕ). pieces_text (take i pieces) ++ t) (sym (append-nil (piece_text piece)))
-    ∙ sym (joined-append (map piece_text (take i pieces)) (piece_text piece ∷ []))
-    ∙ ap joined (sym (map-append piece_text (take i pieces) (piece ∷ [])))
-    ∙ ap pieces_text (sym is)
+use Rattle.std.proofs.lemmas.List.{append-nil}
 
 -- a text for each of some things
 pub texts-more : {X : Type 0} (text : X → List ℕ) (xs : List X) (i : ℕ) (x : X) → take (i + 1) xs ≡ take i xs ++ x ∷ [] → flat_map text (take i xs) ++ text x ≡ flat_map text (take (i + 1) xs)

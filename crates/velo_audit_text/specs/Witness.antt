@@ -13,9 +13,9 @@ use Rattle.velo_certify.specs.Owners.{event_at}
 use Rattle.velo_explain.specs.declared.evidence.Blame.{Blame}
 use Rattle.velo_explain.specs.declared.evidence.Evidence.{Evidence}
 use Rattle.velo_explain.specs.declared.spans.Span.{Span}
-use Rattle.velo_explain.specs.Pieces.{event_text, block_text, lines_text, joined}
+use Rattle.velo_explain.specs.Pieces.{event_text, block_text, lines_text, joined, name_text, block_name}
 use Rattle.velo_explain.specs.Text.{line_of, numbered, next_number}
-use Rattle.velo_audit_text.specs.Names.{name_text, named, block_name}
+use Rattle.velo_audit_text.specs.Names.{named}
 
 -- "  line 6 `0 wr 0 1` closes a cycle of 2 transactions"
 unfoldable pub closing_text : List Event → ℕ → ℕ → List ℕ

@@ -1,11 +1,9 @@
 //! What an audit tells, as text: what was left out, each label that is not atomic with the witness of its round, and the counts.
 #![tactic(auto)]
 
-mod page;
 mod whole;
 mod witness;
 mod words;
 
-pub use page::Page;
 pub use whole::audit_text;
 pub use words::Asked;

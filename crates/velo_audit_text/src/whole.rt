@@ -12,13 +12,12 @@ ghost use Rattle.velo_audit_text.specs.Text.{optional_witness_text, told_text, a
 ghost use Rattle.velo_audit_text.specs.Witness.{FewAreOpen};
 ghost use Rattle.velo_audit_text.specs.Words.{not_atomic_text};
 
-use crate::page::Page;
 use crate::witness::add_witness;
 use crate::words::{Asked, add_asked, add_counts, add_mark, add_not_atomic};
 use std::alloc::Global;
 use velo_audit::Told;
 use velo_events::{Event, Label, Memory};
-use velo_explain::Evidence;
+use velo_explain::{Evidence, Page};
 use velo_names::Names;
 use velo_traces::{Block, Trace};
 

@@ -5,33 +5,14 @@ ghost use Rattle.velo_events.specs.Refusals.{GrowthRefused};
 ghost use Rattle.velo_events.specs.declared.limits.TheConstants.{MOST_EVENTS};
 ghost use Rattle.velo_explain.specs.Evidence.{AreSpansWithin, AreEdgesWithin, AreBlamesWithin, IsWithin};
 ghost use Rattle.velo_explain.specs.Text.{line_of, numbered, next_number};
-ghost use Rattle.std.specs.Option.{option_copied};
-ghost use Rattle.velo_audit_text.specs.Names.{block_name};
 ghost use Rattle.velo_audit_text.specs.Witness.{closing_text, member_text, stack_at, in_block_text, event_line_text, event_in_blocks_text, order_text, edge_text, blame_text, witness_text, FewAreOpen};
 
-use crate::page::{Page, Piece};
 use std::alloc::Global;
 use velo_certify::EdgeEvents;
-use velo_events::{Event, Kind, MOST_EVENTS, Memory};
-use velo_explain::{Blame, Evidence, Span};
+use velo_events::{Event, MOST_EVENTS, Memory};
+use velo_explain::{Blame, Evidence, Page, Piece, Span, line_of, next_number};
 use velo_names::{NameKind, Names};
 use velo_traces::{Block, open_blocks_in};
-
-/// The number of the line on which a position stands, behind the header on line 1.
-fn line_of(position: usize) -> u64
-    requires { position < MOST_EVENTS }
-    ensures { result ≡ line_of position }
-{
-    position as u64 + 2
-}
-
-/// The number of the transaction that comes after the one at a place of a cycle.
-fn next_number(count: usize, k: usize) -> u64
-    requires { k < count }
-    ensures { result ≡ next_number count k }
-{
-    if k + 1 < count { k as u64 + 2 } else { 1 }
-}
 
 /// Adds the closing event.
 #[tactic(auto, unfolding(crate::specs::Witness::closing_text))]
@@ -57,16 +38,6 @@ fn add_closing(
     ])
 }
 
-/// The name of a transaction, by its first operation, if it is a block that has one.
-fn block_name<'a>(names: &Names<'a>, kind: Kind) -> Option<&'a [u8]>
-    ensures { option_copied result ≡ block_name names.now kind }
-{
-    match kind {
-        Kind::Begin(label) => names.name_of(NameKind::Label, label.0),
-        _ => None,
-    }
-}
-
 /// Adds a transaction of the cycle.
 #[tactic(auto, unfolding(crate::specs::Witness::member_text))]
 fn add_member(
@@ -89,10 +60,10 @@ fn add_member(
         Piece::Number(k as u64 + 1),
         Piece::Text(": thread "),
         Piece::Number(u64::from(first.thread.0)),
-        Piece::Name(names.name_of(NameKind::Thread, u32::from(first.thread.0))),
+        Piece::ThreadName(names, first.thread),
         Piece::Text(", "),
         Piece::Block(first.kind),
-        Piece::Name(block_name(names, first.kind)),
+        Piece::BlockName(names, first.kind),
         Piece::Text(", "),
         Piece::Lines(line_of(span.first), line_of(span.last)),
         Piece::Text("\n"),

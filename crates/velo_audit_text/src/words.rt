@@ -4,8 +4,8 @@ ghost use Rattle.std.specs.List.{flat_map};
 ghost use Rattle.velo_events.specs.Refusals.{GrowthRefused};
 ghost use Rattle.velo_audit_text.specs.Words.{left_out_label_text, left_out_lock_text, left_out_variable_text, asked_text, count_text, not_atomic_text, nobody_text, mark_text};
 
-use crate::page::{Page, Piece};
 use velo_events::{Label, LockId, Memory, VarId};
+use velo_explain::{Page, Piece};
 use velo_names::{NameKind, Names};
 
 /// What was to be left out.

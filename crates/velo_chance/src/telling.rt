@@ -2,7 +2,8 @@
 ghost use Rattle.std.specs.Prelude.{◌≡◌, IfOk, IfSome, OnErr, is_some};
 ghost use Rattle.std.specs.List.Sorted.{IsNonDecreasingBy};
 ghost use Rattle.velo_events.specs.Refusals.{GrowthRefused};
-ghost use Rattle.velo_schedules.specs.Told.{ShowsAlarm, ShowsStuck, ShowsRefusal};
+ghost use Rattle.velo_schedules.specs.Told.{ShowsRefusal};
+ghost use Rattle.velo_shrink.specs.Shown.{Shows};
 ghost use Rattle.velo_chance.specs.Tallies.{IsTold, rank};
 
 use crate::running::try_by_chance;
@@ -13,44 +14,23 @@ use velo_schedules::RefusedRun;
 use velo_shrink::{Goal, MOST_TRIES, shrink};
 use velo_workload::Workload;
 
-/// A simple schedule with an alarm, if there is one.
-fn simple_alarm(
+/// A simple schedule that shows the same, if there is one.
+fn simple_schedule(
     alloc: Global,
     workload: &Workload,
-    alarm: Option<Vec<ThreadId>>,
+    goal: Goal,
+    found: Option<Vec<ThreadId>>,
     config: Config,
 ) -> Result<Option<Vec<ThreadId>>, Memory>
     requires bounds { config.bounds ≡ workload.now.bounds }
-    requires shows { IfSome alarm (λ schedule. ShowsAlarm workload.now config schedule.items) }
-    ensures some { IfOk result (λ simple. is_some simple ≡ is_some alarm) }
-    ensures shows { IfOk result (λ simple. IfSome simple (λ schedule. ShowsAlarm workload.now config schedule.items)) }
+    requires shows { IfSome found (Shows workload.now config goal) }
+    ensures some { IfOk result (λ simple. is_some simple ≡ is_some found) }
+    ensures shows { IfOk result (λ simple. IfSome simple (Shows workload.now config goal)) }
     ensures memory { OnErr result GrowthRefused }
 {
-    match alarm {
+    match found {
         Some(schedule) => {
-            let simple = shrink(alloc, workload, Goal::Alarm, schedule, MOST_TRIES, config)?;
-            Ok(Some(simple))
-        }
-        None => Ok(None),
-    }
-}
-
-/// A simple schedule that is stuck, if there is one.
-fn simple_deadlock(
-    alloc: Global,
-    workload: &Workload,
-    stuck: Option<Vec<ThreadId>>,
-    config: Config,
-) -> Result<Option<Vec<ThreadId>>, Memory>
-    requires bounds { config.bounds ≡ workload.now.bounds }
-    requires shows { IfSome stuck (λ schedule. ShowsStuck workload.now config schedule.items) }
-    ensures some { IfOk result (λ simple. is_some simple ≡ is_some stuck) }
-    ensures shows { IfOk result (λ simple. IfSome simple (λ schedule. ShowsStuck workload.now config schedule.items)) }
-    ensures memory { OnErr result GrowthRefused }
-{
-    match stuck {
-        Some(schedule) => {
-            let simple = shrink(alloc, workload, Goal::Stuck, schedule, MOST_TRIES, config)?;
+            let simple = shrink(alloc, workload, goal, schedule, MOST_TRIES, config)?;
             Ok(Some(simple))
         }
         None => Ok(None),
@@ -117,8 +97,8 @@ pub fn explore_by_chance(
         alarms,
         blamed,
     } = try_by_chance(alloc, workload, runs, seed, config)?;
-    let alarm = simple_alarm(alloc, workload, alarm, config)?;
-    let stuck = simple_deadlock(alloc, workload, stuck, config)?;
+    let alarm = simple_schedule(alloc, workload, Goal::Alarm, alarm, config)?;
+    let stuck = simple_schedule(alloc, workload, Goal::Stuck, stuck, config)?;
     let refused = simple_refusal(alloc, workload, refused, config)?;
     Ok(Tally {
         runs,

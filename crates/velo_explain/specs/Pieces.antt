@@ -1,6 +1,7 @@
 -- Pieces of text. Private contracts cite these words.
 use Rattle.std.specs.Prelude.{ℕ, ◌+◌, ◌==◌, if◌then◌else◌, List, [], ◌∷◌, ◌++◌, codes, decimal, map, ◌||◌, Option, Some, None}
 use Rattle.std.specs.List.{flat_map}
+use Rattle.std.specs.Option.{option_copied}
 use Rattle.velo_events.specs.declared.event.Event.{Event}
 use Rattle.velo_events.specs.declared.event.Kind.{Kind}
 use Rattle.velo_events.specs.declared.event.Kind.TheVariants.{Read, Write, Acquire, Release, AcquireShared, ReleaseShared, Begin, End, Fork, Join, Exit}
@@ -8,7 +9,7 @@ use Rattle.velo_logtext.specs.Text.{kind_text}
 use Rattle.velo_names.specs.declared.kind.NameKind.TheVariants as of_name
 use Rattle.velo_names.specs.Names.{NameLists, name_of}
 use Rattle.velo_explain.specs.declared.pieces.Piece.{Piece}
-use Rattle.velo_explain.specs.declared.pieces.Piece.TheVariants.{Text, Number, Words, Block, Lines, Operation, ThreadName, KindName, BlockName, EscapedThread, EscapedKind, EscapedBlock}
+use Rattle.velo_explain.specs.declared.pieces.Piece.TheVariants.{Text, Number, Words, Block, Lines, Name, Operation, ThreadName, KindName, BlockName, EscapedThread, EscapedKind, EscapedBlock}
 
 -- an event as it stands in the log
 abbrev pub event_text : Event → List ℕ
@@ -82,6 +83,7 @@ piece_text (Number number) = decimal number
 piece_text (Words event) = event_text event
 piece_text (Block kind) = block_text kind
 piece_text (Lines first last) = lines_text first last
+piece_text (Name name) = name_text (option_copied name)
 piece_text (Operation kind) = kind_text kind
 piece_text (ThreadName names t) = name_text (name_of names.now of_name.Thread t.0)
 piece_text (KindName names kind) = name_text (name_about names.now kind)

@@ -10,14 +10,13 @@ ghost use Rattle.velo_names.specs.declared.kind.NameKind.TheVariants as of_name;
 
 use std::alloc::Global;
 use std::marker::Model;
-use velo_events::growth::reserve;
 use velo_events::{Event, Kind, Memory, ThreadId};
-use velo_logtext::{put_kind, put_number};
+use velo_logtext::{append, append_number, put_kind};
 use velo_names::{NameKind, Names};
 
 /// A piece of text.
 #[derive(Clone, Copy)]
-pub(crate) enum Piece<'a> {
+pub enum Piece<'a> {
     /// A text as it is.
     Text(&'a str),
     /// The digits of a number.
@@ -28,6 +27,8 @@ pub(crate) enum Piece<'a> {
     Block(Kind),
     /// A first and a last line.
     Lines(u64, u64),
+    /// A name behind a space, if there is one.
+    Name(Option<&'a [u8]>),
     /// An operation as it stands in the log.
     Operation(Kind),
     /// The name of a thread behind a space, if it has one.
@@ -93,7 +94,7 @@ impl Model for Page {
 
 impl Page {
     /// No text yet.
-    pub(crate) fn new(alloc: Global) -> Page
+    pub fn new(alloc: Global) -> Page
         ensures { result ≡ [] }
     {
         Page {
@@ -116,11 +117,7 @@ impl Page {
         ensures ok { OnOk result (self.new ≡ self.old ++ bytes.now) }
         ensures memory { OnErr result GrowthRefused }
     {
-        reserve(&mut self.bytes, bytes.len())?;
-        match self.bytes.extend_from_slice(bytes) {
-            Ok(()) => Ok(()),
-            Err(_) => unreachable!(),
-        }
+        append(&mut self.bytes, bytes)
     }
 
     /// Adds the digits of a number.
@@ -128,9 +125,7 @@ impl Page {
         ensures ok { OnOk result (self.new ≡ self.old ++ decimal number) }
         ensures memory { OnErr result GrowthRefused }
     {
-        let mut buffer = [0u8; 20];
-        let end = put_number(&mut buffer, 0, number);
-        self.add_bytes(&buffer[..end])
+        append_number(&mut self.bytes, number)
     }
 
     /// Adds an operation as it stands in the log.
@@ -246,6 +241,7 @@ impl Page {
             Piece::Words(event) => self.add_event(event),
             Piece::Block(kind) => self.add_block(kind),
             Piece::Lines(first, last) => self.add_lines(first, last),
+            Piece::Name(name) => self.add_name(name),
             Piece::Operation(kind) => self.add_operation(kind),
             Piece::ThreadName(names, thread) => self.add_name(thread_name(names, thread)),
             Piece::KindName(names, kind) => self.add_name(name_about(names, kind)),
@@ -260,7 +256,7 @@ impl Page {
     ///
     /// # Errors
     /// `Memory` where a growth was refused.
-    pub(crate) fn add(&mut self, pieces: &[Piece]) -> Result<(), Memory>
+    pub fn add(&mut self, pieces: &[Piece]) -> Result<(), Memory>
         ensures ok { OnOk result (self.new ≡ self.old ++ pieces_text pieces.now) }
         ensures memory { OnErr result GrowthRefused }
     {

@@ -16,7 +16,7 @@ use velo_events::{Event, Kind, MOST_EVENTS, Memory};
 use velo_names::Names;
 
 /// The number of the line on which a position stands, behind the header on line 1.
-pub(crate) fn line_of(position: usize) -> u64
+pub fn line_of(position: usize) -> u64
     requires { position < MOST_EVENTS }
     ensures { result ≡ line_of position }
 {
@@ -24,7 +24,7 @@ pub(crate) fn line_of(position: usize) -> u64
 }
 
 /// The number of the transaction that comes after the one at a place of a cycle.
-pub(crate) fn next_number(count: usize, k: usize) -> u64
+pub fn next_number(count: usize, k: usize) -> u64
     requires { k < count }
     ensures { result ≡ next_number count k }
 {

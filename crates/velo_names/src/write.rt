@@ -1,5 +1,5 @@
 //! The text of names.
-ghost use Rattle.std.specs.Prelude.{◌≡◌, ◌++◌, ◌∷◌, [], length, map, decimal, OnOk, OnErr};
+ghost use Rattle.std.specs.Prelude.{◌≡◌, ◌++◌, ◌∷◌, [], length, map, OnOk, OnErr};
 ghost use Rattle.std.specs.String.{string_bytes};
 ghost use Rattle.velo_events.specs.Refusals.{GrowthRefused};
 ghost use Rattle.velo_names.specs.Line.{kind_text};
@@ -8,20 +8,7 @@ ghost use Rattle.velo_names.specs.Names.{naming_line, list_text, by_place};
 use crate::kind::NameKind;
 use std::alloc::Global;
 use velo_events::Memory;
-use velo_events::growth::reserve;
-use velo_logtext::put_number;
-
-/// Appends bytes.
-fn append(text: &mut Vec<u8>, bytes: &[u8]) -> Result<(), Memory>
-    ensures ok { OnOk result (text.new.items ≡ text.old.items ++ bytes.now) }
-    ensures memory { OnErr result GrowthRefused }
-{
-    reserve(text, bytes.len())?;
-    match text.extend_from_slice(bytes) {
-        Ok(()) => Ok(()),
-        Err(_) => unreachable!(),
-    }
-}
+use velo_logtext::{append, append_number};
 
 /// Appends the word of a kind.
 fn append_kind(text: &mut Vec<u8>, kind: NameKind) -> Result<(), Memory>
@@ -41,11 +28,9 @@ fn append_line(text: &mut Vec<u8>, kind: NameKind, number: u64, name: &[u8]) -> 
     ensures ok { OnOk result (text.new.items ≡ text.old.items ++ naming_line kind (number, name.now)) }
     ensures memory { OnErr result GrowthRefused }
 {
-    let mut buffer = [0u8; 20];
-    let end = put_number(&mut buffer, 0, number);
     append_kind(text, kind)?;
     append(text, b" ")?;
-    append(text, &buffer[..end])?;
+    append_number(text, number)?;
     append(text, b" ")?;
     append(text, name)?;
     append(text, b"\n")

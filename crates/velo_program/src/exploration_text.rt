@@ -1,5 +1,5 @@
 //! The text of what is told of the schedules of a workload.
-ghost use Rattle.std.specs.Prelude.{◌≡◌, ◌++◌, decimal, slice_get, IfOk, OnErr, OnOk};
+ghost use Rattle.std.specs.Prelude.{◌≡◌, ◌++◌, slice_get, IfOk, OnErr, OnOk};
 ghost use Rattle.velo_events.specs.Refusals.{GrowthRefused};
 ghost use Rattle.velo_program.specs.Exploring.{blame_text, blamed_text, finding_text, found_text, label_text, name_text, refused_text, refusal_text, told_text, tried_text};
 
@@ -7,34 +7,11 @@ use crate::fate::number_of;
 use crate::told::{Found, ToBlame, Told, Tried};
 use std::alloc::Global;
 use velo_chance::Blamed;
-use velo_events::growth::reserve;
 use velo_events::{Label, Memory, ThreadId};
-use velo_logtext::put_number;
+use velo_logtext::{append, append_number};
 use velo_schedules::{Finding, RefusalFinding, RefusedRun};
 use velo_turns::append_turns;
 use velo_workload::Workload;
-
-/// Adds bytes.
-fn add_bytes(text: &mut Vec<u8>, bytes: &[u8]) -> Result<(), Memory>
-    ensures ok { OnOk result (text.new.items ≡ text.old.items ++ bytes.now) }
-    ensures memory { OnErr result GrowthRefused }
-{
-    reserve(text, bytes.len())?;
-    match text.extend_from_slice(bytes) {
-        Ok(()) => Ok(()),
-        Err(_) => unreachable!(),
-    }
-}
-
-/// Adds the digits of a number.
-fn add_number(text: &mut Vec<u8>, number: u64) -> Result<(), Memory>
-    ensures ok { OnOk result (text.new.items ≡ text.old.items ++ decimal number) }
-    ensures memory { OnErr result GrowthRefused }
-{
-    let mut buffer = [0u8; 20];
-    let end = put_number(&mut buffer, 0, number);
-    add_bytes(text, &buffer[..end])
-}
 
 /// Adds what stands behind the word of a finding.
 fn add_finding(text: &mut Vec<u8>, finding: &Finding) -> Result<(), Memory>
@@ -43,8 +20,8 @@ fn add_finding(text: &mut Vec<u8>, finding: &Finding) -> Result<(), Memory>
 {
     match finding {
         Finding::Shown(schedule) => append_turns(text, schedule),
-        Finding::Never => add_bytes(text, b" none"),
-        Finding::Open => add_bytes(text, b" open"),
+        Finding::Never => append(text, b" none"),
+        Finding::Open => append(text, b" open"),
     }
 }
 
@@ -56,8 +33,8 @@ fn add_name(text: &mut Vec<u8>, workload: &Workload, thread: ThreadId) -> Result
 {
     match workload.thread_names().get(usize::from(thread.0)) {
         Some(name) => {
-            add_bytes(text, b" ")?;
-            add_bytes(text, name.as_bytes())
+            append(text, b" ")?;
+            append(text, name.as_bytes())
         }
         None => Ok(()),
     }
@@ -69,10 +46,10 @@ fn add_refused(text: &mut Vec<u8>, workload: &Workload, run: &RefusedRun) -> Res
         ≡ text.old.items ++ refused_text workload.now run.now) }
     ensures memory { OnErr result GrowthRefused }
 {
-    add_bytes(text, b" ")?;
-    add_number(text, u64::from(number_of(run.refusal)))?;
-    add_bytes(text, b" thread ")?;
-    add_number(text, u64::from(run.thread.0))?;
+    append(text, b" ")?;
+    append_number(text, u64::from(number_of(run.refusal)))?;
+    append(text, b" thread ")?;
+    append_number(text, u64::from(run.thread.0))?;
     add_name(text, workload, run.thread)?;
     append_turns(text, &run.schedule)
 }
@@ -89,8 +66,8 @@ fn add_refusal(
 {
     match finding {
         RefusalFinding::Shown(run) => add_refused(text, workload, run),
-        RefusalFinding::Never => add_bytes(text, b" none"),
-        RefusalFinding::Open => add_bytes(text, b" open"),
+        RefusalFinding::Never => append(text, b" none"),
+        RefusalFinding::Open => append(text, b" open"),
     }
 }
 
@@ -101,16 +78,16 @@ fn add_tried(text: &mut Vec<u8>, tried: Tried) -> Result<(), Memory>
 {
     match tried {
         Tried::All { events, states } => {
-            add_bytes(text, b"events ")?;
-            add_number(text, events)?;
-            add_bytes(text, b"\nstates ")?;
-            add_number(text, states)
+            append(text, b"events ")?;
+            append_number(text, events)?;
+            append(text, b"\nstates ")?;
+            append_number(text, states)
         }
         Tried::ByChance { seed, runs } => {
-            add_bytes(text, b"seed ")?;
-            add_number(text, seed)?;
-            add_bytes(text, b"\nruns ")?;
-            add_number(text, runs)
+            append(text, b"seed ")?;
+            append_number(text, seed)?;
+            append(text, b"\nruns ")?;
+            append_number(text, runs)
         }
     }
 }
@@ -121,13 +98,13 @@ fn add_found(text: &mut Vec<u8>, workload: &Workload, found: &Found) -> Result<(
         ≡ text.old.items ++ found_text workload.now found.now) }
     ensures memory { OnErr result GrowthRefused }
 {
-    add_bytes(text, b"\nalarm")?;
+    append(text, b"\nalarm")?;
     add_finding(text, &found.alarm)?;
-    add_bytes(text, b"\nstuck")?;
+    append(text, b"\nstuck")?;
     add_finding(text, &found.stuck)?;
-    add_bytes(text, b"\nrefused")?;
+    append(text, b"\nrefused")?;
     add_refusal(text, workload, &found.refused)?;
-    add_bytes(text, b"\n")
+    append(text, b"\n")
 }
 
 /// Adds the name of a label, or its number, if it has none.
@@ -137,8 +114,8 @@ fn add_label(text: &mut Vec<u8>, workload: &Workload, label: Label) -> Result<()
     ensures memory { OnErr result GrowthRefused }
 {
     match workload.label_names().get(label.0 as usize) {
-        Some(name) => add_bytes(text, name.as_bytes()),
-        None => add_number(text, u64::from(label.0)),
+        Some(name) => append(text, name.as_bytes()),
+        None => append_number(text, u64::from(label.0)),
     }
 }
 
@@ -153,13 +130,13 @@ fn add_blamed(
         ≡ text.old.items ++ blamed_text workload.now alarms blamed) }
     ensures memory { OnErr result GrowthRefused }
 {
-    add_bytes(text, b"to blame ")?;
+    append(text, b"to blame ")?;
     add_label(text, workload, blamed.label)?;
-    add_bytes(text, b" (")?;
-    add_number(text, blamed.alarms)?;
-    add_bytes(text, b" of ")?;
-    add_number(text, alarms)?;
-    add_bytes(text, b" alarms)\n")
+    append(text, b" (")?;
+    append_number(text, blamed.alarms)?;
+    append(text, b" of ")?;
+    append_number(text, alarms)?;
+    append(text, b" alarms)\n")
 }
 
 /// Adds the lines of the labels that are to blame.

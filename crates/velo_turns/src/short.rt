@@ -1,35 +1,12 @@
 //! Writing a schedule in as few words as there can be.
-ghost use Rattle.std.specs.Prelude.{◌≡◌, ◌≤◌, ◌<◌, ◌++◌, ◌∷◌, drop, length, decimal, OnOk, OnErr};
+ghost use Rattle.std.specs.Prelude.{◌≡◌, ◌≤◌, ◌<◌, ◌++◌, ◌∷◌, drop, length, OnOk, OnErr};
 ghost use Rattle.velo_events.specs.Refusals.{GrowthRefused};
 ghost use Rattle.velo_turns.specs.Schedule.{spaced, turns_text};
 ghost use Rattle.velo_turns.specs.Short.{longest};
 
 use crate::turns::Turns;
-use velo_events::growth::reserve;
 use velo_events::{Memory, ThreadId};
-use velo_logtext::put_number;
-
-/// Appends bytes.
-fn append(text: &mut Vec<u8>, bytes: &[u8]) -> Result<(), Memory>
-    ensures ok { OnOk result (text.new.items ≡ text.old.items ++ bytes.now) }
-    ensures memory { OnErr result GrowthRefused }
-{
-    reserve(text, bytes.len())?;
-    match text.extend_from_slice(bytes) {
-        Ok(()) => Ok(()),
-        Err(_) => unreachable!(),
-    }
-}
-
-/// Appends the digits of a number.
-fn append_number(text: &mut Vec<u8>, number: u64) -> Result<(), Memory>
-    ensures ok { OnOk result (text.new.items ≡ text.old.items ++ decimal number) }
-    ensures memory { OnErr result GrowthRefused }
-{
-    let mut buffer = [0u8; 20];
-    let end = put_number(&mut buffer, 0, number);
-    append(text, &buffer[..end])
-}
+use velo_logtext::{append, append_number};
 
 /// Appends a word.
 fn append_word(text: &mut Vec<u8>, turns: Turns) -> Result<(), Memory>

@@ -1,38 +1,15 @@
 //! The lines of those who wait.
-ghost use Rattle.std.specs.Prelude.{◌≡◌, ◌<◌, ◌++◌, decimal, map, IfOk, OnErr, OnOk};
+ghost use Rattle.std.specs.Prelude.{◌≡◌, ◌<◌, ◌++◌, map, IfOk, OnErr, OnOk};
 ghost use Rattle.std.specs.String.{string_bytes};
 ghost use Rattle.velo_events.specs.Refusals.{GrowthRefused};
 ghost use Rattle.velo_waits.specs.Waits.{end_text, holder_text, holders_text, lock_text, name_or_number, wait_text, waits_text};
 
 use crate::standing::{holds_alone, is_live, next_statement, shares};
 use std::alloc::Global;
-use velo_events::growth::reserve;
 use velo_events::{LockId, Memory, ThreadId};
-use velo_logtext::put_number;
+use velo_logtext::{append, append_number};
 use velo_workload::{Statement, Workload};
 use velo_world::Closed;
-
-/// Adds bytes.
-fn add_bytes(text: &mut Vec<u8>, bytes: &[u8]) -> Result<(), Memory>
-    ensures ok { OnOk result (text.new.items ≡ text.old.items ++ bytes.now) }
-    ensures memory { OnErr result GrowthRefused }
-{
-    reserve(text, bytes.len())?;
-    match text.extend_from_slice(bytes) {
-        Ok(()) => Ok(()),
-        Err(_) => unreachable!(),
-    }
-}
-
-/// Adds the digits of a number.
-fn add_number(text: &mut Vec<u8>, number: u64) -> Result<(), Memory>
-    ensures ok { OnOk result (text.new.items ≡ text.old.items ++ decimal number) }
-    ensures memory { OnErr result GrowthRefused }
-{
-    let mut buffer = [0u8; 20];
-    let end = put_number(&mut buffer, 0, number);
-    add_bytes(text, &buffer[..end])
-}
 
 /// Adds the name at a number, or the number, where there is none.
 fn add_name(text: &mut Vec<u8>, names: &[String], number: u16) -> Result<(), Memory>
@@ -40,8 +17,8 @@ fn add_name(text: &mut Vec<u8>, names: &[String], number: u16) -> Result<(), Mem
     ensures memory { OnErr result GrowthRefused }
 {
     match names.get(usize::from(number)) {
-        Some(name) => add_bytes(text, name.as_bytes()),
-        None => add_number(text, u64::from(number)),
+        Some(name) => append(text, name.as_bytes()),
+        None => append_number(text, u64::from(number)),
     }
 }
 
@@ -55,7 +32,7 @@ fn add_thread(
     ensures ok { OnOk result (text.new.items ≡ text.old.items ++ words.now ++ name_or_number workload.now.thread_names thread.0) }
     ensures memory { OnErr result GrowthRefused }
 {
-    add_bytes(text, words)?;
+    append(text, words)?;
     add_name(text, workload.thread_names(), u16::from(thread.0))
 }
 
@@ -113,12 +90,12 @@ fn add_lock_wait(
     ensures ok { OnOk result (text.new.items ≡ text.old.items ++ lock_text workload.now closed.now.log thread.0 lock.0) }
     ensures memory { OnErr result GrowthRefused }
 {
-    add_bytes(text, b"waiting: ")?;
+    append(text, b"waiting: ")?;
     add_name(text, workload.thread_names(), u16::from(thread.0))?;
-    add_bytes(text, b" for lock ")?;
+    append(text, b" for lock ")?;
     add_name(text, workload.lock_names(), lock.0)?;
     add_holders(text, workload, closed, lock)?;
-    add_bytes(text, b"\n")
+    append(text, b"\n")
 }
 
 /// Adds the line of a thread that waits for the end of another.
@@ -131,11 +108,11 @@ fn add_end_wait(
     ensures ok { OnOk result (text.new.items ≡ text.old.items ++ end_text workload.now thread.0 other.0) }
     ensures memory { OnErr result GrowthRefused }
 {
-    add_bytes(text, b"waiting: ")?;
+    append(text, b"waiting: ")?;
     add_name(text, workload.thread_names(), u16::from(thread.0))?;
-    add_bytes(text, b" for the end of ")?;
+    append(text, b" for the end of ")?;
     add_name(text, workload.thread_names(), u16::from(other.0))?;
-    add_bytes(text, b"\n")
+    append(text, b"\n")
 }
 
 /// Adds the line of a thread, if it waits.
