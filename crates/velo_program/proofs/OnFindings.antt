@@ -2,7 +2,7 @@
 use Rattle.std.proofs.Common.{◌≡◌, ◌∙◌, ap, append_assoc, arith, inl, inr, refl, subst, sym, take}
 use Rattle.std.proofs.lemmas.List.{append-nil, length-map, length-take}
 use Rattle.std.proofs.lemmas.Bool.{false≢true}
-use Rattle.std.specs.Prelude.{◌≢◌, ◌↔◌, ◌⊎◌, ◌-◌, ◌^◌, ◌≤◌, ◌<◌, ◌++◌, [], ℕ, Bool, true, false, All, List, length, map, min, sum_by, Option, Some, None, Result, Ok, Err, IfOk, IfSome, IsTrue, OnErr, OnOk, is_some}
+use Rattle.std.specs.Prelude.{◌≢◌, ◌↔◌, ◌⊎◌, ◌+◌, ◌-◌, ◌^◌, ◌≤◌, ◌<◌, ◌++◌, [], ℕ, Bool, true, false, All, List, length, map, min, sum_by, Option, Some, None, Result, Ok, Err, IfOk, IfSome, IsTrue, OnErr, OnOk, is_some}
 use Rattle.std.specs.Io.KnownBytes.{Appends}
 use Rattle.std.specs.Borrow.{Bor}
 use Rattle.std.specs.Global.{Vec}
@@ -25,6 +25,8 @@ use Rattle.velo_events.specs.declared.event.Event.{Event}
 use Rattle.velo_events.specs.declared.refusal.Refusal.TheVariants as refusal
 use Rattle.velo_events.specs.Graph.{HasCycle}
 use Rattle.velo_events.specs.Refusals.{GrowthRefused}
+use Rattle.velo_shrink.specs.declared.goal.Goal.{Goal}
+use Rattle.velo_shrink.specs.declared.goal.Goal.TheVariants as goals
 use Rattle.velo_worker.specs.declared.ending.Ending.{Ending}
 use Rattle.velo_worker.specs.declared.ending.Ending.TheVariants as ending
 use Rattle.velo_worker.specs.Counts.{body_events}
@@ -42,7 +44,7 @@ use Rattle.velo_program.specs.Check.{IsOrderOrCycle, IsOutputOf, IsVerdict}
 use Rattle.velo_program.specs.Delivery.{Answer, FailsSaving, IsDelivered, IsDeliveredInTurn, LacksMemory, printing, silent}
 use Rattle.velo_program.specs.Disk.{Store, behind as store_behind}
 use Rattle.velo_program.specs.ByChance.{AreOfRuns, AreSayable, IsBlame, IsBlameOf, IsByChance, IsSayable, IsSayableFinding, IsSayableRefusal, OfRuns, RefusalOfRuns}
-use Rattle.velo_program.specs.Exploring.{AreOfAll, HasFirst, IsExplorationOf, IsExplored, IsFirstReplay, IsPrintedAlone, IsToldBy, IsToldOf, ReportsReplay, fate_by, fate_of_told, first_schedule, most_to_blame, run_of, told_text, waits_behind}
+use Rattle.velo_program.specs.Exploring.{AreOfAll, HasFirst, IsExplorationOf, IsExplored, IsFirstReplay, IsPrintedAlone, IsToldBy, IsToldOf, ReportsReplay, fate_by, fate_of_told, first_schedule, most_to_blame, run_of, schedule_of, told_text, waits_behind}
 use Rattle.velo_program.specs.declared.request.RandomRuns.{RandomRuns}
 use Rattle.velo_program.specs.declared.told.Found.{Found}
 use Rattle.velo_program.specs.declared.told.Told.{Told}
@@ -54,7 +56,7 @@ use Rattle.velo_chance.specs.Tallies.{IsTold, IsTriedBy, rank}
 use Rattle.velo_program.specs.declared.check.Verdict.{Verdict}
 use Rattle.velo_program.specs.declared.check.Verdict.TheVariants as verdict
 use Rattle.velo_program.specs.Fate.{is_alarm}
-use Rattle.velo_program.specs.Findings.{Explores, IsNoMore, IsNoMoreRefusal, IsReplayBy, IsRunOfFirst, IsRefusalSaidFor, IsSaidFor, IsUnshown, Lacks, Puts, PutsBy, ReportsOrLacks, ShowsAlarm, ShowsRefusal, ShowsStuck, TellsNoMore, TellsOrLacks, TellsReplay, TellsFindings, TellsRun, WritesBehind, WritesReport, fate_behind, refused_or_never, shown_or_never, unshown, unshown_refusal}
+use Rattle.velo_program.specs.Findings.{Explores, Has, IsNoMore, IsNoMoreRefusal, IsReplayBy, IsRunOfFirst, IsRunWith, IsRefusalSaidFor, IsSaidFor, Lacks, Puts, PutsBy, ReportsOrLacks, TellsNoMore, TellsOrLacks, TellsReplay, TellsFindings, TellsRun, WritesBehind, WritesReport, fate_behind, first_of, first_shown, left_open, refused_or_never, shown_or_never, unshown, unshown_refusal}
 use Rattle.velo_program.specs.Playing.{AreNamesOf, IsConfigOf, is_unreported, text_of_log, text_of_names}
 use Rattle.velo_program.specs.Reading.{failures_told}
 use Rattle.velo_turns.specs.Short.{short_text}
@@ -102,6 +104,29 @@ unshown_twice : (finding : Finding) → unshown (unshown finding) ≡ unshown fi
 unshown_twice Never = refl
 unshown_twice Open = refl
 unshown_twice (Shown schedule) = refl
+
+unshown_refusal_twice : (finding : RefusalFinding) → unshown_refusal (unshown_refusal finding) ≡ unshown_refusal finding
+unshown_refusal_twice refusals.Never = refl
+unshown_refusal_twice refusals.Open = refl
+unshown_refusal_twice (refusals.Shown run) = refl
+
+-- a goal and its schedule, if there is one
+abbrev goal_or : Goal → Option (Goal × List ThreadId) → Goal
+goal_or goal None = goal
+goal_or goal (Some shown) = shown.0
+
+abbrev schedule_or : List ThreadId → Option (Goal × List ThreadId) → List ThreadId
+schedule_or schedule None = schedule
+schedule_or schedule (Some shown) = shown.1
+
+some_parts : (one other : Goal) (s t : List ThreadId) → ◌≡◌ {A = Option (Goal × List ThreadId)} (Some (one, s)) (Some (other, t)) → (one ≡ other) × (s ≡ t)
+some_parts one other s t is = (ap (goal_or one) is, ap (schedule_or s) is)
+
+no_goal : (goal : Goal) (schedule : List ThreadId) → ◌≡◌ {A = Option (Goal × List ThreadId)} None (Some (goal, schedule)) → ⊥
+no_goal goal schedule is = cc
+
+some_goal : (shown : Goal × List ThreadId) → Some shown ≡ None → ⊥
+some_goal shown is = cc
 
 -- ---- a replay
 
@@ -330,56 +355,48 @@ module _ (program : Program) (config : Config) where
   IsFirst alarm stuck refused ended w =
       (schedule : List ThreadId) × (first_schedule alarm stuck refused ≡ Some schedule) × HasFirst alarm stuck refused ended w × IsReplayBy program config schedule ended w
 
-  alarm_first : (alarm stuck : Finding) (refused : RefusalFinding) (ended : Ending) (w : WorldState) → ShowsAlarm program config alarm ended w → IsFirst alarm stuck refused ended w
-  alarm_first (Shown schedule) stuck refused ended w shows = (schedule.items, refl, shows.1, shows.0)
-  alarm_first Never stuck refused ended w shows = absurd shows
-  alarm_first Open stuck refused ended w shows = absurd shows
-
-  stuck_first : (alarm stuck : Finding) (refused : RefusalFinding) (ended : Ending) (w : WorldState) → IsUnshown alarm → ShowsStuck program config stuck ended w → IsFirst alarm stuck refused ended w
-  stuck_first (Shown schedule) stuck refused ended w none shows = absurd none
-  stuck_first Never (Shown schedule) refused ended w none shows = (schedule.items, refl, shows.1, shows.0)
-  stuck_first Open (Shown schedule) refused ended w none shows = (schedule.items, refl, shows.1, shows.0)
-  stuck_first alarm Never refused ended w none shows = absurd shows
-  stuck_first alarm Open refused ended w none shows = absurd shows
-
-  refusal_first : (alarm stuck : Finding) (refused : RefusalFinding) (ended : Ending) (w : WorldState) → IsUnshown alarm → IsUnshown stuck → ShowsRefusal program config refused ended w → IsFirst alarm stuck refused ended w
-  refusal_first (Shown schedule) stuck refused ended w none nor shows = absurd none
-  refusal_first alarm (Shown schedule) refused ended w none nor shows = absurd nor
-  refusal_first Never Never (refusals.Shown run) ended w none nor shows = (run.schedule.items, refl, shows.1, shows.0)
-  refusal_first Never Open (refusals.Shown run) ended w none nor shows = (run.schedule.items, refl, shows.1, shows.0)
-  refusal_first Open Never (refusals.Shown run) ended w none nor shows = (run.schedule.items, refl, shows.1, shows.0)
-  refusal_first Open Open (refusals.Shown run) ended w none nor shows = (run.schedule.items, refl, shows.1, shows.0)
-  refusal_first alarm stuck refusals.Never ended w none nor shows = absurd shows
-  refusal_first alarm stuck refusals.Open ended w none nor shows = absurd shows
+  goal_first : (alarm stuck : Finding) (refused : RefusalFinding) (goal : Goal) (schedule : List ThreadId) (ended : Ending) (w : WorldState) → first_of alarm stuck refused ≡ Some (goal, schedule)
+      → IsRunWith program config goal schedule ended w → IsFirst alarm stuck refused ended w
+  goal_first (Shown s) stuck refused goal schedule ended w is run =
+      let same = some_parts goals.Alarm goal s.items schedule is in
+      (schedule, ap Some same.1, alarm_cycle w.log run.verdict run.is_verdict (subst (λ (g : Goal). Has g ended run.verdict) (sym same.0) run.has), run.replay)
+  goal_first Never (Shown s) refused goal schedule ended w is run =
+      let same = some_parts goals.Stuck goal s.items schedule is in
+      (schedule, ap Some same.1, subst (λ (g : Goal). Has g ended run.verdict) (sym same.0) run.has, run.replay)
+  goal_first Open (Shown s) refused goal schedule ended w is run =
+      let same = some_parts goals.Stuck goal s.items schedule is in
+      (schedule, ap Some same.1, subst (λ (g : Goal). Has g ended run.verdict) (sym same.0) run.has, run.replay)
+  goal_first Never Never (refusals.Shown r) goal schedule ended w is run =
+      let same = some_parts (goals.Refused r.thread r.refusal) goal r.schedule.items schedule is in
+      (schedule, ap Some same.1, subst (λ (g : Goal). Has g ended run.verdict) (sym same.0) run.has, run.replay)
+  goal_first Never Open (refusals.Shown r) goal schedule ended w is run =
+      let same = some_parts (goals.Refused r.thread r.refusal) goal r.schedule.items schedule is in
+      (schedule, ap Some same.1, subst (λ (g : Goal). Has g ended run.verdict) (sym same.0) run.has, run.replay)
+  goal_first Open Never (refusals.Shown r) goal schedule ended w is run =
+      let same = some_parts (goals.Refused r.thread r.refusal) goal r.schedule.items schedule is in
+      (schedule, ap Some same.1, subst (λ (g : Goal). Has g ended run.verdict) (sym same.0) run.has, run.replay)
+  goal_first Open Open (refusals.Shown r) goal schedule ended w is run =
+      let same = some_parts (goals.Refused r.thread r.refusal) goal r.schedule.items schedule is in
+      (schedule, ap Some same.1, subst (λ (g : Goal). Has g ended run.verdict) (sym same.0) run.has, run.replay)
+  goal_first Never Never refusals.Never goal schedule ended w is run = absurd (no_goal goal schedule is)
+  goal_first Never Never refusals.Open goal schedule ended w is run = absurd (no_goal goal schedule is)
+  goal_first Never Open refusals.Never goal schedule ended w is run = absurd (no_goal goal schedule is)
+  goal_first Never Open refusals.Open goal schedule ended w is run = absurd (no_goal goal schedule is)
+  goal_first Open Never refusals.Never goal schedule ended w is run = absurd (no_goal goal schedule is)
+  goal_first Open Never refusals.Open goal schedule ended w is run = absurd (no_goal goal schedule is)
+  goal_first Open Open refusals.Never goal schedule ended w is run = absurd (no_goal goal schedule is)
+  goal_first Open Open refusals.Open goal schedule ended w is run = absurd (no_goal goal schedule is)
 
   is_first : (x : Found) (ended : Ending) (w : WorldState) → IsFirst x.alarm x.stuck x.refused ended w → IsFirstReplay program config x ended w × HasAlarm w.log
   is_first x ended w h =
       (record { schedule = h.0; told = h.1; replays = h.3.replays; has_first = h.2; cause = h.3.cause; reported = h.3.reported }, h.3.alarm)
 
-  pub first_by_alarm : (x : Found) (ended : Ending) (w : WorldState) → ShowsAlarm program config x.alarm ended w → IsFirstReplay program config x ended w × HasAlarm w.log
-  first_by_alarm x ended w shows = is_first x ended w (alarm_first x.alarm x.stuck x.refused ended w shows)
-
-  pub first_by_stuck : (x : Found) (ended : Ending) (w : WorldState) → IsUnshown x.alarm → ShowsStuck program config x.stuck ended w → IsFirstReplay program config x ended w × HasAlarm w.log
-  first_by_stuck x ended w none shows = is_first x ended w (stuck_first x.alarm x.stuck x.refused ended w none shows)
-
-  pub first_by_refusal : (x : Found) (ended : Ending) (w : WorldState) → IsUnshown x.alarm → IsUnshown x.stuck → ShowsRefusal program config x.refused ended w → IsFirstReplay program config x ended w × HasAlarm w.log
-  first_by_refusal x ended w none nor shows = is_first x ended w (refusal_first x.alarm x.stuck x.refused ended w none nor shows)
-
   -- the run of the first finding
-  pub run_by_alarm : (x : Found) (run : Option (WorldState × Ending)) → is_some run ≡ true
-      → IfSome run (λ run. ShowsAlarm program config x.alarm run.1 run.0) → IsRunOfFirst program config x run
-  run_by_alarm x None is shows = absurd (false≢true is)
-  run_by_alarm x (Some run) is shows = first_by_alarm x run.1 run.0 shows
-
-  pub run_by_stuck : (x : Found) (run : Option (WorldState × Ending)) → IsUnshown x.alarm → is_some run ≡ true
-      → IfSome run (λ run. ShowsStuck program config x.stuck run.1 run.0) → IsRunOfFirst program config x run
-  run_by_stuck x None none is shows = absurd (false≢true is)
-  run_by_stuck x (Some run) none is shows = first_by_stuck x run.1 run.0 none shows
-
-  pub run_by_refusal : (x : Found) (run : Option (WorldState × Ending)) → IsUnshown x.alarm → IsUnshown x.stuck → is_some run ≡ true
-      → IfSome run (λ run. ShowsRefusal program config x.refused run.1 run.0) → IsRunOfFirst program config x run
-  run_by_refusal x None none nor is shows = absurd (false≢true is)
-  run_by_refusal x (Some run) none nor is shows = first_by_refusal x run.1 run.0 none nor shows
+  pub run_of_first : (x : Found) (goal : Goal) (schedule : List ThreadId) (made : Option (WorldState × Ending)) (run : WorldState × Ending) → first_shown x ≡ Some (goal, schedule) → made ≡ Some run
+      → IfSome made (λ run. IsRunWith program config goal schedule run.1 run.0) → IsRunOfFirst program config x (Some run)
+  run_of_first x goal schedule made run is some with_goal =
+      is_first x run.1 run.0 (goal_first x.alarm x.stuck x.refused goal schedule run.1 run.0 is
+      (subst (λ (made : Option (WorldState × Ending)). IfSome made (λ run. IsRunWith program config goal schedule run.1 run.0)) some with_goal))
 
   -- a replay that was made has the bounds of the program
   pub run_bounds : (x : Found) (run : Option (WorldState × Ending)) → config.bounds ≡ program.bounds → IsRunOfFirst program config x run → IfSome run (λ run. run.0.config.bounds ≡ program.bounds)
@@ -395,54 +412,115 @@ module _ (program : Program) (config : Config) where
 pub tells_same : (found : Found) → TellsNoMore found found
 tells_same found = record { alarm = inl refl; stuck = inl refl; refused = inl refl }
 
-pub tells_no_alarm : (found other : Found) (alarm : Finding) → alarm ≡ unshown found.alarm
-    → TellsNoMore (record { alarm = alarm; stuck = found.stuck; refused = found.refused }) other → TellsNoMore found other
-tells_no_alarm found other alarm is less = record { alarm = by less.alarm; stuck = less.stuck; refused = less.refused }
-  where
-    by : IsNoMore alarm other.alarm → IsNoMore found.alarm other.alarm
-    by (inl same) = inr (same ∙ is)
-    by (inr none) = inr (none ∙ (ap unshown is ∙ unshown_twice found.alarm))
+-- one finding less is shown, where the first is left open
+abbrev shown : Finding → ℕ
+shown (Shown schedule) = 1
+shown Never = 0
+shown Open = 0
 
-pub tells_no_deadlock : (found other : Found) (stuck : Finding) → stuck ≡ unshown found.stuck
-    → TellsNoMore (record { alarm = found.alarm; stuck = stuck; refused = found.refused }) other → TellsNoMore found other
-tells_no_deadlock found other stuck is less = record { alarm = less.alarm; stuck = by less.stuck; refused = less.refused }
-  where
-    by : IsNoMore stuck other.stuck → IsNoMore found.stuck other.stuck
-    by (inl same) = inr (same ∙ is)
-    by (inr none) = inr (none ∙ (ap unshown is ∙ unshown_twice found.stuck))
+abbrev shown_refusal : RefusalFinding → ℕ
+shown_refusal (refusals.Shown run) = 1
+shown_refusal refusals.Never = 0
+shown_refusal refusals.Open = 0
 
-pub tells_no_refusal : (found : Found) (refused : RefusalFinding) → refused ≡ unshown_refusal found.refused → TellsNoMore found (record { alarm = found.alarm; stuck = found.stuck; refused = refused })
-tells_no_refusal found refused is = record { alarm = inl refl; stuck = inl refl; refused = inr is }
+abbrev pub all_shown : Found → ℕ
+all_shown x = shown x.alarm + shown x.stuck + shown_refusal x.refused
 
--- the rest tells no more, and so does what tells no more than the rest
-pub told_less : (x y : Found) → ((z : Found) → TellsNoMore y z → TellsNoMore x z) → {A F : Type 0} (told : A → Found) (result : Result A F)
-    → IfOk result (λ a. TellsNoMore y (told a)) → IfOk result (λ a. TellsNoMore x (told a))
-told_less x y less told (Ok a) h = less (told a) h
-told_less x y less told (Err f) h = tt
+abbrev found_of : Finding → Finding → RefusalFinding → Found
+found_of alarm stuck refused = record { alarm = alarm; stuck = stuck; refused = refused }
 
-pub is_unshown : (finding said : Finding) → said ≡ unshown finding → IsUnshown said
-is_unshown Never said is = subst IsUnshown (sym is) tt
-is_unshown Open said is = subst IsUnshown (sym is) tt
-is_unshown (Shown schedule) said is = subst IsUnshown (sym is) tt
+fewer_of : (alarm stuck : Finding) (refused : RefusalFinding) (goal : Goal) (schedule : List ThreadId) → first_of alarm stuck refused ≡ Some (goal, schedule)
+    → all_shown (left_open goal (found_of alarm stuck refused)) < all_shown (found_of alarm stuck refused)
+fewer_of (Shown s) stuck refused goal schedule is =
+    subst (λ (g : Goal). all_shown (left_open g (found_of (Shown s) stuck refused)) < all_shown (found_of (Shown s) stuck refused)) (some_parts goals.Alarm goal s.items schedule is).0 (omega arith)
+fewer_of Never (Shown s) refused goal schedule is =
+    subst (λ (g : Goal). all_shown (left_open g (found_of Never (Shown s) refused)) < all_shown (found_of Never (Shown s) refused)) (some_parts goals.Stuck goal s.items schedule is).0 (omega arith)
+fewer_of Open (Shown s) refused goal schedule is =
+    subst (λ (g : Goal). all_shown (left_open g (found_of Open (Shown s) refused)) < all_shown (found_of Open (Shown s) refused)) (some_parts goals.Stuck goal s.items schedule is).0 (omega arith)
+fewer_of Never Never (refusals.Shown r) goal schedule is =
+    subst (λ (g : Goal). all_shown (left_open g (found_of Never Never (refusals.Shown r))) < all_shown (found_of Never Never (refusals.Shown r))) (some_parts (goals.Refused r.thread r.refusal) goal r.schedule.items schedule is).0 (omega arith)
+fewer_of Never Open (refusals.Shown r) goal schedule is =
+    subst (λ (g : Goal). all_shown (left_open g (found_of Never Open (refusals.Shown r))) < all_shown (found_of Never Open (refusals.Shown r))) (some_parts (goals.Refused r.thread r.refusal) goal r.schedule.items schedule is).0 (omega arith)
+fewer_of Open Never (refusals.Shown r) goal schedule is =
+    subst (λ (g : Goal). all_shown (left_open g (found_of Open Never (refusals.Shown r))) < all_shown (found_of Open Never (refusals.Shown r))) (some_parts (goals.Refused r.thread r.refusal) goal r.schedule.items schedule is).0 (omega arith)
+fewer_of Open Open (refusals.Shown r) goal schedule is =
+    subst (λ (g : Goal). all_shown (left_open g (found_of Open Open (refusals.Shown r))) < all_shown (found_of Open Open (refusals.Shown r))) (some_parts (goals.Refused r.thread r.refusal) goal r.schedule.items schedule is).0 (omega arith)
+fewer_of Never Never refusals.Never goal schedule is = absurd (no_goal goal schedule is)
+fewer_of Never Never refusals.Open goal schedule is = absurd (no_goal goal schedule is)
+fewer_of Never Open refusals.Never goal schedule is = absurd (no_goal goal schedule is)
+fewer_of Never Open refusals.Open goal schedule is = absurd (no_goal goal schedule is)
+fewer_of Open Never refusals.Never goal schedule is = absurd (no_goal goal schedule is)
+fewer_of Open Never refusals.Open goal schedule is = absurd (no_goal goal schedule is)
+fewer_of Open Open refusals.Never goal schedule is = absurd (no_goal goal schedule is)
+fewer_of Open Open refusals.Open goal schedule is = absurd (no_goal goal schedule is)
 
-pub none_first : (alarm stuck : Finding) (refused said : RefusalFinding) → IsUnshown alarm → IsUnshown stuck → said ≡ unshown_refusal refused → first_schedule alarm stuck said ≡ None
-none_first alarm stuck refused said none nor is = ap (first_schedule alarm stuck) is ∙ so alarm stuck refused none nor
-  where
-    so : (alarm stuck : Finding) (refused : RefusalFinding) → IsUnshown alarm → IsUnshown stuck → first_schedule alarm stuck (unshown_refusal refused) ≡ None
-    so (Shown schedule) stuck refused none nor = absurd none
-    so alarm (Shown schedule) refused none nor = absurd nor
-    so Never Never refusals.Never none nor = refl
-    so Never Never refusals.Open none nor = refl
-    so Never Never (refusals.Shown run) none nor = refl
-    so Never Open refusals.Never none nor = refl
-    so Never Open refusals.Open none nor = refl
-    so Never Open (refusals.Shown run) none nor = refl
-    so Open Never refusals.Never none nor = refl
-    so Open Never refusals.Open none nor = refl
-    so Open Never (refusals.Shown run) none nor = refl
-    so Open Open refusals.Never none nor = refl
-    so Open Open refusals.Open none nor = refl
-    so Open Open (refusals.Shown run) none nor = refl
+pub fewer : (x : Found) (goal : Goal) (schedule : List ThreadId) → first_shown x ≡ Some (goal, schedule) → all_shown (left_open goal x) < all_shown x
+fewer x goal schedule is = fewer_of x.alarm x.stuck x.refused goal schedule is
+
+-- what is left tells no more
+open_no_more : (one : Finding) (schedule : Vec ThreadId) → IsNoMore one (Shown schedule) → IsNoMore one Open
+open_no_more one schedule (inl same) = inr (ap unshown same)
+open_no_more one schedule (inr less) = inr (ap unshown less ∙ unshown_twice one)
+
+open_refusal_no_more : (one : RefusalFinding) (run : RefusedRun) → IsNoMoreRefusal one (refusals.Shown run) → IsNoMoreRefusal one refusals.Open
+open_refusal_no_more one run (inl same) = inr (ap unshown_refusal same)
+open_refusal_no_more one run (inr less) = inr (ap unshown_refusal less ∙ unshown_refusal_twice one)
+
+less_of : (one : Found) (alarm stuck : Finding) (refused : RefusalFinding) (goal : Goal) (schedule : List ThreadId) → first_of alarm stuck refused ≡ Some (goal, schedule)
+    → TellsNoMore one (found_of alarm stuck refused) → TellsNoMore one (left_open goal (found_of alarm stuck refused))
+less_of one (Shown s) stuck refused goal schedule is less =
+    subst (λ (g : Goal). TellsNoMore one (left_open g (found_of (Shown s) stuck refused))) (some_parts goals.Alarm goal s.items schedule is).0
+    (record { alarm = open_no_more one.alarm s less.alarm; stuck = less.stuck; refused = less.refused })
+less_of one Never (Shown s) refused goal schedule is less =
+    subst (λ (g : Goal). TellsNoMore one (left_open g (found_of Never (Shown s) refused))) (some_parts goals.Stuck goal s.items schedule is).0
+    (record { alarm = less.alarm; stuck = open_no_more one.stuck s less.stuck; refused = less.refused })
+less_of one Open (Shown s) refused goal schedule is less =
+    subst (λ (g : Goal). TellsNoMore one (left_open g (found_of Open (Shown s) refused))) (some_parts goals.Stuck goal s.items schedule is).0
+    (record { alarm = less.alarm; stuck = open_no_more one.stuck s less.stuck; refused = less.refused })
+less_of one Never Never (refusals.Shown r) goal schedule is less =
+    subst (λ (g : Goal). TellsNoMore one (left_open g (found_of Never Never (refusals.Shown r)))) (some_parts (goals.Refused r.thread r.refusal) goal r.schedule.items schedule is).0
+    (record { alarm = less.alarm; stuck = less.stuck; refused = open_refusal_no_more one.refused r less.refused })
+less_of one Never Open (refusals.Shown r) goal schedule is less =
+    subst (λ (g : Goal). TellsNoMore one (left_open g (found_of Never Open (refusals.Shown r)))) (some_parts (goals.Refused r.thread r.refusal) goal r.schedule.items schedule is).0
+    (record { alarm = less.alarm; stuck = less.stuck; refused = open_refusal_no_more one.refused r less.refused })
+less_of one Open Never (refusals.Shown r) goal schedule is less =
+    subst (λ (g : Goal). TellsNoMore one (left_open g (found_of Open Never (refusals.Shown r)))) (some_parts (goals.Refused r.thread r.refusal) goal r.schedule.items schedule is).0
+    (record { alarm = less.alarm; stuck = less.stuck; refused = open_refusal_no_more one.refused r less.refused })
+less_of one Open Open (refusals.Shown r) goal schedule is less =
+    subst (λ (g : Goal). TellsNoMore one (left_open g (found_of Open Open (refusals.Shown r)))) (some_parts (goals.Refused r.thread r.refusal) goal r.schedule.items schedule is).0
+    (record { alarm = less.alarm; stuck = less.stuck; refused = open_refusal_no_more one.refused r less.refused })
+less_of one Never Never refusals.Never goal schedule is less = absurd (no_goal goal schedule is)
+less_of one Never Never refusals.Open goal schedule is less = absurd (no_goal goal schedule is)
+less_of one Never Open refusals.Never goal schedule is less = absurd (no_goal goal schedule is)
+less_of one Never Open refusals.Open goal schedule is less = absurd (no_goal goal schedule is)
+less_of one Open Never refusals.Never goal schedule is less = absurd (no_goal goal schedule is)
+less_of one Open Never refusals.Open goal schedule is less = absurd (no_goal goal schedule is)
+less_of one Open Open refusals.Never goal schedule is less = absurd (no_goal goal schedule is)
+less_of one Open Open refusals.Open goal schedule is less = absurd (no_goal goal schedule is)
+
+pub tells_less : (one x : Found) (goal : Goal) (schedule : List ThreadId) → first_shown x ≡ Some (goal, schedule) → TellsNoMore one x → TellsNoMore one (left_open goal x)
+tells_less one x goal schedule is less = less_of one x.alarm x.stuck x.refused goal schedule is less
+
+-- where none is shown there is no schedule
+none_of : (alarm stuck : Finding) (refused : RefusalFinding) → first_of alarm stuck refused ≡ None → first_schedule alarm stuck refused ≡ None
+none_of (Shown s) stuck refused is = absurd (some_goal _ is)
+none_of Never (Shown s) refused is = absurd (some_goal _ is)
+none_of Open (Shown s) refused is = absurd (some_goal _ is)
+none_of Never Never (refusals.Shown r) is = absurd (some_goal _ is)
+none_of Never Open (refusals.Shown r) is = absurd (some_goal _ is)
+none_of Open Never (refusals.Shown r) is = absurd (some_goal _ is)
+none_of Open Open (refusals.Shown r) is = absurd (some_goal _ is)
+none_of Never Never refusals.Never is = refl
+none_of Never Never refusals.Open is = refl
+none_of Never Open refusals.Never is = refl
+none_of Never Open refusals.Open is = refl
+none_of Open Never refusals.Never is = refl
+none_of Open Never refusals.Open is = refl
+none_of Open Open refusals.Never is = refl
+none_of Open Open refusals.Open is = refl
+
+pub none_shown : (x : Found) → first_shown x ≡ None → schedule_of x ≡ None
+none_shown x is = none_of x.alarm x.stuck x.refused is
 
 -- ---- the fate
 

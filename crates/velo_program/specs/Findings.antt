@@ -1,5 +1,5 @@
 -- Words of the contracts of an exploration within the crate: how far each step has come.
-use Rattle.std.specs.Prelude.{◌≡◌, ◌⊎◌, ◌++◌, ⊤, ℕ, Bool, false, List, Option, Some, None, Result, Ok, Err}
+use Rattle.std.specs.Prelude.{◌≡◌, ◌⊎◌, ◌++◌, ⊤, ℕ, Bool, true, false, List, Option, Some, None, Result, Ok, Err}
 use Rattle.std.specs.Borrow.{Bor}
 use Rattle.std.specs.Global.{Vec}
 use Rattle.velo_events.specs.declared.config.Config.{Config}
@@ -12,12 +12,16 @@ use Rattle.velo_schedules.specs.declared.finding.Finding.TheVariants.{Shown, Nev
 use Rattle.velo_schedules.specs.declared.finding.RefusalFinding.{RefusalFinding}
 use Rattle.velo_schedules.specs.declared.finding.RefusalFinding.TheVariants as refusals
 use Rattle.velo_schedules.specs.declared.finding.RefusedRun.{RefusedRun}
+use Rattle.velo_shrink.specs.declared.goal.Goal.{Goal}
+use Rattle.velo_shrink.specs.declared.goal.Goal.TheVariants.{Alarm}
+use Rattle.velo_shrink.specs.declared.goal.Goal.TheVariants as goals
 use Rattle.velo_worker.specs.declared.ending.Ending.{Ending}
 use Rattle.velo_worker.specs.declared.ending.Ending.TheVariants.{Refused, Stuck}
 use Rattle.velo_worker.specs.Causes.{EndsByGrowth}
 use Rattle.velo_worker.specs.Schedule.{Replays}
 use Rattle.velo_workload.specs.Program.{Program}
 use Rattle.velo_world.specs.World.{WorldState}
+use Rattle.velo_program.specs.declared.check.Verdict.{Verdict}
 use Rattle.velo_program.specs.declared.fate.Fate.{Fate}
 use Rattle.velo_program.specs.declared.fate.Fate.TheVariants as fate
 use Rattle.velo_program.specs.declared.request.ExploreOptions.{ExploreOptions}
@@ -25,9 +29,10 @@ use Rattle.velo_program.specs.declared.saving.Saving.{Saving}
 use Rattle.velo_program.specs.declared.told.Found.{Found}
 use Rattle.velo_program.specs.declared.told.Told.{Told}
 use Rattle.velo_program.specs.ByChance.{IsSayableFinding, IsSayableRefusal}
-use Rattle.velo_program.specs.Check.{IsOutputOf}
+use Rattle.velo_program.specs.Check.{IsOutputOf, IsVerdict}
 use Rattle.velo_program.specs.Delivery.{Answer, FailsToSave, IsDeliveredInTurn, LacksMemory, Saves, SavesPart}
 use Rattle.velo_program.specs.Disk.{Store, behind as store_behind, up_to}
+use Rattle.velo_program.specs.Fate.{is_alarm}
 use Rattle.velo_program.specs.Exploring.{IsExplored, IsFirstReplay, fate_of_told, schedule_of, told_text, waits_behind}
 use Rattle.velo_program.specs.Playing.{AreNamesOf, is_unreported, text_of_log, text_of_names}
 use Rattle.velo_program.specs.Steps.{HasAlarm, IsUnsaved}
@@ -65,22 +70,38 @@ pub record IsReplayBy (program : Program) (config : Config) (schedule : List Thr
   pub reported : is_unreported ended ≡ false
   pub alarm : HasAlarm w.log
 
--- the replay has what the finding shows
-abbrev pub ShowsAlarm : Program → Config → Finding → Ending → WorldState → Type 0
-ShowsAlarm program config (Shown schedule) ended w =
-    IsReplayBy program config schedule.items ended w × HasCycle w.log
-ShowsAlarm program config finding ended w = ⊥
+-- a run that ended so, and has this verdict, has the goal
+abbrev pub Has : Goal → Ending → Verdict → Type 0
+Has Alarm ended verdict = is_alarm verdict ≡ true
+Has goals.Stuck ended verdict = ended ≡ Stuck
+Has (goals.Refused t r) ended verdict = ended ≡ Refused t r
 
-abbrev pub ShowsStuck : Program → Config → Finding → Ending → WorldState → Type 0
-ShowsStuck program config (Shown schedule) ended w =
-    IsReplayBy program config schedule.items ended w × (ended ≡ Stuck)
-ShowsStuck program config finding ended w = ⊥
+-- a replay by the schedule that has the goal
+pub record IsRunWith (program : Program) (config : Config) (goal : Goal)
+    (schedule : List ThreadId) (ended : Ending) (w : WorldState) : Type 0 where
+  pub replay : IsReplayBy program config schedule ended w
+  pub verdict : Verdict
+  pub is_verdict : IsVerdict w.log verdict
+  pub has : Has goal ended verdict
 
-abbrev pub ShowsRefusal : Program → Config → RefusalFinding → Ending → WorldState → Type 0
-ShowsRefusal program config (refusals.Shown run) ended w =
-    IsReplayBy program config run.schedule.items ended w
-    × (ended ≡ Refused run.thread run.refusal)
-ShowsRefusal program config finding ended w = ⊥
+-- the goal of the first finding that is shown, and its schedule
+abbrev pub first_of : Finding → Finding → RefusalFinding → Option (Goal × List ThreadId)
+first_of (Shown schedule) stuck refused = Some (Alarm, schedule.items)
+first_of alarm (Shown schedule) refused = Some (goals.Stuck, schedule.items)
+first_of alarm stuck (refusals.Shown run) =
+    Some (goals.Refused run.thread run.refusal, run.schedule.items)
+first_of alarm stuck refused = None
+
+abbrev pub first_shown : Found → Option (Goal × List ThreadId)
+first_shown found = first_of found.alarm found.stuck found.refused
+
+-- the finding of the goal is left open
+abbrev pub left_open : Goal → Found → Found
+left_open Alarm found = record { alarm = Open; stuck = found.stuck; refused = found.refused }
+left_open goals.Stuck found =
+    record { alarm = found.alarm; stuck = Open; refused = found.refused }
+left_open (goals.Refused t r) found =
+    record { alarm = found.alarm; stuck = found.stuck; refused = refusals.Open }
 
 -- a finding that is not shown again is open
 abbrev pub unshown : Finding → Finding
@@ -90,10 +111,6 @@ unshown finding = Open
 abbrev pub unshown_refusal : RefusalFinding → RefusalFinding
 unshown_refusal refusals.Never = refusals.Never
 unshown_refusal finding = refusals.Open
-
-abbrev pub IsUnshown : Finding → Type 0
-IsUnshown (Shown schedule) = ⊥
-IsUnshown finding = ⊤
 
 -- the one, or what is left of it where it is not shown
 abbrev pub IsNoMore : Finding → Finding → Type 0

@@ -358,18 +358,9 @@ fn show_told<F: Files, O: Sink>(
     ensures { Explores options.now workload.now (store F.disk files.old files.new)
         (writing O.contents O.failures out.old out.new) result }
 {
-    let Told {
-        tried,
-        found,
-        blame,
-    } = told;
-    match first_replay(alloc, workload, config, found) {
-        Ok((found, run)) => {
-            let told = Told {
-                tried,
-                found,
-                blame,
-            };
+    let mut told = told;
+    match first_replay(alloc, workload, config, &mut told.found) {
+        Ok(run) => {
             let fate = tell_findings(alloc, workload, &told, &run, options, files, out);
             drop((told, run));
             fate

@@ -1,12 +1,12 @@
 //! What the schedules of a workload come to, and the replay that is reported.
-ghost use Rattle.std.specs.Prelude.{◌≡◌, ◌<◌, ◌↔◌, All, IfOk, IfSome, IsTrue, OnErr};
+ghost use Rattle.std.specs.Prelude.{◌≡◌, ◌<◌, ◌↔◌, All, IfOk, IfSome, IsNone, IsTrue, None, OnErr, OnOk, Some};
 ghost use Rattle.velo_events.specs.Refusals.{GrowthRefused};
 ghost use Rattle.velo_events.specs.declared.limits.TheConstants.{MOST_THREADS};
 ghost use Rattle.velo_program.specs.ByChance.{IsByChance, IsSayable};
 ghost use Rattle.velo_program.specs.Check.{IsVerdict};
 ghost use Rattle.velo_program.specs.Exploring.{IsExplorationOf, IsToldOf};
-ghost use Rattle.velo_program.specs.Findings.{IsReplayBy, IsRunOfFirst, IsSaidFor, IsRefusalSaidFor, IsUnshown, ShowsAlarm, ShowsRefusal, ShowsStuck};
-ghost use Rattle.velo_program.specs.Findings.{TellsNoMore, refused_or_never, shown_or_never, unshown, unshown_refusal};
+ghost use Rattle.velo_program.specs.Findings.{Has, IsReplayBy, IsRunOfFirst, IsRunWith, IsSaidFor, IsRefusalSaidFor};
+ghost use Rattle.velo_program.specs.Findings.{TellsNoMore, first_shown, left_open, refused_or_never, shown_or_never};
 
 use crate::blaming::blame_of;
 use crate::check::{Verdict, is_alarm, verdict_of};
@@ -17,7 +17,7 @@ use std::alloc::Global;
 use velo_chance::{Tally, explore_by_chance};
 use velo_events::{Config, MOST_THREADS, Memory, ThreadId};
 use velo_schedules::{Exploration, Finding, Progress, RefusalFinding, RefusedRun, explore};
-use velo_shrink::shrink_told;
+use velo_shrink::{Goal, shrink_told};
 use velo_turns::MOST_TURNS;
 use velo_worker::{Ending, replay};
 use velo_workload::Workload;
@@ -214,97 +214,72 @@ fn replay_by(
     Ok((closed, ending, verdict))
 }
 
-/// The replay by the schedule of an alarm, if it has one.
-fn alarm_run(
+/// Whether a run that ended so, and has this verdict, has the goal.
+fn has(goal: Goal, ending: Ending, verdict: Verdict) -> bool
+    ensures { IsTrue result → Has goal ending verdict }
+{
+    match goal {
+        Goal::Alarm => is_alarm(verdict),
+        Goal::Stuck => ending == Ending::Stuck,
+        Goal::Refused(thread, refusal) => ending == Ending::Refused(thread, refusal),
+    }
+}
+
+/// The replay by the schedule, if it has the goal.
+fn run_with(
     alloc: Global,
     workload: &Workload,
     config: Config,
-    alarm: &Finding,
+    goal: Goal,
+    schedule: &[ThreadId],
 ) -> Result<Option<(Closed, Ending)>, Memory>
     requires { config.bounds ≡ workload.now.bounds }
     ensures run { IfOk result (λ run. IfSome run (λ run.
-        ShowsAlarm workload.now config alarm.now run.1 run.0)) }
+        IsRunWith workload.now config goal schedule.now run.1 run.0)) }
     ensures memory { OnErr result GrowthRefused }
 {
-    let Finding::Shown(schedule) = alarm else {
-        return Ok(None);
-    };
     let (closed, ending, verdict) = replay_by(alloc, workload, schedule, config)?;
-    if is_alarm(verdict) {
+    if has(goal, ending, verdict) {
         Ok(Some((closed, ending)))
     } else {
+        drop(closed);
         Ok(None)
     }
 }
 
-/// The replay by the schedule of a deadlock, if it has one.
-fn stuck_run(
-    alloc: Global,
-    workload: &Workload,
-    config: Config,
-    stuck: &Finding,
-) -> Result<Option<(Closed, Ending)>, Memory>
-    requires { config.bounds ≡ workload.now.bounds }
-    ensures run { IfOk result (λ run. IfSome run (λ run.
-        ShowsStuck workload.now config stuck.now run.1 run.0)) }
-    ensures memory { OnErr result GrowthRefused }
+/// The goal of the first finding, of an alarm, else of a deadlock, else of a refusal, and its schedule; if one is shown.
+fn first_shown(found: &Found) -> Option<(Goal, &[ThreadId])>
+    ensures some { IfSome result (λ shown. first_shown found.now ≡ Some (shown.0, shown.1.now)) }
+    ensures none { IsNone result → first_shown found.now ≡ None }
 {
-    let Finding::Shown(schedule) = stuck else {
-        return Ok(None);
-    };
-    let (closed, ending, _) = replay_by(alloc, workload, schedule, config)?;
-    if ending == Ending::Stuck {
-        Ok(Some((closed, ending)))
-    } else {
-        Ok(None)
+    if let Finding::Shown(schedule) = &found.alarm {
+        return Some((Goal::Alarm, schedule.as_slice()));
+    }
+    if let Finding::Shown(schedule) = &found.stuck {
+        return Some((Goal::Stuck, schedule.as_slice()));
+    }
+    match &found.refused {
+        RefusalFinding::Shown(run) => {
+            let goal = Goal::Refused(run.thread, run.refusal);
+            Some((goal, run.schedule.as_slice()))
+        }
+        RefusalFinding::Never | RefusalFinding::Open => None,
     }
 }
 
-/// The replay by the schedule of a refusal, if it has this one.
-fn refused_run(
-    alloc: Global,
-    workload: &Workload,
-    config: Config,
-    refused: &RefusalFinding,
-) -> Result<Option<(Closed, Ending)>, Memory>
-    requires { config.bounds ≡ workload.now.bounds }
-    ensures run { IfOk result (λ run. IfSome run (λ run.
-        ShowsRefusal workload.now config refused.now run.1 run.0)) }
-    ensures memory { OnErr result GrowthRefused }
+/// Leaves the finding of the goal open.
+fn leave_open(found: &mut Found, goal: Goal)
+    ensures { found.new ≡ left_open goal found.old }
 {
-    let RefusalFinding::Shown(run) = refused else {
-        return Ok(None);
-    };
-    let (closed, ending, _) = replay_by(alloc, workload, &run.schedule, config)?;
-    if ending == Ending::Refused(run.thread, run.refusal) {
-        Ok(Some((closed, ending)))
-    } else {
-        Ok(None)
+    match goal {
+        Goal::Alarm => found.alarm = Finding::Open,
+        Goal::Stuck => found.stuck = Finding::Open,
+        Goal::Refused(..) => found.refused = RefusalFinding::Open,
     }
 }
 
-/// The finding, which is open where it was shown.
-fn unshown(finding: Finding) -> Finding
-    ensures { result ≡ unshown finding }
-{
-    match finding {
-        Finding::Never => Finding::Never,
-        Finding::Shown(_) | Finding::Open => Finding::Open,
-    }
-}
-
-/// The finding, which is open where it was shown.
-fn unshown_refusal(finding: RefusalFinding) -> RefusalFinding
-    ensures { result ≡ unshown_refusal finding }
-{
-    match finding {
-        RefusalFinding::Never => RefusalFinding::Never,
-        RefusalFinding::Shown(_) | RefusalFinding::Open => RefusalFinding::Open,
-    }
-}
-
-/// What was found, and the replay of its first finding, if there is one: of an alarm, else of a deadlock, else of a refusal. A
-/// finding that its replay does not have is open. The configuration has to have the workload's bounds.
+/// The replay of the first finding, if there is one: of an alarm, else of a deadlock, else of a refusal. A finding that its
+/// replay does not have is left open. The configuration has to have the workload's bounds.
 ///
 /// # Errors
 /// `Memory` where a growth was refused.
@@ -312,69 +287,18 @@ pub fn first_replay(
     alloc: Global,
     workload: &Workload,
     config: Config,
-    found: Found,
-) -> Result<(Found, Option<(Closed, Ending)>), Memory>
+    found: &mut Found,
+) -> Result<Option<(Closed, Ending)>, Memory>
     requires { config.bounds ≡ workload.now.bounds }
-    ensures told { IfOk result (λ told. TellsNoMore found told.0) }
-    ensures run { IfOk result (λ told. IsRunOfFirst workload.now config told.0 told.1) }
+    ensures told { OnOk result (TellsNoMore found.old found.new) }
+    ensures run { IfOk result (IsRunOfFirst workload.now config found.new) }
     ensures memory { OnErr result GrowthRefused }
 {
-    let run = alarm_run(alloc, workload, config, &found.alarm)?;
-    if run.is_some() {
-        return Ok((found, run));
+    while let Some((goal, schedule)) = first_shown(found) {
+        match run_with(alloc, workload, config, goal, schedule)? {
+            Some(run) => return Ok(Some(run)),
+            None => leave_open(found, goal),
+        }
     }
-    let rest = Found {
-        alarm: unshown(found.alarm),
-        ..found
-    };
-    first_replay_but_alarm(alloc, workload, config, rest)
-}
-
-/// The same where no alarm is shown.
-fn first_replay_but_alarm(
-    alloc: Global,
-    workload: &Workload,
-    config: Config,
-    found: Found,
-) -> Result<(Found, Option<(Closed, Ending)>), Memory>
-    requires bounds { config.bounds ≡ workload.now.bounds }
-    requires no_alarm { IsUnshown found.alarm }
-    ensures told { IfOk result (λ told. TellsNoMore found told.0) }
-    ensures run { IfOk result (λ told. IsRunOfFirst workload.now config told.0 told.1) }
-    ensures memory { OnErr result GrowthRefused }
-{
-    let run = stuck_run(alloc, workload, config, &found.stuck)?;
-    if run.is_some() {
-        return Ok((found, run));
-    }
-    let rest = Found {
-        stuck: unshown(found.stuck),
-        ..found
-    };
-    refusal_replay(alloc, workload, config, rest)
-}
-
-/// The same where no alarm and no deadlock is shown.
-fn refusal_replay(
-    alloc: Global,
-    workload: &Workload,
-    config: Config,
-    found: Found,
-) -> Result<(Found, Option<(Closed, Ending)>), Memory>
-    requires bounds { config.bounds ≡ workload.now.bounds }
-    requires no_alarm { IsUnshown found.alarm }
-    requires no_deadlock { IsUnshown found.stuck }
-    ensures told { IfOk result (λ told. TellsNoMore found told.0) }
-    ensures run { IfOk result (λ told. IsRunOfFirst workload.now config told.0 told.1) }
-    ensures memory { OnErr result GrowthRefused }
-{
-    let run = refused_run(alloc, workload, config, &found.refused)?;
-    if run.is_some() {
-        return Ok((found, run));
-    }
-    let rest = Found {
-        refused: unshown_refusal(found.refused),
-        ..found
-    };
-    Ok((rest, None))
+    Ok(None)
 }

@@ -7,14 +7,14 @@ use Rattle.velo_program.proofs.OnFindings.{has_alarm, run_bounds, still_told, to
 use Rattle.velo_program.proofs.exploring.show_told.Goals as goal
 
 pub tell_findings-fate-requires-clause-bounds : goal.tell_findings-fate-requires-clause-bounds
-tell_findings-fate-requires-clause-bounds g c = run_bounds c.args.workload.now c.args.config c.in-Ok.found c.in-Ok.run' c.requires.bounds c.in-Ok.ensures.run
+tell_findings-fate-requires-clause-bounds g c = run_bounds c.args.workload.now c.args.config c.first_replay.new.found c.in-Ok.run' c.requires.bounds c.in-Ok.ensures.run
 
 pub tell_findings-fate-requires-clause-alarm : goal.tell_findings-fate-requires-clause-alarm
-tell_findings-fate-requires-clause-alarm g c = has_alarm c.args.workload.now c.args.config c.in-Ok.found c.in-Ok.run' c.in-Ok.ensures.run
+tell_findings-fate-requires-clause-alarm g c = has_alarm c.args.workload.now c.args.config c.first_replay.new.found c.in-Ok.run' c.in-Ok.ensures.run
 
 pub returns-in-Ok : goal.returns-in-Ok
 returns-in-Ok g c =
-    let told = record c.args.told { found = c.in-Ok.found } in
+    let told = record c.args.told { found = c.first_replay.new.found } in
     told_found c.args.options.now c.args.workload.now c.args.config told c.in-Ok.run' (store g.F.Files.disk c.args.files.now c.tell_findings-fate.new.files)
     (writing g.O.Sink.contents g.O.Sink.failures c.args.out.now c.tell_findings-fate.new.out) _ c.requires.configured
     (still_told c.args.workload.now c.args.config c.args.options.now c.args.told told refl c.in-Ok.ensures.told refl c.requires.told) c.in-Ok.ensures.run c.tell_findings-fate.ensures

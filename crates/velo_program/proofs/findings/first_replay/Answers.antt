@@ -1,20 +1,23 @@
-use Rattle.std.proofs.Common.{◌∙◌, sym, Option}
-use Rattle.velo_worker.specs.declared.ending.Ending.{Ending}
-use Rattle.velo_world.specs.World.{WorldState}
+use Rattle.std.proofs.Common.{◌<◌, refl, subst, sym}
+use Rattle.velo_program.specs.Findings.{TellsNoMore}
 use Rattle.velo_program.specs.declared.told.Found.{Found}
-use Rattle.velo_program.proofs.OnFindings.{is_unshown, run_by_alarm, tells_no_alarm, tells_same, told_less}
+use Rattle.velo_program.proofs.OnFindings.{all_shown, fewer, none_shown, run_of_first, tells_less, tells_same}
 use Rattle.velo_program.proofs.findings.first_replay.Goals as goal
 
-pub returns-then-is_some-clause-told : goal.returns-then-is_some-clause-told
-returns-then-is_some-clause-told c = tells_same c.args.found
+pub loop-goal-init : goal.loop-goal-init
+loop-goal-init c = tells_same c.args.found.now
 
-pub returns-then-is_some-clause-run : goal.returns-then-is_some-clause-run
-returns-then-is_some-clause-run c = run_by_alarm c.args.workload.now c.args.config c.args.found c.in_ok-run.run' (sym c.is_some.ensures ∙ c.if-is_some.true) c.in_ok-run.ensures.run
+pub returns-in-Some-2-clause-run : goal.returns-in-Some-2-clause-run
+returns-in-Some-2-clause-run c =
+    run_of_first c.args.workload.now c.args.config c.loop-goal.found c.in-Some.goal c.in-Some.schedule.now c.in_ok-run.field-0 c.in-Some-2.run' c.in-Some.ensures.some c.in-Some-2.is c.in_ok-run.ensures.run
 
-pub first_replay_but_alarm-requires-clause-no_alarm : goal.first_replay_but_alarm-requires-clause-no_alarm
-first_replay_but_alarm-requires-clause-no_alarm c = is_unshown c.args.found.alarm _ c.unshown.ensures
+pub loop-goal-smaller : goal.loop-goal-smaller
+loop-goal-smaller c =
+    subst (λ (x : Found). all_shown x < all_shown c.loop-goal.found) (sym c.leave_open.ensures) (fewer c.loop-goal.found c.in-Some.goal c.in-Some.schedule.now c.in-Some.ensures.some)
 
-pub returns-clause-told : goal.returns-clause-told
-returns-clause-told c =
-    told_less c.args.found (record c.args.found { alarm = c.unshown.result }) (λ other. tells_no_alarm c.args.found other c.unshown.result c.unshown.ensures)
-    (λ (t : Found × Option (WorldState × Ending)). t.0) c.first_replay_but_alarm.result c.first_replay_but_alarm.ensures.told
+pub loop-goal-preserved : goal.loop-goal-preserved
+loop-goal-preserved c =
+    subst (TellsNoMore c.args.found.now) (sym c.leave_open.ensures) (tells_less c.args.found.now c.loop-goal.found c.in-Some.goal c.in-Some.schedule.now c.in-Some.ensures.some c.loop-goal.invariant)
+
+pub returns-clause-run : goal.returns-clause-run
+returns-clause-run c = none_shown c.loop-goal.found (c.in_default.ensures.none refl)
