@@ -53,7 +53,9 @@ fn run_once(
     ensures memory { OnErr result GrowthRefused }
 {
     let (closed, ending) = replayed(alloc, workload, schedule, config)?;
-    note(alloc, tally, schedule, ending, closed.alarm())
+    let noted = note(alloc, tally, schedule, ending, closed.alarm());
+    drop(closed);
+    noted
 }
 
 /// Makes a run by each of these schedules, and then in rounds, and tells what they come to. The configuration has to have the

@@ -78,7 +78,10 @@ fn watch_input<I: Source, O: Sink>(
     };
     match follow(&mut watch, options.stop, log, out) {
         Ok(()) => Ok(watch.close()),
-        Err(fault) => Err(fault_of_watch(fault)),
+        Err(fault) => {
+            drop(watch);
+            Err(fault_of_watch(fault))
+        }
     }
 }
 

@@ -31,7 +31,10 @@ pub fn replayed(
 {
     let run = replay(alloc, workload, schedule, config)?;
     match run.1 {
-        Ending::Refused(_, Refusal::Memory) => Err(Memory),
+        Ending::Refused(_, Refusal::Memory) => {
+            drop(run);
+            Err(Memory)
+        }
         _ => Ok(run),
     }
 }

@@ -119,7 +119,9 @@ fn tried(
 {
     let (closed, ending) = replayed(alloc, workload, schedule, config)?;
     budget.spend(schedule.len(), closed.log().len());
-    turns_if_reached(alloc, goal, &closed, ending)
+    let found = turns_if_reached(alloc, goal, &closed, ending);
+    drop(closed);
+    found
 }
 
 /// How often a turn is another thread's than the turn before it.
