@@ -68,7 +68,8 @@ class Binding(unittest.TestCase):
             words = monitor.explanation()
             self.assertGreater(len(words), 4096)
             self.assertIn('closes a cycle of 63 transactions', words)
-            self.assertEqual(words.count('\n'), 2 * 63 + 4)
+            lanes = 1 + 2 * 63
+            self.assertEqual(words.count('\n'), lanes + 2 * 63 + 4)
             self.assertEqual(monitor.report().splitlines()[-2:], ['transaction 125', 'blame none'])
 
     def test_refusals_change_nothing(self):
