@@ -255,7 +255,7 @@ impl Page {
     /// Adds pieces.
     ///
     /// # Errors
-    /// `Memory` where a growth was refused.
+    /// `Memory` where a growth was refused; the text can then have a part of them, and is no more to be used.
     pub fn add(&mut self, pieces: &[Piece]) -> Result<(), Memory>
         ensures ok { OnOk result (self.new ≡ self.old ++ pieces_text pieces.now) }
         ensures memory { OnErr result GrowthRefused }

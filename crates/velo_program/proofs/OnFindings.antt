@@ -56,7 +56,7 @@ use Rattle.velo_chance.specs.Tallies.{IsTold, IsTriedBy, rank}
 use Rattle.velo_program.specs.declared.check.Verdict.{Verdict}
 use Rattle.velo_program.specs.declared.check.Verdict.TheVariants as verdict
 use Rattle.velo_program.specs.Fate.{is_alarm}
-use Rattle.velo_program.specs.Findings.{Explores, Has, IsNoMore, IsNoMoreRefusal, IsReplayBy, IsRunOfFirst, IsRunWith, IsRefusalSaidFor, IsSaidFor, Lacks, Puts, PutsBy, ReportsOrLacks, TellsNoMore, TellsOrLacks, TellsReplay, TellsFindings, TellsRun, WritesBehind, WritesReport, fate_behind, first_of, first_shown, left_open, refused_or_never, shown_or_never, unshown, unshown_refusal}
+use Rattle.velo_program.specs.Findings.{Explores, Has, IsNoMore, IsNoMoreRefusal, IsReplayBy, IsRunFor, IsRunOfFirst, IsRunWith, IsRunWithout, IsRefusalSaidFor, IsSaidFor, Lacks, Puts, PutsBy, ReportsOrLacks, TellsNoMore, TellsOrLacks, TellsReplay, TellsFindings, TellsRun, WritesBehind, WritesReport, fate_behind, first_of, first_shown, left_open, refused_or_never, shown_or_never}
 use Rattle.velo_program.specs.Playing.{AreNamesOf, IsConfigOf, is_unreported, text_of_log, text_of_names}
 use Rattle.velo_program.specs.Reading.{failures_told}
 use Rattle.velo_turns.specs.Short.{short_text}
@@ -99,16 +99,6 @@ said_sayable_refusal finding said (inr none) = subst IsSayableRefusal (sym none.
 are_said : (alarm stuck : Finding) (refused : RefusalFinding) (found : Found) → IsSaidFor alarm found.alarm → IsSaidFor stuck found.stuck → IsRefusalSaidFor refused found.refused → AreSayable found
 are_said alarm stuck refused found said_a said_s said_r =
     record { alarm = said_sayable alarm found.alarm said_a; stuck = said_sayable stuck found.stuck said_s; refused = said_sayable_refusal refused found.refused said_r }
-
-unshown_twice : (finding : Finding) → unshown (unshown finding) ≡ unshown finding
-unshown_twice Never = refl
-unshown_twice Open = refl
-unshown_twice (Shown schedule) = refl
-
-unshown_refusal_twice : (finding : RefusalFinding) → unshown_refusal (unshown_refusal finding) ≡ unshown_refusal finding
-unshown_refusal_twice refusals.Never = refl
-unshown_refusal_twice refusals.Open = refl
-unshown_refusal_twice (refusals.Shown run) = refl
 
 -- a goal and its schedule, if there is one
 abbrev goal_or : Goal → Option (Goal × List ThreadId) → Goal
@@ -231,79 +221,44 @@ module _ (program : Program) (config : Config) where
 
   -- ---- a finding that is not shown again
 
-  unshown_alarm : (finding : Finding) → AlarmTold program config finding → AlarmTold program config (unshown finding)
-  unshown_alarm Never told = told
-  unshown_alarm Open told = tt
-  unshown_alarm (Shown schedule) told = tt
-
-  unshown_stuck : (finding : Finding) → StuckTold program config finding → StuckTold program config (unshown finding)
-  unshown_stuck Never told = told
-  unshown_stuck Open told = tt
-  unshown_stuck (Shown schedule) told = tt
-
-  unshown_refused : (finding : RefusalFinding) → RefusalTold program config finding → RefusalTold program config (unshown_refusal finding)
-  unshown_refused refusals.Never told = told
-  unshown_refused refusals.Open told = tt
-  unshown_refused (refusals.Shown run) told = tt
-
-  sayable_unshown : (finding : Finding) → IsSayableFinding (unshown finding)
-  sayable_unshown Never = tt
-  sayable_unshown Open = tt
-  sayable_unshown (Shown schedule) = tt
-
-  sayable_unshown_refusal : (finding : RefusalFinding) → IsSayableRefusal (unshown_refusal finding)
-  sayable_unshown_refusal refusals.Never = tt
-  sayable_unshown_refusal refusals.Open = tt
-  sayable_unshown_refusal (refusals.Shown run) = tt
-
   -- a finding that is so, is so where it is told as no more
-  no_more_alarm : (one other : Finding) → IsNoMore one other → AlarmTold program config one → AlarmTold program config other
+  no_more_alarm : (one other : Finding) → IsNoMore program config goals.Alarm one other → AlarmTold program config one → AlarmTold program config other
   no_more_alarm one other (inl same) told = subst (AlarmTold program config) (sym same) told
-  no_more_alarm one other (inr less) told = subst (AlarmTold program config) (sym less) (unshown_alarm one told)
+  no_more_alarm one other (inr less) told = subst (AlarmTold program config) (sym less.2) tt
 
-  no_more_stuck : (one other : Finding) → IsNoMore one other → StuckTold program config one → StuckTold program config other
+  no_more_stuck : (one other : Finding) → IsNoMore program config goals.Stuck one other → StuckTold program config one → StuckTold program config other
   no_more_stuck one other (inl same) told = subst (StuckTold program config) (sym same) told
-  no_more_stuck one other (inr less) told = subst (StuckTold program config) (sym less) (unshown_stuck one told)
+  no_more_stuck one other (inr less) told = subst (StuckTold program config) (sym less.2) tt
 
-  no_more_refused : (one other : RefusalFinding) → IsNoMoreRefusal one other → RefusalTold program config one → RefusalTold program config other
+  no_more_refused : (one other : RefusalFinding) → IsNoMoreRefusal program config one other → RefusalTold program config one → RefusalTold program config other
   no_more_refused one other (inl same) told = subst (RefusalTold program config) (sym same) told
-  no_more_refused one other (inr less) told = subst (RefusalTold program config) (sym less) (unshown_refused one told)
+  no_more_refused one other (inr less) told = subst (RefusalTold program config) (sym less.2) tt
 
-  no_more_sayable : (one other : Finding) → IsNoMore one other → IsSayableFinding one → IsSayableFinding other
-  no_more_sayable one other (inl same) said = subst IsSayableFinding (sym same) said
-  no_more_sayable one other (inr less) said = subst IsSayableFinding (sym less) (sayable_unshown one)
+  no_more_sayable : (goal : Goal) (one other : Finding) → IsNoMore program config goal one other → IsSayableFinding one → IsSayableFinding other
+  no_more_sayable goal one other (inl same) said = subst IsSayableFinding (sym same) said
+  no_more_sayable goal one other (inr less) said = subst IsSayableFinding (sym less.2) tt
 
-  no_more_sayable_refusal : (one other : RefusalFinding) → IsNoMoreRefusal one other → IsSayableRefusal one → IsSayableRefusal other
+  no_more_sayable_refusal : (one other : RefusalFinding) → IsNoMoreRefusal program config one other → IsSayableRefusal one → IsSayableRefusal other
   no_more_sayable_refusal one other (inl same) said = subst IsSayableRefusal (sym same) said
-  no_more_sayable_refusal one other (inr less) said = subst IsSayableRefusal (sym less) (sayable_unshown_refusal one)
+  no_more_sayable_refusal one other (inr less) said = subst IsSayableRefusal (sym less.2) tt
 
-  no_more_of_runs : (some : Bool) (shows : List ThreadId → Type 0) (one other : Finding) → IsNoMore one other → OfRuns some shows one → OfRuns some shows other
-  no_more_of_runs some shows one other (inl same) told = subst (OfRuns some shows) (sym same) told
-  no_more_of_runs some shows one other (inr less) told = subst (OfRuns some shows) (sym less) (left one told)
-    where
-      left : (one : Finding) → OfRuns some shows one → OfRuns some shows (unshown one)
-      left Never told = told
-      left Open told = tt
-      left (Shown schedule) told = tt
+  no_more_of_runs : (some : Bool) (shows : List ThreadId → Type 0) (goal : Goal) (one other : Finding) → IsNoMore program config goal one other → OfRuns some shows one → OfRuns some shows other
+  no_more_of_runs some shows goal one other (inl same) told = subst (OfRuns some shows) (sym same) told
+  no_more_of_runs some shows goal one other (inr less) told = subst (OfRuns some shows) (sym less.2) tt
 
-  no_more_refusal_of_runs : (some : Bool) (one other : RefusalFinding) → IsNoMoreRefusal one other → RefusalOfRuns some program config one → RefusalOfRuns some program config other
+  no_more_refusal_of_runs : (some : Bool) (one other : RefusalFinding) → IsNoMoreRefusal program config one other → RefusalOfRuns some program config one → RefusalOfRuns some program config other
   no_more_refusal_of_runs some one other (inl same) told = subst (RefusalOfRuns some program config) (sym same) told
-  no_more_refusal_of_runs some one other (inr less) told = subst (RefusalOfRuns some program config) (sym less) (left one told)
-    where
-      left : (one : RefusalFinding) → RefusalOfRuns some program config one → RefusalOfRuns some program config (unshown_refusal one)
-      left refusals.Never told = told
-      left refusals.Open told = tt
-      left (refusals.Shown run) told = tt
+  no_more_refusal_of_runs some one other (inr less) told = subst (RefusalOfRuns some program config) (sym less.2) tt
 
-  no_more_said : (one other : Found) → TellsNoMore one other → AreSayable one → AreSayable other
+  no_more_said : (one other : Found) → TellsNoMore program config one other → AreSayable one → AreSayable other
   no_more_said one other less said =
       record {
-        alarm = no_more_sayable one.alarm other.alarm less.alarm said.alarm;
-        stuck = no_more_sayable one.stuck other.stuck less.stuck said.stuck;
+        alarm = no_more_sayable _ one.alarm other.alarm less.alarm said.alarm;
+        stuck = no_more_sayable _ one.stuck other.stuck less.stuck said.stuck;
         refused = no_more_sayable_refusal one.refused other.refused less.refused said.refused;
       }
 
-  no_more_of_all : (one other : Found) → TellsNoMore one other → AreOfAll program config one → AreOfAll program config other
+  no_more_of_all : (one other : Found) → TellsNoMore program config one other → AreOfAll program config one → AreOfAll program config other
   no_more_of_all one other less are =
       record {
         alarm = no_more_alarm one.alarm other.alarm less.alarm are.alarm;
@@ -312,17 +267,17 @@ module _ (program : Program) (config : Config) where
         sayable = no_more_said one other less are.sayable;
       }
 
-  no_more_of_some : (runs : List Run) (one other : Found) → TellsNoMore one other → AreOfRuns program config runs one → AreOfRuns program config runs other
+  no_more_of_some : (runs : List Run) (one other : Found) → TellsNoMore program config one other → AreOfRuns program config runs one → AreOfRuns program config runs other
   no_more_of_some runs one other less are =
       record {
-        alarm = no_more_of_runs _ _ one.alarm other.alarm less.alarm are.alarm;
-        stuck = no_more_of_runs _ _ one.stuck other.stuck less.stuck are.stuck;
+        alarm = no_more_of_runs _ _ _ one.alarm other.alarm less.alarm are.alarm;
+        stuck = no_more_of_runs _ _ _ one.stuck other.stuck less.stuck are.stuck;
         refused = no_more_refusal_of_runs _ one.refused other.refused less.refused are.refused;
         sayable = no_more_said one other less are.sayable;
       }
 
   -- what is told of the schedules is so, where its findings are told as no more
-  pub still_told : (options : ExploreOptions) (one other : Told) → other.tried ≡ one.tried → TellsNoMore one.found other.found → other.blame ≡ one.blame
+  pub still_told : (options : ExploreOptions) (one other : Told) → other.tried ≡ one.tried → TellsNoMore program config one.found other.found → other.blame ≡ one.blame
       → IsToldOf program config options one → IsToldOf program config options other
   still_told options one other tried less blame so = by options.random so
     where
@@ -393,10 +348,10 @@ module _ (program : Program) (config : Config) where
 
   -- the run of the first finding
   pub run_of_first : (x : Found) (goal : Goal) (schedule : List ThreadId) (made : Option (WorldState × Ending)) (run : WorldState × Ending) → first_shown x ≡ Some (goal, schedule) → made ≡ Some run
-      → IfSome made (λ run. IsRunWith program config goal schedule run.1 run.0) → IsRunOfFirst program config x (Some run)
+      → IsRunFor program config goal schedule made → IsRunOfFirst program config x (Some run)
   run_of_first x goal schedule made run is some with_goal =
       is_first x run.1 run.0 (goal_first x.alarm x.stuck x.refused goal schedule run.1 run.0 is
-      (subst (λ (made : Option (WorldState × Ending)). IfSome made (λ run. IsRunWith program config goal schedule run.1 run.0)) some with_goal))
+      (subst (IsRunFor program config goal schedule) some with_goal))
 
   -- a replay that was made has the bounds of the program
   pub run_bounds : (x : Found) (run : Option (WorldState × Ending)) → config.bounds ≡ program.bounds → IsRunOfFirst program config x run → IfSome run (λ run. run.0.config.bounds ≡ program.bounds)
@@ -407,10 +362,6 @@ module _ (program : Program) (config : Config) where
   pub has_alarm : (x : Found) (run : Option (WorldState × Ending)) → IsRunOfFirst program config x run → IfSome run (λ run. HasAlarm run.0.log)
   has_alarm x None first = tt
   has_alarm x (Some run) first = first.1
-
--- nothing is left out
-pub tells_same : (found : Found) → TellsNoMore found found
-tells_same found = record { alarm = inl refl; stuck = inl refl; refused = inl refl }
 
 -- one finding less is shown, where the first is left open
 abbrev shown : Finding → ℕ
@@ -426,80 +377,92 @@ shown_refusal refusals.Open = 0
 abbrev pub all_shown : Found → ℕ
 all_shown x = shown x.alarm + shown x.stuck + shown_refusal x.refused
 
-abbrev found_of : Finding → Finding → RefusalFinding → Found
-found_of alarm stuck refused = record { alarm = alarm; stuck = stuck; refused = refused }
+-- the goal is that of one of the three, and so is the schedule
+abbrev IsOneOf : Finding → Finding → RefusalFinding → Goal → List ThreadId → Type 0
+IsOneOf alarm stuck refused goal schedule =
+    ((s : Vec ThreadId) × (alarm ≡ Shown s) × (goal ≡ goals.Alarm) × (schedule ≡ s.items))
+    ⊎ ((s : Vec ThreadId) × (stuck ≡ Shown s) × (goal ≡ goals.Stuck) × (schedule ≡ s.items))
+    ⊎ ((r : RefusedRun) × (refused ≡ refusals.Shown r) × (goal ≡ goals.Refused r.thread r.refusal) × (schedule ≡ r.schedule.items))
 
-fewer_of : (alarm stuck : Finding) (refused : RefusalFinding) (goal : Goal) (schedule : List ThreadId) → first_of alarm stuck refused ≡ Some (goal, schedule)
-    → all_shown (left_open goal (found_of alarm stuck refused)) < all_shown (found_of alarm stuck refused)
-fewer_of (Shown s) stuck refused goal schedule is =
-    subst (λ (g : Goal). all_shown (left_open g (found_of (Shown s) stuck refused)) < all_shown (found_of (Shown s) stuck refused)) (some_parts goals.Alarm goal s.items schedule is).0 (omega arith)
-fewer_of Never (Shown s) refused goal schedule is =
-    subst (λ (g : Goal). all_shown (left_open g (found_of Never (Shown s) refused)) < all_shown (found_of Never (Shown s) refused)) (some_parts goals.Stuck goal s.items schedule is).0 (omega arith)
-fewer_of Open (Shown s) refused goal schedule is =
-    subst (λ (g : Goal). all_shown (left_open g (found_of Open (Shown s) refused)) < all_shown (found_of Open (Shown s) refused)) (some_parts goals.Stuck goal s.items schedule is).0 (omega arith)
-fewer_of Never Never (refusals.Shown r) goal schedule is =
-    subst (λ (g : Goal). all_shown (left_open g (found_of Never Never (refusals.Shown r))) < all_shown (found_of Never Never (refusals.Shown r))) (some_parts (goals.Refused r.thread r.refusal) goal r.schedule.items schedule is).0 (omega arith)
-fewer_of Never Open (refusals.Shown r) goal schedule is =
-    subst (λ (g : Goal). all_shown (left_open g (found_of Never Open (refusals.Shown r))) < all_shown (found_of Never Open (refusals.Shown r))) (some_parts (goals.Refused r.thread r.refusal) goal r.schedule.items schedule is).0 (omega arith)
-fewer_of Open Never (refusals.Shown r) goal schedule is =
-    subst (λ (g : Goal). all_shown (left_open g (found_of Open Never (refusals.Shown r))) < all_shown (found_of Open Never (refusals.Shown r))) (some_parts (goals.Refused r.thread r.refusal) goal r.schedule.items schedule is).0 (omega arith)
-fewer_of Open Open (refusals.Shown r) goal schedule is =
-    subst (λ (g : Goal). all_shown (left_open g (found_of Open Open (refusals.Shown r))) < all_shown (found_of Open Open (refusals.Shown r))) (some_parts (goals.Refused r.thread r.refusal) goal r.schedule.items schedule is).0 (omega arith)
-fewer_of Never Never refusals.Never goal schedule is = absurd (no_goal goal schedule is)
-fewer_of Never Never refusals.Open goal schedule is = absurd (no_goal goal schedule is)
-fewer_of Never Open refusals.Never goal schedule is = absurd (no_goal goal schedule is)
-fewer_of Never Open refusals.Open goal schedule is = absurd (no_goal goal schedule is)
-fewer_of Open Never refusals.Never goal schedule is = absurd (no_goal goal schedule is)
-fewer_of Open Never refusals.Open goal schedule is = absurd (no_goal goal schedule is)
-fewer_of Open Open refusals.Never goal schedule is = absurd (no_goal goal schedule is)
-fewer_of Open Open refusals.Open goal schedule is = absurd (no_goal goal schedule is)
+is_refusal : (alarm stuck : Finding) (r : RefusedRun) (goal : Goal) (schedule : List ThreadId) → ◌≡◌ {A = Option (Goal × List ThreadId)} (Some (goals.Refused r.thread r.refusal, r.schedule.items)) (Some (goal, schedule))
+    → IsOneOf alarm stuck (refusals.Shown r) goal schedule
+is_refusal alarm stuck r goal schedule is =
+    let same = some_parts (goals.Refused r.thread r.refusal) goal r.schedule.items schedule is in
+    inr (inr (r, refl, sym same.0, sym same.1))
+
+is_stuck_of : (alarm : Finding) (s : Vec ThreadId) (refused : RefusalFinding) (goal : Goal) (schedule : List ThreadId) → ◌≡◌ {A = Option (Goal × List ThreadId)} (Some (goals.Stuck, s.items)) (Some (goal, schedule))
+    → IsOneOf alarm (Shown s) refused goal schedule
+is_stuck_of alarm s refused goal schedule is =
+    let same = some_parts goals.Stuck goal s.items schedule is in
+    inr (inl (s, refl, sym same.0, sym same.1))
+
+one_of : (alarm stuck : Finding) (refused : RefusalFinding) (goal : Goal) (schedule : List ThreadId) → first_of alarm stuck refused ≡ Some (goal, schedule) → IsOneOf alarm stuck refused goal schedule
+one_of (Shown s) stuck refused goal schedule is =
+    let same = some_parts goals.Alarm goal s.items schedule is in
+    inl (s, refl, sym same.0, sym same.1)
+one_of Never (Shown s) refused goal schedule is = is_stuck_of Never s refused goal schedule is
+one_of Open (Shown s) refused goal schedule is = is_stuck_of Open s refused goal schedule is
+one_of Never Never (refusals.Shown r) goal schedule is = is_refusal Never Never r goal schedule is
+one_of Never Open (refusals.Shown r) goal schedule is = is_refusal Never Open r goal schedule is
+one_of Open Never (refusals.Shown r) goal schedule is = is_refusal Open Never r goal schedule is
+one_of Open Open (refusals.Shown r) goal schedule is = is_refusal Open Open r goal schedule is
+one_of Never Never refusals.Never goal schedule is = absurd (no_goal goal schedule is)
+one_of Never Never refusals.Open goal schedule is = absurd (no_goal goal schedule is)
+one_of Never Open refusals.Never goal schedule is = absurd (no_goal goal schedule is)
+one_of Never Open refusals.Open goal schedule is = absurd (no_goal goal schedule is)
+one_of Open Never refusals.Never goal schedule is = absurd (no_goal goal schedule is)
+one_of Open Never refusals.Open goal schedule is = absurd (no_goal goal schedule is)
+one_of Open Open refusals.Never goal schedule is = absurd (no_goal goal schedule is)
+one_of Open Open refusals.Open goal schedule is = absurd (no_goal goal schedule is)
 
 pub fewer : (x : Found) (goal : Goal) (schedule : List ThreadId) → first_shown x ≡ Some (goal, schedule) → all_shown (left_open goal x) < all_shown x
-fewer x goal schedule is = fewer_of x.alarm x.stuck x.refused goal schedule is
+fewer x goal schedule is = by (one_of x.alarm x.stuck x.refused goal schedule is)
+  where
+    by : IsOneOf x.alarm x.stuck x.refused goal schedule → all_shown (left_open goal x) < all_shown x
+    by (inl h) = subst (λ (g : Goal). all_shown (left_open g x) < all_shown x) (sym h.2) (omega (arith, ap shown h.1))
+    by (inr (inl h)) = subst (λ (g : Goal). all_shown (left_open g x) < all_shown x) (sym h.2) (omega (arith, ap shown h.1))
+    by (inr (inr h)) = subst (λ (g : Goal). all_shown (left_open g x) < all_shown x) (sym h.2) (omega (arith, ap shown_refusal h.1))
 
--- what is left tells no more
-open_no_more : (one : Finding) (schedule : Vec ThreadId) → IsNoMore one (Shown schedule) → IsNoMore one Open
-open_no_more one schedule (inl same) = inr (ap unshown same)
-open_no_more one schedule (inr less) = inr (ap unshown less ∙ unshown_twice one)
+open_unshown : (schedule : Vec ThreadId) → Open ≡ Shown schedule → ⊥
+open_unshown schedule is = cc
 
-open_refusal_no_more : (one : RefusalFinding) (run : RefusedRun) → IsNoMoreRefusal one (refusals.Shown run) → IsNoMoreRefusal one refusals.Open
-open_refusal_no_more one run (inl same) = inr (ap unshown_refusal same)
-open_refusal_no_more one run (inr less) = inr (ap unshown_refusal less ∙ unshown_refusal_twice one)
+open_refusal_unshown : (run : RefusedRun) → refusals.Open ≡ refusals.Shown run → ⊥
+open_refusal_unshown run is = cc
 
-less_of : (one : Found) (alarm stuck : Finding) (refused : RefusalFinding) (goal : Goal) (schedule : List ThreadId) → first_of alarm stuck refused ≡ Some (goal, schedule)
-    → TellsNoMore one (found_of alarm stuck refused) → TellsNoMore one (left_open goal (found_of alarm stuck refused))
-less_of one (Shown s) stuck refused goal schedule is less =
-    subst (λ (g : Goal). TellsNoMore one (left_open g (found_of (Shown s) stuck refused))) (some_parts goals.Alarm goal s.items schedule is).0
-    (record { alarm = open_no_more one.alarm s less.alarm; stuck = less.stuck; refused = less.refused })
-less_of one Never (Shown s) refused goal schedule is less =
-    subst (λ (g : Goal). TellsNoMore one (left_open g (found_of Never (Shown s) refused))) (some_parts goals.Stuck goal s.items schedule is).0
-    (record { alarm = less.alarm; stuck = open_no_more one.stuck s less.stuck; refused = less.refused })
-less_of one Open (Shown s) refused goal schedule is less =
-    subst (λ (g : Goal). TellsNoMore one (left_open g (found_of Open (Shown s) refused))) (some_parts goals.Stuck goal s.items schedule is).0
-    (record { alarm = less.alarm; stuck = open_no_more one.stuck s less.stuck; refused = less.refused })
-less_of one Never Never (refusals.Shown r) goal schedule is less =
-    subst (λ (g : Goal). TellsNoMore one (left_open g (found_of Never Never (refusals.Shown r)))) (some_parts (goals.Refused r.thread r.refusal) goal r.schedule.items schedule is).0
-    (record { alarm = less.alarm; stuck = less.stuck; refused = open_refusal_no_more one.refused r less.refused })
-less_of one Never Open (refusals.Shown r) goal schedule is less =
-    subst (λ (g : Goal). TellsNoMore one (left_open g (found_of Never Open (refusals.Shown r)))) (some_parts (goals.Refused r.thread r.refusal) goal r.schedule.items schedule is).0
-    (record { alarm = less.alarm; stuck = less.stuck; refused = open_refusal_no_more one.refused r less.refused })
-less_of one Open Never (refusals.Shown r) goal schedule is less =
-    subst (λ (g : Goal). TellsNoMore one (left_open g (found_of Open Never (refusals.Shown r)))) (some_parts (goals.Refused r.thread r.refusal) goal r.schedule.items schedule is).0
-    (record { alarm = less.alarm; stuck = less.stuck; refused = open_refusal_no_more one.refused r less.refused })
-less_of one Open Open (refusals.Shown r) goal schedule is less =
-    subst (λ (g : Goal). TellsNoMore one (left_open g (found_of Open Open (refusals.Shown r)))) (some_parts (goals.Refused r.thread r.refusal) goal r.schedule.items schedule is).0
-    (record { alarm = less.alarm; stuck = less.stuck; refused = open_refusal_no_more one.refused r less.refused })
-less_of one Never Never refusals.Never goal schedule is less = absurd (no_goal goal schedule is)
-less_of one Never Never refusals.Open goal schedule is less = absurd (no_goal goal schedule is)
-less_of one Never Open refusals.Never goal schedule is less = absurd (no_goal goal schedule is)
-less_of one Never Open refusals.Open goal schedule is less = absurd (no_goal goal schedule is)
-less_of one Open Never refusals.Never goal schedule is less = absurd (no_goal goal schedule is)
-less_of one Open Never refusals.Open goal schedule is less = absurd (no_goal goal schedule is)
-less_of one Open Open refusals.Never goal schedule is less = absurd (no_goal goal schedule is)
-less_of one Open Open refusals.Open goal schedule is less = absurd (no_goal goal schedule is)
+module _ (program : Program) (config : Config) where
+  pub tells_same : (found : Found) → TellsNoMore program config found found
+  tells_same found = record { alarm = inl refl; stuck = inl refl; refused = inl refl }
 
-pub tells_less : (one x : Found) (goal : Goal) (schedule : List ThreadId) → first_shown x ≡ Some (goal, schedule) → TellsNoMore one x → TellsNoMore one (left_open goal x)
-tells_less one x goal schedule is less = less_of one x.alarm x.stuck x.refused goal schedule is less
+  -- where it was run and did not come out, the replay does not have the goal
+  pub without : (goal : Goal) (schedule : List ThreadId) (made : Option (WorldState × Ending)) → made ≡ None → IsRunFor program config goal schedule made → IsRunWithout program config goal schedule
+  without goal schedule made is run = subst (IsRunFor program config goal schedule) is run
+
+  open_no_more : (goal : Goal) (one x : Finding) (s : Vec ThreadId) → x ≡ Shown s → IsRunWithout program config goal s.items → IsNoMore program config goal one x → IsNoMore program config goal one Open
+  open_no_more goal one x s is lacks (inl same) = inr (s, sym same ∙ is, refl, lacks)
+  open_no_more goal one x s is lacks (inr less) = absurd (open_unshown s (sym less.2 ∙ is))
+
+  open_refusal_no_more : (one x : RefusalFinding) (r : RefusedRun) → x ≡ refusals.Shown r → IsRunWithout program config (goals.Refused r.thread r.refusal) r.schedule.items
+      → IsNoMoreRefusal program config one x → IsNoMoreRefusal program config one refusals.Open
+  open_refusal_no_more one x r is lacks (inl same) = inr (r, sym same ∙ is, refl, lacks)
+  open_refusal_no_more one x r is lacks (inr less) = absurd (open_refusal_unshown r (sym less.2 ∙ is))
+
+  -- what is left tells no more
+  pub tells_less : (one x : Found) (goal : Goal) (schedule : List ThreadId) → first_shown x ≡ Some (goal, schedule) → TellsNoMore program config one x → IsRunWithout program config goal schedule
+      → TellsNoMore program config one (left_open goal x)
+  tells_less one x goal schedule is less lacks = by (one_of x.alarm x.stuck x.refused goal schedule is)
+    where
+      -- what the goal and the schedule are
+      lacking : (g : Goal) (s : List ThreadId) → goal ≡ g → schedule ≡ s → IsRunWithout program config g s
+      lacking g s is_goal is_schedule = subst (IsRunWithout program config g) is_schedule (subst (λ (g : Goal). IsRunWithout program config g schedule) is_goal lacks)
+
+      left : (g : Goal) → goal ≡ g → TellsNoMore program config one (left_open g x) → TellsNoMore program config one (left_open goal x)
+      left g is_goal left = subst (λ (g : Goal). TellsNoMore program config one (left_open g x)) (sym is_goal) left
+
+      by : IsOneOf x.alarm x.stuck x.refused goal schedule → TellsNoMore program config one (left_open goal x)
+      by (inl h) = left goals.Alarm h.2 (record { alarm = open_no_more goals.Alarm one.alarm x.alarm h.0 h.1 (lacking _ _ h.2 h.3) less.alarm; stuck = less.stuck; refused = less.refused })
+      by (inr (inl h)) = left goals.Stuck h.2 (record { alarm = less.alarm; stuck = open_no_more goals.Stuck one.stuck x.stuck h.0 h.1 (lacking _ _ h.2 h.3) less.stuck; refused = less.refused })
+      by (inr (inr h)) =
+          left (goals.Refused h.0.thread h.0.refusal) h.2 (record { alarm = less.alarm; stuck = less.stuck; refused = open_refusal_no_more one.refused x.refused h.0 h.1 (lacking _ _ h.2 h.3) less.refused })
 
 -- where none is shown there is no schedule
 none_of : (alarm stuck : Finding) (refused : RefusalFinding) → first_of alarm stuck refused ≡ None → first_schedule alarm stuck refused ≡ None

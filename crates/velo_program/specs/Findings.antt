@@ -83,6 +83,22 @@ pub record IsRunWith (program : Program) (config : Config) (goal : Goal)
   pub is_verdict : IsVerdict w.log verdict
   pub has : Has goal ended verdict
 
+-- a replay by the schedule that does not have the goal
+pub record IsRunWithout (program : Program) (config : Config) (goal : Goal)
+    (schedule : List ThreadId) : Type 0 where
+  pub ended : Ending
+  pub world : WorldState
+  pub replay : IsReplayBy program config schedule ended world
+  pub verdict : Verdict
+  pub is_verdict : IsVerdict world.log verdict
+  pub has_not : ¬ Has goal ended verdict
+
+-- the replay by the schedule, if it has the goal
+abbrev pub IsRunFor : Program → Config → Goal → List ThreadId → Option (WorldState × Ending) → Type 0
+IsRunFor program config goal schedule (Some run) =
+    IsRunWith program config goal schedule run.1 run.0
+IsRunFor program config goal schedule None = IsRunWithout program config goal schedule
+
 -- the goal of the first finding that is shown, and its schedule
 abbrev pub first_of : Finding → Finding → RefusalFinding → Option (Goal × List ThreadId)
 first_of (Shown schedule) stuck refused = Some (Alarm, schedule.items)
@@ -102,27 +118,24 @@ left_open goals.Stuck found =
 left_open (goals.Refused t r) found =
     record { alarm = found.alarm; stuck = found.stuck; refused = refusals.Open }
 
--- a finding that is not shown again is open
-abbrev pub unshown : Finding → Finding
-unshown Never = Never
-unshown finding = Open
+-- the finding of the goal; or it is left open, since the replay by its schedule does not have it
+abbrev pub IsNoMore : Program → Config → Goal → Finding → Finding → Type 0
+IsNoMore program config goal one other =
+    (other ≡ one)
+    ⊎ ((schedule : Vec ThreadId) × (one ≡ Shown schedule) × (other ≡ Open)
+    × IsRunWithout program config goal schedule.items)
 
-abbrev pub unshown_refusal : RefusalFinding → RefusalFinding
-unshown_refusal refusals.Never = refusals.Never
-unshown_refusal finding = refusals.Open
+abbrev pub IsNoMoreRefusal : Program → Config → RefusalFinding → RefusalFinding → Type 0
+IsNoMoreRefusal program config one other =
+    (other ≡ one)
+    ⊎ ((run : RefusedRun) × (one ≡ refusals.Shown run) × (other ≡ refusals.Open)
+    × IsRunWithout program config (goals.Refused run.thread run.refusal) run.schedule.items)
 
--- the one, or what is left of it where it is not shown
-abbrev pub IsNoMore : Finding → Finding → Type 0
-IsNoMore one other = (other ≡ one) ⊎ (other ≡ unshown one)
-
-abbrev pub IsNoMoreRefusal : RefusalFinding → RefusalFinding → Type 0
-IsNoMoreRefusal one other = (other ≡ one) ⊎ (other ≡ unshown_refusal one)
-
--- the other tells no more than the one
-pub record TellsNoMore (one other : Found) : Type 0 where
-  pub alarm : IsNoMore one.alarm other.alarm
-  pub stuck : IsNoMore one.stuck other.stuck
-  pub refused : IsNoMoreRefusal one.refused other.refused
+-- the other tells no more than the one, and less only where a replay does not have what was found
+pub record TellsNoMore (program : Program) (config : Config) (one other : Found) : Type 0 where
+  pub alarm : IsNoMore program config Alarm one.alarm other.alarm
+  pub stuck : IsNoMore program config goals.Stuck one.stuck other.stuck
+  pub refused : IsNoMoreRefusal program config one.refused other.refused
 
 -- the replay of the first finding, if there is one
 abbrev pub IsRunOfFirst : Program → Config → Found → Option (WorldState × Ending) → Type 0

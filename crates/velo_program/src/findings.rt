@@ -5,7 +5,7 @@ ghost use Rattle.velo_events.specs.declared.limits.TheConstants.{MOST_THREADS};
 ghost use Rattle.velo_program.specs.ByChance.{IsByChance, IsSayable};
 ghost use Rattle.velo_program.specs.Check.{IsVerdict};
 ghost use Rattle.velo_program.specs.Exploring.{IsExplorationOf, IsToldOf};
-ghost use Rattle.velo_program.specs.Findings.{Has, IsReplayBy, IsRunOfFirst, IsRunWith, IsSaidFor, IsRefusalSaidFor};
+ghost use Rattle.velo_program.specs.Findings.{Has, IsReplayBy, IsRunFor, IsRunOfFirst, IsSaidFor, IsRefusalSaidFor};
 ghost use Rattle.velo_program.specs.Findings.{TellsNoMore, first_shown, left_open, refused_or_never, shown_or_never};
 
 use crate::blaming::blame_of;
@@ -216,7 +216,7 @@ fn replay_by(
 
 /// Whether a run that ended so, and has this verdict, has the goal.
 fn has(goal: Goal, ending: Ending, verdict: Verdict) -> bool
-    ensures { IsTrue result → Has goal ending verdict }
+    ensures { IsTrue result ↔ Has goal ending verdict }
 {
     match goal {
         Goal::Alarm => is_alarm(verdict),
@@ -234,8 +234,7 @@ fn run_with(
     schedule: &[ThreadId],
 ) -> Result<Option<(Closed, Ending)>, Memory>
     requires { config.bounds ≡ workload.now.bounds }
-    ensures run { IfOk result (λ run. IfSome run (λ run.
-        IsRunWith workload.now config goal schedule.now run.1 run.0)) }
+    ensures run { IfOk result (IsRunFor workload.now config goal schedule.now) }
     ensures memory { OnErr result GrowthRefused }
 {
     let (closed, ending, verdict) = replay_by(alloc, workload, schedule, config)?;
@@ -290,7 +289,7 @@ pub fn first_replay(
     found: &mut Found,
 ) -> Result<Option<(Closed, Ending)>, Memory>
     requires { config.bounds ≡ workload.now.bounds }
-    ensures told { OnOk result (TellsNoMore found.old found.new) }
+    ensures told { OnOk result (TellsNoMore workload.now config found.old found.new) }
     ensures run { IfOk result (IsRunOfFirst workload.now config found.new) }
     ensures memory { OnErr result GrowthRefused }
 {
