@@ -456,7 +456,7 @@ module _ (program : Program) (config : Config) where
       lacking g s is_goal is_schedule = subst (IsRunWithout program config g) is_schedule (subst (λ (g : Goal). IsRunWithout program config g schedule) is_goal lacks)
 
       left : (g : Goal) → goal ≡ g → TellsNoMore program config one (left_open g x) → TellsNoMore program config one (left_open goal x)
-      left g is_goal left = subst (λ (g : Goal). TellsNoMore program config one (left_open g x)) (sym is_goal) left
+      left g is_goal h = subst (λ (g : Goal). TellsNoMore program config one (left_open g x)) (sym is_goal) h
 
       by : IsOneOf x.alarm x.stuck x.refused goal schedule → TellsNoMore program config one (left_open goal x)
       by (inl h) = left goals.Alarm h.2 (record { alarm = open_no_more goals.Alarm one.alarm x.alarm h.0 h.1 (lacking _ _ h.2 h.3) less.alarm; stuck = less.stuck; refused = less.refused })
