@@ -93,7 +93,7 @@ pub record IsRunWithout (program : Program) (config : Config) (goal : Goal)
   pub is_verdict : IsVerdict world.log verdict
   pub has_not : ¬ Has goal ended verdict
 
--- the replay by the schedule, if it has the goal
+-- a replay by the schedule, if it has the goal; none, where it does not have it
 abbrev pub IsRunFor : Program → Config → Goal → List ThreadId → Option (WorldState × Ending) → Type 0
 IsRunFor program config goal schedule (Some run) =
     IsRunWith program config goal schedule run.1 run.0
@@ -118,7 +118,8 @@ left_open goals.Stuck found =
 left_open (goals.Refused t r) found =
     record { alarm = found.alarm; stuck = found.stuck; refused = refusals.Open }
 
--- the finding of the goal; or it is left open, since the replay by its schedule does not have it
+-- the finding of the goal as it was; or it was shown and is left open, since a replay by its
+-- schedule does not have the goal
 abbrev pub IsNoMore : Program → Config → Goal → Finding → Finding → Type 0
 IsNoMore program config goal one other =
     (other ≡ one)
