@@ -83,9 +83,9 @@ def ran(words, folder):
     return done.returncode, done.stdout, done.stderr
 
 
-def seen(program, folder, schedule):
+def seen(program, folder, option, schedule):
     """Which of alarm, stuck and refused a replay has."""
-    _, out, err = ran([program, "replay", "w.work", "--schedule", schedule], folder)
+    _, out, err = ran([program, "replay", "w.work", option, schedule], folder)
     ends = {err.split()[0]} & {"stuck", "refused"} if err else set()
     return ends | ({"alarm"} if "\nverdict alarm" in out else set())
 
@@ -103,11 +103,11 @@ def judged(task):
             return "%s%s%s(status %d)" % (text, out, err, status), set()
         found = set()
         for order in interleavings(counts):
-            found |= seen(program, folder, " ".join(map(str, order)))
+            found |= seen(program, folder, "--schedule", " ".join(map(str, order)))
         for kind, said in told.items():
             if (said == "none") == (kind in found):
                 return "%s%s%s: replays say %s" % (text, out, kind, sorted(found)), found
-            if said != "none" and kind not in seen(program, folder, turns_of(kind, said)):
+            if said != "none" and kind not in seen(program, folder, "--turns", turns_of(kind, said)):
                 return "%s%s%s: its own schedule does not show it" % (text, out, kind), found
     return None, found
 

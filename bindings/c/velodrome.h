@@ -33,7 +33,7 @@ typedef struct velodrome {
 #define VELODROME_MOST_BLAMED 32
 #define VELODROME_REPORT_ROOM 4096 /* bytes, always enough for a report */
 
-/* 0: done. 1 to 19: the event is refused. Nothing has changed where it is not 0. */
+/* 0: done. 1 to 19: the event is refused. Where it is not 0 nothing has changed, but for *count with VELODROME_TOO_SHORT. */
 enum velodrome_status {
     VELODROME_DONE = 0,
     VELODROME_HALTED = 1,

@@ -21,7 +21,7 @@ use Rattle.velo_program.specs.declared.request.TheConstants.{DEFAULT_SEED}
 use Rattle.velo_program.specs.declared.request.WatchOptions.{WatchOptions}
 use Rattle.velo_program.specs.declared.request.Request.{Request}
 use Rattle.velo_program.specs.declared.request.Request.TheVariants.{Audit, Carry, Check, Explain, Explore, Replay, Run, Watch}
-use Rattle.velo_command.specs.Asked.{AreLimits, AreRandomRuns, AsksFor, AsksForNothing, IsAudit, IsCarrying, IsCheck, IsExplanation, IsExploring, IsFlag, IsReplay, IsRun, IsSchedule, IsSeed, IsWatch, WritesNumber}
+use Rattle.velo_command.specs.Asked.{AreLimits, AreRandomRuns, AreTurns, AsksFor, AsksForNothing, IsAudit, IsCarrying, IsCheck, IsExplanation, IsExploring, IsFlag, IsReplay, IsRun, IsSchedule, IsSeed, IsWatch, WritesNumber}
 use Rattle.velo_command.specs.CommandLine.{asked_by, faults_of}
 use Rattle.velo_command.proofs.OnLimits.{HasLimit, HasWide, HasWord, MayHave}
 use Rattle.velo_command.proofs.OnRight.{HasLimits, HasSearch, IsRight, faultless_is_right}
@@ -112,18 +112,23 @@ a_run rows word has =
       ),
     )
 
-a_schedule : (word : Text) → (source : ScheduleSource) × IsSchedule word source
+some_turns : (word : Text) → (source : ScheduleSource) × AreTurns word source
 unfolding a_path
-a_schedule [] = (source.Text (a_path []), (refl, λ path e. cc))
-a_schedule (b ∷ rest) =
-    ⊎_elim (λ at. (source.File (a_path rest), ap (λ c. c ∷ rest) at.1)) (λ other. (source.Text (a_path (b ∷ rest)), (refl, λ path e. other.1 (ap (λ xs. get_or xs 0 0) e))))
+some_turns [] = (source.Turns (a_path []), (refl, λ path e. cc))
+some_turns (b ∷ rest) =
+    ⊎_elim (λ at. (source.File (a_path rest), ap (λ c. c ∷ rest) at.1)) (λ other. (source.Turns (a_path (b ∷ rest)), (refl, λ path e. other.1 (ap (λ xs. get_or xs 0 0) e))))
     (eqb_tells b 64)
+
+a_schedule : (turns text : Option Text) → (source : ScheduleSource) × IsSchedule turns text source
+unfolding a_path
+a_schedule (Some turns) text = some_turns turns
+a_schedule None text = (source.Text (a_path (unwrap_or text [])), refl)
 
 a_replay : (rows : List Row) → HasWord (codes "FILE") rows → HasLimits rows → (options : ReplayOptions) × IsReplay rows options
 unfolding a_path
 a_replay rows word has =
     let run = a_run rows word has in
-    let schedule = a_schedule (unwrap_or (first_of (codes "schedule") rows) []) in
+    let schedule = a_schedule (first_of (codes "turns") rows) (first_of (codes "schedule") rows) in
     (record { schedule = schedule.0; run = run.0 }, (schedule.1, run.1))
 
 an_explanation : (rows : List Row) → HasWord (codes "LOG") rows → (options : ExplainOptions) × IsExplanation rows options

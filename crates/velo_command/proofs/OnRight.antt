@@ -215,8 +215,8 @@ run_right words e =
 replay_right : (words : List Text) → level_fault (leaf replay) [] nothing_held words false [] ≡ []
     → HasWord (codes "FILE") (rows_of_leaf replay words) × HasLimits (rows_of_leaf replay words)
 replay_right words e =
-    let level = level_has limits (leaf replay) words refl (makes_word (codes "FILE") refl, (makes_valued (codes "schedule") refl, (makes_flag (codes "stop") refl, (makes_valued (codes "log") refl, (makes_valued (codes "names-out") refl, (makes_events (codes "1048576"), (makes_nodes (codes "1024"), (makes_flag (codes "certificate") refl, (makes_help, tt))))))))) e in
-    (word_there (codes "FILE") (rows_of_leaf replay words) level.passes (level.given.0 refl), limits_there (rows_of_leaf replay words) level.passes (level.defaults.1.1.1.1.1.0 tt) (level.defaults.1.1.1.1.1.1.0 tt))
+    let level = level_has limits (leaf replay) words refl (makes_word (codes "FILE") refl, (makes_valued (codes "schedule") refl, (makes_valued (codes "turns") refl, (makes_flag (codes "stop") refl, (makes_valued (codes "log") refl, (makes_valued (codes "names-out") refl, (makes_events (codes "1048576"), (makes_nodes (codes "1024"), (makes_flag (codes "certificate") refl, (makes_help, tt)))))))))) e in
+    (word_there (codes "FILE") (rows_of_leaf replay words) level.passes (level.given.0 refl), limits_there (rows_of_leaf replay words) level.passes (level.defaults.1.1.1.1.1.1.0 tt) (level.defaults.1.1.1.1.1.1.1.0 tt))
 
 explain_right : (words : List Text) → level_fault (leaf explain) [] nothing_held words false [] ≡ []
     → HasWord (codes "LOG") (rows_of_leaf explain words)

@@ -20,7 +20,7 @@ use Rattle.velo_program.specs.declared.request.ExploreOptions.{ExploreOptions}
 use Rattle.velo_program.specs.declared.request.ScheduleSource.TheVariants as source
 use Rattle.velo_program.specs.declared.request.WatchOptions.{WatchOptions}
 use Rattle.velo_program.specs.declared.request.Request.TheVariants.{Audit, Carry, Check, Explain, Explore, Replay, Run, Watch}
-use Rattle.velo_command.specs.Asked.{AsksFor, IsFlag, IsSchedule, WritesNumber}
+use Rattle.velo_command.specs.Asked.{AreTurns, AsksFor, IsFlag, IsSchedule, WritesNumber}
 use Rattle.velo_command.specs.CommandLine.{asked_by, faults_of}
 use Rattle.velo_command.specs.Together.{given_by}
 
@@ -55,32 +55,76 @@ unfolding asked_by walked
 run_asks options file stop log names events nodes certificate =
     (refl, (ap Some (sym file), search rules, sym log, sym names, search rules, search rules))
 
--- a schedule is one word, and none is the empty one
+-- a schedule is one word, whatever it says
 abbrev replay_words : List Text
-replay_words = codes "velodrome" ∷ codes "replay" ∷ codes "-" ∷ codes "--schedule" ∷ codes "0 1" ∷ []
+replay_words = codes "velodrome" ∷ codes "replay" ∷ codes "-" ∷ codes "--schedule" ∷ codes "@s" ∷ []
 
 replay_is_right : faults_of replay_words ≡ []
 unfolding faults_of walk_fault walked defaults_fault
 replay_is_right = refl
 
-zero_is_no_at : ◌≡◌ {A = ℕ} 48 64 → ⊥
-zero_is_no_at e = omega (arith, e)
-
-replay_asks : (options : ReplayOptions) (text : Bor Text) → options.schedule ≡ source.Text text → text.now ≡ codes "0 1" → options.run.input.now ≡ codes "-" → options.run.stop ≡ false
+replay_asks : (options : ReplayOptions) (text : Bor Text) → options.schedule ≡ source.Text text → text.now ≡ codes "@s" → options.run.input.now ≡ codes "-" → options.run.stop ≡ false
     → options.run.target ≡ None → options.run.names_target ≡ None → options.run.limits.events ≡ 1048576 → options.run.limits.nodes ≡ 1024 → options.run.certificate ≡ false
     → AsksFor (asked_by replay_words) (Replay options)
 unfolding asked_by walked
 replay_asks options text schedule says file stop log names events nodes certificate = (
   refl,
   (
-    subst (IsSchedule (codes "0 1")) (sym schedule) (sym says, λ path e. zero_is_no_at (ap (λ xs. get_or xs 0 0) e)),
+    subst (IsSchedule None (Some (codes "@s"))) (sym schedule) (sym says),
     (ap Some (sym file), search rules, ap (option_map (λ path. path.now)) (sym log), ap (option_map (λ path. path.now)) (sym names), search rules, search rules),
   ),
 )
 
--- a schedule of a file
+replay_gives : given_by (asked_by replay_words) ≡ record { states = false; seed = false; schedule = true }
+unfolding asked_by walked
+replay_gives = refl
+
+-- none is the empty one
+abbrev bare_words : List Text
+bare_words = codes "velodrome" ∷ codes "replay" ∷ codes "w" ∷ []
+
+bare_is_right : faults_of bare_words ≡ []
+unfolding faults_of walk_fault walked defaults_fault
+bare_is_right = refl
+
+bare_asks : (options : ReplayOptions) (text : Bor Text) → options.schedule ≡ source.Text text → text.now ≡ [] → options.run.input.now ≡ codes "w" → options.run.stop ≡ false
+    → options.run.target ≡ None → options.run.names_target ≡ None → options.run.limits.events ≡ 1048576 → options.run.limits.nodes ≡ 1024 → options.run.certificate ≡ false
+    → AsksFor (asked_by bare_words) (Replay options)
+unfolding asked_by walked
+bare_asks options text schedule says file stop log names events nodes certificate = (
+  refl,
+  (
+    subst (IsSchedule None None) (sym schedule) (sym says),
+    (ap Some (sym file), search rules, ap (option_map (λ path. path.now)) (sym log), ap (option_map (λ path. path.now)) (sym names), search rules, search rules),
+  ),
+)
+
+-- turns
+abbrev replay_turns_words : List Text
+replay_turns_words = codes "velodrome" ∷ codes "replay" ∷ codes "w" ∷ codes "--turns=0*2 1" ∷ []
+
+replay_turns_is_right : faults_of replay_turns_words ≡ []
+unfolding faults_of walk_fault walked defaults_fault
+replay_turns_is_right = refl
+
+zero_is_no_at : ◌≡◌ {A = ℕ} 48 64 → ⊥
+zero_is_no_at e = omega (arith, e)
+
+replay_turns_asks : (options : ReplayOptions) (turns : Bor Text) → options.schedule ≡ source.Turns turns → turns.now ≡ codes "0*2 1" → options.run.input.now ≡ codes "w" → options.run.stop ≡ false
+    → options.run.target ≡ None → options.run.names_target ≡ None → options.run.limits.events ≡ 1048576 → options.run.limits.nodes ≡ 1024 → options.run.certificate ≡ false
+    → AsksFor (asked_by replay_turns_words) (Replay options)
+unfolding asked_by walked
+replay_turns_asks options turns schedule says file stop log names events nodes certificate = (
+  refl,
+  (
+    subst (AreTurns (codes "0*2 1")) (sym schedule) (sym says, λ path e. zero_is_no_at (ap (λ xs. get_or xs 0 0) e)),
+    (ap Some (sym file), search rules, ap (option_map (λ path. path.now)) (sym log), ap (option_map (λ path. path.now)) (sym names), search rules, search rules),
+  ),
+)
+
+-- turns of a file
 abbrev replay_file_words : List Text
-replay_file_words = codes "velodrome" ∷ codes "replay" ∷ codes "w" ∷ codes "--schedule" ∷ codes "@s" ∷ []
+replay_file_words = codes "velodrome" ∷ codes "replay" ∷ codes "w" ∷ codes "--turns" ∷ codes "@s" ∷ []
 
 replay_file_is_right : faults_of replay_file_words ≡ []
 unfolding faults_of walk_fault walked defaults_fault
@@ -93,7 +137,7 @@ unfolding asked_by walked
 replay_file_asks options path schedule says file stop log names events nodes certificate = (
   refl,
   (
-    subst (IsSchedule (codes "@s")) (sym schedule) (ap (λ rest. 64 ∷ rest) (sym says)),
+    subst (AreTurns (codes "@s")) (sym schedule) (ap (λ rest. 64 ∷ rest) (sym says)),
     (ap Some (sym file), search rules, ap (option_map (λ path. path.now)) (sym log), ap (option_map (λ path. path.now)) (sym names), search rules, search rules),
   ),
 )
@@ -158,7 +202,7 @@ explore_asks options file states first progress random log names events nodes ce
   ),
 )
 
-explore_gives : given_by (asked_by explore_words) ≡ record { states = false; seed = false }
+explore_gives : given_by (asked_by explore_words) ≡ record { states = false; seed = false; schedule = false }
 unfolding asked_by walked
 explore_gives = refl
 
@@ -170,7 +214,7 @@ chance_is_right : faults_of chance_words ≡ []
 unfolding faults_of walk_fault walked defaults_fault
 chance_is_right = refl
 
-chance_gives : given_by (asked_by chance_words) ≡ record { states = false; seed = true }
+chance_gives : given_by (asked_by chance_words) ≡ record { states = false; seed = true; schedule = false }
 unfolding asked_by walked
 chance_gives = refl
 

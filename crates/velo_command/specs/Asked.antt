@@ -60,16 +60,22 @@ IsRun rows options =
     × IsPath (codes "names-out") rows options.names_target
     × AreLimits rows options.limits × IsFlag (one_of (codes "certificate") rows) options.certificate
 
--- what stands behind an @ is the path of a schedule, and any other word is its text
-abbrev pub IsSchedule : Text → ScheduleSource → Type 0
-IsSchedule word (schedule.Text text) =
-    (word ≡ text.now) × ((path : Text) → word ≢ codes "@" ++ path)
-IsSchedule word (schedule.File path) = word ≡ codes "@" ++ path.now
+-- what stands behind an @ is the path of turns, and any other word is turns
+abbrev pub AreTurns : Text → ScheduleSource → Type 0
+AreTurns word (schedule.Text text) = ⊥
+AreTurns word (schedule.Turns turns) =
+    (word ≡ turns.now) × ((path : Text) → word ≢ codes "@" ++ path)
+AreTurns word (schedule.File path) = word ≡ codes "@" ++ path.now
 
--- no schedule is the empty one
+-- the turns, where they are given; else the text, and without one the empty one
+abbrev pub IsSchedule : Option Text → Option Text → ScheduleSource → Type 0
+IsSchedule (Some turns) text source = AreTurns turns source
+IsSchedule None text (schedule.Text found) = unwrap_or text [] ≡ found.now
+IsSchedule None text source = ⊥
+
 abbrev pub IsReplay : List Row → ReplayOptions → Type 0
 IsReplay rows options =
-    IsSchedule (unwrap_or (first_of (codes "schedule") rows) []) options.schedule
+    IsSchedule (first_of (codes "turns") rows) (first_of (codes "schedule") rows) options.schedule
     × IsRun rows options.run
 
 abbrev pub IsExplanation : List Row → ExplainOptions → Type 0

@@ -88,7 +88,8 @@ abbrev pub check : Shape
 check = subcommand (codes "check") (word (codes "LOG") ∷ valued (codes "names") ∷ graph_options)
 
 abbrev pub replay : Shape
-replay = subcommand (codes "replay") (word (codes "FILE") ∷ valued (codes "schedule") ∷ run_options)
+replay = subcommand (codes "replay")
+    (word (codes "FILE") ∷ valued (codes "schedule") ∷ valued (codes "turns") ∷ run_options)
 
 abbrev pub run : Shape
 run = subcommand (codes "run") (word (codes "FILE") ∷ run_options)

@@ -6,13 +6,14 @@ use Rattle.std.specs.Str.{bytes_eq}
 use Rattle.clap.specs.Takes.{is_given}
 use Rattle.velo_program.specs.declared.request.ExploreOptions.{ExploreOptions}
 use Rattle.velo_program.specs.declared.request.RandomRuns.{RandomRuns}
+use Rattle.velo_program.specs.declared.request.ReplayOptions.{ReplayOptions}
 use Rattle.velo_program.specs.declared.request.Request.{Request}
 use Rattle.velo_program.specs.declared.request.Request.TheVariants.{Audit, Carry, Check, Explain, Explore, Replay, Run, Watch}
 use Rattle.velo_program.specs.declared.request.ScheduleSource.{ScheduleSource}
 use Rattle.velo_program.specs.declared.request.ScheduleSource.TheVariants as schedule
 use Rattle.velo_command.specs.Asked.{Asked}
 use Rattle.velo_command.specs.declared.together.Clash.{Clash}
-use Rattle.velo_command.specs.declared.together.Clash.TheVariants.{InputTwice, NamesWithoutLog, OnePath, SearchByChance, SeedAlone}
+use Rattle.velo_command.specs.declared.together.Clash.TheVariants.{InputTwice, NamesWithoutLog, OnePath, SearchByChance, SeedAlone, TwoSchedules}
 use Rattle.velo_command.specs.declared.together.Given.{Given}
 
 -- ---- paths
@@ -25,6 +26,7 @@ path_if (Some path) = path.now ∷ []
 -- the path of a schedule, if it stands in a file
 abbrev pub schedule_path_if : ScheduleSource → List (List ℕ)
 schedule_path_if (schedule.Text text) = []
+schedule_path_if (schedule.Turns turns) = []
 schedule_path_if (schedule.File path) = path.now ∷ []
 
 -- more than one of the paths that are read is that of standard input
@@ -39,13 +41,34 @@ clash_of_targets None (Some names) = Some NamesWithoutLog
 clash_of_targets (Some log) (Some names) =
     if bytes_eq log.now names.now then Some OnePath else None
 
--- ---- an exploration
+-- ---- what the words give
 
--- which options the words give that have a value also where they are not given
+-- which of the options that a request does not show are given
 abbrev pub given_by : Asked → Given
-given_by None = record { states = false; seed = false }
-given_by (Some found) =
-    record { states = is_given (codes "states") found.1; seed = is_given (codes "seed") found.1 }
+given_by None = record { states = false; seed = false; schedule = false }
+given_by (Some found) = record {
+  states = is_given (codes "states") found.1;
+  seed = is_given (codes "seed") found.1;
+  schedule = is_given (codes "schedule") found.1;
+}
+
+-- ---- a replay
+
+-- turns, and a text of a schedule beside them
+abbrev pub clash_of_schedule : ScheduleSource → Bool → Option Clash
+clash_of_schedule (schedule.Text text) has_text = None
+clash_of_schedule (schedule.Turns turns) has_text = if has_text then Some TwoSchedules else None
+clash_of_schedule (schedule.File path) has_text = if has_text then Some TwoSchedules else None
+
+-- it has two schedules, or standard input is read twice, or by what it saves
+abbrev pub clash_of_replay : ReplayOptions → Bool → Option Clash
+clash_of_replay options has_text =
+    option_or
+    (option_or (clash_of_schedule options.schedule has_text)
+    (clash_of_inputs (options.run.input.now ∷ schedule_path_if options.schedule)))
+    (clash_of_targets options.run.target options.run.names_target)
+
+-- ---- an exploration
 
 -- runs by chance with an option that a search alone has; or a seed without them
 abbrev pub clash_of_chance : Option RandomRuns → Bool → Bool → Option Clash
@@ -61,9 +84,7 @@ clash_of_search options given =
 -- why the options of a request do not go together, if they do not, where the words give these
 abbrev pub clash_of : Request → Given → Option Clash
 clash_of (Check options) given = clash_of_inputs (options.input.now ∷ path_if options.names)
-clash_of (Replay options) given =
-    option_or (clash_of_inputs (options.run.input.now ∷ schedule_path_if options.schedule))
-    (clash_of_targets options.run.target options.run.names_target)
+clash_of (Replay options) given = clash_of_replay options given.schedule
 clash_of (Run options) given = clash_of_targets options.target options.names_target
 clash_of (Explain options) given = clash_of_inputs (options.input.now ∷ path_if options.names)
 clash_of (Carry options) given = None
@@ -80,4 +101,5 @@ line_of_clash NamesWithoutLog = codes "error: --names-out goes only with --log\n
 line_of_clash OnePath = codes "error: OUT and NAMES are one file\n"
 line_of_clash SearchByChance =
     codes "error: --random goes with neither --states nor --first nor --progress\n"
+line_of_clash TwoSchedules = codes "error: --schedule does not go with --turns\n"
 line_of_clash SeedAlone = codes "error: --seed goes only with --random\n"

@@ -65,6 +65,7 @@ fn replay<'a>(alloc: Global) -> Result<Command<'a>, Memory>
         .after_help(help::OF_REPLAY);
     let command = with_argument(command, file(alloc))?;
     let command = with_argument(command, schedule(alloc))?;
+    let command = with_argument(command, turns(alloc))?;
     with_run_options(alloc, command)
 }
 
@@ -202,7 +203,18 @@ fn schedule<'a>(alloc: Global) -> Arg<'a>
         alloc,
         "schedule",
         "TEXT",
-        "Whose turns come first: thread numbers from 0 to 63, parted by one space; THREAD*N for N turns; or @PATH of a file with this text",
+        "Whose turns come first: thread numbers from 0 to 63, parted by one space",
+    )
+}
+
+fn turns<'a>(alloc: Global) -> Arg<'a>
+    ensures { IsArgument (valued (codes "turns")) result }
+{
+    valued(
+        alloc,
+        "turns",
+        "TEXT",
+        "The same in short, as explore tells it: THREAD*N is N turns; or @PATH of a file with this text",
     )
 }
 

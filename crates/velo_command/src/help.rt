@@ -78,7 +78,7 @@ pub const OF_REPLAY: &str = "\
 Example, two threads that take two locks in opposite orders:
   printf 'lock m\\nlock n\\nthread main\\nfork a\\nacquire m\\nacquire n\\nrelease n\\nrelease m\\n' > two
   printf 'thread a\\nacquire n\\nacquire m\\nrelease m\\nrelease n\\n' >> two
-  velodrome replay two --schedule '0*2 1'
+  velodrome replay two --schedule '0 0 1'
 It reports three events and 'verdict clean', and says 'stuck', with status 4.
 
 The workload: 'var NAME' and 'lock NAME' first; then for each thread a line 'thread NAME' and its statements, one a
@@ -87,8 +87,9 @@ line: 'read x', 'write x', 'set n', 'add n', 'acquire m', 'release m', 'share m'
 are forked. docs/REFERENCE.md describes it whole, and the report.
 
 The schedule: in its turn a thread goes up to its next event and tries that; it passes where it must wait. After the
-turns of the schedule all threads have turns in rounds, up to the end. With @PATH its text is that of a file, read before
-FILE, or with @- that of standard input; one newline may stand behind it. One of FILE and PATH can be -.
+turns of the schedule all threads have turns in rounds, up to the end. --schedule has a number for each turn, '0 0 1';
+--turns says the same in short, '0*2 1', as 'velodrome explore' tells it. --turns @PATH reads that text from a file, before
+FILE, or from standard input with @-; one newline may stand behind it. One of FILE and PATH can be -.
 
 The names: --names-out writes the names of the workload to NAMES, behind the log, for 'velodrome explain OUT --names NAMES'.
 It goes only with --log.
@@ -97,9 +98,9 @@ FILE, OUT and NAMES are files of their own: where two are one, nothing is done t
 
 Statuses, each with the lines on standard error:
   0  done without an alarm, or help
-  2  usage; 'error: standard input can be read once'; 'error: --names-out goes only with --log'; 'bad schedule';
-     'error: FILE and OUT are one file', the same of FILE and NAMES, and of OUT and NAMES; the text is no workload:
-     'workload fault K line N'
+  2  usage; 'error: standard input can be read once'; 'error: --names-out goes only with --log';
+     'error: --schedule does not go with --turns'; 'bad schedule'; 'error: FILE and OUT are one file', the same of FILE and
+     NAMES, and of OUT and NAMES; the text is no workload: 'workload fault K line N'
   3  an alarm: no serial reordering of the run exists
   4  the run could not go on: 'stuck', 'refused K thread T'; the report is written all the same
   5  memory or a device failed: 'out of memory', 'read failed', 'write failed', 'cannot open'
@@ -192,7 +193,7 @@ It finds a schedule with an alarm, no deadlock and no refusal, and reports that 
 
 It writes 'events N', those of all threads together, and 'states N', how many the search looked at; then three findings:
   'alarm TURNS', 'stuck TURNS', 'refused K thread T NAME TURNS'
-                  a schedule that leads there: TURNS is what 'velodrome replay --schedule' takes
+                  a schedule that leads there: TURNS is what 'velodrome replay --turns' takes
   'alarm none', 'stuck none', 'refused none'
                   every schedule was tried, and none leads there
   'alarm open', 'stuck open', 'refused open'

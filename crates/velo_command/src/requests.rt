@@ -1,6 +1,6 @@
 //! What the matches of the command line ask for.
 ghost use Rattle.std.specs.Prelude.{◌≤◌, ℕ, Option, Some, codes, IfNone, IfSome};
-ghost use Rattle.clap.specs.Words.{found_of, one_of, rows_of, subcommand_rows_of};
+ghost use Rattle.clap.specs.Words.{first_of, found_of, one_of, rows_of, subcommand_rows_of};
 ghost use Rattle.velo_program.specs.declared.request.Limits.{Limits};
 ghost use Rattle.velo_program.specs.declared.request.AuditOptions.{AuditOptions};
 ghost use Rattle.velo_program.specs.declared.request.CarryOptions.{CarryOptions};
@@ -12,7 +12,7 @@ ghost use Rattle.velo_program.specs.declared.request.ReplayOptions.{ReplayOption
 ghost use Rattle.velo_program.specs.declared.request.RunOptions.{RunOptions};
 ghost use Rattle.velo_program.specs.declared.request.TheConstants.{MOST_STATES};
 ghost use Rattle.velo_program.specs.declared.request.WatchOptions.{WatchOptions};
-ghost use Rattle.velo_command.specs.Asked.{AreLimits, AreRandomRuns, AsksFor, AsksForNothing, IsAudit, IsCarrying, IsCheck, IsExplanation, IsExploring, IsReplay, IsRun, IsSchedule, IsSeed, IsWatch, WritesNumber};
+ghost use Rattle.velo_command.specs.Asked.{AreLimits, AreRandomRuns, AreTurns, AsksFor, AsksForNothing, IsAudit, IsCarrying, IsCheck, IsExplanation, IsExploring, IsReplay, IsRun, IsSchedule, IsSeed, IsWatch, WritesNumber};
 
 use clap::ArgMatches;
 use velo_events::{MOST_EVENTS, MOST_NODES};
@@ -49,13 +49,24 @@ fn check_options<'a>(found: &ArgMatches<'a>) -> Option<CheckOptions<'a>>
     })
 }
 
-/// Where the schedule of this word stands: what stands behind an `@` is a path.
-fn schedule_of<'a>(word: &'a str) -> ScheduleSource<'a>
-    ensures { IsSchedule word.entry.now result }
+/// Where the turns of this word stand: what stands behind an `@` is a path.
+fn turns_source<'a>(word: &'a str) -> ScheduleSource<'a>
+    ensures { AreTurns word.entry.now result }
 {
     match word.strip_prefix('@') {
         Some(path) => ScheduleSource::File(path),
-        None => ScheduleSource::Text(word),
+        None => ScheduleSource::Turns(word),
+    }
+}
+
+/// Where the schedule stands: the turns that are given, or else the text.
+fn schedule_source<'a>(found: &ArgMatches<'a>) -> ScheduleSource<'a>
+    ensures { IsSchedule (first_of (codes "turns") (rows_of (found_of found.now)))
+        (first_of (codes "schedule") (rows_of (found_of found.now))) result }
+{
+    match found.get_str("turns") {
+        Some(turns) => turns_source(turns),
+        None => ScheduleSource::Text(found.get_str("schedule").unwrap_or("")),
     }
 }
 
@@ -65,7 +76,7 @@ fn replay_options<'a>(found: &ArgMatches<'a>) -> Option<ReplayOptions<'a>>
         → ¬ IsReplay (rows_of (found_of found.now)) options) }
 {
     Some(ReplayOptions {
-        schedule: schedule_of(found.get_str("schedule").unwrap_or("")),
+        schedule: schedule_source(found),
         run: run_options(found)?,
     })
 }

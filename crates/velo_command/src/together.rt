@@ -6,14 +6,14 @@ ghost use Rattle.clap.specs.Takes.{is_given};
 ghost use Rattle.clap.specs.Words.{found_of, rows_of, subcommand_rows_of};
 ghost use Rattle.velo_program.specs.Fate.{Closes};
 ghost use Rattle.velo_program.specs.Writing.{writing};
-ghost use Rattle.velo_command.specs.Together.{clash_of, clash_of_chance, clash_of_inputs, clash_of_search, clash_of_targets, given_by, line_of_clash, path_if, schedule_path_if};
+ghost use Rattle.velo_command.specs.Together.{clash_of, clash_of_chance, clash_of_inputs, clash_of_replay, clash_of_schedule, clash_of_search, clash_of_targets, given_by, line_of_clash, path_if, schedule_path_if};
 ghost use Rattle.velo_command.specs.Usage.{bad_usage};
 
 use crate::telling::tell_fault;
 use clap::ArgMatches;
 use clap::parser::ValueSource;
 use velo_logtext::Sink;
-use velo_program::{ExploreOptions, RandomRuns, Request, ScheduleSource};
+use velo_program::{ExploreOptions, RandomRuns, ReplayOptions, Request, ScheduleSource};
 
 /// Why the options of a request do not go together.
 #[derive(Clone, Copy, Debug, PartialEq, Eq)]
@@ -28,15 +28,19 @@ pub enum Clash {
     SearchByChance,
     /// A seed is given, and no runs by chance are asked for.
     SeedAlone,
+    /// A schedule is given as text and as turns.
+    TwoSchedules,
 }
 
-/// Which options the words give that have a value also where they are not given.
+/// Which of the options the words give that a request does not show.
 #[derive(Clone, Copy, Debug, PartialEq, Eq)]
 pub struct Given {
     /// `--states`.
     pub states: bool,
     /// `--seed`.
     pub seed: bool,
+    /// `--schedule`.
+    pub schedule: bool,
 }
 
 /// Whether the words give this option: a value by default does not count.
@@ -50,7 +54,7 @@ fn is_given(found: &ArgMatches, option: &str) -> bool
     }
 }
 
-/// Which options the words give that have a value also where they are not given.
+/// Which of the options the words give that a request does not show.
 pub fn given_by(matches: &ArgMatches) -> Given
     ensures { result ≡ given_by (subcommand_rows_of matches.now) }
 {
@@ -58,10 +62,12 @@ pub fn given_by(matches: &ArgMatches) -> Given
         Some((_, found)) => Given {
             states: is_given(found, "states"),
             seed: is_given(found, "seed"),
+            schedule: is_given(found, "schedule"),
         },
         None => Given {
             states: false,
             seed: false,
+            schedule: false,
         },
     }
 }
@@ -72,11 +78,7 @@ pub fn clash_of(request: &Request, given: Given) -> Option<Clash>
 {
     match request {
         Request::Check(options) => clash_of_inputs(options.input, options.names),
-        Request::Replay(options) => {
-            clash_of_inputs(options.run.input, path_of_schedule(options.schedule)).or(
-                clash_of_targets(options.run.target, options.run.names_target),
-            )
-        }
+        Request::Replay(options) => clash_of_replay(options, given.schedule),
         Request::Run(options) => clash_of_targets(options.target, options.names_target),
         Request::Explain(options) => clash_of_inputs(options.input, options.names),
         Request::Carry(_) => None,
@@ -86,6 +88,25 @@ pub fn clash_of(request: &Request, given: Given) -> Option<Clash>
         )),
         Request::Watch(options) => clash_of_inputs(options.input, options.names),
         Request::Audit(options) => clash_of_audit(options.input, options.names, options.known),
+    }
+}
+
+/// A replay has one schedule, and no clash of its paths.
+fn clash_of_replay(options: &ReplayOptions, has_text: bool) -> Option<Clash>
+    ensures { result ≡ clash_of_replay options.now has_text }
+{
+    clash_of_schedule(options.schedule, has_text)
+        .or(clash_of_inputs(options.run.input, path_of_schedule(options.schedule)))
+        .or(clash_of_targets(options.run.target, options.run.names_target))
+}
+
+/// A schedule is given as text or as turns.
+fn clash_of_schedule(schedule: ScheduleSource, has_text: bool) -> Option<Clash>
+    ensures { result ≡ clash_of_schedule schedule.entry has_text }
+{
+    match schedule {
+        ScheduleSource::Turns(_) | ScheduleSource::File(_) if has_text => Some(Clash::TwoSchedules),
+        _ => None,
     }
 }
 
@@ -105,7 +126,7 @@ fn path_of_schedule<'a>(schedule: ScheduleSource<'a>) -> Option<&'a str>
     ensures { path_if result ≡ schedule_path_if schedule.entry }
 {
     match schedule {
-        ScheduleSource::Text(_) => None,
+        ScheduleSource::Text(_) | ScheduleSource::Turns(_) => None,
         ScheduleSource::File(path) => Some(path),
     }
 }
@@ -176,6 +197,7 @@ fn line_of_clash(clash: Clash) -> &'static [u8]
             b"error: --random goes with neither --states nor --first nor --progress\n"
         }
         Clash::SeedAlone => b"error: --seed goes only with --random\n",
+        Clash::TwoSchedules => b"error: --schedule does not go with --turns\n",
     }
 }
 

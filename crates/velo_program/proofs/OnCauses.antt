@@ -59,7 +59,7 @@ use Rattle.velo_program.specs.Listing.{HaveFaultOfList, LacksLabels, SayNoLabels
 use Rattle.velo_program.specs.Naming.{HaveFaultOfNames, LacksNames, SayNoNames}
 use Rattle.velo_program.specs.Playing.{ByThreads, ByTurns, IsPlayAnswer, IsRunOf, IsSaidOfRun, IsUnread, Play}
 use Rattle.velo_program.specs.Program.{Does, DoesPlay}
-use Rattle.velo_turns.specs.Schedule.{IsFaultOfSchedule}
+use Rattle.velo_turns.specs.Schedule.{IsFaultOfSchedule, IsFaultOfTurns}
 use Rattle.velo_program.specs.Scheduling.{HaveFaultOfSchedule, LacksSchedule, SayNoSchedule}
 use Rattle.velo_program.specs.Watching.{EndsBehind, IsFaultOfHeader, IsWatchAnswer, Watches}
 use Rattle.velo_program.specs.Writing.{Writing}
@@ -196,6 +196,10 @@ of_schedule : (text : List ℕ) (fault : ScheduleFault) → IsFaultOfSchedule te
 of_schedule text schedule_fault.Bad is = tt
 of_schedule text schedule_fault.Memory is = is
 
+of_turns : (text : List ℕ) (fault : ScheduleFault) → IsFaultOfTurns text fault → ScheduleByGrowth fault
+of_turns text schedule_fault.Bad is = tt
+of_turns text schedule_fault.Memory is = is
+
 of_schedule_read : (read : Option (List ℕ)) (fault : ScheduleFault) → HaveFaultOfSchedule read fault → ScheduleByGrowth fault
 of_schedule_read read schedule_fault.Bad is = tt
 of_schedule_read read schedule_fault.Memory is = is
@@ -208,6 +212,7 @@ unscheduled_by needs read f is = absurd is
 
 unscheduled : (needs : Needs) (disk : Disk) (source : ScheduleSource) (f : Fate) → LacksSchedule disk source f → ComesByRefusal needs f
 unscheduled needs disk (source.Text text) f lacks = subst (ComesByRefusal needs) (sym lacks.2) (of_schedule text.now lacks.0 lacks.1)
+unscheduled needs disk (source.Turns text) f lacks = subst (ComesByRefusal needs) (sym lacks.2) (of_turns text.now lacks.0 lacks.1)
 unscheduled needs disk (source.File path) f (inl closed) = subst (ComesByRefusal needs) (sym closed.0) tt
 unscheduled needs disk (source.File path) f (inr broken) = unscheduled_by needs broken.read.bytes f broken.unsaid
 

@@ -17,7 +17,6 @@ use Rattle.velo_program.specs.Delivery.{Answer, IsDelivered, IsDeliveredInTurn, 
 use Rattle.velo_program.specs.Disk.{Disk, Store}
 use Rattle.velo_program.specs.Playing.{ByThreads, ByTurns, IsFaultOfText, IsFaultOfWork, IsRunAnswer, IsSaidOfRun, IsTextOf, IsUnread, Play}
 use Rattle.velo_program.specs.Reading.{FailuresAsTold, Reading, failures_told}
-use Rattle.velo_turns.specs.Schedule.{IsSchedule}
 use Rattle.velo_program.specs.Writing.{Writing, WritesNothing}
 use Rattle.velo_program.specs.Steps.{IsReadOf, OpensNoProgram, OpensProgram}
 use Rattle.velo_program.proofs.OnDelivery.{in_turn_reads, same_fate}
@@ -88,7 +87,3 @@ pub not_opened : (disk : Disk) (options : RunOptions) (read : Reading) → disk.
     → IfErr result (FailuresAsTold read) → IfErr result (OpensNoProgram disk options)
 not_opened disk options read given (Ok program) unread failures = tt
 not_opened disk options read given (Err f) unread failures = inl (record { read = read; given = given; unread = unread; failures = failures })
-
--- the schedule behind a reference
-pub schedule_read : (text : List ℕ) (schedule lent : List ThreadId) → lent ≡ schedule → IsSchedule text schedule → IsSchedule text lent
-schedule_read text schedule lent is h = subst (IsSchedule text) (sym is) h

@@ -11,7 +11,7 @@ use Rattle.velo_schedules.specs.declared.finding.Finding.TheVariants.{Shown, Nev
 use Rattle.velo_schedules.specs.declared.finding.RefusalFinding.{RefusalFinding}
 use Rattle.velo_schedules.specs.declared.finding.RefusalFinding.TheVariants as refusals
 use Rattle.velo_schedules.specs.Told.{ShowsAlarm, ShowsRefusal, ShowsStuck}
-use Rattle.velo_turns.specs.Schedule.{IsSchedule}
+use Rattle.velo_turns.specs.Schedule.{SaysTurns}
 use Rattle.velo_turns.specs.Short.{short_text}
 use Rattle.velo_workload.specs.Program.{Program}
 use Rattle.velo_program.specs.declared.request.RandomRuns.{RandomRuns}
@@ -22,9 +22,9 @@ use Rattle.velo_program.specs.declared.told.Tried.TheVariants.{ByChance}
 
 -- ---- schedules that can be told
 
--- a replay takes the text of this schedule
+-- the short text of this schedule says its turns, so that a replay takes it
 abbrev pub IsSayable : List ThreadId → Type 0
-IsSayable schedule = IsSchedule (short_text schedule) schedule
+IsSayable schedule = SaysTurns (short_text schedule) schedule
 
 abbrev pub IsSayableFinding : Finding → Type 0
 IsSayableFinding (Shown schedule) = IsSayable schedule.items

@@ -140,7 +140,7 @@ DoesPlay play options store stdout f =
 abbrev pub DoesRun : RunOptions → Store → Writing → Fate → Type 0
 DoesRun options store stdout f = DoesPlay ByThreads options store stdout f
 
--- ---- velodrome replay FILE [--schedule TEXT|@PATH] and the options of run
+-- ---- velodrome replay FILE [--schedule TEXT | --turns TEXT|@PATH] and the options of run
 
 -- The schedule is that of the text, or of the file at the path, which is read first. There is none,
 -- and no file was opened to be written; or FILE is played by its turns (`Scheduling`, `Playing`).

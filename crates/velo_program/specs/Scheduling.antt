@@ -1,9 +1,9 @@
--- The schedule that a replay is given, by its text or by the path of a file.
+-- The schedule that a replay is given: by its text, by its turns or by the path of a file with these.
 use Rattle.std.specs.Prelude.{◌≡◌, ◌⊎◌, ⊤, ℕ, List, Option, IfSome}
 use Rattle.velo_events.specs.declared.event.ThreadId.{ThreadId}
 use Rattle.velo_events.specs.Refusals.{GrowthRefused}
 use Rattle.velo_turns.specs.File.{IsScheduleIn}
-use Rattle.velo_turns.specs.Schedule.{IsFaultOfSchedule, IsSchedule}
+use Rattle.velo_turns.specs.Schedule.{IsFaultOfSchedule, IsFaultOfTurns, IsSchedule, SaysTurns}
 use Rattle.velo_turns.specs.declared.schedule.ScheduleFault.{ScheduleFault}
 use Rattle.velo_turns.specs.declared.schedule.ScheduleFault.TheVariants as schedule_fault
 use Rattle.velo_program.specs.declared.fate.Fate.{Fate}
@@ -56,15 +56,18 @@ LacksScheduleAt disk path f =
 
 -- ---- by the option
 
--- the schedule of the text, or of the file
+-- the schedule of the text, of the turns, or of the file
 abbrev pub IsScheduleOf : Disk → ScheduleSource → List ThreadId → Type 0
 IsScheduleOf disk (source.Text text) schedule = IsSchedule text.now schedule
+IsScheduleOf disk (source.Turns text) schedule = SaysTurns text.now schedule
 IsScheduleOf disk (source.File path) schedule = ReadsSchedule disk path.now schedule
 
 -- why there is none
 abbrev pub LacksSchedule : Disk → ScheduleSource → Fate → Type 0
 LacksSchedule disk (source.Text text) f =
     (fault : ScheduleFault) × IsFaultOfSchedule text.now fault × (f ≡ fate.Schedule fault)
+LacksSchedule disk (source.Turns text) f =
+    (fault : ScheduleFault) × IsFaultOfTurns text.now fault × (f ≡ fate.Schedule fault)
 LacksSchedule disk (source.File path) f = LacksScheduleAt disk path.now f
 
 -- ---- on the way. Contracts within the crate cite these words

@@ -44,4 +44,4 @@ pub use request::{
     RunOptions, ScheduleSource, WatchOptions,
 };
 pub use velo_schedules::{Progress, Quiet};
-pub use velo_turns::{MOST_SCHEDULE_BYTES, MOST_TURNS, ScheduleFault, schedule_of};
+pub use velo_turns::{MOST_SCHEDULE_BYTES, MOST_TURNS, ScheduleFault, schedule_of, turns_of};

@@ -46,12 +46,14 @@ pub struct RunOptions<'a> {
     pub certificate: bool,
 }
 
-/// Where the text of a schedule stands.
+/// Where a schedule stands, and in which form.
 #[derive(Clone, Copy, Debug)]
 pub enum ScheduleSource<'a> {
-    /// This is the text.
+    /// This is its text, as [`schedule_of`](velo_turns::schedule_of) takes it.
     Text(&'a str),
-    /// In the file at this path, or on standard input with `-`.
+    /// These are its turns, as [`turns_of`](velo_turns::turns_of) takes them.
+    Turns(&'a str),
+    /// Its turns are in the file at this path, or on standard input with `-`.
     File(&'a str),
 }
 

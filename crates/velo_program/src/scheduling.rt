@@ -9,7 +9,7 @@ use crate::naming::read_file;
 use crate::request::ScheduleSource;
 use std::alloc::Global;
 use velo_events::ThreadId;
-use velo_turns::{MOST_SCHEDULE_BYTES, schedule_in, schedule_of};
+use velo_turns::{MOST_SCHEDULE_BYTES, schedule_in, schedule_of, turns_of};
 
 /// The schedule that the bytes of a file say.
 ///
@@ -19,10 +19,7 @@ fn schedule_of_bytes(alloc: Global, bytes: &[u8]) -> Result<Vec<ThreadId>, Fate>
     ensures schedule { IfOk result (λ schedule. IsScheduleIn bytes.now schedule.items) }
     ensures fault { IfErr result (IsNoScheduleIn bytes.now) }
 {
-    match schedule_in(alloc, bytes) {
-        Ok(schedule) => Ok(schedule),
-        Err(fault) => Err(Fate::Schedule(fault)),
-    }
+    schedule_in(alloc, bytes).map_err(Fate::Schedule)
 }
 
 /// The schedule of the file at a path.
@@ -38,7 +35,7 @@ fn schedule_at<F: Files>(alloc: Global, path: &str, files: &F) -> Result<Vec<Thr
     schedule_of_bytes(alloc, &bytes)
 }
 
-/// The schedule that a replay is given, by its text or by the path of a file.
+/// The schedule that a replay is given: by its text, by its turns or by the path of a file with these.
 ///
 /// # Errors
 /// `Schedule` where there is none; for a file also `CannotOpen` where it does not open, `ReadFailed` where it failed, `Memory`
@@ -53,10 +50,8 @@ pub fn schedule_of_source<F: Files>(
     ensures none { IfErr result (LacksSchedule (F.disk files.now) source.entry) }
 {
     match source {
-        ScheduleSource::Text(text) => match schedule_of(alloc, text) {
-            Ok(schedule) => Ok(schedule),
-            Err(fault) => Err(Fate::Schedule(fault)),
-        },
+        ScheduleSource::Text(text) => schedule_of(alloc, text).map_err(Fate::Schedule),
+        ScheduleSource::Turns(text) => turns_of(alloc, text).map_err(Fate::Schedule),
         ScheduleSource::File(path) => schedule_at(alloc, path, files),
     }
 }

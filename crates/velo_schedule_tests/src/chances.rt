@@ -2,7 +2,7 @@
 use std::alloc::Global;
 use velo_chance::{Blamed, DEFAULT_SEED, Tally, explore_by_chance, try_all, try_by_chance};
 use velo_events::Config;
-use velo_turns::{append_turns, schedule_of};
+use velo_turns::{append_turns, turns_of};
 use velo_workload::parse;
 
 /// What so many runs of a workload come to.
@@ -83,7 +83,7 @@ fn blamed_by(alloc: Global, text: &str, schedules: &[&str]) -> Option<(u64, usiz
     let config = Config::new(1, workload.bounds(), 100_000, 64, false).ok()?;
     let mut turns = Vec::new(alloc);
     for schedule in schedules {
-        turns.push(schedule_of(alloc, *schedule).ok()?).ok()?;
+        turns.push(turns_of(alloc, *schedule).ok()?).ok()?;
     }
     let tally = try_all(alloc, &workload, &turns, config).ok()?;
     let first = tally.blamed.first().map_or(0, |blamed| blamed.alarms);

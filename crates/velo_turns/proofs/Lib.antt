@@ -1,4 +1,5 @@
 pub mod OnWords
 pub mod OnTexts
+pub mod OnNumbers
 pub mod OnFile
 pub mod OnShort

@@ -1,5 +1,5 @@
 -- A schedule in a file: how long its text is, and that it is one.
-use Rattle.std.proofs.Common.{◌≡◌, ◌∙◌, ◌<◌, ◌≤◌, ◌+◌, ◌*◌, ◌^◌, ℕ, Bool, true, false, cond, eqb, List, [], ◌∷◌, ◌++◌, All, length, replicate, ⊎_elim, refl, sym, ap, subst, arith, inl, inr}
+use Rattle.std.proofs.Common.{◌≡◌, ◌∙◌, ◌<◌, ◌≤◌, ◌+◌, ◌*◌, ℕ, Bool, true, false, cond, eqb, List, [], ◌∷◌, ◌++◌, All, length, replicate, ⊎_elim, sym, ap, subst, arith, inl, inr}
 use Rattle.std.specs.Prelude.{decimal, codes}
 use Rattle.std.specs.Str.{IsAscii, IsUtf8}
 use Rattle.std.proofs.lemmas.Bool.{cases_lt}
@@ -10,13 +10,12 @@ use Rattle.std.proofs.lemmas.List.Elements.{All-head, All-tail}
 use Rattle.std.proofs.lemmas.Str.{IsAscii-append, IsUtf8-from_ascii}
 use Rattle.std.proofs.lemmas.Str.Ascii.{IsAscii-cons, IsAscii-nil}
 use Rattle.velo_events.specs.declared.event.ThreadId.{ThreadId}
-use Rattle.velo_events.specs.declared.limits.TheConstants.{MOST_THREADS}
 use Rattle.velo_turns.specs.declared.limits.TheConstants.{MOST_SCHEDULE_BYTES, MOST_TURNS}
 use Rattle.velo_turns.specs.declared.schedule.ScheduleFault.{ScheduleFault}
 use Rattle.velo_turns.specs.declared.schedule.ScheduleFault.TheVariants.{Bad, Memory}
 use Rattle.velo_turns.specs.declared.turns.Turns.{Turns}
 use Rattle.velo_turns.specs.File.{AreOfText, IsFaultOfBytes, IsScheduleIn}
-use Rattle.velo_turns.specs.Schedule.{AreTurns, IsFaultOfSchedule, IsSchedule, in_order, spaced, turns_text, words_text}
+use Rattle.velo_turns.specs.Schedule.{AreTurns, IsFaultOfTurns, SaysTurns, in_order, spaced, turns_text, words_text}
 use Rattle.velo_turns.proofs.OnWords.{count_text}
 
 -- ---- how long
@@ -63,7 +62,7 @@ words_length : (words : List Turns) → All AreTurns words → length (in_order 
 words_length [] each few = omega arith
 words_length (x ∷ rest) each few = omega (arith, spaced_length (x ∷ rest) each, few)
 
-text_length : (text : List ℕ) (schedule : List ThreadId) → IsSchedule text schedule → length text + 1 ≤ MOST_SCHEDULE_BYTES
+text_length : (text : List ℕ) (schedule : List ThreadId) → SaysTurns text schedule → length text + 1 ≤ MOST_SCHEDULE_BYTES
 text_length text schedule is =
     omega (arith, ap length is.whole, words_length is.words is.each (omega (arith, ap length is.turns, is.few)))
 
@@ -120,10 +119,10 @@ one_text bytes one other (inl a) (inr b) = absurd (b.1 one a)
 one_text bytes one other (inr a) (inl b) = absurd (a.1 other b)
 one_text bytes one other (inr a) (inr b) = sym a.0 ∙ b.0
 
-pub found_in : (bytes text part : List ℕ) (schedule : List ThreadId) → text ≡ bytes → AreOfText text part → IsSchedule part schedule → IsScheduleIn bytes schedule
+pub found_in : (bytes text part : List ℕ) (schedule : List ThreadId) → text ≡ bytes → AreOfText text part → SaysTurns part schedule → IsScheduleIn bytes schedule
 found_in bytes text part schedule same are says = record { text = part; are = subst (λ (b : List ℕ). AreOfText b part) same are; says = says }
 
-pub none_in : (bytes text part : List ℕ) (fault : ScheduleFault) → text ≡ bytes → AreOfText text part → IsFaultOfSchedule part fault → IsFaultOfBytes bytes fault
+pub none_in : (bytes text part : List ℕ) (fault : ScheduleFault) → text ≡ bytes → AreOfText text part → IsFaultOfTurns part fault → IsFaultOfBytes bytes fault
 none_in bytes text part Memory same are refused = refused
 none_in bytes text part Bad same are none = λ schedule is.
-    none schedule (subst (λ (t : List ℕ). IsSchedule t schedule) (one_text bytes is.text part is.are (subst (λ (b : List ℕ). AreOfText b part) same are)) is.says)
+    none schedule (subst (λ (t : List ℕ). SaysTurns t schedule) (one_text bytes is.text part is.are (subst (λ (b : List ℕ). AreOfText b part) same are)) is.says)

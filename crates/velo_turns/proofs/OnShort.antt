@@ -8,7 +8,7 @@ use Rattle.velo_events.specs.declared.event.ThreadId.{ThreadId}
 use Rattle.velo_events.specs.declared.limits.TheConstants.{MOST_THREADS}
 use Rattle.velo_turns.specs.declared.limits.TheConstants.{MOST_TURNS}
 use Rattle.velo_turns.specs.declared.turns.Turns.{Turns}
-use Rattle.velo_turns.specs.Schedule.{in_order, spaced, turns_text, IsSchedule}
+use Rattle.velo_turns.specs.Schedule.{in_order, spaced, turns_text, SaysTurns}
 use Rattle.velo_turns.specs.Short.{one_turn, with_turn, longest, short_text}
 
 abbrev longer : ThreadId → ℕ → List Turns → List Turns
@@ -61,7 +61,7 @@ short_words : (schedule : List ThreadId) → All Small schedule → All (AreShor
 short_words [] each = All-nil (AreShort 0)
 short_words (t ∷ rest) each = short_turn (length rest) t (longest rest) (All-head Small t rest each) (short_words rest (All-tail Small t rest each))
 
-pub short_reads_back : (schedule : List ThreadId) → All Small schedule → length schedule ≤ MOST_TURNS → IsSchedule (short_text schedule) schedule
+pub short_reads_back : (schedule : List ThreadId) → All Small schedule → length schedule ≤ MOST_TURNS → SaysTurns (short_text schedule) schedule
 short_reads_back schedule each few =
     let short = short_words schedule each in
     record {

@@ -15,26 +15,34 @@ use Rattle.velo_turns.specs.declared.limits.TheConstants.{MOST_TURNS}
 use Rattle.velo_turns.specs.declared.turns.Turns.{Turns}
 use Rattle.velo_turns.specs.declared.schedule.ScheduleFault.{ScheduleFault}
 use Rattle.velo_turns.specs.declared.schedule.ScheduleFault.TheVariants.{Bad, Memory}
-use Rattle.velo_turns.specs.Schedule.{turns_text, AreTurns, spaced, words_text, in_order, IsSchedule, IsFaultOfSchedule}
+use Rattle.velo_turns.specs.Schedule.{turns_text, AreTurns, spaced, words_text, in_order, SaysTurns, IsFaultOfTurns}
 use Rattle.velo_turns.specs.Words.{turns_in}
 use Rattle.velo_turns.proofs.OnWords.{count_text, turns_taken, turns_again}
 
 -- ---- no space in a word
 
+-- another byte than this one
+abbrev pub Apart : ℕ → ℕ → Type 0
+Apart c b = eqb b c ≡ false
+
 abbrev NoSpace : ℕ → Type 0
-NoSpace b = eqb b 32 ≡ false
+NoSpace = Apart 32
 
-digit_apart : (d : ℕ) → d < 10 → eqb (48 + d) 32 ≡ false
-digit_apart d lt = grind (lt, arith, nat_tests)
+digit_apart : (c d : ℕ) → c < 48 → d < 10 → eqb (48 + d) c ≡ false
+digit_apart c d less lt = grind (less, lt, arith, nat_tests)
 
-one_digit : (n : ℕ) → n < 10 → All NoSpace ((48 + n) ∷ [])
-one_digit n lt = All-cons NoSpace (48 + n) [] (digit_apart n lt) (All-nil NoSpace)
+one_digit : (c : ℕ) → c < 48 → (n : ℕ) → n < 10 → All (Apart c) ((48 + n) ∷ [])
+one_digit c less n lt = All-cons (Apart c) (48 + n) [] (digit_apart c n less lt) (All-nil (Apart c))
 
-more_digits : (n : ℕ) (ds : List ℕ) → 10 ≤ n → All NoSpace ds → All NoSpace (ds ++ ((48 + n % 10) ∷ []))
-more_digits n ds ge h = All-append NoSpace ds ((48 + n % 10) ∷ []) h (one_digit (n % 10) (omega arith))
+more_digits : (c : ℕ) → c < 48 → (n : ℕ) (ds : List ℕ) → 10 ≤ n → All (Apart c) ds → All (Apart c) (ds ++ ((48 + n % 10) ∷ []))
+more_digits c less n ds ge h = All-append (Apart c) ds ((48 + n % 10) ∷ []) h (one_digit c less (n % 10) (omega arith))
+
+-- what is no digit does not stand in a number
+pub digits_apart : (c : ℕ) → c < 48 → (n : ℕ) → n < 2 ^ 64 → All (Apart c) (decimal n)
+digits_apart c less n lt = decimal_by_steps (λ n ds. All (Apart c) ds) (one_digit c less) (more_digits c less) n lt
 
 no_space : (n : ℕ) → n < 2 ^ 64 → All NoSpace (decimal n)
-no_space n lt = decimal_by_steps (λ n ds. All NoSpace ds) one_digit more_digits n lt
+no_space n lt = digits_apart 32 (omega arith) n lt
 
 count_apart : (n : ℕ) → n < 2 ^ 64 → All NoSpace (count_text n)
 count_apart n lt =
@@ -72,7 +80,7 @@ cut text [] some each whole = absurd (omega (arith, some, ap length whole))
 cut text (x ∷ rest) some each whole = ap words_in whole ∙ words_of_text x rest each
 
 -- each schedule of the text has its words
-words_of_schedule : (text : List ℕ) (schedule : List ThreadId) → 0 < length text → (h : IsSchedule text schedule) → words_in text ≡ texts_of h.words
+words_of_schedule : (text : List ℕ) (schedule : List ThreadId) → 0 < length text → (h : SaysTurns text schedule) → words_in text ≡ texts_of h.words
 words_of_schedule text schedule some h = cut text h.words some h.each h.whole
 
 -- the words are those of one list
@@ -123,7 +131,7 @@ read_more text k word before after x h more is says pushed few =
     }
 
 -- all words are read
-pub all_read : (text : List ℕ) (k : ℕ) (schedule : List ThreadId) → Reads text k schedule → take k (words_in text) ≡ words_in text → IsSchedule text schedule
+pub all_read : (text : List ℕ) (k : ℕ) (schedule : List ThreadId) → Reads text k schedule → take k (words_in text) ≡ words_in text → SaysTurns text schedule
 all_read text k schedule h all = record {
   words = h.words;
   each = h.each;
@@ -132,14 +140,14 @@ all_read text k schedule h all = record {
   few = h.few;
 }
 
-pub empty_schedule : (text : List ℕ) → length text ≡ 0 → IsSchedule text []
+pub empty_schedule : (text : List ℕ) → length text ≡ 0 → SaysTurns text []
 empty_schedule [] e = record { words = []; each = All-nil AreTurns; whole = refl; turns = refl; few = omega arith }
 empty_schedule (b ∷ bs) e = absurd (omega (arith, e))
 
 -- ---- why there is none
 
 -- a word of the text says no turns
-pub none_with : (text : List ℕ) (k : ℕ) (word : List ℕ) → 0 < length text → k < length (words_in text) → word ≡ get_or (words_in text) k word → None ≡ turns_in word → (schedule : List ThreadId) → IsSchedule text schedule → ⊥
+pub none_with : (text : List ℕ) (k : ℕ) (word : List ℕ) → 0 < length text → k < length (words_in text) → word ≡ get_or (words_in text) k word → None ≡ turns_in word → (schedule : List ThreadId) → SaysTurns text schedule → ⊥
 none_with text k word some more is none schedule h =
     let e = words_of_schedule text schedule some h in
     let d : Turns = record { thread = record { 0 = 0 }; count = 1 } in
@@ -155,7 +163,7 @@ length_in_order (x ∷ xs) ys =
     omega (arith, length_in_order xs ys, length-append (replicate x.count x.thread) (in_order xs), length-append (replicate x.count x.thread) (in_order (xs ++ ys)))
 
 -- the words that are read, and one that has too many turns
-pub none_beyond : (text : List ℕ) (k : ℕ) (word : List ℕ) (before : List ThreadId) (x : Turns) → 0 < length text → Reads text k before → k < length (words_in text) → word ≡ get_or (words_in text) k word → Some x ≡ turns_in word → MOST_TURNS < length before + x.count → (schedule : List ThreadId) → IsSchedule text schedule → ⊥
+pub none_beyond : (text : List ℕ) (k : ℕ) (word : List ℕ) (before : List ThreadId) (x : Turns) → 0 < length text → Reads text k before → k < length (words_in text) → word ≡ get_or (words_in text) k word → Some x ≡ turns_in word → MOST_TURNS < length before + x.count → (schedule : List ThreadId) → SaysTurns text schedule → ⊥
 none_beyond text k word before x some r more is says many schedule h =
     let e = words_of_schedule text schedule some h in
     let said = turns_taken word x (sym says) in
@@ -174,7 +182,7 @@ none_beyond text k word before x some r more is says many schedule h =
     omega (arith, many, longer, turns, all, h.few)
 
 -- a fault of the text, by its cases
-pub fault_by_cases : (text : List ℕ) (fault : ScheduleFault) → (fault ≡ Bad → (schedule : List ThreadId) → IsSchedule text schedule → ⊥) → (fault ≡ Memory → GrowthRefused) → IsFaultOfSchedule text fault
+pub fault_by_cases : (text : List ℕ) (fault : ScheduleFault) → (fault ≡ Bad → (schedule : List ThreadId) → SaysTurns text schedule → ⊥) → (fault ≡ Memory → GrowthRefused) → IsFaultOfTurns text fault
 fault_by_cases text Bad bad memory = bad refl
 fault_by_cases text Memory bad memory = memory refl
 
@@ -186,7 +194,7 @@ no_words (x ∷ rest) each e =
     let h = All-head AreTurns x rest each in
     absurd (omega (arith, ap length e, length-append (turns_text x) (spaced rest), length-append (decimal x.thread.0) (count_text x.count), decimal_nonempty x.thread.0 (omega (arith, h.thread))))
 
-pub one_of_text : (text : List ℕ) (one other : List ThreadId) → IsSchedule text one → IsSchedule text other → one ≡ other
+pub one_of_text : (text : List ℕ) (one other : List ThreadId) → SaysTurns text one → SaysTurns text other → one ≡ other
 one_of_text [] one other a b =
     let xs = no_words a.words a.each (sym a.whole) in
     let ys = no_words b.words b.each (sym b.whole) in
@@ -205,5 +213,5 @@ threads_in_order (x ∷ rest) each =
     let first = All-head AreTurns x rest each in
     All-append Small (replicate x.count x.thread) (in_order rest) (All-replicate Small x.count x.thread first.thread) (threads_in_order rest (All-tail AreTurns x rest each))
 
-pub threads_of_schedule : (text : List ℕ) (schedule : List ThreadId) → IsSchedule text schedule → All (λ (t : ThreadId). t.0 < MOST_THREADS) schedule
+pub threads_of_schedule : (text : List ℕ) (schedule : List ThreadId) → SaysTurns text schedule → All (λ (t : ThreadId). t.0 < MOST_THREADS) schedule
 threads_of_schedule text schedule h = subst (All (λ (t : ThreadId). t.0 < MOST_THREADS)) (sym h.turns) (threads_in_order h.words h.each)

@@ -4,7 +4,7 @@ use Rattle.velo_events.specs.declared.event.ThreadId.{ThreadId}
 use Rattle.velo_events.specs.Refusals.{GrowthRefused}
 use Rattle.velo_turns.specs.declared.schedule.ScheduleFault.{ScheduleFault}
 use Rattle.velo_turns.specs.declared.schedule.ScheduleFault.TheVariants.{Bad, Memory}
-use Rattle.velo_turns.specs.Schedule.{IsSchedule}
+use Rattle.velo_turns.specs.Schedule.{SaysTurns}
 
 -- the bytes are this text; one newline at their end does not count
 abbrev pub AreOfText : List ℕ → List ℕ → Type 0
@@ -12,11 +12,11 @@ AreOfText bytes text =
     (bytes ≡ text ++ codes "\n")
     ⊎ ((bytes ≡ text) × ((front : List ℕ) → bytes ≢ front ++ codes "\n"))
 
--- the bytes are a text of this schedule
+-- the bytes are a text that says the turns of this schedule
 pub record IsScheduleIn (bytes : List ℕ) (schedule : List ThreadId) : Type 0 where
   pub text : List ℕ
   pub are : AreOfText bytes text
-  pub says : IsSchedule text schedule
+  pub says : SaysTurns text schedule
 
 -- why the bytes are none of any
 abbrev pub IsFaultOfBytes : List ℕ → ScheduleFault → Type 0

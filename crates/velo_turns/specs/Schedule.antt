@@ -1,4 +1,4 @@
--- The text of a schedule.
+-- The texts of a schedule: thread numbers alone, or turns.
 use Rattle.std.specs.Prelude.{◌≡◌, ◌≤◌, ◌<◌, ◌++◌, ◌∷◌, ◌==◌, [], ℕ, List, All, length, decimal, replicate, if◌then◌else◌}
 use Rattle.velo_events.specs.declared.event.ThreadId.{ThreadId}
 use Rattle.velo_events.specs.declared.limits.TheConstants.{MOST_THREADS}
@@ -7,6 +7,31 @@ use Rattle.velo_turns.specs.declared.limits.TheConstants.{MOST_TURNS}
 use Rattle.velo_turns.specs.declared.turns.Turns.{Turns}
 use Rattle.velo_turns.specs.declared.schedule.ScheduleFault.{ScheduleFault}
 use Rattle.velo_turns.specs.declared.schedule.ScheduleFault.TheVariants.{Bad, Memory}
+
+-- ---- thread numbers alone: `0 0 0 1 0`
+
+-- the numbers of these threads, each behind a space
+abbrev pub numbers : List ThreadId → List ℕ
+numbers [] = []
+numbers (t ∷ rest) = 32 ∷ (decimal t.0 ++ numbers rest)
+
+-- their numbers, parted by one space
+abbrev pub numbers_text : List ThreadId → List ℕ
+numbers_text [] = []
+numbers_text (t ∷ rest) = decimal t.0 ++ numbers rest
+
+-- the text is the numbers of this schedule's threads
+pub record IsSchedule (text : List ℕ) (schedule : List ThreadId) : Type 0 where
+  pub whole : text ≡ numbers_text schedule
+  pub threads : All (λ t. t.0 < MOST_THREADS) schedule
+  pub few : length schedule ≤ MOST_TURNS
+
+-- why a text is that of none
+abbrev pub IsFaultOfSchedule : List ℕ → ScheduleFault → Type 0
+IsFaultOfSchedule text Bad = (schedule : List ThreadId) → ¬ IsSchedule text schedule
+IsFaultOfSchedule text Memory = GrowthRefused
+
+-- ---- turns: `0*3 1 0`
 
 -- `3` is one turn of thread 3, and `3*2` are two
 abbrev pub turns_text : Turns → List ℕ
@@ -33,15 +58,15 @@ abbrev pub in_order : List Turns → List ThreadId
 in_order [] = []
 in_order (turns ∷ rest) = replicate turns.count turns.thread ++ in_order rest
 
--- the text is this schedule's: words that say its turns
-pub record IsSchedule (text : List ℕ) (schedule : List ThreadId) : Type 0 where
+-- the text says the turns of this schedule, in words
+pub record SaysTurns (text : List ℕ) (schedule : List ThreadId) : Type 0 where
   pub words : List Turns
   pub each : All AreTurns words
   pub whole : text ≡ words_text words
   pub turns : schedule ≡ in_order words
   pub few : length schedule ≤ MOST_TURNS
 
--- why a text is none
-abbrev pub IsFaultOfSchedule : List ℕ → ScheduleFault → Type 0
-IsFaultOfSchedule text Bad = (schedule : List ThreadId) → ¬ IsSchedule text schedule
-IsFaultOfSchedule text Memory = GrowthRefused
+-- why a text says those of none
+abbrev pub IsFaultOfTurns : List ℕ → ScheduleFault → Type 0
+IsFaultOfTurns text Bad = (schedule : List ThreadId) → ¬ SaysTurns text schedule
+IsFaultOfTurns text Memory = GrowthRefused

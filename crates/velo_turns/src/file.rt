@@ -3,7 +3,7 @@ ghost use Rattle.std.specs.Prelude.{IfErr, IfOk};
 ghost use Rattle.velo_turns.specs.File.{AreOfText, IsFaultOfBytes, IsScheduleIn};
 
 use crate::limits::MOST_SCHEDULE_BYTES;
-use crate::schedule::{ScheduleFault, schedule_of};
+use crate::schedule::{ScheduleFault, turns_of};
 use std::alloc::Global;
 use velo_events::ThreadId;
 
@@ -17,7 +17,7 @@ fn without_newline(text: &str) -> &str
     }
 }
 
-/// Reads the schedule that the bytes of a file say: its text, as [`schedule_of`] takes it, and at most one newline behind it.
+/// Reads the schedule that the bytes of a file say: its turns, as [`turns_of`] takes them, and at most one newline behind them.
 /// More bytes than [`MOST_SCHEDULE_BYTES`] say none.
 ///
 /// # Errors
@@ -30,7 +30,7 @@ pub fn schedule_in(alloc: Global, bytes: &[u8]) -> Result<Vec<ThreadId>, Schedul
         return Err(ScheduleFault::Bad);
     }
     match std::str::from_utf8(bytes) {
-        Ok(text) => schedule_of(alloc, without_newline(text)),
+        Ok(text) => turns_of(alloc, without_newline(text)),
         Err(_) => Err(ScheduleFault::Bad),
     }
 }

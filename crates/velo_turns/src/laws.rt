@@ -3,16 +3,21 @@ ghost use Rattle.std.specs.Prelude.{◌≡◌, ◌≤◌, ◌<◌, ℕ, List, Al
 ghost use Rattle.velo_events.specs.declared.event.ThreadId.{ThreadId};
 ghost use Rattle.velo_events.specs.declared.limits.TheConstants.{MOST_THREADS};
 ghost use Rattle.velo_turns.specs.declared.limits.TheConstants.{MOST_TURNS};
-ghost use Rattle.velo_turns.specs.Schedule.{IsSchedule};
+ghost use Rattle.velo_turns.specs.Schedule.{IsSchedule, SaysTurns};
 ghost use Rattle.velo_turns.specs.Short.{short_text};
 
-/// A text is that of one schedule.
+/// A text says the turns of one schedule.
 pub fn one_schedule()
-    ensures { (text : List ℕ) (one other : List ThreadId) → IsSchedule text one → IsSchedule text other → one ≡ other }
+    ensures { (text : List ℕ) (one other : List ThreadId) → SaysTurns text one → SaysTurns text other → one ≡ other }
 {}
 
-/// The short text of a schedule is a text of this schedule.
+/// Thread numbers alone say the turns of the same schedule.
+pub fn numbers_are_turns()
+    ensures { (text : List ℕ) (schedule : List ThreadId) → IsSchedule text schedule → SaysTurns text schedule }
+{}
+
+/// The short text of a schedule says its turns.
 pub fn reads_back()
     ensures { (schedule : List ThreadId) → All (λ t. t.0 < MOST_THREADS) schedule
-        → length schedule ≤ MOST_TURNS → IsSchedule (short_text schedule) schedule }
+        → length schedule ≤ MOST_TURNS → SaysTurns (short_text schedule) schedule }
 {}

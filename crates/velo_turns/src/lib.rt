@@ -1,4 +1,5 @@
-//! Schedules as text: `0*3 1 0` is three turns of thread 0, one of thread 1 and one more of thread 0.
+//! Schedules as text: `0 0 0 1 0`, or by turns `0*3 1 0`, is three turns of thread 0, one of thread 1 and one more of
+//! thread 0.
 #![tactic(auto)]
 
 mod file;
@@ -11,7 +12,7 @@ mod tests;
 mod turns;
 
 pub use file::schedule_in;
-pub use laws::{one_schedule, reads_back};
+pub use laws::{numbers_are_turns, one_schedule, reads_back};
 pub use limits::{MOST_SCHEDULE_BYTES, MOST_TURNS};
-pub use schedule::{ScheduleFault, schedule_of};
+pub use schedule::{ScheduleFault, schedule_of, turns_of};
 pub use short::append_turns;

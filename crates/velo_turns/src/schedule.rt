@@ -1,8 +1,8 @@
-//! Reading the text of a schedule.
+//! Reading a schedule: as thread numbers alone, or as turns.
 ghost use Rattle.std.specs.Prelude.{◌≡◌, ◌≤◌, ◌+◌, ◌<◌, ◌++◌, replicate, vec_len, Err, OnOk, IfOk, IfErr};
 ghost use Rattle.velo_events.specs.Refusals.{GrowthRefused};
 ghost use Rattle.velo_turns.specs.declared.schedule.ScheduleFault.TheVariants as schedule_fault;
-ghost use Rattle.velo_turns.specs.Schedule.{IsSchedule, IsFaultOfSchedule};
+ghost use Rattle.velo_turns.specs.Schedule.{IsFaultOfSchedule, IsFaultOfTurns, IsSchedule, SaysTurns};
 
 use crate::limits::MOST_TURNS;
 use crate::turns::{Turns, turns_in};
@@ -14,7 +14,7 @@ use velo_events::{Memory, ThreadId};
 /// Why a text is no schedule.
 #[derive(Clone, Copy, Debug, PartialEq, Eq, Error)]
 pub enum ScheduleFault {
-    /// It is the text of no schedule: see [`schedule_of`].
+    /// It is the text of no schedule: see [`schedule_of`] and [`turns_of`].
     #[error("bad schedule")]
     Bad,
     /// A growth was refused.
@@ -39,16 +39,16 @@ fn push(schedule: &mut Vec<ThreadId>, turns: Turns) -> Result<(), ScheduleFault>
     }
 }
 
-/// Reads a schedule: the threads whose turns come one after another. The text has words parted by one space. A word is
-/// a thread's number, below [`MOST_THREADS`](velo_events::MOST_THREADS), for one turn, or such a number, a star and how
-/// many turns, 2 or more. Numbers have no leading zeros. There are at most [`MOST_TURNS`] turns in all; the empty text
-/// is the empty schedule.
+/// Reads a schedule that is told by turns: the threads whose turns come one after another. The text has words parted by
+/// one space. A word is a thread's number, below [`MOST_THREADS`](velo_events::MOST_THREADS), for one turn, or such a
+/// number, a star and how many turns, 2 or more. Numbers have no leading zeros. There are at most [`MOST_TURNS`] turns in
+/// all; the empty text is the empty schedule.
 ///
 /// # Errors
 /// `Bad` for another text, `Memory` where a growth was refused.
-pub fn schedule_of(alloc: Global, text: &str) -> Result<Vec<ThreadId>, ScheduleFault>
-    ensures schedule { IfOk result (λ schedule. IsSchedule text.now schedule.items) }
-    ensures fault { IfErr result (IsFaultOfSchedule text.now) }
+pub fn turns_of(alloc: Global, text: &str) -> Result<Vec<ThreadId>, ScheduleFault>
+    ensures schedule { IfOk result (λ schedule. SaysTurns text.now schedule.items) }
+    ensures fault { IfErr result (IsFaultOfTurns text.now) }
 {
     let mut schedule = Vec::new(alloc);
     if text.is_empty() {
@@ -64,4 +64,21 @@ pub fn schedule_of(alloc: Global, text: &str) -> Result<Vec<ThreadId>, ScheduleF
         }
     }
     Ok(schedule)
+}
+
+/// Reads a schedule that is told by thread numbers alone, one for each turn. They are below
+/// [`MOST_THREADS`](velo_events::MOST_THREADS), have no leading zeros and are parted by one space. There are at most
+/// [`MOST_TURNS`]; the empty text is the empty schedule. So these are the texts that [`turns_of`] takes and that have no
+/// star.
+///
+/// # Errors
+/// `Bad` for another text, `Memory` where a growth was refused.
+pub fn schedule_of(alloc: Global, text: &str) -> Result<Vec<ThreadId>, ScheduleFault>
+    ensures schedule { IfOk result (λ schedule. IsSchedule text.now schedule.items) }
+    ensures fault { IfErr result (IsFaultOfSchedule text.now) }
+{
+    if text.contains('*') {
+        return Err(ScheduleFault::Bad);
+    }
+    turns_of(alloc, text)
 }

@@ -1,10 +1,25 @@
 //! Schedules as they are read and written.
-use crate::{ScheduleFault, append_turns, schedule_of};
+use crate::{ScheduleFault, append_turns, schedule_of, turns_of};
 use std::alloc::Global;
 use std::test::Fail;
 
 /// Whether a text is read and written as this short one, each word behind a space.
 fn is_short(alloc: Global, text: &str, short: &[u8]) -> bool {
+    let mut written = Vec::new(alloc);
+    match turns_of(alloc, text) {
+        Ok(schedule) => append_turns(&mut written, &schedule).is_ok()
+            && written.as_slice() == short,
+        Err(_) => false,
+    }
+}
+
+/// Whether a text says no turns.
+fn is_bad(alloc: Global, text: &str) -> bool {
+    matches!(turns_of(alloc, text), Err(ScheduleFault::Bad))
+}
+
+/// Whether thread numbers alone are the schedule that is written as this short text.
+fn are_numbers_of(alloc: Global, text: &str, short: &[u8]) -> bool {
     let mut written = Vec::new(alloc);
     match schedule_of(alloc, text) {
         Ok(schedule) => append_turns(&mut written, &schedule).is_ok()
@@ -13,8 +28,8 @@ fn is_short(alloc: Global, text: &str, short: &[u8]) -> bool {
     }
 }
 
-/// Whether a text is no schedule's.
-fn is_bad(alloc: Global, text: &str) -> bool {
+/// Whether a text is not thread numbers alone.
+fn are_no_numbers(alloc: Global, text: &str) -> bool {
     matches!(schedule_of(alloc, text), Err(ScheduleFault::Bad))
 }
 
@@ -62,6 +77,26 @@ fn other_texts_are_bad(rt: HostRuntime) -> Result<(), Fail> {
         "9999999999999999999999",
     ] {
         assert_eq!(rt; is_bad(rt.alloc(), text), true);
+    }
+    Ok(())
+}
+
+#[test]
+fn thread_numbers_are_read(rt: HostRuntime) -> Result<(), Fail> {
+    assert_eq!(rt; are_numbers_of(rt.alloc(), "", b""), true);
+    assert_eq!(rt; are_numbers_of(rt.alloc(), "63", b" 63"), true);
+    assert_eq!(rt; are_numbers_of(rt.alloc(), "0 0 0 1 0", b" 0*3 1 0"), true);
+    assert_eq!(rt; are_numbers_of(rt.alloc(), "9 10 10 2", b" 9 10*2 2"), true);
+    Ok(())
+}
+
+#[test]
+fn other_texts_are_no_numbers(rt: HostRuntime) -> Result<(), Fail> {
+    for text in [
+        "0*3 1", "0*1", "0 1*2", "*", "@s", "@", "0  1", " 0", "0 ", " ", "01", "00", "64", "0\t1",
+        "\t0", "0\n", "0,1", "+1", "-1", "x",
+    ] {
+        assert_eq!(rt; are_no_numbers(rt.alloc(), text), true);
     }
     Ok(())
 }

@@ -48,7 +48,7 @@ const RIGHT_WORDS: [(&[&str], u8, &str); 9] = [
     (&["velodrome", "--help"], 0, ""),
 ];
 
-const WRONG_WORDS: [&[&str]; 35] = [
+const WRONG_WORDS: [&[&str]; 39] = [
     &["velodrome"],
     &["velodrome", "check"],
     &["velodrome", "race", "a.log"],
@@ -91,12 +91,16 @@ const WRONG_WORDS: [&[&str]; 35] = [
         "0",
     ],
     &["velodrome", "run"],
+    &["velodrome", "replay", "w", "--turns"],
+    &["velodrome", "replay", "w", "--turns", "0", "--turns", "0"],
     &["velodrome", "run", "w", "--schedule", "0"],
+    &["velodrome", "run", "w", "--turns", "0"],
     &["velodrome", "explore"],
     &["velodrome", "explore", "w", "--states", "0"],
     &["velodrome", "explore", "w", "--states", "16777217"],
     &["velodrome", "explore", "w", "--stop"],
     &["velodrome", "explore", "w", "--schedule", "0"],
+    &["velodrome", "explore", "w", "--turns", "0"],
     &["velodrome", "explore", "w", "--random"],
     &["velodrome", "explore", "w", "--random", "0"],
     &["velodrome", "explore", "w", "--random", "1000001"],
@@ -127,7 +131,7 @@ const WRONG_WORDS: [&[&str]; 35] = [
 ];
 
 /// Right words that do not go together, with the line that says so.
-const WORDS_APART: [(&[&str], &str); 15] = [
+const WORDS_APART: [(&[&str], &str); 18] = [
     (
         &["velodrome", "check", "-", "--names", "-"],
         "error: standard input can be read once\n",
@@ -141,8 +145,29 @@ const WORDS_APART: [(&[&str], &str); 15] = [
         "error: standard input can be read once\n",
     ),
     (
-        &["velodrome", "replay", "-", "--schedule", "@-"],
+        &["velodrome", "replay", "-", "--turns", "@-"],
         "error: standard input can be read once\n",
+    ),
+    (
+        &[
+            "velodrome",
+            "replay",
+            "w",
+            "--schedule",
+            "0",
+            "--turns",
+            "0",
+        ],
+        "error: --schedule does not go with --turns\n",
+    ),
+    // which of them is no schedule is not judged, nor whether standard input is read twice
+    (
+        &["velodrome", "replay", "w", "--turns", "", "--schedule", "x"],
+        "error: --schedule does not go with --turns\n",
+    ),
+    (
+        &["velodrome", "replay", "-", "--turns=@-", "--schedule="],
+        "error: --schedule does not go with --turns\n",
     ),
     (
         &["velodrome", "replay", "w", "--names-out", "n"],

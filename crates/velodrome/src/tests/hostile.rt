@@ -130,10 +130,10 @@ fn reads_fail_at_each_byte(rt: HostRuntime) {
     }
 }
 
-/// The text of a schedule, which fails after so many bytes.
+/// The turns of a file, which fails after so many bytes.
 #[test]
-fn reads_of_a_schedule_fail_at_each_byte(rt: HostRuntime) {
-    let words = ["velodrome", "replay", "w", "--schedule", "@s"];
+fn reads_of_turns_fail_at_each_byte(rt: HostRuntime) {
+    let words = ["velodrome", "replay", "w", "--turns", "@s"];
     let text = "0*3 1 0\n";
     for count in 0..=text.len() {
         fail_read(&rt, rt.alloc(), &words, text, count);

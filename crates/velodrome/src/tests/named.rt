@@ -139,7 +139,7 @@ fn request_of<'a>(
     match how {
         How::Run => Request::Run(run),
         How::Replay => Request::Replay(ReplayOptions {
-            schedule: ScheduleSource::Text(SCHEDULE),
+            schedule: ScheduleSource::Turns(SCHEDULE),
             run,
         }),
         How::Explore => Request::Explore(ExploreOptions {

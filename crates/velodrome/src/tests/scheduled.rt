@@ -1,12 +1,15 @@
-//! Replays by the schedule of a file.
+//! Replays by turns, by those of a file, and by texts that are no schedule.
 use crate::tests::workloads::{COLLIDING, COLLIDING_REPORT};
-use crate::tests::{Folder, compare, show};
+use crate::tests::{Folder, compare, show, show_on};
 use std::alloc::Global;
+use std::cell::Cell;
 use std::process::Abort;
 use std::sync::Wait;
 use std::thread::Threads;
+use velo_logtext::{Bytes, Text};
+use velo_program::Files;
 
-/// The text of a file, which is standard input too, and what a replay by its schedule shows.
+/// The text of a file, which is standard input too, and what a replay by its turns shows.
 struct Row {
     words: &'static [&'static str],
     text: &'static str,
@@ -15,13 +18,34 @@ struct Row {
     status: u8,
 }
 
-const BY_FILE: &[&str] = &["velodrome", "replay", "w", "--schedule", "@s"];
+const BY_FILE: &[&str] = &["velodrome", "replay", "w", "--turns", "@s"];
 
-const BY_INPUT: &[&str] = &["velodrome", "replay", "w", "--schedule", "@-"];
+const BY_INPUT: &[&str] = &["velodrome", "replay", "w", "--turns", "@-"];
 
 const IN_ROUNDS: &str = "events 9\nthread 0 main 7\nthread 1 a 2\nverdict clean\n";
 
-static ROWS: [Row; 12] = [
+static ROWS: [Row; 15] = [
+    Row {
+        words: &["velodrome", "replay", "w", "--schedule", "0 0 0 1 0"],
+        text: "",
+        out: COLLIDING_REPORT,
+        err: "",
+        status: 3,
+    },
+    Row {
+        words: &["velodrome", "replay", "w", "--turns", "0*3 1 0"],
+        text: "",
+        out: COLLIDING_REPORT,
+        err: "",
+        status: 3,
+    },
+    Row {
+        words: &["velodrome", "replay", "w", "--turns", ""],
+        text: "0*3 1 0",
+        out: IN_ROUNDS,
+        err: "",
+        status: 0,
+    },
     Row {
         words: BY_FILE,
         text: "0*3 1 0\n",
@@ -82,28 +106,28 @@ static ROWS: [Row; 12] = [
     },
     // the schedule goes before the workload
     Row {
-        words: &["velodrome", "replay", "none", "--schedule", "@s"],
+        words: &["velodrome", "replay", "none", "--turns", "@s"],
         text: "64",
         out: "",
         err: "bad schedule\n",
         status: 2,
     },
     Row {
-        words: &["velodrome", "replay", "s", "--schedule", "@none"],
+        words: &["velodrome", "replay", "s", "--turns", "@none"],
         text: "no workload",
         out: "",
         err: "cannot open\n",
         status: 5,
     },
     Row {
-        words: &["velodrome", "replay", "w", "--schedule", "@"],
+        words: &["velodrome", "replay", "w", "--turns", "@"],
         text: "",
         out: "",
         err: "cannot open\n",
         status: 5,
     },
     Row {
-        words: &["velodrome", "replay", "none", "--schedule", "@s"],
+        words: &["velodrome", "replay", "none", "--turns", "@s"],
         text: "0",
         out: "",
         err: "cannot open\n",
@@ -121,9 +145,107 @@ fn do_row<R: Threads + Wait + Abort + Sync>(rt: &R, alloc: Global, row: &Row, st
 }
 
 #[test]
-fn schedules_of_files(rt: HostRuntime) {
+fn turns_and_files_of_turns(rt: HostRuntime) {
     for row in &ROWS {
         do_row(&rt, rt.alloc(), row, 1);
         do_row(&rt, rt.alloc(), row, usize::MAX);
     }
+}
+
+/// Files at every path, with this text. It is noted whether one is opened.
+#[derive(Drop)]
+struct Watched<'a> {
+    text: &'a str,
+    alloc: Global,
+    is_opened: Cell<bool>,
+}
+
+impl<'a> Files for Watched<'a> {
+    type Input = Bytes<'a>;
+
+    type StandardInput = Bytes<'a>;
+
+    type Output = Text;
+
+    fn open(&self, _path: &str) -> Option<Bytes<'a>> {
+        self.is_opened.set(true);
+        Some(Bytes::new(self.text.as_bytes()))
+    }
+
+    fn standard_input(&self) -> Bytes<'a> {
+        self.is_opened.set(true);
+        Bytes::new(self.text.as_bytes())
+    }
+
+    fn create(&mut self, _path: &str) -> Option<Text> {
+        self.is_opened.set(true);
+        Some(Text::new(self.alloc))
+    }
+
+    fn close(&mut self, _path: &str, _file: Text) {}
+}
+
+/// Does a replay, and tells whether it opened a file.
+fn opens_a_file<R: Threads + Wait + Abort + Sync>(
+    rt: &R,
+    alloc: Global,
+    option: &str,
+    value: &str,
+    told: (&str, u8),
+) -> bool {
+    let mut files = Watched {
+        text: "thread main",
+        alloc,
+        is_opened: Cell::new(false),
+    };
+    let words = ["velodrome", "replay", "w", option, value, "--log", "o"];
+    let (out, err) = (Text::new(alloc), Text::new(alloc));
+    let shown = show_on(rt, alloc, &words, &mut files, out, err);
+    let is_opened = files.is_opened.get();
+    assert_eq!(rt;
+        (shown.err.as_slice(), shown.status),
+        (told.0.as_bytes(), told.1),
+        "{value}"
+    );
+    drop((shown, files));
+    is_opened
+}
+
+/// What `--schedule` does not take, though `--turns` takes some of it.
+const NO_NUMBERS: [&str; 15] = [
+    "0*3 1", "0*2", "@s", "@-", "@", "0  1", " 0", "0 ", " ", "01", "64", "0\t1", "\t", "0\n",
+    "0 x",
+];
+
+/// What `--turns` does not take.
+const NO_TURNS: [&str; 10] = [
+    "0*1",
+    "0*03",
+    "0*3  1",
+    " 0*3",
+    "0*3 ",
+    "0*3\t1",
+    "01",
+    "64*2",
+    "0*1000001",
+    "0*3 @s",
+];
+
+#[test]
+fn no_file_is_opened_for_a_bad_schedule(rt: HostRuntime) {
+    let bad = ("bad schedule\n", 2);
+    for text in NO_NUMBERS {
+        assert!(rt;
+            !opens_a_file(&rt, rt.alloc(), "--schedule", text, bad),
+            "{text}"
+        );
+    }
+    for text in NO_TURNS {
+        assert!(rt;
+            !opens_a_file(&rt, rt.alloc(), "--turns", text, bad),
+            "{text}"
+        );
+    }
+    assert!(rt; opens_a_file(&rt, rt.alloc(), "--schedule", "0 1", ("", 0)));
+    assert!(rt; opens_a_file(&rt, rt.alloc(), "--turns", "0*2 1", ("", 0)));
 }

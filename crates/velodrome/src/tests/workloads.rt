@@ -431,20 +431,18 @@ fn workloads_run(rt: HostRuntime) {
 }
 
 /// Texts of schedules, with the numbers that they mean.
-const SCHEDULES: [(&str, &[u8]); 8] = [
+const SCHEDULES: [(&str, &[u8]); 6] = [
     ("", &[]),
     ("0", &[0]),
     ("63", &[63]),
     ("0 0 1", &[0, 0, 1]),
     ("10 9 60 59", &[10, 9, 60, 59]),
     ("1 1", &[1, 1]),
-    ("0*3 1 0", &[0, 0, 0, 1, 0]),
-    ("0 0*2 63*2", &[0, 0, 0, 63, 63]),
 ];
 
-const BAD_SCHEDULES: [&str; 22] = [
+const BAD_SCHEDULES: [&str; 21] = [
     "64", "01", "0 x", " ", " 0", "0 ", "0  1", "100", "+1", "-1", "70", "0,1", "0\t1", "0\n",
-    "00", "x", "0*1", "0*0", "0*02", "*2", "0*", "0*2*2",
+    "00", "x", "0*3 1", "0 1*2", "*", "@s", "@",
 ];
 
 /// Compares a schedule with the numbers that its text means.
@@ -485,7 +483,5 @@ fn long_schedules(rt: HostRuntime) -> Result<(), Fail> {
     assert!(rt; schedule_of(rt.alloc(), text.as_str()).is_ok());
     text.push_str(" 0")?;
     assert!(rt; schedule_of(rt.alloc(), text.as_str()) == Err(ScheduleFault::Bad));
-    assert!(rt; schedule_of(rt.alloc(), "0*999999 1").is_ok());
-    assert!(rt; schedule_of(rt.alloc(), "0*999999 1*2") == Err(ScheduleFault::Bad));
     Ok(())
 }

@@ -10,11 +10,11 @@ returns-then-bytes-gt-MOST_SCHEDULE_BYTES-clause-fault c = λ schedule says.
 
 pub returns-in-Ok-clause-schedule : goal.returns-in-Ok-clause-schedule
 returns-in-Ok-clause-schedule c =
-    IfOk-weaker c.schedule_of.result _ _ (λ schedule. found_in _ _ _ schedule.items c.in-Ok.ensures.cases.0 c.without_newline.ensures) c.schedule_of.ensures.schedule
+    IfOk-weaker c.turns_of.result _ _ (λ schedule. found_in _ _ _ schedule.items c.in-Ok.ensures.cases.0 c.without_newline.ensures) c.turns_of.ensures.schedule
 
 pub returns-in-Ok-clause-fault : goal.returns-in-Ok-clause-fault
 returns-in-Ok-clause-fault c =
-    IfErr-weaker c.schedule_of.result _ _ (λ fault. none_in _ _ _ fault c.in-Ok.ensures.cases.0 c.without_newline.ensures) c.schedule_of.ensures.fault
+    IfErr-weaker c.turns_of.result _ _ (λ fault. none_in _ _ _ fault c.in-Ok.ensures.cases.0 c.without_newline.ensures) c.turns_of.ensures.fault
 
 pub returns-in-Err-clause-fault : goal.returns-in-Err-clause-fault
 returns-in-Err-clause-fault c = λ schedule says. c.in-Err.ensures.cases.0 (schedule_utf8 _ schedule says)
