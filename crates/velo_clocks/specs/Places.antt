@@ -1,5 +1,5 @@
 -- All places of a run over the rows that they share. Private contracts cite these words.
-use Rattle.std.specs.Prelude.{◌≡◌, ℕ, Bool, ◌&&◌, [], length, slice_index_or, IsTrue}
+use Rattle.std.specs.Prelude.{◌≡◌, ℕ, Bool, ◌&&◌, ◌+◌, ◌*◌, ◌≤◌, max, [], length, slice_index_or, IsTrue}
 use Rattle.velo_clocks.specs.declared.clock_places.PlaceClocks.{PlaceClocks}
 use Rattle.velo_clocks.specs.Clocks.{ClockState}
 use Rattle.velo_clocks.specs.Order.{IsInOrder}
@@ -33,6 +33,14 @@ pub record KeepsPlaces (old new : PlaceClocks) : Type 0 where
   pub writes : new.writes.items ≡ old.writes.items
   pub reads : new.reads ≡ old.reads
   pub same : (r : ℕ) → IsInUse old.rows r → slice_index_or new.rows.rows r [] ≡ slice_index_or old.rows.rows r []
+
+-- how many places there are for epochs
+abbrev pub count_places : PlaceClocks → ℕ
+count_places p = length p.threads.items + length p.writes.items + length p.reads.places.items
+
+-- The rows are no more than before, or no more than twice as many as the places and two.
+abbrev pub KeepsFewRows : PlaceClocks → PlaceClocks → Type 0
+KeepsFewRows old new = length new.rows.in_use.items ≤ max (length old.rows.in_use.items) (2 * count_places old + 2)
 
 -- And they are in order where this is said.
 pub record AreTables (n latest : ℕ) (in_order : Bool) (p : PlaceClocks) : Type 0 where

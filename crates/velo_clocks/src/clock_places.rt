@@ -1,12 +1,12 @@
 ghost use Rattle.velo_events.specs.Refusals.{GrowthRefused};
-ghost use Rattle.std.specs.Prelude.{◌≡◌, ◌<◌, ◌≤◌, ◌+◌, ◌^◌, ℕ, true, false, [], length, slice_index_or, slice_set, None, IsTrue, IsFalse, IfOk, OnOk, OnErr};
+ghost use Rattle.std.specs.Prelude.{◌≡◌, ◌<◌, ◌≤◌, ◌+◌, ◌-◌, ◌^◌, ℕ, min, true, false, [], length, slice_index_or, slice_set, None, IsTrue, IsFalse, IfOk, OnOk, OnErr};
 ghost use Rattle.velo_events.specs.Event.{thread_of, access_of, forked_by};
 ghost use Rattle.velo_clocks.specs.Clocks.{ClockPlace, blank_clock, clock_at, OfLast, blame_bound, KnowsNothing, KnowsTheSame};
 ghost use Rattle.velo_clocks.specs.Noted.{clock_beside, joined_clock, state_after_beside, state_after, with_spare, HasRoomToNoteBeside, HasRoomToNote, IsOfThreads};
 ghost use Rattle.velo_clocks.specs.Order.{KnowsOwn, KeepsOrder, KnowsBeside, IsAhead};
-ghost use Rattle.velo_clocks.specs.Epochs.{clock_in, alones_in, has_spare, AreRows, IsInUse};
+ghost use Rattle.velo_clocks.specs.Epochs.{clock_in, alones_in, count_used, has_spare, AreRows, IsInUse};
 ghost use Rattle.velo_clocks.specs.Reads.{has_lists, FollowsOwn};
-ghost use Rattle.velo_clocks.specs.Places.{state_of, is_ready, ArePlaces, KeepsPlaces};
+ghost use Rattle.velo_clocks.specs.Places.{count_places, state_of, is_ready, ArePlaces, KeepsPlaces, KeepsFewRows};
 
 use crate::epochs::Epoch;
 use crate::read_clocks::ReadClocks;
@@ -131,6 +131,7 @@ impl PlaceClocks {
         requires { ArePlaces threads self.old }
         ensures places { ArePlaces threads self.new }
         ensures kept { KeepsPlaces self.old self.new }
+        ensures few { KeepsFewRows self.old self.new }
         ensures ok { OnOk result (has_spare self.new.rows ≡ true) }
         ensures err { OnErr result (has_spare self.old.rows ≡ false) }
         ensures memory { OnErr result GrowthRefused }
@@ -148,6 +149,7 @@ impl PlaceClocks {
         requires { ArePlaces threads self.old }
         ensures places { ArePlaces threads self.new }
         ensures kept { KeepsPlaces self.old self.new }
+        ensures few { KeepsFewRows self.old self.new }
         ensures ok { OnOk result (has_spare self.new.rows ≡ true) }
         ensures memory { OnErr result GrowthRefused }
     {
@@ -160,14 +162,13 @@ impl PlaceClocks {
         }
         self.release_rows(threads);
         self.rows.seek();
-        if self.rows.has_spare() {
-            return Ok(());
-        }
-        self.rows.append(threads)
+        Ok(())
     }
 
-    /// No more epochs than this stand for events.
-    fn most_epochs(&self) -> usize {
+    /// No more epochs than this stand for events, or the largest number where there are more.
+    fn most_epochs(&self) -> usize
+        ensures { result ≡ min (count_places self.now) (2 ^ 64 - 1) }
+    {
         self.threads
             .len()
             .saturating_add(self.writes.len())
@@ -180,6 +181,9 @@ impl PlaceClocks {
         ensures places { ArePlaces threads self.new }
         ensures rows { self.new.rows.rows ≡ self.old.rows.rows }
         ensures kept { KeepsPlaces self.old self.new }
+        ensures count { length self.new.rows.in_use.items ≡ length self.old.rows.in_use.items }
+        ensures used { count_used self.new.rows ≤ count_places self.old + 1 }
+        ensures next { self.new.rows.next ≡ 1 }
     {
         self.rows.release(threads);
         self.rows.keep_epochs(&self.threads);

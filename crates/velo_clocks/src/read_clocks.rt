@@ -5,7 +5,7 @@ ghost use Rattle.velo_clocks.specs.Clocks.{blank_clock};
 ghost use Rattle.velo_clocks.specs.Noted.{maxima, cleared_at, joint_at, HasRoomAt, KeepNumbers};
 ghost use Rattle.velo_clocks.specs.Order.{KnowsOwn, KnowsTops};
 ghost use Rattle.velo_clocks.specs.declared.shared_rows.SharedRows.{SharedRows};
-ghost use Rattle.velo_clocks.specs.Epochs.{clock_in, AreRows, IsInUse, UsesMore};
+ghost use Rattle.velo_clocks.specs.Epochs.{clock_in, count_used, AreRows, IsInUse, UsesMore};
 ghost use Rattle.velo_clocks.specs.Reads.{blank_reads, reads_in, has_lists, epoch_in, AreReads, ReadsReferTo, FollowsOwn};
 
 use crate::epochs::Epoch;
@@ -352,6 +352,8 @@ impl ReadClocks {
         ensures count { length rows.new.in_use.items ≡ length rows.old.in_use.items }
         ensures more { UsesMore rows.old rows.new }
         ensures refers { ReadsReferTo rows.new self.now.places.items }
+        ensures used { count_used rows.new ≤ count_used rows.old + length self.now.places.items }
+        ensures next { rows.new.next ≡ rows.old.next }
     {
         for place in &self.places {
             if let ReadBy::One(one) = place.by {

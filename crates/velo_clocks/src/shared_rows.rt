@@ -1,9 +1,9 @@
 //! Rows of numbers that places share.
 ghost use Rattle.velo_events.specs.Refusals.{GrowthRefused};
-ghost use Rattle.std.specs.Prelude.{◌≡◌, ◌<◌, ℕ, true, [], length, slice_index_or, IsTrue, IfOk, OnOk, OnErr};
+ghost use Rattle.std.specs.Prelude.{◌≡◌, ◌<◌, ◌≤◌, ◌+◌, ℕ, true, false, [], length, slice_index_or, IsTrue, IfOk, OnOk, OnErr};
 ghost use Rattle.velo_clocks.specs.Noted.{maxima};
 ghost use Rattle.velo_clocks.specs.Order.{KnowsOwn, KnowsTops};
-ghost use Rattle.velo_clocks.specs.Epochs.{blank_epoch, clock_in, alone_in, has_spare, AreRows, IsInUse, RefersTo, KeepsRows, UsesMore};
+ghost use Rattle.velo_clocks.specs.Epochs.{blank_epoch, clock_in, alone_in, count_used, has_spare, AreRows, IsInUse, RefersTo, KeepsRows, UsesMore};
 
 use crate::epochs::Epoch;
 use crate::number_rows::NumberRows;
@@ -26,7 +26,10 @@ pub(crate) struct SharedRows {
 }
 
 /// The first row from this one on that is not in use, if there is one.
-fn free_from(in_use: &[bool], start: usize) -> usize {
+fn free_from(in_use: &[bool], start: usize) -> usize
+    ensures free { result < length in_use.now → slice_index_or in_use.now result true ≡ false }
+    ensures before { (r : ℕ) → start ≤ r → r < result → IsTrue (slice_index_or in_use.now r false) }
+{
     let mut row = start;
     while row < in_use.len() && in_use[row] {
         row += 1;
@@ -138,6 +141,7 @@ impl SharedRows {
     pub fn seek(&mut self)
         ensures rows { self.new.rows ≡ self.old.rows }
         ensures in_use { self.new.in_use.items ≡ self.old.in_use.items }
+        ensures found { self.old.next ≡ 1 → IsInUse self.old 0 → count_used self.old < length self.old.in_use.items → has_spare self.new ≡ true }
     {
         self.next = free_from(&self.in_use, self.next);
     }
@@ -152,6 +156,7 @@ impl SharedRows {
         ensures kept { KeepsRows self.old self.new }
         ensures same { (r : ℕ) → r < length self.old.rows → slice_index_or self.new.rows r [] ≡ slice_index_or self.old.rows r [] }
         ensures ok { OnOk result (has_spare self.new ≡ true) }
+        ensures count { length self.new.in_use.items ≤ length self.old.in_use.items + 1 }
         ensures memory { OnErr result GrowthRefused }
     {
         reserve(&mut self.in_use, 1)?;
@@ -168,6 +173,8 @@ impl SharedRows {
         ensures rows { AreRows threads self.new }
         ensures same { self.new.rows ≡ self.old.rows }
         ensures count { length self.new.in_use.items ≡ length self.old.in_use.items }
+        ensures used { count_used self.new ≤ 1 }
+        ensures next { self.new.next ≡ 1 }
     {
         self.in_use.fill(false);
         self.in_use[0] = true;
@@ -181,6 +188,8 @@ impl SharedRows {
         ensures count { length self.new.in_use.items ≡ length self.old.in_use.items }
         ensures more { UsesMore self.old self.new }
         ensures in_use { IsInUse self.new row }
+        ensures used { count_used self.new ≤ count_used self.old + 1 }
+        ensures next { self.new.next ≡ self.old.next }
     {
         self.in_use[row] = true;
     }
@@ -193,6 +202,8 @@ impl SharedRows {
         ensures count { length self.new.in_use.items ≡ length self.old.in_use.items }
         ensures more { UsesMore self.old self.new }
         ensures refers { RefersTo self.new epochs.now }
+        ensures used { count_used self.new ≤ count_used self.old + length epochs.now }
+        ensures next { self.new.next ≡ self.old.next }
     {
         for epoch in epochs {
             self.keep(epoch.row);
