@@ -1,5 +1,5 @@
 -- All places of a run over the rows that they share. Private contracts cite these words.
-use Rattle.std.specs.Prelude.{◌≡◌, ℕ, Bool, ◌&&◌, ◌+◌, ◌*◌, ◌≤◌, max, [], length, slice_index_or, IsTrue}
+use Rattle.std.specs.Prelude.{◌≡◌, ℕ, Bool, ◌&&◌, ◌+◌, ◌*◌, ◌≤◌, [], length, slice_index_or, IsTrue}
 use Rattle.velo_clocks.specs.declared.clock_places.PlaceClocks.{PlaceClocks}
 use Rattle.velo_clocks.specs.Clocks.{ClockState}
 use Rattle.velo_clocks.specs.Order.{IsInOrder}
@@ -38,11 +38,12 @@ pub record KeepsPlaces (old new : PlaceClocks) : Type 0 where
 abbrev pub count_places : PlaceClocks → ℕ
 count_places p = length p.threads.items + length p.writes.items + length p.reads.places.items
 
--- The rows are no more than before, or no more than twice as many as the places and two.
-abbrev pub KeepsFewRows : PlaceClocks → PlaceClocks → Type 0
-KeepsFewRows old new = length new.rows.in_use.items ≤ max (length old.rows.in_use.items) (2 * count_places old + 2)
+-- the rows are no more than twice as many as the places and two
+abbrev pub HasFewRows : PlaceClocks → Type 0
+HasFewRows p = length p.rows.in_use.items ≤ 2 * count_places p + 2
 
--- And they are in order where this is said.
+-- Rows are few, and the places in order where this is said.
 pub record AreTables (n latest : ℕ) (in_order : Bool) (p : PlaceClocks) : Type 0 where
   pub places : ArePlaces n p
+  pub few : HasFewRows p
   pub order : IsTrue in_order → IsInOrder latest (state_of p)

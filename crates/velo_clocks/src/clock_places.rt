@@ -6,7 +6,7 @@ ghost use Rattle.velo_clocks.specs.Noted.{clock_beside, joined_clock, state_afte
 ghost use Rattle.velo_clocks.specs.Order.{KnowsOwn, KeepsOrder, KnowsBeside, IsAhead};
 ghost use Rattle.velo_clocks.specs.Epochs.{clock_in, alones_in, count_used, has_spare, AreRows, IsInUse};
 ghost use Rattle.velo_clocks.specs.Reads.{has_lists, FollowsOwn};
-ghost use Rattle.velo_clocks.specs.Places.{count_places, state_of, is_ready, ArePlaces, KeepsPlaces, KeepsFewRows};
+ghost use Rattle.velo_clocks.specs.Places.{count_places, state_of, is_ready, ArePlaces, HasFewRows, KeepsPlaces};
 
 use crate::epochs::Epoch;
 use crate::read_clocks::ReadClocks;
@@ -40,6 +40,7 @@ impl PlaceClocks {
     pub fn new(alloc: Global, threads: usize) -> Result<PlaceClocks, Memory>
         ensures places { IfOk result (ArePlaces threads) }
         ensures blank { IfOk result (λ places. KnowsNothing (state_of places)) }
+        ensures few { IfOk result HasFewRows }
         ensures memory { OnErr result GrowthRefused }
     {
         let rows = SharedRows::new(alloc, threads)?;
@@ -81,6 +82,7 @@ impl PlaceClocks {
         requires { ArePlaces threads self.old }
         ensures places { ArePlaces threads self.new }
         ensures unchanged { KnowsTheSame (state_of self.old) (state_of self.new) }
+        ensures few { HasFewRows self.old → HasFewRows self.new }
         ensures ok { OnOk result (IsOfThreads threads event.now → HasRoomToNote threads (state_of self.new) event.now) }
         ensures err { OnErr result (¬ HasRoomToNote threads (state_of self.old) event.now) }
         ensures memory { OnErr result GrowthRefused }
@@ -95,6 +97,7 @@ impl PlaceClocks {
         requires { ArePlaces threads self.old }
         ensures places { ArePlaces threads self.new }
         ensures unchanged { KnowsTheSame (state_of self.old) (state_of self.new) }
+        ensures few { HasFewRows self.old → HasFewRows self.new }
         ensures rows { self.new.rows ≡ self.old.rows }
         ensures lists { has_lists self.new.reads ≡ has_lists self.old.reads }
         ensures ok { OnOk result (IsOfThreads threads event.now → HasRoomToNoteBeside threads (state_of self.new) (access_of event.now.kind)) }
@@ -114,6 +117,7 @@ impl PlaceClocks {
         requires { ArePlaces threads self.old }
         ensures places { ArePlaces threads self.new }
         ensures kept { state_of self.new ≡ with_spare (is_ready self.new) (state_of self.old) }
+        ensures few { HasFewRows self.old → HasFewRows self.new }
         ensures rows { self.new.rows ≡ self.old.rows }
         ensures ok { OnOk result (has_lists self.new.reads ≡ true) }
         ensures err { OnErr result (has_lists self.old.reads ≡ false) }
@@ -131,7 +135,7 @@ impl PlaceClocks {
         requires { ArePlaces threads self.old }
         ensures places { ArePlaces threads self.new }
         ensures kept { KeepsPlaces self.old self.new }
-        ensures few { KeepsFewRows self.old self.new }
+        ensures few { HasFewRows self.old → HasFewRows self.new }
         ensures ok { OnOk result (has_spare self.new.rows ≡ true) }
         ensures err { OnErr result (has_spare self.old.rows ≡ false) }
         ensures memory { OnErr result GrowthRefused }
@@ -149,7 +153,7 @@ impl PlaceClocks {
         requires { ArePlaces threads self.old }
         ensures places { ArePlaces threads self.new }
         ensures kept { KeepsPlaces self.old self.new }
-        ensures few { KeepsFewRows self.old self.new }
+        ensures few { HasFewRows self.old → HasFewRows self.new }
         ensures ok { OnOk result (has_spare self.new.rows ≡ true) }
         ensures memory { OnErr result GrowthRefused }
     {
@@ -219,6 +223,7 @@ impl PlaceClocks {
         ensures forks_none { IsTrue result → forked_by event.now.kind ≡ None }
         ensures noted { IsTrue result → state_of self.new ≡ with_spare (is_ready self.new) (state_after (state_of self.old) (joined_clock (state_of self.old) position event.now) event.now) }
         ensures same { IsFalse result → self.new ≡ self.old }
+        ensures few { HasFewRows self.old → HasFewRows self.new }
     {
         let t = event.thread.0 as usize;
         let own = self.threads[t];
@@ -250,6 +255,7 @@ impl PlaceClocks {
         ensures noted { IsTrue result → state_of self.new
             ≡ with_spare (is_ready self.new) (state_after_beside (state_of self.old) own.by.0 (access_of event.now.kind) (clock_in self.old.rows.rows (record { by = own.by; number = number; row = own.row }))) }
         ensures same { IsFalse result → self.new ≡ self.old }
+        ensures few { HasFewRows self.old → HasFewRows self.new }
     {
         let epoch = Epoch {
             by: own.by,
@@ -290,6 +296,7 @@ impl PlaceClocks {
         requires ahead { IsTrue in_order → IsAhead (state_of self.old) position }
         ensures places { ArePlaces (length clock.old) self.new }
         ensures noted { state_of self.new ≡ with_spare (is_ready self.new) (state_after (state_of self.old) (joined_clock (state_of self.old) position event.now) event.now) }
+        ensures few { HasFewRows self.old → HasFewRows self.new }
     {
         let row = self.row_of(clock, event);
         let epoch = Epoch {
@@ -307,6 +314,7 @@ impl PlaceClocks {
         requires room { HasRoomToNote (length clock.old) (state_of self.old) event.now }
         ensures places { ArePlaces (length clock.old) self.new }
         ensures kept { KeepsPlaces self.old self.new }
+        ensures few { HasFewRows self.old → HasFewRows self.new }
         ensures in_use { IsInUse self.new.rows result }
         ensures row { (x : ℕ) → slice_set (slice_index_or self.new.rows.rows result []) (thread_of event.now) x
             ≡ slice_set (clock_beside (state_of self.old) (access_of event.now.kind) (clock_at (state_of self.old) (OfLast (thread_of event.now))).known) (thread_of event.now) x }
@@ -351,6 +359,7 @@ impl PlaceClocks {
         ensures places { ArePlaces threads self.new }
         ensures rows { self.new.rows ≡ self.old.rows }
         ensures noted { state_of self.new ≡ with_spare (is_ready self.new) (state_after_beside (state_of self.old) epoch.by.0 (access_of event.now.kind) (clock_in self.old.rows.rows epoch)) }
+        ensures few { HasFewRows self.old → HasFewRows self.new }
     {
         match event.kind.access() {
             Access::Shared(c) => self

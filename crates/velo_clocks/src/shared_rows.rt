@@ -44,6 +44,7 @@ impl SharedRows {
     /// `Memory` where a growth was refused.
     pub fn new(alloc: Global, threads: usize) -> Result<SharedRows, Memory>
         ensures rows { IfOk result (AreRows threads) }
+        ensures count { IfOk result (λ rows. length rows.in_use.items ≡ 1) }
         ensures memory { OnErr result GrowthRefused }
     {
         let mut rows = NumberRows::new(alloc);
@@ -130,6 +131,7 @@ impl SharedRows {
         ensures kept { KeepsRows self.old self.new }
         ensures in_use { IsInUse self.new result }
         ensures stored { slice_index_or self.new.rows result [] ≡ clock.now }
+        ensures count { length self.new.in_use.items ≡ length self.old.in_use.items }
     {
         let spare = self.next;
         self.rows.copy(spare, clock);
