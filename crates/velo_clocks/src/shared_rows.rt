@@ -1,6 +1,6 @@
 //! Rows of numbers that places share.
 ghost use Rattle.velo_events.specs.Refusals.{GrowthRefused};
-ghost use Rattle.std.specs.Prelude.{◌≡◌, ◌<◌, ◌≤◌, ◌+◌, ℕ, true, false, [], length, slice_index_or, IsTrue, IfOk, OnOk, OnErr};
+ghost use Rattle.std.specs.Prelude.{◌≡◌, ◌<◌, ◌≤◌, ◌+◌, ℕ, true, false, [], length, slice_index_or, IsTrue, IsFalse, IfOk, OnOk, OnErr};
 ghost use Rattle.velo_clocks.specs.Noted.{maxima};
 ghost use Rattle.velo_clocks.specs.Order.{KnowsOwn, KnowsTops};
 ghost use Rattle.velo_clocks.specs.Epochs.{blank_epoch, clock_in, alone_in, count_used, has_spare, AreRows, IsInUse, RefersTo, KeepsRows, UsesMore};
@@ -100,7 +100,8 @@ impl SharedRows {
     /// Whether the one event knows the other, as it does each of its own thread.
     #[inline(always)]
     pub fn knows(&self, own: Epoch, other: Epoch) -> bool
-        ensures { (threads : ℕ) → AreRows threads self.now → IsInUse self.now own.row → KnowsOwn (alone_in self.now.rows other) own.by.0 (clock_in self.now.rows own) → IsTrue result
+        ensures unknown { IsFalse result → slice_index_or (clock_in self.now.rows own) other.by.0 0 < other.number }
+        ensures known { (threads : ℕ) → AreRows threads self.now → IsInUse self.now own.row → KnowsOwn (alone_in self.now.rows other) own.by.0 (clock_in self.now.rows own) → IsTrue result
             → KnowsTops (alone_in self.now.rows other) (clock_in self.now.rows own) }
     {
         other.by.0 == own.by.0 || other.number <= number_of(self.rows.list(own.row), other.by)
