@@ -7,6 +7,7 @@ pub mod OnAlone
 pub mod OnNoted
 pub mod OnCleared
 pub mod OnRows
+pub mod OnUsedRows
 pub mod OnReadPlaces
 pub mod OnReadClocks
 pub mod OnReadsKnown

@@ -1,5 +1,5 @@
 -- Events at places as epochs over rows of numbers that they share. Private contracts cite these words.
-use Rattle.std.specs.Prelude.{◌≡◌, ℕ, Bool, true, false, not, ◌<◌, List, [], length, map, replicate, slice_index_or, slice_set, IsTrue}
+use Rattle.std.specs.Prelude.{◌≡◌, ℕ, Bool, true, false, not, ◌<◌, List, [], count_by, length, map, replicate, slice_index_or, slice_set, IsTrue}
 use Rattle.velo_clocks.specs.declared.epochs.Epoch.{Epoch}
 use Rattle.velo_clocks.specs.declared.shared_rows.SharedRows.{SharedRows}
 use Rattle.velo_clocks.specs.Clocks.{Clock}
@@ -27,6 +27,10 @@ IsInUse rows r = IsTrue (slice_index_or rows.in_use.items r false)
 -- the next row is not in use
 abbrev pub has_spare : SharedRows → Bool
 has_spare rows = not (slice_index_or rows.in_use.items rows.next true)
+
+-- how many rows are in use
+abbrev pub count_used : SharedRows → ℕ
+count_used rows = count_by (λ used. used) rows.in_use.items
 
 -- each has a number for each of n threads, and the first knows nothing and stays
 pub record AreRows (n : ℕ) (rows : SharedRows) : Type 0 where

@@ -1,5 +1,5 @@
 -- All places of a run over the rows that they share. Private contracts cite these words.
-use Rattle.std.specs.Prelude.{◌≡◌, ℕ, Bool, ◌&&◌, [], length, slice_index_or, IsTrue}
+use Rattle.std.specs.Prelude.{◌≡◌, ℕ, Bool, ◌&&◌, ◌+◌, ◌*◌, ◌≤◌, [], length, slice_index_or, IsTrue}
 use Rattle.velo_clocks.specs.declared.clock_places.PlaceClocks.{PlaceClocks}
 use Rattle.velo_clocks.specs.Clocks.{ClockState}
 use Rattle.velo_clocks.specs.Order.{IsInOrder}
@@ -34,7 +34,16 @@ pub record KeepsPlaces (old new : PlaceClocks) : Type 0 where
   pub reads : new.reads ≡ old.reads
   pub same : (r : ℕ) → IsInUse old.rows r → slice_index_or new.rows.rows r [] ≡ slice_index_or old.rows.rows r []
 
--- And they are in order where this is said.
+-- how many places there are for epochs
+abbrev pub count_places : PlaceClocks → ℕ
+count_places p = length p.threads.items + length p.writes.items + length p.reads.places.items
+
+-- the rows are no more than twice as many as the places and two
+abbrev pub HasFewRows : PlaceClocks → Type 0
+HasFewRows p = length p.rows.in_use.items ≤ 2 * count_places p + 2
+
+-- Rows are few, and the places in order where this is said.
 pub record AreTables (n latest : ℕ) (in_order : Bool) (p : PlaceClocks) : Type 0 where
   pub places : ArePlaces n p
+  pub few : HasFewRows p
   pub order : IsTrue in_order → IsInOrder latest (state_of p)

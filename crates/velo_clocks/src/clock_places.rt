@@ -1,12 +1,12 @@
 ghost use Rattle.velo_events.specs.Refusals.{GrowthRefused};
-ghost use Rattle.std.specs.Prelude.{◌≡◌, ◌<◌, ◌≤◌, ◌+◌, ◌^◌, ℕ, true, false, [], length, slice_index_or, slice_set, None, IsTrue, IsFalse, IfOk, OnOk, OnErr};
+ghost use Rattle.std.specs.Prelude.{◌≡◌, ◌<◌, ◌≤◌, ◌+◌, ◌-◌, ◌^◌, ℕ, min, true, false, [], length, slice_index_or, slice_set, None, IsTrue, IsFalse, IfOk, OnOk, OnErr};
 ghost use Rattle.velo_events.specs.Event.{thread_of, access_of, forked_by};
 ghost use Rattle.velo_clocks.specs.Clocks.{ClockPlace, blank_clock, clock_at, OfLast, blame_bound, KnowsNothing, KnowsTheSame};
 ghost use Rattle.velo_clocks.specs.Noted.{clock_beside, joined_clock, state_after_beside, state_after, with_spare, HasRoomToNoteBeside, HasRoomToNote, IsOfThreads};
 ghost use Rattle.velo_clocks.specs.Order.{KnowsOwn, KeepsOrder, KnowsBeside, IsAhead};
-ghost use Rattle.velo_clocks.specs.Epochs.{clock_in, alones_in, has_spare, AreRows, IsInUse};
+ghost use Rattle.velo_clocks.specs.Epochs.{clock_in, alones_in, count_used, has_spare, AreRows, IsInUse};
 ghost use Rattle.velo_clocks.specs.Reads.{has_lists, FollowsOwn};
-ghost use Rattle.velo_clocks.specs.Places.{state_of, is_ready, ArePlaces, KeepsPlaces};
+ghost use Rattle.velo_clocks.specs.Places.{count_places, state_of, is_ready, ArePlaces, HasFewRows, KeepsPlaces};
 
 use crate::epochs::Epoch;
 use crate::read_clocks::ReadClocks;
@@ -40,6 +40,7 @@ impl PlaceClocks {
     pub fn new(alloc: Global, threads: usize) -> Result<PlaceClocks, Memory>
         ensures places { IfOk result (ArePlaces threads) }
         ensures blank { IfOk result (λ places. KnowsNothing (state_of places)) }
+        ensures few { IfOk result HasFewRows }
         ensures memory { OnErr result GrowthRefused }
     {
         let rows = SharedRows::new(alloc, threads)?;
@@ -81,6 +82,7 @@ impl PlaceClocks {
         requires { ArePlaces threads self.old }
         ensures places { ArePlaces threads self.new }
         ensures unchanged { KnowsTheSame (state_of self.old) (state_of self.new) }
+        ensures few { HasFewRows self.old → HasFewRows self.new }
         ensures ok { OnOk result (IsOfThreads threads event.now → HasRoomToNote threads (state_of self.new) event.now) }
         ensures err { OnErr result (¬ HasRoomToNote threads (state_of self.old) event.now) }
         ensures memory { OnErr result GrowthRefused }
@@ -95,6 +97,7 @@ impl PlaceClocks {
         requires { ArePlaces threads self.old }
         ensures places { ArePlaces threads self.new }
         ensures unchanged { KnowsTheSame (state_of self.old) (state_of self.new) }
+        ensures few { HasFewRows self.old → HasFewRows self.new }
         ensures rows { self.new.rows ≡ self.old.rows }
         ensures lists { has_lists self.new.reads ≡ has_lists self.old.reads }
         ensures ok { OnOk result (IsOfThreads threads event.now → HasRoomToNoteBeside threads (state_of self.new) (access_of event.now.kind)) }
@@ -114,6 +117,7 @@ impl PlaceClocks {
         requires { ArePlaces threads self.old }
         ensures places { ArePlaces threads self.new }
         ensures kept { state_of self.new ≡ with_spare (is_ready self.new) (state_of self.old) }
+        ensures few { HasFewRows self.old → HasFewRows self.new }
         ensures rows { self.new.rows ≡ self.old.rows }
         ensures ok { OnOk result (has_lists self.new.reads ≡ true) }
         ensures err { OnErr result (has_lists self.old.reads ≡ false) }
@@ -131,6 +135,7 @@ impl PlaceClocks {
         requires { ArePlaces threads self.old }
         ensures places { ArePlaces threads self.new }
         ensures kept { KeepsPlaces self.old self.new }
+        ensures few { HasFewRows self.old → HasFewRows self.new }
         ensures ok { OnOk result (has_spare self.new.rows ≡ true) }
         ensures err { OnErr result (has_spare self.old.rows ≡ false) }
         ensures memory { OnErr result GrowthRefused }
@@ -148,6 +153,7 @@ impl PlaceClocks {
         requires { ArePlaces threads self.old }
         ensures places { ArePlaces threads self.new }
         ensures kept { KeepsPlaces self.old self.new }
+        ensures few { HasFewRows self.old → HasFewRows self.new }
         ensures ok { OnOk result (has_spare self.new.rows ≡ true) }
         ensures memory { OnErr result GrowthRefused }
     {
@@ -160,14 +166,13 @@ impl PlaceClocks {
         }
         self.release_rows(threads);
         self.rows.seek();
-        if self.rows.has_spare() {
-            return Ok(());
-        }
-        self.rows.append(threads)
+        Ok(())
     }
 
-    /// No more epochs than this stand for events.
-    fn most_epochs(&self) -> usize {
+    /// No more epochs than this stand for events, or the largest number where there are more.
+    fn most_epochs(&self) -> usize
+        ensures { result ≡ min (count_places self.now) (2 ^ 64 - 1) }
+    {
         self.threads
             .len()
             .saturating_add(self.writes.len())
@@ -180,6 +185,9 @@ impl PlaceClocks {
         ensures places { ArePlaces threads self.new }
         ensures rows { self.new.rows.rows ≡ self.old.rows.rows }
         ensures kept { KeepsPlaces self.old self.new }
+        ensures count { length self.new.rows.in_use.items ≡ length self.old.rows.in_use.items }
+        ensures used { count_used self.new.rows ≤ count_places self.old + 1 }
+        ensures next { self.new.rows.next ≡ 1 }
     {
         self.rows.release(threads);
         self.rows.keep_epochs(&self.threads);
@@ -215,6 +223,7 @@ impl PlaceClocks {
         ensures forks_none { IsTrue result → forked_by event.now.kind ≡ None }
         ensures noted { IsTrue result → state_of self.new ≡ with_spare (is_ready self.new) (state_after (state_of self.old) (joined_clock (state_of self.old) position event.now) event.now) }
         ensures same { IsFalse result → self.new ≡ self.old }
+        ensures few { HasFewRows self.old → HasFewRows self.new }
     {
         let t = event.thread.0 as usize;
         let own = self.threads[t];
@@ -246,6 +255,7 @@ impl PlaceClocks {
         ensures noted { IsTrue result → state_of self.new
             ≡ with_spare (is_ready self.new) (state_after_beside (state_of self.old) own.by.0 (access_of event.now.kind) (clock_in self.old.rows.rows (record { by = own.by; number = number; row = own.row }))) }
         ensures same { IsFalse result → self.new ≡ self.old }
+        ensures few { HasFewRows self.old → HasFewRows self.new }
     {
         let epoch = Epoch {
             by: own.by,
@@ -286,6 +296,7 @@ impl PlaceClocks {
         requires ahead { IsTrue in_order → IsAhead (state_of self.old) position }
         ensures places { ArePlaces (length clock.old) self.new }
         ensures noted { state_of self.new ≡ with_spare (is_ready self.new) (state_after (state_of self.old) (joined_clock (state_of self.old) position event.now) event.now) }
+        ensures few { HasFewRows self.old → HasFewRows self.new }
     {
         let row = self.row_of(clock, event);
         let epoch = Epoch {
@@ -303,6 +314,7 @@ impl PlaceClocks {
         requires room { HasRoomToNote (length clock.old) (state_of self.old) event.now }
         ensures places { ArePlaces (length clock.old) self.new }
         ensures kept { KeepsPlaces self.old self.new }
+        ensures few { HasFewRows self.old → HasFewRows self.new }
         ensures in_use { IsInUse self.new.rows result }
         ensures row { (x : ℕ) → slice_set (slice_index_or self.new.rows.rows result []) (thread_of event.now) x
             ≡ slice_set (clock_beside (state_of self.old) (access_of event.now.kind) (clock_at (state_of self.old) (OfLast (thread_of event.now))).known) (thread_of event.now) x }
@@ -347,6 +359,7 @@ impl PlaceClocks {
         ensures places { ArePlaces threads self.new }
         ensures rows { self.new.rows ≡ self.old.rows }
         ensures noted { state_of self.new ≡ with_spare (is_ready self.new) (state_after_beside (state_of self.old) epoch.by.0 (access_of event.now.kind) (clock_in self.old.rows.rows epoch)) }
+        ensures few { HasFewRows self.old → HasFewRows self.new }
     {
         match event.kind.access() {
             Access::Shared(c) => self

@@ -5,7 +5,7 @@ ghost use Rattle.velo_clocks.specs.Clocks.{blank_clock};
 ghost use Rattle.velo_clocks.specs.Noted.{maxima, cleared_at, joint_at, HasRoomAt, KeepNumbers};
 ghost use Rattle.velo_clocks.specs.Order.{KnowsOwn, KnowsTops};
 ghost use Rattle.velo_clocks.specs.declared.shared_rows.SharedRows.{SharedRows};
-ghost use Rattle.velo_clocks.specs.Epochs.{clock_in, AreRows, IsInUse, UsesMore};
+ghost use Rattle.velo_clocks.specs.Epochs.{clock_in, count_used, AreRows, IsInUse, UsesMore};
 ghost use Rattle.velo_clocks.specs.Reads.{blank_reads, reads_in, has_lists, epoch_in, AreReads, ReadsReferTo, FollowsOwn};
 
 use crate::epochs::Epoch;
@@ -90,6 +90,7 @@ impl ReadClocks {
         ensures own { self.new.own ≡ self.old.own }
         ensures by_others { self.new.by_others ≡ self.old.by_others }
         ensures spare { self.new.spare ≡ self.old.spare }
+        ensures count { length self.old.places.items ≤ length self.new.places.items }
         ensures reads { (threads : ℕ) (rows : SharedRows) → AreRows threads rows → AreReads threads rows self.old → AreReads threads rows self.new }
         ensures same { (threads : ℕ) (rows : SharedRows) → AreRows threads rows → KeepNumbers (reads_in rows self.old) (reads_in rows self.new) }
         ensures ok { OnOk result ((threads : ℕ) (rows : SharedRows) → AreRows threads rows → AreReads threads rows self.new → HasRoomAt threads (reads_in rows self.new) number) }
@@ -117,6 +118,7 @@ impl ReadClocks {
         ensures reads { AreReads threads rows.now self.new }
         ensures same { reads_in rows.now self.new ≡ reads_in rows.now self.old }
         ensures ok { OnOk result (has_lists self.new ≡ true) }
+        ensures count { length self.new.places.items ≡ length self.old.places.items }
         ensures memory { OnErr result GrowthRefused }
     {
         // No place has the first of them, since lists are counted from 1.
@@ -217,6 +219,7 @@ impl ReadClocks {
         requires by { epoch.by.0 < threads }
         requires in_use { IsInUse rows.now epoch.row }
         requires follows { IsTrue in_order → FollowsOwn rows.now self.old epoch }
+        ensures count { length self.new.places.items ≡ length self.old.places.items }
         ensures reads { AreReads threads rows.now self.new }
         ensures joint { reads_in rows.now self.new
             ≡ slice_set (reads_in rows.now self.old) number (joint_at (slice_index_or (reads_in rows.now self.old) number blank_clock) (clock_in rows.now.rows epoch) epoch.by.0) }
@@ -254,6 +257,7 @@ impl ReadClocks {
         requires lists { has_lists self.old ≡ true }
         requires by { by.0 < threads }
         requires in_use { IsInUse rows.now row }
+        ensures count { length self.new.places.items ≡ length self.old.places.items }
         ensures reads { AreReads threads rows.now self.new }
         ensures joint { reads_in rows.now self.new
             ≡ slice_set (reads_in rows.now self.old) place (joint_at (slice_index_or (reads_in rows.now self.old) place blank_clock) (clock_in rows.now.rows (record { by = by; number = number; row = row })) by.0) }
@@ -322,6 +326,7 @@ impl ReadClocks {
         requires several { (slice_index_or self.old.places.items place blank_reads).by ≡ Several }
         requires by { by.0 < threads }
         requires in_use { IsInUse rows.now row }
+        ensures count { length self.new.places.items ≡ length self.old.places.items }
         ensures reads { AreReads threads rows.now self.new }
         ensures joint { reads_in rows.now self.new
             ≡ slice_set (reads_in rows.now self.old) place (joint_at (slice_index_or (reads_in rows.now self.old) place blank_clock) (clock_in rows.now.rows (record { by = by; number = number; row = row })) by.0) }
@@ -334,6 +339,7 @@ impl ReadClocks {
     /// No read stands at the place any more.
     #[inline(always)]
     pub fn clear(&mut self, number: usize)
+        ensures count { length self.new.places.items ≡ length self.old.places.items }
         ensures lists { has_lists self.new ≡ has_lists self.old }
         ensures reads { (threads : ℕ) (rows : SharedRows) → AreRows threads rows → AreReads threads rows self.old → AreReads threads rows self.new }
         ensures cleared { (threads : ℕ) (rows : SharedRows) → AreRows threads rows → AreReads threads rows self.old
@@ -352,6 +358,8 @@ impl ReadClocks {
         ensures count { length rows.new.in_use.items ≡ length rows.old.in_use.items }
         ensures more { UsesMore rows.old rows.new }
         ensures refers { ReadsReferTo rows.new self.now.places.items }
+        ensures used { count_used rows.new ≤ count_used rows.old + length self.now.places.items }
+        ensures next { rows.new.next ≡ rows.old.next }
     {
         for place in &self.places {
             if let ReadBy::One(one) = place.by {

@@ -1,9 +1,9 @@
 //! Rows of numbers that places share.
 ghost use Rattle.velo_events.specs.Refusals.{GrowthRefused};
-ghost use Rattle.std.specs.Prelude.{◌≡◌, ◌<◌, ℕ, true, [], length, slice_index_or, IsTrue, IfOk, OnOk, OnErr};
+ghost use Rattle.std.specs.Prelude.{◌≡◌, ◌<◌, ◌≤◌, ◌+◌, ℕ, true, false, [], length, slice_index_or, IsTrue, IsFalse, IfOk, OnOk, OnErr};
 ghost use Rattle.velo_clocks.specs.Noted.{maxima};
 ghost use Rattle.velo_clocks.specs.Order.{KnowsOwn, KnowsTops};
-ghost use Rattle.velo_clocks.specs.Epochs.{blank_epoch, clock_in, alone_in, has_spare, AreRows, IsInUse, RefersTo, KeepsRows, UsesMore};
+ghost use Rattle.velo_clocks.specs.Epochs.{blank_epoch, clock_in, alone_in, count_used, has_spare, AreRows, IsInUse, RefersTo, KeepsRows, UsesMore};
 
 use crate::epochs::Epoch;
 use crate::number_rows::NumberRows;
@@ -26,7 +26,10 @@ pub(crate) struct SharedRows {
 }
 
 /// The first row from this one on that is not in use, if there is one.
-fn free_from(in_use: &[bool], start: usize) -> usize {
+fn free_from(in_use: &[bool], start: usize) -> usize
+    ensures free { result < length in_use.now → slice_index_or in_use.now result true ≡ false }
+    ensures before { (r : ℕ) → start ≤ r → r < result → IsTrue (slice_index_or in_use.now r false) }
+{
     let mut row = start;
     while row < in_use.len() && in_use[row] {
         row += 1;
@@ -41,6 +44,7 @@ impl SharedRows {
     /// `Memory` where a growth was refused.
     pub fn new(alloc: Global, threads: usize) -> Result<SharedRows, Memory>
         ensures rows { IfOk result (AreRows threads) }
+        ensures count { IfOk result (λ rows. length rows.in_use.items ≡ 1) }
         ensures memory { OnErr result GrowthRefused }
     {
         let mut rows = NumberRows::new(alloc);
@@ -96,7 +100,8 @@ impl SharedRows {
     /// Whether the one event knows the other, as it does each of its own thread.
     #[inline(always)]
     pub fn knows(&self, own: Epoch, other: Epoch) -> bool
-        ensures { (threads : ℕ) → AreRows threads self.now → IsInUse self.now own.row → KnowsOwn (alone_in self.now.rows other) own.by.0 (clock_in self.now.rows own) → IsTrue result
+        ensures unknown { IsFalse result → slice_index_or (clock_in self.now.rows own) other.by.0 0 < other.number }
+        ensures known { (threads : ℕ) → AreRows threads self.now → IsInUse self.now own.row → KnowsOwn (alone_in self.now.rows other) own.by.0 (clock_in self.now.rows own) → IsTrue result
             → KnowsTops (alone_in self.now.rows other) (clock_in self.now.rows own) }
     {
         other.by.0 == own.by.0 || other.number <= number_of(self.rows.list(own.row), other.by)
@@ -127,6 +132,7 @@ impl SharedRows {
         ensures kept { KeepsRows self.old self.new }
         ensures in_use { IsInUse self.new result }
         ensures stored { slice_index_or self.new.rows result [] ≡ clock.now }
+        ensures count { length self.new.in_use.items ≡ length self.old.in_use.items }
     {
         let spare = self.next;
         self.rows.copy(spare, clock);
@@ -138,6 +144,7 @@ impl SharedRows {
     pub fn seek(&mut self)
         ensures rows { self.new.rows ≡ self.old.rows }
         ensures in_use { self.new.in_use.items ≡ self.old.in_use.items }
+        ensures found { self.old.next ≡ 1 → IsInUse self.old 0 → count_used self.old < length self.old.in_use.items → has_spare self.new ≡ true }
     {
         self.next = free_from(&self.in_use, self.next);
     }
@@ -152,6 +159,7 @@ impl SharedRows {
         ensures kept { KeepsRows self.old self.new }
         ensures same { (r : ℕ) → r < length self.old.rows → slice_index_or self.new.rows r [] ≡ slice_index_or self.old.rows r [] }
         ensures ok { OnOk result (has_spare self.new ≡ true) }
+        ensures count { length self.new.in_use.items ≤ length self.old.in_use.items + 1 }
         ensures memory { OnErr result GrowthRefused }
     {
         reserve(&mut self.in_use, 1)?;
@@ -168,6 +176,8 @@ impl SharedRows {
         ensures rows { AreRows threads self.new }
         ensures same { self.new.rows ≡ self.old.rows }
         ensures count { length self.new.in_use.items ≡ length self.old.in_use.items }
+        ensures used { count_used self.new ≤ 1 }
+        ensures next { self.new.next ≡ 1 }
     {
         self.in_use.fill(false);
         self.in_use[0] = true;
@@ -181,6 +191,8 @@ impl SharedRows {
         ensures count { length self.new.in_use.items ≡ length self.old.in_use.items }
         ensures more { UsesMore self.old self.new }
         ensures in_use { IsInUse self.new row }
+        ensures used { count_used self.new ≤ count_used self.old + 1 }
+        ensures next { self.new.next ≡ self.old.next }
     {
         self.in_use[row] = true;
     }
@@ -193,6 +205,8 @@ impl SharedRows {
         ensures count { length self.new.in_use.items ≡ length self.old.in_use.items }
         ensures more { UsesMore self.old self.new }
         ensures refers { RefersTo self.new epochs.now }
+        ensures used { count_used self.new ≤ count_used self.old + length epochs.now }
+        ensures next { self.new.next ≡ self.old.next }
     {
         for epoch in epochs {
             self.keep(epoch.row);

@@ -1,5 +1,5 @@
 ghost use Rattle.velo_events.specs.Refusals.{GrowthRefused};
-ghost use Rattle.std.specs.Prelude.{◌≡◌, ◌<◌, ◌≤◌, [], ◌∷◌, ◌++◌, List, IsTrue, IfOk, option_map, length, slice_get, OnErr};
+ghost use Rattle.std.specs.Prelude.{◌≡◌, ◌<◌, ◌≤◌, [], ◌∷◌, ◌++◌, ◌↔◌, List, IsTrue, IfOk, option_map, length, slice_get, OnErr};
 ghost use Rattle.velo_events.specs.declared.event.Event.{Event};
 ghost use Rattle.velo_events.specs.Heap.{value_in, holder_in, shares_in, status_in, depth_in};
 ghost use Rattle.velo_events.specs.declared.limits.TheConstants.{MOST_THREADS};
@@ -55,21 +55,21 @@ fn copied<T: Copy>(alloc: Global, items: &[T]) -> Result<Vec<T>, Memory>
 
 /// Whether the two have the same values.
 fn are_same_values(one: &[u64], other: &[u64]) -> bool
-    ensures { IsTrue result → one.now ≡ other.now }
+    ensures { IsTrue result ↔ (one.now ≡ other.now) }
 {
     one == other
 }
 
 /// Whether the locks of the two are held alike.
 fn are_held_alike(one: &[Lock], other: &[Lock]) -> bool
-    ensures { IsTrue result → one.now ≡ other.now }
+    ensures { IsTrue result ↔ (one.now ≡ other.now) }
 {
     one == other
 }
 
 /// Whether the threads of the two stand alike.
 fn stand_alike(one: &[Standing], other: &[Standing]) -> bool
-    ensures { IsTrue result → one.now ≡ other.now }
+    ensures { IsTrue result ↔ (one.now ≡ other.now) }
 {
     one == other
 }
@@ -114,9 +114,9 @@ impl Heap {
         })
     }
 
-    /// Whether the heaps are the same. Heaps that differ may be told to.
+    /// Whether the heaps are the same.
     pub fn is_same(&self, other: &Heap) -> bool
-        ensures { IsTrue result → self.now ≡ other.now }
+        ensures { IsTrue result ↔ (self.now ≡ other.now) }
     {
         are_same_values(&self.values, &other.values)
             && are_held_alike(&self.locks, &other.locks)

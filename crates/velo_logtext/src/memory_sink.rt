@@ -1,7 +1,12 @@
 //! Bytes in memory as a sink, in pieces and with failures as a test wants them.
-ghost use Rattle.std.specs.Prelude.{◌≡◌, ◌≤◌, max, Some, []};
+ghost use Rattle.std.specs.Prelude.{◌≡◌, ◌<◌, ◌≤◌, ◌⊎◌, max, Some, [], length, IfOk, OnOk, OnErr};
+ghost use Rattle.std.specs.Io.{WritesAtMost};
+ghost use Rattle.std.specs.Io.KnownBytes.{WriteAppends};
+ghost use Rattle.velo_events.specs.Refusals.{GrowthRefused};
+ghost use Rattle.velo_logtext.specs.Device.{count_at_once, left_after, with_failure};
 
 use crate::device::{Failed, Sink};
+use crate::growing::append;
 use std::alloc::Global;
 
 /// Bytes in memory as a sink. It takes all that it is given, unless told otherwise.
@@ -60,7 +65,20 @@ impl Sink for Text {
 
     ghost failures = { λ s. s.failures };
 
-    fn write(&mut self, piece: &[u8]) -> Result<usize, Failed> {
+    /// It fails where this was told, and where a growth was refused. Else it takes all, or as many as it was told.
+    fn write(&mut self, piece: &[u8]) -> Result<usize, Failed>
+        ensures bound { WritesAtMost result piece.now }
+        ensures some { 0 < length piece.now → IfOk result (λ n. 0 < n) }
+        ensures bytes { WriteAppends (Some self.old.written.items) (Some self.new.written.items) result piece.now }
+        ensures ok { OnOk result (self.new.failures ≡ self.old.failures) }
+        ensures err { OnErr result (self.new.failures ≡ with_failure self.old.failures) }
+        ensures fails { self.old.until_failure ≡ Some 0 → OnOk result ⊥ }
+        ensures cause { OnErr result ((self.old.until_failure ≡ Some 0) ⊎ GrowthRefused) }
+        ensures count { IfOk result (λ n. n ≡ count_at_once (length piece.now) self.old.step self.old.until_failure) }
+        ensures left { IfOk result (λ n. self.new.until_failure ≡ left_after self.old.until_failure n) }
+        ensures lasting { OnErr result (self.new.until_failure ≡ self.old.until_failure) }
+        ensures step { self.new.step ≡ self.old.step }
+    {
         let mut count = piece.len().min(self.step);
         if let Some(left) = self.until_failure {
             if left == 0 {
@@ -69,7 +87,7 @@ impl Sink for Text {
             }
             count = count.min(left);
         }
-        if self.written.extend_from_slice(&piece[..count]).is_err() {
+        if append(&mut self.written, &piece[..count]).is_err() {
             self.failures = self.failures.wrapping_add(1);
             return Err(Failed);
         }

@@ -1,5 +1,8 @@
 //! Bytes in memory as a source, in pieces and with failures as a test wants them.
-ghost use Rattle.std.specs.Prelude.{◌≡◌, ◌≤◌, max, Some};
+ghost use Rattle.std.specs.Prelude.{◌≡◌, ◌≤◌, max, min, Some, length, IfOk, OnOk, OnErr};
+ghost use Rattle.std.specs.Io.{ReadsAtMost};
+ghost use Rattle.std.specs.Io.KnownBytes.{ReadConsumes};
+ghost use Rattle.velo_logtext.specs.Device.{count_at_once, left_after, with_failure};
 
 use crate::device::{Failed, Source};
 
@@ -52,7 +55,20 @@ impl Source for Bytes<'_> {
 
     ghost failures = { λ s. s.failures };
 
-    fn read(&mut self, piece: &mut [u8]) -> Result<usize, Failed> {
+    /// It fails exactly where this was told. Else it gives what the piece takes, or as many as it was told.
+    fn read(&mut self, piece: &mut [u8]) -> Result<usize, Failed>
+        ensures bound { ReadsAtMost result piece.new }
+        ensures bytes { ReadConsumes (Some self.old.rest.now) (Some self.new.rest.now) result piece.new }
+        ensures ok { OnOk result (self.new.failures ≡ self.old.failures) }
+        ensures err { OnErr result (self.new.failures ≡ with_failure self.old.failures) }
+        ensures fails { self.old.until_failure ≡ Some 0 → OnOk result ⊥ }
+        ensures cause { OnErr result (self.old.until_failure ≡ Some 0) }
+        ensures count { IfOk result (λ n.
+            n ≡ count_at_once (min (length self.old.rest.now) (length piece.new)) self.old.step self.old.until_failure) }
+        ensures left { IfOk result (λ n. self.new.until_failure ≡ left_after self.old.until_failure n) }
+        ensures lasting { OnErr result (self.new.until_failure ≡ self.old.until_failure) }
+        ensures step { self.new.step ≡ self.old.step }
+    {
         let mut count = self.rest.len().min(piece.len()).min(self.step);
         if let Some(left) = self.until_failure {
             if left == 0 {

@@ -110,9 +110,9 @@ enum Step {
     Halt,
     /// Goes on once the log has so many events.
     At(usize),
-    /// Goes on once the other thread waits for it.
+    /// Goes on once each other thread waits for it.
     IsAwaited,
-    /// Goes on once the other thread does not wait for it.
+    /// Goes on once no other thread waits for it.
     IsNotAwaited,
 }
 
@@ -293,19 +293,29 @@ fn call<R: Wait>(rt: &R, shared: &Shared, seat: &mut Seat, action: Action) -> Ou
     Ok((reply.value, reply.alarmed))
 }
 
-/// Whether a thread waits for what the caller has.
-fn awaits(room: &Room, thread: ThreadId, caller: ThreadId) -> bool {
-    thread.0 < room.bounds().threads && comes_back(room, caller, Wanted::Thread(thread))
+/// How many other threads wait for what the caller has, and how many there are.
+fn count_waiting(room: &Room, caller: ThreadId) -> (u8, u8) {
+    let mut waiting: u8 = 0;
+    let mut others: u8 = 0;
+    for thread in 0..room.bounds().threads {
+        if thread != caller.0 {
+            others += 1;
+            if comes_back(room, caller, Wanted::Thread(ThreadId(thread))) {
+                waiting += 1;
+            }
+        }
+    }
+    (waiting, others)
 }
 
 /// Whether the thread may go on.
 fn may_go_on(room: &Room, own: ThreadId, step: Step) -> bool {
-    let other = if own == MAIN { OTHER } else { MAIN };
+    let (waiting, others) = count_waiting(room, own);
     match step {
         Step::Do(_, _) | Step::Halt => true,
         Step::At(events) => room.count_events() >= events,
-        Step::IsAwaited => awaits(room, other, own),
-        Step::IsNotAwaited => !awaits(room, other, own),
+        Step::IsAwaited => waiting == others,
+        Step::IsNotAwaited => waiting == 0,
     }
 }
 
@@ -424,6 +434,53 @@ fn two_threads(rt: HostRuntime) {
         let outcome = play(&rt, rt.alloc(), case).ok();
         assert_eq!(rt; outcome, Some(((None, None), true)));
     }
+}
+
+// ---- two threads that wait for one lock
+
+/// What the first of three threads does, while the others wait for its lock.
+const LETS_GO: [Step; 3] = [
+    Step::Do(Action::Acquire(LOCK), DONE),
+    Step::IsAwaited,
+    Step::Do(Action::Release(LOCK), DONE),
+];
+
+/// What each of the others does. Neither goes on before both share the lock, so the release has to wake both.
+const SHARES_WITH_ANOTHER: [Step; 4] = [
+    Step::At(3),
+    Step::Do(Action::AcquireShared(LOCK), DONE),
+    Step::At(6),
+    Step::Do(Action::ReleaseShared(LOCK), DONE),
+];
+
+/// The first step of the seat's thread that goes wrong.
+fn first_wrong_of_three(
+    rt: &(impl Wait + Clock),
+    shared: &Shared,
+    mut seat: Seat,
+) -> Option<usize> {
+    if seat.share().thread() == MAIN {
+        first_wrong(rt, shared, &mut seat, &LETS_GO)
+    } else {
+        first_wrong(rt, shared, &mut seat, &SHARES_WITH_ANOTHER)
+    }
+}
+
+/// Has three threads follow their scripts at once, and answers the first step of each that goes wrong.
+fn all_wake<R: Wait + Clock + Threads + Sync>(
+    rt: &R,
+    alloc: Global,
+) -> Result<Vec<Option<usize>>, RunError> {
+    let (shared, seats) = open_with_forks(rt, alloc, config(1, 3, 100, false)?, 2)?;
+    let wrong = thread::map_vec(rt, seats, &|seat| first_wrong_of_three(rt, &shared, seat));
+    drop(shared);
+    Ok(wrong?)
+}
+
+#[test]
+fn a_release_wakes_all_who_wait(rt: HostRuntime) {
+    let wrong = all_wake(&rt, rt.alloc()).expect(&rt, "memory");
+    assert_eq!(rt; wrong.as_slice(), [None; 3].as_slice());
 }
 
 // ---- a thread that is joined before the first one goes on
@@ -688,7 +745,7 @@ const SHARERS: Hold = Hold {
 fn step_or_turn(room: &mut Room, seat: &mut Seat, action: Action) -> Answer {
     let turn = match action {
         Action::Fork(_) => return Err(Refusal::AlreadyForked),
-        Action::Acquire(_) | Action::AcquireShared(_) | Action::Join(_) => {
+        Action::Acquire(_) | Action::AcquireShared(_) | Action::Release(_) | Action::Join(_) => {
             turn_in(room, seat, action)
         }
         _ => return Ok(Some(step_in(room, seat, action)?.position)),

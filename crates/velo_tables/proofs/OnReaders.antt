@@ -93,6 +93,32 @@ filter_map-skip f n (suc m) none =
     ∙ (append-nil (filter_map f (range_with_len 0 (n + m)))
     ∙ filter_map-skip f n m (λ k above under. none k above (omega (arith, under))))))
 
+no_items : {Z : Type 0} (zs : List Z) → length zs ≡ 0 → zs ≡ []
+no_items [] h = refl
+no_items (z ∷ zs) h = absurd (omega (arith, h))
+
+-- a list that nothing follows
+pub nothing_behind : {Z : Type 0} (xs ys : List Z) → xs ++ ys ≡ xs → ys ≡ []
+nothing_behind xs ys same = no_items ys (omega (arith, ap length same, length-append xs ys))
+
+nothing_in : {Y : Type 0} (f : ℕ → Option Y) (n t : ℕ) → filter_map f (range_with_len 0 n) ≡ [] → t < n → f t ≡ None
+nothing_in f zero t none l = absurd (omega (arith, l))
+nothing_in f (suc n) t none l =
+    let lengths = ap length (sym (filter_map-more f n) ∙ (ap (λ k. filter_map f (range_with_len 0 k)) (let same : n + 1 ≡ suc n = omega arith in same) ∙ none)) in
+    let both = length-append (filter_map f (range_with_len 0 n)) (option_to_list (f n)) in
+    ⊎_elim (λ before. nothing_in f n t (no_items (filter_map f (range_with_len 0 n)) (omega (arith, lengths, both))) before)
+    (λ from. ap f (let at : t ≡ n = omega (arith, l, from) in at) ∙ no_item (f n) (omega (arith, lengths, both)))
+    (cases_lt t n)
+  where
+    no_item : {Z : Type 0} (o : Option Z) → length (option_to_list o) ≡ 0 → o ≡ None
+    no_item None h = refl
+    no_item (Some z) h = absurd (omega (arith, h))
+
+-- where no thread has anything, this one has nothing
+pub nothing_of : {Y : Type 0} (f : ℕ → Option Y) (t : ℕ) → t < 64 → filter_map f thread_numbers ≡ [] → f t ≡ None
+unfolding thread_numbers
+nothing_of f t within none = nothing_in f 64 t none within
+
 -- ---- a walk over the bits
 
 -- each thread without a bit has nothing

@@ -112,7 +112,7 @@ fn push_reads_of(
 #[inline(always)]
 fn are_of(reads: &[Entry], readers: u64, slot: u16) -> bool
     requires { AreReaders readers reads.now }
-    ensures { IsTrue result → filter_map (λ t. but_for (Some slot) (slice_index_or reads.now t None)) thread_numbers ≡ [] }
+    ensures { IsTrue result ↔ (filter_map (λ t. but_for (Some slot) (slice_index_or reads.now t None)) thread_numbers ≡ []) }
 {
     let mut left = readers;
     let mut thread: u32 = 0;
@@ -276,8 +276,8 @@ impl Cells {
     /// Whether the steps of the cell's last reads are all of the slot.
     #[inline(always)]
     pub fn reads_are_of(&self, c: Cell, slot: u16) -> bool
-        ensures { IsTrue result → steps_of (Some slot) (slice_index_or self.now c.0 no_accesses)
-            ≡ option_to_list (but_for (Some slot) (slice_index_or self.now c.0 no_accesses).write) }
+        ensures { IsTrue result ↔ (steps_of (Some slot) (slice_index_or self.now c.0 no_accesses)
+            ≡ option_to_list (but_for (Some slot) (slice_index_or self.now c.0 no_accesses).write)) }
     {
         are_of(self.reads_of(c), self.readers(c), slot)
     }

@@ -294,7 +294,7 @@ impl Tables {
     #[inline(always)]
     #[tactic(auto, unfolding(crate::specs::Others::accesses_but_for))]
     pub fn reads_are_of(&self, c: Cell, slot: u16) -> bool
-        ensures { IsTrue result → accesses_but_for self.now c.0 slot ≡ option_to_list (but_for (Some slot) (entry self.now (LastWrite c.0))) }
+        ensures { IsTrue result ↔ (accesses_but_for self.now c.0 slot ≡ option_to_list (but_for (Some slot) (entry self.now (LastWrite c.0)))) }
     {
         self.cells.reads_are_of(c, slot)
     }

@@ -115,7 +115,7 @@ IsWatched-stays analysis bounds trace e some is =
     record {
       alarm = AlarmOf-stays trace e analysis.alarm some is.alarm;
       monitor = subst (IsMonitorOf bounds analysis.monitor) same is.monitor;
-      clocks = λ none. absurd (alarm-not_none analysis.alarm some none);
+      clocks = subst (AreClocksOf analysis.clocks.state) same is.clocks;
       bounds_are = is.bounds_are;
     }
 
@@ -124,7 +124,7 @@ pub monitor-quiet : (analysis : Analysis) (bounds : Bounds) (trace : List Event)
 monitor-quiet analysis bounds trace quiet is = subst (IsMonitorOf bounds analysis.monitor) (events_watched-none trace analysis.alarm quiet) is.monitor
 
 pub clocks-quiet : (analysis : Analysis) (bounds : Bounds) (trace : List Event) → IsFalse (is_some analysis.alarm) → IsWatched analysis bounds trace → AreClocksOf analysis.clocks.state trace
-clocks-quiet analysis bounds trace quiet is = is.clocks (alarm-none analysis.alarm quiet)
+clocks-quiet analysis bounds trace quiet is = subst (AreClocksOf analysis.clocks.state) (events_watched-none trace analysis.alarm quiet) is.clocks
 
 pub IsWatched-quiet : (analysis : Analysis) (bounds : Bounds) (trace : List Event) → IsFalse (is_some analysis.alarm) → ¬ HasCycle trace → IsMonitorOf bounds analysis.monitor trace → AreClocksOf analysis.clocks.state trace → analysis.clocks.bounds ≡ bounds → IsWatched analysis bounds trace
 IsWatched-quiet analysis bounds trace quiet acyclic monitor clocks bounds_are =
@@ -132,7 +132,7 @@ IsWatched-quiet analysis bounds trace quiet acyclic monitor clocks bounds_are =
     record {
       alarm = AlarmOf-quiet trace analysis.alarm quiet acyclic;
       monitor = subst (IsMonitorOf bounds analysis.monitor) same monitor;
-      clocks = λ none. clocks;
+      clocks = subst (AreClocksOf analysis.clocks.state) same clocks;
       bounds_are = bounds_are;
     }
 
@@ -143,7 +143,7 @@ IsAnalysisOf-reserved analysis monitor clocks trace same known bounds_are is = r
   watched = record {
     alarm = is.watched.alarm;
     monitor = same _ _ is.watched.monitor;
-    clocks = λ none. known 0 trace (is.watched.clocks none);
+    clocks = known 0 _ is.watched.clocks;
     bounds_are = bounds_are ∙ is.watched.bounds_are;
   };
 }
@@ -177,13 +177,13 @@ IsAnalysisOf-applied analysis heap bounds trace is same watched = record {
 }
 
 -- at it they stand for the events before
-pub IsWatched-raised : (analysis : Analysis) (bounds : Bounds) (trace : List Event) (e : Event) (alarm : Alarm) → analysis.alarm ≡ Some alarm → alarm.position ≡ length trace → IsAlarm (trace ++ e ∷ []) alarm → IsMonitorOf bounds analysis.monitor trace → analysis.clocks.bounds ≡ bounds → IsWatched analysis bounds (trace ++ e ∷ [])
-IsWatched-raised analysis bounds trace e alarm raised here is monitor bounds_are =
+pub IsWatched-raised : (analysis : Analysis) (bounds : Bounds) (trace : List Event) (e : Event) (alarm : Alarm) → analysis.alarm ≡ Some alarm → alarm.position ≡ length trace → IsAlarm (trace ++ e ∷ []) alarm → IsMonitorOf bounds analysis.monitor trace → AreClocksOf analysis.clocks.state trace → analysis.clocks.bounds ≡ bounds → IsWatched analysis bounds (trace ++ e ∷ [])
+IsWatched-raised analysis bounds trace e alarm raised here is monitor clocks bounds_are =
     let part : events_watched (trace ++ e ∷ []) analysis.alarm ≡ trace = rw (raised, here) (take-before trace e) in
     record {
       alarm = rw raised is;
       monitor = subst (IsMonitorOf bounds analysis.monitor) (sym part) monitor;
-      clocks = λ none. absurd (alarm-not_none analysis.alarm (ap is_some raised) none);
+      clocks = subst (AreClocksOf analysis.clocks.state) (sym part) clocks;
       bounds_are = bounds_are;
     }
 

@@ -15,16 +15,16 @@ use Rattle.velo_world.specs.World.{AlarmOf, IsAlarm}
 use Rattle.velo_world.specs.declared.analysis.Alarm.{Alarm}
 use Rattle.velo_world.specs.declared.analysis.Analysis.{Analysis}
 
--- the events that the monitor took in: all, or with an alarm those before it
+-- the events that monitor and clocks took in: all, or with an alarm those before it
 abbrev pub events_watched : List Event → Option Alarm → List Event
 events_watched log None = log
 events_watched log (Some alarm) = take alarm.position log
 
--- the alarm is that of the events, the monitor is that of the events before it, and without an alarm the clocks are those of all events
+-- the alarm is that of the events, and monitor and clocks are those of the events before it
 pub record IsWatched (analysis : Analysis) (bounds : Bounds) (trace : List Event) : Type 0 where
   pub alarm : AlarmOf trace analysis.alarm
   pub monitor : IsMonitorOf bounds analysis.monitor (events_watched trace analysis.alarm)
-  pub clocks : analysis.alarm ≡ None → AreClocksOf analysis.clocks.state trace
+  pub clocks : AreClocksOf analysis.clocks.state (events_watched trace analysis.alarm)
   pub bounds_are : analysis.clocks.bounds ≡ bounds
 
 -- the alarm of the event at the position came to the analysis, and nothing else changed

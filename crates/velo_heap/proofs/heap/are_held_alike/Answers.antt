@@ -1,9 +1,9 @@
-use Rattle.std.proofs.Common.{ap, sym, ◌∙◌}
-use Rattle.std.proofs.lemmas.Bool.{and_parts, eqb-true}
+use Rattle.std.proofs.Common.{ap, refl, sym, ◌∙◌}
+use Rattle.std.proofs.lemmas.Bool.{and_from, and_parts, eq-eqb, eqb-true}
 use Rattle.std.specs.Option.{option_eq}
 use Rattle.velo_events.specs.contracts.event.ThreadIdPartialEq.TheImpl as of_thread
 use Rattle.velo_heap.specs.contracts.lock.LockPartialEq.TheImpl as of_lock
-use Rattle.velo_heap.proofs.OnSameness.{Tells, Tells-lists, Tells-options}
+use Rattle.velo_heap.proofs.OnSameness.{Tells, Tells-lists, Tells-options, TellsOwn, own-options, same-lists}
 use Rattle.velo_heap.proofs.heap.are_held_alike.Goals as goal
 
 same_thread : Tells (of_thread.eq-value).it
@@ -16,5 +16,14 @@ same_lock a b h =
     let sharers = eqb-true a.sharers b.sharers parts.1 in
     λ i. record { holder = holder i; sharers = sharers i }
 
+own_thread : TellsOwn (of_thread.eq-value).it
+own_thread a = eq-eqb a.0 a.0 refl
+
+own_lock : TellsOwn (of_lock.eq-value).it
+own_lock a = and_from _ _ (own-options (of_thread.eq-value).it own_thread a.holder) (eq-eqb a.sharers a.sharers refl)
+
 pub returns : goal.returns
-returns c = λ h. Tells-lists (of_lock.eq-value).it same_lock c.args.one.now c.args.other.now (sym c.eq.ensures ∙ h)
+returns c = (
+  λ h. Tells-lists (of_lock.eq-value).it same_lock c.args.one.now c.args.other.now (sym c.eq.ensures ∙ h),
+  λ same. c.eq.ensures ∙ same-lists (of_lock.eq-value).it own_lock c.args.one.now c.args.other.now same,
+)

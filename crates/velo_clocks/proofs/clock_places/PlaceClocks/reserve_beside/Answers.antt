@@ -1,10 +1,11 @@
 use Rattle.std.specs.Prelude.{◌&&◌}
-use Rattle.std.proofs.Common.{◌∙◌, sym, subst}
+use Rattle.std.proofs.Common.{◌+◌, ◌≤◌, ◌∙◌, length, sym, ap, subst, arith}
 use Rattle.velo_clocks.specs.Noted.{HasRoomToNoteBeside}
 use Rattle.velo_clocks.specs.Epochs.{alones_in, has_spare}
 use Rattle.velo_clocks.specs.Reads.{reads_in, has_lists}
 use Rattle.velo_clocks.specs.Places.{state_of}
-use Rattle.velo_events.proofs.OnResults.{OnOk-weaker, OnErr-weaker}
+use Rattle.velo_events.proofs.OnFilling.{length-filled_up}
+use Rattle.velo_events.proofs.OnResults.{from_either, OnOk-weaker, OnErr-weaker}
 use Rattle.velo_clocks.proofs.OnPlaces.{state, grown-refers, grown-keep, grown-room, all-keep, numbers-keep}
 use Rattle.velo_clocks.proofs.clock_places.PlaceClocks.reserve_beside.Goals as goal
 
@@ -45,3 +46,11 @@ returns-in-Shared-clause-err c =
     let now = c.args.self.now in
     OnErr-weaker c.reserve.result _ _ c.reserve.ensures.refused
     (λ none some room. none c.args.threads now.rows some (subst (HasRoomToNoteBeside c.args.threads (state_of now)) (sym c.access.ensures ∙ c.in-Shared.is) room))
+
+pub returns-in-Exclusive-clause-few : goal.returns-in-Exclusive-clause-few
+returns-in-Exclusive-clause-few c = λ few.
+    let now = c.args.self.now in
+    let more = from_either c.fill_up_to.result _ _ (length now.writes.items ≤ length c.fill_up_to.new.items.items) c.fill_up_to.ensures.ok c.fill_up_to.ensures.err
+        (λ e. omega (arith, ap length e, length-filled_up c.blank.result (c.in-Exclusive.c.0 + 1) now.writes.items))
+        (λ e. omega (arith, ap length e)) in
+    omega (arith, few, more)

@@ -24,7 +24,7 @@ returns-else-x-len-clause-known c = λ said.
     (elim c.else-x-len.branch [
       | else-x-len-via-then-x-len+else-not-knows w ↦
           knows-place now.rows now.writes.items x (omega (arith, w.if-x-len.true, c.len.ensures, now.writes.ok.0)) w.index.result.now w.index.ensures own.by.0 clock (c.requires.own (OfWrite x))
-          (λ known. w.knows.ensures c.args.threads are.rows c.requires.in_use known w.if-not-knows.false)
+          (λ known. w.knows.ensures.known c.args.threads are.rows c.requires.in_use known w.if-not-knows.false)
       | else-x-len-via-else-x-len w ↦ knows-past now.rows.rows now.writes.items x clock (omega (arith, w.if-x-len.false, c.len.ensures, now.writes.ok.0))
     ])
 
@@ -50,7 +50,7 @@ returns-else-not-are_known-clause-known c = λ said.
     let x = c.in-Exclusive.c.0 in
     subst (λ k. KnowsBeside (state_of now) k clock) (sym c.in-Exclusive.is ∙ c.access.ensures) (
       knows-place now.rows now.writes.items x (place-there c.args.threads now.rows.rows now.writes.items x (omega (arith, c.requires.by)) (subst (HasRoomToNoteBeside c.args.threads (state_of now)) (sym c.access.ensures ∙ c.in-Exclusive.is) c.requires.beside)) c.index-in-Exclusive.result.now c.index-in-Exclusive.ensures own.by.0 clock (c.requires.own (OfWrite x))
-          (λ known. c.knows-in-Exclusive.ensures c.args.threads are.rows c.requires.in_use known c.if-not-knows-2.false),
+          (λ known. c.knows-in-Exclusive.ensures.known c.args.threads are.rows c.requires.in_use known c.if-not-knows-2.false),
       c.are_known.ensures c.args.threads are.rows are.reads c.requires.in_use (c.requires.own (OfReads x)) c.if-not-are_known.false,
     )
 

@@ -23,6 +23,7 @@ invariant_of-self c =
     let is_noted = noted-places (length list.items) (length c.args.self.now.threads) inside.places c.args.self.now (state_of c.note.new.self) _ c.args.position c.args.event.now c.note.ensures.noted c.self.view_is c.self.invariant.places count c.requires.room in
     record {
       places = subst (λ n. ArePlaces n c.note.new.self) same c.note.ensures.places;
+      few = c.note.ensures.few c.self.invariant.few;
       order = λ said.
           order-noted (state_of inside.places) inside.latest c.args.position c.args.event.now (c.self.invariant.order (c.stay_in_order-in_order.ensures.were said)) (c.stay_in_order-in_order.ensures.keeps said) (state_of c.note.new.self)
           (subst (λ (s : ClockState). IsNoted s c.args.position c.args.event.now (state_of c.note.new.self)) (sym c.self.view_is) is_noted);

@@ -23,6 +23,7 @@ invariant_of-self-2 c =
     let is_noted = noted-places (length inside.clock.items) (length c.args.self.now.threads) inside.places c.args.self.now (state_of c.share.new.self) _ c.args.position c.args.event.now (c.share.ensures.noted c.if-not-share.false) c.self.view_is c.self.invariant.places count c.requires.room in
     record {
       places = subst (λ n. ArePlaces n c.share.new.self) same c.share.ensures.places;
+      few = c.share.ensures.few c.self.invariant.few;
       order = λ said.
           order-noted (state_of inside.places) inside.latest c.args.position c.args.event.now (c.self.invariant.order said)
           (record { later = omega (arith, c.if-position-self.false); forked = forks-nobody (state_of inside.places) (access_of c.args.event.now.kind) (c.share.ensures.forks_none c.if-not-share.false) })

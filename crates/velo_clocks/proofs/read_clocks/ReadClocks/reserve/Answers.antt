@@ -1,4 +1,4 @@
-use Rattle.std.proofs.Common.{◌≡◌, ℕ, ◌+◌, length, get_or, refl, ap, ◌∙◌, arith}
+use Rattle.std.proofs.Common.{◌≡◌, ℕ, ◌+◌, ◌≤◌, length, get_or, refl, ap, ◌∙◌, arith}
 use Rattle.velo_clocks.specs.Reads.{blank_reads}
 use Rattle.velo_events.proofs.OnResults.{from_either, OnOk-weaker}
 use Rattle.velo_events.proofs.OnFilling.{get_or-filled_up, length-filled_up}
@@ -23,3 +23,8 @@ pub returns-clause-ok : goal.returns-clause-ok
 returns-clause-ok c = OnOk-weaker c.fill_up_to.result _ _ c.fill_up_to.ensures.ok (λ e threads rows are_rows are.
     read-room threads rows (record { own = c.args.self.now.own; by_others = c.args.self.now.by_others; spare = c.args.self.now.spare; places = c.fill_up_to.new.items }) are_rows are c.args.number
     (omega (arith, ap length e, length-filled_up blank_reads (c.args.number + 1) c.args.self.now.places.items)))
+
+pub returns-clause-count : goal.returns-clause-count
+returns-clause-count c = from_either c.fill_up_to.result _ _ (length c.args.self.now.places.items ≤ length c.fill_up_to.new.items.items) c.fill_up_to.ensures.ok c.fill_up_to.ensures.err
+    (λ e. omega (arith, ap length e, length-filled_up blank_reads (c.args.number + 1) c.args.self.now.places.items))
+    (λ e. omega (arith, ap length e))

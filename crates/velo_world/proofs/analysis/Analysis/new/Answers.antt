@@ -8,7 +8,7 @@ returns-clause-follows c = record {
   watched = record {
     alarm = search rules;
     monitor = subst (λ b. IsMonitorOf b c.in_ok-monitor.monitor []) (sym c.in_ok-heap.ensures.bounds) c.in_ok-monitor.ensures.start;
-    clocks = λ none. c.in_ok-clocks.ensures.start [];
+    clocks = c.in_ok-clocks.ensures.start [];
     bounds_are = c.in_ok-clocks.ensures.bounds ∙ sym c.in_ok-heap.ensures.bounds;
   };
 }

@@ -61,7 +61,7 @@ returns-in-Closes-clause-watched c =
     let here = length-before c.args.events.now c.args.position c.args.event.now c.requires.here in
     let seen = c.in-Closes.ensures.seen _ _ (monitor-quiet c.args.self.now _ _ quiet watched) (sym here) c.requires.next.follows in
     let raised = c.raise_alarm.ensures in
-    rw raised.same (IsWatched-raised _ _ _ c.args.event.now raised.alarm refl (raised.here ∙ sym here) raised.is seen.2 watched.bounds_are)
+    rw raised.same (IsWatched-raised _ _ _ c.args.event.now raised.alarm refl (raised.here ∙ sym here) raised.is seen.2 (clocks-quiet c.args.self.now _ _ quiet watched) watched.bounds_are)
 
 pub note-requires-clause-room : goal.note-requires-clause-room
 note-requires-clause-room c = grind (arith, elements)
