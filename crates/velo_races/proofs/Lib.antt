@@ -1,0 +1,5 @@
+pub mod OnSynchronizing
+pub mod OnSynchronizedRuns
+pub mod OnJoined
+pub mod OnSwept
+pub mod OnOrdered
