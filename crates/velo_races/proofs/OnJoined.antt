@@ -42,8 +42,15 @@ inner_kind (Begin l) h = absurd (false≢true h)
 inner_kind End h = absurd (false≢true h)
 inner_kind _ h = refl
 
+-- the last event of a thread, or the fork of it, is near the thread
+pub near-recorded : (t : ℕ) (f : Event) → IsTrue (is_recorded f (LastOf t)) → IsTrue (near t f)
+near-recorded t f h = ⊎_elim
+    (λ own. or_left _ _ own)
+    (λ forks. or_right _ _ (are_same-from (handled_by f.kind) (Some t) t (fork_handles (access_of f.kind) t forks) refl))
+    (or_cases _ _ h)
+
 module _ (log : List Event) where
-  stay : (variables : ℕ → Bool) (a : ℕ) → IsTrue (stays log a) → IsFalse (is_left_out (only no_lock variables) log a)
+  pub stay : (variables : ℕ → Bool) (a : ℕ) → IsTrue (stays log a) → IsFalse (is_left_out (only no_lock variables) log a)
   stay variables a h =
       let e = passes_at-event log synchronizes a h in
       goes-is no_lock variables log a e.0 e.1 ∙ on_none variables e.0.kind e.2
@@ -87,13 +94,6 @@ module _ (log : List Event) where
   -- ---- the next event, at position n
 
   module _ (n : ℕ) (e : Event) (here : slice_get log n ≡ Some e) (inner_e : IsInner log n) (within : n < length log) (s : ClockState) (clocks : AreClocksOf s (sub log n)) where
-    -- the last event of its thread, or the fork of it, conflicts with it
-    last-near : (f : Event) → IsTrue (is_recorded f (LastOf (thread_of e))) → IsTrue (near (thread_of e) f)
-    last-near f h = ⊎_elim
-        (λ own. or_left _ _ own)
-        (λ forks. or_right _ _ (are_same-from (handled_by f.kind) (Some (thread_of e)) (thread_of e) (fork_handles (access_of f.kind) (thread_of e) forks) refl))
-        (or_cases _ _ h)
-
     module _ (variables : ℕ → Bool) where
       last-step : (b l : ℕ) → IsPlace log n b l → last_at (LastOf (thread_of e)) (sub log n) ≡ Some l → IsInnerStep (only no_lock variables) log b n
       last-step b l at_b last =
@@ -102,7 +102,7 @@ module _ (log : List Event) where
           record {
             step = record {
               in_order = at_b.below;
-              in_conflict = conflict-is log b n at_b.event e at_b.here here ∙ near-conflict_before e at_b.event (subst (λ f. IsTrue (near (thread_of e) f)) same (last-near w.event w.passes));
+              in_conflict = conflict-is log b n at_b.event e at_b.here here ∙ near-conflict_before e at_b.event (subst (λ f. IsTrue (near (thread_of e) f)) same (near-recorded (thread_of e) w.event w.passes));
               side = inl (stay variables b at_b.stay);
             };
             from = inner b at_b.stay;

@@ -1,7 +1,7 @@
 -- What is kept of the events before a position, and of one event more.
-use Rattle.std.proofs.Common.{◌≡◌, ℕ, ◌+◌, ◌*◌, ◌<◌, ◌≤◌, Bool, true, false, List, [], length, take, replicate, get_or, Some, refl, sym, ap, ◌∙◌, subst, arith, ⊎_elim}
+use Rattle.std.proofs.Common.{Option, None, ap, ◌≡◌, ℕ, ◌+◌, ◌*◌, ◌<◌, ◌≤◌, Bool, true, false, List, [], length, take, replicate, get_or, Some, refl, sym, ◌∙◌, subst, arith, ⊎_elim}
 use Rattle.std.specs.Prelude.{◌⊎◌, not, ◌&&◌, ◌||◌, ◌==◌, if◌then◌else◌, slice_get, slice_set, IsTrue, IsFalse}
-use Rattle.std.proofs.lemmas.Bool.{cases_eq, cases_lt, and_parts, and_from, and_left, both_ways, false_from_ne_true, false≢true, eq-eqb, ne_eqb, eqb-true}
+use Rattle.std.proofs.lemmas.Bool.{cases_Bool, cases_eq, cases_lt, or_left, or_right, le-leb, and_parts, and_from, and_left, both_ways, false_from_ne_true, false≢true, eq-eqb, ne_eqb, eqb-true}
 use Rattle.std.proofs.lemmas.Option.{same_Some, none-some, slice_get_within}
 use Rattle.std.proofs.lemmas.List.{get_or-replicate, length-replicate, length-take-le, length-set, length_push}
 use Rattle.std.proofs.lemmas.List.Sums.{length-filter, count_by-le-length}
@@ -12,7 +12,7 @@ use Rattle.velo_events.specs.declared.event.ThreadId.{ThreadId}
 use Rattle.velo_events.specs.declared.event.VarId.{VarId}
 use Rattle.velo_events.specs.declared.event.Label.{Label}
 use Rattle.velo_events.specs.declared.event.Kind.TheVariants.{Read, Write, Acquire, Release, AcquireShared, ReleaseShared, Begin, End, Fork}
-use Rattle.velo_events.specs.Event.{are_same, thread_of, variable_of, access_of, cell_of, is_exclusive, is_shared, is_by, is_begin, is_end, is_writing, is_reading}
+use Rattle.velo_events.specs.Event.{are_same, thread_of, variable_of, lock_of, access_of, cell_of, is_exclusive, is_shared, is_by, is_begin, is_end, is_writing, is_reading}
 use Rattle.velo_events.specs.Block.{passes_at}
 use Rattle.velo_events.specs.Place.{Place, LastWrite, LastRead, is_recorded, last_at}
 use Rattle.velo_events.specs.WellFormed.{NamesKnown, MayFollow, IsWellFormed}
@@ -27,11 +27,16 @@ use Rattle.velo_clocks.proofs.OnClocks.{opens, reserves, notes}
 use Rattle.velo_laws.specs.Ordered.{IsInner}
 use Rattle.velo_races.specs.declared.sweep.Sweep.{Sweep}
 use Rattle.velo_races.specs.declared.sweep.LastWrite as written
-use Rattle.velo_races.specs.Races.{is_synchronizing, synchronizes, is_access_to, marked}
-use Rattle.velo_races.specs.Sweep.{synchronizing, stamp_of, is_known, no_write, KnowsWrite, KnowsReads, IsJudged, IsJoined, IsInOrderUpTo, IsLastWrite, IsSwept, IsNotedAfterRoom}
+use Rattle.velo_races.specs.Races.{is_synchronizing, synchronizes, is_access_to, IsFreeOfRaces, no_lock, marked}
+use Rattle.velo_races.specs.Sweep.{stamp_at, synchronizing, stamp_of, is_known, no_write, KnowsWrite, KnowsReads, IsJudged, IsJoined, IsInOrderUpTo, IsLastWrite, IsSwept, IsNotedAfterRoom}
 use Rattle.velo_races.proofs.OnSynchronizing.{sub-more, sub-same}
 use Rattle.velo_races.proofs.OnSynchronizedRuns.{well-synchronizing}
 use Rattle.velo_races.proofs.OnJoined.{known-joined}
+use Rattle.velo_races.proofs.OnKnown.{each, synchronized-known}
+use Rattle.velo_laws.proofs.OnOrderedPlaces.{goes-is, conflict-is}
+use Rattle.velo_thin.specs.Left.{is_among}
+use Rattle.velo_events.specs.Conflict.{conflict}
+use Rattle.velo_events.proofs.OnLookUps.{conflict-cell}
 
 -- ---- by kinds
 
@@ -99,6 +104,8 @@ swept-new log s threads few nothing count writes reads ordered = record {
     after_write = λ j m less. absurd (omega (arith, less));
     after_reads = λ j m u less. absurd (omega (arith, less));
   };
+  racing = λ x inside h. absurd (both_ways (marked s.ordered.items x) h (ap (λ xs. marked xs x) ordered
+      ∙ get_or-replicate {A = Bool} s.bounds.variables x true false (omega (arith, inside, length-replicate {A = Bool} s.bounds.variables true))));
 }
 
 -- ---- one event more
@@ -189,6 +196,84 @@ module _ (log : List Event) (n : ℕ) (e : Event) (here : slice_get log n ≡ So
           (passes_at-is log synchronizes m f.event at ∙ k.1)
           (subst (λ i. IsTrue (is_known s.clocks (thread_of e) u i)) (old.reads x u inside small ∙ ap (stamp_of log) last) (knows u small))
 
+-- ---- a variable that is free of races stays in order
+
+-- a write of a variable's cell is an access to it
+write_on : (k : Kind) (x : ℕ) → IsTrue (is_exclusive (access_of k) && are_same (cell_of (access_of k)) (Some (x + x))) → variable_of k ≡ Some x
+write_on (Write y v) x h = let e = eqb-true (y.0 + y.0) (x + x) h in ap (λ k. Some k) (let same : y.0 ≡ x = omega (arith, e) in same)
+write_on (Acquire m) x h = let e = eqb-true (m.0 + m.0 + 1) (x + x) h in absurd (omega (arith, e))
+write_on (Release m) x h = let e = eqb-true (m.0 + m.0 + 1) (x + x) h in absurd (omega (arith, e))
+write_on _ x h = absurd (false≢true h)
+
+read_on : (k : Kind) (x : ℕ) → IsTrue (is_shared (access_of k) && are_same (cell_of (access_of k)) (Some (x + x))) → variable_of k ≡ Some x
+read_on (Read y v) x h = let e = eqb-true (y.0 + y.0) (x + x) h in ap (λ k. Some k) (let same : y.0 ≡ x = omega (arith, e) in same)
+read_on (AcquireShared m) x h = let e = eqb-true (m.0 + m.0 + 1) (x + x) h in absurd (omega (arith, e))
+read_on (ReleaseShared m) x h = let e = eqb-true (m.0 + m.0 + 1) (x + x) h in absurd (omega (arith, e))
+read_on _ x h = absurd (false≢true h)
+
+variable_goes : (k : Kind) (x : ℕ) → variable_of k ≡ Some x → IsTrue (is_among no_lock (lock_of k) || is_among each (variable_of k))
+variable_goes k x on = or_right (is_among no_lock (lock_of k)) (is_among each (variable_of k)) (ap (is_among each) on)
+
+racing-here : (log : List Event) (n : ℕ) (s t : Sweep) (y : ℕ) → y < s.bounds.variables → (knows : Type 0) → IsJudged s.ordered.items t.ordered.items y knows
+    → (IsFalse (marked s.ordered.items y) → ¬ IsFreeOfRaces log y) → (IsFreeOfRaces log y → knows) → IsFalse (marked t.ordered.items y) → ¬ IsFreeOfRaces log y
+racing-here log n s t y inside knows judged old known h free = ⊎_elim
+    (λ was. both_ways (marked t.ordered.items y) h (judged.known_still was (known free)))
+    (λ none. old none free)
+    (cases_Bool (marked s.ordered.items y))
+
+module _ (log : List Event) (n : ℕ) (e : Event) (here : slice_get log n ≡ Some e) (within : n < length log) (s : Sweep) (old : IsSwept log n s) (bounds : Bounds) (well : IsWellFormed bounds log)
+    (y : ℕ) (inside : y < s.bounds.variables) (on : variable_of e.kind ≡ Some y) (cell : cell_of (access_of e.kind) ≡ Some (y + y)) where
+  -- an earlier access is known, where the variable is free of races
+  known-access : IsFreeOfRaces log y → (m t : ℕ) (f : Event) → slice_get log m ≡ Some f → m < n → IsTrue (is_by t f) → variable_of f.kind ≡ Some y → IsFalse (is_synchronizing f.kind) → IsTrue (conflict f e)
+      → IsTrue (is_known s.clocks (thread_of e) t (stamp_at log m))
+  known-access free m t f at before mine on_f no_sync clash =
+      let is_access : (k : Kind) → variable_of k ≡ Some y → IsTrue (are_same (variable_of k) (Some y)) = λ k same. ap (λ o. are_same o (Some y)) same ∙ eq-eqb y y refl in
+      synchronized-known bounds log well n within e here (goes-is no_lock each log n e here ∙ variable_goes e.kind y on) s.clocks old.clocks m t before
+      (passes_at-is log (is_by t) m f at ∙ mine)
+      (goes-is no_lock each log m f at ∙ variable_goes f.kind y on_f)
+      (passes_at-is log synchronizes m f at ∙ no_sync)
+      (free m n (passes_at-is log (is_access_to y) m f at ∙ is_access f.kind on_f) (passes_at-is log (is_access_to y) n e here ∙ is_access e.kind on) (before, conflict-is log m n f e at here ∙ clash))
+
+  same_cell : (f : Event) → IsTrue (are_same (cell_of (access_of f.kind)) (Some (y + y))) → IsTrue (are_same (cell_of (access_of f.kind)) (cell_of (access_of e.kind)))
+  same_cell f h = ap (are_same (cell_of (access_of f.kind))) cell ∙ h
+
+  knows-write : IsFreeOfRaces log y → KnowsWrite s (thread_of e) y
+  knows-write free = go (last_at (LastWrite (y + y)) (take n log)) refl
+    where
+      w : IsLastWrite log n y (get_or s.writes.items y no_write)
+      w = old.writes y inside
+
+      by : ℕ
+      by = (get_or s.writes.items y no_write).by.0
+
+      go : (o : Option ℕ) → last_at (LastWrite (y + y)) (take n log) ≡ o → KnowsWrite s (thread_of e) y
+      go None h = or_right (by == thread_of e) _ (le-leb _ _ (let none = w.stamp ∙ ap (stamp_of log) h in omega (arith, none)))
+      go (Some m) h =
+          let f = last_at-is (LastWrite (y + y)) (take n log) m h in
+          let l = last_at-within (LastWrite (y + y)) (take n log) m h in
+          let before : m < n = omega (arith, l, length-take-le n log (omega (arith, within))) in
+          let at : slice_get log m ≡ Some f.event = sym (slice_get-take log n m before) ∙ f.here in
+          let p = and_parts (is_exclusive (access_of f.event.kind)) (are_same (cell_of (access_of f.event.kind)) (Some (y + y))) f.passes in
+          subst (λ i. IsTrue (is_known s.clocks (thread_of e) by i)) (sym (w.stamp ∙ ap (stamp_of log) h))
+          (known-access free m by f.event at before (sym (passes_at-is log (is_by by) m f.event at) ∙ w.by m h) (write_on f.event.kind y f.passes) (write_kind f.event.kind y f.passes).1
+          (conflict-cell f.event e (same_cell f.event p.1) (or_left _ _ p.0)))
+
+  knows-reads : IsTrue (is_exclusive (access_of e.kind)) → IsFreeOfRaces log y → KnowsReads s (thread_of e) y
+  knows-reads exclusive free u small = go (last_at (LastRead (y + y) u) (take n log)) refl
+    where
+      go : (o : Option ℕ) → last_at (LastRead (y + y) u) (take n log) ≡ o → IsTrue (is_known s.clocks (thread_of e) u (get_or s.reads.items (y * 64 + u) 0))
+      go None h = or_right (u == thread_of e) _ (le-leb _ _ (let none = old.reads y u inside small ∙ ap (stamp_of log) h in omega (arith, none)))
+      go (Some m) h =
+          let f = last_at-is (LastRead (y + y) u) (take n log) m h in
+          let l = last_at-within (LastRead (y + y) u) (take n log) m h in
+          let before : m < n = omega (arith, l, length-take-le n log (omega (arith, within))) in
+          let at : slice_get log m ≡ Some f.event = sym (slice_get-take log n m before) ∙ f.here in
+          let q = and_parts (is_reading (y + y) f.event) (thread_of f.event == u) f.passes in
+          let p = and_parts (is_shared (access_of f.event.kind)) (are_same (cell_of (access_of f.event.kind)) (Some (y + y))) q.0 in
+          subst (λ i. IsTrue (is_known s.clocks (thread_of e) u i)) (sym (old.reads y u inside small ∙ ap (stamp_of log) h))
+          (known-access free m u f.event at before q.1 (read_on f.event.kind y q.0) (read_kind f.event.kind y q.0).1
+          (conflict-cell f.event e (same_cell f.event p.1) (or_right (is_exclusive (access_of f.event.kind)) _ exclusive)))
+
 -- ---- what the code asks for
 
 -- no more events synchronize than there are
@@ -241,6 +326,7 @@ swept-block log n e here quiet doesnt s old =
       reads = λ x u inside small.
           old.reads x u inside small ∙ sym (ap (stamp_of log) (last-same log n e here within (LastRead (x + x) u) (and_left _ _ (quiet-no_read e.kind x quiet))));
       ordered = λ x h. in_order-next log n e here within x (old.ordered x h) (joined-quiet log n e here within quiet x);
+      racing = old.racing;
     }
 
 -- one that synchronizes is noted by the clocks
@@ -271,6 +357,7 @@ swept-synchronizing log n e here quiet does s t well old bounds noted count writ
           ∙ (old.reads x u (omega (arith, inside, variables)) (omega (arith, small, threads))
           ∙ sym (ap (stamp_of log) (last-same log n e here within (LastRead (x + x) u) (and_left _ _ (quiet-no_read e.kind x quiet)))));
       ordered = λ x h. in_order-next log n e here within x (old.ordered x (ap (λ xs. marked xs x) (sym ordered) ∙ h)) (joined-quiet log n e here within quiet x);
+      racing = λ x inside h. old.racing x (omega (arith, inside, variables)) (ap (λ xs. marked xs x) (sym ordered) ∙ h);
     }
 
 -- a read has its stamp
@@ -298,6 +385,10 @@ swept-read log n y v th here s t well old bounds clocks count writes reads order
         after_write = λ m access. absurd (other (other_access log n e here within y refl refl x access));
         after_reads = λ m u access. absurd (false≢true access);
       }))
+      (cases_eq x y);
+  racing = λ x inside h. ⊎_elim
+      (λ at. subst (λ k. ¬ IsFreeOfRaces log k) (sym at) (racing-here log n s t y inside_y (KnowsWrite s th.0 y) ordered (old.racing y inside_y) (λ free. knows-write log n e here within s old s.bounds well y inside_y refl refl free) (subst (λ k. IsFalse (marked t.ordered.items k)) at h)))
+      (λ other. old.racing x (omega (arith, inside, variables)) (sym (ordered.others x other) ∙ h))
       (cases_eq x y);
 }
   where
@@ -377,6 +468,10 @@ swept-write log n y v th here s t well old bounds clocks count writes reads orde
         after_write = λ m access. absurd (other (other_access log n e here within y refl refl x access));
         after_reads = λ m u access. absurd (other (other_writing log n e here within y refl refl x access));
       }))
+      (cases_eq x y);
+  racing = λ x inside h. ⊎_elim
+      (λ at. subst (λ k. ¬ IsFreeOfRaces log k) (sym at) (racing-here log n s t y inside_y (KnowsWrite s th.0 y × KnowsReads s th.0 y) ordered (old.racing y inside_y) (λ free. (knows-write log n e here within s old s.bounds well y inside_y refl refl free, knows-reads log n e here within s old s.bounds well y inside_y refl refl refl free)) (subst (λ k. IsFalse (marked t.ordered.items k)) at h)))
+      (λ other. old.racing x (omega (arith, inside, variables)) (sym (ordered.others x other) ∙ h))
       (cases_eq x y);
 }
   where

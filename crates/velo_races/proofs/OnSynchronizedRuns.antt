@@ -81,7 +81,7 @@ join_kind : (k : Kind) (o : Option ℕ) → IsTrue (are_same (joined_by k) o) �
 join_kind (Join u) o h = refl
 join_kind _ o h = absurd (false≢true h)
 
-exit_kind : (k : Kind) → IsTrue (is_exit k) → IsTrue (is_synchronizing k)
+pub exit_kind : (k : Kind) → IsTrue (is_exit k) → IsTrue (is_synchronizing k)
 exit_kind Exit h = refl
 exit_kind _ h = absurd (false≢true h)
 

@@ -1,5 +1,5 @@
 -- What is kept of the events before a position. Private contracts cite these words.
-use Rattle.std.specs.Prelude.{◌≡◌, ◌≢◌, ℕ, ◌+◌, ◌*◌, ◌<◌, ◌≤◌, Bool, ◌||◌, ◌==◌, nat_le, List, length, filter, take, Option, Some, None, slice_index_or, IsTrue}
+use Rattle.std.specs.Prelude.{◌≡◌, ◌≢◌, ℕ, ◌+◌, ◌*◌, ◌<◌, ◌≤◌, Bool, ◌||◌, ◌==◌, nat_le, List, length, filter, take, Option, Some, None, slice_index_or, IsTrue, IsFalse}
 use Rattle.velo_events.specs.declared.event.Event.{Event}
 use Rattle.velo_events.specs.Event.{is_by, is_writing}
 use Rattle.velo_events.specs.Block.{passes_at}
@@ -7,7 +7,7 @@ use Rattle.velo_events.specs.Graph.{Leads}
 use Rattle.velo_events.specs.Place.{LastWrite, LastRead, last_at}
 use Rattle.velo_clocks.specs.Clocks.{ClockState, OfLast, known_at, AreClocksOf, IsNoted, KnowsTheSame}
 use Rattle.velo_laws.specs.Ordered.{only, IsInnerStep}
-use Rattle.velo_races.specs.Races.{synchronizes, is_access_to, no_lock, marked}
+use Rattle.velo_races.specs.Races.{synchronizes, is_access_to, IsFreeOfRaces, no_lock, marked}
 use Rattle.velo_races.specs.declared.sweep.Sweep.{Sweep}
 use Rattle.velo_races.specs.declared.sweep.LastWrite as written
 
@@ -77,6 +77,7 @@ pub record IsSwept (log : List Event) (n : ℕ) (s : Sweep) : Type 0 where
   pub reads : (x u : ℕ) → x < s.bounds.variables → u < s.bounds.threads
       → slice_index_or s.reads.items (x * 64 + u) 0 ≡ stamp_of log (last_at (LastRead (x + x) u) (take n log))
   pub ordered : (x : ℕ) → IsTrue (marked s.ordered.items x) → IsInOrderUpTo log n x
+  pub racing : (x : ℕ) → x < s.bounds.variables → IsFalse (marked s.ordered.items x) → ¬ IsFreeOfRaces log x
 
 -- the event was noted, after room was made for it
 pub record IsNotedAfterRoom (old : ClockState) (position : ℕ) (e : Event) (new : ClockState) : Type 0 where

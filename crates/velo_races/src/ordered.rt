@@ -1,10 +1,10 @@
 //! The variables whose accesses are in order.
-ghost use Rattle.std.specs.Prelude.{◌≡◌, ◌≤◌, length, IfOk, OnErr};
+ghost use Rattle.std.specs.Prelude.{◌≡◌, ◌≤◌, ◌<◌, ℕ, length, IfOk, OnErr, IsTrue};
 ghost use Rattle.velo_events.specs.declared.limits.TheConstants.{MOST_EVENTS};
 ghost use Rattle.velo_events.specs.Refusals.{GrowthRefused};
 ghost use Rattle.velo_events.specs.WellFormed.{IsWellFormed};
 ghost use Rattle.velo_laws.specs.Ordered.{only, IsOrderedWithin};
-ghost use Rattle.velo_races.specs.Races.{no_lock, marked, IsJudgedWithout};
+ghost use Rattle.velo_races.specs.Races.{no_lock, marked, IsFreeOfRaces, IsJudgedWithout};
 
 use crate::sweep::Sweep;
 use std::alloc::Global;
@@ -21,6 +21,7 @@ pub fn ordered_variables(alloc: Global, config: &Config, log: &Trace) -> Result<
     requires well_formed { IsWellFormed config.now.bounds log.now.events }
     ensures count { IfOk result (λ ordered. length ordered.items ≡ config.now.bounds.variables) }
     ensures ordered { IfOk result (λ ordered. IsOrderedWithin (only no_lock (marked ordered.items)) log.now.events) }
+    ensures free { IfOk result (λ ordered. (x : ℕ) → x < config.now.bounds.variables → IsFreeOfRaces log.now.events x → IsTrue (marked ordered.items x)) }
     ensures judged { IfOk result (λ ordered. IsJudgedWithout (marked ordered.items) log.now.events) }
     ensures memory { OnErr result GrowthRefused }
 {

@@ -1,7 +1,9 @@
-use Rattle.std.proofs.Common.{◌≡◌, length, sym, subst, arith}
+use Rattle.std.proofs.Common.{ap, ◌≡◌, length, sym, subst, arith}
+use Rattle.std.proofs.lemmas.Bool.{true_from_ne_false}
+use Rattle.velo_events.specs.declared.config.Bounds.{Bounds}
 use Rattle.velo_events.specs.WellFormed.{IsWellFormed}
 use Rattle.velo_laws.specs.Ordered.{only, IsOrderedWithin}
-use Rattle.velo_races.specs.Races.{no_lock, marked}
+use Rattle.velo_races.specs.Races.{no_lock, marked, IsFreeOfRaces}
 use Rattle.velo_races.specs.Sweep.{IsSwept}
 use Rattle.velo_races.proofs.OnOrdered.{ordered, judged}
 use Rattle.velo_races.proofs.ordered.ordered_variables.Goals as goal
@@ -20,6 +22,12 @@ returns-clause-ordered c =
     let at : c.loop-position.position ≡ length events = omega (arith, c.loop-position.auto.position-end, c.loop-position-test.false) in
     subst (IsOrderedWithin (only no_lock (marked c.loop-position.sweep.ordered.items))) c.as_slice-events.ensures
     (ordered events c.loop-position.sweep (subst (λ n. IsSwept events n c.loop-position.sweep) at c.loop-position.invariant.swept))
+
+pub returns-clause-free : goal.returns-clause-free
+returns-clause-free c x inside free =
+    let events = c.as_slice-events.result.now in
+    let variables = ap (λ (b : Bounds). b.variables) c.loop-position.invariant.bounds in
+    true_from_ne_false _ (λ h. c.loop-position.invariant.swept.racing x (omega (arith, inside, variables)) h (subst (λ log. IsFreeOfRaces log x) (sym c.as_slice-events.ensures) free))
 
 pub returns-clause-judged : goal.returns-clause-judged
 returns-clause-judged c =
