@@ -41,6 +41,9 @@ PARTS = [
         "velo_audit": "Audit* Rounds* Tells Witness",
         "velo_audit_text": "Text",
         "velo_list": "Line* Known* List"}),
+    ("Laws of logs", {
+        "velo_laws": "Cut* Restart* Renumber Ordered* Repeats*",
+        "velo_races": "Races*"}),
     ("What the program does", {
         "velo_program": "Program* Check Explaining Carrying Scheduling Playing Exploring* Delivery Disk Writing Reading Fate Causes",
         "velo_command": "CommandLine Asked Together Running Usage"}),

@@ -1,7 +1,7 @@
 ghost use Rattle.velo_events.specs.Refusals.{GrowthRefused};
 ghost use Rattle.std.specs.Prelude.{◌≡◌, ◌<◌, ◌≤◌, ◌+◌, ◌-◌, ◌^◌, ℕ, min, true, false, [], length, slice_index_or, slice_set, None, IsTrue, IsFalse, IfOk, OnOk, OnErr};
 ghost use Rattle.velo_events.specs.Event.{thread_of, access_of, forked_by};
-ghost use Rattle.velo_clocks.specs.Clocks.{ClockPlace, blank_clock, clock_at, OfLast, blame_bound, KnowsNothing, KnowsTheSame};
+ghost use Rattle.velo_clocks.specs.Clocks.{ClockPlace, blank_clock, clock_at, known_at, OfLast, blame_bound, KnowsNothing, KnowsTheSame};
 ghost use Rattle.velo_clocks.specs.Noted.{clock_beside, joined_clock, state_after_beside, state_after, with_spare, HasRoomToNoteBeside, HasRoomToNote, IsOfThreads};
 ghost use Rattle.velo_clocks.specs.Order.{KnowsOwn, KeepsOrder, KnowsBeside, IsAhead};
 ghost use Rattle.velo_clocks.specs.Epochs.{clock_in, alones_in, count_used, has_spare, AreRows, IsInUse};
@@ -372,6 +372,15 @@ impl PlaceClocks {
             Access::Fork(u) => self.threads[u.0 as usize] = epoch,
             _ => {}
         }
+    }
+
+    /// How far the last event of a thread knows another.
+    #[inline]
+    pub fn known(&self, thread: ThreadId, other: ThreadId) -> u32
+        ensures { (threads : ℕ) → ArePlaces threads self.now → result ≡ known_at (state_of self.now) (OfLast thread.0) other.0 }
+    {
+        self.rows
+            .known(Epoch::at(&self.threads, thread.0 as usize), other)
     }
 
     /// The open blocks of the event's thread that begin below it are to blame.

@@ -1,13 +1,13 @@
 ghost use Rattle.velo_events.specs.Refusals.{GrowthRefused};
 ghost use Rattle.std.specs.Prelude.{◌≡◌, ◌+◌, ◌<◌, ◌^◌, length, IsTrue, IsFalse, IfOk, OnOk, OnErr};
-ghost use Rattle.velo_clocks.specs.Clocks.{blame_bound, KnowsNothing, IsNoted, KnowsTheSame};
+ghost use Rattle.velo_clocks.specs.Clocks.{blame_bound, known_at, OfLast, KnowsNothing, IsNoted, KnowsTheSame};
 ghost use Rattle.velo_clocks.specs.Noted.{HasRoomToNote, IsOfThreads};
 
 use crate::clock_places::PlaceClocks;
 use std::alloc::Global;
 use std::marker::Model;
 use velo_events::growth::filled;
-use velo_events::{Config, Event, Memory};
+use velo_events::{Config, Event, Memory, ThreadId};
 
 /// How far the events at each place know each thread: the last event of each thread, the last write of each variable or lock,
 /// and its reads since then. To take or leave a lock alone is to write it, to do so beside others to read it.
@@ -126,6 +126,15 @@ impl ClockTables {
         self.places.note(&mut self.clock, position, event, in_order);
         self.in_order = in_order;
         self.latest = position + 1;
+    }
+
+    /// How far the last event of a thread, or its fork while it has none, knows another thread: the position plus one of the
+    /// latest event of the other that is this one or happens before it, or 0.
+    #[inline]
+    pub fn known(&self, thread: ThreadId, other: ThreadId) -> u32
+        ensures { result ≡ known_at self.now (OfLast thread.0) other.0 }
+    {
+        self.places.known(thread, other)
     }
 
     /// The open blocks of the event's thread that begin below it are to blame.

@@ -1,0 +1,5 @@
+pub mod Cut
+pub mod Restart
+pub mod Renumber
+pub mod Ordered
+pub mod Repeats

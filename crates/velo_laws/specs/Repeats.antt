@@ -1,0 +1,36 @@
+-- Accesses that repeat one of their thread.
+use Rattle.std.specs.Prelude.{ℕ, ◌<◌, Bool, not, List, length, filter, filter_map, slice_get, take, IsTrue, IsFalse, ◌⊎◌}
+use Rattle.velo_events.specs.declared.event.Event.{Event}
+use Rattle.velo_events.specs.Event.{is_by, is_writing, is_reading}
+use Rattle.velo_events.specs.Block.{passes_at, positions}
+use Rattle.velo_events.specs.Graph.{conflict_at, IsClosing}
+
+-- in one thread, position j writes the cell that position i writes, or reads the one that it reads
+pub record IsAlike (log : List Event) (i j : ℕ) : Type 0 where
+  pub thread : ℕ
+  pub own_first : IsTrue (passes_at log (is_by thread) i)
+  pub own : IsTrue (passes_at log (is_by thread) j)
+  pub cell : ℕ
+  pub same : (IsTrue (passes_at log (is_writing cell) i) × IsTrue (passes_at log (is_writing cell) j))
+      ⊎ (IsTrue (passes_at log (is_reading cell) i) × IsTrue (passes_at log (is_reading cell) j))
+
+-- it repeats an earlier one that stays, and whatever stands between the two and conflicts with it goes as well
+pub record Repeats (goes : ℕ → Bool) (log : List Event) (j : ℕ) : Type 0 where
+  pub first : ℕ
+  pub in_order : first < j
+  pub alike : IsAlike log first j
+  pub first_stays : IsFalse (goes first)
+  pub between : (k : ℕ) → first < k → k < j → IsTrue (conflict_at log k j) → IsTrue (goes k)
+
+abbrev pub AreRepeats : (ℕ → Bool) → List Event → Type 0
+AreRepeats goes log = (j : ℕ) → IsTrue (goes j) → Repeats goes log j
+
+-- the log without these positions
+abbrev pub without : (ℕ → Bool) → List Event → List Event
+without goes log = filter_map (slice_get log) (filter (λ i. not (goes i)) (positions log))
+
+-- the first closing event is none of these positions, and it is the first one without them, where it stands behind fewer
+abbrev pub ClosesAtSameRepeated : (ℕ → Bool) → List Event → Type 0
+ClosesAtSameRepeated goes log =
+    (p : ℕ) → IsClosing log p
+    → IsFalse (goes p) × IsClosing (without goes log) (length (without goes (take p log)))

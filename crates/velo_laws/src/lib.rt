@@ -1,0 +1,18 @@
+//! Laws of logs, whoever judges them: of one that is cut in two, and of one of which events are left out.
+#![tactic(auto)]
+
+mod cuts;
+mod numbers;
+mod ordered;
+mod repeats;
+mod restarts;
+
+pub use cuts::{chain, cut, cut_anywhere, quiet};
+pub use numbers::renumber;
+pub use ordered::{
+    chained_in_order, last_in_order, ordered_within, rest_of_rest, same_blame,
+    same_blame_without_labels, same_closing, same_closing_without_labels, same_cycles,
+    same_cycles_without_labels, same_transactions, well_formed, within_in_order,
+};
+pub use repeats::{same_closing_without_repeats, same_cycles_without_repeats};
+pub use restarts::{afresh, goes_on, has_prologue, prologue, restart};

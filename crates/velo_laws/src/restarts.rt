@@ -1,0 +1,41 @@
+//! What holds of every run that goes on after a cut as a log of its own.
+ghost use Rattle.std.specs.Prelude.{ℕ, ◌<◌, List, ◌++◌};
+ghost use Rattle.velo_events.specs.declared.config.Bounds.{Bounds};
+ghost use Rattle.velo_events.specs.declared.event.Event.{Event};
+ghost use Rattle.velo_events.specs.WellFormed.{IsWellFormed};
+ghost use Rattle.velo_events.specs.Graph.{HasCycle};
+ghost use Rattle.velo_laws.specs.Cut.{NoBlockOpen, IsQuiet};
+ghost use Rattle.velo_laws.specs.Restart.{HasNoBegin, HasPrologue, StandsFor, IsJudgedTheSame, GoesOnAfresh};
+
+/// After two cuts with no cycle before them a run is judged the same, whatever was before.
+pub fn restart()
+    ensures { (before prologue after : List Event) → IsQuiet before → IsQuiet prologue
+        → ¬ HasCycle before → ¬ HasCycle prologue → IsJudgedTheSame before prologue after }
+{}
+
+/// What may come after all that was before may come after a prologue that stands for it.
+pub fn goes_on()
+    ensures { (bounds : Bounds) (before prologue after : List Event)
+        → IsWellFormed bounds before → IsWellFormed bounds prologue
+        → NoBlockOpen before → NoBlockOpen prologue → StandsFor prologue before
+        → IsWellFormed bounds (before ++ after) → IsWellFormed bounds (prologue ++ after) }
+{}
+
+/// A log in which no block begins has no open block and no cycle.
+pub fn prologue()
+    ensures { (prologue : List Event) → HasNoBegin prologue
+        → NoBlockOpen prologue × IsQuiet prologue × (¬ HasCycle prologue) }
+{}
+
+/// Each log has a prologue that stands for it, of no more events than the bounds say.
+pub fn has_prologue()
+    ensures { (bounds : Bounds) (before : List Event) → 0 < bounds.threads
+        → IsWellFormed bounds before → HasPrologue bounds before }
+{}
+
+/// With it a run goes on after a cut as a log of its own.
+pub fn afresh()
+    ensures { (bounds : Bounds) (before : List Event) (p : HasPrologue bounds before)
+        (after : List Event) → IsWellFormed bounds before → NoBlockOpen before
+        → ¬ HasCycle before → GoesOnAfresh bounds before p.prologue after }
+{}

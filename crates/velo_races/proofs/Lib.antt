@@ -1,0 +1,6 @@
+pub mod OnSynchronizing
+pub mod OnSynchronizedRuns
+pub mod OnJoined
+pub mod OnKnown
+pub mod OnSwept
+pub mod OnOrdered
