@@ -1,2 +1,3 @@
 pub mod OnCounts
 pub mod OnRuns
+pub mod OnDrawing

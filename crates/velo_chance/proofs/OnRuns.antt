@@ -25,10 +25,12 @@ use Rattle.velo_schedules.specs.declared.finding.RefusedRun.{RefusedRun}
 use Rattle.velo_schedules.specs.Logs.{ends_refused, is_for_room}
 use Rattle.velo_schedules.specs.Told.{ShowsAlarm, ShowsStuck, ShowsRefusal}
 use Rattle.std.proofs.lemmas.List.Sums.{count_by-le-length, sum_by_push}
+use Rattle.velo_shrink.specs.declared.goal.Goal.TheVariants as goals
 use Rattle.velo_chance.specs.declared.tally.Blamed.{Blamed}
 use Rattle.velo_chance.specs.declared.tally.Tally.{Tally}
 use Rattle.velo_chance.specs.Runs.{Run, IsRun, has_alarm, is_stuck, is_refused, blames, blocks_of, ends_stuck, has_label}
-use Rattle.velo_chance.specs.Tallies.{ComesTo, IsTold, IsTried, IsTriedBy, AreCounts, ending_of}
+use Rattle.velo_chance.specs.Tallies.{ComesTo, IsTold, IsTried, IsTriedBy, AreCounts, SimplifiesFirst, ending_of, first_ending, first_schedule}
+use Rattle.velo_chance.proofs.OnDrawing.{drawn-count}
 use Rattle.velo_chance.proofs.OnCounts.{AreCounts-none, AreCounts-same}
 
 map-or : {X Y : Type 0} (f : X → Y) (o p : Option X) → option_map f (option_or o p) ≡ option_or (option_map f o) (option_map f p)
@@ -38,6 +40,10 @@ map-or f (Some x) p = refl
 map-if : {X Y : Type 0} (f : X → Y) (b : Bool) (x : X) → option_map f (cond b (Some x) None) ≡ (if b then Some (f x) else None)
 map-if f true x = refl
 map-if f false x = refl
+
+map-map : {X Y Z : Type 0} (f : X → Y) (g : Y → Z) (o : Option X) → option_map g (option_map f o) ≡ option_map (λ x. g (f x)) o
+map-map f g None = refl
+map-map f g (Some x) = refl
 
 -- the first of the runs, or else this one
 find-push : {Y : Type 0} (f : Run → Y) (p : Run → Bool) (runs : List Run) (run : Run) → option_map f (find p (runs ++ run ∷ [])) ≡ option_or (option_map f (find p runs)) (if p run then Some (f run) else None)
@@ -119,6 +125,9 @@ is_some-find p (run ∷ runs) = ⊎_elim
 some-first : {A Y : Type 0} (g : A → Y) (f : Run → Y) (p : Run → Bool) (o : Option A) (runs : List Run) → option_map g o ≡ option_map f (find p runs) → is_some o ≡ list_any p runs
 some-first g f p o runs same = sym (some-map_of g o) ∙ (ap (λ x. is_some x) same ∙ (some-map_of f (find p runs) ∙ is_some-find p runs))
 
+pub some-first_schedule : (p : Run → Bool) (runs : List Run) → is_some (first_schedule p runs) ≡ list_any p runs
+some-first_schedule p runs = some-map_of (λ run. run.schedule) (find p runs) ∙ is_some-find p runs
+
 -- ---- replays
 
 pub AlarmOf-answer : (log : List Event) (alarm : Option (Bor Alarm)) → IfNone alarm (¬ HasCycle log) → IfSome alarm (λ a. IsAlarm log a.now) → AlarmOf log (option_map (λ a. a.now) alarm)
@@ -158,22 +167,6 @@ module _ (program : Program) (config : Config) where
       blamed = AreCounts-permutation (λ label. count_by (blames label) tried.runs) before.blamed.items after.blamed.items moved tried.comes_to.blamed;
     };
   }
-
-  -- so many schedules, with one more
-  pub IsTried-once : (schedule : List ThreadId) (before after : Tally) → ((schedules : List (List ThreadId)) → IsTriedBy program config schedules before → IsTriedBy program config (schedules ++ schedule ∷ []) after)
-      → (n : ℕ) → IsTried program config n before → IsTried program config (n + 1) after
-  IsTried-once schedule before after step n is = record {
-    schedules = is.schedules ++ schedule ∷ [];
-    count = length-append is.schedules (schedule ∷ []) ∙ ap (λ k. k + 1) is.count;
-    tried = step is.schedules is.tried;
-  }
-
-  pub IsTried-ordered : (n : ℕ) (before after : Tally) → after ≡ record before { blamed = after.blamed } → IsPermutation before.blamed.items after.blamed.items → IsTried program config n before → IsTried program config n after
-  IsTried-ordered n before after same moved is =
-      record { schedules = is.schedules; count = is.count; tried = IsTriedBy-ordered is.schedules before after same moved is.tried }
-
-  pub IsTried-none : (tally : Tally) → IsTriedBy program config [] tally → IsTried program config 0 tally
-  IsTried-none tally tried = record { schedules = []; count = refl; tried = tried }
 
   -- ---- what is shown
 
@@ -244,28 +237,43 @@ module _ (program : Program) (config : Config) where
 
   -- ---- what is told
 
+  -- the schedule alone
+  first-alone : (p : Run → Bool) (runs : List Run) → option_map (λ (y : List ThreadId × Ending). y.0) (first_ending p runs) ≡ first_schedule p runs
+  first-alone p runs = map-map (λ run. (run.schedule, run.ending)) (λ y. y.0) (find p runs)
+
+  schedules-alone : (refused : Option RefusedRun) → option_map (λ (y : List ThreadId × Ending). y.0) (option_map ending_of refused) ≡ option_map (λ run. run.schedule.items) refused
+  schedules-alone refused = map-map ending_of (λ y. y.0) refused
+
   -- what simple schedules show is told in place of the first
-  pub IsTold-simple : (n : ℕ) (before after : Tally) → IsTried program config n before
+  pub IsTold-simple : (seed n : ℕ) (before after : Tally) → IsTried program config seed n before
       → after ≡ record before { alarm = after.alarm; stuck = after.stuck; refused = after.refused }
       → is_some after.alarm ≡ is_some before.alarm → IfSome after.alarm (λ schedule. ShowsAlarm program config schedule.items)
+      → IfSome after.alarm (λ schedule. SimplifiesFirst program config goals.Alarm (option_map (λ schedule. schedule.items) before.alarm) schedule.items)
       → is_some after.stuck ≡ is_some before.stuck → IfSome after.stuck (λ schedule. ShowsStuck program config schedule.items)
+      → IfSome after.stuck (λ schedule. SimplifiesFirst program config goals.Stuck (option_map (λ schedule. schedule.items) before.stuck) schedule.items)
       → is_some after.refused ≡ is_some before.refused → IfSome after.refused (ShowsRefusal program config)
-      → IsTold program config n after
-  IsTold-simple n before after is same some_alarm alarm some_stuck stuck some_refused refused =
-      let tried = is.tried in
+      → IfSome after.refused (λ run. SimplifiesFirst program config (goals.Refused run.thread run.refusal) (option_map (λ run. run.schedule.items) before.refused) run.schedule.items)
+      → IsTold program config seed n after
+  IsTold-simple seed n before after tried same some_alarm alarm simple_alarm some_stuck stuck simple_stuck some_refused refused simple_refused =
       let to = tried.comes_to in
       record {
         runs = tried.runs;
         replayed = tried.replayed;
-        count = sym (length-map tried.runs (λ run. run.schedule)) ∙ (ap (λ (l : List (List ThreadId)). length l) tried.by ∙ is.count);
+        by = tried.by;
+        count = sym (length-map tried.runs (λ run. run.schedule)) ∙ (ap (λ (l : List (List ThreadId)). length l) tried.by ∙ drawn-count n _ _ _);
         tells = record {
           count = ap (λ c. c.runs) same ∙ to.count;
           some_alarm = some_alarm ∙ some-first (λ schedule. schedule.items) (λ run. run.schedule) has_alarm before.alarm tried.runs to.alarm;
           alarm = alarm;
+          simple_alarm = subst (λ (o : Option (List ThreadId)). IfSome after.alarm (λ schedule. SimplifiesFirst program config goals.Alarm o schedule.items)) to.alarm simple_alarm;
           some_stuck = some_stuck ∙ some-first (λ schedule. schedule.items) (λ run. run.schedule) is_stuck before.stuck tried.runs to.stuck;
           stuck = stuck;
+          simple_stuck = subst (λ (o : Option (List ThreadId)). IfSome after.stuck (λ schedule. SimplifiesFirst program config goals.Stuck o schedule.items)) to.stuck simple_stuck;
           some_refused = some_refused ∙ some-first ending_of (λ run. (run.schedule, run.ending)) is_refused before.refused tried.runs to.refused;
           refused = refused;
+          simple_refused =
+              subst (λ (o : Option (List ThreadId)). IfSome after.refused (λ run. SimplifiesFirst program config (goals.Refused run.thread run.refusal) o run.schedule.items))
+              (sym (schedules-alone before.refused) ∙ (ap (option_map (λ (y : List ThreadId × Ending). y.0)) to.refused ∙ first-alone is_refused tried.runs)) simple_refused;
           alarms = ap (λ c. c.alarms) same ∙ to.alarms;
           blamed = subst (λ (b : List Blamed). AreCounts (λ label. count_by (blames label) tried.runs) b) (sym (ap (λ c. c.blamed.items) same)) to.blamed;
         };

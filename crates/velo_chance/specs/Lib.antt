@@ -1,3 +1,4 @@
+pub mod Drawing
 pub mod Runs
 pub mod Tallies
 pub mod Counting

@@ -1,6 +1,8 @@
 //! Schedules that are drawn by chance.
-ghost use Rattle.std.specs.Prelude.{◌≡◌, ◌≤◌, ◌<◌, vec_len, All, IfOk, IfSome, OnErr};
+ghost use Rattle.std.specs.Prelude.{◌≡◌, ◌<◌, IfOk, OnErr, OnOk};
+ghost use Rattle.rand_core.specs.Stream.{next_u64};
 ghost use Rattle.velo_events.specs.Refusals.{GrowthRefused};
+ghost use Rattle.velo_chance.specs.Drawing.{behind_words, drawn, stream, thread_of, turns_for};
 
 use rand_core::Rng;
 use rand_xoshiro::Xoshiro256PlusPlus;
@@ -14,7 +16,7 @@ use velo_workload::Workload;
 /// How many turns are drawn for a run: so many that each event has a turn on the average, even if all threads but one have to
 /// wait or are idle, but no more than a schedule may have.
 pub(crate) fn turns_for(workload: &Workload) -> usize
-    ensures { result ≤ MOST_TURNS }
+    ensures { result ≡ turns_for workload.now }
 {
     let threads = u64::from(workload.bounds().threads);
     count_all(workload)
@@ -25,7 +27,8 @@ pub(crate) fn turns_for(workload: &Workload) -> usize
 /// A thread, each as likely as any other; none for the few numbers that would favour some.
 fn draw_thread(random: &mut Xoshiro256PlusPlus, threads: u8) -> Option<ThreadId>
     requires { 0 < threads }
-    ensures { IfSome result (λ thread. thread.0 < threads) }
+    ensures thread { result ≡ thread_of threads (next_u64 (stream random.old)).0 }
+    ensures rest { stream random.new ≡ (next_u64 (stream random.old)).1 }
 {
     let threads = u64::from(threads);
     let favoured = u64::MAX - u64::MAX % threads;
@@ -45,8 +48,8 @@ pub(crate) fn draw(
     count: usize,
 ) -> Result<Vec<ThreadId>, Memory>
     requires { 0 < threads }
-    ensures few { IfOk result (λ turns. vec_len turns ≤ count) }
-    ensures threads { IfOk result (λ turns. All (λ turn. turn.0 < threads) turns.items) }
+    ensures turns { IfOk result (λ turns. turns.items ≡ drawn threads count (stream random.old)) }
+    ensures rest { OnOk result (stream random.new ≡ behind_words count (stream random.old)) }
     ensures memory { OnErr result GrowthRefused }
 {
     let mut turns = Vec::new(alloc);

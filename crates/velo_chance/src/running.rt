@@ -87,7 +87,7 @@ pub fn try_all(
 ///
 /// Each turn of a schedule is any thread's, all alike. A thread that can't act in its turn passes, so among those that can
 /// act each is as likely as any other. A schedule has as many turns as the bodies have events, times the threads, and at
-/// most [`MOST_TURNS`](velo_turns::MOST_TURNS). The same seed draws the same schedules.
+/// most [`MOST_TURNS`](velo_turns::MOST_TURNS). The schedules are those that xoshiro256++ draws from the seed.
 ///
 /// What is shown was replayed, and each count is of runs that were replayed. Where nothing is shown, none of these runs shows
 /// it: of other schedules nothing is said.
@@ -102,7 +102,7 @@ pub fn try_by_chance(
     config: Config,
 ) -> Result<Tally, Memory>
     requires bounds { config.bounds ≡ workload.now.bounds }
-    ensures tried { IfOk result (IsTried workload.now config runs) }
+    ensures tried { IfOk result (IsTried workload.now config seed runs) }
     ensures order { IfOk result (λ tally. IsNonDecreasingBy rank tally.blamed.items) }
     ensures alarm { IfOk result (λ tally. IfSome tally.alarm (λ schedule. ShowsAlarm workload.now config schedule.items)) }
     ensures stuck { IfOk result (λ tally. IfSome tally.stuck (λ schedule. ShowsStuck workload.now config schedule.items)) }

@@ -1,10 +1,11 @@
 //! Runs by chance, with simple schedules.
-ghost use Rattle.std.specs.Prelude.{◌≡◌, IfOk, IfSome, OnErr, is_some};
+ghost use Rattle.std.specs.Prelude.{◌≡◌, IfOk, IfSome, OnErr, is_some, option_map};
 ghost use Rattle.std.specs.List.Sorted.{IsNonDecreasingBy};
 ghost use Rattle.velo_events.specs.Refusals.{GrowthRefused};
 ghost use Rattle.velo_schedules.specs.Told.{ShowsRefusal};
+ghost use Rattle.velo_shrink.specs.declared.goal.Goal.TheVariants as goals;
 ghost use Rattle.velo_shrink.specs.Shown.{Shows};
-ghost use Rattle.velo_chance.specs.Tallies.{IsTold, rank};
+ghost use Rattle.velo_chance.specs.Tallies.{IsTold, SimplifiesFirst, rank};
 
 use crate::running::try_by_chance;
 use crate::tally::Tally;
@@ -26,6 +27,9 @@ fn simple_schedule(
     requires shows { IfSome found (Shows workload.now config goal) }
     ensures some { IfOk result (λ simple. is_some simple ≡ is_some found) }
     ensures shows { IfOk result (λ simple. IfSome simple (Shows workload.now config goal)) }
+    ensures simple { IfOk result (λ simple. IfSome simple (λ turns.
+        SimplifiesFirst workload.now config goal (option_map (λ schedule. schedule.items) found)
+        turns.items)) }
     ensures memory { OnErr result GrowthRefused }
 {
     match found {
@@ -48,6 +52,9 @@ fn simple_refusal(
     requires shows { IfSome refused (ShowsRefusal workload.now config) }
     ensures some { IfOk result (λ simple. is_some simple ≡ is_some refused) }
     ensures shows { IfOk result (λ simple. IfSome simple (ShowsRefusal workload.now config)) }
+    ensures simple { IfOk result (λ simple. IfSome simple (λ run.
+        SimplifiesFirst workload.now config (goals.Refused run.thread run.refusal)
+        (option_map (λ run. run.schedule.items) refused) run.schedule.items)) }
     ensures memory { OnErr result GrowthRefused }
 {
     match refused {
@@ -85,7 +92,7 @@ pub fn explore_by_chance(
     config: Config,
 ) -> Result<Tally, Memory>
     requires { config.bounds ≡ workload.now.bounds }
-    ensures told { IfOk result (IsTold workload.now config runs) }
+    ensures told { IfOk result (IsTold workload.now config seed runs) }
     ensures order { IfOk result (λ tally. IsNonDecreasingBy rank tally.blamed.items) }
     ensures memory { OnErr result GrowthRefused }
 {

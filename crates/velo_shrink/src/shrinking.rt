@@ -2,10 +2,12 @@
 ghost use Rattle.std.specs.Prelude.{◌≡◌, ◌≤◌, length, IfOk, OnErr};
 ghost use Rattle.velo_events.specs.Refusals.{GrowthRefused};
 ghost use Rattle.velo_shrink.specs.Shown.{Shows};
+ghost use Rattle.velo_shrink.specs.Simple.{Simplifies};
 
 use crate::budget::Budget;
 use crate::edit::edited;
 use crate::goal::Goal;
+use crate::minimizing::{MOST_MINIMAL, minimal};
 use crate::plan::Plan;
 use crate::trying::simpler;
 use std::alloc::Global;
@@ -18,6 +20,43 @@ pub const MOST_TRIES: u32 = 4_000;
 /// The most turns and events of all tries together.
 const MOST_STEPS: u64 = 20_000_000;
 
+/// The simplest schedule of so many tries, unless the budget is spent before.
+fn simplest(
+    alloc: Global,
+    workload: &Workload,
+    goal: Goal,
+    schedule: Vec<ThreadId>,
+    most_tries: u32,
+    config: Config,
+    budget: &mut Budget,
+) -> Result<Vec<ThreadId>, Memory>
+    requires bounds { config.bounds ≡ workload.now.bounds }
+    requires shows { Shows workload.now config goal schedule }
+    ensures shows { IfOk result (Shows workload.now config goal) }
+    ensures shorter { IfOk result (λ turns. length turns.items ≤ length schedule.items) }
+    ensures memory { OnErr result GrowthRefused }
+{
+    let mut best = schedule;
+    let mut plan = Plan::new();
+    for _ in 0..most_tries {
+        if budget.is_spent() {
+            return Ok(best);
+        }
+        let Some(edit) = plan.next(&best) else {
+            return Ok(best);
+        };
+        let candidate = edited(alloc, &best, edit)?;
+        match simpler(alloc, workload, goal, &best, &candidate, config, budget)? {
+            Some(turns) => {
+                plan.take_up(&best);
+                best = turns;
+            }
+            None => plan.pass_by(&best),
+        }
+    }
+    Ok(best)
+}
+
 /// Makes a schedule simple that shows a finding: a schedule that shows the same, and is shorter, or as long with fewer
 /// switches of thread, or the same. The configuration has to have the workload's bounds.
 ///
@@ -26,6 +65,9 @@ const MOST_STEPS: u64 = 20_000_000;
 /// Input", IEEE Transactions on Software Engineering, 2002). Each try is a replay, and there are at most `most_tries`, in which
 /// together some 20,000,000 turns and events are done. Where a try shows the finding, the threads of its own events up to
 /// there are the next schedule, if they are simpler and show it again.
+///
+/// If at most [`MOST_MINIMAL`] turns are left then, single ones are left out until none can be, however many tries this takes:
+/// without any one of them a replay does not come to the finding within as many turns as are left.
 ///
 /// # Errors
 /// `Memory` where a growth was refused.
@@ -40,35 +82,22 @@ pub fn shrink(
     requires bounds { config.bounds ≡ workload.now.bounds }
     requires shows { Shows workload.now config goal schedule }
     ensures shows { IfOk result (Shows workload.now config goal) }
-    ensures shorter { IfOk result (λ turns. length turns.items ≤ length schedule.items) }
+    ensures simple { IfOk result (λ turns.
+        Simplifies workload.now config goal schedule.items turns.items) }
     ensures memory { OnErr result GrowthRefused }
 {
-    let mut best = schedule;
-    let mut plan = Plan::new();
     let mut budget = Budget::new(MOST_STEPS);
-    for _ in 0..most_tries {
-        if budget.is_spent() {
-            return Ok(best);
-        }
-        let Some(edit) = plan.next(&best) else {
-            return Ok(best);
-        };
-        let candidate = edited(alloc, &best, edit)?;
-        match simpler(
-            alloc,
-            workload,
-            goal,
-            &best,
-            &candidate,
-            config,
-            &mut budget,
-        )? {
-            Some(turns) => {
-                plan.take_up(&best);
-                best = turns;
-            }
-            None => plan.pass_by(&best),
-        }
+    let best = simplest(
+        alloc,
+        workload,
+        goal,
+        schedule,
+        most_tries,
+        config,
+        &mut budget,
+    )?;
+    if best.len() > MOST_MINIMAL {
+        return Ok(best);
     }
-    Ok(best)
+    minimal(alloc, workload, goal, best, config, &mut budget)
 }

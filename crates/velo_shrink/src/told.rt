@@ -2,6 +2,8 @@
 ghost use Rattle.std.specs.Prelude.{◌≡◌, IfOk, OnErr};
 ghost use Rattle.velo_events.specs.Refusals.{GrowthRefused};
 ghost use Rattle.velo_schedules.specs.Told.{AlarmTold, RefusalTold, StuckTold};
+ghost use Rattle.velo_shrink.specs.declared.goal.Goal.TheVariants.{Alarm, Stuck};
+ghost use Rattle.velo_shrink.specs.Simple.{SimplifiesFinding, SimplifiesRefusal};
 
 use crate::goal::Goal;
 use crate::shrinking::{MOST_TRIES, shrink};
@@ -20,6 +22,7 @@ fn shrink_alarm(
     requires bounds { config.bounds ≡ workload.now.bounds }
     requires told { AlarmTold workload.now config found }
     ensures told { IfOk result (AlarmTold workload.now config) }
+    ensures simple { IfOk result (SimplifiesFinding workload.now config Alarm found) }
     ensures memory { OnErr result GrowthRefused }
 {
     match found {
@@ -42,6 +45,7 @@ fn shrink_stuck(
     requires bounds { config.bounds ≡ workload.now.bounds }
     requires told { StuckTold workload.now config found }
     ensures told { IfOk result (StuckTold workload.now config) }
+    ensures simple { IfOk result (SimplifiesFinding workload.now config Stuck found) }
     ensures memory { OnErr result GrowthRefused }
 {
     match found {
@@ -64,6 +68,7 @@ fn shrink_refusal(
     requires bounds { config.bounds ≡ workload.now.bounds }
     requires told { RefusalTold workload.now config found }
     ensures told { IfOk result (RefusalTold workload.now config) }
+    ensures simple { IfOk result (SimplifiesRefusal workload.now config found) }
     ensures memory { OnErr result GrowthRefused }
 {
     match found {
@@ -106,6 +111,12 @@ pub fn shrink_told(
     ensures alarm { IfOk result (λ x. AlarmTold workload.now config x.alarm) }
     ensures stuck { IfOk result (λ x. StuckTold workload.now config x.stuck) }
     ensures refused { IfOk result (λ x. RefusalTold workload.now config x.refused) }
+    ensures simple_alarm { IfOk result (λ x.
+        SimplifiesFinding workload.now config Alarm told.alarm x.alarm) }
+    ensures simple_stuck { IfOk result (λ x.
+        SimplifiesFinding workload.now config Stuck told.stuck x.stuck) }
+    ensures simple_refused { IfOk result (λ x.
+        SimplifiesRefusal workload.now config told.refused x.refused) }
     ensures memory { OnErr result GrowthRefused }
 {
     let Exploration {

@@ -1,9 +1,11 @@
 //! One try: a schedule is replayed, and taken up if it shows the goal and is simpler.
-ghost use Rattle.std.specs.Prelude.{◌≡◌, ◌≤◌, length, IsTrue, IsFalse, IfOk, IfSome, OnErr};
+ghost use Rattle.std.specs.Prelude.{◌≡◌, ◌≤◌, ◌↔◌, ℕ, length, IsTrue, IsFalse, IfOk, IfSome, OnErr};
 ghost use Rattle.velo_events.specs.Refusals.{GrowthRefused};
+ghost use Rattle.velo_worker.specs.declared.ending.Ending.{Ending as EndingOf};
 ghost use Rattle.velo_worker.specs.declared.ending.Ending.TheVariants.{Refused};
 ghost use Rattle.velo_schedules.specs.Logs.{is_for_room};
 ghost use Rattle.velo_shrink.specs.Shown.{Reached, Reaches, Shows};
+ghost use Rattle.velo_shrink.specs.Simple.{IsAbove, IsLimited, Misses, ReachesWithin, stops};
 
 use crate::budget::Budget;
 use crate::goal::Goal;
@@ -18,8 +20,8 @@ use velo_world::Closed;
 
 /// Whether a run ended as this thread was refused, for this reason, which is no want of room.
 fn is_refused(ending: Ending, thread: ThreadId, refusal: Refusal) -> bool
-    ensures ending { IsTrue result → ending ≡ Refused thread refusal }
-    ensures lasting { IsTrue result → IsFalse (is_for_room refusal) }
+    ensures { IsTrue result
+        ↔ ((ending ≡ Refused thread refusal) × IsFalse (is_for_room refusal)) }
 {
     match lasting_refusal(ending) {
         Some((other, reason)) => other == thread && reason == refusal,
@@ -29,7 +31,7 @@ fn is_refused(ending: Ending, thread: ThreadId, refusal: Refusal) -> bool
 
 /// Whether a run reaches the goal.
 fn is_reached(goal: Goal, closed: &Closed, ending: Ending) -> bool
-    ensures { IsTrue result → Reaches goal ending closed.now }
+    ensures { IsTrue result ↔ Reaches goal ending closed.now }
 {
     match goal {
         Goal::Alarm => closed.alarm().is_some(),
@@ -40,6 +42,7 @@ fn is_reached(goal: Goal, closed: &Closed, ending: Ending) -> bool
 
 /// The threads of the first events of a log, so many or as many as there are.
 fn threads_of(alloc: Global, log: &Trace, count: usize) -> Result<Vec<ThreadId>, Memory>
+    ensures few { IfOk result (λ threads. length threads.items ≤ count) }
     ensures memory { OnErr result GrowthRefused }
 {
     let mut threads = Vec::new(alloc);
@@ -56,6 +59,8 @@ fn threads_of(alloc: Global, log: &Trace, count: usize) -> Result<Vec<ThreadId>,
 /// A turn for each event of a run up to where it shows the goal: up to the event that closes the first cycle, or of the
 /// whole log, and behind that the turn that was refused.
 fn own_turns(alloc: Global, goal: Goal, closed: &Closed) -> Result<Vec<ThreadId>, Memory>
+    ensures soonest { IfOk result (λ turns. (n : ℕ) (ending : EndingOf) →
+        ReachesWithin n goal ending closed.now → length turns.items ≤ n) }
     ensures memory { OnErr result GrowthRefused }
 {
     let log = closed.log();
@@ -74,16 +79,27 @@ fn own_turns(alloc: Global, goal: Goal, closed: &Closed) -> Result<Vec<ThreadId>
     }
 }
 
-/// The same, but where an alarm is looked for a replay ends at it.
-fn config_of_try(goal: Goal, config: Config) -> Config
-    ensures { result.bounds ≡ config.bounds }
+/// Whether a replay that looks for the goal ends at its alarm: where an alarm is looked for, or if this is asked for.
+fn stops(goal: Goal, stop: bool) -> bool
+    ensures { result ≡ stops goal stop }
 {
+    match goal {
+        Goal::Alarm => true,
+        Goal::Stuck | Goal::Refused(..) => stop,
+    }
+}
+
+/// The same, but a replay ends soon after so many events, and where an alarm is looked for at the alarm.
+pub(crate) fn config_of_try(goal: Goal, config: Config, events: usize) -> Config
+    ensures { IsLimited events goal config result }
+{
+    let most = (events as u64).saturating_add(1);
     Config {
         run: config.run,
         bounds: config.bounds,
-        events: config.events,
+        events: most.min(u64::from(config.events)) as u32,
         nodes: config.nodes,
-        stop: config.stop || goal == Goal::Alarm,
+        stop: stops(goal, config.stop),
     }
 }
 
@@ -94,7 +110,10 @@ fn turns_if_reached(
     closed: &Closed,
     ending: Ending,
 ) -> Result<Option<Vec<ThreadId>>, Memory>
-    ensures reaches { IfOk result (λ found. IfSome found (λ turns. Reaches goal ending closed.now)) }
+    ensures reaches { IfOk result (λ found.
+        IfSome found (λ turns. Reaches goal ending closed.now)) }
+    ensures misses { IfOk result (λ found. (n : ℕ) → IsAbove n found →
+        ¬ ReachesWithin n goal ending closed.now) }
     ensures memory { OnErr result GrowthRefused }
 {
     if !is_reached(goal, closed, ending) {
@@ -105,7 +124,10 @@ fn turns_if_reached(
 }
 
 /// Replays a schedule, and answers the run's own turns up to where it shows the goal, if it does.
-fn tried(
+///
+/// # Errors
+/// `Memory` where a growth was refused.
+pub(crate) fn tried(
     alloc: Global,
     workload: &Workload,
     goal: Goal,
@@ -114,7 +136,10 @@ fn tried(
     budget: &mut Budget,
 ) -> Result<Option<Vec<ThreadId>>, Memory>
     requires bounds { config.bounds ≡ workload.now.bounds }
-    ensures reached { IfOk result (λ found. IfSome found (λ turns. Reached workload.now config goal schedule.now)) }
+    ensures reached { IfOk result (λ found.
+        IfSome found (λ turns. Reached workload.now config goal schedule.now)) }
+    ensures misses { IfOk result (λ found. (n : ℕ) → IsAbove n found →
+        Misses n workload.now config goal schedule.now) }
     ensures memory { OnErr result GrowthRefused }
 {
     let (closed, ending) = replayed(alloc, workload, schedule, config)?;
@@ -162,10 +187,11 @@ pub(crate) fn simpler(
 ) -> Result<Option<Vec<ThreadId>>, Memory>
     requires bounds { config.bounds ≡ workload.now.bounds }
     ensures shows { IfOk result (λ found. IfSome found (Shows workload.now config goal)) }
-    ensures shorter { IfOk result (λ found. IfSome found (λ turns. length turns.items ≤ length best.now)) }
+    ensures shorter { IfOk result (λ found.
+        IfSome found (λ turns. length turns.items ≤ length best.now)) }
     ensures memory { OnErr result GrowthRefused }
 {
-    let in_try = config_of_try(goal, config);
+    let in_try = config_of_try(goal, config, best.len());
     let Some(turns) = tried(alloc, workload, goal, candidate, in_try, budget)? else {
         return Ok(None);
     };

@@ -1,8 +1,9 @@
-use Rattle.std.proofs.Common.{◌<◌, ◌≤◌, All, vec_len}
+use Rattle.std.proofs.Common.{◌≡◌}
+use Rattle.velo_chance.specs.Drawing.{behind_words, drawn, stream}
 use Rattle.velo_chance.proofs.drawing.draw.Given as goal
 
 abbrev pub invariant-loop : goal.invariant-loop
 invariant-loop l = record {
-  few : vec_len l.turns ≤ l.counter;
-  threads : All (λ turn. turn.0 < l.fn.threads) l.turns.items;
+  turns : l.turns.items ≡ drawn l.fn.threads l.counter (stream l.fn.random);
+  rest : stream l.random ≡ behind_words l.counter (stream l.fn.random);
 }

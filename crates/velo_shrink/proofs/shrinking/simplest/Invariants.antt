@@ -1,6 +1,6 @@
 use Rattle.std.proofs.Common.{◌≤◌, length}
 use Rattle.velo_shrink.specs.Shown.{Shows}
-use Rattle.velo_shrink.proofs.shrinking.shrink.Given as goal
+use Rattle.velo_shrink.proofs.shrinking.simplest.Given as goal
 
 abbrev pub invariant-loop : goal.invariant-loop
 invariant-loop l = record {

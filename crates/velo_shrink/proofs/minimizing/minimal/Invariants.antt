@@ -1,0 +1,12 @@
+use Rattle.std.proofs.Common.{◌≤◌, length}
+use Rattle.velo_shrink.specs.Shown.{Shows}
+use Rattle.velo_shrink.proofs.minimizing.minimal.Given as goal
+
+abbrev pub invariant-loop-best : goal.invariant-loop-best
+invariant-loop-best l = record {
+  shows : Shows l.fn.workload l.fn.config l.fn.goal l.best;
+  shorter : length l.best.items ≤ length l.fn.schedule.items;
+}
+
+abbrev pub decreases-loop-best : goal.decreases-loop-best
+decreases-loop-best l = length l.best.items
