@@ -27,7 +27,7 @@ use Rattle.velo_schedules.proofs.OnReplays.{IsAlong, wants-going, wants-done, go
 
 -- ---- why an action means a refusal
 
-err_is : (r s : Refusal) → ◌≡◌ {A = Result Event Refusal} (Err r) (Err s) → r ≡ s
+pub err_is : (r s : Refusal) → ◌≡◌ {A = Result Event Refusal} (Err r) (Err s) → r ≡ s
 err_is r s h = cc
 
 halted_or : (halted : Bool) (r s : Refusal) → ◌≡◌ {A = Result Event Refusal} (if halted then Err refusal.Halted else Err r) (Err s) → (s ≡ refusal.Halted) ⊎ (r ≡ s)
@@ -40,7 +40,7 @@ full_or false true e s h = inr (sym (err_is LogFull s h))
 full_or false false e s h = cc
 
 -- the world is halted, or its log is full, or the action is refused
-refused-because : (w : WorldState) (t : ThreadId) (action : Action) (r : Refusal) → meaning w t action ≡ Err r → (r ≡ refusal.Halted) ⊎ ((r ≡ LogFull) ⊎ (refusal_of w.config.bounds w.log t.0 (kind_for w.log action) ≡ Some r))
+pub refused-because : (w : WorldState) (t : ThreadId) (action : Action) (r : Refusal) → meaning w t action ≡ Err r → (r ≡ refusal.Halted) ⊎ ((r ≡ LogFull) ⊎ (refusal_of w.config.bounds w.log t.0 (kind_for w.log action) ≡ Some r))
 refused-because w t action r h = at (refusal_of w.config.bounds w.log t.0 (kind_for w.log action)) refl
   where
     at : (o : Option Refusal) → refusal_of w.config.bounds w.log t.0 (kind_for w.log action) ≡ o → (r ≡ refusal.Halted) ⊎ ((r ≡ LogFull) ⊎ (refusal_of w.config.bounds w.log t.0 (kind_for w.log action) ≡ Some r))
@@ -58,10 +58,10 @@ wait-false Busy w = absurd (w tt)
 wait-false NotExited w = absurd (w tt)
 wait-false r w = refl
 
-wait-not_halted : (r : Refusal) → IsWait r → r ≡ refusal.Halted → ⊥
+pub wait-not_halted : (r : Refusal) → IsWait r → r ≡ refusal.Halted → ⊥
 wait-not_halted r w is = subst IsWait is w
 
-wait-not_full : (r : Refusal) → IsWait r → r ≡ LogFull → ⊥
+pub wait-not_full : (r : Refusal) → IsWait r → r ≡ LogFull → ⊥
 wait-not_full r w is = subst IsWait is w
 
 -- ---- turns without an event
@@ -102,7 +102,7 @@ module _ (program : Program) where
     ),
   )
 
-  idle-passes : (c : ReplayState) (t : ℕ) → IsAlong program c → (o : Option Progress) → slice_get c.threads t ≡ o → IsIdle c.world.log t o → threads.IsIdle wishes c.world.log t
+  pub idle-passes : (c : ReplayState) (t : ℕ) → IsAlong program c → (o : Option Progress) → slice_get c.threads t ≡ o → IsIdle c.world.log t o → threads.IsIdle wishes c.world.log t
   idle-passes c t w None there idle = ⊎_elim (λ l. absurd (inside l)) (λ beyond. beyond-idle c t w beyond) (cases_lt t (length c.threads))
     where
       inside : t < length c.threads → ⊥

@@ -106,7 +106,7 @@ module _ (program : Program) where
 
     -- ---- what is tried, and what becomes of it
 
-    script_at : (t : ℕ) → slice_get (script_of (all_scripts program) t) (length (own t (plain_log log))) ≡ slice_get (scripts program t) (length (own t log))
+    pub script_at : (t : ℕ) → slice_get (script_of (all_scripts program) t) (length (own t (plain_log log))) ≡ slice_get (scripts program t) (length (own t log))
     script_at t = ap (λ ks. slice_get ks (length (own t (plain_log log)))) (script_in t) ∙ ap (slice_get (scripts program t)) (length-own_plain t log)
 
     wants-plain : (t : ℕ) (action : Action) → wants_of program t (own t log) ≡ Some action → wants_by (all_scripts program) t (own t (plain_log log)) ≡ Some (action_of (plain action))
@@ -130,7 +130,7 @@ module _ (program : Program) where
     refusal-plain t (Action.Join u) = refl
     refusal-plain t Action.Exit = refl
 
-    alike : StandsAlike log (plain_log log)
+    pub alike : StandsAlike log (plain_log log)
     alike = record { holders = holder_in-plain log; sharers = shares_in-plain log; statuses = status_in-plain log; depths = depth_in-plain log }
 
     IsRefused-plain : (t : ℕ) (r : Refusal) → IsRefused program.bounds (wants_of program) log t r → IsRefused program.bounds (wants_by (all_scripts program)) (plain_log log) t r

@@ -1,26 +1,30 @@
 -- What is told of all schedules of a program.
-use Rattle.std.specs.Prelude.{◌≡◌, ⊤, true, List, IsFalse}
+use Rattle.std.specs.Prelude.{◌≡◌, ◌≢◌, ◌⊎◌, ◌↔◌, ◌+◌, ◌*◌, ◌<◌, ◌≤◌, ◌++◌, ◌∷◌, [], ⊤, ℕ, Bool, true, List, IsTrue, IsFalse, sum_by}
 use Rattle.velo_events.specs.declared.config.Config.{Config}
 use Rattle.velo_events.specs.declared.event.ThreadId.{ThreadId}
 use Rattle.velo_events.specs.Graph.{HasCycle}
+use Rattle.velo_explore.specs.Faults.{Fault}
+use Rattle.velo_explore.specs.Search.{SomeRun}
 use Rattle.velo_workload.specs.Program.{Program}
 use Rattle.velo_world.specs.World.{WorldState}
 use Rattle.velo_worker.specs.declared.ending.Ending.{Ending}
-use Rattle.velo_worker.specs.declared.ending.Ending.TheVariants.{Stuck, Refused}
+use Rattle.velo_worker.specs.declared.ending.Ending.TheVariants.{Stuck, Halted, Refused}
+use Rattle.velo_worker.specs.Counts.{body_events}
 use Rattle.velo_worker.specs.Schedule.{Replays}
+use Rattle.velo_schedules.specs.Bodies.{all_scripts}
 use Rattle.velo_schedules.specs.declared.finding.Finding.{Finding}
 use Rattle.velo_schedules.specs.declared.finding.Finding.TheVariants.{Shown, Never, Open}
 use Rattle.velo_schedules.specs.declared.finding.RefusalFinding.{RefusalFinding}
 use Rattle.velo_schedules.specs.declared.finding.RefusalFinding.TheVariants as refusals
 use Rattle.velo_schedules.specs.declared.finding.RefusedRun.{RefusedRun}
 use Rattle.velo_schedules.specs.declared.showing.Outcome.{Outcome}
-use Rattle.velo_schedules.specs.Logs.{AlwaysSerializable, NeverStuck, NeverRefused, is_for_room}
+use Rattle.velo_schedules.specs.Logs.{AlwaysSerializable, NeverStuck, NeverRefused, ends_refused, is_for_room}
 
--- by the schedule the program replays to this ending, and where there is an alarm, to a log with a cycle
+-- by the schedule the program replays to this ending, and to a log that has a cycle exactly where there is an alarm
 pub record IsOutcome (program : Program) (config : Config) (schedule : List ThreadId) (outcome : Outcome) : Type 0 where
   pub closed : WorldState
   pub replays : Replays program schedule config outcome.ending closed
-  pub cycle : outcome.alarm ≡ true → HasCycle closed.log
+  pub cycle : IsTrue outcome.alarm ↔ HasCycle closed.log
 
 -- by the schedule the program replays to a log with a cycle
 pub record ShowsAlarm (program : Program) (config : Config) (schedule : List ThreadId) : Type 0 where
@@ -40,7 +44,7 @@ pub record ShowsRefusal (program : Program) (config : Config) (run : RefusedRun)
   pub replays : Replays program run.schedule.items config (Refused run.thread run.refusal) closed
   pub lasting : IsFalse (is_for_room run.refusal)
 
--- ---- what is told is so; of what is open nothing is said
+-- ---- what is told is so
 
 abbrev pub AlarmTold : Program → Config → Finding → Type 0
 AlarmTold program config (Shown schedule) = ShowsAlarm program config schedule.items
@@ -56,3 +60,64 @@ abbrev pub RefusalTold : Program → Config → RefusalFinding → Type 0
 RefusalTold program config (refusals.Shown run) = ShowsRefusal program config run
 RefusalTold program config refusals.Never = NeverRefused program
 RefusalTold program config refusals.Open = ⊤
+
+-- ---- what a replay does not show
+
+-- by the schedule the program replays to a log without a cycle
+pub record LacksAlarm (program : Program) (config : Config) (schedule : List ThreadId) : Type 0 where
+  pub ending : Ending
+  pub closed : WorldState
+  pub replays : Replays program schedule config ending closed
+  pub none : ¬ HasCycle closed.log
+
+-- by the schedule its replay is not stuck
+pub record LacksStuck (program : Program) (config : Config) (schedule : List ThreadId) : Type 0 where
+  pub ending : Ending
+  pub closed : WorldState
+  pub replays : Replays program schedule config ending closed
+  pub none : ending ≢ Stuck
+
+-- by the schedule and then a turn of the thread no thread is refused, unless for want of room
+pub record LacksRefusal (program : Program) (config : Config) (schedule : List ThreadId) (t : ℕ) : Type 0 where
+  pub ending : Ending
+  pub closed : WorldState
+  pub replays : Replays program (schedule ++ record { 0 = t } ∷ []) config ending closed
+  pub none : IsFalse (ends_refused ending)
+
+-- whichever thread it is
+pub record LacksRefusals (program : Program) (config : Config) (schedule : List ThreadId) : Type 0 where
+  pub each : (t : ℕ) → t < program.bounds.threads → LacksRefusal program config schedule t
+
+-- the run ended for want of room; or the world stops at its first cycle, and halted so
+abbrev pub IsCut : Ending → WorldState → Type 0
+IsCut (Refused t r) closed = IsTrue (is_for_room r)
+IsCut Halted closed = IsTrue closed.config.stop × HasCycle closed.log
+IsCut ending closed = ⊥
+
+-- ---- what is left open
+
+-- it holds where it is open
+abbrev pub OnOpen : Finding → Type 0 → Type 0
+OnOpen Open P = P
+OnOpen finding P = ⊤
+
+abbrev pub OnOpenRefusal : RefusalFinding → Type 0 → Type 0
+OnOpenRefusal refusals.Open P = P
+OnOpenRefusal finding P = ⊤
+
+-- some run of the program's scripts has the fault
+abbrev pub IsSomewhere : Program → Fault → Type 0
+IsSomewhere program fault = SomeRun program.bounds (all_scripts program) fault
+
+-- not all schedules were tried: the bodies have more events than a log may have; or the first finding was enough, and there is
+-- one; or the states that were looked at and those next to them, at most one a thread, are as many as may be looked at
+abbrev pub IsCutShort : Program → Config → ℕ → Bool → ℕ → Type 0
+IsCutShort program config most first states =
+    (config.events < sum_by body_events program.bodies)
+    ⊎ (((first ≡ true) × (fault : Fault) × IsSomewhere program fault)
+    ⊎ (most ≤ states + states * program.bounds.threads))
+
+-- a fault is open only where not all schedules were tried, or some run has it
+abbrev pub IsLeftOpen : Program → Config → ℕ → Bool → ℕ → Fault → Type 0
+IsLeftOpen program config most first states fault =
+    IsCutShort program config most first states ⊎ IsSomewhere program fault

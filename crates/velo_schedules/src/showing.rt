@@ -1,10 +1,13 @@
 //! What was found is replayed before it is told.
-ghost use Rattle.std.specs.Prelude.{◌≡◌, true, IsFalse, IfNone, IfOk, IfSome, OnErr};
+ghost use Rattle.std.specs.Prelude.{◌≡◌, ◌++◌, ◌∷◌, [], true, false, IsFalse, IfNone, IfOk, IfSome, OnErr};
 ghost use Rattle.velo_events.specs.Refusals.{GrowthRefused};
 ghost use Rattle.velo_worker.specs.declared.ending.Ending.TheVariants.{Refused};
 ghost use Rattle.velo_worker.specs.Schedule.{Replays};
 ghost use Rattle.velo_schedules.specs.Logs.{AlwaysSerializable, NeverStuck, NeverRefused, ends_refused, is_for_room};
 ghost use Rattle.velo_schedules.specs.Told.{AlarmTold, IsOutcome, StuckTold, RefusalTold, ShowsRefusal};
+ghost use Rattle.velo_schedules.specs.Told.{LacksAlarm, LacksRefusal, LacksRefusals, LacksStuck, OnOpen, OnOpenRefusal};
+ghost use Rattle.velo_schedules.specs.declared.finding.Finding.TheVariants.{Never};
+ghost use Rattle.velo_schedules.specs.declared.finding.RefusalFinding.TheVariants as refusals;
 
 use crate::finding::{Finding, RefusalFinding, RefusedRun};
 use std::alloc::Global;
@@ -79,6 +82,8 @@ pub(crate) fn tell_alarm(
     requires bounds { config.bounds ≡ workload.now.bounds }
     requires ruled_out { ruled_out ≡ true → AlwaysSerializable workload.now }
     ensures told { IfOk result (AlarmTold workload.now config) }
+    ensures never { IfOk result (λ f. ruled_out ≡ true → f ≡ Never) }
+    ensures lacks { IfOk result (λ f. OnOpen f ((ruled_out ≡ false) × IfSome found (λ turns. LacksAlarm workload.now config turns.items))) }
     ensures memory { OnErr result GrowthRefused }
 {
     if ruled_out {
@@ -106,6 +111,8 @@ pub(crate) fn tell_stuck(
     requires bounds { config.bounds ≡ workload.now.bounds }
     requires ruled_out { ruled_out ≡ true → NeverStuck workload.now }
     ensures told { IfOk result (StuckTold workload.now config) }
+    ensures never { IfOk result (λ f. ruled_out ≡ true → f ≡ Never) }
+    ensures lacks { IfOk result (λ f. OnOpen f ((ruled_out ≡ false) × IfSome found (λ turns. LacksStuck workload.now config turns.items))) }
     ensures memory { OnErr result GrowthRefused }
 {
     if ruled_out {
@@ -149,6 +156,7 @@ fn with_turn(
     schedule: &[ThreadId],
     thread: ThreadId,
 ) -> Result<Vec<ThreadId>, Memory>
+    ensures turns { IfOk result (λ longer. longer.items ≡ schedule.now ++ thread ∷ []) }
     ensures memory { OnErr result GrowthRefused }
 {
     let mut longer = Vec::new(alloc);
@@ -171,6 +179,7 @@ fn refused_run(
 ) -> Result<Option<RefusedRun>, Memory>
     requires { config.bounds ≡ workload.now.bounds }
     ensures shows { IfOk result (λ run. IfSome run (ShowsRefusal workload.now config)) }
+    ensures none { IfOk result (λ run. IfNone run (LacksRefusal workload.now config schedule.now thread.0)) }
     ensures memory { OnErr result GrowthRefused }
 {
     let schedule = with_turn(alloc, schedule, thread)?;
@@ -197,6 +206,8 @@ pub(crate) fn tell_refused(
     requires bounds { config.bounds ≡ workload.now.bounds }
     requires ruled_out { ruled_out ≡ true → NeverRefused workload.now }
     ensures told { IfOk result (RefusalTold workload.now config) }
+    ensures never { IfOk result (λ f. ruled_out ≡ true → f ≡ refusals.Never) }
+    ensures lacks { IfOk result (λ f. OnOpenRefusal f ((ruled_out ≡ false) × IfSome found (λ turns. LacksRefusals workload.now config turns.items))) }
     ensures memory { OnErr result GrowthRefused }
 {
     if ruled_out {

@@ -1,6 +1,8 @@
-use Rattle.std.proofs.Common.{sym, ◌∙◌}
+use Rattle.std.proofs.Common.{sym, ◌∙◌, inl, inr}
 use Rattle.std.proofs.lemmas.Bool.{false≢true}
+use Rattle.velo_explore.specs.Faults.{Cycle, Stuck, Refusing}
 use Rattle.velo_schedules.proofs.OnShown.{not_found}
+use Rattle.velo_schedules.proofs.OnTold.{OnOpen-map, OnOpenRefusal-map, too_many, was_found}
 use Rattle.velo_schedules.proofs.exploring.explore.Goals as goal
 use Rattle.velo_schedules.proofs.exploring.explore.Goals.{then-whole, else-whole, then-whole-2, else-whole-2, then-whole-3, else-whole-3}
 
@@ -24,3 +26,30 @@ tell_refused-requires-clause-ruled_out g c = λ ruled_out.
       | then-whole-3 w ↦ c.in_ok-found.ensures.refused w.if-whole-3.true (not_found _ (sym w.refusal_ruled_out-is ∙ ruled_out))
       | else-whole-3 w ↦ absurd (false≢true (sym w.if-whole-3.false ∙ (sym w.refusal_ruled_out-is ∙ ruled_out)))
     ]
+
+pub returns-clause-open_alarm : goal.returns-clause-open_alarm
+returns-clause-open_alarm g c =
+    OnOpen-map c.in_ok-alarm.alarm _ _ _
+    (λ none found. elim c.if-whole.branch [
+      | then-whole v ↦ inr (c.in_ok-found.ensures.found Cycle (was_found _ (sym v.alarm_ruled_out-is ∙ none)))
+      | else-whole v ↦ inl (c.in_ok-found.ensures.cut v.if-whole.false)
+    ])
+    c.in_ok-alarm.ensures.lacks
+
+pub returns-clause-open_stuck : goal.returns-clause-open_stuck
+returns-clause-open_stuck g c =
+    OnOpen-map c.in_ok-stuck.stuck _ _ _
+    (λ none found. elim c.if-whole-2.branch [
+      | then-whole-2 v ↦ inr (c.in_ok-found.ensures.found Stuck (was_found _ (sym v.stuck_ruled_out-is ∙ none)))
+      | else-whole-2 v ↦ inl (c.in_ok-found.ensures.cut v.if-whole-2.false)
+    ])
+    c.in_ok-stuck.ensures.lacks
+
+pub returns-clause-open_refused : goal.returns-clause-open_refused
+returns-clause-open_refused g c =
+    OnOpenRefusal-map c.in_ok-refused.refused _ _ _
+    (λ none found. elim c.if-whole-3.branch [
+      | then-whole-3 v ↦ inr (c.in_ok-found.ensures.found Refusing (was_found _ (sym v.refusal_ruled_out-is ∙ none)))
+      | else-whole-3 v ↦ inl (c.in_ok-found.ensures.cut v.if-whole-3.false)
+    ])
+    c.in_ok-refused.ensures.lacks

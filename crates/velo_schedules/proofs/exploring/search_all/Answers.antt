@@ -1,5 +1,5 @@
 use Rattle.std.proofs.Common.{arith}
-use Rattle.velo_schedules.proofs.OnTold.{plain-scripts, short-scripts, alarm-ruled_out, stuck-ruled_out, refusal-ruled_out}
+use Rattle.velo_schedules.proofs.OnTold.{cut-search, plain-scripts, short-scripts, alarm-ruled_out, stuck-ruled_out, refusal-ruled_out}
 use Rattle.velo_explore.specs.Faults.{Cycle, Stuck, Refusing}
 use Rattle.velo_schedules.proofs.exploring.search_all.Goals as goal
 
@@ -21,3 +21,8 @@ returns-clause-stuck g c = λ whole none.
 pub returns-clause-refused : goal.returns-clause-refused
 returns-clause-refused g c = λ whole none.
     refusal-ruled_out c.args.workload.now c.args.config.now.bounds c.requires.bounds c.in_ok-scripts.scripts c.in_ok-scripts.ensures.scripts c.in_ok-scripts.ensures.count (c.in_ok-searched.ensures.whole whole Refusing none)
+
+pub returns-clause-cut : goal.returns-clause-cut
+returns-clause-cut g c = λ part.
+    cut-search c.args.workload.now c.args.config.now.bounds c.requires.bounds c.in_ok-scripts.scripts c.in_ok-scripts.ensures.scripts c.args.config.now c.args.most_states c.args.first c.in_ok-searched.searched.found c.in_ok-searched.searched.states
+    c.in_ok-searched.ensures.found (c.in_ok-searched.ensures.cut part)
