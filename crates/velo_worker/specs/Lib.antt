@@ -8,3 +8,4 @@ pub mod ReplayState
 pub mod Counts
 pub mod Causes
 pub mod Live
+pub mod Acting
