@@ -8,4 +8,3 @@ pub mod ReplayState
 pub mod Counts
 pub mod Causes
 pub mod Live
-pub mod Acting

@@ -1,8 +1,7 @@
 //! The workers of a live run: each does the body of one thread, in a thread of its own.
-ghost use Rattle.std.specs.Prelude.{IfErr, IfOk};
+ghost use Rattle.std.specs.Prelude.{IfErr};
 ghost use Rattle.velo_workload.specs.Bodies.{IsBody};
 ghost use Rattle.velo_worker.specs.Causes.{EndedWithCause, HasCause};
-ghost use Rattle.velo_worker.specs.Acting.{Does};
 
 use crate::gate::Gate;
 use crate::growth::copy;
@@ -113,8 +112,7 @@ fn act<G: Gate, R: Wait>(
     messages: &Sender<Message>,
     action: Action,
 ) -> Result<Option<u64>, Refusal>
-    ensures does { IfOk result (Does seat.old seat.new action) }
-    ensures cause { IfErr result HasCause }
+    ensures { IfErr result HasCause }
 {
     let shared = site.shared;
     match action {
