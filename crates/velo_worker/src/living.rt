@@ -1,5 +1,5 @@
 //! Live runs of a workload: each of its threads is a thread.
-ghost use Rattle.std.specs.Prelude.{◌≡◌, [], All, Err, IfOk, IfSome, IsTrue, OnErr, map};
+ghost use Rattle.std.specs.Prelude.{◌≡◌, ◌<◌, ◌++◌, ◌∷◌, [], All, Err, IfOk, IfSome, IsTrue, OnErr, map, vec_len, vec_capacity};
 ghost use Rattle.velo_events.specs.Refusals.{GrowthRefused};
 ghost use Rattle.velo_worker.specs.declared.ending.Ending.TheVariants as ending;
 ghost use Rattle.velo_worker.specs.declared.living.LiveFault.TheVariants as live_fault;
@@ -175,7 +175,9 @@ fn start<'s, E, G: Gate + Sync, R: Wait + Sync>(
 }
 
 /// Enters a worker that has ended. There is room for all: a seat that found none would be missing at the end.
-fn enter(ended: &mut Vec<Ended>, worker: Ended) {
+fn enter(ended: &mut Vec<Ended>, worker: Ended)
+    ensures { vec_len ended.old < vec_capacity ended.old → ended.new.items ≡ ended.old.items ++ worker ∷ [] }
+{
     let _ = ended.push(worker);
 }
 
