@@ -22,4 +22,5 @@ pub mod OnOrderedPlacesOfRests
 pub mod OnDropped
 pub mod OnRepeats
 pub mod OnRepeatsClosing
+pub mod OnRepeatsBlame
 pub mod Rows
