@@ -23,4 +23,5 @@ pub mod OnDropped
 pub mod OnRepeats
 pub mod OnRepeatsClosing
 pub mod OnRepeatsBlame
+pub mod OnRepeatsRuns
 pub mod Rows

@@ -1,7 +1,7 @@
 -- Accesses that repeat one of their thread.
-use Rattle.std.specs.Prelude.{ℕ, ◌+◌, ◌<◌, Bool, not, List, length, map, filter, filter_map, slice_get, take, IsTrue, IsFalse, ◌⊎◌}
+use Rattle.std.specs.Prelude.{◌≡◌, ◌||◌, ℕ, ◌+◌, ◌<◌, Bool, not, List, length, map, filter, filter_map, slice_get, take, IsTrue, IsFalse, ◌⊎◌}
 use Rattle.velo_events.specs.declared.event.Event.{Event}
-use Rattle.velo_events.specs.Event.{is_by, is_writing, is_reading}
+use Rattle.velo_events.specs.Event.{is_read, is_write, is_by, is_writing, is_reading}
 use Rattle.velo_events.specs.Block.{passes_at, positions}
 use Rattle.velo_events.specs.Graph.{conflict_at, IsClosing}
 use Rattle.velo_events.specs.Reordering.{AreBlamed}
@@ -25,6 +25,12 @@ pub record Repeats (goes : ℕ → Bool) (log : List Event) (j : ℕ) : Type 0 w
 
 abbrev pub AreRepeats : (ℕ → Bool) → List Event → Type 0
 AreRepeats goes log = (j : ℕ) → IsTrue (goes j) → Repeats goes log j
+
+-- they are accesses to variables, each with the value of the one that it repeats
+abbrev pub AreEqualAccesses : (goes : ℕ → Bool) (log : List Event) → AreRepeats goes log → Type 0
+AreEqualAccesses goes log repeats =
+    (j : ℕ) (g : IsTrue (goes j)) → (slice_get log (repeats j g).first ≡ slice_get log j)
+    × IsTrue (passes_at log (λ e. is_read e.kind || is_write e.kind) j)
 
 -- the log without these positions
 abbrev pub without : (ℕ → Bool) → List Event → List Event
