@@ -22,4 +22,6 @@ pub mod OnOrderedPlacesOfRests
 pub mod OnDropped
 pub mod OnRepeats
 pub mod OnRepeatsClosing
+pub mod OnRepeatsBlame
+pub mod OnRepeatsRuns
 pub mod Rows

@@ -124,19 +124,19 @@ module _ (log : List Event) where
       conflict-is log k i g.0 e.0 g.1 e.1 ∙ (conflict-second e.0 f.0 g.0 (do_same i j e.0 f.0 e.1 f.1 w) ∙ sym (conflict-is log k j g.0 f.0 g.1 f.1))
 
 module _ (goes : ℕ → Bool) (log : List Event) (repeats : AreRepeats goes log) where
-  abbrev H : ℕ → Type 0
+  abbrev pub H : ℕ → Type 0
   H i = IsFalse (goes i)
 
   abbrev G : ℕ → Type 0
   G i = IsTrue (goes i)
 
-  abbrev stays : ℕ → Bool
+  abbrev pub stays : ℕ → Bool
   stays i = not (goes i)
 
-  here : (i : ℕ) → H i → IsTrue (stays i)
+  pub here : (i : ℕ) → H i → IsTrue (stays i)
   here i h = ap not h
 
-  back : (i : ℕ) → IsTrue (stays i) → H i
+  pub back : (i : ℕ) → IsTrue (stays i) → H i
   back i h = not-true (goes i) h
 
   not_both : {X : Type 0} (i : ℕ) → H i → G i → X
@@ -148,27 +148,27 @@ module _ (goes : ℕ → Bool) (log : List Event) (repeats : AreRepeats goes log
       let f = event_at log w.first (passes_at-within log (is_by w.alike.thread) w.first w.alike.own_first) in
       (do_same log w.first i f.0 e f.1 at_i w.alike).inner
 
-  blocks : (i : ℕ) (e : Event) → slice_get log i ≡ Some e → IsTrue (is_begin e.kind || is_end e.kind) → IsTrue (stays i)
+  pub blocks : (i : ℕ) (e : Event) → slice_get log i ≡ Some e → IsTrue (is_begin e.kind || is_end e.kind) → IsTrue (stays i)
   blocks i e at_i h = here i (false_from_ne_true _ (λ g. both_ways (is_begin e.kind || is_end e.kind) (goes-inner i e at_i g) h))
 
-  abbrev what : List Event
+  abbrev pub what : List Event
   what = sub log stays blocks
 
-  abbrev on : ℕ → ℕ
+  abbrev pub on : ℕ → ℕ
   on i = at log stays blocks i
 
   -- ---- what stands for a position
 
-  abbrev IsFor : ℕ → ℕ → Type 0
+  abbrev pub IsFor : ℕ → ℕ → Type 0
   IsFor j i = (H j × (j ≡ i)) ⊎ ((w : Repeats goes log j) × (w.first ≡ i) × G j)
 
-  rep : (j : ℕ) → (i : ℕ) × IsFor j i
+  pub rep : (j : ℕ) → (i : ℕ) × IsFor j i
   rep j = ⊎_elim (λ g. ((repeats j g).first, inr (repeats j g, refl, g))) (λ h. (j, inl (h, refl))) (cases_Bool (goes j))
 
-  for-le : (j i : ℕ) → IsFor j i → i ≤ j
+  pub for-le : (j i : ℕ) → IsFor j i → i ≤ j
   for-le j i r = ⊎_elim (λ w. let e = w.1 in omega (arith, e)) (λ w. let l = w.0.in_order in let e = w.1 in omega (arith, l, e)) r
 
-  for-here : (j i : ℕ) → IsFor j i → H i
+  pub for-here : (j i : ℕ) → IsFor j i → H i
   for-here j i r = ⊎_elim (λ w. subst H w.1 w.0) (λ w. subst H w.1 w.0.first_stays) r
 
   for-first : (j i k : ℕ) → k < length log → IsFor j i → conflict_at log i k ≡ conflict_at log j k
@@ -182,7 +182,7 @@ module _ (goes : ℕ → Bool) (log : List Event) (repeats : AreRepeats goes log
   for-between j i k r l m c = ⊎_elim (λ w. let e = w.1 in absurd (omega (arith, e, l, m))) (λ w. w.0.between k (let e = w.1 in omega (arith, e, l)) m c) r
 
   -- conflicts are kept, or fall together
-  for-conflict : (f g f' g' : ℕ) → f < g → g < length log → IsTrue (conflict_at log f g) → IsFor f f' → IsFor g g' → (f' ≡ g') ⊎ ((f' < g') × IsTrue (conflict_at log f' g'))
+  pub for-conflict : (f g f' g' : ℕ) → f < g → g < length log → IsTrue (conflict_at log f g) → IsFor f f' → IsFor g g' → (f' ≡ g') ⊎ ((f' < g') × IsTrue (conflict_at log f' g'))
   for-conflict f g f' g' less within c rf rg = ⊎_elim
       (λ same. inl same)
       (⊎_elim

@@ -23,10 +23,10 @@ module _ (goes : ℕ → Bool) (log : List Event) (repeats : AreRepeats goes log
 
   module _ (n : ℕ) (most : n ≤ length log) where
     -- those before n
-    abbrev early : ℕ → Bool
+    abbrev pub early : ℕ → Bool
     early j = nat_lt j n && goes j
 
-    early-is : (j : ℕ) → j < n → early j ≡ goes j
+    pub early-is : (j : ℕ) → j < n → early j ≡ goes j
     early-is j l = ap (λ b. b && goes j) (lt-ltb j n l)
 
     first-alike : (i j : ℕ) → i < n → j < n → IsAlike log i j → IsAlike (take n log) i j
@@ -40,7 +40,7 @@ module _ (goes : ℕ → Bool) (log : List Event) (repeats : AreRepeats goes log
           (λ p. inr (passes-take (only (λ x. Bool.false) (λ x. Bool.false)) log n most (is_reading w.cell) i l ∙ p.0, passes-take (only (λ x. Bool.false) (λ x. Bool.false)) log n most (is_reading w.cell) j m ∙ p.1)) w.same;
     }
 
-    repeats-take : AreRepeats early (take n log)
+    pub repeats-take : AreRepeats early (take n log)
     repeats-take j h =
         let p = and_parts (nat_lt j n) (goes j) h in
         let l = ltb-true j n p.0 in
@@ -54,7 +54,7 @@ module _ (goes : ℕ → Bool) (log : List Event) (repeats : AreRepeats goes log
           between = λ k a b c. early-is k (omega (arith, b, l)) ∙ w.between k a b (sym (conflict-take (only (λ x. Bool.false) (λ x. Bool.false)) log n most k j (omega (arith, b, l)) l) ∙ c);
         }
 
-    same-events : (m : ℕ) → m ≤ n → events_staying (take n log) (λ j. not (early j)) m ≡ events_staying log stays m
+    pub same-events : (m : ℕ) → m ≤ n → events_staying (take n log) (λ j. not (early j)) m ≡ events_staying log stays m
     same-events zero l = refl
     same-events (suc m) l =
         let e = event_at log m (omega (arith, l, most)) in
@@ -66,10 +66,10 @@ module _ (goes : ℕ → Bool) (log : List Event) (repeats : AreRepeats goes log
         (λ h. events_staying-goes (take n log) (λ j. not (early j)) m (same ∙ h) ∙ (before ∙ sym (events_staying-goes log stays m h)))
         (cases_Bool (stays m))
 
-    short : length (take n log) ≡ n
+    pub short : length (take n log) ≡ n
     short = length-take-le n log most
 
-    rest-take : without early (take n log) ≡ take (on n) (without goes log)
+    pub rest-take : without early (take n log) ≡ take (on n) (without goes log)
     rest-take =
         ap (events_staying (take n log) (λ j. not (early j))) short
         ∙ (same-events n (omega arith) ∙ sym (take-events_staying log stays n (length log) most (omega arith)))
@@ -81,7 +81,7 @@ module _ (goes : ℕ → Bool) (log : List Event) (repeats : AreRepeats goes log
         ((λ c. subst HasCycle rest-take (law.0 c)), (λ c. law.1 (subst HasCycle (sym rest-take) c)))
 
   -- how many stay of the first ones
-  stays-take : (m n : ℕ) → m ≤ n → n ≤ length log → events_staying (take n log) stays m ≡ events_staying log stays m
+  pub stays-take : (m n : ℕ) → m ≤ n → n ≤ length log → events_staying (take n log) stays m ≡ events_staying log stays m
   stays-take zero n l most = refl
   stays-take (suc m) n l most =
       let e = event_at log m (omega (arith, l, most)) in
@@ -92,7 +92,7 @@ module _ (goes : ℕ → Bool) (log : List Event) (repeats : AreRepeats goes log
       (λ h. events_staying-goes (take n log) stays m h ∙ (before ∙ sym (events_staying-goes log stays m h)))
       (cases_Bool (stays m))
 
-  counted : (n : ℕ) → n ≤ length log → length (without goes (take n log)) ≡ on n
+  pub counted : (n : ℕ) → n ≤ length log → length (without goes (take n log)) ≡ on n
   counted n most =
       ap (λ k. length (events_staying (take n log) stays k)) (length-take-le n log most)
       ∙ (ap length (stays-take n n (omega arith) most) ∙ length-events_staying log stays n most)

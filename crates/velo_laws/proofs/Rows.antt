@@ -1,7 +1,7 @@
 -- The laws at logs that are written out: where a premise holds, and where it fails and so does what it gives.
-use Rattle.std.proofs.Common.{◌≡◌, ℕ, zero, suc, Bool, false, not, List, [], ◌∷◌, ◌++◌, length, refl, sym, ◌∙◌, subst, ⊎_elim, inl, inr}
+use Rattle.std.proofs.Common.{arith, get_or, ◌≡◌, ℕ, zero, suc, Bool, false, not, List, [], ◌∷◌, ◌++◌, length, refl, sym, ◌∙◌, subst, ⊎_elim, inl, inr}
 use Rattle.std.specs.Prelude.{◌&&◌, ◌||◌, ◌==◌, nat_lt, IsTrue}
-use Rattle.std.proofs.lemmas.Bool.{and_parts, and_from, or_cases, not-true, eqb-true, eq-eqb, ltb-true, lt-ltb, false_from_ne_true, false≢true}
+use Rattle.std.proofs.lemmas.Bool.{cases_lt, and_parts, and_from, or_cases, not-true, eqb-true, eq-eqb, ltb-true, lt-ltb, false_from_ne_true, false≢true}
 use Rattle.velo_events.specs.declared.event.Event.{Event}
 use Rattle.velo_events.specs.declared.event.Kind.{Kind}
 use Rattle.velo_events.specs.declared.event.Kind.TheVariants.{Read, Write, Acquire, Release, Begin, End, Fork}
@@ -18,6 +18,7 @@ use Rattle.velo_events.proofs.OnScans.{passes_at-event, passes_at-is}
 use Rattle.velo_thin.specs.Left.{Left, is_dissolved, ends_at, is_left_out, places_of, rest_of}
 use Rattle.velo_laws.specs.Cut.{IsQuiet, IsJudgedApart}
 use Rattle.velo_laws.specs.Ordered.{only, AreOfOneThread, IsStep, IsOrdered}
+use Rattle.velo_laws.specs.Repeats.{IsAlike, Repeats, AreRepeats, without}
 
 -- ---- tests that compute
 
@@ -147,6 +148,9 @@ close t = by t End
 abbrev fork : ℕ → ℕ → Event
 fork t u = by t (Fork (record { 0 = u }))
 
+abbrev get_or_zero : List ℕ → ℕ → ℕ
+get_or_zero xs i = get_or xs i 0
+
 -- ---- a log that is cut where no block is open: behind it thread 0's block is interrupted
 
 abbrev start : List Event
@@ -257,3 +261,70 @@ racing-rest = refl
 racing-rest_none : ¬ HasCycle racing_rest
 unfolding computed
 racing-rest_none = no_cycle racing_rest (λ a. a) refl
+
+-- ---- a read that repeats the one just before it is left out: the cycle stays
+
+abbrev is_third : ℕ → Bool
+is_third j = j == 3
+
+abbrev twice : List Event
+twice = fork 0 1 ∷ begin 0 7 ∷ read 0 0 0 ∷ read 0 0 0 ∷ write 1 0 5 ∷ write 0 0 2 ∷ []
+
+twice-repeats : AreRepeats is_third twice
+unfolding computed
+twice-repeats j h = subst (Repeats is_third twice) (sym (eqb-true j 3 h)) (record {
+  first = 2;
+  in_order = omega arith;
+  alike = record { thread = 0; own_first = refl; own = refl; cell = 0; same = inr (refl, refl) };
+  first_stays = refl;
+  between = λ k l m. absurd (omega (arith, l, m));
+})
+
+abbrev once : List Event
+once = fork 0 1 ∷ begin 0 7 ∷ read 0 0 0 ∷ write 1 0 5 ∷ write 0 0 2 ∷ []
+
+twice-without : without is_third twice ≡ once
+unfolding computed
+twice-without = refl
+
+twice-cycle : HasCycle twice
+unfolding computed
+twice-cycle = record { cycle = 1 ∷ 4 ∷ []; is_cycle = (edge_by twice 3 4 refl, edge_by twice 4 5 refl) }
+
+once-cycle : HasCycle once
+unfolding computed
+once-cycle = record { cycle = 1 ∷ 3 ∷ []; is_cycle = (edge_by once 2 3 refl, edge_by once 3 4 refl) }
+
+-- ---- a read that repeats one across a begin: the log has a cycle, and without the read none
+
+abbrev across : List Event
+across = fork 0 1 ∷ read 0 0 0 ∷ begin 0 7 ∷ read 0 0 0 ∷ write 1 0 5 ∷ write 0 0 2 ∷ []
+
+across-no_repeat : ¬ AreRepeats is_third across
+unfolding computed
+across-no_repeat repeats =
+    let w = repeats 3 refl in
+    ⊎_elim
+    (λ l. false≢true (w.between 2 l (omega arith) refl))
+    (λ g.
+    let at : w.first ≡ 2 = (let o = w.in_order in omega (arith, g, o)) in
+    no_access (subst (λ i. IsAlike across i 3) at w.alike))
+    (cases_lt w.first 2)
+  where
+    no_access : IsAlike across 2 3 → ⊥
+    no_access a = ⊎_elim (λ p. false≢true p.0) (λ p. false≢true p.0) a.same
+
+across-cycle : HasCycle across
+unfolding computed
+across-cycle = record { cycle = 2 ∷ 4 ∷ []; is_cycle = (edge_by across 3 4 refl, edge_by across 4 5 refl) }
+
+abbrev across_rest : List Event
+across_rest = fork 0 1 ∷ read 0 0 0 ∷ begin 0 7 ∷ write 1 0 5 ∷ write 0 0 2 ∷ []
+
+across-without : without is_third across ≡ across_rest
+unfolding computed
+across-without = refl
+
+across-none : ¬ HasCycle across_rest
+unfolding computed
+across-none = no_cycle across_rest (get_or_zero (0 ∷ 1 ∷ 3 ∷ 2 ∷ [])) refl

@@ -1,9 +1,10 @@
 -- Accesses that repeat one of their thread.
-use Rattle.std.specs.Prelude.{ℕ, ◌<◌, Bool, not, List, length, filter, filter_map, slice_get, take, IsTrue, IsFalse, ◌⊎◌}
+use Rattle.std.specs.Prelude.{◌≡◌, ◌||◌, ℕ, ◌+◌, ◌<◌, Bool, not, List, length, map, filter, filter_map, slice_get, take, IsTrue, IsFalse, ◌⊎◌}
 use Rattle.velo_events.specs.declared.event.Event.{Event}
-use Rattle.velo_events.specs.Event.{is_by, is_writing, is_reading}
+use Rattle.velo_events.specs.Event.{is_read, is_write, is_by, is_writing, is_reading}
 use Rattle.velo_events.specs.Block.{passes_at, positions}
 use Rattle.velo_events.specs.Graph.{conflict_at, IsClosing}
+use Rattle.velo_events.specs.Reordering.{AreBlamed}
 
 -- in one thread, position j writes the cell that position i writes, or reads the one that it reads
 pub record IsAlike (log : List Event) (i j : ℕ) : Type 0 where
@@ -25,12 +26,29 @@ pub record Repeats (goes : ℕ → Bool) (log : List Event) (j : ℕ) : Type 0 w
 abbrev pub AreRepeats : (ℕ → Bool) → List Event → Type 0
 AreRepeats goes log = (j : ℕ) → IsTrue (goes j) → Repeats goes log j
 
+-- they are accesses to variables, each with the value of the one that it repeats
+abbrev pub AreEqualAccesses : (goes : ℕ → Bool) (log : List Event) → AreRepeats goes log → Type 0
+AreEqualAccesses goes log repeats =
+    (j : ℕ) (g : IsTrue (goes j)) → (slice_get log (repeats j g).first ≡ slice_get log j)
+    × IsTrue (passes_at log (λ e. is_read e.kind || is_write e.kind) j)
+
 -- the log without these positions
 abbrev pub without : (ℕ → Bool) → List Event → List Event
 without goes log = filter_map (slice_get log) (filter (λ i. not (goes i)) (positions log))
 
--- the first closing event is none of these positions, and it is the first one without them, where it stands behind fewer
+-- where a position of the log stands then: how many stay before it
+abbrev pub place_without : (ℕ → Bool) → List Event → ℕ → ℕ
+place_without goes log i = length (without goes (take i log))
+
+-- the first closing event is none of these positions, and it is the first one without them
 abbrev pub ClosesAtSameRepeated : (ℕ → Bool) → List Event → Type 0
 ClosesAtSameRepeated goes log =
     (p : ℕ) → IsClosing log p
-    → IsFalse (goes p) × IsClosing (without goes log) (length (without goes (take p log)))
+    → IsFalse (goes p) × IsClosing (without goes log) (place_without goes log p)
+
+-- and where some blocks of a thread are to blame at one of its events that stays, they are so without these positions
+abbrev pub BlamesSameRepeated : (ℕ → Bool) → List Event → Type 0
+BlamesSameRepeated goes log =
+    (p t : ℕ) (blamed : List ℕ) → IsFalse (goes p) → IsTrue (passes_at log (is_by t) p)
+    → AreBlamed (take (p + 1) log) t blamed
+    → AreBlamed (take (place_without goes log p + 1) (without goes log)) t (map (place_without goes log) blamed)

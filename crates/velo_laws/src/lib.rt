@@ -14,5 +14,8 @@ pub use ordered::{
     same_blame_without_labels, same_closing, same_closing_without_labels, same_cycles,
     same_cycles_without_labels, same_transactions, well_formed, within_in_order,
 };
-pub use repeats::{same_closing_without_repeats, same_cycles_without_repeats};
+pub use repeats::{
+    same_blame_without_repeats, same_closing_without_repeats, same_cycles_without_repeats,
+    well_formed_without_repeats,
+};
 pub use restarts::{afresh, goes_on, has_prologue, prologue, restart};

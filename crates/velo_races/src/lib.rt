@@ -6,5 +6,7 @@
 
 mod ordered;
 mod sweep;
+#[cfg(test)]
+mod tests;
 
 pub use ordered::ordered_variables;
