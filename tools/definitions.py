@@ -30,8 +30,8 @@ PARTS = [
         "velo_worker": "Progress Schedule Live Logs Causes",
         "velo_turns": "Schedule Short File",
         "velo_schedules": "Logs* Told*",
-        "velo_shrink": "Shown",
-        "velo_chance": "Runs Tallies"}),
+        "velo_shrink": "Shown Simple*",
+        "velo_chance": "Drawing Runs Tallies"}),
     ("What is told of a log", {
         "velo_report": "Names Report Alarm Certificate",
         "velo_explain": "Evidence Lanes Fitting Text Picture",
@@ -45,7 +45,7 @@ PARTS = [
         "velo_laws": "Cut* Restart* Renumber Ordered* Repeats*",
         "velo_races": "Races*"}),
     ("What the program does", {
-        "velo_program": "Program* Check Explaining Carrying Scheduling Playing Exploring* Delivery Disk Writing Reading Fate Causes",
+        "velo_program": "Program* Check Explaining Carrying Scheduling Playing ByChance Exploring* Delivery Disk Writing Reading Fate Causes",
         "velo_command": "CommandLine Asked Together Running Usage"}),
     ("The library for other languages", {
         "velo_ffi": "Answers Texts* Pieces*"}),

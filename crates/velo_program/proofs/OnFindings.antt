@@ -1,7 +1,7 @@
 -- What an exploration comes to.
-use Rattle.std.proofs.Common.{◌≡◌, ◌∙◌, ap, append_assoc, arith, inl, inr, refl, subst, sym, take}
-use Rattle.std.proofs.lemmas.List.{append-nil, length-map, length-take}
-use Rattle.std.proofs.lemmas.Bool.{false≢true}
+use Rattle.std.proofs.Common.{◌≡◌, ◌∙◌, ap, append_assoc, arith, inl, inr, refl, subst, sym, take, ⊎_elim}
+use Rattle.std.proofs.lemmas.List.{append-nil, take_all}
+use Rattle.std.proofs.lemmas.Bool.{cases_lt, false≢true}
 use Rattle.std.specs.Prelude.{◌≢◌, ◌↔◌, ◌⊎◌, ◌+◌, ◌-◌, ◌^◌, ◌≤◌, ◌<◌, ◌++◌, [], ℕ, Bool, true, false, All, List, length, map, min, sum_by, Option, Some, None, Result, Ok, Err, IfSome, IsTrue, OnErr, OnOk, is_some}
 use Rattle.std.specs.Io.KnownBytes.{Appends}
 use Rattle.std.specs.Borrow.{Bor}
@@ -14,6 +14,7 @@ use Rattle.velo_events.specs.declared.limits.TheConstants.{MOST_THREADS}
 use Rattle.velo_logtext.proofs.OnDevices.{appends_nothing, appends_then, beginning_then}
 use Rattle.velo_logtext.specs.Device.{AppendsBeginning, with_failure}
 use Rattle.velo_report.specs.declared.names.Names.{Names}
+use Rattle.velo_schedules.specs.declared.exploration.Exploration.{Exploration}
 use Rattle.velo_schedules.specs.declared.finding.RefusedRun.{RefusedRun}
 use Rattle.velo_schedules.specs.declared.finding.Finding.{Finding}
 use Rattle.velo_schedules.specs.declared.finding.Finding.TheVariants.{Shown, Never, Open}
@@ -25,6 +26,8 @@ use Rattle.velo_events.specs.declared.event.Event.{Event}
 use Rattle.velo_events.specs.declared.refusal.Refusal.TheVariants as refusal
 use Rattle.velo_events.specs.Graph.{HasCycle}
 use Rattle.velo_events.specs.Refusals.{GrowthRefused}
+use Rattle.velo_shrink.specs.Shown.{Reaches, Shows}
+use Rattle.velo_shrink.specs.Simple.{SimplifiesFinding, SimplifiesRefusal}
 use Rattle.velo_shrink.specs.declared.goal.Goal.{Goal}
 use Rattle.velo_shrink.specs.declared.goal.Goal.TheVariants as goals
 use Rattle.velo_worker.specs.declared.ending.Ending.{Ending}
@@ -43,16 +46,16 @@ use Rattle.velo_program.specs.Causes.{ComesByRefusal, Growths}
 use Rattle.velo_program.specs.Check.{IsOrderOrCycle, IsOutputOf, IsVerdict}
 use Rattle.velo_program.specs.Delivery.{Answer, FailsSaving, IsDelivered, IsDeliveredInTurn, LacksMemory, printing, silent}
 use Rattle.velo_program.specs.Disk.{Store, behind as store_behind}
-use Rattle.velo_program.specs.ByChance.{AreOfRuns, AreSayable, IsBlame, IsBlameOf, IsByChance, IsSayable, IsSayableFinding, IsSayableRefusal, OfRuns, RefusalOfRuns}
-use Rattle.velo_program.specs.Exploring.{AreOfAll, HasFirst, IsExplorationOf, IsExplored, IsFirstReplay, IsPrintedAlone, IsToldBy, IsToldOf, ReportsReplay, fate_by, fate_of_told, first_schedule, most_to_blame, run_of, schedule_of, told_text, waits_behind}
+use Rattle.velo_program.specs.ByChance.{AreOfRuns, AreSayable, DoesNotShow, IsBlame, IsBlameOf, IsByChance, IsSayable, IsSayableFinding, IsSayableRefusal, OfRuns, RefusalOfRuns}
+use Rattle.velo_program.specs.Exploring.{AreOfAll, HasFirst, IsExplorationOf, IsExplored, IsFirstReplay, IsPrintedAlone, IsSearchOf, IsToldBy, IsToldOf, ReportsReplay, TellsFinding, TellsRefusal, TellsSearch, fate_by, fate_of_told, first_schedule, most_to_blame, run_of, schedule_of, told_text, waits_behind}
 use Rattle.velo_program.specs.declared.request.RandomRuns.{RandomRuns}
 use Rattle.velo_program.specs.declared.told.Found.{Found}
 use Rattle.velo_program.specs.declared.told.Told.{Told}
 use Rattle.velo_program.specs.declared.told.Tried.TheVariants as how
 use Rattle.velo_chance.specs.declared.tally.Tally.{Tally}
-use Rattle.velo_chance.specs.Runs.{Run, is_refused, is_stuck}
-use Rattle.velo_chance.specs.Runs as R
-use Rattle.velo_chance.specs.Tallies.{IsTold, IsTriedBy, rank}
+use Rattle.velo_chance.specs.Runs.{Run, has_alarm as has_some_alarm, is_refused, is_stuck}
+use Rattle.velo_chance.specs.Tallies.{IsTold, IsTriedBy, SimplifiesFirst, first_schedule as first_run, rank}
+use Rattle.velo_chance.proofs.OnRuns.{some-first_schedule}
 use Rattle.velo_program.specs.declared.check.Verdict.{Verdict}
 use Rattle.velo_program.specs.declared.check.Verdict.TheVariants as verdict
 use Rattle.velo_program.specs.Fate.{is_alarm}
@@ -118,6 +121,30 @@ no_goal goal schedule is = cc
 some_goal : (shown : Goal × List ThreadId) → Some shown ≡ None → ⊥
 some_goal shown is = cc
 
+-- ---- findings
+
+shown_never : (schedule : Vec ThreadId) → Shown schedule ≡ Never → ⊥
+shown_never schedule is = cc
+
+shown_open : (schedule : Vec ThreadId) → Shown schedule ≡ Open → ⊥
+shown_open schedule is = cc
+
+refusal_never : (run : RefusedRun) → refusals.Shown run ≡ refusals.Never → ⊥
+refusal_never run is = cc
+
+refusal_open : (run : RefusedRun) → refusals.Shown run ≡ refusals.Open → ⊥
+refusal_open run is = cc
+
+same_goal : (one other : RefusedRun) → one.thread ≡ other.thread → one.refusal ≡ other.refusal → goals.Refused one.thread one.refusal ≡ goals.Refused other.thread other.refusal
+same_goal one other thread refusal = ap (λ t. goals.Refused t one.refusal) thread ∙ ap (λ r. goals.Refused other.thread r) refusal
+
+-- so many of them, or all
+take_least : (most : ℕ) (schedules : List (Vec ThreadId)) → take (min most (length schedules)) schedules ≡ take most schedules
+take_least most schedules =
+    ⊎_elim (λ less. ap (λ (k : ℕ). take k schedules) (let same : min most (length schedules) ≡ most = omega (arith, less) in same))
+    (λ all. take_all (min most (length schedules)) schedules (omega (arith, all)) ∙ sym (take_all most schedules all))
+    (cases_lt most (length schedules))
+
 -- ---- a replay
 
 -- a run without a report is one in which a growth was refused
@@ -144,60 +171,104 @@ module _ (program : Program) (config : Config) where
   said_refusal finding said (inl same) told = subst (RefusalTold program config) (sym same.1) told
   said_refusal finding said (inr none) told = subst (RefusalTold program config) (sym none.1) tt
 
+  -- ---- by simple schedules
+
+  -- a finding that was made simple is told, or can't be
+  tells_finding : (goal : Goal) (found simple said : Finding) → SimplifiesFinding program config goal found simple → IsSaidFor simple said → TellsFinding program config goal found said
+  tells_finding goal (Shown f) (Shown s) said short (inl same) = subst (TellsFinding program config goal (Shown f)) (sym same.1) short
+  tells_finding goal (Shown f) (Shown s) said short (inr none) =
+      subst (TellsFinding program config goal (Shown f)) (sym none.1) (record { simple = s.items; simplifies = short; why = inl none.0 })
+  tells_finding goal Never simple said short (inl same) = same.1 ∙ sym short
+  tells_finding goal Never simple said short (inr none) = absurd (none.0 (subst IsSayableFinding short tt))
+  tells_finding goal Open simple said short (inl same) = same.1 ∙ sym short
+  tells_finding goal Open simple said short (inr none) = absurd (none.0 (subst IsSayableFinding short tt))
+  tells_finding goal (Shown f) Never said short said_so = absurd (shown_never f short)
+  tells_finding goal (Shown f) Open said short said_so = absurd (shown_open f short)
+
+  tells_refusal : (found simple said : RefusalFinding) → SimplifiesRefusal program config found simple → IsRefusalSaidFor simple said → TellsRefusal program config found said
+  tells_refusal (refusals.Shown f) (refusals.Shown s) said short (inl same) = subst (TellsRefusal program config (refusals.Shown f)) (sym same.1) short
+  tells_refusal (refusals.Shown f) (refusals.Shown s) said short (inr none) =
+      subst (TellsRefusal program config (refusals.Shown f)) (sym none.1) (record { simple = s.schedule.items; simplifies = short.2; why = inl none.0 })
+  tells_refusal refusals.Never simple said short (inl same) = same.1 ∙ sym short
+  tells_refusal refusals.Never simple said short (inr none) = absurd (none.0 (subst IsSayableRefusal short tt))
+  tells_refusal refusals.Open simple said short (inl same) = same.1 ∙ sym short
+  tells_refusal refusals.Open simple said short (inr none) = absurd (none.0 (subst IsSayableRefusal short tt))
+  tells_refusal (refusals.Shown f) refusals.Never said short said_so = absurd (refusal_never f short)
+  tells_refusal (refusals.Shown f) refusals.Open said short said_so = absurd (refusal_open f short)
+
   -- what is told of all schedules is so
-  pub all_told : (options : ExploreOptions) (told : Told) (events states : ℕ) (alarm stuck : Finding) (refused : RefusalFinding)
-      → events ≡ min (sum_by body_events program.bodies) (2 ^ 64 - 1) → states ≤ options.states → told.tried ≡ how.All events states
-      → AlarmTold program config alarm → StuckTold program config stuck → RefusalTold program config refused
-      → IsSaidFor alarm told.found.alarm → IsSaidFor stuck told.found.stuck → IsRefusalSaidFor refused told.found.refused
-      → IsBlameOf program config (most_to_blame options.first) told.blame
+  pub all_told : (options : ExploreOptions) (search simple : Exploration) (told : Told) → IsSearchOf program config options search
+      → SimplifiesFinding program config goals.Alarm search.alarm simple.alarm → SimplifiesFinding program config goals.Stuck search.stuck simple.stuck
+      → SimplifiesRefusal program config search.refused simple.refused
+      → told.tried ≡ how.All search.events search.states
+      → AlarmTold program config simple.alarm → StuckTold program config simple.stuck → RefusalTold program config simple.refused
+      → IsSaidFor simple.alarm told.found.alarm → IsSaidFor simple.stuck told.found.stuck → IsRefusalSaidFor simple.refused told.found.refused
+      → IsBlameOf program config (map (λ schedule. schedule.items) (take (most_to_blame options.first) search.alarms.items)) told.blame
       → IsExplorationOf program config options told
-  all_told options told events states alarm stuck refused are_events few tried is_alarm is_stuck is_refused said_a said_s said_r blame =
+  all_told options search simple told is_search short_a short_s short_r tried is_alarm is_stuck is_refused said_a said_s said_r blame =
       record {
-        states = states;
-        few = few;
-        tried = tried ∙ ap (λ (n : ℕ). how.All n states) are_events;
+        search = search;
+        is_search = is_search;
+        tried = tried;
         found = record {
-          alarm = said_alarm alarm told.found.alarm said_a is_alarm;
-          stuck = said_stuck stuck told.found.stuck said_s is_stuck;
-          refused = said_refusal refused told.found.refused said_r is_refused;
-          sayable = are_said alarm stuck refused told.found said_a said_s said_r;
+          alarm = said_alarm simple.alarm told.found.alarm said_a is_alarm;
+          stuck = said_stuck simple.stuck told.found.stuck said_s is_stuck;
+          refused = said_refusal simple.refused told.found.refused said_r is_refused;
+          sayable = are_said simple.alarm simple.stuck simple.refused told.found said_a said_s said_r;
+        };
+        tells = record {
+          alarm = tells_finding goals.Alarm search.alarm simple.alarm told.found.alarm short_a said_a;
+          stuck = tells_finding goals.Stuck search.stuck simple.stuck told.found.stuck short_s said_s;
+          refused = tells_refusal search.refused simple.refused told.found.refused short_r said_r;
         };
         blame = blame;
       }
 
   -- ---- who is to blame
 
-  pub blamed : (schedules : List (Vec ThreadId)) (n most : ℕ) (tally : Tally) → IsTriedBy program config (map (λ s. s.items) (take n schedules)) tally → IsNonDecreasingBy rank tally.blamed.items → n ≤ most
-      → IsBlameOf program config most (record { alarms = tally.alarms; labels = tally.blamed })
-  blamed schedules n most tally tried order small =
+  pub blamed : (schedules : List (Vec ThreadId)) (n most : ℕ) (tally : Tally) → IsTriedBy program config (map (λ s. s.items) (take n schedules)) tally → IsNonDecreasingBy rank tally.blamed.items
+      → n ≡ min most (length schedules)
+      → IsBlameOf program config (map (λ s. s.items) (take most schedules)) (record { alarms = tally.alarms; labels = tally.blamed })
+  blamed schedules n most tally tried order least =
       record {
         runs = tried.runs;
         replayed = tried.replayed;
-        few =
-            let runs : length (map (λ (run : Run). run.schedule) tried.runs) ≡ length tried.runs = length-map tried.runs (λ run. run.schedule) in
-            let taken : length (map (λ (s : Vec ThreadId). s.items) (take n schedules)) ≡ length (take n schedules) = length-map (take n schedules) (λ s. s.items) in
-            let same : length (map (λ (run : Run). run.schedule) tried.runs) ≡ length (map (λ (s : Vec ThreadId). s.items) (take n schedules)) = ap (λ (l : List (List ThreadId)). length l) tried.by in
-            let short = length-take n schedules in
-            omega (arith, runs, taken, same, short, small);
+        by = tried.by ∙ ap (λ (l : List (Vec ThreadId)). map (λ s. s.items) l) (ap (λ (k : ℕ). take k schedules) least ∙ take_least most schedules);
         are = record { alarms = tried.comes_to.alarms; labels = tried.comes_to.blamed; order = order };
       }
 
   -- ---- runs by chance
 
   -- what a run shows is told so
-  of_runs : (some : Bool) (shows : List ThreadId → Type 0) (schedule : Option (Vec ThreadId)) (finding said : Finding)
-      → is_some schedule ≡ some → IfSome schedule (λ schedule. shows schedule.items) → finding ≡ shown_or_never schedule → IsSaidFor finding said → OfRuns some shows said
-  of_runs some shows None finding said is so was (inl same) = subst (OfRuns some shows) (sym (same.1 ∙ was)) (sym is)
-  of_runs some shows (Some schedule) finding said is so was (inl same) = subst (OfRuns some shows) (sym (same.1 ∙ was)) (sym is, so)
-  of_runs some shows schedule finding said is so was (inr none) = subst (OfRuns some shows) (sym none.1) tt
+  of_runs : (goal : Goal) (first : Option (List ThreadId)) (schedule : Option (Vec ThreadId)) (finding said : Finding) → is_some schedule ≡ is_some first
+      → IfSome schedule (Shows program config goal) → IfSome schedule (λ s. SimplifiesFirst program config goal first s.items) → finding ≡ shown_or_never schedule → IsSaidFor finding said
+      → OfRuns program config goal first said
+  of_runs goal None None finding said is shows short was (inl same) = subst (OfRuns program config goal None) (sym (same.1 ∙ was)) tt
+  of_runs goal None None finding said is shows short was (inr none) = absurd (none.0 (subst IsSayableFinding (sym was) tt))
+  of_runs goal (Some f) None finding said is shows short was said_so = absurd (false≢true is)
+  of_runs goal first (Some s) finding said is shows short was (inl same) =
+      subst (λ (o : Option (List ThreadId)). OfRuns program config goal o said) (sym short.is_first)
+      (subst (OfRuns program config goal (Some short.found)) (sym (same.1 ∙ was)) (shows, short.simplifies))
+  of_runs goal first (Some s) finding said is shows short was (inr none) =
+      subst (λ (o : Option (List ThreadId)). OfRuns program config goal o said) (sym short.is_first)
+      (subst (OfRuns program config goal (Some short.found)) (sym none.1)
+      (record { simple = s.items; simplifies = short.simplifies; why = inl (subst (λ (f : Finding). ¬ IsSayableFinding f) was none.0) }))
 
-  refusal_of_runs : (some : Bool) (run : Option RefusedRun) (finding said : RefusalFinding)
-      → is_some run ≡ some → IfSome run (S.ShowsRefusal program config) → finding ≡ refused_or_never run → IsRefusalSaidFor finding said → RefusalOfRuns some program config said
-  refusal_of_runs some None finding said is so was (inl same) = subst (RefusalOfRuns some program config) (sym (same.1 ∙ was)) (sym is)
-  refusal_of_runs some (Some run) finding said is so was (inl same) = subst (RefusalOfRuns some program config) (sym (same.1 ∙ was)) (sym is, so)
-  refusal_of_runs some run finding said is so was (inr none) = subst (RefusalOfRuns some program config) (sym none.1) tt
+  refusal_of_runs : (first : Option (List ThreadId)) (run : Option RefusedRun) (finding said : RefusalFinding) → is_some run ≡ is_some first
+      → IfSome run (S.ShowsRefusal program config) → IfSome run (λ r. SimplifiesFirst program config (goals.Refused r.thread r.refusal) first r.schedule.items)
+      → finding ≡ refused_or_never run → IsRefusalSaidFor finding said → RefusalOfRuns program config first said
+  refusal_of_runs None None finding said is shows short was (inl same) = subst (RefusalOfRuns program config None) (sym (same.1 ∙ was)) tt
+  refusal_of_runs None None finding said is shows short was (inr none) = absurd (none.0 (subst IsSayableRefusal (sym was) tt))
+  refusal_of_runs (Some f) None finding said is shows short was said_so = absurd (false≢true is)
+  refusal_of_runs first (Some r) finding said is shows short was (inl same) =
+      subst (λ (o : Option (List ThreadId)). RefusalOfRuns program config o said) (sym short.is_first)
+      (subst (RefusalOfRuns program config (Some short.found)) (sym (same.1 ∙ was)) (shows, short.simplifies))
+  refusal_of_runs first (Some r) finding said is shows short was (inr none) =
+      subst (λ (o : Option (List ThreadId)). RefusalOfRuns program config o said) (sym short.is_first)
+      (subst (RefusalOfRuns program config (Some short.found)) (sym none.1)
+      (r.thread, r.refusal, record { simple = r.schedule.items; simplifies = short.simplifies; why = inl (subst (λ (f : RefusalFinding). ¬ IsSayableRefusal f) was none.0) }))
 
-  pub some_told : (random : RandomRuns) (tally : Tally) (told : Told) (alarm stuck : Finding) (refused : RefusalFinding) → IsTold program config random.runs tally → IsNonDecreasingBy rank tally.blamed.items
+  pub some_told : (random : RandomRuns) (tally : Tally) (told : Told) (alarm stuck : Finding) (refused : RefusalFinding) → IsTold program config random.seed random.runs tally → IsNonDecreasingBy rank tally.blamed.items
       → told.tried ≡ how.ByChance random.seed tally.runs
       → alarm ≡ shown_or_never tally.alarm → stuck ≡ shown_or_never tally.stuck → refused ≡ refused_or_never tally.refused
       → IsSaidFor alarm told.found.alarm → IsSaidFor stuck told.found.stuck → IsRefusalSaidFor refused told.found.refused
@@ -208,12 +279,18 @@ module _ (program : Program) (config : Config) where
       record {
         runs = is.runs;
         replayed = is.replayed;
-        count = is.count;
+        by = is.by;
         tried = tried ∙ ap (λ (n : ℕ). how.ByChance random.seed n) (tells.count ∙ is.count);
         found = record {
-          alarm = of_runs (list_any R.has_alarm is.runs) (S.ShowsAlarm program config) tally.alarm alarm told.found.alarm tells.some_alarm tells.alarm was_alarm said_a;
-          stuck = of_runs (list_any is_stuck is.runs) (S.ShowsStuck program config) tally.stuck stuck told.found.stuck tells.some_stuck tells.stuck was_stuck said_s;
-          refused = refusal_of_runs (list_any is_refused is.runs) tally.refused refused told.found.refused tells.some_refused tells.refused was_refused said_r;
+          alarm =
+              of_runs goals.Alarm (first_run has_some_alarm is.runs) tally.alarm alarm told.found.alarm (tells.some_alarm ∙ sym (some-first_schedule has_some_alarm is.runs))
+              tells.alarm tells.simple_alarm was_alarm said_a;
+          stuck =
+              of_runs goals.Stuck (first_run is_stuck is.runs) tally.stuck stuck told.found.stuck (tells.some_stuck ∙ sym (some-first_schedule is_stuck is.runs))
+              tells.stuck tells.simple_stuck was_stuck said_s;
+          refused =
+              refusal_of_runs (first_run is_refused is.runs) tally.refused refused told.found.refused (tells.some_refused ∙ sym (some-first_schedule is_refused is.runs))
+              tells.refused tells.simple_refused was_refused said_r;
           sayable = are_said alarm stuck refused told.found said_a said_s said_r;
         };
         blame = subst (IsBlame is.runs) (sym blame) (record { alarms = tells.alarms; labels = tells.blamed; order = order });
@@ -242,13 +319,73 @@ module _ (program : Program) (config : Config) where
   no_more_sayable_refusal one other (inl same) said = subst IsSayableRefusal (sym same) said
   no_more_sayable_refusal one other (inr less) said = subst IsSayableRefusal (sym less.2) tt
 
-  no_more_of_runs : (some : Bool) (shows : List ThreadId → Type 0) (goal : Goal) (one other : Finding) → IsNoMore program config goal one other → OfRuns some shows one → OfRuns some shows other
-  no_more_of_runs some shows goal one other (inl same) told = subst (OfRuns some shows) (sym same) told
-  no_more_of_runs some shows goal one other (inr less) told = subst (OfRuns some shows) (sym less.2) tt
+  -- a run without the goal
+  lacks_goal : (goal : Goal) (ended : Ending) (w : WorldState) (said : Verdict) → IsVerdict w.log said → ¬ Has goal ended said → ¬ Reaches goal ended w
+  lacks_goal goals.Alarm ended w said is none cycle = none (ap is_alarm (is.cycle.1 cycle))
+  lacks_goal goals.Stuck ended w said is none stuck = none stuck
+  lacks_goal (goals.Refused t r) ended w said is none refused = none refused.0
 
-  no_more_refusal_of_runs : (some : Bool) (one other : RefusalFinding) → IsNoMoreRefusal program config one other → RefusalOfRuns some program config one → RefusalOfRuns some program config other
-  no_more_refusal_of_runs some one other (inl same) told = subst (RefusalOfRuns some program config) (sym same) told
-  no_more_refusal_of_runs some one other (inr less) told = subst (RefusalOfRuns some program config) (sym less.2) tt
+  does_not_show : (goal : Goal) (schedule : List ThreadId) → IsRunWithout program config goal schedule → DoesNotShow program config goal schedule
+  does_not_show goal schedule run =
+      record { ended = run.ended; world = run.world; replays = run.replay.replays; has_not = lacks_goal goal run.ended run.world run.verdict run.is_verdict run.has_not }
+
+  -- a finding that is left open then
+  no_more_tells : (goal : Goal) (found one other : Finding) → IsNoMore program config goal one other → TellsFinding program config goal found one → TellsFinding program config goal found other
+  no_more_tells goal found one other (inl same) tells = subst (TellsFinding program config goal found) (sym same) tells
+  no_more_tells goal found one other (inr less) tells = by found (subst (TellsFinding program config goal found) less.1 tells)
+    where
+      by : (found : Finding) → TellsFinding program config goal found (Shown less.0) → TellsFinding program config goal found other
+      by (Shown f) told =
+          subst (TellsFinding program config goal (Shown f)) (sym less.2)
+          (record { simple = less.0.items; simplifies = told; why = inr (does_not_show goal less.0.items less.3) })
+      by Never told = absurd (shown_never less.0 told)
+      by Open told = absurd (shown_open less.0 told)
+
+  no_more_tells_refusal : (found one other : RefusalFinding) → IsNoMoreRefusal program config one other → TellsRefusal program config found one → TellsRefusal program config found other
+  no_more_tells_refusal found one other (inl same) tells = subst (TellsRefusal program config found) (sym same) tells
+  no_more_tells_refusal found one other (inr less) tells = by found (subst (TellsRefusal program config found) less.1 tells)
+    where
+      by : (found : RefusalFinding) → TellsRefusal program config found (refusals.Shown less.0) → TellsRefusal program config found other
+      by (refusals.Shown f) told =
+          subst (TellsRefusal program config (refusals.Shown f)) (sym less.2)
+          (record {
+            simple = less.0.schedule.items;
+            simplifies = told.2;
+            why = inr (does_not_show _ less.0.schedule.items (subst (λ (g : Goal). IsRunWithout program config g less.0.schedule.items) (same_goal less.0 f told.0 told.1) less.3));
+          })
+      by refusals.Never told = absurd (refusal_never less.0 told)
+      by refusals.Open told = absurd (refusal_open less.0 told)
+
+  no_more_of_search : (search : Exploration) (one other : Found) → TellsNoMore program config one other → TellsSearch program config search one → TellsSearch program config search other
+  no_more_of_search search one other less tells =
+      record {
+        alarm = no_more_tells goals.Alarm search.alarm one.alarm other.alarm less.alarm tells.alarm;
+        stuck = no_more_tells goals.Stuck search.stuck one.stuck other.stuck less.stuck tells.stuck;
+        refused = no_more_tells_refusal search.refused one.refused other.refused less.refused tells.refused;
+      }
+
+  no_more_of_runs : (goal : Goal) (first : Option (List ThreadId)) (one other : Finding) → IsNoMore program config goal one other → OfRuns program config goal first one → OfRuns program config goal first other
+  no_more_of_runs goal first one other (inl same) told = subst (OfRuns program config goal first) (sym same) told
+  no_more_of_runs goal first one other (inr less) told = by first (subst (OfRuns program config goal first) less.1 told)
+    where
+      by : (first : Option (List ThreadId)) → OfRuns program config goal first (Shown less.0) → OfRuns program config goal first other
+      by (Some f) so =
+          subst (OfRuns program config goal (Some f)) (sym less.2)
+          (record { simple = less.0.items; simplifies = so.1; why = inr (does_not_show goal less.0.items less.3) })
+      by None so = absurd so
+
+  no_more_refusal_of_runs : (first : Option (List ThreadId)) (one other : RefusalFinding) → IsNoMoreRefusal program config one other → RefusalOfRuns program config first one → RefusalOfRuns program config first other
+  no_more_refusal_of_runs first one other (inl same) told = subst (RefusalOfRuns program config first) (sym same) told
+  no_more_refusal_of_runs first one other (inr less) told = by first (subst (RefusalOfRuns program config first) less.1 told)
+    where
+      by : (first : Option (List ThreadId)) → RefusalOfRuns program config first (refusals.Shown less.0) → RefusalOfRuns program config first other
+      by (Some f) so =
+          subst (RefusalOfRuns program config (Some f)) (sym less.2) (
+            less.0.thread,
+            less.0.refusal,
+            record { simple = less.0.schedule.items; simplifies = so.1; why = inr (does_not_show _ less.0.schedule.items less.3) },
+          )
+      by None so = absurd so
 
   no_more_said : (one other : Found) → TellsNoMore program config one other → AreSayable one → AreSayable other
   no_more_said one other less said =
@@ -270,8 +407,8 @@ module _ (program : Program) (config : Config) where
   no_more_of_some : (runs : List Run) (one other : Found) → TellsNoMore program config one other → AreOfRuns program config runs one → AreOfRuns program config runs other
   no_more_of_some runs one other less are =
       record {
-        alarm = no_more_of_runs _ _ _ one.alarm other.alarm less.alarm are.alarm;
-        stuck = no_more_of_runs _ _ _ one.stuck other.stuck less.stuck are.stuck;
+        alarm = no_more_of_runs _ _ one.alarm other.alarm less.alarm are.alarm;
+        stuck = no_more_of_runs _ _ one.stuck other.stuck less.stuck are.stuck;
         refused = no_more_refusal_of_runs _ one.refused other.refused less.refused are.refused;
         sayable = no_more_said one other less are.sayable;
       }
@@ -284,17 +421,20 @@ module _ (program : Program) (config : Config) where
       by : (random : Option RandomRuns) → IsToldBy program config options random one → IsToldBy program config options random other
       by None so =
           record {
-            states = so.states;
-            few = so.few;
+            search = so.search;
+            is_search = so.is_search;
             tried = tried ∙ so.tried;
             found = no_more_of_all one.found other.found less so.found;
-            blame = subst (IsBlameOf program config (most_to_blame options.first)) (sym blame) so.blame;
+            tells = no_more_of_search so.search one.found other.found less so.tells;
+            blame =
+                subst (IsBlameOf program config (map (λ schedule. schedule.items) (take (most_to_blame options.first) so.search.alarms.items))) (sym blame)
+                so.blame;
           }
       by (Some random) so =
           record {
             runs = so.runs;
             replayed = so.replayed;
-            count = so.count;
+            by = so.by;
             tried = tried ∙ so.tried;
             found = no_more_of_some so.runs one.found other.found less so.found;
             blame = subst (IsBlame so.runs) (sym blame) so.blame;

@@ -1,19 +1,27 @@
 -- Runs of a workload by chance, and who is to blame for the alarms of some runs.
-use Rattle.std.specs.Prelude.{◌≡◌, ◌≤◌, ⊤, ℕ, Bool, All, List, IsFalse, IsTrue, count_by, length}
+use Rattle.std.specs.Prelude.{◌≡◌, ◌⊎◌, ⊤, All, List, Option, Some, None, count_by, map}
 use Rattle.std.specs.List.Sorted.{IsNonDecreasingBy}
-use Rattle.std.specs.List.{list_any}
+use Rattle.velo_chance.specs.Drawing.{schedules_of_seed}
 use Rattle.velo_chance.specs.Runs.{IsRun, Run, blames, has_alarm, is_refused, is_stuck}
-use Rattle.velo_chance.specs.Tallies.{AreCounts, rank}
+use Rattle.velo_chance.specs.Tallies.{AreCounts, first_schedule, rank}
 use Rattle.velo_events.specs.declared.config.Config.{Config}
 use Rattle.velo_events.specs.declared.event.ThreadId.{ThreadId}
+use Rattle.velo_events.specs.declared.refusal.Refusal.{Refusal}
 use Rattle.velo_schedules.specs.declared.finding.Finding.{Finding}
 use Rattle.velo_schedules.specs.declared.finding.Finding.TheVariants.{Shown, Never, Open}
 use Rattle.velo_schedules.specs.declared.finding.RefusalFinding.{RefusalFinding}
 use Rattle.velo_schedules.specs.declared.finding.RefusalFinding.TheVariants as refusals
-use Rattle.velo_schedules.specs.Told.{ShowsAlarm, ShowsRefusal, ShowsStuck}
+use Rattle.velo_schedules.specs.Told.{ShowsRefusal}
+use Rattle.velo_shrink.specs.declared.goal.Goal.{Goal}
+use Rattle.velo_shrink.specs.declared.goal.Goal.TheVariants.{Alarm, Refused, Stuck}
+use Rattle.velo_shrink.specs.Shown.{Reaches, Shows}
+use Rattle.velo_shrink.specs.Simple.{Simplifies}
 use Rattle.velo_turns.specs.Schedule.{SaysTurns}
 use Rattle.velo_turns.specs.Short.{short_text}
+use Rattle.velo_worker.specs.declared.ending.Ending.{Ending}
+use Rattle.velo_worker.specs.Schedule.{Replays}
 use Rattle.velo_workload.specs.Program.{Program}
+use Rattle.velo_world.specs.World.{WorldState}
 use Rattle.velo_program.specs.declared.request.RandomRuns.{RandomRuns}
 use Rattle.velo_program.specs.declared.told.Found.{Found}
 use Rattle.velo_program.specs.declared.told.Told.{Told}
@@ -48,39 +56,63 @@ pub record IsBlame (runs : List Run) (blame : ToBlame) : Type 0 where
   pub labels : AreCounts (λ label. count_by (blames label) runs) blame.labels.items
   pub order : IsNonDecreasingBy rank blame.labels.items
 
--- this is so of some replays of the program, at most so many
-pub record IsBlameOf (program : Program) (config : Config) (most : ℕ) (blame : ToBlame) : Type 0 where
+-- this is so of the replays of the program by these schedules
+pub record IsBlameOf (program : Program) (config : Config) (schedules : List (List ThreadId))
+    (blame : ToBlame) : Type 0 where
   pub runs : List Run
   pub replayed : All (IsRun program config) runs
-  pub few : length runs ≤ most
+  pub by : map (λ run. run.schedule) runs ≡ schedules
   pub are : IsBlame runs blame
+
+-- ---- what was found, and is left open
+
+-- the program replays by the schedule to a run that does not have the goal
+pub record DoesNotShow (program : Program) (config : Config) (goal : Goal)
+    (schedule : List ThreadId) : Type 0 where
+  pub ended : Ending
+  pub world : WorldState
+  pub replays : Replays program schedule config ended world
+  pub has_not : ¬ Reaches goal ended world
+
+-- the schedule that was found was made simple, and can't be told then, or did not show the goal again
+pub record IsLeftOpen (program : Program) (config : Config) (goal : Goal)
+    (found : List ThreadId) : Type 0 where
+  pub simple : List ThreadId
+  pub simplifies : Simplifies program config goal found simple
+  pub why : (¬ IsSayable simple) ⊎ DoesNotShow program config goal simple
 
 -- ---- what is found in runs
 
--- It is shown only where one of the runs has it, by a schedule that shows it. It is never only where none of them has it. Where
--- it is open one of them may have it, and its schedule did not show it again.
-abbrev pub OfRuns : Bool → (List ThreadId → Type 0) → Finding → Type 0
-OfRuns some shows (Shown schedule) = IsTrue some × shows schedule.items
-OfRuns some shows Never = IsFalse some
-OfRuns some shows Open = ⊤
+-- It is shown only where one of the runs has it: by a schedule that shows it, the first that has it made simple. It is never only
+-- where none of them has it. Where it is open one of them has it.
+abbrev pub OfRuns : Program → Config → Goal → Option (List ThreadId) → Finding → Type 0
+OfRuns program config goal (Some found) (Shown told) =
+    Shows program config goal told × Simplifies program config goal found told.items
+OfRuns program config goal (Some found) Open = IsLeftOpen program config goal found
+OfRuns program config goal None Never = ⊤
+OfRuns program config goal first told = ⊥
 
-abbrev pub RefusalOfRuns : Bool → Program → Config → RefusalFinding → Type 0
-RefusalOfRuns some program config (refusals.Shown run) = IsTrue some × ShowsRefusal program config run
-RefusalOfRuns some program config refusals.Never = IsFalse some
-RefusalOfRuns some program config refusals.Open = ⊤
+abbrev pub RefusalOfRuns : Program → Config → Option (List ThreadId) → RefusalFinding → Type 0
+RefusalOfRuns program config (Some found) (refusals.Shown run) =
+    ShowsRefusal program config run
+    × Simplifies program config (Refused run.thread run.refusal) found run.schedule.items
+RefusalOfRuns program config (Some found) refusals.Open =
+    (t : ThreadId) × (r : Refusal) × IsLeftOpen program config (Refused t r) found
+RefusalOfRuns program config None refusals.Never = ⊤
+RefusalOfRuns program config first told = ⊥
 
 pub record AreOfRuns (program : Program) (config : Config) (runs : List Run) (found : Found) : Type 0 where
-  pub alarm : OfRuns (list_any has_alarm runs) (ShowsAlarm program config) found.alarm
-  pub stuck : OfRuns (list_any is_stuck runs) (ShowsStuck program config) found.stuck
-  pub refused : RefusalOfRuns (list_any is_refused runs) program config found.refused
+  pub alarm : OfRuns program config Alarm (first_schedule has_alarm runs) found.alarm
+  pub stuck : OfRuns program config Stuck (first_schedule is_stuck runs) found.stuck
+  pub refused : RefusalOfRuns program config (first_schedule is_refused runs) found.refused
   pub sayable : AreSayable found
 
--- The program was replayed so often as was asked for, each time by some schedule, and what is told is of these runs. Of other
--- schedules nothing is said.
+-- The program was replayed so often as was asked for, by the schedules that the seed draws, and what is told is of these runs. Of
+-- other schedules nothing is said.
 pub record IsByChance (program : Program) (config : Config) (random : RandomRuns) (told : Told) : Type 0 where
   pub runs : List Run
   pub replayed : All (IsRun program config) runs
-  pub count : length runs ≡ random.runs
+  pub by : map (λ run. run.schedule) runs ≡ schedules_of_seed program random.seed random.runs
   pub tried : told.tried ≡ ByChance random.seed random.runs
   pub found : AreOfRuns program config runs told.found
   pub blame : IsBlame runs told.blame

@@ -1,5 +1,5 @@
 -- What an exploration of a workload has to say, by the bytes of its text and by the definitions.
-use Rattle.std.specs.Prelude.{◌≡◌, ◌⊎◌, ◌≤◌, ◌-◌, ◌^◌, ◌++◌, [], ℕ, Bool, true, false, List, codes, decimal, min, slice_get, sum_by, Option, Some, None, if◌then◌else◌}
+use Rattle.std.specs.Prelude.{◌≡◌, ◌⊎◌, ◌≤◌, ◌-◌, ◌^◌, ◌++◌, [], ℕ, Bool, true, false, List, codes, decimal, map, min, slice_get, sum_by, take, Option, Some, None, if◌then◌else◌}
 use Rattle.std.specs.List.{flat_map}
 use Rattle.std.specs.Option.{option_map_or}
 use Rattle.velo_chance.specs.declared.tally.Blamed.{Blamed}
@@ -8,12 +8,16 @@ use Rattle.velo_events.specs.declared.event.Event.{Event}
 use Rattle.velo_events.specs.declared.event.ThreadId.{ThreadId}
 use Rattle.velo_events.specs.Graph.{HasCycle}
 use Rattle.velo_report.specs.declared.names.Names.{Names}
+use Rattle.velo_schedules.specs.declared.exploration.Exploration.{Exploration}
 use Rattle.velo_schedules.specs.declared.finding.Finding.{Finding}
 use Rattle.velo_schedules.specs.declared.finding.Finding.TheVariants.{Shown, Never, Open}
 use Rattle.velo_schedules.specs.declared.finding.RefusalFinding.{RefusalFinding}
 use Rattle.velo_schedules.specs.declared.finding.RefusalFinding.TheVariants as refusals
 use Rattle.velo_schedules.specs.declared.finding.RefusedRun.{RefusedRun}
 use Rattle.velo_schedules.specs.Told.{AlarmTold, RefusalTold, StuckTold}
+use Rattle.velo_shrink.specs.declared.goal.Goal.{Goal}
+use Rattle.velo_shrink.specs.declared.goal.Goal.TheVariants as goals
+use Rattle.velo_shrink.specs.Simple.{Simplifies}
 use Rattle.velo_waits.specs.Waits.{waits_text}
 use Rattle.velo_worker.specs.declared.ending.Ending.{Ending}
 use Rattle.velo_worker.specs.declared.ending.Ending.TheVariants.{Done, Refused, Stuck}
@@ -33,7 +37,7 @@ use Rattle.velo_program.specs.declared.told.ToBlame.{ToBlame}
 use Rattle.velo_program.specs.declared.told.Told.{Told}
 use Rattle.velo_program.specs.declared.told.Tried.{Tried}
 use Rattle.velo_program.specs.declared.told.Tried.TheVariants as how
-use Rattle.velo_program.specs.ByChance.{AreSayable, IsBlameOf, IsByChance}
+use Rattle.velo_program.specs.ByChance.{AreSayable, IsBlameOf, IsByChance, IsLeftOpen}
 use Rattle.velo_program.specs.Check.{IsOutputOf}
 use Rattle.velo_program.specs.Delivery.{Answer, LacksMemory, printing, silent}
 use Rattle.velo_program.specs.Fate.{number_of}
@@ -55,14 +59,48 @@ pub record AreOfAll (program : Program) (config : Config) (found : Found) : Type
 abbrev pub most_to_blame : Bool → ℕ
 most_to_blame first = if first then 0 else MOST_BLAMING
 
--- all schedules of the program are tried, and this is told of them
+-- what a search within the limits that were asked for may say of the program's schedules
+pub record IsSearchOf (program : Program) (config : Config) (options : ExploreOptions)
+    (search : Exploration) : Type 0 where
+  pub events : search.events ≡ min (sum_by body_events program.bodies) (2 ^ 64 - 1)
+  pub states : search.states ≤ options.states
+  pub alarm : AlarmTold program config search.alarm
+  pub stuck : StuckTold program config search.stuck
+  pub refused : RefusalTold program config search.refused
+
+-- A finding of the search is told by its schedule, made simple; or it is left open.
+abbrev pub TellsFinding : Program → Config → Goal → Finding → Finding → Type 0
+TellsFinding program config goal (Shown found) (Shown told) =
+    Simplifies program config goal found.items told.items
+TellsFinding program config goal (Shown found) Open = IsLeftOpen program config goal found.items
+TellsFinding program config goal found told = told ≡ found
+
+abbrev pub TellsRefusal : Program → Config → RefusalFinding → RefusalFinding → Type 0
+TellsRefusal program config (refusals.Shown found) (refusals.Shown told) =
+    (told.thread ≡ found.thread) × (told.refusal ≡ found.refusal)
+    × Simplifies program config (goals.Refused found.thread found.refusal) found.schedule.items
+    told.schedule.items
+TellsRefusal program config (refusals.Shown found) refusals.Open =
+    IsLeftOpen program config (goals.Refused found.thread found.refusal) found.schedule.items
+TellsRefusal program config found told = told ≡ found
+
+pub record TellsSearch (program : Program) (config : Config) (search : Exploration)
+    (found : Found) : Type 0 where
+  pub alarm : TellsFinding program config goals.Alarm search.alarm found.alarm
+  pub stuck : TellsFinding program config goals.Stuck search.stuck found.stuck
+  pub refused : TellsRefusal program config search.refused found.refused
+
+-- All schedules of the program are tried, and this is told of them. Whom the alarms blame is told of the replays by the first of
+-- the schedules that the search hands out.
 pub record IsExplorationOf (program : Program) (config : Config) (options : ExploreOptions) (told : Told)
     : Type 0 where
-  pub states : ℕ
-  pub few : states ≤ options.states
-  pub tried : told.tried ≡ how.All (min (sum_by body_events program.bodies) (2 ^ 64 - 1)) states
+  pub search : Exploration
+  pub is_search : IsSearchOf program config options search
+  pub tried : told.tried ≡ how.All search.events search.states
   pub found : AreOfAll program config told.found
-  pub blame : IsBlameOf program config (most_to_blame options.first) told.blame
+  pub tells : TellsSearch program config search told.found
+  pub blame : IsBlameOf program config
+      (map (λ schedule. schedule.items) (take (most_to_blame options.first) search.alarms.items)) told.blame
 
 -- all of them are tried; or where runs by chance are asked for, so many (`ByChance`)
 abbrev pub IsToldBy : Program → Config → ExploreOptions → Option RandomRuns → Told → Type 0
