@@ -1,80 +1,125 @@
 //! Free operations, which are done at once when their threads come to them.
-ghost use Rattle.std.specs.Prelude.{◌≡◌, ◌<◌, ◌∷◌, ◌++◌, [], List};
+ghost use Rattle.std.specs.Prelude.{◌≡◌, ◌+◌, ◌<◌, ◌≤◌, ◌^◌, ◌∷◌, ◌++◌, [], List, length, slice_index_or, OnOk, OnErr};
+ghost use Rattle.velo_events.specs.Refusals.{GrowthRefused};
 ghost use Rattle.velo_events.specs.declared.event.Event.{Event};
-ghost use Rattle.velo_heap.specs.Contents.{bounds_of};
-ghost use Rattle.velo_explore.specs.Search.{ArePlain, AreShort, IsReached, Settles};
+ghost use Rattle.velo_events.specs.Event.{thread_of};
+ghost use Rattle.velo_heap.specs.Contents.{bounds_of, IsAdmitted};
+ghost use Rattle.velo_explore.specs.declared.step.Step.{Step};
+ghost use Rattle.velo_explore.specs.States.{IsStateOf};
+ghost use Rattle.velo_explore.specs.Search.{ArePlain, AreShort};
+ghost use Rattle.velo_explore.specs.Trail.{GoesOn, IsReachedBy, SettlesBy};
 
 use crate::next::Next;
 use crate::scripts::Scripts;
 use crate::searching::next_of;
 use crate::state::State;
-use velo_events::ThreadId;
+use crate::trail::Trail;
+use velo_events::{Event, Memory, ThreadId};
+
+/// Does an event, and notes it in the trail.
+pub(crate) fn advance(state: &mut State, event: &Event, trail: &mut Trail) -> Result<(), Memory>
+    requires admitted { IsAdmitted state.old.heap event.now }
+    requires room { slice_index_or state.old.next.items (thread_of event.now) 0 + 1 < 2 ^ 32 }
+    requires within { state.old.place ≤ length trail.old.steps.items }
+    ensures bounds { OnOk result (bounds_of state.new.heap ≡ bounds_of state.old.heap) }
+    ensures next { OnOk result ((log : List Event) → IsStateOf log state.old →
+        IsStateOf (log ++ event.now ∷ []) state.new) }
+    ensures place { OnOk result (state.new.place ≡ length trail.old.steps.items + 1) }
+    ensures steps { OnOk result (trail.new.steps.items ≡
+        trail.old.steps.items ++ record { before = state.old.place; thread = event.now.thread } ∷
+        []) }
+    ensures goes_on { OnOk result (GoesOn trail.old trail.new) }
+    ensures memory { OnErr result GrowthRefused }
+{
+    let place = trail.push(state.place(), event.thread)?;
+    state.step(event, place);
+    Ok(())
+}
 
 /// Does the thread's next operation, if it may do it and it is free. Whether it did.
-fn settle_once(scripts: &Scripts, state: &mut State, thread: ThreadId) -> bool
+fn settle_once(
+    scripts: &Scripts,
+    state: &mut State,
+    thread: ThreadId,
+    trail: &mut Trail,
+) -> Result<bool, Memory>
     requires plain { ArePlain scripts.now }
     requires short { AreShort scripts.now }
     requires thread { thread.0 < (bounds_of state.old.heap).threads }
-    requires reached { IsReached (bounds_of state.old.heap) scripts.now state.old }
-    ensures bounds { bounds_of state.new.heap ≡ bounds_of state.old.heap }
-    ensures settles { Settles (bounds_of state.old.heap) scripts.now state.old state.new }
+    requires reached { IsReachedBy (bounds_of state.old.heap) scripts.now trail.old.steps.items
+        state.old }
+    ensures settles { OnOk result
+        (SettlesBy (bounds_of state.old.heap) scripts.now trail.old state.old trail.new state.new) }
+    ensures memory { OnErr result GrowthRefused }
 {
     if !scripts.is_free(thread, state.done_by(thread)) {
-        return false;
+        return Ok(false);
     }
     let Next::May(event) = next_of(scripts, state, thread) else {
-        return false;
+        return Ok(false);
     };
-    state.step(&event);
-    true
+    advance(state, &event, trail)?;
+    Ok(true)
 }
 
 /// Does the thread's free operations, as long as one comes next. Whether there was one.
-fn settle_thread(scripts: &Scripts, state: &mut State, thread: ThreadId) -> bool
+fn settle_thread(
+    scripts: &Scripts,
+    state: &mut State,
+    thread: ThreadId,
+    trail: &mut Trail,
+) -> Result<bool, Memory>
     requires plain { ArePlain scripts.now }
     requires short { AreShort scripts.now }
     requires thread { thread.0 < (bounds_of state.old.heap).threads }
-    requires reached { IsReached (bounds_of state.old.heap) scripts.now state.old }
-    ensures bounds { bounds_of state.new.heap ≡ bounds_of state.old.heap }
-    ensures settles { Settles (bounds_of state.old.heap) scripts.now state.old state.new }
+    requires reached { IsReachedBy (bounds_of state.old.heap) scripts.now trail.old.steps.items
+        state.old }
+    ensures settles { OnOk result
+        (SettlesBy (bounds_of state.old.heap) scripts.now trail.old state.old trail.new state.new) }
+    ensures memory { OnErr result GrowthRefused }
 {
     for step in 0..u32::MAX {
-        if !settle_once(scripts, state, thread) {
-            return step != 0;
+        if !settle_once(scripts, state, thread, trail)? {
+            return Ok(step != 0);
         }
     }
-    true
+    Ok(true)
 }
 
 /// Does the free operations of one thread after another, as long as one comes next there. Whether there was one.
-fn settle_all(scripts: &Scripts, state: &mut State) -> bool
+fn settle_all(scripts: &Scripts, state: &mut State, trail: &mut Trail) -> Result<bool, Memory>
     requires plain { ArePlain scripts.now }
     requires short { AreShort scripts.now }
-    requires reached { IsReached (bounds_of state.old.heap) scripts.now state.old }
-    ensures bounds { bounds_of state.new.heap ≡ bounds_of state.old.heap }
-    ensures settles { Settles (bounds_of state.old.heap) scripts.now state.old state.new }
+    requires reached { IsReachedBy (bounds_of state.old.heap) scripts.now trail.old.steps.items
+        state.old }
+    ensures settles { OnOk result
+        (SettlesBy (bounds_of state.old.heap) scripts.now trail.old state.old trail.new state.new) }
+    ensures memory { OnErr result GrowthRefused }
 {
     let mut any = false;
     for thread in 0..state.threads() {
-        if settle_thread(scripts, state, ThreadId(thread)) {
+        if settle_thread(scripts, state, ThreadId(thread), trail)? {
             any = true;
         }
     }
-    any
+    Ok(any)
 }
 
 /// Does free operations, as long as one comes next: those of one thread may let another go on, so it begins again while there
 /// was one.
-pub(crate) fn settle(scripts: &Scripts, state: &mut State)
+pub(crate) fn settle(scripts: &Scripts, state: &mut State, trail: &mut Trail) -> Result<(), Memory>
     requires plain { ArePlain scripts.now }
     requires short { AreShort scripts.now }
-    requires reached { IsReached (bounds_of state.old.heap) scripts.now state.old }
-    ensures bounds { bounds_of state.new.heap ≡ bounds_of state.old.heap }
-    ensures settles { Settles (bounds_of state.old.heap) scripts.now state.old state.new }
+    requires reached { IsReachedBy (bounds_of state.old.heap) scripts.now trail.old.steps.items
+        state.old }
+    ensures settles { OnOk result
+        (SettlesBy (bounds_of state.old.heap) scripts.now trail.old state.old trail.new state.new) }
+    ensures memory { OnErr result GrowthRefused }
 {
     for _round in 0..u32::MAX {
-        if !settle_all(scripts, state) {
-            return;
+        if !settle_all(scripts, state, trail)? {
+            return Ok(());
         }
     }
+    Ok(())
 }

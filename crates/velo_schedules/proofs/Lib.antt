@@ -4,4 +4,5 @@ pub mod OnBodyScripts
 pub mod OnPlainLogs
 pub mod OnTold
 pub mod OnCounting
+pub mod OnFollowed
 pub mod OnShown

@@ -1,6 +1,6 @@
 -- What holds of all runs of a program's scripts holds of all its replays.
 use Rattle.std.proofs.Common.{◌≡◌, ℕ, ◌+◌, ◌-◌, ◌*◌, ◌^◌, ◌<◌, ◌≤◌, Bool, true, false, not, ◌||◌, List, [], ◌∷◌, length, length-append, map, min, Option, Some, None, refl, sym, ap, ◌∙◌, subst, arith, ⊎_elim, inl, inr}
-use Rattle.std.specs.Prelude.{filter, slice_get, sum_by}
+use Rattle.std.specs.Prelude.{IfSome, IsTrue, filter, slice_get, sum_by}
 use Rattle.std.proofs.lemmas.Bool.{and_parts, or_cases, false≢true}
 use Rattle.std.proofs.lemmas.List.{length-map}
 use Rattle.std.proofs.lemmas.List.Sums.{length-filter, get_or-le-sum_by}
@@ -20,6 +20,8 @@ use Rattle.velo_explore.specs.Runs as runs
 use Rattle.velo_explore.specs.Search as searched
 use Rattle.velo_explore.specs.Search.{ArePlain, AreShort, SomeRun, has_fault}
 use Rattle.velo_explore.specs.Told.{has_ended}
+use Rattle.velo_explore.specs.Trail.{LeadsTo}
+use Rattle.velo_events.specs.declared.event.ThreadId.{ThreadId}
 use Rattle.velo_schedules.specs.declared.finding.Finding.{Finding}
 use Rattle.velo_schedules.specs.declared.finding.Finding.TheVariants.{Shown, Never, Open}
 use Rattle.velo_schedules.specs.declared.finding.RefusalFinding.{RefusalFinding}
@@ -57,6 +59,11 @@ pub was_found : (found : Bool) → not found ≡ false → found ≡ true
 was_found true h = refl
 was_found false h = absurd (false≢true (sym h))
 
+-- a search that would have ended at the first finding, and did not
+pub goes_on_all : (first : Bool) → ¬ IsTrue first → first ≡ false
+goes_on_all true none = absurd (none refl)
+goes_on_all false none = refl
+
 -- more events than a log may have
 pub too_many : (limit events sum : ℕ) → limit < events → events ≡ min sum (2 ^ 64 - 1) → limit < sum
 too_many limit events sum more is = omega (arith, more, is)
@@ -89,6 +96,10 @@ module _ (program : Program) (bounds : Bounds) (same : bounds ≡ program.bounds
   -- what some run of the list has, some run of the program's scripts has
   pub somewhere : (fault : Fault) → SomeRun bounds list fault → IsSomewhere program fault
   somewhere fault some = subst (λ ks. SomeRun program.bounds ks fault) is (subst (λ b. SomeRun b list fault) same some)
+
+  -- the same of the turns by which it has it
+  pub leads-bodies : (fault : Fault) (turns : Option (List ThreadId)) → IfSome turns (LeadsTo bounds list fault) → IfSome turns (LeadsTo program.bounds (all_scripts program) fault)
+  leads-bodies fault turns leads = subst (λ ks. IfSome turns (LeadsTo program.bounds ks fault)) is (subst (λ b. IfSome turns (LeadsTo b list fault)) same leads)
 
   -- why the search was cut short
   pub cut-search : (config : Config) (most : ℕ) (first : Bool) (found : Found) (states : ℕ) → ((fault : Fault) → has_fault found fault ≡ true → SomeRun bounds list fault) → searched.IsCutShort bounds.threads most first found states → IsCutShort program config most first states

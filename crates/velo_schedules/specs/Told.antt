@@ -1,10 +1,11 @@
 -- What is told of all schedules of a program.
-use Rattle.std.specs.Prelude.{◌≡◌, ◌≢◌, ◌⊎◌, ◌↔◌, ◌+◌, ◌*◌, ◌<◌, ◌≤◌, ◌++◌, ◌∷◌, [], ⊤, ℕ, Bool, true, List, IsTrue, IsFalse, sum_by}
+use Rattle.std.specs.Prelude.{◌≡◌, ◌⊎◌, ◌↔◌, ◌+◌, ◌*◌, ◌<◌, ◌≤◌, ◌++◌, ◌∷◌, [], ⊤, ℕ, Bool, true, List, IsTrue, IsFalse, sum_by}
 use Rattle.velo_events.specs.declared.config.Config.{Config}
 use Rattle.velo_events.specs.declared.event.ThreadId.{ThreadId}
 use Rattle.velo_events.specs.Graph.{HasCycle}
 use Rattle.velo_explore.specs.Faults.{Fault}
 use Rattle.velo_explore.specs.Search.{SomeRun}
+use Rattle.velo_explore.specs.Trail.{LeadsTo}
 use Rattle.velo_workload.specs.Program.{Program}
 use Rattle.velo_world.specs.World.{WorldState}
 use Rattle.velo_worker.specs.declared.ending.Ending.{Ending}
@@ -61,22 +62,6 @@ RefusalTold program config (refusals.Shown run) = ShowsRefusal program config ru
 RefusalTold program config refusals.Never = NeverRefused program
 RefusalTold program config refusals.Open = ⊤
 
--- ---- what a replay does not show
-
--- by the schedule the program replays to a log without a cycle
-pub record LacksAlarm (program : Program) (config : Config) (schedule : List ThreadId) : Type 0 where
-  pub ending : Ending
-  pub closed : WorldState
-  pub replays : Replays program schedule config ending closed
-  pub none : ¬ HasCycle closed.log
-
--- by the schedule its replay is not stuck
-pub record LacksStuck (program : Program) (config : Config) (schedule : List ThreadId) : Type 0 where
-  pub ending : Ending
-  pub closed : WorldState
-  pub replays : Replays program schedule config ending closed
-  pub none : ending ≢ Stuck
-
 -- by the schedule and then a turn of the thread no thread is refused, unless for want of room
 pub record LacksRefusal (program : Program) (config : Config) (schedule : List ThreadId) (t : ℕ) : Type 0 where
   pub ending : Ending
@@ -84,15 +69,23 @@ pub record LacksRefusal (program : Program) (config : Config) (schedule : List T
   pub replays : Replays program (schedule ++ record { 0 = t } ∷ []) config ending closed
   pub none : IsFalse (ends_refused ending)
 
--- whichever thread it is
-pub record LacksRefusals (program : Program) (config : Config) (schedule : List ThreadId) : Type 0 where
-  pub each : (t : ℕ) → t < program.bounds.threads → LacksRefusal program config schedule t
+-- ---- what a replay misses
 
 -- the run ended for want of room; or the world stops at its first cycle, and halted so
 abbrev pub IsCut : Ending → WorldState → Type 0
 IsCut (Refused t r) closed = IsTrue (is_for_room r)
 IsCut Halted closed = IsTrue closed.config.stop × HasCycle closed.log
 IsCut ending closed = ⊥
+
+-- a run of the program's scripts comes to the fault, and the replay by its turns, and maybe one more, ends before it does
+pub record IsMissed (program : Program) (config : Config) (fault : Fault) : Type 0 where
+  pub schedule : List ThreadId
+  pub leads : LeadsTo program.bounds (all_scripts program) fault schedule
+  pub more : List ThreadId
+  pub ending : Ending
+  pub closed : WorldState
+  pub replays : Replays program (schedule ++ more) config ending closed
+  pub cut : IsCut ending closed
 
 -- ---- what is left open
 
@@ -117,7 +110,7 @@ IsCutShort program config most first states =
     ⊎ (((first ≡ true) × (fault : Fault) × IsSomewhere program fault)
     ⊎ (most ≤ states + states * program.bounds.threads))
 
--- a fault is open only where not all schedules were tried, or some run has it
+-- a fault is open only where not all schedules were tried, or the replay misses it
 abbrev pub IsLeftOpen : Program → Config → ℕ → Bool → ℕ → Fault → Type 0
 IsLeftOpen program config most first states fault =
-    IsCutShort program config most first states ⊎ IsSomewhere program fault
+    IsCutShort program config most first states ⊎ IsMissed program config fault

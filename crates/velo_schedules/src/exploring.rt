@@ -1,10 +1,12 @@
 //! All schedules of a workload at once.
-ghost use Rattle.std.specs.Prelude.{◌≡◌, ◌≤◌, ◌-◌, ◌^◌, true, false, min, sum_by, IfOk, OnErr};
+ghost use Rattle.std.specs.Prelude.{◌≡◌, ◌≤◌, ◌-◌, ◌^◌, true, false, is_some, length, min, sum_by, IfOk, IfSome, IsTrue, OnErr};
 ghost use Rattle.velo_events.specs.Refusals.{GrowthRefused};
 ghost use Rattle.velo_worker.specs.Counts.{body_events};
 ghost use Rattle.velo_schedules.specs.Logs.{AlwaysSerializable, NeverStuck, NeverRefused};
 ghost use Rattle.velo_explore.specs.Faults.{Fault, Cycle, Stuck, Refusing};
 ghost use Rattle.velo_explore.specs.Search.{has_fault};
+ghost use Rattle.velo_explore.specs.Trail.{LeadsTo, turns_for};
+ghost use Rattle.velo_schedules.specs.Bodies.{all_scripts};
 ghost use Rattle.velo_schedules.specs.Told.{AlarmTold, StuckTold, RefusalTold};
 ghost use Rattle.velo_schedules.specs.Told.{IsCutShort, IsLeftOpen, IsSomewhere, OnOpen, OnOpenRefusal};
 
@@ -24,8 +26,8 @@ use velo_workload::Workload;
 /// With `first` it ends as soon as it finds one of the three, and tells the others as open.
 ///
 /// What is shown was replayed. What is said never to be is so by no schedule. What is open is so as not all schedules were
-/// tried, or as some run of the bodies' operations has it and the replay by its schedule does not show it. `progress` is told
-/// of each level of the search.
+/// tried, or as the replay by the schedule that leads there ends before: for want of room, or halted at its first cycle.
+/// `progress` is told of each level of the search.
 ///
 /// # Errors
 /// `Memory` where a growth was refused.
@@ -43,9 +45,12 @@ pub fn explore<P: Progress>(
     ensures alarm { IfOk result (λ x. AlarmTold workload.now config x.alarm) }
     ensures stuck { IfOk result (λ x. StuckTold workload.now config x.stuck) }
     ensures refused { IfOk result (λ x. RefusalTold workload.now config x.refused) }
-    ensures open_alarm { IfOk result (λ x. OnOpen x.alarm (IsLeftOpen workload.now config most_states first x.states Cycle)) }
-    ensures open_stuck { IfOk result (λ x. OnOpen x.stuck (IsLeftOpen workload.now config most_states first x.states Stuck)) }
-    ensures open_refused { IfOk result (λ x. OnOpenRefusal x.refused (IsLeftOpen workload.now config most_states first x.states Refusing)) }
+    ensures open_alarm { IfOk result (λ x. OnOpen x.alarm
+        (IsLeftOpen workload.now config most_states first x.states Cycle)) }
+    ensures open_stuck { IfOk result (λ x. OnOpen x.stuck
+        (IsLeftOpen workload.now config most_states first x.states Stuck)) }
+    ensures open_refused { IfOk result (λ x. OnOpenRefusal x.refused
+        (IsLeftOpen workload.now config most_states first x.states Refusing)) }
     ensures memory { OnErr result GrowthRefused }
 {
     let events = count_all(workload);
@@ -101,8 +106,15 @@ fn search_all<P: Progress>(
     ensures alarm { IfOk result (λ x. x.whole ≡ true → x.found.alarm ≡ false → AlwaysSerializable workload.now) }
     ensures stuck { IfOk result (λ x. x.whole ≡ true → x.found.stuck ≡ false → NeverStuck workload.now) }
     ensures refused { IfOk result (λ x. x.whole ≡ true → x.found.refused ≡ false → NeverRefused workload.now) }
-    ensures found { IfOk result (λ x. (fault : Fault) → has_fault x.found fault ≡ true → IsSomewhere workload.now fault) }
-    ensures cut { IfOk result (λ x. x.whole ≡ false → IsCutShort workload.now config.now most_states first x.states) }
+    ensures found { IfOk result (λ x. (fault : Fault) → has_fault x.found fault ≡ true →
+        IsSomewhere workload.now fault) }
+    ensures cut { IfOk result (λ x. x.whole ≡ false →
+        IsCutShort workload.now config.now most_states first x.states) }
+    ensures leads { IfOk result (λ x. (fault : Fault) → IfSome (turns_for x.schedules fault)
+        (LeadsTo workload.now.bounds (all_scripts workload.now) fault)) }
+    ensures each { IfOk result (λ x. x.whole ≡ true → (fault : Fault) → has_fault x.found fault ≡
+        true → IsTrue (is_some (turns_for x.schedules fault))) }
+    ensures count { IfOk result (λ x. length workload.now.bodies ≡ workload.now.bounds.threads) }
     ensures states { IfOk result (λ x. x.states ≤ most_states) }
     ensures memory { OnErr result GrowthRefused }
 {

@@ -1,11 +1,14 @@
 //! What was found is replayed before it is told.
-ghost use Rattle.std.specs.Prelude.{◌≡◌, ◌++◌, ◌∷◌, [], true, false, IsFalse, IfNone, IfOk, IfSome, OnErr};
+ghost use Rattle.std.specs.Prelude.{◌≡◌, ◌++◌, ◌∷◌, [], true, false, length, IsFalse, IfNone, IfOk, IfSome, OnErr};
 ghost use Rattle.velo_events.specs.Refusals.{GrowthRefused};
 ghost use Rattle.velo_worker.specs.declared.ending.Ending.TheVariants.{Refused};
 ghost use Rattle.velo_worker.specs.Schedule.{Replays};
 ghost use Rattle.velo_schedules.specs.Logs.{AlwaysSerializable, NeverStuck, NeverRefused, ends_refused, is_for_room};
 ghost use Rattle.velo_schedules.specs.Told.{AlarmTold, IsOutcome, StuckTold, RefusalTold, ShowsRefusal};
-ghost use Rattle.velo_schedules.specs.Told.{LacksAlarm, LacksRefusal, LacksRefusals, LacksStuck, OnOpen, OnOpenRefusal};
+ghost use Rattle.velo_schedules.specs.Told.{IsMissed, LacksRefusal, OnOpen, OnOpenRefusal};
+ghost use Rattle.velo_schedules.specs.Bodies.{all_scripts};
+ghost use Rattle.velo_explore.specs.Faults.{Cycle, Stuck, Refusing};
+ghost use Rattle.velo_explore.specs.Trail.{LeadsTo};
 ghost use Rattle.velo_schedules.specs.declared.finding.Finding.TheVariants.{Never};
 ghost use Rattle.velo_schedules.specs.declared.finding.RefusalFinding.TheVariants as refusals;
 
@@ -81,9 +84,12 @@ pub(crate) fn tell_alarm(
 ) -> Result<Finding, Memory>
     requires bounds { config.bounds ≡ workload.now.bounds }
     requires ruled_out { ruled_out ≡ true → AlwaysSerializable workload.now }
+    requires leads { IfSome found
+        (λ turns. LeadsTo workload.now.bounds (all_scripts workload.now) Cycle turns.items) }
     ensures told { IfOk result (AlarmTold workload.now config) }
     ensures never { IfOk result (λ f. ruled_out ≡ true → f ≡ Never) }
-    ensures lacks { IfOk result (λ f. OnOpen f ((ruled_out ≡ false) × IfSome found (λ turns. LacksAlarm workload.now config turns.items))) }
+    ensures missed { IfOk result (λ f. OnOpen f ((ruled_out ≡ false) × IfSome found
+        (λ turns. IsMissed workload.now config Cycle))) }
     ensures memory { OnErr result GrowthRefused }
 {
     if ruled_out {
@@ -109,10 +115,14 @@ pub(crate) fn tell_stuck(
     found: Option<Vec<ThreadId>>,
 ) -> Result<Finding, Memory>
     requires bounds { config.bounds ≡ workload.now.bounds }
+    requires count { length workload.now.bodies ≡ workload.now.bounds.threads }
     requires ruled_out { ruled_out ≡ true → NeverStuck workload.now }
+    requires leads { IfSome found
+        (λ turns. LeadsTo workload.now.bounds (all_scripts workload.now) Stuck turns.items) }
     ensures told { IfOk result (StuckTold workload.now config) }
     ensures never { IfOk result (λ f. ruled_out ≡ true → f ≡ Never) }
-    ensures lacks { IfOk result (λ f. OnOpen f ((ruled_out ≡ false) × IfSome found (λ turns. LacksStuck workload.now config turns.items))) }
+    ensures missed { IfOk result (λ f. OnOpen f ((ruled_out ≡ false) × IfSome found
+        (λ turns. IsMissed workload.now config Stuck))) }
     ensures memory { OnErr result GrowthRefused }
 {
     if ruled_out {
@@ -179,7 +189,8 @@ fn refused_run(
 ) -> Result<Option<RefusedRun>, Memory>
     requires { config.bounds ≡ workload.now.bounds }
     ensures shows { IfOk result (λ run. IfSome run (ShowsRefusal workload.now config)) }
-    ensures none { IfOk result (λ run. IfNone run (LacksRefusal workload.now config schedule.now thread.0)) }
+    ensures none { IfOk result
+        (λ run. IfNone run (LacksRefusal workload.now config schedule.now thread.0)) }
     ensures memory { OnErr result GrowthRefused }
 {
     let schedule = with_turn(alloc, schedule, thread)?;
@@ -205,9 +216,12 @@ pub(crate) fn tell_refused(
 ) -> Result<RefusalFinding, Memory>
     requires bounds { config.bounds ≡ workload.now.bounds }
     requires ruled_out { ruled_out ≡ true → NeverRefused workload.now }
+    requires leads { IfSome found
+        (λ turns. LeadsTo workload.now.bounds (all_scripts workload.now) Refusing turns.items) }
     ensures told { IfOk result (RefusalTold workload.now config) }
     ensures never { IfOk result (λ f. ruled_out ≡ true → f ≡ refusals.Never) }
-    ensures lacks { IfOk result (λ f. OnOpenRefusal f ((ruled_out ≡ false) × IfSome found (λ turns. LacksRefusals workload.now config turns.items))) }
+    ensures missed { IfOk result (λ f. OnOpenRefusal f ((ruled_out ≡ false) × IfSome found
+        (λ turns. IsMissed workload.now config Refusing))) }
     ensures memory { OnErr result GrowthRefused }
 {
     if ruled_out {

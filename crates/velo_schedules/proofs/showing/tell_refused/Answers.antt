@@ -2,7 +2,11 @@ use Rattle.std.proofs.Common.{◌≡◌, sym, ap, subst, arith, ⊎_elim}
 use Rattle.std.specs.Prelude.{IfNone, IfSome}
 use Rattle.std.proofs.lemmas.Bool.{cases_lt}
 use Rattle.velo_events.specs.declared.config.Bounds.{Bounds}
-use Rattle.velo_schedules.specs.Told.{LacksRefusal, LacksRefusals}
+use Rattle.velo_explore.specs.Faults.{Refusing}
+use Rattle.velo_explore.specs.Trail.{LeadsTo}
+use Rattle.velo_schedules.specs.Bodies.{all_scripts}
+use Rattle.velo_schedules.specs.Told.{LacksRefusal, IsMissed}
+use Rattle.velo_schedules.proofs.OnShown.{missed-refusal}
 use Rattle.velo_schedules.proofs.showing.tell_refused.Goals as goal
 
 pub returns-then-ruled_out-clause-told : goal.returns-then-ruled_out-clause-told
@@ -18,11 +22,13 @@ loop-thread-preserved c = λ t l.
     (subst (λ turns. LacksRefusal program c.args.config turns c.loop-thread.thread) c.deref.ensures.value none))
     (cases_lt t c.loop-thread.thread)
 
-pub returns-clause-lacks : goal.returns-clause-lacks
-returns-clause-lacks c =
+pub returns-clause-missed : goal.returns-clause-missed
+returns-clause-missed c =
+    let program = c.args.workload.now in
     let threads = ap (λ (b : Bounds). b.threads) c.bounds-thread-end.ensures.bounds in
-    let all : c.loop-thread.thread ≡ c.args.workload.now.bounds.threads = omega (arith, c.loop-thread-test.false, c.loop-thread.auto.thread-end, threads) in (
+    let all : c.loop-thread.thread ≡ program.bounds.threads = omega (arith, c.loop-thread-test.false, c.loop-thread.auto.thread-end, threads) in
+    let leads = subst (λ o. IfSome o (λ turns. LeadsTo program.bounds (all_scripts program) Refusing turns.items)) c.in-Some.is c.requires.leads in (
       c.if-ruled_out.false,
-      subst (λ o. IfSome o (λ turns. LacksRefusals c.args.workload.now c.args.config turns.items)) (sym c.in-Some.is)
-          (record { each = λ t l. c.loop-thread.invariant t (omega (arith, l, all)) }),
+      subst (λ o. IfSome o (λ turns. IsMissed program c.args.config Refusing)) (sym c.in-Some.is)
+          (missed-refusal program c.args.config c.requires.bounds c.in-Some.schedule.items (λ t l. c.loop-thread.invariant t (omega (arith, l, all))) leads),
     )
