@@ -113,6 +113,10 @@ CASES = [
     touches("sendmsg", "int d[2]; if (socketpair(AF_UNIX, SOCK_STREAM, 0, d)) abort(); struct iovec v = {p, 4}; struct msghdr h = {.msg_iov = &v, .msg_iovlen = 1}; if (sendmsg(d[0], &h, 0) != 4) abort();", "rd"),
     touches("recvmsg", "int d[2]; if (socketpair(AF_UNIX, SOCK_STREAM, 0, d)) abort(); struct iovec v = {p, 4}; struct msghdr h = {.msg_iov = &v, .msg_iovlen = 1}; if (send(d[0], \"text\", 4, 0) != 4 || recvmsg(d[1], &h, 0) != 4) abort();", "wr"),
     touches("fwrite, fread", "FILE *t = tmpfile(); if (fwrite(p, 1, 9, t) != 9) abort(); rewind(t); if (fread(p, 1, 9, t) != 9) abort(); fclose(t);", "rd wr"),
+    ("fields by DWARF", "struct inner { char c; int of[3]; union { long l; int i[2]; } u; }; struct { int first; struct inner in[2]; long matrix[2][3]; pthread_mutex_t m; } server; struct { struct { int x; } *next; int v; } list; int grid[3][4]; "
+     "void f(void) { server.first++; server.in[1].of[2]++; server.in[0].u.l++; server.matrix[1][2]++; list.v++; grid[2][1]++; ((char *volatile)&grid[1][0])[1]++; pthread_mutex_lock(&server.m); pthread_mutex_unlock(&server.m); } void g(void) { f(); }", ALL,
+     lambda log, names, out: [n.split(" ", 2)[2] for n in names.splitlines() if n[0] in "vl" and "label" not in n] ==
+     ["server.first", "server.in[1].of[2]", "server.in[0].u.l", "server.matrix[1][2]", "list.v", "grid[2][1]", "grid[1][0]+1", "server.m"]),
     ("names of threads", "static int x; void f(void) { pthread_setname_np(pthread_self(), \"worker 1\"); x = 1; } void g(void) { x++; }", ALL, lambda log, names, out: "thread 1 worker 1\n" in names),
     ("routines of threads", "static int x; void f(void) { x = 1; } void g(void) { x++; }", ALL, lambda log, names, out: "thread 1 routine\n" in names),
 ]
