@@ -60,6 +60,7 @@ struct self {
     u64 allocates;             // operator new: who called it
     void *writes[64];          // reader-writer locks that it holds alone
     int nwrites;
+    struct self *unused;       // a list of those whose threads have ended
     u64 chance;                // of noise
     u64 code_low, code_bytes;  // of the module whose block began last
     struct frame frame[DEEP];
@@ -176,6 +177,7 @@ void begin_thread(struct self *t, u64 routine);
 void hide_thread(void);
 u32 thread_number(void);
 u32 thread_of_tid(int tid); // plus one
+int is_asleep(u32 id);
 
 // ---- repeats
 // Whether an access does what the thread's last event did, with no other thread at the line since: it has no edge that this

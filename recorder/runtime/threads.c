@@ -1,7 +1,9 @@
 // Threads: their start, end, joins, names and cancellation.
 #include "runtime.h"
 #include <errno.h>
+#include <fcntl.h>
 #include <stdarg.h>
+#include <stdio.h>
 #include <stdlib.h>
 #include <string.h>
 #include <sys/mman.h>
@@ -15,6 +17,7 @@ __thread struct self *own;
 static struct self nobody = {.busy = 2}; // of threads that are not recorded
 static struct {
     pthread_t handle;
+    struct self *self; // its memory is given to other threads, and never back
     int tid;
     u32 clock; // at its end
     u8 there, ended;
@@ -23,8 +26,23 @@ static u32 born;
 static pthread_key_t last_key;
 
 u32 thread_number(void) { return __atomic_fetch_add(&born, 1, __ATOMIC_SEQ_CST); }
+static struct self *unused;
+static int unused_guard;
+static struct self *take_unused(void) {
+    while (__atomic_exchange_n(&unused_guard, 1, __ATOMIC_ACQUIRE)) syscall(SYS_sched_yield);
+    struct self *t = unused;
+    if (t) unused = t->unused;
+    STORE(unused_guard, 0);
+    if (t) memset(t, 0, offsetof(struct self, frame));
+    return t ? t : mmap(0, sizeof *t, PROT_READ | PROT_WRITE, MAP_PRIVATE | MAP_ANONYMOUS, -1, 0);
+}
+static void give_unused(struct self *t) {
+    while (__atomic_exchange_n(&unused_guard, 1, __ATOMIC_ACQUIRE)) syscall(SYS_sched_yield);
+    t->unused = unused, unused = t;
+    STORE(unused_guard, 0);
+}
 static struct self *new_self(u32 id) {
-    struct self *t = mmap(0, sizeof *t, PROT_READ | PROT_WRITE, MAP_PRIVATE | MAP_ANONYMOUS, -1, 0);
+    struct self *t = take_unused();
     if (t == MAP_FAILED) {
         static int told;
         if (!__atomic_exchange_n(&told, 1, __ATOMIC_RELAXED)) say("no memory for another thread: it is not recorded");
@@ -32,6 +50,7 @@ static struct self *new_self(u32 id) {
         return &nobody;
     }
     t->id = id, t->begun = 1;
+    if (id < KNOWN) STORE(known[id].self, t);
     return t;
 }
 // A thread that came another way than by pthread_create.
@@ -57,6 +76,22 @@ u32 thread_of_tid(int tid) { // plus one
     for (u32 n = LOAD(born) < KNOWN ? LOAD(born) : KNOWN; n > 0; n--)
         if (known[n - 1].tid == tid && !known[n - 1].ended) return n;
     return 0;
+}
+// Whether a thread sleeps in the kernel, outside of the runtime.
+int is_asleep(u32 id) {
+    char path[48], text[256], *end;
+    struct self *t = id < KNOWN ? LOAD(known[id].self) : 0;
+    int tid = t && !LOAD(t->busy) ? known[id].tid : 0;
+    if (!tid) return 0;
+    int e = errno;
+    snprintf(path, sizeof path, "/proc/self/task/%d/stat", tid);
+    int fd = syscall(SYS_openat, AT_FDCWD, path, O_RDONLY | O_CLOEXEC, 0);
+    ssize_t n = fd < 0 ? 0 : syscall(SYS_read, fd, text, sizeof text - 1);
+    if (fd >= 0) syscall(SYS_close, fd);
+    errno = e;
+    text[n > 0 ? n : 0] = 0;
+    end = strrchr(text, ')'); // behind its name
+    return end && end[1] == ' ' && end[2] == 'S' && !LOAD(t->busy) && t->id == id;
 }
 static void know(u32 id, pthread_t p) {
     static int told;
@@ -96,7 +131,7 @@ static void last_destructor(void *round) { // behind the program's own
     t->busy = 2;
     turns_end(t);
     own = &nobody;
-    munmap(t, sizeof *t);
+    give_unused(t);
 }
 struct work {
     void *(*routine)(void *);
@@ -265,6 +300,7 @@ void threads_open(void) {
     struct self *t = own && own != &nobody ? own : new_self(0);
     born = 1, own = t;
     memset(known, 0, sizeof known);
+    known[0].self = t;
     t->id = 0, t->begun = 1, t->next = t->end = 0, t->unread = 0, t->holds = t->spans = 0, t->told = 0, t->clock = 0, t->turns = 0;
     t->high = 0, t->last_epoch = 0, t->code_low = t->code_bytes = 0;
     if (t != &nobody) t->busy = 0;
