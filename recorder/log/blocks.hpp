@@ -1,0 +1,32 @@
+// Which functions are blocks.
+#pragma once
+#include "modules.hpp"
+#include "shared.hpp"
+#include <regex>
+#include <unordered_map>
+
+struct Function {
+    u32 label = ~0u;
+    bool block = false, library = false, waits = false;
+    u64 code = 0, calls = 0;
+    std::string name;
+};
+class Blocks {
+public:
+    explicit Blocks(Modules &modules) : modules_(modules) {}
+    void only(const std::string &file);  // throws std::runtime_error
+    void never(const std::string &file);
+    void find_routines(Trace &trace, Shared &shared);
+    Function *of(const Event &begin); // 0 where it has no name
+    std::vector<std::string> began_as; // of each thread that a library started: its first function of the program
+
+private:
+    bool chosen(const std::string &name) const;
+    Modules &modules_;
+    std::set<std::string> never_ = {"main"}, routines_;
+    std::vector<std::pair<std::string, std::regex>> only_; // a name, or the pattern where that is empty
+    bool some_ = false;
+    std::unordered_map<u64, Function *> by_code_;
+    std::map<std::string, std::unique_ptr<Function>> by_name_;
+};
+bool is_library(const std::string &function);

@@ -1,0 +1,25 @@
+// Noise: before one event in N, by the seed, a thread yields or waits, so that rare schedules come about.
+#include "runtime.h"
+#include <errno.h>
+#include <sys/syscall.h>
+#include <unistd.h>
+
+u64 noise;
+static u64 noise_seed;
+void noise_open(u64 seed) {
+    noise = setting("VELODROME_NOISE", 0);
+    noise_seed = seed;
+}
+void make_noise(struct self *t) {
+    if (!t->chance) t->chance = scramble(noise_seed * 0x10001 + t->id);
+    u64 d = draw(&t->chance);
+    if (d % noise || head->stopped) return;
+    COUNT(noise);
+    int e = errno;
+    d = draw(&t->chance);
+    struct timespec some = {0, (d >> 8) % 300000};
+    if (TURNS(t)) yield_turn(t);
+    else if (d % 4) syscall(SYS_sched_yield);
+    else syscall(SYS_nanosleep, &some, 0);
+    errno = e;
+}

@@ -1,0 +1,252 @@
+// The trace: a file that grows as it is written, mapped into memory, so that what was written stays whatever becomes of
+// the program. It grows by allocated blocks only: a full disk is told here, and never by a signal at a store.
+#include "runtime.h"
+#include <errno.h>
+#include <fcntl.h>
+#include <sched.h>
+#include <stdarg.h>
+#include <stdio.h>
+#include <stdlib.h>
+#include <string.h>
+#include <sys/mman.h>
+#include <sys/resource.h>
+#include <sys/stat.h>
+#include <sys/syscall.h>
+#include <unistd.h>
+
+#define STEP (4u << 20)  // the file grows by so many bytes
+#define MOST 0xf0000000u // records: a stamp has 32 bits
+int on, mode, values;
+struct head *head;
+u32 memory_clock;
+static struct record *records;
+static char base[3800], path[4096];
+static u64 room, mapped; // bytes that are allocated; that are mapped
+static dev_t device;
+static ino_t inode;
+static int growing;
+
+void say(const char *format, ...) {
+    char text[600] = "velodrome: ";
+    va_list l;
+    int e = errno;
+    va_start(l, format);
+    vsnprintf(text + 11, sizeof text - 12, format, l);
+    va_end(l);
+    strcat(text, "\n");
+    ssize_t n = syscall(SYS_write, 2, text, strlen(text));
+    (void)n;
+    errno = e;
+}
+
+// ---- the file
+static int allocate(int fd, u64 from, u64 n) {
+    long r = syscall(SYS_fallocate, fd, 0, from, n);
+    if (!r) return 0;
+    if (errno != EOPNOTSUPP && errno != ENOSYS) return -1;
+    static const char zeros[4096];
+    for (u64 at = from; at < from + n; at += sizeof zeros)
+        if (syscall(SYS_pwrite64, fd, zeros, sizeof zeros, at) != sizeof zeros) return -1;
+    return 0;
+}
+// The file is opened anew each time: a program may close every descriptor that it finds.
+static int grow(void) {
+    struct stat s;
+    int e = errno, fd = syscall(SYS_openat, AT_FDCWD, path, O_RDWR | O_CLOEXEC, 0);
+    u64 n = room + STEP > mapped ? mapped - room : STEP;
+    int ok = fd >= 0 && !fstat(fd, &s) && s.st_dev == device && s.st_ino == inode && !allocate(fd, room, n);
+    if (fd >= 0) syscall(SYS_close, fd);
+    if (ok) STORE(room, room + n);
+    errno = e;
+    return ok;
+}
+static int has_room(u64 bytes) {
+    while (LOAD(room) < bytes) {
+        if (__atomic_exchange_n(&growing, 1, __ATOMIC_ACQUIRE)) {
+            syscall(SYS_sched_yield);
+            continue;
+        }
+        int ok = room >= bytes || grow();
+        STORE(growing, 0);
+        if (!ok) return 0;
+    }
+    return 1;
+}
+static u64 most_records(void) {
+    struct rlimit limit;
+    u64 most = setting("VELODROME_MOST", 64000000);
+    if (most > MOST) most = MOST;
+    if (!getrlimit(RLIMIT_FSIZE, &limit) && limit.rlim_cur != RLIM_INFINITY) {
+        u64 fit = limit.rlim_cur > 2 * HEAD_BYTES ? (limit.rlim_cur - HEAD_BYTES) / sizeof(struct record) : 0;
+        if (most > fit) most = fit; // past it a signal would come
+    }
+    return most;
+}
+static void absolute(char *to, size_t n, const char *name) {
+    char folder[2000];
+    if (*name == '/' || !getcwd(folder, sizeof folder)) snprintf(to, n, "%s", name);
+    else snprintf(to, n, "%s/%s", folder, name);
+}
+int trace_open(void) {
+    struct stat s;
+    if (!*base) absolute(base, sizeof base, getenv("VELODROME_OUT"));
+    snprintf(path, sizeof path, "%s.%d", base, (int)getpid());
+    u64 most = most_records() / CHUNK * CHUNK;
+    int fd = open(path, O_RDWR | O_CREAT | O_TRUNC | O_CLOEXEC, 0644);
+    if (fd < 0 || fstat(fd, &s)) {
+        say("nothing is recorded: %s: %s", path, strerror(errno));
+        return 0;
+    }
+    device = s.st_dev, inode = s.st_ino, room = 0, growing = 0;
+    mapped = HEAD_BYTES + most * sizeof(struct record);
+    char *p = mmap(0, mapped, PROT_READ | PROT_WRITE, MAP_SHARED | MAP_NORESERVE, fd, 0);
+    if (p == MAP_FAILED || !has_room(HEAD_BYTES)) {
+        say("nothing is recorded: %s: %s", path, strerror(errno));
+        if (p != MAP_FAILED) munmap(p, mapped);
+        close(fd);
+        return 0;
+    }
+    close(fd);
+    head = (struct head *)p, records = (struct record *)(p + HEAD_BYTES);
+    *head = (struct head){.magic = MAGIC, .mode = mode, .values = values, .most = most};
+    char maps[4200];
+    snprintf(maps, sizeof maps, "%s.maps", path);
+    unlink(maps);
+    trace_maps();
+    return 1;
+}
+// At the program's end. Other threads may still be in a hook: a few chunks more stay.
+void trace_close(void) {
+    u64 none = GOES_ON;
+    trace_maps();
+    if (mode == SERIAL) return; // threads that go on still take turns
+    STORE(on, 0);
+    __atomic_compare_exchange_n(&head->stopped, &none, (u64)ENDED, 0, __ATOMIC_SEQ_CST, __ATOMIC_RELAXED);
+    u64 used = HEAD_BYTES + (LOAD(head->chunks) + 8) * CHUNK * sizeof(struct record);
+    if (used < LOAD(room) && truncate(path, used)) return; // what stays is zeros
+}
+void trace_leave(void) {
+    if (head) munmap(head, mapped);
+    head = 0, records = 0;
+}
+// What is mapped where, for names and lines. Each time is appended: a module may be gone by the end.
+static struct { u64 low, high; } code[256]; // mapped code that was noted
+static u32 codes;
+static const char *hex(const char *s, u64 *n) {
+    for (*n = 0;; s++) {
+        if (*s >= '0' && *s <= '9') *n = *n << 4 | (*s - '0');
+        else if (*s >= 'a' && *s <= 'f') *n = *n << 4 | (*s - 'a' + 10);
+        else return s;
+    }
+}
+static void note_code(const char *line) { // LOW-HIGH rwxp ..
+    u64 low, high;
+    line = hex(line, &low);
+    if (*line++ != '-') return;
+    line = hex(line, &high);
+    if (line[0] != ' ' || line[3] != 'x' || codes == 256) return;
+    code[codes].low = low, code[codes].high = high;
+    STORE(codes, codes + 1);
+}
+static void copy_maps(int from, int to) {
+    static char text[16384];
+    ssize_t n;
+    char line[40];
+    u32 at = 0;
+    STORE(codes, 0);
+    while ((n = syscall(SYS_read, from, text, sizeof text)) > 0) {
+        if (syscall(SYS_write, to, text, n) != n) return;
+        for (ssize_t i = 0; i < n; i++) {
+            if (at < sizeof line - 1) line[at++] = text[i];
+            if (text[i] != '\n') continue;
+            line[at] = 0, at = 0;
+            note_code(line);
+        }
+    }
+}
+void trace_maps(void) {
+    static int busy;
+    char name[4200];
+    int e = errno;
+    if (__atomic_exchange_n(&busy, 1, __ATOMIC_ACQUIRE)) return;
+    snprintf(name, sizeof name, "%s.maps", path);
+    int from = syscall(SYS_openat, AT_FDCWD, "/proc/self/maps", O_RDONLY | O_CLOEXEC, 0);
+    int to = syscall(SYS_openat, AT_FDCWD, name, O_WRONLY | O_CREAT | O_APPEND | O_CLOEXEC, 0644);
+    if (from >= 0 && to >= 0) copy_maps(from, to);
+    if (from >= 0) syscall(SYS_close, from);
+    if (to >= 0) syscall(SYS_close, to);
+    errno = e;
+    STORE(busy, 0);
+}
+// Code that was not there when the modules were noted is of a library that was loaded since.
+static void look_for_module(struct self *t, u64 at) {
+    static u32 times;
+    for (int again = 0; again < 2; again++) {
+        for (u32 i = 0, n = LOAD(codes); i < n; i++)
+            if (at >= code[i].low && at < code[i].high) {
+                t->code_low = code[i].low, t->code_bytes = code[i].high - code[i].low;
+                return;
+            }
+        if (again || __atomic_add_fetch(&times, 1, __ATOMIC_RELAXED) > 1000) return;
+        trace_maps();
+    }
+}
+void trace_stop(enum stop why) {
+    static const char *const reason[] = {"", "the trace is full (VELODROME_MOST)", "no room for the trace on its disk", ""};
+    u64 none = GOES_ON;
+    if (!__atomic_compare_exchange_n(&head->stopped, &none, (u64)why, 0, __ATOMIC_SEQ_CST, __ATOMIC_RELAXED)) return;
+    if (mode != SERIAL) STORE(on, 0); // by turns the program goes on by turns, without a record
+    say("%s: the recording stops here, the program goes on", reason[why]);
+}
+
+// ---- records
+static int open_chunk(struct self *t) {
+    if (head->stopped) return 0;
+    if (!t->begun) t->id = thread_number(), t->begun = 1;
+    u64 n = __atomic_fetch_add(&head->chunks, 1, __ATOMIC_RELAXED);
+    u64 end = (n + 1) * CHUNK;
+    int fits = end <= head->most;
+    if (!fits || !has_room(HEAD_BYTES + end * sizeof(struct record))) {
+        __atomic_fetch_sub(&head->chunks, 1, __ATOMIC_RELAXED);
+        trace_stop(fits ? NO_SPACE : FULL);
+        return 0;
+    }
+    struct record *r = records + n * CHUNK;
+    r->where = t->high;
+    STORE(r->what, (u64)t->id + 1);
+    t->next = r + 1, t->end = r + CHUNK;
+    return 1;
+}
+static inline struct record *write_record(struct self *t, u64 what, u64 where) {
+    struct record *r = t->next++;
+    r->where = where;
+    STORE(r->what, what);
+    return r;
+}
+static inline u64 word(int kind, unsigned size, u64 at) { return at << 16 | (u64)(kind >> 8) << 13 | (u64)size << 5 | (kind & 31); }
+// A record of the thread's stamp, with room for two MORE behind it.
+struct record *record(struct self *t, int kind, unsigned size, u64 at, u64 code) {
+    if (unlikely(t->end - t->next < 4) && !open_chunk(t)) return 0;
+    if (unlikely(code >> 32 != t->high)) {
+        t->high = code >> 32;
+        write_record(t, word(HIGH, 0, t->high), 0);
+    }
+    return write_record(t, word(kind, size, at), (u64)t->clock << 32 | (u32)code);
+}
+void more(struct self *t, int flags, u64 number) { write_record(t, word(MORE | flags << 8, 0, 0), number); }
+
+static int tell_begins(struct self *t) {
+    while (t->told < t->depth && t->told < DEEP) {
+        struct frame *f = &t->frame[t->told++];
+        if (t->end - t->next < 4 && !open_chunk(t)) return 0;
+        f->begun = write_record(t, word(f->at ? BEGIN : NAMED, 0, f->from), f->function);
+        if (f->at && unlikely(f->function - t->code_low >= t->code_bytes)) look_for_module(t, f->function);
+    }
+    return 1;
+}
+// An event in the open blocks, whose begins are written first. Its stamp is taken already.
+struct record *event(struct self *t, int kind, unsigned size, u64 at, u64 code) {
+    if (t->told < t->depth && !tell_begins(t)) return 0;
+    t->epoch++;
+    return record(t, kind, size, at, code);
+}
