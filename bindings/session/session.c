@@ -13,7 +13,7 @@
 #define SEATS 4              /* sessions that one thread acts in at a time */
 #define DEPTH 32             /* blocks that are told; the outermost decide */
 #define THREADS VELODROME_MOST_THREADS
-#define NAME_BYTES 180       /* with an ordinal it fits a names file */
+#define NAME_BYTES 150       /* with a kind, a line and an ordinal it fits a names file */
 #define NUMBER_BITS 20       /* of a tag; the rest is the epoch */
 #define NOT_TOLD UINT32_MAX
 
@@ -68,6 +68,8 @@ typedef struct slot {
     _Atomic uint64_t last;     /* the epoch: of the numbers in tags since the last cut, from id on */
     _Atomic uintptr_t keeper;  /* the thread that holds `order`, how often */
     _Atomic bool recording;
+    _Atomic bool crowded;      /* it can only be cut once the open blocks have ended */
+    _Atomic bool in_hook;
     _Atomic bool missed;       /* an event, since its lock could not be had */
     _Atomic uint32_t noise;
     uint32_t held;
@@ -108,7 +110,7 @@ uint32_t vs_recording;
 /* ---- what a thread has */
 
 typedef struct seat {
-    uint64_t id, who, epoch, random;
+    uint64_t id, who, epoch, random, waited;
     uint8_t number;
     int told; /* how many of its blocks */
 } seat;
@@ -122,6 +124,7 @@ struct vs_self {
 
 static _Thread_local struct vs_self itself;
 static _Thread_local int kept_slots;
+static _Thread_local uint64_t hooking; /* the session whose hook this thread is in */
 static _Thread_local struct vs_self *acting;
 static struct vs_self *self(void) { return acting ? acting : &itself; }
 
@@ -171,8 +174,11 @@ static bool keep(slot *s) {
     return true;
 }
 
-static void call_hook(void (*hook)(void *, const vs_alarm *), void *data, finding *found) {
-    if (hook) hook(data, &found->alarm);
+static void call_hook(slot *s, void (*hook)(void *, const vs_alarm *), void *data, finding *found) {
+    hooking = found->alarm.session;
+    hook(data, &found->alarm);
+    hooking = 0;
+    s->in_hook = false;
     for (int i = 0; i < 2; i++)
         for (int k = 0; k < 3; k++) free(found->words[i][k]);
     free(found->report);
@@ -188,7 +194,7 @@ static void let_go(slot *s) {
     kept_slots--;
     atomic_store_explicit(&s->keeper, 0, memory_order_relaxed);
     pthread_mutex_unlock(&s->order);
-    if (found) call_hook(hook, data, found);
+    if (found) call_hook(s, hook, data, found);
 }
 
 /* The slot of the session, kept; NULL where it is not open. */
@@ -229,13 +235,23 @@ static bool has_room(void *list, uint32_t *room, uint32_t count, size_t each) {
 
 /* ---- names */
 
-/* One line of a names file: no control characters, never empty, no character cut in two. */
+/* One line of a names file: no control characters, no character cut in two. */
 static size_t cleaned(const char *name, char *text) {
     size_t n = 0;
-    for (; name && name[n] && n < NAME_BYTES; n++) text[n] = (unsigned char)name[n] < 32 || name[n] == 127 ? ' ' : name[n];
+    for (; name[n] && n < NAME_BYTES; n++) text[n] = (unsigned char)name[n] < 32 || name[n] == 127 ? ' ' : name[n];
     while (n && name[n] && ((unsigned char)name[n] & 0xc0) == 0x80) n--;
     text[n] = 0;
-    return n ? n : (size_t)sprintf(text, "unnamed");
+    return n;
+}
+
+/* The name of an object, or where it was declared. */
+static size_t name_of(const vs_object *o, const char *kind, char *text) {
+    if (!o->name || !*o->name) return (size_t)sprintf(text, "unnamed %s", kind);
+    if (!o->line) return cleaned(o->name, text);
+    const char *slash = strrchr(o->name, '/');
+    size_t n = (size_t)sprintf(text, "%s at ", kind);
+    n += cleaned(slash ? slash + 1 : o->name, text + n);
+    return n + (size_t)sprintf(text + n, ":%llu", (unsigned long long)o->line);
 }
 
 static uint32_t hash_of(const char *text) {
@@ -263,10 +279,8 @@ static bool grow_words(slot *s) {
     return true;
 }
 
-/* The word of a name; NULL where there is no memory. */
-static word *word_of(slot *s, const char *name) {
-    char text[256];
-    size_t bytes = cleaned(name, text);
+/* The word of a text; NULL where there is no memory. */
+static word *word_with(slot *s, const char *text, size_t bytes) {
     if (!grow_words(s)) return NULL;
     uint32_t *place = find_word(s, text);
     if (!*place) {
@@ -277,6 +291,12 @@ static word *word_of(slot *s, const char *name) {
         *place = s->word_count;
     }
     return &s->words[*place - 1];
+}
+
+static word *word_of(slot *s, const vs_object *o, const char *kind) {
+    char text[256];
+    size_t bytes = name_of(o, kind, text);
+    return word_with(s, text, bytes);
 }
 
 static bool add_name(slot *s, names *list, word *w, uint32_t nth) {
@@ -524,6 +544,7 @@ static void alarm_found(slot *s) {
         found->report = s->report ? strdup(s->report) : NULL;
         found->alarm.report = found->report ? found->report : "";
         if (text) fill_sides(s, found, text);
+        s->in_hook = true;
         s->found = found;
     }
     free(text);
@@ -591,6 +612,7 @@ static void next_piece(slot *s) {
     atomic_store(&s->last, epoch(s) + SLOTS);
     s->threads = 1;
     s->open = s->events = 0;
+    s->crowded = false;
 }
 
 static uint32_t open_handle(slot *s) {
@@ -665,7 +687,7 @@ static bool renew(slot *s) {
     next_piece(s);
     if (open_handle(s)) stop(s, "out of memory");
     for (uint32_t i = 0; i < count; i++) {
-        word *w = s->why[0] ? NULL : word_of(s, list[i].name);
+        word *w = s->why[0] ? NULL : word_with(s, list[i].name, strlen(list[i].name));
         uint32_t lock = s->why[0] ? NOT_TOLD : add_lock(s, w, list[i].nth);
         if (lock == NOT_TOLD) free(list[i].hold.share);
         else {
@@ -691,7 +713,9 @@ static void make_room(slot *s, uint32_t used, uint32_t limit) {
 }
 
 static void make_room_for_events(slot *s) {
-    if (s->events >= s->most - s->most / 4 && !s->open) renew(s);
+    if (s->events < s->most - s->most / 4) return;
+    if (!s->open) renew(s);
+    else if (s->events >= s->most - s->most / 8) s->crowded = true;
 }
 
 /* ---- who acts */
@@ -747,7 +771,7 @@ static seat *seat_of(slot *s) {
 static uint32_t label_number(slot *s, vs_object *label) {
     uint64_t tag = tag_of(label);
     if (epoch_of(tag) == epoch(s)) return tag & ((1u << NUMBER_BITS) - 1);
-    word *w = word_of(s, label->name);
+    word *w = word_of(s, label, "block");
     if (!w || (!w->label && (s->label.count >> NUMBER_BITS || !add_name(s, &s->label, w, 1)))) {
         stop(s, "out of memory");
         return NOT_TOLD;
@@ -784,6 +808,7 @@ static void end_in(seat *t) {
     if (t->epoch == epoch(s)) {
         if (!t->told) s->open--;
         if (s->recording) told(s, velodrome_end(&s->handle, t->number, &a), &a, NULL);
+        if (s->recording) make_room_for_events(s);
     }
     let_go(s);
 }
@@ -812,7 +837,7 @@ static uint32_t variable_number(slot *s, vs_object *o) {
         stop(s, "more than %u variables while a block was open", s->variables);
         return NOT_TOLD;
     }
-    word *w = word_of(s, o->name);
+    word *w = word_of(s, o, "variable");
     if (!w || !add_name(s, &s->variable, w, ++w->met[0])) {
         stop(s, "out of memory");
         return NOT_TOLD;
@@ -842,7 +867,7 @@ static uint32_t lock_number(slot *s, vs_object *o) {
         return NOT_TOLD;
     }
     uint64_t tag = tag_of(o);
-    word *w = word_of(s, o->name);
+    word *w = word_of(s, o, "lock");
     uint32_t number = add_lock(s, w, w ? ++w->met[1] : 0);
     return number != NOT_TOLD && claim(s, o, tag, number) ? number : NOT_TOLD;
 }
@@ -940,10 +965,12 @@ vs_session vs_current(void) {
 void vs_enter(vs_session session) { self()->current = session; }
 
 /* The session `mine` does not see an event of its own thread, since the object is another's. */
-static void miss(uint64_t mine, const char *name) {
+static void miss(uint64_t mine, const vs_object *o) {
+    char name[256];
     slot *s = kept(mine);
     if (!s) return;
-    stop(s, "another session uses %.60s at the same time", name ? name : "an object");
+    name_of(o, "object", name);
+    stop(s, "another session uses %.90s at the same time", name);
     let_go(s);
 }
 
@@ -953,7 +980,7 @@ static uint64_t session_for(vs_object *o) {
     slot *s = slot_of(epoch_of(tag));
     if (!is_of(s, tag)) return mine ? mine : vs_current();
     uint64_t id = atomic_load_explicit(&s->id, memory_order_relaxed);
-    if (mine && id && mine != id) miss(mine, o->name);
+    if (mine && id && mine != id) miss(mine, o);
     return id;
 }
 
@@ -970,12 +997,22 @@ static void disturb(slot *s, uint64_t id) {
     if (drawn % noise == 0) nanosleep(&wait, NULL);
 }
 
+/* A thread without an open block waits for those of others, up to 5 ms once in each piece of the run. */
+static void wait_for_blocks(slot *s, uint64_t id) {
+    struct timespec wait = {0, 100000};
+    seat *t = seat_in(self(), id);
+    if (!t || t->told || t->waited == epoch(s)) return;
+    t->waited = epoch(s);
+    for (int i = 0; i < 50 && s->crowded && s->recording && !is_keeper(s); i++) nanosleep(&wait, NULL);
+}
+
 unsigned vs_before_at(vs_object *o, vs_kind kind, const vs_place *place) {
     if (vs_idle()) return 0;
     uint64_t id = session_for(o);
     slot *s = slot_of(id);
     if (!id || !atomic_load_explicit(&s->recording, memory_order_relaxed)) return 0;
     disturb(s, id);
+    if (atomic_load_explicit(&s->crowded, memory_order_relaxed)) wait_for_blocks(s, id);
     if (!(s = kept(id))) return 0;
     if (s->recording) event(s, o, kind, place);
     return (unsigned)(s - slots) + 1;
@@ -1096,7 +1133,7 @@ static uint64_t open_in(slot *s, const vs_options *o, bool all) {
     set_options(s, o);
     s->earlier = s->born = 0;
     s->why[0] = 0;
-    s->alarmed = s->missed = false;
+    s->alarmed = s->missed = s->in_hook = false;
     next_piece(s);
     if (open_handle(s)) return 0;
     s->outer = entered();
@@ -1172,7 +1209,14 @@ static char *report_of(slot *s) {
     return asprintf(&text, "recording stopped after %llu events: %s. Nothing is said of what came then\n", (unsigned long long)(s->earlier + s->events), s->why) < 0 ? NULL : text;
 }
 
+static void wait_for_hook(vs_session session) {
+    struct timespec wait = {0, 1000000};
+    if (hooking == session || is_keeper(slot_of(session))) return;
+    while (is_open(session) && slot_of(session)->in_hook) nanosleep(&wait, NULL);
+}
+
 vs_verdict vs_close(vs_session session, char **report) {
+    wait_for_hook(session);
     slot *s = kept(session);
     if (report) *report = NULL;
     if (!s) return VS_INCOMPLETE;

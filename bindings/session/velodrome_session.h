@@ -24,13 +24,14 @@ extern "C" {
 typedef uint64_t vs_session;
 
 /* Stands in each variable and each lock, and for each label. It is its own identity: it is neither copied nor moved once it was
- * used. The tag is zero at first and the session's then; the name is for people, may be null or the same for many, and may go
- * with the object. */
+ * used. The tag is zero at first and the session's then. The name is for people, may be null or the same for many, and may go
+ * with the object. Where the line is not 0, the name is that of the source file in which the object was declared. */
 typedef struct vs_object {
     uint64_t tag;
     const char *name;
+    uint64_t line;
 } vs_object;
-#define VS_OBJECT(name) { 0, name }
+#define VS_OBJECT(name) { 0, name, 0 }
 
 typedef enum vs_kind {
     VS_READ = 0,
@@ -75,7 +76,8 @@ typedef struct vs_options {
     uint16_t locks;     /* 0: 4,096 */
     uint32_t noise;     /* one event in so many waits up to 200 us before it happens; 0: none */
     uint64_t seed;      /* which ones; 0: by the clock */
-    void (*alarm)(void *data, const vs_alarm *alarm); /* called once, in the thread of the event, behind it; may be null */
+    void (*alarm)(void *data, const vs_alarm *alarm); /* called once, in the thread of the event, behind it; may be null.
+                                                         Another thread's vs_close waits for its return */
     void *data;
 } vs_options;
 
