@@ -76,6 +76,8 @@ pub struct vs_options {
     pub alarm: Option<unsafe extern "C" fn(data: *mut c_void, alarm: *const c_void)>,
     /// For `alarm`.
     pub data: *mut c_void,
+    /// How a thread waits.
+    pub wait: Option<unsafe extern "C" fn(nanoseconds: u32)>,
 }
 
 impl vs_options {
@@ -88,6 +90,7 @@ impl vs_options {
         seed: 0,
         alarm: None,
         data: core::ptr::null_mut(),
+        wait: None,
     };
 }
 
@@ -135,6 +138,8 @@ extern "C" {
     pub fn vs_enter(session: vs_session);
     /// The session of this thread.
     pub fn vs_current() -> vs_session;
+    /// Ends the recording of this thread's session.
+    pub fn vs_stop(why: *const c_char);
     /// Takes the session's lock, and tells nothing.
     pub fn vs_hold(object: *const vs_object) -> c_uint;
     /// Takes the session's lock, and tells an access.
