@@ -346,10 +346,7 @@ static int field_set(field *self, PyObject *instance, PyObject *value) {
     return failed;
 }
 
-static PyMethodDef field_methods[] = {
-    {"__set_name__", (PyCFunction)field_set_name, METH_VARARGS, NULL},
-    {"__class_getitem__", Py_GenericAlias, METH_O | METH_CLASS, NULL},
-    {NULL, NULL, 0, NULL}};
+static PyMethodDef field_methods[] = {{"__set_name__", (PyCFunction)field_set_name, METH_VARARGS, NULL}, {NULL, NULL, 0, NULL}};
 
 static PyType_Slot field_slots[] = {
     {Py_tp_doc, "field(default=...)\n--\n\nAn attribute whose reads and writes are events, a variable of its own in each instance."},
