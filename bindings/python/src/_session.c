@@ -7,8 +7,14 @@
 #include <time.h>
 #include "velodrome_session.h"
 
-/* Python 3.9 has it too, but outside its stable ABI. */
+/* Python 3.9 has these too, but outside its stable ABI. */
 PyAPI_FUNC(const char *) PyUnicode_AsUTF8AndSize(PyObject *text, Py_ssize_t *bytes);
+#ifndef METH_FASTCALL
+#define METH_FASTCALL 0x0080
+#endif
+
+/* From Python 3.11 on; null before. */
+extern int PyFrame_GetLasti(PyFrameObject *frame) __attribute__((weak));
 
 #define MOST_CODES (1u << 16) /* code objects whose files are remembered; events of others have no place */
 #define CO_OF_TASK (0x80 | 0x200) /* the flags of a coroutine and of an asynchronous generator */
@@ -70,10 +76,24 @@ static const code *code_of(PyFrameObject *frame) {
     return known ? entry : NULL;
 }
 
+/* The line of a frame. That of an instruction is kept, as the search for it takes longer than an event. */
+static uint32_t line_of(PyFrameObject *frame, const code *c) {
+    static struct { const PyObject *code; int instruction; uint32_t line; } known[1024];
+    if (!PyFrame_GetLasti) return (uint32_t)PyFrame_GetLineNumber(frame);
+    int instruction = PyFrame_GetLasti(frame);
+    size_t i = ((uintptr_t)c->code >> 5 ^ (unsigned)instruction >> 1) % (sizeof known / sizeof *known);
+    if (known[i].code != c->code || known[i].instruction != instruction) {
+        known[i].code = c->code;
+        known[i].instruction = instruction;
+        known[i].line = (uint32_t)PyFrame_GetLineNumber(frame);
+    }
+    return known[i].line;
+}
+
 static bool place_of(PyFrameObject *frame, vs_place *place) {
     const code *c = frame ? code_of(frame) : NULL;
     if (!c) return false;
-    *place = (vs_place){c->file, c->file_bytes, (uint32_t)PyFrame_GetLineNumber(frame)};
+    *place = (vs_place){c->file, c->file_bytes, line_of(frame, c)};
     return true;
 }
 
@@ -406,15 +426,15 @@ static PyObject *block_enter(block *self, PyObject *unused) {
     Py_RETURN_NONE;
 }
 
-static PyObject *block_exit(block *self, PyObject *unused) {
-    (void)unused;
+static PyObject *block_exit(block *self, PyObject *const *failure, Py_ssize_t count) {
+    (void)failure, (void)count;
     if (self->label) vs_end();
     Py_RETURN_NONE;
 }
 
 static PyMethodDef block_methods[] = {
     {"__enter__", (PyCFunction)block_enter, METH_NOARGS, NULL},
-    {"__exit__", (PyCFunction)block_exit, METH_VARARGS, NULL},
+    {"__exit__", (PyCFunction)(void (*)(void))block_exit, METH_FASTCALL, NULL},
     {NULL, NULL, 0, NULL}};
 
 static PyType_Slot block_slots[] = {
@@ -499,6 +519,11 @@ static PyObject *lock_release(lock *self, PyObject *unused) {
     return PyObject_CallObject(self->release, NULL);
 }
 
+static PyObject *lock_exit(lock *self, PyObject *const *failure, Py_ssize_t count) {
+    (void)failure, (void)count;
+    return lock_release(self, NULL);
+}
+
 static PyObject *lock_locked(lock *self, PyObject *unused) {
     (void)unused;
     return PyBool_FromLong(self->depth > 0);
@@ -544,7 +569,7 @@ static PyObject *lock_repr(lock *self) {
     {"acquire", (PyCFunction)(void (*)(void))lock_acquire, METH_VARARGS | METH_KEYWORDS, "acquire($self, blocking=True, timeout=-1)\n--\n\nAs threading's."}, \
     {"release", (PyCFunction)lock_release, METH_NOARGS, "release($self)\n--\n\nAs threading's."}, \
     {"locked", (PyCFunction)lock_locked, METH_NOARGS, "locked($self)\n--\n\nWhether it is held."}, \
-    {"__enter__", (PyCFunction)lock_enter, METH_NOARGS, NULL}, {"__exit__", (PyCFunction)lock_release, METH_VARARGS, NULL}, \
+    {"__enter__", (PyCFunction)lock_enter, METH_NOARGS, NULL}, {"__exit__", (PyCFunction)(void (*)(void))lock_exit, METH_FASTCALL, NULL}, \
     {"_at_fork_reinit", (PyCFunction)lock_at_fork, METH_NOARGS, NULL}
 
 static PyMethodDef lock_methods[] = {LOCK_METHODS, {NULL, NULL, 0, NULL}};

@@ -117,7 +117,7 @@ def session(*, events: int | None = None, noise: int | None = None, seed: int | 
 
     events: the most in a stretch in which some block is open, up to 16,777,216 (0: 1,048,576); a longer one ends the recording.
     noise: one event in so many waits for up to 200 us, so that more schedules come about (0: none). seed: which ones.
-    places: whether an event has its file and line, which costs a fifth of its time.
+    places: whether an event has its file and line, which costs a tenth of its time.
     What is not given is what VELODROME_EVENTS, VELODROME_NOISE and VELODROME_SEED say.
     """
     return Session(events=events, noise=noise, seed=seed, places=places)
