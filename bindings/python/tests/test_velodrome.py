@@ -70,6 +70,18 @@ class Verdicts(Case):
             else:
                 self.watch('clean', transfer)
 
+    def test_reads_commute_and_writes_do_not(self):
+        account, x = Account(), Var(1)
+        ways = {'Var': (x.get, lambda: x.set(1)), 'field': (lambda: account.balance, lambda: setattr(account, 'balance', 1))}
+        for read, write in ways.values():
+            for mine, theirs, verdict in ((read, read, 'clean'), (read, write, 'alarm'), (write, read, 'alarm'), (write, write, 'alarm')):
+                def twice():
+                    with atomic('twice'):
+                        mine()
+                        elsewhere(theirs)
+                        mine()
+                self.watch(verdict, twice)
+
     def test_names_and_places(self):
         account = Account()
 

@@ -174,6 +174,16 @@ fn a_panic_is_the_programs_own() {
     assert_eq!(payload.downcast_ref(), Some(&"mine too"));
 }
 
+/// 256 runs are open at a time.
+#[test]
+fn runs_that_panic_are_closed() {
+    for _ in 0..300 {
+        let run = AssertUnwindSafe(|| watch(|| std::panic::resume_unwind(Box::new(1))));
+        assert!(catch_unwind(run).is_err());
+    }
+    assert_eq!(watch(|| Var::new(0).set(1)), Outcome::Clean);
+}
+
 struct Nosy(Arc<Var<u32>>);
 
 impl Clone for Nosy {

@@ -65,6 +65,12 @@ fn rwlock() {
         assert!(TABLE.try_write().is_ok());
         let (a, b) = (TABLE.try_read().unwrap(), TABLE.read().unwrap());
         assert_eq!(a.len() + b.len(), 2);
+        std::thread::scope(|scope| {
+            scope
+                .spawn(|| assert_eq!(*TABLE.read().unwrap(), [1]))
+                .join()
+                .unwrap()
+        });
     });
 }
 

@@ -2,7 +2,7 @@
 use std::sync::mpsc;
 use velodrome::cell::Var;
 use velodrome::sync::atomic::{AtomicU64, Ordering::SeqCst};
-use velodrome::sync::Mutex;
+use velodrome::sync::{Mutex, RwLock};
 use velodrome::{block, thread, Builder, Outcome};
 
 fn watch(body: impl FnOnce()) -> Outcome {
@@ -161,6 +161,57 @@ fn runs_beside_one_another() {
             });
         }
     });
+}
+
+/// Whether a stranger's access between two of a block is an alarm.
+fn collide(mine: impl Fn(), theirs: impl Fn() + Sync) -> bool {
+    let outcome = watch(|| {
+        let _block = block!("twice");
+        mine();
+        stranger(&theirs);
+        mine();
+    });
+    assert!(!matches!(outcome, Outcome::Incomplete(_)), "{outcome}");
+    !outcome.is_clean()
+}
+
+#[test]
+fn reads_commute_and_writes_do_not() {
+    let x = Var::new(1);
+    let read = || assert_eq!(x.get(), 1);
+    let write = || x.set(1);
+    assert_eq!(
+        (
+            collide(read, read),
+            collide(read, write),
+            collide(write, write)
+        ),
+        (false, true, true)
+    );
+    let x = AtomicU64::new(1);
+    let read = || assert_eq!(x.load(SeqCst), 1);
+    let write = || x.store(1, SeqCst);
+    let both = || assert_eq!(x.fetch_max(1, SeqCst), 1);
+    assert_eq!(
+        (
+            collide(read, read),
+            collide(read, write),
+            collide(write, read),
+            collide(both, both)
+        ),
+        (false, true, true, true)
+    );
+    let x = RwLock::new(1);
+    let read = || assert_eq!(*x.read().unwrap(), 1);
+    let write = || *x.write().unwrap() = 1;
+    assert_eq!(
+        (
+            collide(read, read),
+            collide(read, write),
+            collide(write, write)
+        ),
+        (false, true, true)
+    );
 }
 
 /// A compare-exchange that fails only reads.
