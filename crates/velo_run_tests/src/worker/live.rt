@@ -11,7 +11,7 @@ use velo_workload::{Workload, parse};
 use velo_world::{Alarm, Closed};
 
 /// Two threads add to one variable under a lock, each a thousand times.
-const COUNTERS: &str =
+pub(super) const THOUSANDS: &str =
     "var x\nlock m\nthread main\nfork a\nfork b\njoin a\njoin b\nthread a\nrepeat 1000\nbegin inc\nacquire m\nread x\nadd 1\nwrite x\nrelease m\nend\ndone\nthread b\nrepeat 1000\nbegin inc\nacquire m\nread x\nadd 1\nwrite x\nrelease m\nend\ndone";
 
 /// The second thread writes between the read and the write of the first one's block, if the gate has it so.
@@ -291,7 +291,7 @@ static IN_TURNS: [InTurns; 4] = [
 #[test]
 fn live_runs_end_as_they_should(rt: HostRuntime) {
     let alloc = rt.alloc();
-    let counted = shows(&rt, alloc, COUNTERS, &OpenGate, &COUNTED);
+    let counted = shows(&rt, alloc, THOUSANDS, &OpenGate, &COUNTED);
     assert_eq!(rt; counted, Some(true));
     let gated = shows(&rt, alloc, LOST_UPDATE, &ShutGate, &GATED);
     assert_eq!(rt; gated, Some(true));
