@@ -118,9 +118,10 @@ def test_repeat_until_it_shows(run):
         two(Account().deposit)
 
     def test_times():
-        assert 1 < len(times) <= 1000
+        assert len(times) > 1
     ''', '--velodrome', '--velodrome-repeat', '1000', '--velodrome-noise', '2')
     result.assert_outcomes(failed=1, passed=1)
+    result.stdout.fnmatch_lines(['FAILED *::test_lost*'])
 
 
 def test_unpatched(run):

@@ -466,6 +466,22 @@ while x.get() < 100: pass
             del owner.nosy
         self.watch('clean', body)
 
+    def test_a_destructor_finds_the_new_value(self):
+        seen = []
+
+        class Nosy:
+            def __del__(self):
+                seen.append((type(x.get()), type(owner.nosy)))
+
+        class Owner:
+            nosy = velodrome.field(None)
+
+        x, owner = Var(Nosy()), Owner()
+        x.set(1)
+        owner.nosy = Nosy()
+        owner.nosy = 2
+        self.assertEqual(seen, [(int, type(None)), (int, int)])
+
     def test_noise_lets_others_run(self):
         x, turns = Var(0), []
 
@@ -515,11 +531,13 @@ class Types(Case):
         lock = RLock()
 
         def body():
-            with lock, lock:
-                self.assertTrue(lock.acquire())
-                elsewhere(lambda: self.assertFalse(lock.acquire(False)))
-                elsewhere(lambda: self.assertRaises(RuntimeError, lock.release))
-                lock.release()
+            with lock:
+                with lock:
+                    self.assertTrue(lock.acquire())
+                    elsewhere(lambda: self.assertFalse(lock.acquire(False)))
+                    elsewhere(lambda: self.assertRaises(RuntimeError, lock.release))
+                    lock.release()
+                self.assertTrue(lock.locked())
             with self.assertRaises(RuntimeError):
                 lock.release()
         self.watch('clean', body)

@@ -218,9 +218,7 @@ class Thread(threading.Thread):
         _unwatch(self)
 
     def start(self) -> None:
-        if self.ident is not None:
-            return super().start()  # which refuses it
-        self._velodrome = child = _session.fork()
+        child = _session.fork()
         self.run = functools.partial(_run, self, child, self.run)  # type: ignore[method-assign]
         try:
             super().start()
@@ -228,6 +226,7 @@ class Thread(threading.Thread):
             self.__dict__.pop('run', None)
             _session.exit(*child)
             raise
+        self._velodrome = child
 
     def join(self, timeout: float | None = None) -> None:
         super().join(timeout)
