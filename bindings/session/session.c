@@ -1009,16 +1009,24 @@ static void wait_for_blocks(slot *s, uint64_t id) {
     for (int i = 0; i < 50 && s->crowded && s->recording && !is_keeper(s); i++) nanosleep(&wait, NULL);
 }
 
-unsigned vs_before_at(vs_object *o, vs_kind kind, const vs_place *place) {
+unsigned vs_hold(vs_object *o) {
     if (vs_idle()) return 0;
     uint64_t id = session_for(o);
     slot *s = slot_of(id);
     if (!id || !atomic_load_explicit(&s->recording, memory_order_relaxed)) return 0;
-    disturb(s, id);
-    if (atomic_load_explicit(&s->crowded, memory_order_relaxed)) wait_for_blocks(s, id);
-    if (!(s = kept(id))) return 0;
-    if (s->recording) event(s, o, kind, place);
-    return (unsigned)(s - slots) + 1;
+    if (!is_keeper(s)) {
+        disturb(s, id);
+        if (atomic_load_explicit(&s->crowded, memory_order_relaxed)) wait_for_blocks(s, id);
+    }
+    s = kept(id);
+    return s ? (unsigned)(s - slots) + 1 : 0;
+}
+
+unsigned vs_before_at(vs_object *o, vs_kind kind, const vs_place *place) {
+    unsigned token = vs_hold(o);
+    slot *s = token ? &slots[token - 1] : NULL;
+    if (s && s->recording) event(s, o, kind, place);
+    return token;
 }
 
 unsigned vs_before(vs_object *o, vs_kind kind) { return vs_before_at(o, kind, NULL); }

@@ -23,8 +23,8 @@ extern "C" {
 /* 0: none. A number that is never used again, so one that is out of date does nothing. */
 typedef uint64_t vs_session;
 
-/* Stands in each variable and each lock, and for each label. It is its own identity: it is neither copied nor moved once it was
- * used. The tag is zero at first and the session's then. The name is for people, may be null or the same for many, and may go
+/* Stands in each variable and each lock, and for each label. It is its own identity: once it was used it is not copied, and
+ * moved only while no thread uses it. The tag is zero at first and the session's then. The name is for people, may be null or the same for many, and may go
  * with the object. Where the line is not 0, the name is that of the source file in which the object was declared. */
 typedef struct vs_object {
     uint64_t tag;
@@ -117,6 +117,10 @@ static inline bool vs_idle(void) { return __atomic_load_n(&vs_recording, __ATOMI
 unsigned vs_before(vs_object *object, vs_kind kind);
 unsigned vs_before_at(vs_object *object, vs_kind kind, const vs_place *place); /* place may be null */
 void vs_after(unsigned token);
+
+/* The same without an event, which vs_tell tells before vs_after: for an access that is known to be a read or a write only once it
+ * is done, as a compare-exchange is, or that has a lock of its own to try. */
+unsigned vs_hold(vs_object *object);
 
 /* A lock: an acquire is told after it, a release before it. Of a lock that is taken again by its thread, each hold may be told:
  * only the outermost is an event. */
