@@ -72,6 +72,7 @@ typedef struct slot {
     _Atomic bool in_hook;
     _Atomic bool missed;       /* an event, since its lock could not be had */
     _Atomic uint32_t noise;
+    void (*_Atomic wait)(uint32_t nanoseconds);
     uint32_t held;
 
     velodrome handle;
@@ -965,6 +966,13 @@ vs_session vs_current(void) {
     return mine ? mine : is_open(all) ? all : 0;
 }
 
+void vs_stop(const char *why) {
+    slot *s = kept(vs_current());
+    if (!s) return;
+    stop(s, "%s", why);
+    let_go(s);
+}
+
 void vs_enter(vs_session session) { self()->current = session; }
 
 /* The session `mine` does not see an event of its own thread, since the object is another's. */
@@ -987,6 +995,13 @@ static uint64_t session_for(vs_object *o) {
     return id;
 }
 
+static void pause_for(slot *s, uint32_t nanoseconds) {
+    void (*wait)(uint32_t) = s->wait;
+    struct timespec time = {0, (long)nanoseconds};
+    if (wait) wait(nanoseconds);
+    else nanosleep(&time, NULL);
+}
+
 /* One event in so many waits, before the lock is taken, so that more schedules come about. */
 static void disturb(slot *s, uint64_t id) {
     uint32_t noise = atomic_load_explicit(&s->noise, memory_order_relaxed);
@@ -996,17 +1011,15 @@ static void disturb(slot *s, uint64_t id) {
     t->random ^= t->random >> 7;
     t->random ^= t->random << 17;
     uint64_t drawn = t->random * 0x2545f4914f6cdd1dull >> 16;
-    struct timespec wait = {0, (long)(drawn >> 16) % 200000};
-    if (drawn % noise == 0) nanosleep(&wait, NULL);
+    if (drawn % noise == 0) pause_for(s, (uint32_t)((drawn >> 16) % 200000));
 }
 
 /* A thread without an open block waits for those of others, up to 5 ms once in each piece of the run. */
 static void wait_for_blocks(slot *s, uint64_t id) {
-    struct timespec wait = {0, 100000};
     seat *t = seat_in(self(), id);
     if (!t || t->told || t->waited == epoch(s)) return;
     t->waited = epoch(s);
-    for (int i = 0; i < 50 && s->crowded && s->recording && !is_keeper(s); i++) nanosleep(&wait, NULL);
+    for (int i = 0; i < 50 && s->crowded && s->recording && !is_keeper(s); i++) pause_for(s, 100000);
 }
 
 unsigned vs_hold(vs_object *o) {
@@ -1136,6 +1149,7 @@ static void set_options(slot *s, const vs_options *o) {
     s->seed = o->seed ? o->seed : mixed((uint64_t)now.tv_sec << 32 ^ (uint64_t)now.tv_nsec);
     s->hook = o->alarm;
     s->hook_data = o->data;
+    s->wait = o->wait;
 }
 
 /* The slot is kept and not open. */

@@ -79,6 +79,8 @@ typedef struct vs_options {
     void (*alarm)(void *data, const vs_alarm *alarm); /* called once, in the thread of the event, behind it; may be null.
                                                          Another thread's vs_close waits for its return */
     void *data;
+    void (*wait)(uint32_t nanoseconds); /* how a thread waits, where it has to give something up meanwhile, such as an
+                                           interpreter's lock; null: it sleeps. No session's lock is held */
 } vs_options;
 
 /* Sets what the environment asks for: VELODROME_NOISE, VELODROME_SEED, VELODROME_EVENTS. */
@@ -107,6 +109,9 @@ void vs_free(char *text);
 /* This thread, and those that it starts, are of this session; 0: of none. */
 void vs_enter(vs_session session);
 vs_session vs_current(void);
+
+/* Ends the recording of the session that this thread is in, for a reason that its shell knows: it is incomplete then. */
+void vs_stop(const char *why);
 
 /* How many sessions record. Where it is 0, vs_before and vs_tell do nothing, and may be left out. */
 extern uint32_t vs_recording;
