@@ -81,7 +81,7 @@ private:
 // VELODROME_ATOMIC makes one in a scope; it stands nowhere else.
 class [[nodiscard]] atomic_block {
 public:
-    explicit atomic_block(vs_object &label) noexcept { vs_begin(&label); }
+    [[nodiscard]] explicit atomic_block(vs_object &label) noexcept { vs_begin(&label); }
     atomic_block(const atomic_block &) = delete;
     atomic_block &operator=(const atomic_block &) = delete;
     ~atomic_block() { vs_end(); }
@@ -375,7 +375,7 @@ public:
     }
 
 #define VELODROME_UPDATE_(name) \
-    template <class D> auto name(D d, std::memory_order order = strongest, place at = place::here()) noexcept->decltype(std::declval<std::atomic<T> &>().name(d, order)) { \
+    template <class D, class A = std::atomic<T>> auto name(D d, std::memory_order order = strongest, place at = place::here()) noexcept->decltype(std::declval<A &>().name(d, order)) { \
         detail::access a(object_, VS_WRITE, at); \
         return value_.name(d, order); \
     }
@@ -514,7 +514,7 @@ struct side {
     std::string event, block, place; // "writes balance", "transfer (bank.cpp:12)", "bank.cpp:14"; what is not known is empty
 };
 
-struct alarm {
+struct collision {
     side first, second; // the second closed the cycle
     std::string report;
 };
@@ -526,7 +526,7 @@ struct options {
     std::uint32_t noise = 0;     // one event in so many waits for a while; 0: none
     std::uint64_t seed = 0;      // which ones; 0: by the clock
     bool everywhere = true;      // also for threads that velodrome::thread did not start
-    std::function<void(const alarm &)> on_alarm; // called once, in the thread of the event; what it throws is lost
+    std::function<void(const collision &)> on_alarm; // called once, in the thread of the event; what it throws is lost
 
     // What the environment asks for: VELODROME_NOISE, VELODROME_SEED, VELODROME_EVENTS.
     static options environment() {
@@ -596,11 +596,11 @@ private:
     static side side_of(const vs_side &s) { return {s.position, s.thread, s.event ? s.event : "", s.block ? s.block : "", s.place ? s.place : ""}; }
     static void called(void *data, const vs_alarm *a) noexcept {
         try {
-            static_cast<session *>(data)->on_alarm_(alarm{side_of(a->first), side_of(a->second), a->report});
+            static_cast<session *>(data)->on_alarm_(collision{side_of(a->first), side_of(a->second), a->report});
         } catch (...) {
         }
     }
-    std::function<void(const alarm &)> on_alarm_;
+    std::function<void(const collision &)> on_alarm_;
     vs_session id_ = 0;
 };
 

@@ -51,7 +51,7 @@ struct side {
     unsigned thread;
     std::string event, block, place;
 };
-struct alarm {
+struct collision {
     side first, second;
     std::string report;
 };
@@ -61,7 +61,7 @@ struct options {
     std::uint32_t noise = 0;
     std::uint64_t seed = 0;
     bool everywhere = true;
-    std::function<void(const alarm &)> on_alarm;
+    std::function<void(const collision &)> on_alarm;
     static options environment() { return {}; }
 };
 struct [[nodiscard]] result {

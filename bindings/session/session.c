@@ -666,14 +666,17 @@ static void hold_again(slot *s, const hold *h, uint16_t lock) {
         if ((t = number_again(s, h->share[i].who))) told(s, velodrome_acquire_shared(&s->handle, (uint8_t)t, lock, &a), &a, NULL);
 }
 
-static uint32_t add_lock(slot *s, word *w, uint32_t nth) {
+static bool grow_holds(slot *s) {
     uint32_t room = s->holds_room;
-    if (!w || !has_room(&s->holds, &s->holds_room, s->lock.count, sizeof *s->holds) || !add_name(s, &s->lock, w, nth)) {
-        stop(s, "out of memory");
-        return NOT_TOLD;
-    }
-    if (s->holds_room != room) memset(s->holds + room, 0, (s->holds_room - room) * sizeof *s->holds);
-    return s->lock.count - 1;
+    if (!has_room(&s->holds, &s->holds_room, s->lock.count, sizeof *s->holds)) return false;
+    if (s->holds_room > room) memset(s->holds + room, 0, (s->holds_room - room) * sizeof *s->holds);
+    return true;
+}
+
+static uint32_t add_lock(slot *s, word *w, uint32_t nth) {
+    if (w && grow_holds(s) && add_name(s, &s->lock, w, nth)) return s->lock.count - 1;
+    stop(s, "out of memory");
+    return NOT_TOLD;
 }
 
 /* Goes on in a new log with the same threads and the same locks held. No block is open, so all that came before leads forward
