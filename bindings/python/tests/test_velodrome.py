@@ -5,7 +5,6 @@ import concurrent.futures
 import copy
 import dataclasses
 import gc
-import io
 import os
 import pathlib
 import pickle
@@ -18,6 +17,7 @@ import tempfile
 import threading
 import time
 import unittest
+import warnings
 import weakref
 
 import velodrome
@@ -227,6 +227,28 @@ class Tasks(Case):
                 return x
             self.watch('alarm', lambda: self.both(increment, watch), 'increment (test_velodrome.py:')
 
+    def test_blocks_of_a_task_nest(self):
+        x = Var(0, 'x')
+
+        @atomic
+        async def inner():
+            x.set(x.get() + 1)
+
+        @atomic
+        async def outer():
+            x.set(x.get() + 1)
+            await inner()
+            x.set(x.get() + 1)
+
+        async def main(watch):
+            if watch:
+                velodrome.watch_tasks(asyncio.get_running_loop())
+            await asyncio.ensure_future(outer())
+            return x.get()
+        for watch in (False, True):
+            x.set(0)
+            self.assertEqual(self.watch('clean', lambda: asyncio.run(main(watch))), 3)
+
     def test_a_coroutine_is_as_it_was(self):
         @atomic
         async def fails(how):
@@ -245,6 +267,28 @@ class Tasks(Case):
             task.cancel()
             return await task
         self.assertEqual(self.watch('clean', lambda: asyncio.run(main())), 'cancelled')
+
+    def test_tasks_are_as_they_were(self):
+        """One that is cancelled before its first step is closed, without a warning, and each has its name."""
+        async def named(n):
+            await asyncio.sleep(n)
+            return n
+
+        async def main():
+            velodrome.watch_tasks(asyncio.get_running_loop())
+            task = asyncio.ensure_future(named(1))
+            self.assertIn('named', repr(task))
+            self.assertEqual(len(task.get_stack()), 1)
+            task.cancel()
+            with self.assertRaises(asyncio.CancelledError):
+                await task
+            with self.assertRaises(asyncio.TimeoutError):
+                await asyncio.wait_for(named(1), 0.001)
+            return await asyncio.gather(*map(named, (0, 0.001)))
+        with warnings.catch_warnings():
+            warnings.simplefilter('error')
+            self.assertEqual(self.watch('clean', lambda: asyncio.run(main())), [0, 0.001])
+            gc.collect()
 
     def test_patched_watches_tasks(self):
         x = Var(0, 'x')
@@ -606,9 +650,20 @@ class Types(Case):
             self.assertEqual((worker.result, worker.name), (7, 'w'))
             with self.assertRaises(RuntimeError):
                 worker.start()
+            worker.join()
+        self.watch('clean', body)
+
+    def test_a_thread_is_no_cycle(self):
+        def body():
+            worker = Thread(target=int)
+            worker.start()
+            worker.join()
             return weakref.ref(worker)
-        gone = self.watch('clean', body)
-        self.assertIsNone(gone())
+        gc.disable()
+        try:
+            self.assertIsNone(self.watch('clean', body)())
+        finally:
+            gc.enable()
 
     def test_fields(self):
         @dataclasses.dataclass

@@ -18,13 +18,13 @@ Nothing here fails the program: what cannot be told makes the session `incomplet
 """
 from __future__ import annotations
 
+import collections.abc
 import contextlib
 import dataclasses
 import functools
 import inspect
 import os
 import threading
-import types
 import typing
 from typing import Any, Callable, Iterator, Literal, TypeVar, overload
 
@@ -135,7 +135,8 @@ class Block(_session.Block):
 
             @functools.wraps(function)
             async def coroutine(*args: Any, **keywords: Any) -> Any:
-                return await _as_itself(_within(self, function(*args, **keywords)))
+                body = _within(self, function(*args, **keywords))
+                return await (body if _is_watched() else _Itself(body))
 
             return typing.cast(_Function, coroutine)
 
@@ -174,32 +175,48 @@ async def _within(block: Block, coroutine: Any) -> Any:
         return await coroutine
 
 
-@types.coroutine
-def _as_itself(coroutine: Any) -> Any:
-    """Runs a coroutine as a thread of its own: each step between two switches. In a task that does so already, as that."""
-    before = _session.switch(None)
-    _session.switch(before)
-    if before:
-        return (yield from coroutine.__await__())
-    me, step, value = _session.new_self(), coroutine.send, None
-    while True:
-        before = _session.switch(me)
+def _is_watched() -> bool:
+    """Whether this task acts as itself."""
+    acting = _session.switch(None)
+    _session.switch(acting)
+    return bool(acting)
+
+
+class _Itself(collections.abc.Coroutine):  # type: ignore[type-arg]
+    """A coroutine that acts as a thread of its own: each step stands between two switches."""
+
+    def __init__(self, coroutine: Any) -> None:
+        self._coroutine, self._self = coroutine, _session.new_self()
+
+    def _step(self, step: Callable[..., Any], *operands: Any) -> Any:
+        before = _session.switch(self._self)
         try:
-            yielded = step(value)
-        except StopIteration as end:
-            return end.value
+            return step(*operands)
         finally:
             _session.switch(before)
-        try:
-            value, step = (yield yielded), coroutine.send
-        except BaseException as error:  # handed on to the coroutine
-            value, step = error, coroutine.throw
+
+    def send(self, value: Any) -> Any:
+        return self._step(self._coroutine.send, value)
+
+    def throw(self, *failure: Any) -> Any:
+        return self._step(self._coroutine.throw, *failure)
+
+    def __next__(self) -> Any:
+        return self.send(None)
+
+    def __iter__(self) -> _Itself:
+        return self
+
+    __await__ = __iter__
+
+    def __getattr__(self, name: str) -> Any:  # what asyncio asks for to print a task: its name, its code, its frame
+        return getattr(self._coroutine, name)
 
 
 def watch_tasks(loop: Any) -> None:
     """Each task that this loop makes from now on is a thread of its own, so that races between tasks are seen."""
     make = loop.get_task_factory() or _task
-    loop.set_task_factory(lambda loop, coroutine, **keywords: make(loop, _as_itself(coroutine), **keywords))
+    loop.set_task_factory(lambda loop, coroutine, **keywords: make(loop, _Itself(coroutine), **keywords))
 
 
 def _task(loop: Any, coroutine: Any, **keywords: Any) -> Any:
@@ -268,7 +285,7 @@ def patched() -> Iterator[None]:
     create = base_events.BaseEventLoop.create_task
 
     def create_task(loop: Any, coroutine: Any, **keywords: Any) -> Any:
-        watched = coroutine if loop.get_task_factory() else _as_itself(coroutine)
+        watched = coroutine if loop.get_task_factory() else _Itself(coroutine)
         return create(loop, watched, **keywords)
 
     vars(threading).update(_OURS)

@@ -18,6 +18,12 @@ use std::sync::{
 /// HITS.set(HITS.get() + 1);
 /// assert_eq!(HITS.get(), 1);
 /// ```
+///
+/// It may be shared where std's `RwLock` may, as closures of two threads may read it at once:
+///
+/// ```compile_fail,E0277
+/// static COUNT: velodrome::cell::Var<std::cell::Cell<u32>> = velodrome::cell::Var::new(std::cell::Cell::new(0));
+/// ```
 pub struct Var<T: ?Sized> {
     object: Object,
     value: RwLock<T>,

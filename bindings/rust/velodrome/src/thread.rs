@@ -161,6 +161,15 @@ pub struct Scope<'scope, 'env: 'scope> {
 }
 
 /// As std's. The joins at its end are told.
+///
+/// What a thread borrows lives longer than the scope:
+///
+/// ```compile_fail,E0597
+/// velodrome::thread::scope(|scope| {
+///     let local = 1;
+///     scope.spawn(|| println!("{}", &local));
+/// });
+/// ```
 #[track_caller]
 pub fn scope<'env, F, T>(body: F) -> T
 where

@@ -210,6 +210,7 @@ fn elsewhere(body: impl FnOnce() + Send) {
 fn clone_and_drop_of_the_program_run_without_the_session() {
     let outcome = watch(|| {
         let x = Arc::new(Var::new(0));
+        x.set(0); // so the run knows it
         let y = Var::new(Nosy(Arc::clone(&x)));
         drop(y.get());
         y.set(Nosy(Arc::clone(&x)));

@@ -2,7 +2,7 @@
 use std::sync::mpsc;
 use velodrome::cell::Var;
 use velodrome::sync::atomic::{AtomicU64, Ordering::SeqCst};
-use velodrome::sync::{Mutex, RwLock};
+use velodrome::sync::{Barrier, Condvar, Mutex, RwLock};
 use velodrome::{block, thread, Builder, Outcome};
 
 fn watch(body: impl FnOnce()) -> Outcome {
@@ -72,6 +72,37 @@ fn a_join_in_a_block_is_none_of_it() {
         thread::spawn(|| ()).join().unwrap();
     });
     assert!(report(&outcome).contains("not atomic: joins"));
+}
+
+#[test]
+fn a_block_that_waits_for_another_thread_is_none() {
+    let barrier = Barrier::new(2);
+    let wait = || {
+        let _block = block!("waits");
+        barrier.wait();
+    };
+    let outcome = watch(|| {
+        thread::scope(|scope| {
+            scope.spawn(wait);
+            wait();
+        });
+    });
+    assert!(report(&outcome).contains("not atomic: waits"));
+    let (open, wait) = (Mutex::new(false), Condvar::new());
+    let outcome = watch(|| {
+        thread::scope(|scope| {
+            let _block = block!("waits");
+            let mut held = open.lock().unwrap();
+            scope.spawn(|| {
+                *open.lock().unwrap() = true;
+                wait.notify_one();
+            });
+            while !*held {
+                held = wait.wait(held).unwrap();
+            }
+        });
+    });
+    assert!(report(&outcome).contains("not atomic: waits"));
 }
 
 struct Account {
