@@ -1,4 +1,4 @@
-// test [NAME..]: what velodrome.hpp promises, a case each. Each ends by itself, with its verdict; tools/bindings.sh gives it a minute.
+// test [NAME..] [-NAME..]: what velodrome.hpp promises, a case each; those of these names, or all but these. Each ends by itself, with its verdict; tools/bindings.sh gives it a minute.
 #include "velodrome.hpp"
 #include <cstdio>
 #include <cstdlib>
@@ -900,8 +900,9 @@ TEST(noise_finds_what_is_rare) {
 
 int main(int count, char **names) {
     for (const test_case &t : cases()) {
-        bool asked = count < 2;
-        for (int i = 1; i < count; i++) asked |= !std::strcmp(names[i], t.name);
+        bool asked = count < 2 || names[1][0] == '-';
+        for (int i = 1; i < count; i++)
+            if (!std::strcmp(names[i] + (names[i][0] == '-'), t.name)) asked = names[i][0] != '-';
         if (!asked) continue;
         const int before = failures;
         std::cout << t.name << std::endl;

@@ -353,20 +353,16 @@ public:
         return value_.exchange(value, order);
     }
     bool compare_exchange_strong(T &expected, T value, std::memory_order yes, std::memory_order no, place at = place::here()) noexcept {
-        detail::access a(object_, VS_READ, at);
-        return written(value_.compare_exchange_strong(expected, value, yes, no), at);
+        return exchanged(at, [&] { return value_.compare_exchange_strong(expected, value, yes, no); });
     }
     bool compare_exchange_strong(T &expected, T value, std::memory_order order = strongest, place at = place::here()) noexcept {
-        detail::access a(object_, VS_READ, at);
-        return written(value_.compare_exchange_strong(expected, value, order), at);
+        return exchanged(at, [&] { return value_.compare_exchange_strong(expected, value, order); });
     }
     bool compare_exchange_weak(T &expected, T value, std::memory_order yes, std::memory_order no, place at = place::here()) noexcept {
-        detail::access a(object_, VS_READ, at);
-        return written(value_.compare_exchange_weak(expected, value, yes, no), at);
+        return exchanged(at, [&] { return value_.compare_exchange_weak(expected, value, yes, no); });
     }
     bool compare_exchange_weak(T &expected, T value, std::memory_order order = strongest, place at = place::here()) noexcept {
-        detail::access a(object_, VS_READ, at);
-        return written(value_.compare_exchange_weak(expected, value, order), at);
+        return exchanged(at, [&] { return value_.compare_exchange_weak(expected, value, order); });
     }
     operator T() const noexcept { return load(); }
     T operator=(T value) noexcept {
@@ -400,8 +396,12 @@ private:
         detail::access a(object_, VS_WRITE);
         return f(value_);
     }
-    bool written(bool done, place at) noexcept { // behind the read, in its hold
-        if (done) detail::access(object_, VS_WRITE, at);
+    template <class F> bool exchanged(place at, F f) noexcept { // the event is known once it is done
+        const unsigned token = vs_idle() ? 0 : vs_hold(&object_);
+        const bool done = f();
+        const vs_place told = at.told();
+        if (token) vs_tell_at(&object_, done ? VS_WRITE : VS_READ, &told);
+        if (token) vs_after(token);
         return done;
     }
     std::atomic<T> value_{};

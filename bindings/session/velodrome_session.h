@@ -23,9 +23,10 @@ extern "C" {
 /* 0: none. A number that is never used again, so one that is out of date does nothing. */
 typedef uint64_t vs_session;
 
-/* Stands in each variable and each lock, and for each label. It is its own identity: once it was used it is not copied, and
- * moved only while no thread uses it. The tag is zero at first and the session's then. The name is for people, may be null or the same for many, and may go
- * with the object. Where the line is not 0, the name is that of the source file in which the object was declared. */
+/* Stands in each variable and each lock, and for each label. It is its own identity: once it was used it is not copied, and moved
+ * only while no thread uses it. The tag is zero at first and the session's then. The name is for people, may be null or the same
+ * for many, and may go with the object. Where the line is not 0, the name is that of the source file in which the object was
+ * declared. */
 typedef struct vs_object {
     uint64_t tag;
     const char *name;
