@@ -171,7 +171,7 @@ static void step(int t) {
 
 static void begin_run(uint32_t room) {
     velodrome_answer a;
-    vs_options limits = {.events = room, .seed = 1};
+    vs_options limits = {.events = room, .variables = 8, .locks = 8, .seed = 1};
     memset(&run, 0, sizeof run);
     alarm_of_handle = refused = false;
     velodrome_open(&run.handle, THREADS, VARIABLES, LOCKS, 100000, 64);

@@ -617,8 +617,9 @@ static void next_piece(slot *s) {
 }
 
 static uint32_t open_handle(slot *s) {
+    uint32_t nodes = s->most < VELODROME_MOST_NODES ? s->most : VELODROME_MOST_NODES; /* no more transactions than events */
     s->handle = (velodrome)VELODROME_CLOSED_HANDLE;
-    return velodrome_open(&s->handle, THREADS, s->variables, s->locks, s->most, VELODROME_MOST_NODES);
+    return velodrome_open(&s->handle, THREADS, s->variables, s->locks, s->most, (uint16_t)nodes);
 }
 
 /* A lock that is held across a cut. */
