@@ -210,3 +210,59 @@ if wants examples && have cmake; then
         step "install: linked with libvelodrome.so.0" status 3 "$out/by_pkg_config"
     fi
 fi
+
+# ---- Rust
+
+if wants rust && have cargo; then
+    rust=$top/bindings/rust/Cargo.toml
+    bank=$top/bindings/examples/rust/Cargo.toml
+    export VELODROME_LIB_DIR=$out CARGO_TARGET_DIR=$out/cargo VELODROME_LOGS=$out/logs
+    step "rust: tests" in_time cargo test --offline --quiet --workspace --manifest-path "$rust"
+    cargo clippy --version >/dev/null 2>&1 &&
+        step "rust: no warnings" cargo clippy --offline --quiet --workspace --all-targets --manifest-path "$rust" -- -D warnings
+    step "rust: documents" env RUSTDOCFLAGS="-D warnings" cargo doc --offline --quiet --no-deps --workspace --manifest-path "$rust"
+    step "rust: cost of a round" in_time cargo run --release --offline --quiet --manifest-path "$rust" --example cost
+    platform=$top/bindings/rust/velodrome-sys/lib/$(rustc -vV | sed -n 's/^host: //p')
+    mkdir -p "$platform" && cp "$out/libvelodrome.a" "$platform/"
+    step "rust: the crates as packages" env -u VELODROME_LIB_DIR cargo package --workspace --offline --quiet --allow-dirty --manifest-path "$rust"
+    rm -rf "$top/bindings/rust/velodrome-sys/lib"
+    step "examples: rust without velodrome" cargo test --offline --quiet --manifest-path "$bank"
+    step "examples: rust, careful: a hundred times without an alarm" in_time env VELODROME_NOISE=4 cargo test --offline --quiet --manifest-path "$bank" --features watch careful
+    step "examples: rust, careless: repeated until it fails" says 'not atomic: bank::deposit_carelessly (lib.rs:' in_time env VELODROME_NOISE=4 cargo test --offline --quiet --manifest-path "$bank" --features watch careless
+    step "examples: rust, its log is kept" test -s "$out/logs/bank.careless.vlog" -a -s "$out/logs/bank.careless.vlog.names"
+    unset VELODROME_LIB_DIR CARGO_TARGET_DIR VELODROME_LOGS
+fi
+
+# ---- Python
+
+if wants python && have python3; then
+    python=$top/bindings/python
+    with_pytest= # python3-pytest is Debian's package, for its own python3
+    for candidate in python3 /usr/bin/python3; do
+        [ -z "$with_pytest" ] && command -v $candidate >/dev/null && $candidate -c 'import pytest' 2>/dev/null && with_pytest=$candidate
+    done
+    export PYTHONDONTWRITEBYTECODE=1 VELODROME_LOGS=$out/logs
+    rm -f "$out"/velodrome-*.whl
+    step "python: wheel of manylinux_2_17" python3 "$python/make_wheel.py" "$out/libvelodrome.a" "$out"
+    step "python: the same by pip" env VELODROME_LIB_DIR="$out" python3 -m pip wheel --quiet --no-index --no-deps --disable-pip-version-check --wheel-dir "$out/pip" "$python"
+    fresh=$(mktemp -d) # outside, as it has links
+    step "python: fresh environment" "${with_pytest:-python3}" -m venv ${with_pytest:+--system-site-packages} "$fresh"
+    step "python: wheel installs" "$fresh/bin/pip" install --quiet --no-index --disable-pip-version-check "$out"/velodrome-*.whl
+    step "python: tests" in_time env -C "$fresh" "$fresh/bin/python" -X dev "$python/tests/test_velodrome.py"
+    step "python: cost of an event" in_time env -C "$fresh" "$fresh/bin/python" "$python/cost.py"
+    if [ -n "$with_pytest" ]; then
+        pytest=(in_time env -C "$fresh" "$fresh/bin/python" -m pytest -q -p no:cacheprovider --rootdir "$fresh")
+        bank=$top/bindings/examples/python/test_bank.py
+        step "python: tests of the pytest plugin" "${pytest[@]}" "$python/tests/test_pytest_plugin.py"
+        step "examples: python, careful: a hundred times without an alarm" "${pytest[@]}" --velodrome-noise 4 "$bank" -k careful
+        step "examples: python, careless: repeated until it fails" says 'not atomic: Account.deposit_carelessly (bank.py:' "${pytest[@]}" --velodrome-noise 4 "$bank" -k careless
+    else
+        echo "left out: no pytest"
+    fi
+    rm -rf "$fresh"
+    unset PYTHONDONTWRITEBYTECODE VELODROME_LOGS
+fi
+
+rm -f "$out/step.log" "$out/said.log"
+echo "$passed passed, $failed failed"
+[ "$failed" -eq 0 ] && [ "$passed" -gt 0 ]
