@@ -60,6 +60,8 @@ typedef struct finding {
     vs_alarm alarm;
     char *words[2][3]; /* event, block, place of each side */
     char *report;
+    void (*hook)(void *, const vs_alarm *);
+    void *data;
 } finding;
 
 typedef struct slot {
@@ -68,6 +70,7 @@ typedef struct slot {
     _Atomic uint64_t last;     /* the epoch: of the numbers in tags since the last cut, from id on */
     _Atomic uintptr_t keeper;  /* the thread that holds `order`, how often */
     _Atomic bool recording;
+    _Atomic bool slow;         /* noise is wanted, or it is crowded: events may have to wait */
     _Atomic bool crowded;      /* it can only be cut once the open blocks have ended */
     _Atomic bool in_hook;
     _Atomic bool missed;       /* an event, since its lock could not be had */
@@ -76,7 +79,7 @@ typedef struct slot {
     uint32_t held;
 
     velodrome handle;
-    uint32_t events, most; /* of this piece */
+    uint32_t events, near, most; /* of this piece; from `near` on it is cut where it can be */
     uint64_t earlier;      /* events of the pieces before */
     uint16_t variables, locks;
     uint64_t born, seed;
@@ -119,15 +122,17 @@ typedef struct seat {
 struct vs_self {
     uint64_t current;
     seat seat[SEATS];
-    int next, depth;
+    int recent, depth;
     vs_object *label[DEPTH];
 };
 
-static _Thread_local struct vs_self itself;
-static _Thread_local int kept_slots;
-static _Thread_local uint64_t hooking; /* the session whose hook this thread is in */
-static _Thread_local struct vs_self *acting;
-static struct vs_self *self(void) { return acting ? acting : &itself; }
+static _Thread_local struct {
+    struct vs_self itself;
+    struct vs_self *acting; /* NULL: the thread itself */
+    uint64_t hooking;       /* the session whose hook this thread is in */
+    int slots;              /* that it keeps */
+} mine;
+static inline struct vs_self *self(void) { return mine.acting ? mine.acting : &mine.itself; }
 
 /* ---- slots and tags */
 
@@ -137,7 +142,9 @@ static bool is_open(uint64_t id) { return id && atomic_load_explicit(&slot_of(id
 
 static uint64_t tag_of(const vs_object *o) { return __atomic_load_n(&o->tag, __ATOMIC_RELAXED); }
 
-static uint64_t epoch_of(uint64_t tag) { return tag >> NUMBER_BITS; }
+static inline uint64_t epoch_of(uint64_t tag) { return tag >> NUMBER_BITS; }
+
+static inline uint32_t number_in(uint64_t tag) { return tag & ((1u << NUMBER_BITS) - 1); }
 
 static uint64_t tag_with(uint64_t epoch, uint32_t number) { return epoch << NUMBER_BITS | number; }
 
@@ -153,7 +160,7 @@ static void end_recording(slot *s) {
     if (atomic_exchange(&s->recording, false)) __atomic_fetch_sub(&vs_recording, 1, __ATOMIC_RELAXED);
 }
 
-static bool is_keeper(slot *s) { return atomic_load_explicit(&s->keeper, memory_order_relaxed) == (uintptr_t)&itself; }
+static inline bool is_keeper(slot *s) { return atomic_load_explicit(&s->keeper, memory_order_relaxed) == (uintptr_t)&mine; }
 
 /* Takes the lock of a second session in an access of a first: two threads may do so crosswise, so nobody waits for ever. */
 static bool lock_within(slot *s) {
@@ -164,21 +171,21 @@ static bool lock_within(slot *s) {
 }
 
 /* Takes the slot's lock, again where this thread has it: the program's code may come back here in an access. */
-static bool keep(slot *s) {
+static inline bool keep(slot *s) {
     if (!is_keeper(s)) {
-        if (!kept_slots) pthread_mutex_lock(&s->order);
+        if (!mine.slots) pthread_mutex_lock(&s->order);
         else if (!lock_within(s)) return false;
-        kept_slots++;
-        atomic_store_explicit(&s->keeper, (uintptr_t)&itself, memory_order_relaxed);
+        mine.slots++;
+        atomic_store_explicit(&s->keeper, (uintptr_t)&mine, memory_order_relaxed);
     }
     s->held++;
     return true;
 }
 
-static void call_hook(slot *s, void (*hook)(void *, const vs_alarm *), void *data, finding *found) {
-    hooking = found->alarm.session;
-    hook(data, &found->alarm);
-    hooking = 0;
+static void call_hook(slot *s, finding *found) {
+    mine.hooking = found->alarm.session;
+    found->hook(found->data, &found->alarm);
+    mine.hooking = 0;
     s->in_hook = false;
     for (int i = 0; i < 2; i++)
         for (int k = 0; k < 3; k++) free(found->words[i][k]);
@@ -186,20 +193,18 @@ static void call_hook(slot *s, void (*hook)(void *, const vs_alarm *), void *dat
     free(found);
 }
 
-static void let_go(slot *s) {
+static inline void let_go(slot *s) {
     if (!is_keeper(s) || --s->held) return; /* not its keeper: it came out of a fork */
     finding *found = s->found;
-    void (*hook)(void *, const vs_alarm *) = s->hook;
-    void *data = s->hook_data;
     s->found = NULL;
-    kept_slots--;
+    mine.slots--;
     atomic_store_explicit(&s->keeper, 0, memory_order_relaxed);
     pthread_mutex_unlock(&s->order);
-    if (found) call_hook(s, hook, data, found);
+    if (found) call_hook(s, found);
 }
 
 /* The slot of the session, kept; NULL where it is not open. */
-static slot *kept(uint64_t id) {
+static inline slot *kept(uint64_t id) {
     if (!is_open(id)) return NULL;
     slot *s = slot_of(id);
     if (!keep(s)) {
@@ -337,6 +342,7 @@ static uint32_t *find_place(slot *s, const vs_place *p) {
 }
 
 static bool grow_places(slot *s) {
+    if (s->place_count && s->place_count < s->place_room && 2 * (s->place_count + 1) <= s->place_table_room) return true;
     if (!has_room(&s->places, &s->place_room, s->place_count + 1, sizeof *s->places)) return false;
     if (!s->place_count) s->places[s->place_count++] = (vs_place){0};
     if (2 * (s->place_count + 1) <= s->place_table_room) return true;
@@ -542,6 +548,8 @@ static void alarm_found(slot *s) {
     finding *found = s->hook ? calloc(1, sizeof *found) : NULL;
     if (found) {
         found->alarm.session = s->id;
+        found->hook = s->hook;
+        found->data = s->hook_data;
         found->report = s->report ? strdup(s->report) : NULL;
         found->alarm.report = found->report ? found->report : "";
         if (text) fill_sides(s, found, text);
@@ -568,7 +576,7 @@ static const char *reason(uint32_t status) {
 }
 
 /* What a call answered: true where the event is in the log. */
-static bool told(slot *s, uint32_t status, const velodrome_answer *a, const vs_place *place) {
+static inline bool told(slot *s, uint32_t status, const velodrome_answer *a, const vs_place *place) {
     if (status) {
         stop(s, "%s", reason(status));
         return false;
@@ -614,6 +622,7 @@ static void next_piece(slot *s) {
     s->threads = 1;
     s->open = s->events = 0;
     s->crowded = false;
+    s->slow = s->noise != 0;
 }
 
 static uint32_t open_handle(slot *s) {
@@ -718,9 +727,9 @@ static void make_room(slot *s, uint32_t used, uint32_t limit) {
 }
 
 static void make_room_for_events(slot *s) {
-    if (s->events < s->most - s->most / 4) return;
+    if (s->events < s->near) return;
     if (!s->open) renew(s);
-    else if (s->events >= s->most - s->most / 8) s->crowded = true;
+    else if (s->events >= s->most - s->most / 8) s->crowded = s->slow = true;
 }
 
 /* ---- who acts */
@@ -748,14 +757,14 @@ static seat *new_seat(struct vs_self *me, slot *s, uint64_t who) {
     return NULL;
 }
 
-/* This thread's, with its number in this piece of the run; NULL where it cannot be told. */
-static seat *seat_of(slot *s) {
-    struct vs_self *me = self();
+/* That of who acts, with its number in this piece of the run; NULL where it cannot be told. */
+static seat *seat_of(slot *s, struct vs_self *me) {
     seat *t = seat_in(me, s->id);
     if (!t && !(t = new_seat(me, s, s->born + 1))) {
         stop(s, "a thread acts in more than %d sessions at a time", SEATS);
         return NULL;
     }
+    me->recent = (int)(t - me->seat);
     if (t->who > s->born) s->born = t->who;
     if (t->epoch == epoch(s)) return t;
     uint32_t number = number_of_who(s, t->who);
@@ -775,7 +784,7 @@ static seat *seat_of(slot *s) {
 /* Labels of one name are one label. */
 static uint32_t label_number(slot *s, vs_object *label) {
     uint64_t tag = tag_of(label);
-    if (epoch_of(tag) == epoch(s)) return tag & ((1u << NUMBER_BITS) - 1);
+    if (epoch_of(tag) == epoch(s)) return number_in(tag);
     word *w = word_of(s, label, "block");
     if (!w || (!w->label && (s->label.count >> NUMBER_BITS || !add_name(s, &s->label, w, 1)))) {
         stop(s, "out of memory");
@@ -786,9 +795,7 @@ static uint32_t label_number(slot *s, vs_object *label) {
     return w->label - 1;
 }
 
-/* Tells the begins of the blocks that an event stands in. */
-static bool in_blocks(slot *s, seat *t) {
-    struct vs_self *me = self();
+static bool begin_blocks(slot *s, struct vs_self *me, seat *t) {
     velodrome_answer a;
     int deep = me->depth < DEPTH ? me->depth : DEPTH;
     while (t->told < deep && s->recording) {
@@ -798,6 +805,9 @@ static bool in_blocks(slot *s, seat *t) {
     }
     return s->recording;
 }
+
+/* Tells the begins of the blocks that an event stands in. */
+static inline bool in_blocks(slot *s, struct vs_self *me, seat *t) { return t->told >= me->depth || begin_blocks(s, me, t); }
 
 void vs_begin(vs_object *label) {
     struct vs_self *me = self();
@@ -835,9 +845,7 @@ static bool claim(slot *s, vs_object *o, uint64_t old, uint32_t number) {
     return false;
 }
 
-static uint32_t variable_number(slot *s, vs_object *o) {
-    uint64_t tag = tag_of(o);
-    if (epoch_of(tag) == epoch(s)) return tag & ((1u << NUMBER_BITS) - 1);
+static uint32_t new_variable(slot *s, vs_object *o, uint64_t tag) {
     if (s->variable.count >= s->variables) {
         stop(s, "more than %u variables while a block was open", s->variables);
         return NOT_TOLD;
@@ -850,10 +858,13 @@ static uint32_t variable_number(slot *s, vs_object *o) {
     return claim(s, o, tag, s->variable.count - 1) ? s->variable.count - 1 : NOT_TOLD;
 }
 
-/* The number of a lock that was met in this piece, or is held since an earlier one. */
-static uint32_t known_lock(slot *s, vs_object *o) {
+static inline uint32_t variable_number(slot *s, vs_object *o) {
     uint64_t tag = tag_of(o);
-    if (epoch_of(tag) == epoch(s)) return tag & ((1u << NUMBER_BITS) - 1);
+    return epoch_of(tag) == epoch(s) ? number_in(tag) : new_variable(s, o, tag);
+}
+
+/* The number of a lock that is held since an earlier piece. */
+static uint32_t carried_lock(slot *s, vs_object *o, uint64_t tag) {
     if (!is_of(s, tag)) return NOT_TOLD;
     for (uint32_t i = 0; i < s->lock.count; i++) {
         if (s->holds[i].old != tag) continue;
@@ -862,6 +873,11 @@ static uint32_t known_lock(slot *s, vs_object *o) {
         return i;
     }
     return NOT_TOLD;
+}
+
+static inline uint32_t known_lock(slot *s, vs_object *o) {
+    uint64_t tag = tag_of(o);
+    return epoch_of(tag) == epoch(s) ? number_in(tag) : carried_lock(s, o, tag);
 }
 
 static uint32_t lock_number(slot *s, vs_object *o) {
@@ -883,54 +899,54 @@ static share *share_of(hold *h, uint64_t who) {
     return NULL;
 }
 
-static void take(slot *s, seat *t, vs_object *o, const vs_place *place) {
+static void take(slot *s, struct vs_self *me, seat *t, vs_object *o, const vs_place *place) {
     velodrome_answer a;
     uint32_t n = lock_number(s, o);
     if (n == NOT_TOLD) return;
     if (s->holds[n].owner == t->who) {
         s->holds[n].times++;
-    } else if (in_blocks(s, t) && told(s, velodrome_acquire(&s->handle, t->number, (uint16_t)n, &a), &a, place)) {
+    } else if (in_blocks(s, me, t) && told(s, velodrome_acquire(&s->handle, t->number, (uint16_t)n, &a), &a, place)) {
         s->holds[n].owner = t->who;
         s->holds[n].times = 1;
     }
 }
 
-static void give_back(slot *s, seat *t, vs_object *o, const vs_place *place) {
+static void give_back(slot *s, struct vs_self *me, seat *t, vs_object *o, const vs_place *place) {
     velodrome_answer a;
     uint32_t n = known_lock(s, o);
     if (n == NOT_TOLD || !s->holds[n].owner) return; /* it was taken before the session */
     if (s->holds[n].owner == t->who && --s->holds[n].times) return;
-    if (in_blocks(s, t) && told(s, velodrome_release(&s->handle, t->number, (uint16_t)n, &a), &a, place)) s->holds[n].owner = 0;
+    if (in_blocks(s, me, t) && told(s, velodrome_release(&s->handle, t->number, (uint16_t)n, &a), &a, place)) s->holds[n].owner = 0;
 }
 
-static void take_share(slot *s, seat *t, vs_object *o, const vs_place *place) {
+static void take_share(slot *s, struct vs_self *me, seat *t, vs_object *o, const vs_place *place) {
     velodrome_answer a;
     uint32_t n = lock_number(s, o);
     if (n == NOT_TOLD) return;
     hold *h = &s->holds[n];
-    share *mine = share_of(h, t->who);
-    if (mine) {
-        mine->times++;
+    share *own = share_of(h, t->who);
+    if (own) {
+        own->times++;
     } else if (!has_room(&h->share, &h->room, h->shares, sizeof *h->share)) {
         stop(s, "out of memory");
-    } else if (in_blocks(s, t) && told(s, velodrome_acquire_shared(&s->handle, t->number, (uint16_t)n, &a), &a, place)) {
+    } else if (in_blocks(s, me, t) && told(s, velodrome_acquire_shared(&s->handle, t->number, (uint16_t)n, &a), &a, place)) {
         h->share[h->shares++] = (share){t->who, 1};
     }
 }
 
-static void give_share_back(slot *s, seat *t, vs_object *o, const vs_place *place) {
+static void give_share_back(slot *s, struct vs_self *me, seat *t, vs_object *o, const vs_place *place) {
     velodrome_answer a;
     uint32_t n = known_lock(s, o);
-    share *mine = n == NOT_TOLD ? NULL : share_of(&s->holds[n], t->who);
-    if (!mine || --mine->times) return;
-    if (in_blocks(s, t)) told(s, velodrome_release_shared(&s->handle, t->number, (uint16_t)n, &a), &a, place);
-    *mine = s->holds[n].share[--s->holds[n].shares];
+    share *own = n == NOT_TOLD ? NULL : share_of(&s->holds[n], t->who);
+    if (!own || --own->times) return;
+    if (in_blocks(s, me, t)) told(s, velodrome_release_shared(&s->handle, t->number, (uint16_t)n, &a), &a, place);
+    *own = s->holds[n].share[--s->holds[n].shares];
 }
 
-static void access_variable(slot *s, seat *t, vs_object *o, vs_kind kind, const vs_place *place) {
+static inline void access_variable(slot *s, struct vs_self *me, seat *t, vs_object *o, vs_kind kind, const vs_place *place) {
     velodrome_answer a;
     uint32_t n = variable_number(s, o);
-    if (n == NOT_TOLD || !in_blocks(s, t)) return;
+    if (n == NOT_TOLD || !in_blocks(s, me, t)) return;
     if (kind == VS_READ) told(s, velodrome_read(&s->handle, t->number, (uint16_t)n, &a), &a, place);
     else told(s, velodrome_write(&s->handle, t->number, (uint16_t)n, 0, &a), &a, place);
 }
@@ -940,31 +956,38 @@ static void make_room_for_object(slot *s, vs_kind kind) {
     else if (kind == VS_ACQUIRE || kind == VS_ACQUIRE_SHARED) make_room(s, s->lock.count, s->locks);
 }
 
-static void event(slot *s, vs_object *o, vs_kind kind, const vs_place *place) {
+/* The seat for an event, which may be the first of its thread or its object since the last cut; NULL where it cannot be told. */
+static seat *seat_for(slot *s, struct vs_self *me, vs_object *o, vs_kind kind) {
     make_room_for_events(s);
     if (epoch_of(tag_of(o)) != epoch(s)) make_room_for_object(s, kind);
-    seat *t = s->recording ? seat_of(s) : NULL;
+    return s->recording ? seat_of(s, me) : NULL;
+}
+
+static void event(slot *s, struct vs_self *me, vs_object *o, vs_kind kind, const vs_place *place) {
+    seat *t = &me->seat[me->recent];
+    uint64_t now = epoch(s);
+    if (t->epoch != now || epoch_of(tag_of(o)) != now || s->events >= s->near) t = seat_for(s, me, o, kind);
     if (!t) return;
     switch (kind) {
     case VS_READ:
-    case VS_WRITE: access_variable(s, t, o, kind, place); break;
-    case VS_ACQUIRE: take(s, t, o, place); break;
-    case VS_RELEASE: give_back(s, t, o, place); break;
-    case VS_ACQUIRE_SHARED: take_share(s, t, o, place); break;
-    case VS_RELEASE_SHARED: give_share_back(s, t, o, place); break;
+    case VS_WRITE: access_variable(s, me, t, o, kind, place); break;
+    case VS_ACQUIRE: take(s, me, t, o, place); break;
+    case VS_RELEASE: give_back(s, me, t, o, place); break;
+    case VS_ACQUIRE_SHARED: take_share(s, me, t, o, place); break;
+    case VS_RELEASE_SHARED: give_share_back(s, me, t, o, place); break;
     }
 }
 
 /* ---- which session an event is of */
 
 static uint64_t entered(void) {
-    uint64_t mine = self()->current;
-    return is_open(mine) ? mine : 0;
+    uint64_t id = self()->current;
+    return is_open(id) ? id : 0;
 }
 
 vs_session vs_current(void) {
-    uint64_t mine = entered(), all = atomic_load_explicit(&everywhere, memory_order_relaxed);
-    return mine ? mine : is_open(all) ? all : 0;
+    uint64_t id = entered(), all = atomic_load_explicit(&everywhere, memory_order_relaxed);
+    return id ? id : is_open(all) ? all : 0;
 }
 
 void vs_stop(const char *why) {
@@ -976,10 +999,10 @@ void vs_stop(const char *why) {
 
 void vs_enter(vs_session session) { self()->current = session; }
 
-/* The session `mine` does not see an event of its own thread, since the object is another's. */
-static void miss(uint64_t mine, const vs_object *o) {
+/* The session does not see an event of its own thread, since the object is another's. */
+static void miss(uint64_t id, const vs_object *o) {
     char name[256];
-    slot *s = kept(mine);
+    slot *s = kept(id);
     if (!s) return;
     name_of(o, "object", name);
     stop(s, "another session uses %.90s at the same time", name);
@@ -988,11 +1011,11 @@ static void miss(uint64_t mine, const vs_object *o) {
 
 /* The object's own session while it is open; else this thread's, else that of all. */
 static uint64_t session_for(vs_object *o) {
-    uint64_t tag = tag_of(o), mine = entered();
+    uint64_t tag = tag_of(o), own = entered();
     slot *s = slot_of(epoch_of(tag));
-    if (!is_of(s, tag)) return mine ? mine : vs_current();
+    if (!is_of(s, tag)) return own ? own : vs_current();
     uint64_t id = atomic_load_explicit(&s->id, memory_order_relaxed);
-    if (mine && id && mine != id) miss(mine, o);
+    if (own && id && own != id) miss(own, o);
     return id;
 }
 
@@ -1004,9 +1027,9 @@ static void pause_for(slot *s, uint32_t nanoseconds) {
 }
 
 /* One event in so many waits, before the lock is taken, so that more schedules come about. */
-static void disturb(slot *s, uint64_t id) {
+static void disturb(slot *s, struct vs_self *me, uint64_t id) {
     uint32_t noise = atomic_load_explicit(&s->noise, memory_order_relaxed);
-    seat *t = noise ? seat_in(self(), id) : NULL;
+    seat *t = noise ? seat_in(me, id) : NULL;
     if (!t) return;
     t->random ^= t->random << 13;
     t->random ^= t->random >> 7;
@@ -1016,31 +1039,39 @@ static void disturb(slot *s, uint64_t id) {
 }
 
 /* A thread without an open block waits for those of others, up to 5 ms once in each piece of the run. */
-static void wait_for_blocks(slot *s, uint64_t id) {
-    seat *t = seat_in(self(), id);
+static void wait_for_blocks(slot *s, struct vs_self *me, uint64_t id) {
+    seat *t = seat_in(me, id);
     if (!t || t->told || t->waited == epoch(s)) return;
     t->waited = epoch(s);
     for (int i = 0; i < 50 && s->crowded && s->recording && !is_keeper(s); i++) pause_for(s, 100000);
 }
 
-unsigned vs_hold(vs_object *o) {
-    if (vs_idle()) return 0;
-    uint64_t id = session_for(o);
+/* The slot of the session that an event about the object is of, kept; NULL where nothing is to be told. */
+static inline slot *slot_for(struct vs_self *me, vs_object *o) {
+    const seat *t = &me->seat[me->recent];
+    bool usual = t->id && t->epoch == epoch_of(tag_of(o)) && (me->current == t->id || !me->current);
+    uint64_t id = usual ? t->id : session_for(o);
     slot *s = slot_of(id);
-    if (!id || !atomic_load_explicit(&s->recording, memory_order_relaxed)) return 0;
-    if (!is_keeper(s)) {
-        disturb(s, id);
-        if (atomic_load_explicit(&s->crowded, memory_order_relaxed)) wait_for_blocks(s, id);
+    if (!id || !atomic_load_explicit(&s->recording, memory_order_relaxed)) return NULL;
+    if (atomic_load_explicit(&s->slow, memory_order_relaxed) && !is_keeper(s)) {
+        disturb(s, me, id);
+        wait_for_blocks(s, me, id);
     }
-    s = kept(id);
+    return kept(id);
+}
+
+unsigned vs_hold(vs_object *o) {
+    slot *s = vs_idle() ? NULL : slot_for(self(), o);
     return s ? (unsigned)(s - slots) + 1 : 0;
 }
 
 unsigned vs_before_at(vs_object *o, vs_kind kind, const vs_place *place) {
-    unsigned token = vs_hold(o);
-    slot *s = token ? &slots[token - 1] : NULL;
-    if (s && s->recording) event(s, o, kind, place);
-    return token;
+    if (vs_idle()) return 0;
+    struct vs_self *me = self();
+    slot *s = slot_for(me, o);
+    if (!s) return 0;
+    if (atomic_load_explicit(&s->recording, memory_order_relaxed)) event(s, me, o, kind, place);
+    return (unsigned)(s - slots) + 1;
 }
 
 unsigned vs_before(vs_object *o, vs_kind kind) { return vs_before_at(o, kind, NULL); }
@@ -1049,9 +1080,16 @@ void vs_after(unsigned token) {
     if (token) let_go(&slots[token - 1]);
 }
 
-void vs_tell_at(vs_object *o, vs_kind kind, const vs_place *place) { vs_after(vs_before_at(o, kind, place)); }
+void vs_tell_at(vs_object *o, vs_kind kind, const vs_place *place) {
+    if (vs_idle()) return;
+    struct vs_self *me = self();
+    slot *s = slot_for(me, o);
+    if (!s) return;
+    if (atomic_load_explicit(&s->recording, memory_order_relaxed)) event(s, me, o, kind, place);
+    let_go(s);
+}
 
-void vs_tell(vs_object *o, vs_kind kind) { vs_after(vs_before_at(o, kind, NULL)); }
+void vs_tell(vs_object *o, vs_kind kind) { vs_tell_at(o, kind, NULL); }
 
 /* ---- threads that the program starts */
 
@@ -1064,8 +1102,9 @@ vs_child vs_fork_at(const vs_place *place) {
     if (s->recording) {
         make_room_for_events(s);
         make_room(s, s->threads + 1, THREADS);
-        seat *t = s->recording ? seat_of(s) : NULL;
-        if (t && in_blocks(s, t)) enrol(s, t->number, child.who, place);
+        struct vs_self *me = self();
+        seat *t = s->recording ? seat_of(s, me) : NULL;
+        if (t && in_blocks(s, me, t)) enrol(s, t->number, child.who, place);
     }
     let_go(s);
     return child;
@@ -1097,11 +1136,12 @@ void vs_join_at(vs_child child, const vs_place *place) {
     velodrome_answer a;
     slot *s = kept(child.session);
     if (!s) return;
-    seat *t = s->recording ? seat_of(s) : NULL;
+    struct vs_self *me = self();
+    seat *t = s->recording ? seat_of(s, me) : NULL;
     uint32_t n = t ? number_of_who(s, child.who) : 0;
     if (n && n != t->number && !s->thread[n].joined && told(s, velodrome_exit(&s->handle, (uint8_t)n, &a), &a, NULL)) {
         s->thread[n].joined = true;
-        if (in_blocks(s, t)) told(s, velodrome_join(&s->handle, t->number, (uint8_t)n, &a), &a, place);
+        if (in_blocks(s, me, t)) told(s, velodrome_join(&s->handle, t->number, (uint8_t)n, &a), &a, place);
     }
     let_go(s);
 }
@@ -1115,13 +1155,13 @@ vs_self *vs_self_new(void) {
 }
 
 vs_self *vs_switch(vs_self *next) {
-    vs_self *before = acting;
-    acting = next;
+    vs_self *before = mine.acting;
+    mine.acting = next;
     return before;
 }
 
 void vs_self_free(vs_self *old) {
-    if (acting == old) acting = NULL;
+    if (mine.acting == old) mine.acting = NULL;
     free(old);
 }
 
@@ -1137,13 +1177,14 @@ static void child_of_fork(void) {
     }
     everywhere = 0;
     vs_recording = 0;
-    kept_slots = 0;
+    mine.slots = 0;
 }
 
 static void set_options(slot *s, const vs_options *o) {
     struct timespec now;
     clock_gettime(CLOCK_MONOTONIC, &now);
     s->most = !o->events ? 1u << 20 : o->events > VELODROME_MOST_EVENTS ? VELODROME_MOST_EVENTS : o->events;
+    s->near = s->most - s->most / 4;
     s->variables = o->variables ? o->variables : VELODROME_MOST_VARIABLES;
     s->locks = !o->locks ? VELODROME_MOST_LOCKS : o->locks > VELODROME_MOST_LOCKS ? VELODROME_MOST_LOCKS : o->locks;
     s->noise = o->noise;
@@ -1159,7 +1200,9 @@ static uint64_t open_in(slot *s, const vs_options *o, bool all) {
     set_options(s, o);
     s->earlier = s->born = 0;
     s->why[0] = 0;
-    s->alarmed = s->missed = s->in_hook = false;
+    s->alarmed = false;
+    s->missed = false;
+    s->in_hook = false;
     next_piece(s);
     if (open_handle(s)) return 0;
     s->outer = entered();
@@ -1179,8 +1222,8 @@ static bool keep_free(slot *s) {
         pthread_mutex_unlock(&s->order);
         return false;
     }
-    atomic_store_explicit(&s->keeper, (uintptr_t)&itself, memory_order_relaxed);
-    kept_slots++;
+    atomic_store_explicit(&s->keeper, (uintptr_t)&mine, memory_order_relaxed);
+    mine.slots++;
     s->held = 1;
     return true;
 }
@@ -1237,7 +1280,7 @@ static char *report_of(slot *s) {
 
 static void wait_for_hook(vs_session session) {
     struct timespec wait = {0, 1000000};
-    if (hooking == session || is_keeper(slot_of(session))) return;
+    if (mine.hooking == session || is_keeper(slot_of(session))) return;
     while (is_open(session) && slot_of(session)->in_hook) nanosleep(&wait, NULL);
 }
 
