@@ -220,6 +220,30 @@ TEST(objects_outlive_sessions) {
     }
     EXPECT(x.unwatched() == 6);
 }
+TEST(a_pool_goes_from_session_to_session) { // its thread and the variables are older than each of them
+    static var<int> x, y;
+    std::atomic<int> asked{0}, done{0};
+    std::thread pool([&] {
+        for (int i = 1; i <= 3; i++) {
+            while (asked < i) std::this_thread::yield();
+            (void)y.load();
+            x = i;
+            done = i;
+        }
+    });
+    for (int i = 0; i < 3; i++) {
+        session s;
+        {
+            VELODROME_ATOMIC("b");
+            y = 1;
+            asked++;
+            while (done < asked) std::this_thread::yield();
+            (void)x.load();
+        }
+        EXPECT(s.close().what == verdict::alarm);
+    }
+    pool.join();
+}
 TEST(held_before_the_session_and_released_in_it) {
     velodrome::mutex m;
     m.lock();

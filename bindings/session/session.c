@@ -1049,7 +1049,7 @@ static void wait_for_blocks(slot *s, struct vs_self *me, uint64_t id) {
 /* The slot of the session that an event about the object is of, kept; NULL where nothing is to be told. */
 static inline slot *slot_for(struct vs_self *me, vs_object *o) {
     const seat *t = &me->seat[me->recent];
-    bool usual = t->id && t->epoch == epoch_of(tag_of(o)) && (me->current == t->id || !me->current);
+    bool usual = t->epoch && t->epoch == epoch_of(tag_of(o)) && (me->current == t->id || !me->current) && is_open(t->id);
     uint64_t id = usual ? t->id : session_for(o);
     slot *s = slot_of(id);
     if (!id || !atomic_load_explicit(&s->recording, memory_order_relaxed)) return NULL;
