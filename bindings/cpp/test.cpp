@@ -222,24 +222,28 @@ TEST(objects_outlive_sessions) {
 }
 TEST(a_pool_goes_from_session_to_session) { // its thread and the variables are older than each of them
     static var<int> x, y;
-    std::atomic<int> asked{0}, done{0};
+    std::atomic<int> step{0};
+    auto go_to = [&](int n) {
+        step = n;
+        while (step == n) std::this_thread::yield();
+    };
     std::thread pool([&] {
-        for (int i = 1; i <= 3; i++) {
-            while (asked < i) std::this_thread::yield();
-            (void)y.load();
+        for (int i = 0; i < 3; i++) {
+            while (step != 1) std::this_thread::yield();
+            VELODROME_ATOMIC("pool");
             x = i;
-            done = i;
+            go_to(2);
+            (void)y.load();
+            step = 0;
         }
     });
     for (int i = 0; i < 3; i++) {
         session s;
-        {
-            VELODROME_ATOMIC("b");
-            y = 1;
-            asked++;
-            while (done < asked) std::this_thread::yield();
-            (void)x.load();
-        }
+        go_to(1);
+        VELODROME_ATOMIC("main");
+        (void)x.load();
+        y = 1;
+        go_to(3);
         EXPECT(s.close().what == verdict::alarm);
     }
     pool.join();

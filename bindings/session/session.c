@@ -114,6 +114,7 @@ uint32_t vs_recording;
 /* ---- what a thread has */
 
 typedef struct seat {
+    slot *in;
     uint64_t id, who, epoch, random, waited;
     uint8_t number;
     int told; /* how many of its blocks */
@@ -204,18 +205,18 @@ static inline void let_go(slot *s) {
 }
 
 /* The slot of the session, kept; NULL where it is not open. */
-static inline slot *kept(uint64_t id) {
-    if (!is_open(id)) return NULL;
-    slot *s = slot_of(id);
+static inline slot *kept_in(slot *s, uint64_t id) {
     if (!keep(s)) {
         s->missed = true;
         end_recording(s);
         return NULL;
     }
-    if (s->id == id) return s;
+    if (atomic_load_explicit(&s->id, memory_order_relaxed) == id) return s;
     let_go(s);
     return NULL;
 }
+
+static slot *kept(uint64_t id) { return is_open(id) ? kept_in(slot_of(id), id) : NULL; }
 
 __attribute__((format(printf, 2, 3))) static void stop(slot *s, const char *format, ...) {
     if (s->why[0] || s->alarmed) return;
@@ -751,7 +752,7 @@ static seat *seat_in(struct vs_self *me, uint64_t id) {
 static seat *new_seat(struct vs_self *me, slot *s, uint64_t who) {
     for (int i = 0; i < SEATS; i++) {
         if (is_open(me->seat[i].id)) continue;
-        me->seat[i] = (seat){.id = s->id, .who = who, .random = mixed(s->seed ^ mixed(who)) | 1};
+        me->seat[i] = (seat){.in = s, .id = s->id, .who = who, .random = mixed(s->seed ^ mixed(who)) | 1};
         return &me->seat[i];
     }
     return NULL;
@@ -1046,18 +1047,24 @@ static void wait_for_blocks(slot *s, struct vs_self *me, uint64_t id) {
     for (int i = 0; i < 50 && s->crowded && s->recording && !is_keeper(s); i++) pause_for(s, 100000);
 }
 
+/* The session of nearly all events: that of this thread's last one, where the object has a number since the last cut. */
+static inline bool is_usual(const struct vs_self *me, const seat *t, const vs_object *o) {
+    if (!t->epoch || t->epoch != epoch_of(tag_of(o)) || (me->current && me->current != t->id)) return false;
+    return atomic_load_explicit(&t->in->id, memory_order_relaxed) == t->id;
+}
+
 /* The slot of the session that an event about the object is of, kept; NULL where nothing is to be told. */
 static inline slot *slot_for(struct vs_self *me, vs_object *o) {
     const seat *t = &me->seat[me->recent];
-    bool usual = t->epoch && t->epoch == epoch_of(tag_of(o)) && (me->current == t->id || !me->current) && is_open(t->id);
+    bool usual = is_usual(me, t, o);
     uint64_t id = usual ? t->id : session_for(o);
-    slot *s = slot_of(id);
+    slot *s = usual ? t->in : slot_of(id);
     if (!id || !atomic_load_explicit(&s->recording, memory_order_relaxed)) return NULL;
     if (atomic_load_explicit(&s->slow, memory_order_relaxed) && !is_keeper(s)) {
         disturb(s, me, id);
         wait_for_blocks(s, me, id);
     }
-    return kept(id);
+    return kept_in(s, id);
 }
 
 unsigned vs_hold(vs_object *o) {
