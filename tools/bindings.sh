@@ -1,18 +1,23 @@
 #!/usr/bin/env bash
 # Builds libvelodrome, static and shared, and runs all examples and tests of the bindings with the compilers that are there.
 #
-#     tools/bindings.sh [--built]
+#     tools/bindings.sh [--built] [session|c|cpp|examples|rust|python ..]
 #
-# With --built it takes the library of crates/velo_ffi as it was built last. All that is made lies in bindings/out. The last line
-# is `N passed, N failed`, and the status is 1 where one failed, or nothing ran.
+# With --built it takes the library of crates/velo_ffi as it was built last; with words, only these parts are run. All that is made
+# lies in bindings/out, and what an install would have in bindings/out/prefix. The last line is `N passed, N failed`, and the status
+# is 1 where one failed, or nothing ran.
 set -uo pipefail
 top=$(cd "$(dirname "$0")/.." && pwd)
 out=$top/bindings/out
+prefix=$out/prefix
+session=$top/bindings/session
 kit=$(dirname "$(dirname "$(readlink -f "$(command -v rt)")")")
+includes=(-I"$top/bindings/c" -I"$session" -I"$top/bindings/cpp")
+warnings=(-Wall -Wextra -Werror)
 passed=0
 failed=0
 
-# step NAME COMMAND..: one thing that passes or fails
+# step NAME COMMAND..: one thing that passes or fails; a quarter of an hour at the most
 step() {
     local name=$1
     shift
@@ -34,81 +39,230 @@ status() {
     [ $? -eq "$wanted" ]
 }
 
+# says TEXT COMMAND..: passes where the command fails and its output has the text
+says() {
+    local text=$1
+    shift
+    ! "$@" >"$out/said.log" 2>&1 && grep -q -- "$text" "$out/said.log" || { cat "$out/said.log"; return 1; }
+}
+
 have() {
     command -v "$1" >/dev/null || { echo "left out: no $1"; return 1; }
 }
 
-if [ "${1:-}" != --built ]; then
-    (cd "$top/crates/velo_ffi" && rt lib) || exit 1
-fi
-made=$top/crates/velo_ffi/out/libvelo_ffi.a
-[ -f "$made" ] || { echo "bindings: $made is not there: run this without --built" >&2; exit 1; }
-mkdir -p "$out"
+in_time() {
+    timeout -k 5 900 "$@"
+}
 
-# one archive that has all: the library, and the calls of the C library that it makes
-rm -f "$out/libvelodrome.a"
-ar -M <<SCRIPT || exit 1
-create $out/libvelodrome.a
-addlib $made
-addlib $kit/c/liblibc_c.a
-save
-end
-SCRIPT
-sed -e "s#@PREFIX@#$out#" -e "s#@VERSION@#0.1.0#" "$top/bindings/c/velodrome.pc.in" >"$out/velodrome.pc"
-cp "$top/bindings/c/velodrome.h" "$out/"
+built=false
+if [ "${1:-}" = --built ]; then
+    built=true
+    shift
+fi
+parts=("$@")
+wants() {
+    [ ${#parts[@]} -eq 0 ] || [[ " ${parts[*]} " == *" $1 "* ]]
+}
 
 compilers=()
 for compiler in gcc clang; do
     have $compiler && compilers+=("$compiler")
 done
-if [ ${#compilers[@]} -gt 0 ]; then
-    step "shared library" "${compilers[0]}" -shared -o "$out/libvelodrome.so" -Wl,--whole-archive "$out/libvelodrome.a" -Wl,--no-whole-archive
-fi
-for compiler in "${compilers[@]}"; do
-    rm -f "$out"/{lost_update,recorder,cost,test,threads,memory}
-    step "c: make with $compiler" make -s -C "$top/bindings/c" CC="$compiler" LIBRARY="$out"
-    step "c: example ($compiler)" "$out/lost_update"
-    step "c: tests ($compiler)" "$out/test"
-    step "c: recorder, locked ($compiler)" "$out/recorder"
-    step "c: recorder, unlocked ($compiler)" status 3 "$out/recorder" unlocked
-    step "c: each growth refused in turn ($compiler)" "$out/memory"
-    step "c: 64 threads behind a lock ($compiler)" "$out/threads"
-    step "c: a million events ($compiler)" "$out/cost"
-done
-if [ -x "$out/test" ] && have valgrind; then
-    for program in test memory threads cost; do
-        step "c: $program leaks nothing" valgrind -q --leak-check=full --show-leak-kinds=all --error-exitcode=9 "$out/$program"
+[ ${#compilers[@]} -gt 0 ] || { echo "bindings: no C compiler" >&2; exit 1; }
+
+# ---- the library: its calls, the session layer, and the calls of the C library that it makes, in one archive
+
+$built || (cd "$top/crates/velo_ffi" && rt lib) || exit 1
+made=$top/crates/velo_ffi/out/libvelo_ffi.a
+[ -f "$made" ] || { echo "bindings: $made is not there: run this without --built" >&2; exit 1; }
+mkdir -p "$out"
+"${compilers[0]}" -std=gnu11 -O2 -fPIC -Wshadow "${warnings[@]}" "${includes[@]}" -c "$session/session.c" -o "$out/session.o" || exit 1
+rm -f "$out/libvelodrome.a" "$out"/libvelodrome.so*
+ar -M <<SCRIPT || exit 1
+create $out/libvelodrome.a
+addlib $made
+addlib $kit/c/liblibc_c.a
+addmod $out/session.o
+save
+end
+SCRIPT
+step "shared library" "${compilers[0]}" -shared -pthread -o "$out/libvelodrome.so.0" -Wl,-soname,libvelodrome.so.0 \
+    -Wl,--version-script="$session/exports.map" -Wl,--whole-archive "$out/libvelodrome.a" -Wl,--no-whole-archive
+ln -sf libvelodrome.so.0 "$out/libvelodrome.so"
+
+exports_only_its_own() {
+    ! nm -D --defined-only "$out/libvelodrome.so.0" | awk '$2 != "A" {print $3}' | grep -v -E '^(velodrome|vs)_' &&
+        objdump -p "$out/libvelodrome.so.0" | grep -q 'SONAME *libvelodrome.so.0'
+}
+step "shared library exports velodrome_* and vs_* alone" exports_only_its_own
+
+# build COMPILER OUTPUT SOURCE FLAG..: a C program over the library
+build() {
+    local compiler=$1 output=$2 source=$3
+    shift 3
+    "$compiler" -std=gnu11 -O2 -g "${warnings[@]}" "${includes[@]}" -pthread -o "$output" "$source" "$@" "$out/libvelodrome.a"
+}
+
+# tsan_tests COMPILER: the C++ tests and the session layer, instrumented
+tsan_tests() {
+    local c=${1/clang++/clang}
+    ${c/g++/gcc} -std=gnu11 -O1 -g -fsanitize=thread "${includes[@]}" -c "$session/session.c" -o "$out/session_tsan.o" &&
+        $1 -std=c++17 -O1 -g -fsanitize=thread "${includes[@]}" -pthread -o "$out/cpp_tsan" "$top/bindings/cpp/test.cpp" "$out/session_tsan.o" "$out/libvelodrome.a"
+}
+
+valgrinds() {
+    local name=$1
+    shift
+    step "$name leaks nothing" in_time valgrind -q --leak-check=full --show-leak-kinds=definite,indirect --errors-for-leak-kinds=definite,indirect --error-exitcode=9 "$@"
+}
+
+# ---- the session layer
+
+if wants session; then
+    refusing=-Wl,--wrap=malloc,--wrap=calloc,--wrap=realloc
+    for compiler in "${compilers[@]}"; do
+        for program in test fuzz long; do
+            step "session: $program builds ($compiler)" build "$compiler" "$out/session_$program" "$session/$program.c"
+        done
+        step "session: memory builds ($compiler)" build "$compiler" "$out/session_memory" "$session/memory.c" "$session/session.c" $refusing
+        step "session: tests ($compiler)" in_time "$out/session_test"
+        step "session: fuzz against the calls ($compiler)" in_time "$out/session_fuzz" 20000
+        step "session: each allocation refused in turn ($compiler)" in_time "$out/session_memory"
+        step "session: longer than a log ($compiler)" in_time "$out/session_long"
+        step "session: longer than a log, with an alarm at its end ($compiler)" in_time "$out/session_long" lost
+        step "session: tests build for ThreadSanitizer ($compiler)" build "$compiler" "$out/session_tsan" "$session/test.c" "$session/session.c" -fsanitize=thread -O1
+        step "session: ThreadSanitizer is silent ($compiler)" in_time "$out/session_tsan"
     done
+    if have valgrind; then
+        valgrinds "session: tests" "$out/session_test"
+        valgrinds "session: fuzz" "$out/session_fuzz" 300
+    fi
 fi
-for compiler in g++ clang++; do
-    have $compiler || continue
-    for program in examples/lost_update test; do
-        name=cpp_$(basename $program)
-        step "cpp: $program builds ($compiler)" $compiler -std=c++17 -O2 -Wall -Wextra -Werror -pthread -I"$top/bindings/c" -I"$top/bindings/cpp" -o "$out/$name" "$top/bindings/cpp/$program.cpp" "$out/libvelodrome.a"
-        step "cpp: $program ($compiler)" "$out/$name"
+
+# ---- C
+
+if wants c; then
+    for compiler in "${compilers[@]}"; do
+        rm -f "$out"/{lost_update,cost,test,threads,memory}
+        step "c: make with $compiler" make -s -C "$top/bindings/c" CC="$compiler" LIBRARY="$out"
+        step "c: example ($compiler)" "$out/lost_update"
+        step "c: tests ($compiler)" "$out/test"
+        step "c: each growth refused in turn ($compiler)" "$out/memory"
+        step "c: 64 threads behind a lock ($compiler)" "$out/threads"
+        step "c: a million events ($compiler)" "$out/cost"
+        step "c: pthreads, watched ($compiler)" build "$compiler" "$out/pthreads" "$top/bindings/c/pthreads.c"
+        step "c: pthreads, watched: tests ($compiler)" in_time "$out/pthreads"
+        step "c: pthreads with VELODROME_OFF ($compiler)" "$compiler" -std=gnu11 -DVELODROME_OFF "${warnings[@]}" "${includes[@]}" -pthread -o "$out/pthreads_off" "$top/bindings/c/pthreads.c"
+        step "c: pthreads with VELODROME_OFF: tests ($compiler)" in_time "$out/pthreads_off"
     done
-done
-if have cargo; then
-    export VELODROME_LIBRARY_FOLDER=$out CARGO_TARGET_DIR=$out/cargo
-    step "rust: tests" cargo test --offline --quiet --manifest-path "$top/bindings/rust/Cargo.toml"
-    step "rust: example" cargo run --offline --quiet --manifest-path "$top/bindings/rust/Cargo.toml" --example lost_update
-    step "rust: a million events" cargo run --release --offline --quiet --manifest-path "$top/bindings/rust/Cargo.toml" --example cost
+    if have valgrind; then
+        for program in test memory threads cost pthreads; do
+            valgrinds "c: $program" "$out/$program"
+        done
+    fi
 fi
-if have python3 && [ -f "$out/libvelodrome.so" ]; then
-    export VELODROME_LIBRARY=$out/libvelodrome.so PYTHONPATH=$top/bindings/python PYTHONDONTWRITEBYTECODE=1
-    step "python: tests" python3 "$top/bindings/python/tests/test_velodrome.py"
-    step "python: example" python3 "$top/bindings/python/example.py"
-    unset VELODROME_LIBRARY PYTHONPATH
+
+# ---- C++
+
+if wants cpp; then
+    for compiler in g++ clang++; do
+        have $compiler || continue
+        flags=(-O2 -g -Wpedantic "${warnings[@]}" "${includes[@]}" -pthread)
+        for standard in 17 20; do
+            step "cpp: tests build (C++$standard, $compiler)" $compiler -std=c++$standard "${flags[@]}" -o "$out/cpp_test" "$top/bindings/cpp/test.cpp" "$out/libvelodrome.a"
+            step "cpp: tests (C++$standard, $compiler)" in_time env -C "$out" "$out/cpp_test"
+            step "cpp: VELODROME_OFF builds without the library (C++$standard, $compiler)" $compiler -std=c++$standard "${flags[@]}" -o "$out/cpp_off" "$top/bindings/cpp/off.cpp"
+            step "cpp: VELODROME_OFF (C++$standard, $compiler)" "$out/cpp_off"
+        done
+        step "cpp: a block that ends at once is refused ($compiler)" says discarded $compiler -std=c++17 "${flags[@]}" -c -o /dev/null "$top/bindings/cpp/discarded.cpp"
+        step "cpp: tests build for ThreadSanitizer ($compiler)" tsan_tests $compiler
+        step "cpp: ThreadSanitizer is silent ($compiler)" in_time env -C "$out" TSAN_OPTIONS=die_after_fork=0 "$out/cpp_tsan"
+    done
+    if [ -x "$out/cpp_test" ] && have valgrind; then
+        valgrinds "cpp: tests" env -C "$out" "$out/cpp_test" -noise_finds_what_is_rare -more_objects_than_numbers -many_labels -thousands_of_sessions
+    fi
+fi
+
+# ---- small projects with tests of their own, over what an install has
+
+if wants examples && have cmake; then
+    rm -rf "$prefix" "$out"/build_*
+    step "install: configures" cmake -S "$top/bindings" -B "$out/build_install" -DVELODROME_LIBRARIES="$out"
+    step "install" cmake --install "$out/build_install" --prefix "$prefix"
+    for language in c cpp; do
+        [ $language = c ] || [ -e /usr/include/gtest/gtest.h ] || { echo "left out: no GoogleTest"; continue; }
+        build_folder=$out/build_$language
+        repeated=(ctest --test-dir "$build_folder" --output-on-failure --repeat until-fail:1000)
+        step "examples: $language configures" cmake -S "$top/bindings/examples/$language" -B "$build_folder" -DCMAKE_PREFIX_PATH="$prefix" -DCMAKE_BUILD_TYPE=Release
+        step "examples: $language builds" cmake --build "$build_folder"
+        step "examples: $language, careful: a hundred times without an alarm" in_time ctest --test-dir "$build_folder" --output-on-failure --repeat until-fail:100 -R '[Cc]areful'
+        step "examples: $language, careless: repeated until it fails" says 'not atomic: deposit_carelessly' in_time "${repeated[@]}" -R '[Cc]areless'
+    done
+    if [ -x "$out/build_cpp/lost_update" ]; then
+        step "examples: cpp, the first program" status 3 "$out/build_cpp/lost_update"
+        step "examples: cpp with WATCH=OFF configures" cmake -S "$top/bindings/examples/cpp" -B "$out/build_off" -DCMAKE_PREFIX_PATH="$prefix" -DWATCH=OFF
+        step "examples: cpp with WATCH=OFF builds" cmake --build "$out/build_off"
+        step "examples: cpp with WATCH=OFF" ctest --test-dir "$out/build_off" --output-on-failure
+    fi
+    if have pkg-config; then
+        flags=$(PKG_CONFIG_PATH=$prefix/lib/pkgconfig pkg-config --cflags --libs velodrome)
+        step "install: pkg-config" sh -c "g++ -std=c++17 -o '$out/by_pkg_config' '$top/bindings/examples/cpp/lost_update.cpp' $flags -Wl,-rpath,'$prefix/lib'"
+        step "install: linked with libvelodrome.so.0" status 3 "$out/by_pkg_config"
+    fi
+fi
+
+# ---- Rust
+
+if wants rust && have cargo; then
+    rust=$top/bindings/rust/Cargo.toml
+    bank=$top/bindings/examples/rust/Cargo.toml
+    export VELODROME_LIB_DIR=$out CARGO_TARGET_DIR=$out/cargo VELODROME_LOGS=$out/logs
+    step "rust: tests" in_time cargo test --offline --quiet --workspace --manifest-path "$rust"
+    cargo clippy --version >/dev/null 2>&1 &&
+        step "rust: no warnings" cargo clippy --offline --quiet --workspace --all-targets --manifest-path "$rust" -- -D warnings
+    step "rust: documents" env RUSTDOCFLAGS="-D warnings" cargo doc --offline --quiet --no-deps --workspace --manifest-path "$rust"
+    step "rust: cost of a round" in_time cargo run --release --offline --quiet --manifest-path "$rust" --example cost
+    platform=$top/bindings/rust/velodrome-sys/lib/$(rustc -vV | sed -n 's/^host: //p')
+    mkdir -p "$platform" && cp "$out/libvelodrome.a" "$platform/"
+    step "rust: the crates as packages" env -u VELODROME_LIB_DIR cargo package --workspace --offline --quiet --allow-dirty --manifest-path "$rust"
+    rm -rf "$top/bindings/rust/velodrome-sys/lib"
+    step "examples: rust without velodrome" cargo test --offline --quiet --manifest-path "$bank"
+    step "examples: rust, careful: a hundred times without an alarm" in_time env VELODROME_NOISE=4 cargo test --offline --quiet --manifest-path "$bank" --features watch careful
+    step "examples: rust, careless: repeated until it fails" says 'not atomic: bank::deposit_carelessly (lib.rs:' in_time env VELODROME_NOISE=4 cargo test --offline --quiet --manifest-path "$bank" --features watch careless
+    step "examples: rust, its log is kept" test -s "$out/logs/bank.careless.vlog" -a -s "$out/logs/bank.careless.vlog.names"
+    unset VELODROME_LIB_DIR CARGO_TARGET_DIR VELODROME_LOGS
+fi
+
+# ---- Python
+
+if wants python && have python3; then
+    python=$top/bindings/python
+    with_pytest= # python3-pytest is Debian's package, for its own python3
+    for candidate in python3 /usr/bin/python3; do
+        [ -z "$with_pytest" ] && command -v $candidate >/dev/null && $candidate -c 'import pytest' 2>/dev/null && with_pytest=$candidate
+    done
+    export PYTHONDONTWRITEBYTECODE=1 VELODROME_LOGS=$out/logs
     rm -f "$out"/velodrome-*.whl
+    step "python: wheel of manylinux_2_17" python3 "$python/make_wheel.py" "$out/libvelodrome.a" "$out"
+    step "python: the same by pip" env VELODROME_LIB_DIR="$out" python3 -m pip wheel --quiet --no-index --no-deps --disable-pip-version-check --wheel-dir "$out/pip" "$python"
     fresh=$(mktemp -d) # outside, as it has links
-    step "python: wheel" python3 "$top/bindings/python/make_wheel.py" "$out/libvelodrome.so" "$out"
-    step "python: fresh environment" python3 -m venv "$fresh"
+    step "python: fresh environment" "${with_pytest:-python3}" -m venv ${with_pytest:+--system-site-packages} "$fresh"
     step "python: wheel installs" "$fresh/bin/pip" install --quiet --no-index --disable-pip-version-check "$out"/velodrome-*.whl
-    step "python: tests over the wheel" "$fresh/bin/python" "$top/bindings/python/tests/test_velodrome.py"
-    cp "$top/bindings/python/example.py" "$fresh/"
-    step "python: example over the wheel" "$fresh/bin/python" "$fresh/example.py"
+    step "python: tests" in_time env -C "$fresh" "$fresh/bin/python" -X dev "$python/tests/test_velodrome.py"
+    step "python: cost of an event" in_time env -C "$fresh" "$fresh/bin/python" "$python/cost.py"
+    if [ -n "$with_pytest" ]; then
+        pytest=(in_time env -C "$fresh" "$fresh/bin/python" -m pytest -q -p no:cacheprovider --rootdir "$fresh")
+        bank=$top/bindings/examples/python/test_bank.py
+        step "python: tests of the pytest plugin" "${pytest[@]}" "$python/tests/test_pytest_plugin.py"
+        step "examples: python, careful: a hundred times without an alarm" "${pytest[@]}" --velodrome-noise 4 "$bank" -k careful
+        step "examples: python, careless: repeated until it fails" says 'not atomic: Account.deposit_carelessly (bank.py:' "${pytest[@]}" --velodrome-noise 4 "$bank" -k careless
+    else
+        echo "left out: no pytest"
+    fi
     rm -rf "$fresh"
+    unset PYTHONDONTWRITEBYTECODE VELODROME_LOGS
 fi
-rm -f "$out/step.log"
+
+rm -f "$out/step.log" "$out/said.log"
 echo "$passed passed, $failed failed"
 [ "$failed" -eq 0 ] && [ "$passed" -gt 0 ]

@@ -1,92 +1,942 @@
-// What the library's contracts cannot say: names, guards, threads and errors of this header.
+// test [NAME..] [-NAME..]: what velodrome.hpp promises, a case each; those of these names, or all but these. Each ends by itself, with its verdict; tools/bindings.sh gives it a minute.
 #include "velodrome.hpp"
+#include <cstdio>
+#include <cstdlib>
+#include <cstring>
+#include <fstream>
+#include <functional>
+#include <future>
 #include <iostream>
 #include <memory>
+#include <optional>
 #include <sstream>
+#include <stdexcept>
+#include <sys/wait.h>
+#include <unistd.h>
+#include <vector>
+using namespace velodrome;
 
-static int failed = 0;
-static void expect(const char *what, bool holds) {
-    if (!holds) {
-        std::cout << what << "\n";
-        failed = 1;
-    }
+// ---- a small harness
+
+struct test_case {
+    const char *name;
+    void (*run)();
+};
+static std::vector<test_case> &cases() {
+    static std::vector<test_case> all;
+    return all;
+}
+static int failures = 0;
+static void expect(bool holds, const char *what, int line) {
+    if (holds) return;
+    std::cout << "    line " << line << ": " << what << std::endl;
+    failures++;
+}
+#define EXPECT(x) expect(static_cast<bool>(x), #x, __LINE__)
+#define TEST(name) \
+    static void name(); \
+    static const bool name##_is_there = (cases().push_back({#name, name}), true); \
+    static void name()
+
+static options limited_to(std::uint32_t events) {
+    options o;
+    o.events = events;
+    return o;
+}
+static bool clean(session &s) {
+    const result r = s.close();
+    if (!r) std::cout << r.words;
+    return r.what == verdict::clean;
+}
+static bool has(const std::string &text, const char *part) { return text.find(part) != std::string::npos; }
+template <class F> static void apart(F f) { std::thread(std::move(f)).join(); } // a thread that nobody told of
+
+// Between the read and the write of a block, `f` runs in another thread.
+template <class F> static void add_around(var<int> &x, F f) {
+    VELODROME_ATOMIC("add");
+    const int before = x;
+    apart(std::move(f));
+    x = before + 1;
 }
 
-template <class Body> static std::uint32_t status_of(Body body) {
-    try {
-        body();
-    } catch (const velo::Refused &refused) {
-        return refused.status;
-    }
-    return 0;
-}
+// ---- who is who
 
-int main() {
-    {
-        velo::Monitor monitor(3, 1, 1);
-        velo::Shared<int> x(monitor, "x", 0);
-        velo::Mutex m(monitor, "m");
-        auto work = [&] {
-            for (int i = 0; i < 50; i++) {
-                velo::Atomic block(monitor, "add");
-                std::lock_guard<velo::Mutex> hold(m);
-                x.set(x.get() + 1);
-            }
-        };
-        auto one = monitor.spawn(work);
-        auto two = monitor.spawn(work);
-        one.join();
-        two.join();
-        expect("sum", x.get() == 100);
-        expect("clean", !monitor.verdict().alarmed);
-        expect("events", monitor.verdict().events == 2 + 2 * 50 * 6 + 2 + 2 + 1);
-        expect("no such thread", status_of([&] { monitor.spawn([] {}); }) == VELODROME_NO_SUCH_THREAD);
-        std::ostringstream names;
-        monitor.write_names(names);
-        expect("names", names.str() == "label 0 add\nlock 0 m\nvariable 0 x\n");
-        std::uint32_t foreign = 0;
-        std::thread([&] { foreign = status_of([&] { x.get(); }); }).join();
-        expect("foreign thread", foreign == VELODROME_NOT_LIVE);
+TEST(a_lost_update_is_an_alarm) {
+    session s;
+    var<int> x VELODROME_VALUE(0, "x");
+    add_around(x, [&] { x = 5; });
+    const result r = s.close();
+    EXPECT(r.what == verdict::alarm && r.fails);
+    EXPECT(has(r.words, "not atomic: add (test.cpp:"));
+    EXPECT(has(r.words, "reads x") && has(r.words, "writes x"));
+}
+TEST(another_variable_is_none) {
+    session s;
+    var<int> x, y;
+    add_around(x, [&] { y = 5; });
+    EXPECT(clean(s));
+}
+TEST(a_thread_of_another_session_is_itself) { // the writer is the first thread of session a; the alarm is that of b
+    for (bool ours : {true, false}) {
+        std::optional<session> a(std::in_place), b(std::in_place);
+        var<int> x VELODROME_VALUE(0, "x");
+        x = 0; // it is b's
+        std::atomic<int> step{0};
+        velodrome::thread victim([&] {
+            VELODROME_ATOMIC("inc");
+            const int v = x;
+            step = 1;
+            while (step < 2) std::this_thread::yield();
+            x = v + 1;
+        });
+        while (step < 1) std::this_thread::yield();
+        const vs_session mine = vs_current();
+        vs_enter(ours ? b->native_handle() : a->native_handle());
+        velodrome::thread([&] { x = 5; }).join();
+        vs_enter(mine);
+        step = 2;
+        victim.join();
+        EXPECT(b->close().what == verdict::alarm);
+        const result ra = a->close();
+        EXPECT(ours ? ra.what == verdict::clean : ra.what == verdict::incomplete && has(ra.words, "another session uses x"));
     }
-    {
-        velo::Monitor monitor(2, 1, 0);
-        velo::Shared<int> x(monitor, "x", 0);
+}
+TEST(threads_of_two_sessions_have_their_own_numbers) {
+    session a, b;
+    var<int> x VELODROME_VALUE(0, "x");
+    std::atomic<int> step{0};
+    velodrome::thread one([&] {
+        x = 1;
+        step = 1;
+        while (step < 2) std::this_thread::yield();
+    });
+    while (step < 1) std::this_thread::yield();
+    apart([&] { x = 2; });
+    step = 2;
+    one.join();
+    EXPECT(b.save("numbers.vlog"));
+    std::ifstream log("numbers.vlog");
+    std::stringstream text;
+    text << log.rdbuf();
+    EXPECT(has(text.str(), "\n2 wr 0 ") && has(text.str(), "\n3 wr 0 "));
+    std::remove("numbers.vlog");
+    std::remove("numbers.vlog.names");
+    EXPECT(clean(b));
+    EXPECT(clean(a));
+}
+TEST(a_thread_that_opens_a_session_stays_who_it_is) {
+    session s;
+    var<int> x;
+    velodrome::thread([&] {
+        x = 1;
         {
-            velo::Atomic outer(monitor, "outer"), inner(monitor, "inner");
-            int before = x.get();
-            monitor.spawn([&] { x.set(5); }).join();
-            x.set(before);
+            session mine;
+            var<int> y;
+            y = 1;
+            EXPECT(clean(mine));
         }
-        auto blamed = monitor.blamed();
-        expect("two blocks", blamed.size() == 2 && blamed[0].first == 0 && blamed[1].first == 1 && blamed[1].label == 1);
-        expect("report", monitor.report() == "events 10\nthread 0 8\nthread 1 2\nverdict alarm 6\ntransaction 0\nblame 0 0\nblame 1 1\n");
-        expect("explanation", monitor.explanation().find("closes a cycle of 2 transactions:\n") != std::string::npos);
-        std::ostringstream log;
-        monitor.write_log(log);
-        expect("log", log.str() == "vlog 2 2 1 0\n0 begin 0\n0 begin 1\n0 rd 0 0\n0 fork 1\n1 wr 0 0\n1 exit\n0 join 1\n0 wr 0 0\n0 end\n0 end\n");
+        x = 2;
+    }).join();
+    EXPECT(clean(s));
+}
+struct account {
+    velodrome::mutex lock VELODROME_NAMED("account::lock");
+    var<int> balance VELODROME_VALUE(0, "account::balance");
+};
+TEST(two_objects_of_one_name_are_two) {
+    session s;
+    account a, b;
+    {
+        std::scoped_lock both(a.lock, b.lock);
     }
     {
-        // An explanation that is longer than the room that is tried first.
-        velo::Monitor monitor(2, 1, 0);
-        velo::Shared<int> x(monitor, "x", 0);
-        std::vector<std::unique_ptr<velo::Atomic>> blocks;
-        for (int i = 0; i < 32; i++) blocks.push_back(std::make_unique<velo::Atomic>(monitor, "b" + std::to_string(i)));
-        int before = x.get();
-        monitor.spawn([&] { x.set(5); }).join();
-        x.set(before);
-        while (!blocks.empty()) blocks.pop_back();
-        std::string words = monitor.explanation();
-        expect("long explanation", words.size() > 1024 && words.find("\n  block 31, from line 33: ") != std::string::npos && words.back() == '\n');
-        expect("all blamed", monitor.blamed().size() == 32);
+        VELODROME_ATOMIC("t");
+        (void)a.balance.load();
+        apart([&] { b.balance = 1; });
+        (void)a.balance.load();
     }
+    EXPECT(s.save("instances.vlog"));
+    std::ifstream names("instances.vlog.names");
+    std::stringstream text;
+    text << names.rdbuf();
+    EXPECT(has(text.str(), "variable 0 account::balance\nvariable 1 account::balance #2\n"));
+    EXPECT(has(text.str(), "lock 0 account::lock\nlock 1 account::lock #2\n"));
+    std::remove("instances.vlog");
+    std::remove("instances.vlog.names");
+    EXPECT(clean(s));
+}
+TEST(more_objects_than_numbers) { // variable 65,536 is not variable 0
+    session s;
+    std::vector<std::unique_ptr<var<int>>> all;
+    for (int i = 0; i < 70000; i++) {
+        all.push_back(std::make_unique<var<int>>(0));
+        (void)all.back()->load();
+    }
+    {
+        VELODROME_ATOMIC("b");
+        (void)all[0]->load();
+        apart([&] { *all[65536] = 1; });
+        (void)all[0]->load();
+    }
+    EXPECT(clean(s));
+}
+TEST(a_thread_met_in_a_block_is_no_child_of_it) {
+    session s;
+    var<int> x, y;
+    std::promise<void> start, done;
+    std::thread pool([&] { // it lives when the block begins, and is met in it
+        start.get_future().wait();
+        y = 1;
+        done.set_value();
+    });
+    {
+        VELODROME_ATOMIC("b");
+        x = 1;
+        start.set_value();
+        done.get_future().wait();
+        (void)y.load();
+    }
+    pool.join();
+    EXPECT(clean(s));
+}
+TEST(a_copy_is_another_variable) {
+    session s;
+    var<int> x(3), y(x);
+    add_around(x, [&] { y = 5; });
+    EXPECT(x == 4 && y == 5);
+    y = x;
+    EXPECT(y == 4);
+    EXPECT(clean(s));
+}
+TEST(objects_outlive_sessions) {
+    static var<int> x;
+    static velodrome::mutex m;
+    for (int i = 0; i < 3; i++) {
+        session s;
+        std::lock_guard hold(m);
+        x += 1;
+        EXPECT(clean(s));
+        x += 1;
+    }
+    EXPECT(x.unwatched() == 6);
+}
+TEST(a_pool_goes_from_session_to_session) { // its thread and the variables are older than each of them
+    static var<int> x, y;
+    std::atomic<int> step{0};
+    auto go_to = [&](int n) {
+        step = n;
+        while (step == n) std::this_thread::yield();
+    };
+    std::thread pool([&] {
+        for (int i = 0; i < 3; i++) {
+            while (step != 1) std::this_thread::yield();
+            VELODROME_ATOMIC("pool");
+            x = i;
+            go_to(2);
+            (void)y.load();
+            step = 0;
+        }
+    });
+    for (int i = 0; i < 3; i++) {
+        session s;
+        go_to(1);
+        VELODROME_ATOMIC("main");
+        (void)x.load();
+        y = 1;
+        go_to(3);
+        EXPECT(s.close().what == verdict::alarm);
+    }
+    pool.join();
+}
+TEST(held_before_the_session_and_released_in_it) {
+    velodrome::mutex m;
+    m.lock();
+    session s;
+    m.unlock();
+    m.lock();
+    EXPECT(clean(s));
+    m.unlock();
+}
+TEST(a_block_begun_before_the_session_counts_from_there) {
+    var<int> x;
+    VELODROME_ATOMIC("outer");
+    session s;
+    add_around(x, [&] { x = 1; });
+    EXPECT(s.close().what == verdict::alarm);
+}
+
+// ---- nothing fails the program
+
+TEST(a_block_that_is_too_long) {
+    session s(limited_to(40));
+    velodrome::mutex m;
+    var<int> x;
+    {
+        VELODROME_ATOMIC("long");
+        std::lock_guard hold(m);
+        for (int i = 0; i < 1000; i++) x += 1;
+    }
+    EXPECT(x.unwatched() == 1000);
+    EXPECT(m.try_lock());
+    m.unlock();
+    const result r = s.close();
+    EXPECT(r.what == verdict::incomplete && !r.fails && has(r.words, "too many events while a block was open"));
+}
+TEST(locks_work_where_nothing_is_told) {
+    session s(limited_to(1));
+    velodrome::mutex m;
+    var<int> x;
+    VELODROME_ATOMIC("b");
+    for (int i = 0; i < 3; i++) {
+        m.lock();
+        x = 7;
+        m.unlock();
+    }
+    EXPECT(x.unwatched() == 7);
+    EXPECT(s.so_far() == verdict::incomplete);
+}
+TEST(an_alarm_stays) {
+    session s(limited_to(60));
+    var<int> x;
+    add_around(x, [&] { x = 5; });
+    {
+        VELODROME_ATOMIC("long");
+        for (int i = 0; i < 1000; i++) x += 1;
+    }
+    EXPECT(s.so_far() == verdict::alarm);
+    EXPECT(s.close().what == verdict::alarm);
+}
+TEST(exceptions_and_returns) {
+    session s;
+    velodrome::mutex m;
+    var<int> x;
+    auto f = [&](int i) {
+        VELODROME_ATOMIC("b");
+        std::lock_guard hold(m);
+        if (i) return;
+        x = 1;
+        throw std::runtime_error("mine");
+    };
+    bool mine = false;
     try {
-        velo::Monitor monitor(1, 1, 1);
-        monitor.event(velodrome_end, [] {});
-        expect("refused", false);
-    } catch (const velo::Refused &refused) {
-        expect("words", std::string(refused.what()) == "velodrome: no open block");
+        f(0);
+    } catch (const std::runtime_error &) {
+        mine = true;
     }
-    expect("bad number", status_of([] { velo::Monitor monitor(65); }) == VELODROME_BAD_NUMBER);
-    std::cout << (failed ? "failed" : "passed") << "\n";
-    return failed;
+    f(1);
+    EXPECT(mine && m.try_lock());
+    m.unlock();
+    EXPECT(clean(s));
+}
+TEST(a_thread_that_could_not_be_started) {
+    session s;
+    struct no_copy {
+        no_copy() = default;
+        no_copy(const no_copy &) { throw std::runtime_error("no"); }
+        void operator()() const {}
+    } f;
+    bool thrown = false;
+    try {
+        velodrome::thread t(f);
+    } catch (const std::runtime_error &) {
+        thrown = true;
+    }
+    EXPECT(thrown);
+    EXPECT(clean(s));
+}
+TEST(a_thread_full_of_events_ends) {
+    session s(limited_to(8));
+    var<int> x;
+    velodrome::thread([&] {
+        VELODROME_ATOMIC("b");
+        for (int i = 0; i < 100; i++) x += 1;
+    }).join();
+    EXPECT(x.unwatched() == 100);
+    EXPECT(s.close().what == verdict::incomplete);
+}
+TEST(a_thread_ends_in_a_block) { // by its object; a scope cannot
+    session s;
+    var<int> x;
+    velodrome::thread([&] {
+        static vs_object label{0, "b", 0};
+        vs_begin(&label);
+        x = 1;
+    }).join();
+    x = 2;
+    EXPECT(clean(s));
+}
+TEST(ends_without_blocks) {
+    session s;
+    vs_end();
+    var<int> x;
+    x = 1;
+    vs_end();
+    EXPECT(clean(s));
+}
+TEST(thread_locals_act_after_the_body) {
+    session s;
+    static var<int> x;
+    struct last {
+        ~last() { x += 1; }
+    };
+    velodrome::thread([&] {
+        static thread_local last l;
+        (void)&l;
+        x += 1;
+    }).join();
+    EXPECT(x == 2);
+    EXPECT(clean(s));
+}
+static var<int> *late;
+struct at_exit {
+    ~at_exit() {
+        if (late) *late = 1;
+    }
+} at_exit_; // made before the session, so it goes after it
+TEST(statics_in_any_order) {
+    static session s;
+    static var<int> x;
+    late = &x;
+    x = 0;
+}
+struct nosy {
+    var<int> *x = nullptr;
+    nosy() = default;
+    nosy(var<int> *p) : x(p) {}
+    nosy(const nosy &o) : x(o.x) {
+        if (x) (void)x->load();
+    }
+    nosy &operator=(const nosy &) = default;
+    ~nosy() {
+        if (x) (void)x->load();
+    }
+};
+TEST(accesses_within_accesses) {
+    session s;
+    var<int> x;
+    var<nosy> y(nosy(&x), named{"y"});
+    (void)y.load();
+    y.store(nosy(&x));
+    y.with([&](const nosy &n) { return n.x->load(); });
+    EXPECT(clean(s));
+}
+TEST(sessions_within_accesses) {
+    session s;
+    var<int> x;
+    x.with_mut([&](int &v) {
+        session t;
+        var<int> y;
+        y = 1;
+        EXPECT(clean(t));
+        v = 1;
+    });
+    x.with_mut([&](int &) { EXPECT(clean(s)); });
+    x = 2;
+}
+TEST(children_of_fork) { // while another thread is in a call
+    session s;
+    var<int> x;
+    std::atomic<bool> stop{false};
+    velodrome::thread t([&] {
+        while (!stop) (void)x.load();
+    });
+    int hung = 0;
+    for (int i = 0; i < 20; i++) {
+        const pid_t child = fork();
+        if (!child) {
+            ::alarm(5);
+            x = 1; // there is no session here
+            session mine;
+            var<int> y;
+            y = 1;
+            _exit(mine.close().what == verdict::clean ? 0 : 1);
+        }
+        int status = 0;
+        waitpid(child, &status, 0);
+        hung += status != 0;
+    }
+    stop = true;
+    t.join();
+    EXPECT(hung == 0);
+    EXPECT(clean(s));
+}
+TEST(a_fork_within_an_access) {
+    session s;
+    var<int> x;
+    int status = 1;
+    x.with_mut([&](int &) {
+        const pid_t child = fork();
+        if (!child) return;
+        waitpid(child, &status, 0);
+    });
+    if (vs_current() == 0) _exit(0); // the child, whose access has ended
+    EXPECT(status == 0);
+    EXPECT(clean(s));
+}
+
+// ---- no limit of the program
+
+TEST(a_long_run) { // 7,000 events through a log of 40
+    session s(limited_to(40));
+    velodrome::mutex m;
+    var<int> x;
+    for (int i = 0; i < 1000; i++) {
+        VELODROME_ATOMIC("inc");
+        std::lock_guard hold(m);
+        x += 1;
+    }
+    EXPECT(x.unwatched() == 1000);
+    EXPECT(clean(s));
+}
+TEST(a_long_run_with_locks_held_throughout) {
+    session s(limited_to(40));
+    velodrome::mutex m VELODROME_NAMED("m");
+    velodrome::recursive_mutex r VELODROME_NAMED("r");
+    velodrome::shared_mutex w VELODROME_NAMED("w");
+    var<int> x;
+    std::unique_lock a(m);
+    std::unique_lock b(r), c(r);
+    std::shared_lock d(w);
+    for (int i = 0; i < 1000; i++) {
+        VELODROME_ATOMIC("inc");
+        x += 1;
+    }
+    std::thread([&] { std::shared_lock e(w); }).join();
+    a.unlock();
+    b.unlock();
+    for (int i = 0; i < 100; i++) x += 1;
+    c.unlock();
+    d.unlock();
+    std::thread([&] { std::scoped_lock all(m, r, w); }).join();
+    EXPECT(clean(s));
+}
+TEST(an_alarm_after_cuts) {
+    session s(limited_to(40));
+    var<int> x;
+    for (int i = 0; i < 1000; i++) x = i;
+    add_around(x, [&] { x = 5; });
+    EXPECT(s.close().what == verdict::alarm);
+}
+TEST(an_alarm_through_a_lock_that_was_held_across_a_cut) {
+    session s(limited_to(40));
+    velodrome::mutex m VELODROME_NAMED("m");
+    var<int> x, y;
+    m.lock();
+    for (int i = 0; i < 100; i++) y = i;
+    {
+        VELODROME_ATOMIC("b");
+        x = 1;
+        m.unlock();
+        apart([&] {
+            std::lock_guard hold(m);
+            (void)y.load();
+        });
+        m.lock();
+    }
+    m.unlock();
+    EXPECT(s.close().what == verdict::alarm);
+}
+TEST(hundreds_of_threads) {
+    session s;
+    var<int> x;
+    for (int i = 0; i < 300; i++) velodrome::thread([&] { x += 1; }).join();
+    for (int i = 0; i < 300; i++) apart([&] { x += 1; });
+    EXPECT(x.unwatched() == 600);
+    EXPECT(clean(s));
+}
+TEST(more_threads_in_a_block_than_can_be_told) {
+    session s;
+    var<int> x;
+    {
+        VELODROME_ATOMIC("b");
+        x = 1;
+        for (int i = 0; i < 80; i++) apart([&] { var<int> y; y = 1; });
+    }
+    const result r = s.close();
+    EXPECT(r.what == verdict::incomplete && has(r.words, "more than 63 threads"));
+}
+TEST(many_labels) {
+    session s;
+    var<int> x;
+    std::vector<std::string> names;
+    for (int i = 0; i < 65536; i++) names.push_back("method " + std::to_string(i));
+    for (const std::string &n : names) {
+        vs_object label{0, n.c_str(), 0};
+        atomic_block b(label);
+        (void)x.load();
+    }
+    EXPECT(clean(s));
+}
+TEST(deep_blocks) {
+    session s;
+    var<int> x;
+    std::function<void(int)> f = [&](int n) {
+        VELODROME_ATOMIC("f");
+        x = n;
+        if (n) f(n - 1);
+    };
+    f(100);
+    EXPECT(clean(s));
+}
+TEST(thousands_of_sessions) {
+    for (int i = 0; i < 2000; i++) {
+        session s;
+        var<int> x;
+        x = 1;
+        if (!clean(s)) EXPECT(!"clean");
+    }
+}
+TEST(more_sessions_than_there_is_room) {
+    std::vector<std::unique_ptr<session>> all;
+    for (int i = 0; i < 300; i++) all.push_back(std::make_unique<session>());
+    var<int> x;
+    x = 1;
+    EXPECT(all[299]->native_handle() == 0 && all[299]->close().what == verdict::incomplete);
+    while (!all.empty()) all.pop_back();
+}
+
+// ---- std's interface
+
+TEST(std_async) {
+    session s;
+    velodrome::mutex m;
+    var<int> x;
+    std::vector<std::future<void>> all;
+    for (int i = 0; i < 8; i++)
+        all.push_back(std::async(std::launch::async, [&] {
+            for (int k = 0; k < 50; k++) {
+                VELODROME_ATOMIC("inc");
+                std::lock_guard hold(m);
+                x += 1;
+            }
+        }));
+    for (auto &f : all) f.get();
+    EXPECT(x.unwatched() == 400);
+    EXPECT(clean(s));
+}
+TEST(mutexes) {
+    static velodrome::mutex m;
+    session s;
+    {
+        std::unique_lock a(m, std::defer_lock);
+        EXPECT(a.try_lock());
+        apart([&] { EXPECT(!m.try_lock()); });
+    }
+    velodrome::recursive_mutex r;
+    {
+        std::lock_guard a(r), b(r);
+        EXPECT(r.try_lock());
+        r.unlock();
+    }
+    apart([&] { std::lock_guard a(r); });
+    velodrome::timed_mutex t;
+    {
+        std::unique_lock a(t, std::chrono::milliseconds(1));
+        EXPECT(a.owns_lock());
+        apart([&] { EXPECT(!t.try_lock_for(std::chrono::milliseconds(1))); });
+    }
+    velodrome::recursive_timed_mutex q;
+    EXPECT(q.try_lock_until(std::chrono::steady_clock::now()));
+    q.unlock();
+    velodrome::shared_timed_mutex u;
+    EXPECT(u.try_lock_shared_for(std::chrono::milliseconds(1)));
+    u.unlock_shared();
+    EXPECT(clean(s));
+}
+TEST(shared_mutexes) {
+    session s;
+    velodrome::shared_mutex m;
+    var<int> x;
+    std::shared_lock a(m);
+    velodrome::thread([&] {
+        std::shared_lock b(m);
+        (void)x.load();
+    }).join();
+    apart([&] { EXPECT(!m.try_lock()); });
+    a.unlock();
+    std::unique_lock c(m, std::try_to_lock);
+    EXPECT(c.owns_lock());
+    EXPECT(clean(s));
+}
+TEST(shares_guard_writers) { // an alarm: between two shares of one block another thread writes
+    session s;
+    velodrome::shared_mutex m;
+    var<int> x;
+    {
+        VELODROME_ATOMIC("twice");
+        for (int i = 0; i < 2; i++) {
+            std::shared_lock a(m);
+            (void)x.load();
+            a.unlock();
+            if (!i) apart([&] { std::unique_lock b(m); x = 1; });
+        }
+    }
+    EXPECT(s.close().what == verdict::alarm);
+}
+template <class Condition> static void wait_with() {
+    session s(limited_to(100));
+    velodrome::mutex m;
+    Condition c;
+    var<bool> go(false);
+    velodrome::thread t([&] {
+        std::unique_lock hold(m);
+        c.wait(hold, [&] { return go.load(); });
+        EXPECT(c.wait_for(hold, std::chrono::milliseconds(1)) == std::cv_status::timeout);
+        EXPECT(!c.wait_for(hold, std::chrono::milliseconds(1), [] { return false; }));
+        EXPECT(hold.owns_lock());
+    });
+    {
+        std::lock_guard hold(m);
+        go = true;
+    }
+    c.notify_all();
+    t.join();
+    EXPECT(m.try_lock());
+    m.unlock();
+    EXPECT(clean(s));
+}
+TEST(condition_variables) {
+    wait_with<velodrome::condition_variable>();
+    wait_with<velodrome::condition_variable_any>();
+}
+TEST(a_wait_in_a_block_is_an_alarm) { // by the definition: others act between its release and its acquire
+    session s;
+    velodrome::mutex m;
+    velodrome::condition_variable c;
+    var<bool> go(false);
+    std::atomic<bool> inside{false};
+    velodrome::thread t([&] {
+        std::unique_lock hold(m);
+        VELODROME_ATOMIC("waits");
+        while (!go) {
+            inside = true;
+            c.wait(hold);
+        }
+    });
+    while (!inside) std::this_thread::yield();
+    {
+        std::lock_guard hold(m); // so it waits
+        go = true;
+    }
+    c.notify_all();
+    t.join();
+    const result r = s.close();
+    EXPECT(r.what == verdict::alarm && has(r.words, "not atomic: waits"));
+}
+TEST(a_fork_and_a_join_in_a_block_are_an_alarm) { // by the definition: such a block never runs without a break
+    session s;
+    VELODROME_ATOMIC("parallel");
+    velodrome::thread([] {}).join();
+    EXPECT(s.close().what == verdict::alarm);
+}
+TEST(atomics) {
+    static velodrome::atomic<int> x VELODROME_VALUE(0, "x");
+    session s;
+    x++;
+    ++x;
+    x += 3;
+    x -= 1;
+    EXPECT(x.fetch_add(6) == 4 && x == 10 && x.exchange(3) == 10);
+    EXPECT((x |= 4) == 7 && (x &= 6) == 6 && (x ^= 1) == 7 && x-- == 7 && --x == 5);
+    int wrong = 9;
+    EXPECT(!x.compare_exchange_strong(wrong, 1) && wrong == 5);
+    while (!x.compare_exchange_weak(wrong, 1, std::memory_order_acq_rel, std::memory_order_relaxed)) {}
+    EXPECT(x.load(std::memory_order_relaxed) == 1);
+    velodrome::atomic<int *> p(nullptr);
+    int two[2];
+    p = two;
+    EXPECT(++p == two + 1);
+    EXPECT(clean(s));
+}
+TEST(a_compare_exchange_that_fails_reads) {
+    for (int value : {0, 1}) {
+        session s;
+        velodrome::atomic<int> x(value);
+        var<int> y;
+        {
+            VELODROME_ATOMIC("b");
+            (void)x.load();
+            apart([&] {
+                int zero = 0;
+                x.compare_exchange_strong(zero, 5);
+            });
+            (void)x.load();
+        }
+        EXPECT(s.close().what == (value ? verdict::clean : verdict::alarm));
+    }
+}
+TEST(threads) {
+    session s;
+    int r = 0;
+    velodrome::thread t([&r](std::unique_ptr<int> p, int k) { r = *p + k; }, std::make_unique<int>(3), 4);
+    EXPECT(t.joinable());
+    velodrome::thread u = std::move(t);
+    swap(t, u);
+    t.join();
+    EXPECT(r == 7 && !t.joinable() && t.get_id() == std::thread::id());
+    struct counter {
+        int n = 0;
+        void add(int k) { n += k; }
+    } c;
+    velodrome::thread(&counter::add, &c, 5).join();
+    EXPECT(c.n == 5);
+    std::promise<void> done;
+    velodrome::thread([&] { done.set_value(); }).detach();
+    done.get_future().wait();
+    EXPECT(clean(s));
+}
+#ifdef __cpp_lib_jthread
+TEST(jthreads) {
+    session s;
+    var<int> x;
+    {
+        velodrome::jthread a([&](std::stop_token stop) {
+            while (!stop.stop_requested()) std::this_thread::yield();
+            x = 1;
+        });
+        velodrome::jthread b([&](int n) { EXPECT(n == 3); }, 3);
+        a = std::move(b);
+    }
+    x = 2;
+    EXPECT(clean(s));
+}
+#endif
+
+// ---- what is told of an alarm
+
+TEST(the_hook_gets_both_sides) {
+    collision found;
+    int calls = 0;
+    options o;
+    o.on_alarm = [&](const collision &a) {
+        found = a;
+        calls++;
+        throw std::runtime_error("lost");
+    };
+    session s(o);
+    var<int> x VELODROME_VALUE(0, "balance");
+    const int line = __LINE__;
+    {
+        VELODROME_ATOMIC("transfer");
+        const int before = x.load();
+        apart([&] { x.store(5); });
+        x.store(before + 1);
+    }
+    EXPECT(calls == 1);
+    EXPECT(found.first.event == "writes balance" && found.first.place == "test.cpp:" + std::to_string(line + 4) && found.first.block.empty());
+    EXPECT(found.second.event == "writes balance" && found.second.place == "test.cpp:" + std::to_string(line + 5));
+    EXPECT(found.second.block == "transfer (test.cpp:" + std::to_string(line + 2) + ")");
+    EXPECT(found.first.thread != found.second.thread);
+    const result r = s.close();
+    EXPECT(r.words == found.report && has(r.words, ("reads balance at test.cpp:" + std::to_string(line + 3)).c_str()));
+}
+TEST(objects_without_a_name_have_their_place) {
+    session s;
+    const int line = __LINE__;
+    var<int> x;
+    add_around(x, [&] { x = 5; });
+    EXPECT(has(s.close().words, ("writes variable at test.cpp:" + std::to_string(line + 1)).c_str()));
+}
+TEST(names_of_any_kind) {
+    session s;
+    var<int> x VELODROME_VALUE(0, "pay\nlabel 1 refund"), y VELODROME_VALUE(0, "");
+    x = 1;
+    y = 1;
+    std::string long_name(500, 'x'), wide;
+    for (int i = 0; i < 300; i++) wide += "\xc3\xb6";
+    for (const std::string *n : {&long_name, &wide}) {
+        vs_object label{0, n->c_str(), 0};
+        atomic_block b(label);
+        x = 2;
+    }
+    EXPECT(s.save("names.vlog"));
+    std::ifstream names("names.vlog.names");
+    std::vector<std::string> lines;
+    for (std::string l; std::getline(names, l);) lines.push_back(l);
+    EXPECT(lines.size() == 4 && lines[0] == "variable 0 pay label 1 refund" && lines[1] == "variable 1 unnamed variable");
+    for (const std::string &l : lines) EXPECT(l.size() < 200);
+    std::remove("names.vlog");
+    std::remove("names.vlog.names");
+    EXPECT(clean(s));
+}
+TEST(the_end_of_a_test) {
+    setenv("VELODROME_LOGS", "/tmp", 1);
+    const std::string path = "/tmp/Bank.Deposit." + std::to_string(getpid());
+    for (bool strict : {false, true}) {
+        if (strict) setenv("VELODROME_INCOMPLETE", "fail", 1);
+        session s(limited_to(2));
+        var<int> x;
+        {
+            VELODROME_ATOMIC("b");
+            x += 1;
+            x += 1;
+        }
+        const result r = s.finish(("Bank/Deposit " + std::to_string(getpid())).c_str());
+        EXPECT(r.what == verdict::incomplete && r.fails == strict);
+        EXPECT(std::ifstream(path + ".vlog").good() == strict);
+        if (strict) EXPECT(has(r.words, ("velodrome explain " + path + ".vlog --names " + path + ".vlog.names").c_str()));
+    }
+    std::remove((path + ".vlog").c_str());
+    std::remove((path + ".vlog.names").c_str());
+    unsetenv("VELODROME_INCOMPLETE");
+    unsetenv("VELODROME_LOGS");
+    session s;
+    var<int> x;
+    x = 1;
+    const result r = s.finish("clean");
+    EXPECT(r && !r.fails && r.words.empty() && !std::ifstream("./clean.vlog").good());
+}
+TEST(settings_of_the_environment) {
+    setenv("VELODROME_NOISE", "4", 1);
+    setenv("VELODROME_SEED", "18446744073709551615", 1);
+    const options o = options::environment();
+    EXPECT(o.noise == 4 && o.seed == ~std::uint64_t{0});
+    unsetenv("VELODROME_NOISE");
+    unsetenv("VELODROME_SEED");
+}
+static int alarms_in(int runs, std::uint32_t noise) {
+    int n = 0;
+    for (int i = 0; i < runs; i++) {
+        options o;
+        o.noise = noise;
+        o.seed = static_cast<std::uint64_t>(i) + 1;
+        session s(o);
+        var<int> x;
+        velodrome::mutex m;
+        auto add = [&] {
+            VELODROME_ATOMIC("inc");
+            int v;
+            {
+                std::lock_guard hold(m);
+                v = x;
+            }
+            std::lock_guard hold(m);
+            x = v + 1;
+        };
+        velodrome::thread a(add), b(add);
+        a.join();
+        b.join();
+        n += s.close().what == verdict::alarm;
+    }
+    return n;
+}
+TEST(noise_finds_what_is_rare) {
+    const int without = alarms_in(200, 0), with = alarms_in(200, 2);
+    std::cout << "    alarms in 200 runs: " << without << " without noise, " << with << " with\n";
+    EXPECT(with > 0);
+}
+
+int main(int count, char **names) {
+    for (const test_case &t : cases()) {
+        bool asked = count < 2 || names[1][0] == '-';
+        for (int i = 1; i < count; i++)
+            if (!std::strcmp(names[i] + (names[i][0] == '-'), t.name)) asked = names[i][0] != '-';
+        if (!asked) continue;
+        const int before = failures;
+        std::cout << t.name << std::endl;
+        t.run();
+        if (failures > before) std::cout << "    FAILED" << std::endl;
+    }
+    std::cout << (failures ? "failed" : "passed") << std::endl;
+    return failures != 0;
 }

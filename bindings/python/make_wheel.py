@@ -1,50 +1,140 @@
-"""make_wheel.py LIBRARY FOLDER: a wheel of the binding with the shared library in it, so that its user needs no compiler.
+"""make_wheel.py LIBRARY FOLDER: the wheel, with libvelodrome.a in its extension; its path is printed. Its user needs no compiler.
 
-It needs no package but Python's own. The wheel is for this kind of machine alone; its path is printed.
+It needs a C compiler (CC, else cc), objdump and Python 3.11 or later, and no package. The wheel is for CPython from 3.9 on, by the
+stable ABI, on x86_64 Linux with glibc from 2.17 on, which is checked of the symbols that it wants.
+
+It is also the build backend of pyproject.toml: `VELODROME_LIB_DIR=FOLDER-OF-THE-LIBRARY pip install bindings/python`.
 """
+from __future__ import annotations
+
 import base64
 import hashlib
+import io
+import os
 import pathlib
+import re
+import shlex
+import subprocess
 import sys
 import sysconfig
+import tarfile
+import tempfile
 import zipfile
 
-NAME, VERSION = 'velodrome', '0.1.0'
-METADATA = f'''Metadata-Version: 2.1
-Name: {NAME}
-Version: {VERSION}
-Summary: A proved checker of atomic blocks, in process
-Requires-Python: >=3.9
-'''
+HERE = pathlib.Path(__file__).resolve().parent
+PLATFORM, GLIBC = 'manylinux_2_17_x86_64', (2, 17)
+TAG = f'cp39-abi3-{PLATFORM}'
+PACKAGE = ('__init__.py', '_session.pyi', 'py.typed', 'pytest_plugin.py')
+
+# Calls that glibc 2.34 gave a new version, with nothing new in them: the old one is wanted, which all have.
+OLD_SYMBOLS = ('pthread_mutex_trylock', 'pthread_mutex_timedlock')
 
 
-def wheel_text(tag):
-    """What the wheel says of itself."""
-    return f'Wheel-Version: 1.0\nGenerator: make_wheel\nRoot-Is-Purelib: false\nTag: {tag}\n'
+def project() -> dict:
+    """What pyproject.toml says."""
+    import tomllib
+
+    return tomllib.loads((HERE / 'pyproject.toml').read_text())['project']
 
 
-def record_line(name, data):
+def session_sources() -> pathlib.Path:
+    """The folder of session.c and its headers: beside this one, or in a source distribution."""
+    return next(folder for folder in (HERE / 'session', HERE.parent / 'session') if folder.is_dir())
+
+
+def include_folders() -> list[str]:
+    session = session_sources()
+    header = session if (session / 'velodrome.h').exists() else HERE.parent / 'c'
+    return [f'-I{folder}' for folder in (session, header, sysconfig.get_paths()['include'])]
+
+
+def compile_extension(library: pathlib.Path, folder: pathlib.Path) -> pathlib.Path:
+    """The extension, linked with the library and with a session layer of its own."""
+    extension, objects = folder / '_session.abi3.so', []
+    old = ''.join(f'__asm__(".symver {name},{name}@GLIBC_2.2.5");\n' for name in OLD_SYMBOLS)
+    (folder / 'old.h').write_text(old)
+    compiler = [*shlex.split(os.environ.get('CC', 'cc')), '-O2', '-fPIC', '-fvisibility=hidden', '-Wall', '-Wextra', '-Wno-missing-field-initializers']
+    for source, flags in ((HERE / 'src/_session.c', ['-DPy_LIMITED_API=0x03090000', '-Wno-cast-function-type']),
+                          (session_sources() / 'session.c', ['-include', str(folder / 'old.h')])):
+        objects.append(str(folder / source.with_suffix('.o').name))
+        subprocess.run([*compiler, *flags, *include_folders(), '-c', str(source), '-o', objects[-1]], check=True)
+    subprocess.run([*compiler, '-shared', *objects, str(library), '-Wl,--exclude-libs,ALL', '-Wl,-z,now', '-s', '-lpthread', '-o', str(extension)], check=True)
+    return extension
+
+
+def too_new(extension: pathlib.Path) -> list[str]:
+    """The symbols that a glibc of the promised version does not have."""
+    wanted = subprocess.run(['objdump', '-T', str(extension)], check=True, capture_output=True, text=True).stdout
+    found = re.findall(r'\*UND\*.*?GLIBC_([0-9.]+)\)?\s+(\S+)', wanted)
+    return [f'{name} of glibc {version}' for version, name in found if tuple(map(int, version.split('.')))[:2] > GLIBC]
+
+
+def metadata() -> str:
+    """METADATA of the wheel, and PKG-INFO of the source distribution."""
+    said = project()
+    lines = ['Metadata-Version: 2.1', f'Name: {said["name"]}', f'Version: {said["version"]}', f'Summary: {said["description"]}',
+             f'Requires-Python: {said["requires-python"]}', f'Keywords: {",".join(said["keywords"])}',
+             *(f'Classifier: {classifier}' for classifier in said['classifiers']), 'Description-Content-Type: text/markdown']
+    return '\n'.join(lines) + '\n\n' + (HERE / said['readme']).read_text()
+
+
+def entry_points() -> str:
+    groups = project()['entry-points']
+    return '\n'.join(f'[{group}]\n' + ''.join(f'{name} = {value}\n' for name, value in names.items()) for group, names in groups.items())
+
+
+def record_line(name: str, data: bytes) -> str:
     """A line of the list of files: path, hash and size."""
     digest = base64.urlsafe_b64encode(hashlib.sha256(data).digest()).rstrip(b'=').decode()
     return f'{name},sha256={digest},{len(data)}\n'
 
 
-def make_wheel(library, folder):
-    """Writes the wheel into the folder, and answers its path."""
-    tag = 'py3-none-' + sysconfig.get_platform().replace('-', '_').replace('.', '_')
-    info = f'{NAME}-{VERSION}.dist-info'
-    files = {
-        f'{NAME}/__init__.py': pathlib.Path(__file__).with_name('velodrome.py').read_bytes(),
-        f'{NAME}/{library.name}': library.read_bytes(),
-        f'{info}/METADATA': METADATA.encode(),
-        f'{info}/WHEEL': wheel_text(tag).encode(),
-    }
+def make_wheel(library: pathlib.Path, folder: pathlib.Path) -> pathlib.Path:
+    """Writes the wheel into the folder, and returns its path."""
+    said = project()
+    stem = f'{said["name"]}-{said["version"]}'
+    info = f'{stem}.dist-info'
+    files = {f'velodrome/{name}': (HERE / 'src/velodrome' / name).read_bytes() for name in PACKAGE}
+    with tempfile.TemporaryDirectory() as scratch:
+        extension = compile_extension(library, pathlib.Path(scratch))
+        if missing := too_new(extension):
+            raise SystemExit(f'make_wheel: not {PLATFORM}: {", ".join(missing)}')
+        files[f'velodrome/{extension.name}'] = extension.read_bytes()
+    files[f'{info}/METADATA'] = metadata().encode()
+    files[f'{info}/WHEEL'] = f'Wheel-Version: 1.0\nGenerator: make_wheel\nRoot-Is-Purelib: false\nTag: {TAG}\n'.encode()
+    files[f'{info}/entry_points.txt'] = entry_points().encode()
     record = ''.join(record_line(name, data) for name, data in files.items()) + f'{info}/RECORD,,\n'
-    path = folder / f'{NAME}-{VERSION}-{tag}.whl'
+    path = folder / f'{stem}-{TAG}.whl'
     with zipfile.ZipFile(path, 'w', zipfile.ZIP_DEFLATED) as wheel:
         for name, data in {**files, f'{info}/RECORD': record.encode()}.items():
-            wheel.writestr(name, data)
+            entry = zipfile.ZipInfo(name)  # of a fixed time: the same sources make the same bytes
+            entry.external_attr, entry.compress_type = 0o644 << 16, zipfile.ZIP_DEFLATED
+            wheel.writestr(entry, data)
     return path
+
+
+def build_wheel(wheel_directory: str, config_settings: object = None, metadata_directory: object = None) -> str:
+    """For pip and build."""
+    library = pathlib.Path(os.environ.get('VELODROME_LIB_DIR', HERE / 'lib'), 'libvelodrome.a')
+    if not library.is_file():
+        raise SystemExit(f'velodrome: there is no {library}: set VELODROME_LIB_DIR to the folder of libvelodrome.a, or install the wheel')
+    return make_wheel(library, pathlib.Path(wheel_directory)).name
+
+
+def build_sdist(sdist_directory: str, config_settings: object = None) -> str:
+    """For pip and build. The library is not in it, as it is built by another compiler."""
+    said, session = project(), session_sources()
+    stem = f'{said["name"]}-{said["version"]}'
+    own = ['pyproject.toml', 'make_wheel.py', 'README.md', 'src/_session.c', *(f'src/velodrome/{name}' for name in PACKAGE)]
+    files = {name: (HERE / name).read_bytes() for name in own}
+    header = next(folder / 'velodrome.h' for folder in (session, HERE.parent / 'c') if (folder / 'velodrome.h').exists())
+    files |= {f'session/{path.name}': path.read_bytes() for path in (session / 'session.c', session / 'velodrome_session.h', header)}
+    with tarfile.open(pathlib.Path(sdist_directory, f'{stem}.tar.gz'), 'w:gz') as archive:
+        for name, data in {**files, 'PKG-INFO': metadata().encode()}.items():
+            entry = tarfile.TarInfo(f'{stem}/{name}')
+            entry.size = len(data)
+            archive.addfile(entry, io.BytesIO(data))
+    return f'{stem}.tar.gz'
 
 
 if __name__ == '__main__':

@@ -1,74 +1,169 @@
-//! The calls of libvelodrome as C has them. What a caller owes is in `velodrome.h`; `velodrome` is the safe crate over this.
+//! The calls of `velodrome_session.h`, as C has them, for the crate `velodrome`. Use that crate.
+//!
+//! None of them fails its caller. A number of a session that is over does nothing, and so does 0, that of none.
 #![no_std]
+#![allow(non_camel_case_types)]
+use core::ffi::{c_char, c_int, c_uint, c_void};
+use core::marker::{PhantomData, PhantomPinned};
+use core::sync::atomic::{AtomicPtr, AtomicU32, AtomicU64};
 
-/// A handle. All bytes zero is a closed one. It is not copied, and moves only while no call has it.
+/// A session; 0: none.
+pub type vs_session = u64;
+
+/// What stands in a variable or lock, and for a label. It is moved only while no thread uses it.
 #[repr(C)]
-pub struct Handle {
-    live: bool,
-    address: *mut u8,
+#[derive(Debug)]
+pub struct vs_object {
+    /// 0 at first, the session's then.
+    pub tag: AtomicU64,
+    /// Null, or a string that ends in a zero byte.
+    pub name: AtomicPtr<c_char>,
+    /// 0; else the name is that of a source file.
+    pub line: u64,
 }
 
-impl Handle {
-    /// A closed one.
-    pub const CLOSED: Handle = Handle { live: false, address: core::ptr::null_mut() };
+/// What is done with a variable or lock.
+pub type vs_kind = c_int;
+/// A read of a variable.
+pub const VS_READ: vs_kind = 0;
+/// A write of a variable, also one that reads it.
+pub const VS_WRITE: vs_kind = 1;
+/// A lock was taken.
+pub const VS_ACQUIRE: vs_kind = 2;
+/// A lock will be released.
+pub const VS_RELEASE: vs_kind = 3;
+/// A lock was taken for reading.
+pub const VS_ACQUIRE_SHARED: vs_kind = 4;
+/// A lock that was taken for reading will be released.
+pub const VS_RELEASE_SHARED: vs_kind = 5;
+
+/// What a session came to.
+pub type vs_verdict = c_int;
+/// There is a serial order of the blocks.
+pub const VS_CLEAN: vs_verdict = 0;
+/// There is none.
+pub const VS_ALARM: vs_verdict = 3;
+/// It could not be watched to its end.
+pub const VS_INCOMPLETE: vs_verdict = 4;
+
+/// Where an event stands in the source.
+#[repr(C)]
+#[derive(Clone, Copy, Debug)]
+pub struct vs_place {
+    /// The bytes of the file's name, which stay until the session is closed.
+    pub file: *const c_char,
+    /// How many they are.
+    pub file_bytes: u32,
+    /// The line.
+    pub line: u32,
 }
 
-/// What an event came to.
+/// How a session is watched. All zero: the defaults.
 #[repr(C)]
-#[derive(Clone, Copy, Debug, Default, PartialEq, Eq)]
-pub struct Answer {
-    /// Its position in the log.
-    pub position: u64,
-    /// The value that a read read, else 0.
-    pub value: u64,
-    /// Whether there is an alarm now.
-    pub alarmed: bool,
+#[derive(Clone, Copy, Debug)]
+pub struct vs_options {
+    /// Most events between two cuts.
+    pub events: u32,
+    /// Most variables between two cuts.
+    pub variables: u16,
+    /// Most locks between two cuts.
+    pub locks: u16,
+    /// One event in so many waits.
+    pub noise: u32,
+    /// Which ones.
+    pub seed: u64,
+    /// Called at the alarm with `data` and a `vs_alarm`.
+    pub alarm: Option<unsafe extern "C" fn(data: *mut c_void, alarm: *const c_void)>,
+    /// For `alarm`.
+    pub data: *mut c_void,
+    /// How a thread waits.
+    pub wait: Option<unsafe extern "C" fn(nanoseconds: u32)>,
 }
 
-/// The verdict so far.
-#[repr(C)]
-#[derive(Clone, Copy, Debug, Default, PartialEq, Eq)]
-pub struct Verdict {
-    /// How many events there are.
-    pub events: u64,
-    /// The position of the first event that closed a cycle.
-    pub position: u64,
-    /// The first position of its transaction.
-    pub transaction: u64,
-    /// How many blocks are to blame.
-    pub blamed: u64,
-    /// Whether there is an alarm.
-    pub alarmed: bool,
+impl vs_options {
+    /// The defaults.
+    pub const DEFAULT: vs_options = vs_options {
+        events: 0,
+        variables: 0,
+        locks: 0,
+        noise: 0,
+        seed: 0,
+        alarm: None,
+        data: core::ptr::null_mut(),
+        wait: None,
+    };
 }
 
-/// A block to blame.
+/// A thread that another one starts.
 #[repr(C)]
-#[derive(Clone, Copy, Debug, Default, PartialEq, Eq)]
-pub struct Block {
-    /// The position of its begin.
-    pub first: u64,
-    /// The number of its label.
-    pub label: u32,
+#[derive(Clone, Copy, Debug)]
+pub struct vs_child {
+    /// The session of both.
+    pub session: vs_session,
+    /// Its number there.
+    pub who: u64,
+}
+
+/// Who acts, where that is no thread.
+#[repr(C)]
+#[derive(Debug)]
+pub struct vs_self {
+    bytes: [u8; 0],
+    marker: PhantomData<(*mut u8, PhantomPinned)>,
 }
 
 extern "C" {
-    pub fn velodrome_open(monitor: *mut Handle, threads: u8, variables: u16, locks: u16, events: u32, nodes: u16) -> u32;
-    pub fn velodrome_close(monitor: *mut Handle) -> u32;
-    pub fn velodrome_read(monitor: *mut Handle, thread: u8, variable: u16, answer: *mut Answer) -> u32;
-    pub fn velodrome_write(monitor: *mut Handle, thread: u8, variable: u16, value: u64, answer: *mut Answer) -> u32;
-    pub fn velodrome_acquire(monitor: *mut Handle, thread: u8, lock: u16, answer: *mut Answer) -> u32;
-    pub fn velodrome_release(monitor: *mut Handle, thread: u8, lock: u16, answer: *mut Answer) -> u32;
-    pub fn velodrome_acquire_shared(monitor: *mut Handle, thread: u8, lock: u16, answer: *mut Answer) -> u32;
-    pub fn velodrome_release_shared(monitor: *mut Handle, thread: u8, lock: u16, answer: *mut Answer) -> u32;
-    pub fn velodrome_begin(monitor: *mut Handle, thread: u8, label: u32, answer: *mut Answer) -> u32;
-    pub fn velodrome_end(monitor: *mut Handle, thread: u8, answer: *mut Answer) -> u32;
-    pub fn velodrome_fork(monitor: *mut Handle, thread: u8, child: u8, answer: *mut Answer) -> u32;
-    pub fn velodrome_join(monitor: *mut Handle, thread: u8, child: u8, answer: *mut Answer) -> u32;
-    pub fn velodrome_exit(monitor: *mut Handle, thread: u8, answer: *mut Answer) -> u32;
-    pub fn velodrome_verdict(monitor: *mut Handle, verdict: *mut Verdict) -> u32;
-    pub fn velodrome_blamed(monitor: *mut Handle, buffer: *mut Block, room: usize, count: *mut usize) -> u32;
-    pub fn velodrome_report(monitor: *mut Handle, buffer: *mut u8, room: usize, count: *mut usize) -> u32;
-    pub fn velodrome_explanation(monitor: *mut Handle, buffer: *mut u8, room: usize, count: *mut usize) -> u32;
-    pub fn velodrome_refusal(number: u32, buffer: *mut u8, room: usize, count: *mut usize) -> u32;
-    pub fn velodrome_log(monitor: *mut Handle, from: usize, buffer: *mut u8, room: usize, count: *mut usize, next: *mut usize) -> u32;
+    /// How many sessions record.
+    pub static vs_recording: AtomicU32;
+    /// Sets what the environment asks for.
+    pub fn vs_environment(options: *mut vs_options);
+    /// Opens a session, and enters it.
+    pub fn vs_open(options: *const vs_options, everywhere: bool) -> vs_session;
+    /// Ends a session.
+    pub fn vs_close(session: vs_session, report: *mut *mut c_char) -> vs_verdict;
+    /// Ends a session at the end of a test: the log of an alarm is kept.
+    pub fn vs_finish(
+        session: vs_session,
+        name: *const c_char,
+        report: *mut *mut c_char,
+        fails: *mut bool,
+    ) -> vs_verdict;
+    /// The verdict so far.
+    pub fn vs_so_far(session: vs_session) -> vs_verdict;
+    /// Writes the log and the names.
+    pub fn vs_save(session: vs_session, path: *const c_char) -> bool;
+    /// Frees a report.
+    pub fn vs_free(text: *mut c_char);
+    /// Enters a session.
+    pub fn vs_enter(session: vs_session);
+    /// The session of this thread.
+    pub fn vs_current() -> vs_session;
+    /// Ends the recording of this thread's session.
+    pub fn vs_stop(why: *const c_char);
+    /// Takes the session's lock, and tells nothing.
+    pub fn vs_hold(object: *const vs_object) -> c_uint;
+    /// Takes the session's lock, and tells an access.
+    pub fn vs_before_at(object: *const vs_object, kind: vs_kind, place: *const vs_place) -> c_uint;
+    /// Releases the session's lock.
+    pub fn vs_after(token: c_uint);
+    /// Tells an event.
+    pub fn vs_tell_at(object: *const vs_object, kind: vs_kind, place: *const vs_place);
+    /// A block begins.
+    pub fn vs_begin(label: *const vs_object);
+    /// The innermost block ends.
+    pub fn vs_end();
+    /// Before a thread is started.
+    pub fn vs_fork_at(place: *const vs_place) -> vs_child;
+    /// The first call of a thread.
+    pub fn vs_born(child: vs_child);
+    /// The last call of a thread.
+    pub fn vs_exit(child: vs_child);
+    /// After a thread was joined.
+    pub fn vs_join_at(child: vs_child, place: *const vs_place);
+    /// A task or fiber.
+    pub fn vs_self_new() -> *mut vs_self;
+    /// This thread acts as it.
+    pub fn vs_switch(actor: *mut vs_self) -> *mut vs_self;
+    /// Frees it.
+    pub fn vs_self_free(actor: *mut vs_self);
 }

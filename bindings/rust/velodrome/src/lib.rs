@@ -1,456 +1,360 @@
-//! A proved checker of atomic blocks, for programs in Rust: wrappers that report as they are used.
+//! Finds blocks of a multithreaded program that were meant to be atomic and were not, as its tests run.
 //!
-//! A [`Monitor`] holds one lock round each event and the access that it reports, which puts all accesses in one order and
-//! changes which schedules come about. What the wrappers do not see is not reported.
-use std::cell::Cell;
-use std::collections::HashMap;
-use std::sync::{Arc, Mutex as StdMutex, MutexGuard as StdMutexGuard, RwLock as StdRwLock};
-use std::sync::{RwLockReadGuard as StdReadGuard, RwLockWriteGuard as StdWriteGuard};
-use velodrome_sys::{self as sys, Handle};
-pub use velodrome_sys::{Answer, Block, Verdict};
+//! Say which functions are meant to be atomic, take the types of [`sync`], [`cell`] and [`thread`] in the place of std's, and
+//! write `#[velodrome::test]` in the place of `#[test]`:
+//!
+//! ```
+//! use velodrome::{cell::Var, sync::Mutex, thread};
+//!
+//! static BALANCE: Mutex<u32> = Mutex::new(100);
+//!
+//! #[velodrome::atomic]
+//! fn deposit(amount: u32) {
+//!     *BALANCE.lock().unwrap() += amount; // one hold: nothing comes between the read and the write
+//! }
+//!
+//! velodrome::check(|| {
+//!     let other = thread::spawn(|| deposit(10));
+//!     deposit(5);
+//!     other.join().unwrap();
+//! });
+//! assert_eq!(*BALANCE.lock().unwrap(), 115);
+//! ```
+//!
+//! A test fails at an alarm: no serial order of the blocks has the accesses of this run in their order. It prints which blocks, by
+//! which events, and where they stand in the source; the log is kept for `velodrome explain`. That an alarm is true of what was
+//! told is proved; these wrappers are tested. A run without an alarm says nothing of other schedules: repeat it, with `noise`.
+//!
+//! # What is told
+//!
+//! Each lock and unlock, atomic access, access of a [`Var`](cell::Var), start and join of a thread, message, barrier and once
+//! of these modules, in threads of any kind. What other types do is not seen. A block that waits for another thread, by a join, a
+//! condition variable or a barrier, is never serial: an alarm is then what is to be expected.
+//!
+//! # It never fails the program
+//!
+//! Without a session the types are std's own with a check of one number. What cannot be told, such as a block with more events
+//! than there is room for, ends the recording with a [`Reason`]; the program goes on. Nothing here panics, except where std
+//! does, and [`check`].
+//!
+//! # In a program
+//!
+//! As with loom, a `cfg` keeps the types out of what is shipped:
+//!
+//! ```
+//! #[cfg(velodrome)]
+//! use velodrome::sync;
+//! #[cfg(not(velodrome))]
+//! use std::sync;
+//! # let _ = sync::Mutex::new(0);
+//! ```
+//!
+//! # The environment of `check` and `#[velodrome::test]`
+//!
+//! | Variable | |
+//! |---|---|
+//! | `VELODROME_NOISE=4` | one event in four waits for a while, so that more schedules come about |
+//! | `VELODROME_SEED=7` | which ones |
+//! | `VELODROME_LOGS=target/velodrome` | the folder for the logs of alarms; else the working directory. `.cargo/config.toml` can set it |
+//! | `VELODROME_INCOMPLETE=fail` | a test that was not watched to its end fails; else it warns |
+#![warn(missing_debug_implementations)]
+use std::fmt;
+use std::marker::PhantomData;
+use std::panic::{catch_unwind, resume_unwind, AssertUnwindSafe, Location};
+use velodrome_sys as sys;
 
-/// A call answered another status than 0. Nothing has changed.
-#[derive(Clone, Copy, Debug, PartialEq, Eq)]
-pub struct Refused(pub u32);
+pub mod cell;
+mod session;
+pub mod sync;
+pub mod thread;
 
-impl std::fmt::Display for Refused {
-    fn fmt(&self, f: &mut std::fmt::Formatter<'_>) -> std::fmt::Result {
-        let mut words = [0; 32];
-        let mut count = 0;
-        // SAFETY: the buffer has the room that is said.
-        match unsafe { sys::velodrome_refusal(self.0, words.as_mut_ptr(), words.len(), &mut count) } {
-            0 => write!(f, "velodrome: {}", String::from_utf8_lossy(&words[..count])),
-            _ => write!(f, "velodrome: status {}", self.0),
+pub use velodrome_macros::{atomic, test};
+
+use session::{End, Session};
+
+/// What a run came to.
+#[derive(Clone, Debug, PartialEq, Eq)]
+#[must_use = "it says whether the blocks were atomic"]
+#[non_exhaustive]
+pub enum Outcome {
+    /// A serial order of the blocks explains all that was told.
+    Clean,
+    /// No serial order does.
+    Alarm(Alarm),
+    /// There was no alarm while it was watched, which was not to its end.
+    Incomplete(Reason),
+}
+
+/// Blocks that were not atomic.
+#[derive(Clone, Debug, PartialEq, Eq)]
+pub struct Alarm {
+    report: String,
+}
+
+impl Alarm {
+    /// Which blocks, by which events, with names and places: lines of text.
+    pub fn report(&self) -> &str {
+        &self.report
+    }
+}
+
+impl fmt::Display for Alarm {
+    fn fmt(&self, f: &mut fmt::Formatter<'_>) -> fmt::Result {
+        f.write_str(&self.report)
+    }
+}
+
+impl std::error::Error for Alarm {}
+
+/// Why a run was not watched to its end.
+#[derive(Clone, Debug, PartialEq, Eq)]
+pub struct Reason {
+    words: String,
+}
+
+impl fmt::Display for Reason {
+    fn fmt(&self, f: &mut fmt::Formatter<'_>) -> fmt::Result {
+        f.write_str(&self.words)
+    }
+}
+
+impl Outcome {
+    /// Whether it is [`Clean`](Outcome::Clean).
+    #[must_use]
+    pub fn is_clean(&self) -> bool {
+        *self == Outcome::Clean
+    }
+
+    fn of(end: End) -> Outcome {
+        match end.verdict {
+            sys::VS_CLEAN => Outcome::Clean,
+            sys::VS_ALARM => Outcome::Alarm(Alarm { report: end.report }),
+            _ if end.report.is_empty() => Outcome::Incomplete(Reason {
+                words: "it could not be watched".into(),
+            }),
+            _ => Outcome::Incomplete(Reason { words: end.report }),
         }
     }
 }
 
-impl std::error::Error for Refused {}
-
-#[derive(Default)]
-struct Names {
-    numbers: HashMap<(&'static str, String), u32>,
-    counts: HashMap<&'static str, u32>,
-}
-
-struct Room {
-    handle: Handle,
-    names: Names,
-    threads: u8,
-}
-
-// SAFETY: the handle's state may go from thread to thread, which is proved of it, and `Monitor` has it behind a mutex.
-unsafe impl Send for Room {}
-
-impl Drop for Room {
-    fn drop(&mut self) {
-        // SAFETY: the handle is open or closed, and nobody else has it.
-        unsafe { sys::velodrome_close(&mut self.handle) };
+impl fmt::Display for Outcome {
+    fn fmt(&self, f: &mut fmt::Formatter<'_>) -> fmt::Result {
+        match self {
+            Outcome::Clean => f.write_str("clean"),
+            Outcome::Alarm(alarm) => alarm.fmt(f),
+            Outcome::Incomplete(reason) => reason.fmt(f),
+        }
     }
 }
 
-/// A run that is watched. Clones share it.
-#[derive(Clone)]
-pub struct Monitor {
-    room: Arc<StdMutex<Room>>,
+/// How a run is watched.
+///
+/// ```
+/// let ((), outcome) = velodrome::Builder::new().max_events(1 << 16).noise(4).run(|| {});
+/// assert!(outcome.is_clean());
+/// ```
+#[derive(Clone, Debug)]
+#[must_use = "it does nothing until `run` or `check`"]
+pub struct Builder {
+    name: String,
+    max_events: u32,
+    noise: u32,
+    seed: u64,
+    everywhere: bool,
 }
 
-/// An event, by its operands.
-#[derive(Clone, Copy, Debug)]
-pub enum Event {
-    Read(u16),
-    Write(u16, u64),
-    Acquire(u16),
-    Release(u16),
-    AcquireShared(u16),
-    ReleaseShared(u16),
-    Begin(u32),
-    End,
-    Fork(u8),
-    Join(u8),
-    Exit,
+impl Default for Builder {
+    fn default() -> Builder {
+        Builder::new()
+    }
 }
 
-thread_local! {
-    // The monitor and the number by which this thread acts.
-    static SELF: Cell<(usize, u8)> = const { Cell::new((0, 0)) };
-}
+impl Builder {
+    /// The defaults.
+    pub const fn new() -> Builder {
+        Builder {
+            name: String::new(),
+            max_events: 0,
+            noise: 0,
+            seed: 0,
+            everywhere: false,
+        }
+    }
 
-impl Monitor {
-    /// A run of so many threads, variables, locks, events and nodes. The thread that opens it is thread 0.
-    pub fn open(threads: u8, variables: u16, locks: u16, events: u32, nodes: u16) -> Result<Monitor, Refused> {
-        let mut room = Room { handle: Handle::CLOSED, names: Names::default(), threads: 1 };
-        // SAFETY: the handle is closed, and nobody else has it.
-        match unsafe { sys::velodrome_open(&mut room.handle, threads, variables, locks, events, nodes) } {
-            0 => {
-                let monitor = Monitor { room: Arc::new(StdMutex::new(room)) };
-                monitor.act_as(0);
-                Ok(monitor)
+    /// The name of the log that [`check`](Builder::check) keeps; otherwise the place of its call.
+    pub fn name(mut self, name: impl Into<String>) -> Builder {
+        self.name = name.into();
+        self
+    }
+
+    /// The most events of a stretch in which some block is open. A stretch with more ends the recording. 16,777,216 at most; 0, the
+    /// default, is 1,048,576. It is the memory of the log, at 24 bytes an event.
+    pub fn max_events(mut self, most: u32) -> Builder {
+        self.max_events = most;
+        self
+    }
+
+    /// One event in so many waits for up to 200 us before it happens, so that more schedules come about. 0, the default: none.
+    pub fn noise(mut self, one_in: u32) -> Builder {
+        self.noise = one_in;
+        self
+    }
+
+    /// Which events wait. 0, the default: others in each run.
+    pub fn seed(mut self, seed: u64) -> Builder {
+        self.seed = seed;
+        self
+    }
+
+    /// Watches all threads of the program that are in no other run. Otherwise a thread that no watched one started, such as one of a
+    /// pool, is met where it uses a variable or lock that this run knows.
+    pub fn everywhere(mut self) -> Builder {
+        self.everywhere = true;
+        self
+    }
+
+    /// Runs the body, and returns its value and what its blocks came to. It is watched with the threads that it starts, by
+    /// [`thread`] or otherwise, and apart from all that runs beside it. Where the body panics, so does this.
+    pub fn run<T>(&self, body: impl FnOnce() -> T) -> (T, Outcome) {
+        let session = Session::open(&self.options(sys::vs_options::DEFAULT), self.everywhere);
+        let value = body();
+        (value, Outcome::of(session.close()))
+    }
+
+    /// As [`check`], with these options, which go before those of the environment.
+    ///
+    /// # Panics
+    ///
+    /// At an alarm, with its report. With `VELODROME_INCOMPLETE=fail`, also where the run was not watched to its end.
+    #[track_caller]
+    pub fn check<T>(&self, body: impl FnOnce() -> T) -> T {
+        let session = Session::open(
+            &self.options(session::environment(sys::vs_options::DEFAULT)),
+            self.everywhere,
+        );
+        let result = catch_unwind(AssertUnwindSafe(body));
+        let end = session.finish(&self.log_name(Location::caller()));
+        match result {
+            Ok(_) if end.fails => panic!("{}", end.report),
+            Ok(value) => {
+                note(&end);
+                value
             }
-            status => Err(Refused(status)),
-        }
-    }
-
-    fn key(&self) -> usize {
-        Arc::as_ptr(&self.room) as usize
-    }
-
-    fn act_as(&self, thread: u8) {
-        SELF.set((self.key(), thread));
-    }
-
-    /// The number of this thread, if it opened the monitor or was spawned by it.
-    pub fn thread(&self) -> Result<u8, Refused> {
-        match SELF.get() {
-            (key, thread) if key == self.key() => Ok(thread),
-            _ => Err(Refused(2)),
-        }
-    }
-
-    fn room(&self) -> StdMutexGuard<'_, Room> {
-        self.room.lock().unwrap_or_else(|poisoned| poisoned.into_inner())
-    }
-
-    /// An access and its event of this thread, in one hold of the lock. The access is done before the event is reported.
-    pub fn event<T>(&self, event: Event, access: impl FnOnce() -> T) -> Result<(T, Answer), Refused> {
-        let thread = self.thread()?;
-        let mut room = self.room();
-        let done = access();
-        Ok((done, report(&mut room.handle, thread, event)?))
-    }
-
-    /// The verdict so far.
-    pub fn verdict(&self) -> Result<Verdict, Refused> {
-        let mut verdict = Verdict::default();
-        // SAFETY: the lock is held.
-        match unsafe { sys::velodrome_verdict(&mut self.room().handle, &mut verdict) } {
-            0 => Ok(verdict),
-            status => Err(Refused(status)),
-        }
-    }
-
-    /// The blocks to blame, outermost first.
-    pub fn blamed(&self) -> Result<Vec<Block>, Refused> {
-        let mut blocks = vec![Block::default(); 32];
-        let mut count = 0;
-        // SAFETY: the lock is held, and the buffer has the room that is said.
-        match unsafe { sys::velodrome_blamed(&mut self.room().handle, blocks.as_mut_ptr(), blocks.len(), &mut count) } {
-            0 => {
-                blocks.truncate(count);
-                Ok(blocks)
-            }
-            status => Err(Refused(status)),
-        }
-    }
-
-    /// The report of the events so far, as `velodrome check` writes it for the log.
-    pub fn report(&self) -> Result<String, Refused> {
-        self.text(sys::velodrome_report)
-    }
-
-    /// The explanation of the events so far, as `velodrome explain` writes it for the log. It takes time and memory in proportion
-    /// to the log.
-    pub fn explanation(&self) -> Result<String, Refused> {
-        self.text(sys::velodrome_explanation)
-    }
-
-    /// A whole text, by a call that tells how much room it takes.
-    fn text(&self, call: unsafe extern "C" fn(*mut Handle, *mut u8, usize, *mut usize) -> u32) -> Result<String, Refused> {
-        let mut room = self.room();
-        let mut text = vec![0; 4096];
-        loop {
-            let mut count = 0;
-            // SAFETY: the lock is held, and the buffer has the room that is said.
-            match unsafe { call(&mut room.handle, text.as_mut_ptr(), text.len(), &mut count) } {
-                0 => {
-                    text.truncate(count);
-                    return Ok(String::from_utf8(text).expect("velodrome: its texts are ASCII"));
-                }
-                104 => text.resize(count, 0),
-                status => return Err(Refused(status)),
+            Err(payload) => {
+                note(&end);
+                resume_unwind(payload)
             }
         }
     }
 
-    /// Writes the text of the log, as `velodrome check` reads it.
-    pub fn write_log(&self, out: &mut impl std::io::Write) -> std::io::Result<()> {
-        let mut room = self.room();
-        let mut verdict = Verdict::default();
-        let mut piece = vec![0; 1 << 16];
-        let (mut from, mut count, mut next) = (0, 0, 0);
-        // SAFETY: the lock is held, and the buffer has the room that is said.
-        while unsafe { sys::velodrome_verdict(&mut room.handle, &mut verdict) } == 0
-            && unsafe { sys::velodrome_log(&mut room.handle, from, piece.as_mut_ptr(), piece.len(), &mut count, &mut next) } == 0
-        {
-            out.write_all(&piece[..count])?;
-            from = next;
-            if from as u64 >= verdict.events {
-                return Ok(());
-            }
+    fn options(&self, from: sys::vs_options) -> sys::vs_options {
+        let or = |mine, other| if mine == 0 { other } else { mine };
+        let seed = if self.seed == 0 { from.seed } else { self.seed };
+        sys::vs_options {
+            events: or(self.max_events, from.events),
+            noise: or(self.noise, from.noise),
+            seed,
+            ..from
         }
-        Err(std::io::Error::other("velodrome: no log"))
     }
 
-    /// The number of a `label`, `variable` or `lock` by its name, or a new one.
-    pub fn number(&self, kind: &'static str, name: &str) -> u32 {
-        let names = &mut self.room().names;
-        let count = names.counts.entry(kind).or_default();
-        *names.numbers.entry((kind, name.to_owned())).or_insert_with(|| {
-            *count += 1;
-            *count - 1
-        })
-    }
-
-    /// A names file: a line `label N NAME`, `lock N NAME` or `variable N NAME` for each.
-    pub fn names(&self) -> String {
-        let room = self.room();
-        let mut lines: Vec<_> = room.names.numbers.iter().map(|((kind, name), number)| (*kind, *number, name.as_str())).collect();
-        lines.sort_unstable();
-        lines.iter().map(|(kind, number, name)| format!("{kind} {number} {name}\n")).collect()
-    }
-
-    /// An atomic block of this thread, up to the drop of the guard.
-    pub fn atomic(&self, label: &str) -> Atomic<'_> {
-        report_or_panic(self, Event::Begin(self.number("label", label)), || ());
-        Atomic { monitor: self, _thread: std::marker::PhantomData }
-    }
-
-    /// Starts a thread that this one forks.
-    pub fn spawn<T: Send + 'static>(&self, body: impl FnOnce() -> T + Send + 'static) -> Result<JoinHandle<T>, Refused> {
-        let thread = self.thread()?;
-        let mut room = self.room();
-        let child = room.threads;
-        report(&mut room.handle, thread, Event::Fork(child))?;
-        room.threads += 1;
-        drop(room);
-        let monitor = self.clone();
-        let handle = std::thread::spawn(move || {
-            monitor.act_as(child);
-            let result = body();
-            report_or_panic(&monitor, Event::Exit, || ());
-            result
-        });
-        Ok(JoinHandle { monitor: self.clone(), child, handle })
-    }
-}
-
-/// Reports an event. The caller holds the lock, by which it has the handle.
-fn report(handle: &mut Handle, thread: u8, event: Event) -> Result<Answer, Refused> {
-    let mut answer = Answer::default();
-    let out = &mut answer;
-    // SAFETY: nobody else has the handle, and the answer is a live one.
-    let status = unsafe {
-        match event {
-            Event::Read(x) => sys::velodrome_read(handle, thread, x, out),
-            Event::Write(x, value) => sys::velodrome_write(handle, thread, x, value, out),
-            Event::Acquire(m) => sys::velodrome_acquire(handle, thread, m, out),
-            Event::Release(m) => sys::velodrome_release(handle, thread, m, out),
-            Event::AcquireShared(m) => sys::velodrome_acquire_shared(handle, thread, m, out),
-            Event::ReleaseShared(m) => sys::velodrome_release_shared(handle, thread, m, out),
-            Event::Begin(label) => sys::velodrome_begin(handle, thread, label, out),
-            Event::End => sys::velodrome_end(handle, thread, out),
-            Event::Fork(child) => sys::velodrome_fork(handle, thread, child, out),
-            Event::Join(child) => sys::velodrome_join(handle, thread, child, out),
-            Event::Exit => sys::velodrome_exit(handle, thread, out),
+    fn log_name(&self, caller: &Location<'_>) -> String {
+        if self.name.is_empty() {
+            format!("{}-{}", caller.file(), caller.line())
+        } else {
+            self.name.replace("::", ".")
         }
-    };
-    match status {
-        0 => Ok(answer),
-        status => Err(Refused(status)),
     }
 }
 
-/// In a wrapper a refusal says that the program used it wrongly, or that a limit was reached.
-fn report_or_panic<T>(monitor: &Monitor, event: Event, access: impl FnOnce() -> T) -> T {
-    match monitor.event(event, access) {
-        Ok((done, _)) => done,
-        Err(refused) => panic!("{event:?}: {refused}"),
+/// Prints what a run came to, if there is something to say.
+fn note(end: &End) {
+    if !end.report.is_empty() {
+        eprintln!("velodrome: {}", end.report.trim_end());
     }
 }
 
-/// As `report_or_panic`, but where a panic unwinds already, in a guard's drop, a refusal is left alone.
-fn report_in_drop(monitor: &Monitor, event: Event) {
-    if let Err(refused) = monitor.event(event, || ()) {
-        assert!(std::thread::panicking(), "{event:?}: {refused}");
+/// Runs the body, watched, and panics where its blocks were not atomic. This is what [`macro@test`] does with its function.
+///
+/// If the body panics, the panic goes on, and an alarm is printed before.
+///
+/// # Panics
+///
+/// At an alarm, with its report. With `VELODROME_INCOMPLETE=fail`, also where the run was not watched to its end.
+///
+/// ```should_panic
+/// use velodrome::{cell::Var, thread};
+/// let balance = Var::new(100);
+/// velodrome::check(|| {
+///     thread::scope(|scope| {
+///         let _transfer = velodrome::block!("transfer");
+///         let before = balance.get();
+///         std::thread::scope(|other| {
+///             other.spawn(|| balance.set(0)); // between the read and the write
+///         });
+///         balance.set(before + 5);
+///         # let _ = scope;
+///     })
+/// });
+/// ```
+#[track_caller]
+pub fn check<T>(body: impl FnOnce() -> T) -> T {
+    Builder::new().check(body)
+}
+
+/// An atomic block of this thread, by [`block!`]: it ends where the value is dropped.
+///
+/// A block as a statement ends at once, so the compiler warns of it:
+///
+/// ```compile_fail
+/// #![deny(unused_must_use)]
+/// fn transfer() {
+///     velodrome::block!("transfer");
+/// }
+/// ```
+#[must_use = "the block ends where this is dropped: `let _block = ..`"]
+pub struct Block {
+    stays: PhantomData<*const ()>,
+}
+
+impl Block {
+    #[doc(hidden)]
+    pub fn enter(label: &'static Label) -> Block {
+        session::begin(&label.0);
+        Block { stays: PhantomData }
     }
 }
 
-/// An atomic block that is open. It stays in its thread.
-pub struct Atomic<'a> {
-    monitor: &'a Monitor,
-    _thread: std::marker::PhantomData<*const ()>,
-}
-
-impl Drop for Atomic<'_> {
+impl Drop for Block {
     fn drop(&mut self) {
-        report_in_drop(self.monitor, Event::End);
+        session::end();
     }
 }
 
-/// A thread that was spawned.
-pub struct JoinHandle<T> {
-    monitor: Monitor,
-    child: u8,
-    handle: std::thread::JoinHandle<T>,
-}
-
-impl<T> JoinHandle<T> {
-    /// Waits for its end. A thread that panicked has not exited for the monitor, and is not joined there.
-    pub fn join(self) -> std::thread::Result<T> {
-        let result = self.handle.join()?;
-        report_or_panic(&self.monitor, Event::Join(self.child), || ());
-        Ok(result)
+impl fmt::Debug for Block {
+    fn fmt(&self, f: &mut fmt::Formatter<'_>) -> fmt::Result {
+        f.write_str("Block")
     }
 }
 
-/// A variable whose reads and writes are events.
-pub struct Shared<T> {
-    monitor: Monitor,
-    number: u16,
-    value: StdMutex<T>,
-}
+#[doc(hidden)]
+#[derive(Debug)]
+pub struct Label(session::Object);
 
-impl<T: Clone> Shared<T> {
-    /// A variable of this name.
-    pub fn new(monitor: &Monitor, name: &str, value: T) -> Shared<T> {
-        let number = small(monitor.number("variable", name));
-        Shared { monitor: monitor.clone(), number, value: StdMutex::new(value) }
-    }
-
-    /// Reads it.
-    pub fn get(&self) -> T {
-        report_or_panic(&self.monitor, Event::Read(self.number), || self.value.lock().unwrap().clone())
-    }
-
-    /// Writes it.
-    pub fn set(&self, value: T) {
-        report_or_panic(&self.monitor, Event::Write(self.number, 0), || *self.value.lock().unwrap() = value);
+impl Label {
+    #[track_caller]
+    pub const fn new(name: &'static str) -> Label {
+        Label(session::Object::new(name, Location::caller()))
     }
 }
 
-fn small(number: u32) -> u16 {
-    u16::try_from(number).expect("velodrome: more than 65535 names of one kind")
-}
-
-/// A mutex whose locks and unlocks are events.
-pub struct Mutex<T> {
-    monitor: Monitor,
-    number: u16,
-    inner: StdMutex<T>,
-}
-
-/// A mutex that is held.
-pub struct MutexGuard<'a, T> {
-    monitor: &'a Monitor,
-    number: u16,
-    inner: StdMutexGuard<'a, T>,
-}
-
-impl<T> Mutex<T> {
-    /// A mutex of this name.
-    pub fn new(monitor: &Monitor, name: &str, value: T) -> Mutex<T> {
-        let number = small(monitor.number("lock", name));
-        Mutex { monitor: monitor.clone(), number, inner: StdMutex::new(value) }
-    }
-
-    /// Locks it.
-    pub fn lock(&self) -> MutexGuard<'_, T> {
-        let inner = self.inner.lock().unwrap();
-        report_or_panic(&self.monitor, Event::Acquire(self.number), || ());
-        MutexGuard { monitor: &self.monitor, number: self.number, inner }
-    }
-}
-
-impl<T> Drop for MutexGuard<'_, T> {
-    fn drop(&mut self) {
-        report_in_drop(self.monitor, Event::Release(self.number));
-    }
-}
-
-impl<T> std::ops::Deref for MutexGuard<'_, T> {
-    type Target = T;
-    fn deref(&self) -> &T {
-        &self.inner
-    }
-}
-
-impl<T> std::ops::DerefMut for MutexGuard<'_, T> {
-    fn deref_mut(&mut self) -> &mut T {
-        &mut self.inner
-    }
-}
-
-/// A lock of readers and writers: a write takes it alone, reads share it.
-pub struct RwLock<T> {
-    monitor: Monitor,
-    number: u16,
-    inner: StdRwLock<T>,
-}
-
-/// A share of a lock.
-pub struct ReadGuard<'a, T> {
-    monitor: &'a Monitor,
-    number: u16,
-    inner: StdReadGuard<'a, T>,
-}
-
-/// A lock that is held alone.
-pub struct WriteGuard<'a, T> {
-    monitor: &'a Monitor,
-    number: u16,
-    inner: StdWriteGuard<'a, T>,
-}
-
-impl<T> RwLock<T> {
-    /// A lock of this name.
-    pub fn new(monitor: &Monitor, name: &str, value: T) -> RwLock<T> {
-        let number = small(monitor.number("lock", name));
-        RwLock { monitor: monitor.clone(), number, inner: StdRwLock::new(value) }
-    }
-
-    /// Takes a share.
-    pub fn read(&self) -> ReadGuard<'_, T> {
-        let inner = self.inner.read().unwrap();
-        report_or_panic(&self.monitor, Event::AcquireShared(self.number), || ());
-        ReadGuard { monitor: &self.monitor, number: self.number, inner }
-    }
-
-    /// Takes it alone.
-    pub fn write(&self) -> WriteGuard<'_, T> {
-        let inner = self.inner.write().unwrap();
-        report_or_panic(&self.monitor, Event::Acquire(self.number), || ());
-        WriteGuard { monitor: &self.monitor, number: self.number, inner }
-    }
-}
-
-impl<T> Drop for ReadGuard<'_, T> {
-    fn drop(&mut self) {
-        report_in_drop(self.monitor, Event::ReleaseShared(self.number));
-    }
-}
-
-impl<T> Drop for WriteGuard<'_, T> {
-    fn drop(&mut self) {
-        report_in_drop(self.monitor, Event::Release(self.number));
-    }
-}
-
-impl<T> std::ops::Deref for ReadGuard<'_, T> {
-    type Target = T;
-    fn deref(&self) -> &T {
-        &self.inner
-    }
-}
-
-impl<T> std::ops::Deref for WriteGuard<'_, T> {
-    type Target = T;
-    fn deref(&self) -> &T {
-        &self.inner
-    }
-}
-
-impl<T> std::ops::DerefMut for WriteGuard<'_, T> {
-    fn deref_mut(&mut self) -> &mut T {
-        &mut self.inner
-    }
+/// Begins an atomic block that ends where the value is dropped: `let _block = velodrome::block!("transfer");`
+///
+/// The name is a constant. Reports have it with file and line.
+#[macro_export]
+macro_rules! block {
+    ($name:expr $(,)?) => {{
+        static LABEL: $crate::Label = $crate::Label::new($name);
+        $crate::Block::enter(&LABEL)
+    }};
 }

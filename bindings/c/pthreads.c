@@ -1,0 +1,109 @@
+/* pthreads: what velodrome_pthread.h promises. With VELODROME_OFF the same program without sessions. */
+#include "velodrome_pthread.h"
+#include <stdio.h>
+#include <string.h>
+
+static int failed;
+static void expect(bool holds, const char *what, int line) {
+    if (holds) return;
+    printf("    line %d: %s\n", line, what);
+    failed = 1;
+}
+#define EXPECT(x) expect(x, #x, __LINE__)
+
+static vs_mutex lock = VS_MUTEX("lock");
+static VS_VARIABLE(long) balance = {100, VS_OBJECT("balance")};
+static VS_VARIABLE(int) step = {0, VS_OBJECT("step")};
+static pthread_cond_t stepped = PTHREAD_COND_INITIALIZER;
+
+static void step_to(int n) {
+    vs_mutex_lock(&lock);
+    VS_SET(step, n);
+    pthread_cond_broadcast(&stepped);
+    vs_mutex_unlock(&lock);
+}
+static void wait_for_step(int n) {
+    vs_mutex_lock(&lock);
+    while (VS_GET(step) < n) vs_cond_wait(&stepped, &lock);
+    vs_mutex_unlock(&lock);
+}
+
+static void *deposit(void *amount) {
+    VELODROME_ATOMIC("deposit");
+    vs_mutex_lock(&lock);
+    VS_SET(balance, VS_GET(balance) + *(long *)amount);
+    vs_mutex_unlock(&lock);
+    return amount;
+}
+
+static void *careless(void *unused) { /* another thread deposits between the two holds */
+    VELODROME_ATOMIC("careless");
+    vs_mutex_lock(&lock);
+    long before = VS_GET(balance);
+    vs_mutex_unlock(&lock);
+    step_to(1);
+    wait_for_step(2);
+    vs_mutex_lock(&lock);
+    VS_SET(balance, before + 1);
+    vs_mutex_unlock(&lock);
+    return unused;
+}
+
+static void many_deposits(void) {
+    vs_thread t[8];
+    long amount = 5;
+    void *result = NULL;
+    for (int i = 0; i < 8; i++) EXPECT(vs_thread_create(&t[i], NULL, deposit, &amount) == 0);
+    for (int i = 0; i < 8; i++) EXPECT(vs_thread_join(&t[i], &result) == 0 && result == &amount);
+    EXPECT(balance.value == 140);
+}
+
+static void lose_one(void) {
+    vs_thread t;
+    long amount = 10;
+    EXPECT(vs_thread_create(&t, NULL, careless, NULL) == 0);
+    wait_for_step(1);
+    deposit(&amount);
+    step_to(2);
+    vs_thread_join(&t, NULL);
+    EXPECT(balance.value == 141);
+}
+
+static void *leave(void *unused) {
+    VELODROME_ATOMIC("left");
+    VS_SET(step, VS_GET(step));
+    pthread_exit(unused); /* the block ends here */
+}
+
+static void the_rest(void) {
+    vs_mutex m;
+    vs_thread t;
+    struct timespec past = {0, 0};
+    pthread_cond_t never = PTHREAD_COND_INITIALIZER;
+    EXPECT(vs_mutex_init(&m, NULL, "m") == 0 && vs_mutex_trylock(&m) == 0 && vs_mutex_trylock(&m) != 0);
+    EXPECT(vs_cond_timedwait(&never, &m, &past) != 0);
+    EXPECT(vs_mutex_unlock(&m) == 0 && vs_mutex_destroy(&m) == 0);
+    EXPECT(vs_thread_create(&t, NULL, leave, NULL) == 0 && vs_thread_join(&t, NULL) == 0);
+}
+
+#ifdef VELODROME_OFF
+int main(void) {
+    many_deposits();
+    lose_one();
+    the_rest();
+    return failed;
+}
+#else
+int main(void) {
+    char *report;
+    vs_session s = vs_open(NULL, false);
+    many_deposits();
+    the_rest();
+    EXPECT(vs_close(s, NULL) == VS_CLEAN);
+    s = vs_open(NULL, false);
+    lose_one();
+    EXPECT(vs_close(s, &report) == VS_ALARM && report && strstr(report, "not atomic: careless (pthreads.c:") && strstr(report, "writes balance at pthreads.c:"));
+    vs_free(report);
+    return failed;
+}
+#endif

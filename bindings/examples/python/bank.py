@@ -1,0 +1,25 @@
+"""A bank whose accounts threads share. One of its deposits is atomic."""
+import threading
+
+import velodrome
+
+
+class Account:
+    balance: int = velodrome.field(0)
+
+    def __init__(self):
+        self.lock = threading.Lock()  # the plugin watches it
+
+    @velodrome.atomic
+    def deposit(self, amount):
+        """In one hold of the lock."""
+        with self.lock:
+            self.balance += amount
+
+    @velodrome.atomic
+    def deposit_carelessly(self, amount):
+        """In two: another one may come between them, and is lost then."""
+        with self.lock:
+            before = self.balance
+        with self.lock:
+            self.balance = before + amount
