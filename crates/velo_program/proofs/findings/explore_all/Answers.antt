@@ -1,6 +1,8 @@
 use Rattle.std.proofs.Common.{◌∙◌, ℕ, List, ap, arith, map, subst, take}
 use Rattle.std.specs.Global.{Vec}
 use Rattle.velo_events.specs.declared.event.ThreadId.{ThreadId}
+use Rattle.velo_explore.specs.Faults.{Cycle, Refusing, Stuck}
+use Rattle.velo_schedules.specs.Told.{IsLeftOpen, OnOpen, OnOpenRefusal}
 use Rattle.velo_program.specs.ByChance.{IsBlameOf}
 use Rattle.velo_program.specs.Exploring.{most_to_blame}
 use Rattle.velo_program.specs.declared.told.Tried.TheVariants as how
@@ -19,6 +21,12 @@ returns-clause-told g c =
       alarm = c.in_ok-found.ensures.alarm;
       stuck = c.in_ok-found.ensures.stuck;
       refused = c.in_ok-found.ensures.refused;
+      open_alarm = subst (λ (n : ℕ). OnOpen search.alarm (IsLeftOpen c.args.workload.now c.args.config n options.first search.states Cycle))
+      c.from-most_states.ensures c.in_ok-found.ensures.open_alarm;
+      open_stuck = subst (λ (n : ℕ). OnOpen search.stuck (IsLeftOpen c.args.workload.now c.args.config n options.first search.states Stuck))
+      c.from-most_states.ensures c.in_ok-found.ensures.open_stuck;
+      open_refused = subst (λ (n : ℕ). OnOpenRefusal search.refused (IsLeftOpen c.args.workload.now c.args.config n options.first search.states Refusing))
+      c.from-most_states.ensures c.in_ok-found.ensures.open_refused;
     })
     c.in_ok-events.ensures.simple_alarm c.in_ok-events.ensures.simple_stuck c.in_ok-events.ensures.simple_refused
     (ap (λ (n : ℕ). how.All n simple.states) c.in_ok-events.ensures.events ∙ ap (λ (n : ℕ). how.All search.events n) c.in_ok-events.ensures.states)
