@@ -1,12 +1,10 @@
 -- What a chain of events that synchronize leads to a thread is known by its clock.
 use Rattle.std.proofs.Common.{◌≡◌, ℕ, suc, ◌<◌, ◌≤◌, Bool, true, List, [], ◌∷◌, length, take, Some, refl, sym, ◌∙◌, subst, arith, ⊎_elim, inl, inr}
 use Rattle.std.specs.Prelude.{slice_get, ◌==◌, nat_le, IsTrue, IsFalse, All}
-use Rattle.std.proofs.lemmas.Bool.{cases_lt, cases_order, and_parts, or_cases, or_left, or_right, both_ways, false≢true, eq-eqb, eqb-true, le-leb}
+use Rattle.std.proofs.lemmas.Bool.{cases_lt, cases_order, and_parts, or_cases, or_left, or_right, both_ways, eq-eqb, eqb-true, le-leb}
 use Rattle.std.proofs.lemmas.Option.{same_Some}
 use Rattle.velo_events.specs.declared.config.Bounds.{Bounds}
 use Rattle.velo_events.specs.declared.event.Event.{Event}
-use Rattle.velo_events.specs.declared.event.Kind.{Kind}
-use Rattle.velo_events.specs.declared.event.Kind.TheVariants.{Exit}
 use Rattle.velo_events.specs.Event.{thread_of, is_by, is_exit, is_fork_of}
 use Rattle.velo_events.specs.WellFormed.{IsWellFormed}
 use Rattle.velo_events.specs.Block.{passes_at}
@@ -25,7 +23,7 @@ use Rattle.velo_thin.proofs.OnRanks.{rank, rank-le, rank-lt}
 use Rattle.velo_laws.specs.Ordered.{only}
 use Rattle.velo_laws.proofs.OnOrderedKinds.{near, near-conflict_before}
 use Rattle.velo_laws.proofs.OnOrderedPlaces.{conflict-is, near-later, near-earlier, near-conflicts_after, fork-turn, exit-before_join, not_behind_exit, earlier-forks, later-joins}
-use Rattle.velo_races.specs.Races.{synchronizes, is_synchronizing, no_lock, AreSynchronized}
+use Rattle.velo_races.specs.Races.{synchronizes, no_lock, AreSynchronized}
 use Rattle.velo_races.specs.Sweep.{stamp_at, is_known}
 use Rattle.velo_races.proofs.OnSynchronizing.{stays, sub, sub-rank, sub-get}
 use Rattle.velo_races.proofs.OnSynchronizedRuns.{exit_kind, well-synchronizing}

@@ -24,7 +24,8 @@ use Rattle.velo_laws.proofs.OnOrderedLast.{last-within, within-ordered}
 use Rattle.velo_laws.proofs.OnOrderedPlaces.{goes-is}
 use Rattle.velo_laws.proofs.OnOrderedPlacesOfRests.{closing_law-labels}
 use Rattle.velo_races.specs.declared.sweep.Sweep.{Sweep}
-use Rattle.velo_races.specs.Races.{no_lock, marked, is_access_to, IsJudgedWithout}
+use Rattle.velo_thin.specs.Tables.{marked}
+use Rattle.velo_races.specs.Races.{no_lock, is_access_to, IsJudgedWithout}
 use Rattle.velo_races.specs.Sweep.{IsSwept}
 
 -- what is left out is an access to a variable of the set

@@ -1,5 +1,5 @@
 -- Variables that are free of races: locks, forks and joins keep all accesses to them in order.
-use Rattle.std.specs.Prelude.{ℕ, ◌<◌, Bool, true, false, List, Some, length, slice_index_or, IsTrue, All, ◌⊎◌, ◌↔◌}
+use Rattle.std.specs.Prelude.{ℕ, ◌<◌, Bool, true, false, List, Some, length, IsTrue, All, ◌⊎◌, ◌↔◌}
 use Rattle.velo_events.specs.declared.event.Event.{Event}
 use Rattle.velo_events.specs.declared.event.Kind.{Kind}
 use Rattle.velo_events.specs.declared.event.Kind.TheVariants.{Read, Write, Begin, End}
@@ -29,24 +29,20 @@ is_access_to x e = are_same (variable_of e.kind) (Some x)
 abbrev pub AreSynchronized : List Event → ℕ → ℕ → Type 0
 AreSynchronized log i j =
     AreOfOneThread log i j
-    ⊎ ((between : List ℕ) × (0 < length between) × All (λ k. IsTrue (passes_at log synchronizes k)) between
-    × Path (ConflictsInOrder log) i between j)
+    ⊎ ((between : List ℕ) × (0 < length between)
+    × All (λ k. IsTrue (passes_at log synchronizes k)) between × Path (ConflictsInOrder log) i between j)
 
 -- any two accesses to the variable that conflict are so
 abbrev pub IsFreeOfRaces : List Event → ℕ → Type 0
 IsFreeOfRaces log x =
-    (i j : ℕ) → IsTrue (passes_at log (is_access_to x) i) → IsTrue (passes_at log (is_access_to x) j)
-    → ConflictsInOrder log i j → AreSynchronized log i j
+    (i j : ℕ) → IsTrue (passes_at log (is_access_to x) i)
+    → IsTrue (passes_at log (is_access_to x) j) → ConflictsInOrder log i j → AreSynchronized log i j
 
 -- ---- what is left without some variables
 
 -- every lock stays
 abbrev pub no_lock : ℕ → Bool
 no_lock m = false
-
--- the number is marked
-abbrev pub marked : List Bool → ℕ → Bool
-marked marks n = slice_index_or marks n false
 
 -- The log is judged the same without the accesses to these variables: it has a cycle where what is left has one, the same
 -- event closes the first one, and the same blocks are to blame; and so it is whichever labels are left out as well
@@ -55,6 +51,9 @@ pub record IsJudgedWithout (variables : ℕ → Bool) (log : List Event) : Type 
   pub closes : ClosesAtSame (only no_lock variables) log
   pub blame : BlamesSame (only no_lock variables) log
   pub cycles_without : (labels : ℕ → Bool)
-      → HasCycle (rest_of (dissolving labels) log) ↔ HasCycle (rest_of (leaving_out labels no_lock variables) log)
-  pub closes_without : (labels : ℕ → Bool) → ClosesAtSameWithout labels (leaving_out labels no_lock variables) log
-  pub blame_without : (labels : ℕ → Bool) → BlamesSame (only no_lock variables) (rest_of (dissolving labels) log)
+      → HasCycle (rest_of (dissolving labels) log)
+      ↔ HasCycle (rest_of (leaving_out labels no_lock variables) log)
+  pub closes_without : (labels : ℕ → Bool)
+      → ClosesAtSameWithout labels (leaving_out labels no_lock variables) log
+  pub blame_without : (labels : ℕ → Bool)
+      → BlamesSame (only no_lock variables) (rest_of (dissolving labels) log)

@@ -7,7 +7,8 @@ use Rattle.velo_events.specs.Graph.{Leads}
 use Rattle.velo_events.specs.Place.{LastWrite, LastRead, last_at}
 use Rattle.velo_clocks.specs.Clocks.{ClockState, OfLast, known_at, AreClocksOf, IsNoted, KnowsTheSame}
 use Rattle.velo_laws.specs.Ordered.{only, IsInnerStep}
-use Rattle.velo_races.specs.Races.{synchronizes, is_access_to, IsFreeOfRaces, no_lock, marked}
+use Rattle.velo_thin.specs.Tables.{marked}
+use Rattle.velo_races.specs.Races.{synchronizes, is_access_to, IsFreeOfRaces, no_lock}
 use Rattle.velo_races.specs.declared.sweep.Sweep.{Sweep}
 use Rattle.velo_races.specs.declared.sweep.LastWrite as written
 
@@ -31,10 +32,12 @@ is_known s t by stamp = (by == t) || nat_le stamp (known_at s (OfLast t) by)
 abbrev pub no_write : written.LastWrite
 no_write = record { by = record { 0 = 0 }; stamp = 0 }
 
+abbrev pub last_write : Sweep → ℕ → written.LastWrite
+last_write s x = slice_index_or s.writes.items x no_write
+
 -- thread t knows the last write of the variable
 abbrev pub KnowsWrite : Sweep → ℕ → ℕ → Type 0
-KnowsWrite s t x =
-    IsTrue (is_known s.clocks t (slice_index_or s.writes.items x no_write).by.0 (slice_index_or s.writes.items x no_write).stamp)
+KnowsWrite s t x = IsTrue (is_known s.clocks t (last_write s x).by.0 (last_write s x).stamp)
 
 -- it knows each thread's last read of it
 abbrev pub KnowsReads : Sweep → ℕ → ℕ → Type 0
@@ -62,7 +65,8 @@ pub record IsInOrderUpTo (log : List Event) (n x : ℕ) : Type 0 where
 -- the last write of the variable before position n has this stamp and thread
 pub record IsLastWrite (log : List Event) (n x : ℕ) (last : written.LastWrite) : Type 0 where
   pub stamp : last.stamp ≡ stamp_of log (last_at (LastWrite (x + x)) (take n log))
-  pub by : (m : ℕ) → last_at (LastWrite (x + x)) (take n log) ≡ Some m → IsTrue (passes_at log (is_by last.by.0) m)
+  pub by : (m : ℕ) → last_at (LastWrite (x + x)) (take n log) ≡ Some m
+      → IsTrue (passes_at log (is_by last.by.0) m)
 
 -- this is kept of the events before position n
 pub record IsSwept (log : List Event) (n : ℕ) (s : Sweep) : Type 0 where
@@ -73,7 +77,7 @@ pub record IsSwept (log : List Event) (n : ℕ) (s : Sweep) : Type 0 where
   pub write_count : length s.writes.items ≡ s.bounds.variables
   pub read_count : length s.reads.items ≡ s.bounds.variables * 64
   pub ordered_count : length s.ordered.items ≡ s.bounds.variables
-  pub writes : (x : ℕ) → x < s.bounds.variables → IsLastWrite log n x (slice_index_or s.writes.items x no_write)
+  pub writes : (x : ℕ) → x < s.bounds.variables → IsLastWrite log n x (last_write s x)
   pub reads : (x u : ℕ) → x < s.bounds.variables → u < s.bounds.threads
       → slice_index_or s.reads.items (x * 64 + u) 0 ≡ stamp_of log (last_at (LastRead (x + x) u) (take n log))
   pub ordered : (x : ℕ) → IsTrue (marked s.ordered.items x) → IsInOrderUpTo log n x

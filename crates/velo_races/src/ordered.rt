@@ -4,7 +4,8 @@ ghost use Rattle.velo_events.specs.declared.limits.TheConstants.{MOST_EVENTS};
 ghost use Rattle.velo_events.specs.Refusals.{GrowthRefused};
 ghost use Rattle.velo_events.specs.WellFormed.{IsWellFormed};
 ghost use Rattle.velo_laws.specs.Ordered.{only, IsOrderedWithin};
-ghost use Rattle.velo_races.specs.Races.{no_lock, marked, IsFreeOfRaces, IsJudgedWithout};
+ghost use Rattle.velo_thin.specs.Tables.{marked};
+ghost use Rattle.velo_races.specs.Races.{no_lock, IsFreeOfRaces, IsJudgedWithout};
 
 use crate::sweep::Sweep;
 use std::alloc::Global;
@@ -20,8 +21,10 @@ pub fn ordered_variables(alloc: Global, config: &Config, log: &Trace) -> Result<
     requires few { length log.now.events ≤ MOST_EVENTS }
     requires well_formed { IsWellFormed config.now.bounds log.now.events }
     ensures count { IfOk result (λ ordered. length ordered.items ≡ config.now.bounds.variables) }
-    ensures ordered { IfOk result (λ ordered. IsOrderedWithin (only no_lock (marked ordered.items)) log.now.events) }
-    ensures free { IfOk result (λ ordered. (x : ℕ) → x < config.now.bounds.variables → IsFreeOfRaces log.now.events x → IsTrue (marked ordered.items x)) }
+    ensures ordered { IfOk result (λ ordered.
+        IsOrderedWithin (only no_lock (marked ordered.items)) log.now.events) }
+    ensures free { IfOk result (λ ordered. (x : ℕ) → x < config.now.bounds.variables
+        → IsFreeOfRaces log.now.events x → IsTrue (marked ordered.items x)) }
     ensures judged { IfOk result (λ ordered. IsJudgedWithout (marked ordered.items) log.now.events) }
     ensures memory { OnErr result GrowthRefused }
 {

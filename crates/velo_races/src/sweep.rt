@@ -120,7 +120,8 @@ impl Sweep {
         ensures writes { self.new.writes.items ≡ self.old.writes.items }
         ensures reads { self.new.reads.items
             ≡ slice_set self.old.reads.items (variable * 64 + thread.0) (self.old.count + 1) }
-        ensures ordered { IsJudged self.old.ordered.items self.new.ordered.items variable (KnowsWrite self.old thread.0 variable) }
+        ensures ordered { IsJudged self.old.ordered.items self.new.ordered.items variable
+            (KnowsWrite self.old thread.0 variable) }
     {
         let known = self.knows_write(thread, variable);
         judge(&mut self.ordered, variable, known);
@@ -141,7 +142,8 @@ impl Sweep {
         ensures writes { self.new.writes.items
             ≡ slice_set self.old.writes.items variable (record { by = thread; stamp = self.old.count + 1 }) }
         ensures reads { self.new.reads.items ≡ self.old.reads.items }
-        ensures ordered { IsJudged self.old.ordered.items self.new.ordered.items variable (KnowsWrite self.old thread.0 variable × KnowsReads self.old thread.0 variable) }
+        ensures ordered { IsJudged self.old.ordered.items self.new.ordered.items variable
+            (KnowsWrite self.old thread.0 variable × KnowsReads self.old thread.0 variable) }
     {
         let known = self.knows_write(thread, variable) && self.knows_reads(thread, variable);
         judge(&mut self.ordered, variable, known);
