@@ -77,6 +77,7 @@ typedef struct slot {
     _Atomic uint32_t noise;
     void (*_Atomic wait)(uint32_t nanoseconds);
     uint32_t held;
+    bool abandoned; /* it was in use when this process was forked */
 
     velodrome handle;
     uint32_t events, near, most; /* of this piece; from `near` on it is cut where it can be */
@@ -1174,13 +1175,14 @@ void vs_self_free(vs_self *old) {
 
 /* ---- open, close */
 
-/* The locks may be held by threads that are not there. What they guard is left as it is, since it may be half changed. */
+/* Slots may be half changed, and their locks held, by threads that are not there: those in use are left as they are, for good. */
 static void child_of_fork(void) {
     opening = (pthread_mutex_t)PTHREAD_MUTEX_INITIALIZER;
-    for (int i = 0; i < SLOTS; i++) {
-        uint64_t last = slots[i].last;
-        slots[i] = (slot){.order = PTHREAD_MUTEX_INITIALIZER};
-        slots[i].last = last;
+    for (slot *s = slots; s < slots + SLOTS; s++) {
+        s->abandoned |= s->id || s->keeper;
+        s->id = 0;
+        s->keeper = 0;
+        s->recording = false;
     }
     everywhere = 0;
     vs_recording = 0;
@@ -1224,7 +1226,7 @@ static uint64_t open_in(slot *s, const vs_options *o, bool all) {
 
 /* Keeps the slot if no session is in it and no thread has it. */
 static bool keep_free(slot *s) {
-    if (s->id || is_keeper(s) || pthread_mutex_trylock(&s->order)) return false;
+    if (s->id || s->abandoned || is_keeper(s) || pthread_mutex_trylock(&s->order)) return false;
     if (s->id) {
         pthread_mutex_unlock(&s->order);
         return false;
