@@ -110,6 +110,13 @@ tsan_tests() {
         $1 -std=c++17 -O1 -g -fsanitize=thread "${includes[@]}" -pthread -o "$out/cpp_tsan" "$top/bindings/cpp/test.cpp" "$out/session_tsan.o" "$out/libvelodrome.a"
 }
 
+# cost_builds COMPILER: what a round costs, by the shell and by the calls
+cost_builds() {
+    local c=${1/clang++/clang}
+    ${c/g++/gcc} -std=gnu11 -O2 "${warnings[@]}" "${includes[@]}" -c "$top/bindings/cpp/cost_calls.c" -o "$out/cost_calls.o" &&
+        $1 -std=c++17 -O2 "${warnings[@]}" "${includes[@]}" -pthread -o "$out/cpp_cost" "$top/bindings/cpp/cost.cpp" "$out/cost_calls.o" "$out/libvelodrome.a"
+}
+
 valgrinds() {
     local name=$1
     shift
@@ -174,6 +181,8 @@ if wants cpp; then
             step "cpp: VELODROME_OFF builds without the library (C++$standard, $compiler)" $compiler -std=c++$standard "${flags[@]}" -o "$out/cpp_off" "$top/bindings/cpp/off.cpp"
             step "cpp: VELODROME_OFF (C++$standard, $compiler)" "$out/cpp_off"
         done
+        step "cpp: cost builds ($compiler)" cost_builds $compiler
+        step "cpp: cost of a round ($compiler)" in_time "$out/cpp_cost"
         step "cpp: a block that ends at once is refused ($compiler)" says discarded $compiler -std=c++17 "${flags[@]}" -c -o /dev/null "$top/bindings/cpp/discarded.cpp"
         step "cpp: tests build for ThreadSanitizer ($compiler)" tsan_tests $compiler
         step "cpp: ThreadSanitizer is silent ($compiler)" in_time env -C "$out" TSAN_OPTIONS=die_after_fork=0 "$out/cpp_tsan"
