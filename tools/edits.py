@@ -11,7 +11,7 @@ import sys
 
 TOP = os.path.dirname(os.path.dirname(os.path.abspath(__file__)))
 MOST_OF_A_CRATE = 16
-MOST = 200
+MOST = 100
 
 
 def parsed(edit):
