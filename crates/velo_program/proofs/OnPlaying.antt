@@ -3,7 +3,6 @@ use Rattle.std.proofs.Common.{◌≡◌, ◌∙◌, ◌≤◌, ◌++◌, refl, s
 use Rattle.std.proofs.lemmas.List.{append-nil, length-append}
 use Rattle.std.specs.Prelude.{[], ℕ, Bool, List, length, Option, Some, None, Result, Ok, Err, IfErr, IfOk, OnOk}
 use Rattle.std.specs.Borrow.{Bor}
-use Rattle.velo_events.specs.declared.event.ThreadId.{ThreadId}
 use Rattle.velo_worker.specs.declared.ending.Ending.{Ending}
 use Rattle.velo_workload.specs.declared.fault.WorkFault.{WorkFault}
 use Rattle.velo_workload.specs.declared.fault.WorkFault.TheVariants as work_fault
