@@ -1,8 +1,6 @@
 -- How many states a level may have, by those looked at before it.
-use Rattle.std.proofs.Common.{◌≡◌, ℕ, zero, suc, ◌+◌, ◌*◌, ◌-◌, ◌<◌, ◌≤◌, false, ap, arith, inl, inr}
+use Rattle.std.proofs.Common.{◌≡◌, ℕ, zero, suc, ◌+◌, ◌*◌, ◌≤◌, ap, arith}
 use Rattle.std.proofs.Math.Nat.{suc-mul, zero-mul}
-use Rattle.velo_explore.specs.declared.found.Found.{Found}
-use Rattle.velo_explore.specs.Search.{IsCutShort}
 
 times-sum : (a b t : ℕ) → (a + b) * t ≡ a * t + b * t
 times-sum zero b t = omega (arith, ap (λ k. k * t) (let e : zero + b ≡ b = omega arith in e), zero-mul t)
@@ -18,7 +16,3 @@ few-next states threads before after few more = omega (arith, few, more, times-s
 -- a level more
 pub few-level : (states looked threads after : ℕ) → after ≤ looked * threads → after ≤ (states + looked) * threads + 1
 few-level states looked threads after few = omega (arith, few, times-sum states looked threads)
-
--- too few are left for the level
-pub cut-states : (threads most states waiting : ℕ) (first : _) (found : Found) → states ≤ most → (waiting ≤ most - states → ⊥) → waiting ≤ states * threads + 1 → IsCutShort threads most first found states
-cut-states threads most states waiting first found within over few = inr (omega (arith, within, over, few))

@@ -1,5 +1,5 @@
 -- Ways stay where more events come behind them, and lead to one list of turns.
-use Rattle.std.proofs.Common.{◌≡◌, ℕ, ◌+◌, ◌<◌, ◌≤◌, List, [], ◌∷◌, ◌++◌, take, append_assoc, append-nil, length, length-append, map, reverse, Option, Some, None, refl, sym, ap, ◌∙◌, subst, arith, ⊎_elim, inl, inr}
+use Rattle.std.proofs.Common.{◌≡◌, ℕ, ◌+◌, ◌≤◌, List, [], ◌∷◌, ◌++◌, take, append_assoc, append-nil, length, length-append, reverse, Option, Some, None, refl, sym, ap, ◌∙◌, subst, arith, ⊎_elim, inl, inr}
 use Rattle.std.specs.Prelude.{◌⊎◌, not, ◌&&◌, ◌||◌, Bool, true, false, All, Contains, is_some, IfSome, IsTrue, slice_get}
 use Rattle.std.proofs.lemmas.Bool.{and_parts, and_from, not-true, cases_lt, cases_Bool, false≢true}
 use Rattle.std.proofs.lemmas.List.{map-append, reverse-append}
@@ -20,7 +20,7 @@ use Rattle.velo_explore.specs.declared.found.Found.{Found}
 use Rattle.velo_explore.specs.declared.trail.Trail.{Trail}
 use Rattle.velo_explore.specs.Faults.{Fault, Cycle, Stuck, Refusing, IsFault}
 use Rattle.velo_explore.specs.Told.{foremost, nothing}
-use Rattle.velo_explore.specs.Search.{IsReached, Settles, has_fault}
+use Rattle.velo_explore.specs.Search.{IsReached, has_fault}
 use Rattle.velo_explore.specs.Trail.{IsReachedBy, LeadsTo, turns_of, turns_for, GoesOn, SettlesBy, NotesTurns, AreShown}
 use Rattle.velo_explore.proofs.OnRuns.{IsRunOf-next, IsRunOf-nil}
 use Rattle.velo_explore.proofs.OnKept.{All-kept}

@@ -1,7 +1,7 @@
 -- By the turns of a run of its scripts a program replays along it, unless it meets a limit, or halts as it has a cycle.
-use Rattle.std.proofs.Common.{◌≡◌, ◌≢◌, ℕ, ◌+◌, ◌<◌, ◌≤◌, Bool, true, false, List, [], ◌∷◌, ◌++◌, append_assoc, append-nil, length, map, Option, Some, None, Result, Ok, Err, refl, sym, ap, ◌∙◌, subst, arith, ⊎_elim, inl, inr}
+use Rattle.std.proofs.Common.{◌≡◌, ◌≢◌, ℕ, ◌+◌, Bool, true, false, List, [], ◌∷◌, ◌++◌, append_assoc, append-nil, length, map, Option, Some, None, Result, Ok, Err, refl, sym, ap, ◌∙◌, subst, arith, ⊎_elim, inl, inr}
 use Rattle.std.specs.Prelude.{◌⊎◌, ⊤, not, nat_le, if◌then◌else◌, slice_get, IsTrue, IsFalse}
-use Rattle.std.proofs.lemmas.Bool.{cases_Bool, cases_lt, false≢true}
+use Rattle.std.proofs.lemmas.Bool.{cases_Bool, false≢true}
 use Rattle.std.proofs.lemmas.List.{map-append}
 use Rattle.std.proofs.lemmas.Option.{same_Some, none-some, slice_get_within}
 use Rattle.velo_events.specs.declared.config.Bounds.{Bounds}
@@ -27,7 +27,7 @@ use Rattle.velo_worker.specs.declared.ending.Ending.{Ending}
 use Rattle.velo_worker.specs.declared.ending.Ending.TheVariants.{Done, Stuck, Halted, Refused, Gated}
 use Rattle.velo_worker.specs.declared.progress.Progress.{Progress}
 use Rattle.velo_worker.specs.Progress.{settled, wanted}
-use Rattle.velo_worker.specs.Schedule.{ReplayState, AllIdle, IsIdle, IsWait, Happens, Tries, TurnOf, TurnsOf, all_threads, RoundOf, RoundsOf, start, ReplaysTo, Replays}
+use Rattle.velo_worker.specs.Schedule.{ReplayState, AllIdle, IsIdle, IsWait, Tries, TurnOf, TurnsOf, all_threads, RoundsOf, start, ReplaysTo, Replays}
 use Rattle.velo_explore.specs.Faults as searched
 use Rattle.velo_explore.specs.Plain as values
 use Rattle.velo_explore.specs.Plain.{plain_log}
@@ -40,8 +40,8 @@ use Rattle.velo_moves.specs.Programs.{own}
 use Rattle.velo_moves.specs.Scripts.{plain}
 use Rattle.velo_moves.specs.Wants as threads
 use Rattle.velo_moves.proofs.OnWants.{refusal-same}
-use Rattle.velo_schedules.specs.Logs.{wants_of, is_for_room, ends_refused}
-use Rattle.velo_schedules.specs.Bodies.{scripts, all_scripts}
+use Rattle.velo_schedules.specs.Logs.{is_for_room, ends_refused}
+use Rattle.velo_schedules.specs.Bodies.{all_scripts}
 use Rattle.velo_schedules.specs.Told.{IsCut}
 use Rattle.velo_schedules.proofs.OnBodyScripts.{HaveScripts-bodies, scripts-done}
 use Rattle.velo_schedules.proofs.OnReplays.{IsAlong, wants-going, going, along-turn, along-turns, along-start}

@@ -1,5 +1,5 @@
 -- What holds of all runs of a program's scripts holds of all its replays.
-use Rattle.std.proofs.Common.{◌≡◌, ℕ, ◌+◌, ◌-◌, ◌*◌, ◌^◌, ◌<◌, ◌≤◌, Bool, true, false, not, ◌||◌, List, [], ◌∷◌, length, length-append, map, min, Option, Some, None, refl, sym, ap, ◌∙◌, subst, arith, ⊎_elim, inl, inr}
+use Rattle.std.proofs.Common.{◌≡◌, ℕ, ◌+◌, ◌-◌, ◌*◌, ◌^◌, ◌<◌, ◌≤◌, Bool, true, false, not, ◌||◌, List, [], ◌∷◌, length, length-append, map, Option, Some, None, refl, sym, ap, ◌∙◌, subst, arith, ⊎_elim, inl, inr}
 use Rattle.std.specs.Prelude.{IfSome, IsTrue, filter, slice_get, sum_by}
 use Rattle.std.proofs.lemmas.Bool.{and_parts, or_cases, false≢true}
 use Rattle.std.proofs.lemmas.List.{length-map}
@@ -63,10 +63,6 @@ was_found false h = absurd (false≢true (sym h))
 pub goes_on_all : (first : Bool) → ¬ IsTrue first → first ≡ false
 goes_on_all true none = absurd (none refl)
 goes_on_all false none = refl
-
--- more events than a log may have
-pub too_many : (limit events sum : ℕ) → limit < events → events ≡ min sum (2 ^ 64 - 1) → limit < sum
-too_many limit events sum more is = omega (arith, more, is)
 
 -- ---- the scripts may be searched
 

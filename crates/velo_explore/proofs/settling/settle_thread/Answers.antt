@@ -1,4 +1,4 @@
-use Rattle.std.proofs.Common.{◌<◌, sym, subst, arith}
+use Rattle.std.proofs.Common.{◌<◌, sym, subst}
 use Rattle.velo_heap.specs.Contents.{bounds_of}
 use Rattle.velo_explore.specs.Trail.{IsReachedBy, SettlesBy}
 use Rattle.velo_explore.proofs.OnTrails.{settles_by-same, settles_by-next}

@@ -4,7 +4,7 @@ use Rattle.velo_explore.specs.Faults.{Cycle, Stuck, Refusing}
 use Rattle.velo_explore.specs.Trail.{LeadsTo}
 use Rattle.velo_schedules.specs.Bodies.{all_scripts}
 use Rattle.velo_schedules.proofs.OnShown.{not_found, of_alarm, of_stuck, of_refused, in_alarm, in_stuck, in_refused}
-use Rattle.velo_schedules.proofs.OnTold.{OnOpen-map, OnOpenRefusal-map, too_many, was_found}
+use Rattle.velo_schedules.proofs.OnTold.{OnOpen-map, OnOpenRefusal-map, was_found}
 use Rattle.velo_schedules.proofs.exploring.explore.Goals as goal
 use Rattle.velo_schedules.proofs.exploring.explore.Goals.{then-whole, else-whole, then-whole-2, else-whole-2, then-whole-3, else-whole-3}
 
