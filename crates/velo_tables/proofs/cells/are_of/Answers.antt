@@ -41,8 +41,8 @@ returns-then-is_some c =
     let f = λ (t : ℕ). but_for (Some c.args.slot) (get_or c.args.reads.now t None) in
     let within = IsWalked-within c.args.readers f [] at.left at.thread [] c.ranges.readers.fits (omega (arith, c.loop-left-test.true)) (Fits-lt-pow at.auto.left-fits) at.invariant.walked in
     let other : is_some (f (at.thread + trailing_zeros w64 at.left)) ≡ true =
-        ap (λ (o : Option Step). is_some (but_for (Some c.args.slot) o)) (sym c.entry_at.ensures)
-        ∙ (ap is_some (sym c.but_for-other.ensures) ∙ (sym c.is_some.ensures ∙ c.if-is_some.true)) in
+    ap (λ (o : Option Step). is_some (but_for (Some c.args.slot) o)) (sym c.entry_at.ensures)
+    ∙ (ap is_some (sym c.but_for-other.ensures) ∙ (sym c.is_some.ensures ∙ c.if-is_some.true)) in
     (λ wrong. absurd (false≢true wrong), λ none. absurd (false≢true (sym (ap is_some (nothing_of f _ within none)) ∙ other)))
 
 pub loop-left-init : goal.loop-left-init

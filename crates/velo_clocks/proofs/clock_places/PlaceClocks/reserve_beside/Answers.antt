@@ -51,6 +51,6 @@ pub returns-in-Exclusive-clause-few : goal.returns-in-Exclusive-clause-few
 returns-in-Exclusive-clause-few c = λ few.
     let now = c.args.self.now in
     let more = from_either c.fill_up_to.result _ _ (length now.writes.items ≤ length c.fill_up_to.new.items.items) c.fill_up_to.ensures.ok c.fill_up_to.ensures.err
-        (λ e. omega (arith, ap length e, length-filled_up c.blank.result (c.in-Exclusive.c.0 + 1) now.writes.items))
-        (λ e. omega (arith, ap length e)) in
+    (λ e. omega (arith, ap length e, length-filled_up c.blank.result (c.in-Exclusive.c.0 + 1) now.writes.items))
+    (λ e. omega (arith, ap length e)) in
     omega (arith, few, more)

@@ -11,8 +11,7 @@ returns c =
     let x = c.args.c.0 in
     let slot = Some c.args.slot in
     let steps = steps_of_accesses slot c.args.self.now x in
-    let AreOf = λ (k : LastAccesses). steps_of slot (accesses_of k x) ≡ option_to_list (but_for slot (accesses_of k x).write) in
-    (
+    let AreOf = λ (k : LastAccesses). steps_of slot (accesses_of k x) ≡ option_to_list (but_for slot (accesses_of k x).write) in (
       λ all. steps ∙ subst AreOf c.self.view_is (c.reads_are_of.ensures.0 all),
       λ none. c.reads_are_of.ensures.1 (subst AreOf (sym c.self.view_is) (sym steps ∙ none)),
     )
