@@ -1,5 +1,4 @@
-use Rattle.std.proofs.Common.{◌≡◌, length, sym, ap, subst, ◌∙◌}
-use Rattle.std.specs.Prelude.{IsTrue}
+use Rattle.std.proofs.Common.{◌≡◌, ap, ◌∙◌}
 use Rattle.velo_thin.specs.declared.thinned.Thinned.{Thinned}
 use Rattle.velo_thin.specs.Left.{rest_of, places_of}
 use Rattle.velo_thin.specs.Tables.{left_of, marked}
