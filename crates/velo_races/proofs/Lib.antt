@@ -4,3 +4,4 @@ pub mod OnJoined
 pub mod OnKnown
 pub mod OnSwept
 pub mod OnOrdered
+pub mod OnMarkedOut

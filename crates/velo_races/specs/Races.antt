@@ -1,12 +1,14 @@
 -- Variables that are free of races: locks, forks and joins keep all accesses to them in order.
-use Rattle.std.specs.Prelude.{ℕ, ◌<◌, Bool, true, false, List, Some, length, IsTrue, All, ◌⊎◌, ◌↔◌}
+use Rattle.std.specs.Prelude.{◌≡◌, ℕ, ◌<◌, Bool, true, false, List, Some, length, IsTrue, All, ◌⊎◌, ◌↔◌}
+use Rattle.velo_events.specs.declared.config.Bounds.{Bounds}
 use Rattle.velo_events.specs.declared.event.Event.{Event}
 use Rattle.velo_events.specs.declared.event.Kind.{Kind}
 use Rattle.velo_events.specs.declared.event.Kind.TheVariants.{Read, Write, Begin, End}
 use Rattle.velo_events.specs.Event.{are_same, variable_of}
 use Rattle.velo_events.specs.Block.{passes_at}
 use Rattle.velo_events.specs.Graph.{Path, ConflictsInOrder, HasCycle}
-use Rattle.velo_thin.specs.Left.{rest_of}
+use Rattle.velo_thin.specs.declared.thinned.Thinned.{Thinned}
+use Rattle.velo_thin.specs.Left.{places_of, rest_of}
 use Rattle.velo_laws.specs.Ordered.{only, dissolving, leaving_out, AreOfOneThread, ClosesAtSame, ClosesAtSameWithout, BlamesSame}
 
 -- ---- races
@@ -57,3 +59,12 @@ pub record IsJudgedWithout (variables : ℕ → Bool) (log : List Event) : Type 
       → ClosesAtSameWithout labels (leaving_out labels no_lock variables) log
   pub blame_without : (labels : ℕ → Bool)
       → BlamesSame (only no_lock variables) (rest_of (dissolving labels) log)
+
+-- The events that are left without the accesses to some variables, with the position of each in the log. The log is judged the
+-- same without them, and each variable that is free of races is one of these
+pub record IsThinned (bounds : Bounds) (log : List Event) (thinned : Thinned) : Type 0 where
+  pub variables : ℕ → Bool
+  pub events : thinned.trace.events ≡ rest_of (only no_lock variables) log
+  pub places : thinned.places.items ≡ places_of (only no_lock variables) log
+  pub judged : IsJudgedWithout variables log
+  pub free : (x : ℕ) → x < bounds.variables → IsFreeOfRaces log x → IsTrue (variables x)

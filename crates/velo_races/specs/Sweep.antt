@@ -1,5 +1,5 @@
 -- What is kept of the events before a position. Private contracts cite these words.
-use Rattle.std.specs.Prelude.{◌≡◌, ◌≢◌, ℕ, ◌+◌, ◌*◌, ◌<◌, ◌≤◌, Bool, ◌||◌, ◌==◌, nat_le, List, length, filter, take, Option, Some, None, slice_index_or, IsTrue, IsFalse}
+use Rattle.std.specs.Prelude.{◌≡◌, ◌≢◌, ℕ, ◌+◌, ◌*◌, ◌<◌, ◌≤◌, Bool, ◌||◌, ◌==◌, nat_le, if◌then◌else◌, List, length, filter, take, Option, Some, None, slice_index_or, IsTrue, IsFalse}
 use Rattle.velo_events.specs.declared.event.Event.{Event}
 use Rattle.velo_events.specs.Event.{is_by, is_writing}
 use Rattle.velo_events.specs.Block.{passes_at}
@@ -7,6 +7,7 @@ use Rattle.velo_events.specs.Graph.{Leads}
 use Rattle.velo_events.specs.Place.{LastWrite, LastRead, last_at}
 use Rattle.velo_clocks.specs.Clocks.{ClockState, OfLast, known_at, AreClocksOf, IsNoted, KnowsTheSame}
 use Rattle.velo_laws.specs.Ordered.{only, IsInnerStep}
+use Rattle.velo_thin.specs.Left.{Left, with_variable}
 use Rattle.velo_thin.specs.Tables.{marked}
 use Rattle.velo_races.specs.Races.{synchronizes, is_access_to, IsFreeOfRaces, no_lock}
 use Rattle.velo_races.specs.declared.sweep.Sweep.{Sweep}
@@ -89,3 +90,9 @@ pub record IsNotedAfterRoom (old : ClockState) (position : ℕ) (e : Event) (new
   pub same : KnowsTheSame old between
   pub noted : IsNoted between position e new
   pub threads : length new.threads ≡ length old.threads
+
+-- ---- what is left out
+
+-- the variable is left out too, if it is marked
+abbrev pub with_marked : List Bool → ℕ → Left → Left
+with_marked marks x left = if marked marks x then with_variable left x else left

@@ -1,4 +1,4 @@
-//! Which variables of a log are free of races: locks, forks and joins keep all accesses to them in order.
+//! Which variables of a log are free of races, and what is left of it without them.
 //!
 //! One pass, with a vector clock for each thread, as in Flanagan and Freund, "FastTrack: Efficient and Precise Dynamic Race
 //! Detection", PLDI 2009.
@@ -8,5 +8,7 @@ mod ordered;
 mod sweep;
 #[cfg(test)]
 mod tests;
+mod thinning;
 
 pub use ordered::ordered_variables;
+pub use thinning::thin_ordered;

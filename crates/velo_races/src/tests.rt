@@ -1,5 +1,5 @@
-//! What is marked of logs that are written out.
-use crate::ordered_variables;
+//! What is marked of logs that are written out, and how much is left of them.
+use crate::{ordered_variables, thin_ordered};
 use std::alloc::Global;
 use std::process::Abort;
 use std::test::Fail;
@@ -55,13 +55,14 @@ fn exit(thread: u8) -> Event {
     by(thread, Kind::Exit)
 }
 
-/// Compares what is marked of a log.
+/// Compares what is marked of a log, and how many events are left.
 fn judge(
     rt: &impl Abort,
     alloc: Global,
     log: &str,
     events: &[Event],
     marks: [bool; 2],
+    left: usize,
 ) -> Result<(), Fail> {
     let config = Config::new(1, BOUNDS, 100, 10, false)?;
     let mut trace = Trace::new(alloc);
@@ -73,6 +74,9 @@ fn judge(
         Ok(()) => {
             let ordered = ordered_variables(alloc, &config, &trace)?;
             assert_eq!(rt; ordered.as_slice(), marks.as_slice(), "{log}");
+            let thinned = thin_ordered(alloc, &config, &trace)?;
+            assert_eq!(rt; thinned.trace.len(), left, "{log}");
+            assert_eq!(rt; thinned.places.len(), left, "{log}");
         }
         Err((position, _)) => panic!(rt; "not well-formed at {position} of {log}"),
     }
@@ -82,7 +86,7 @@ fn judge(
 #[test]
 fn forks_and_joins_order(rt: HostRuntime) -> Result<(), Fail> {
     let handed_over = [write(0, 0), fork(0, 1), read(1, 0), write(1, 1), exit(1)];
-    judge(&rt, rt.alloc(), "a fork", &handed_over, [true, true])?;
+    judge(&rt, rt.alloc(), "a fork", &handed_over, [true, true], 2)?;
     let taken_back = [
         fork(0, 1),
         write(1, 0),
@@ -92,7 +96,7 @@ fn forks_and_joins_order(rt: HostRuntime) -> Result<(), Fail> {
         join(0, 1),
         write(0, 0),
     ];
-    judge(&rt, rt.alloc(), "a join", &taken_back, [true, false])
+    judge(&rt, rt.alloc(), "a join", &taken_back, [true, false], 5)
 }
 
 #[test]
@@ -108,7 +112,7 @@ fn locks_order(rt: HostRuntime) -> Result<(), Fail> {
         read(1, 1),
         release(1),
     ];
-    judge(&rt, rt.alloc(), "behind a lock", &guarded, [true, false])?;
+    judge(&rt, rt.alloc(), "behind a lock", &guarded, [true, false], 7)?;
     let shared = [
         fork(0, 1),
         share(0),
@@ -123,13 +127,13 @@ fn locks_order(rt: HostRuntime) -> Result<(), Fail> {
         write(0, 0),
         release(0),
     ];
-    judge(&rt, rt.alloc(), "a shared lock", &shared, [true, false])
+    judge(&rt, rt.alloc(), "a shared lock", &shared, [true, false], 9)
 }
 
 #[test]
 fn no_variable_orders_another(rt: HostRuntime) -> Result<(), Fail> {
     let through = [fork(0, 1), write(0, 0), write(0, 1), read(1, 1), read(1, 0)];
-    judge(&rt, rt.alloc(), "a flag", &through, [false, false])?;
+    judge(&rt, rt.alloc(), "a flag", &through, [false, false], 5)?;
     let reads = [fork(0, 1), fork(0, 2), read(0, 0), read(1, 0), write(2, 1)];
-    judge(&rt, rt.alloc(), "reads alone", &reads, [true, true])
+    judge(&rt, rt.alloc(), "reads alone", &reads, [true, true], 2)
 }
