@@ -114,7 +114,7 @@ string Modules::function(u64 code) {
 }
 string Modules::place(u64 a) {
     auto y = symbol(a);
-    char text[40];
+    char text[40] = "";
     if (!y) {
         snprintf(text, sizeof text, "0x%lx", a);
         return text;
@@ -124,7 +124,7 @@ string Modules::place(u64 a) {
     if (!m->fields) m->fields = make_shared<Fields>(m->path);
     string field = m->fields->path(y->at, offset);
     if (!field.empty()) return demangle(y->name) + field;
-    snprintf(text, sizeof text, offset ? "+%lu" : "", offset);
+    if (offset) snprintf(text, sizeof text, "+%lu", offset);
     return demangle(y->name) + text;
 }
 

@@ -69,7 +69,7 @@ void Writer::find_lines() {
         if (v->heap_site) codes_.insert(v->heap_site);
     for (auto &l : shared_.lock_places)
         if (l.second.site) codes_.insert(l.second.site);
-    trace_.each([&](const Event &e) {
+    if (trace_.info().stuck) trace_.each([&](const Event &e) {
         if (e.kind == STUCK) codes_.insert(e.code);
         return true;
     });

@@ -331,6 +331,7 @@ static void look_around(u64 n, u64 *when, u64 *idle) {
         else p = -1;
     }
     if (runs >= 0 && n - *when <= seize_after) return;
+    if (runs >= 0 && n - *when <= 10 * seize_after && !is_asleep(runs)) return; // it runs, or the system does not let it
     if (p >= 0) {
         if (runs >= 0) threads[runs].state = AWAY, head->seized++;
         give(p), *when = n, *idle = 0;
