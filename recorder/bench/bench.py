@@ -1,4 +1,4 @@
-"""What recording costs: python3 bench/bench.py [--compiler gcc] [--other BIN] [--rounds N] [--count N]
+"""What recording costs: python3 bench/bench.py [--compiler gcc] [--other BIN] [--rounds N] [--count N] [--kind KIND]..
 
 Each kind of work runs plainly (-O1 -g), with -fsanitize=thread, and recorded in each mode, in one go, the builds in turn. Of the
 rounds the least processor time and wall time count. Times are nanoseconds for each of the work's steps; behind them stands the
@@ -35,6 +35,7 @@ def run(program, words, **settings):
     before, start = resource.getrusage(resource.RUSAGE_CHILDREN), time.monotonic()
     done = subprocess.run([program, *map(str, words)], env=dict(os.environ, **settings), capture_output=True, text=True)
     wall, after = time.monotonic() - start, resource.getrusage(resource.RUSAGE_CHILDREN)
+    run.said = done.stdout
     if done.returncode:
         raise SystemExit(f"{program} {words}: status {done.returncode} {done.stderr}")
     return after.ru_utime + after.ru_stime - before.ru_utime - before.ru_stime, wall
@@ -55,12 +56,12 @@ def variants(made, out, nothing):
     yield "exact, not listed", made["recorder"], {"VELODROME_OUT": out, "VELODROME_SITES": nothing}
 
 
-def measure(room, made, rounds, count):
+def measure(room, made, rounds, count, kinds):
     out, nothing = f"{room}/trace", f"{room}/nothing"
     with open(nothing, "w", encoding="ascii"):
         pass
     for threads in (1, 4):
-        for kind in KINDS:
+        for kind in kinds:
             steps = count // threads // (8 if kind in ("locks", "atomics") else 1)
             least = {}
             for _ in range(rounds):
@@ -79,11 +80,9 @@ def reading(room, made):
     clear(out)
     run(made["recorder"], ("memory", 4, 2000000), VELODROME_OUT=out, VELODROME_MOST="100000000")
     trace = [f for f in glob.glob(f"{out}.*") if re.search(r"\.\d+$", f)][0]
-    start = time.monotonic()
-    said = subprocess.run([f"{BIN}/velodrome-log", trace, f"{room}/log"], check=True, capture_output=True, text=True).stdout
-    took = time.monotonic() - start
-    records = int(re.search(r"records (\d+)", said)[1])
-    print(f"velodrome-log: {records} records of {os.path.getsize(trace) / records:.1f} bytes, {records / took / 1e6:.1f} million a second")
+    cpu, wall = run(f"{BIN}/velodrome-log", (trace, f"{room}/log"))
+    records = int(re.search(r"records (\d+)", run.said)[1])
+    print(f"velodrome-log: {records} records of {os.path.getsize(trace) / records:.1f} bytes, {records / cpu / 1e6:.1f} million a second of processor, {records / wall / 1e6:.1f} of wall")
 
 
 def main():
@@ -92,11 +91,12 @@ def main():
     words.add_argument("--other")
     words.add_argument("--rounds", type=int, default=3)
     words.add_argument("--count", type=int, default=4000000)
+    words.add_argument("--kind", action="append", choices=KINDS)
     options = words.parse_args()
     with tempfile.TemporaryDirectory() as room:
         made = build(room, options.compiler, options.other)
         print(f"load {os.getloadavg()[0]:.1f}, {os.cpu_count()} processors, {options.compiler}")
-        measure(room, made, options.rounds, options.count)
+        measure(room, made, options.rounds, options.count, options.kind or KINDS)
         reading(room, made)
 
 

@@ -11,10 +11,10 @@ static atomic_long counter;
 static pthread_mutex_t lock = PTHREAD_MUTEX_INITIALIZER;
 static long count;
 
+static long of_thread[64][SIZE];
 static void *own_memory(void *a) { /* a read and a write each */
-    long *volatile block = calloc(SIZE, sizeof *block), *mine = block;
+    long *mine = of_thread[(long)a];
     for (long i = 0; i < count; i++) mine[i * 7 % SIZE] += i;
-    free(block);
     return a;
 }
 static void *shared_reads(void *a) {

@@ -151,7 +151,7 @@ void Modules::find_lines(const set<u64> &codes) {
     for (u64 a : codes)
         if (Module *m = of(a)) by[m].push_back(a);
     for (auto &g : by) {
-        char name[] = "/tmp/velodrome-XXXXXX";
+        char name[] = P_tmpdir "/velodrome-XXXXXX";
         FILE *f = fdopen(mkstemp(name), "w");
         if (!f) return;
         for (u64 a : g.second) fprintf(f, "0x%lx\n", a - g.first->bias - 1); // in the call, not behind it
