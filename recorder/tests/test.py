@@ -85,7 +85,7 @@ def check(room, *more, ok=(0, 3)):
 
 def hooks(room, cc):
     for i, (name, source, options, want) in enumerate(CASES):
-        if only and only not in f"{cc} {name}":
+        if only and all(only not in f"{cc} {mode} {name}" for mode in MODES):
             continue
         program = Program(room, cc, f"case{i}", HEAD + source + TAIL)
         for mode in MODES:
