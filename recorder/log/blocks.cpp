@@ -53,21 +53,15 @@ Function *Blocks::of(const Event &e) {
     return by_code_[e.code] = f.get();
 }
 // A thread's routine is no block. Of a thread that a library starts, it is the first function that is not the library's.
-void Blocks::find_routines(Trace &trace, Shared &shared) {
-    size_t threads = trace.threads(), left = 0;
-    vector<char> open(threads);
-    began_as.resize(threads);
-    for (size_t t = 0; t < threads; t++) {
+void Blocks::find_routines(const Shared &shared) {
+    began_as.resize(shared.routine.size());
+    for (size_t t = 0; t < began_as.size(); t++) {
         if (!shared.routine[t]) continue;
         string name = modules_.function(shared.routine[t]);
         if (!name.empty()) routines_.insert(name);
-        if (name.empty() || is_library(name) || name.find("native_thread_routine") != string::npos) open[t] = 1, left++;
+        if (!name.empty() && !is_library(name) && name.find("native_thread_routine") == string::npos) continue;
+        auto &b = shared.begins[t];
+        auto first = find_if(b.begin(), b.end(), [&](u64 code) { return !is_library(modules_.function(code)); });
+        if (first != b.end()) began_as[t] = modules_.function(*first), routines_.insert(began_as[t]);
     }
-    if (left) trace.each([&](const Event &e) {
-        if (e.kind != BEGIN || !open[e.thread]) return true;
-        string name = modules_.function(e.code);
-        if (is_library(name)) return true;
-        routines_.insert(name), began_as[e.thread] = name, open[e.thread] = 0;
-        return --left > 0;
-    });
 }

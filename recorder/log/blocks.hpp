@@ -16,7 +16,7 @@ public:
     explicit Blocks(Modules &modules) : modules_(modules) {}
     void only(const std::string &file);  // throws std::runtime_error
     void never(const std::string &file);
-    void find_routines(Trace &trace, Shared &shared);
+    void find_routines(const Shared &shared);
     Function *of(const Event &begin); // 0 where it has no name
     std::vector<std::string> began_as; // of each thread that a library started: its first function of the program
 

@@ -5,7 +5,7 @@ using namespace std;
 static const u32 MOST_VARIABLES = 65535, MOST_LOCKS = 4096, MOST_THREADS = 64, MOST_OPEN = 32;
 
 Events::Events(Trace &trace, Shared &shared, Blocks &blocks, const Options &options)
-    : trace_(trace), shared_(shared), blocks_(blocks), options_(options), threads_(trace.threads()), holder_(MOST_THREADS, -1) {
+    : shared_(shared), blocks_(blocks), options_(options), threads_(trace.threads()), holder_(MOST_THREADS, -1) {
     many_ = threads_.size() > MOST_THREADS;
     if (threads_.empty()) return;
     number_variables();

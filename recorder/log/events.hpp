@@ -72,7 +72,6 @@ private:
     void exit(u32 thread);
     void join(u32 thread, u32 other, u64 code);
 
-    Trace &trace_;
     Shared &shared_;
     Blocks &blocks_;
     Options options_;

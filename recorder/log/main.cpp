@@ -57,7 +57,7 @@ static void run(const Arguments &a) {
     if (!a.only.empty()) blocks.only(a.only);
     if (!a.never.empty()) blocks.never(a.never);
     Shared shared(trace, trace.info().values);
-    blocks.find_routines(trace, shared);
+    blocks.find_routines(shared);
     Events events(trace, shared, blocks, a.options);
     Writer writer(trace, shared, events, modules, blocks);
     writer.log(a.log);

@@ -114,7 +114,7 @@ string Modules::function(u64 code) {
 }
 string Modules::place(u64 a) {
     auto y = symbol(a);
-    char text[40];
+    char text[40] = "";
     if (!y) {
         snprintf(text, sizeof text, "0x%lx", a);
         return text;
@@ -124,7 +124,7 @@ string Modules::place(u64 a) {
     if (!m->fields) m->fields = make_shared<Fields>(m->path);
     string field = m->fields->path(y->at, offset);
     if (!field.empty()) return demangle(y->name) + field;
-    snprintf(text, sizeof text, offset ? "+%lu" : "", offset);
+    if (offset) snprintf(text, sizeof text, "+%lu", offset);
     return demangle(y->name) + text;
 }
 
@@ -151,7 +151,7 @@ void Modules::find_lines(const set<u64> &codes) {
     for (u64 a : codes)
         if (Module *m = of(a)) by[m].push_back(a);
     for (auto &g : by) {
-        char name[] = "/tmp/velodrome-XXXXXX";
+        char name[] = P_tmpdir "/velodrome-XXXXXX";
         FILE *f = fdopen(mkstemp(name), "w");
         if (!f) return;
         for (u64 a : g.second) fprintf(f, "0x%lx\n", a - g.first->bias - 1); // in the call, not behind it

@@ -30,12 +30,13 @@ void Shared::find_shared() {
     size_t threads = trace_.threads();
     Memory memory(threads);
     vector<char> forked(threads), seen(threads);
-    routine.resize(threads), title.resize(threads);
+    routine.resize(threads), title.resize(threads), begins.resize(threads);
     granules_.resize(1 << 16);
     trace_.each([&](const Event &e) {
         records++, kinds[e.kind]++, late += (e.flags & LATE) != 0, seen[e.thread] = 1;
         if (e.kind == START) routine[e.thread] = u32(e.code) ? e.code : 0;
         if (e.kind == FORK && e.at < threads) forked[e.at] = 1;
+        if (e.kind == BEGIN && begins[e.thread].size() < 100) begins[e.thread].push_back(e.code);
         if (e.kind == TITLE && e.at < threads) title[e.at] = string(reinterpret_cast<const char *>(&e.number), 8) + string(reinterpret_cast<const char *>(&e.second), 8);
         memory.step(e, [&](u32 id, int a, int b, u64) {
             ids_.push_back(id);

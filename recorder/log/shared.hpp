@@ -43,6 +43,7 @@ public:
     std::map<u64, HeapPlace> lock_places; // locks that lie on the heap
     u64 records = 0, late = 0, kinds[32] = {};
     std::vector<u64> routine;             // of each thread
+    std::vector<std::vector<u64>> begins; // the functions of its first begins
     std::vector<std::string> title;
     std::vector<u32> foreign;             // threads that nobody forked
     u64 hidden = 0;                       // reads that had not what was written last

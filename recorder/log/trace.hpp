@@ -36,15 +36,11 @@ public:
         for (size_t t = 0; t < at.size(); t++) open(at[t], t);
         for (const Run &r : runs_) {
             Cursor &c = at[r.thread];
-            const record *last = nullptr;
             for (u32 left = r.records; left > 0;) {
-                const record *p = current(c);
                 Event e;
-                left -= decode(c, p, e);
-                last = p;
+                left -= decode(c, current(c), e);
                 if (e.kind != HIGH && !use(e)) return;
             }
-            (void)last;
         }
     }
 

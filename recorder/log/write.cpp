@@ -30,6 +30,13 @@ private:
     FILE *file_;
 };
 }
+// A name as the checker takes it: at most 200 bytes, printable.
+static string tidy(string s) {
+    for (char &c : s)
+        if (c < ' ' || c == 127) c = '?'; // also what is not ASCII
+    if (s.size() > 200) s = s.substr(0, 120) + "..." + s.substr(s.size() - 77);
+    return s.empty() ? "?" : s;
+}
 static bool shares(const Kept &k) { return k.kind == ACQS || k.kind == RELS; }
 u32 Writer::variables() const { return events_.numbers_of_threads + (trace_.threads() > 64 ? 128 : 0); }
 
@@ -69,7 +76,7 @@ void Writer::find_lines() {
         if (v->heap_site) codes_.insert(v->heap_site);
     for (auto &l : shared_.lock_places)
         if (l.second.site) codes_.insert(l.second.site);
-    trace_.each([&](const Event &e) {
+    if (trace_.info().stuck) trace_.each([&](const Event &e) {
         if (e.kind == STUCK) codes_.insert(e.code);
         return true;
     });
@@ -81,8 +88,7 @@ void Writer::sites(const string &path) {
     Out out(path);
     fprintf(out.file(), "vsites 1 %zu %zu\n", sites_.size(), at_.size());
     for (auto &s : sites_) {
-        string f = modules_.function(s.first);
-        fprintf(out.file(), "%s %s\n", modules_.line(s.first).c_str(), f.empty() ? "?" : f.c_str());
+        fprintf(out.file(), "%s %s\n", modules_.line(s.first).c_str(), tidy(modules_.function(s.first)).c_str());
     }
     for (u32 s : at_) fprintf(out.file(), "%u\n", s);
     out.close();
@@ -99,13 +105,7 @@ void Writer::codes(const string &path) {
     out.close();
 }
 
-// ---- names: at most 200 bytes, printable
-static string tidy(string s) {
-    for (char &c : s)
-        if (c < ' ' || c == 127) c = '?'; // also what is not ASCII
-    if (s.size() > 200) s = s.substr(0, 120) + "..." + s.substr(s.size() - 77);
-    return s.empty() ? "?" : s;
-}
+// ---- names
 string Writer::heap_name(const HeapPlace &h) { return "heap " + modules_.line(h.site) + "+" + to_string(h.offset); }
 string Writer::variable_name(u32 x) {
     if (x < events_.variables.size()) {

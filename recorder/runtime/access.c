@@ -33,23 +33,38 @@ static void access_value(struct self *t, int kind, u64 a, unsigned size) {
     t->unread = t->next - 1, t->unread_at = a, t->unread_size = size;
     if (kind == RD) read_value(t); // nobody else changes it before the access
 }
+// The line that the thread holds still: nobody waits for it, and it is taken on for the next access.
+static inline int keeps(const struct self *t, u64 a, unsigned size) {
+    u32 i = line_of(a);
+    return t->holds == 1 && !t->spans && t->held[0] == i && line_of(a + size - 1) == i && !lines[i].wanted && lines[i].owner == t->id + 1;
+}
+static inline void access_stamped(struct self *t, int kind, u64 a, unsigned size, u64 code, int late) {
+    if (!values && repeats(t, kind == RD, a, size)) return;
+    stamp_held(t);
+    if (event(t, kind | (late ? LATE << 8 : 0), size, a, code) && values) access_value(t, kind, a, size);
+    remember(t, kind == RD, a, size);
+}
 static inline void access_small(int kind, u64 a, unsigned size, u64 code) {
     if (left_out(code)) return;
-    struct self *t = enter();
+    struct self *t = enter_holding();
     if (!t) return;
-    if (mode == FREE) {
-        stamp_alone(t);
-        event(t, kind, size, a, code);
+    if (mode == EXACT && likely(!noise) && keeps(t, a, size)) {
+        if (t->unread) read_value(t);
+        t->alone = 1;
+        access_stamped(t, kind, a, size, code, 0);
         leave(t);
         return;
     }
-    int late = 0;
-    if (mode == EXACT) late = hold(t, a, size);
-    else visit(t, a, size);
-    if (values || !repeats(t, kind == RD, a, size)) {
-        stamp_held(t);
-        if (event(t, kind | (late ? LATE << 8 : 0), size, a, code) && values) access_value(t, kind, a, size);
-        remember(t, kind == RD, a, size);
+    settle(t);
+    if (unlikely(noise)) make_noise(t);
+    if (mode == EXACT) access_stamped(t, kind, a, size, code, hold(t, a, size));
+    else if (mode == SERIAL) {
+        turn(t);
+        visit(t, a, size);
+        access_stamped(t, kind, a, size, code, 0);
+    } else {
+        stamp_alone(t);
+        event(t, kind, size, a, code);
     }
     leave(t);
 }

@@ -84,9 +84,31 @@ void trace_close(void);
 void trace_leave(void); // in a child of fork
 void trace_maps(void);
 void trace_stop(enum stop why);
-struct record *record(struct self *t, int kind, unsigned size, u64 at, u64 code);
-struct record *event(struct self *t, int kind, unsigned size, u64 at, u64 code);
-void more(struct self *t, int flags, u64 number);
+int open_chunk(struct self *t);
+int tell_begins(struct self *t);
+static inline struct record *write_record(struct self *t, u64 what, u64 where) {
+    struct record *r = t->next++;
+    r->where = where;
+    STORE(r->what, what);
+    return r;
+}
+static inline u64 word(int kind, unsigned size, u64 at) { return at << 16 | (u64)(kind >> 8) << 13 | (u64)size << 5 | (kind & 31); }
+// A record of the thread's stamp, with room for two MORE behind it. Flags stand above the kind's 8 bits.
+static inline struct record *record(struct self *t, int kind, unsigned size, u64 at, u64 code) {
+    if (unlikely(t->end - t->next < 4) && !open_chunk(t)) return 0;
+    if (unlikely(code >> 32 != t->high)) {
+        t->high = code >> 32;
+        write_record(t, word(HIGH, 0, t->high), 0);
+    }
+    return write_record(t, word(kind, size, at), (u64)t->clock << 32 | (u32)code);
+}
+static inline void more(struct self *t, int flags, u64 number) { write_record(t, word(MORE | flags << 8, 0, 0), number); }
+// An event in the open blocks, whose begins are written first. Its stamp is taken already.
+static inline struct record *event(struct self *t, int kind, unsigned size, u64 at, u64 code) {
+    if (t->told < t->depth && !tell_begins(t)) return 0;
+    t->epoch++;
+    return record(t, kind, size, at, code);
+}
 void sync_event(struct self *t, int kind, u64 at, u64 code);
 void open_block(struct self *t, u64 function, u64 at, u64 from);
 void close_block(struct self *t, u64 at);
@@ -204,8 +226,8 @@ static inline void settle(struct self *t) {
     if (unlikely(t->unread != 0)) read_value(t);
     if (t->holds || t->spans) let_go(t);
 }
-// A hook begins: its thread, or 0 if there is nothing to do.
-static inline struct self *enter(void) {
+// A hook begins: its thread, or 0 if there is nothing to do. What the thread holds, it holds still.
+static inline struct self *enter_holding(void) {
     if (!likely(on)) return 0;
     struct self *t = self();
     if (unlikely(t->busy)) {
@@ -213,6 +235,11 @@ static inline struct self *enter(void) {
         return 0;
     }
     t->busy = 1;
+    return t;
+}
+static inline struct self *enter(void) {
+    struct self *t = enter_holding();
+    if (!t) return 0;
     settle(t);
     if (unlikely(noise)) make_noise(t);
     if (mode == SERIAL) turn(t);

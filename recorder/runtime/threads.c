@@ -205,13 +205,24 @@ static void end_join(u32 n, u64 code) {
     event(t, JOIN, 0, n - 1, code);
     leave(t);
 }
+// By turns the thread has ended, and is about to exit: the turn is kept meanwhile.
+static int hold_turn(u32 n) {
+    int holds = n && TURNS_HERE;
+    if (holds) own->busy = 1;
+    return holds;
+}
+static void end_hold(int holds) {
+    if (holds) own->busy = 0;
+}
 #define JOIN_BY(name, parameters, arguments, until)                     \
     API int name parameters {                                           \
         REAL(name);                                                     \
         u32 n;                                                          \
         if (begin_join(p, &n, until, CALLER)) return ETIMEDOUT;         \
         int left = mode == SERIAL && !n ? leave_turns() : 0;            \
+        int holds = hold_turn(n);                                       \
         int r = real_##name arguments;                                  \
+        end_hold(holds);                                                \
         rejoin_turns(left);                                             \
         if (!r) end_join(n, CALLER);                                    \
         return r;                                                       \
@@ -285,8 +296,9 @@ API int thrd_join(thrd_t p, int *value) {
     u32 n;
     void *v = 0;
     begin_join(p, &n, 0, CALLER);
-    int left = mode == SERIAL && !n ? leave_turns() : 0;
+    int left = mode == SERIAL && !n ? leave_turns() : 0, holds = hold_turn(n);
     int r = real_pthread_join(p, &v);
+    end_hold(holds);
     rejoin_turns(left);
     if (!r) end_join(n, CALLER);
     if (!r && value) *value = (int)(intptr_t)v;

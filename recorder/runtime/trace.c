@@ -15,6 +15,9 @@
 #include <unistd.h>
 
 #define STEP (4u << 20)  // the file grows by so many bytes
+#ifndef MADV_POPULATE_WRITE
+#define MADV_POPULATE_WRITE 23
+#endif
 #define MOST 0xf0000000u // records: a stamp has 32 bits
 int on, mode, values;
 struct head *head;
@@ -56,6 +59,7 @@ static int grow(void) {
     u64 n = room + STEP > mapped ? mapped - room : STEP;
     int ok = fd >= 0 && !fstat(fd, &s) && s.st_dev == device && s.st_ino == inode && !allocate(fd, room, n);
     if (fd >= 0) syscall(SYS_close, fd);
+    if (ok && head) madvise((char *)head + room, n, MADV_POPULATE_WRITE); // at once, where the kernel can
     if (ok) STORE(room, room + n);
     errno = e;
     return ok;
@@ -200,7 +204,7 @@ void trace_stop(enum stop why) {
 }
 
 // ---- records
-static int open_chunk(struct self *t) {
+int open_chunk(struct self *t) {
     if (head->stopped) return 0;
     if (!t->begun) t->id = thread_number(), t->begun = 1;
     u64 n = __atomic_fetch_add(&head->chunks, 1, __ATOMIC_RELAXED);
@@ -217,25 +221,7 @@ static int open_chunk(struct self *t) {
     t->next = r + 1, t->end = r + CHUNK;
     return 1;
 }
-static inline struct record *write_record(struct self *t, u64 what, u64 where) {
-    struct record *r = t->next++;
-    r->where = where;
-    STORE(r->what, what);
-    return r;
-}
-static inline u64 word(int kind, unsigned size, u64 at) { return at << 16 | (u64)(kind >> 8) << 13 | (u64)size << 5 | (kind & 31); }
-// A record of the thread's stamp, with room for two MORE behind it.
-struct record *record(struct self *t, int kind, unsigned size, u64 at, u64 code) {
-    if (unlikely(t->end - t->next < 4) && !open_chunk(t)) return 0;
-    if (unlikely(code >> 32 != t->high)) {
-        t->high = code >> 32;
-        write_record(t, word(HIGH, 0, t->high), 0);
-    }
-    return write_record(t, word(kind, size, at), (u64)t->clock << 32 | (u32)code);
-}
-void more(struct self *t, int flags, u64 number) { write_record(t, word(MORE | flags << 8, 0, 0), number); }
-
-static int tell_begins(struct self *t) {
+int tell_begins(struct self *t) {
     while (t->told < t->depth && t->told < DEEP) {
         struct frame *f = &t->frame[t->told++];
         if (t->end - t->next < 4 && !open_chunk(t)) return 0;
@@ -243,10 +229,4 @@ static int tell_begins(struct self *t) {
         if (f->at && unlikely(f->function - t->code_low >= t->code_bytes)) look_for_module(t, f->function);
     }
     return 1;
-}
-// An event in the open blocks, whose begins are written first. Its stamp is taken already.
-struct record *event(struct self *t, int kind, unsigned size, u64 at, u64 code) {
-    if (t->told < t->depth && !tell_begins(t)) return 0;
-    t->epoch++;
-    return record(t, kind, size, at, code);
 }

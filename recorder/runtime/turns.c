@@ -324,13 +324,16 @@ static void nobody(u64 idle_since) {
     for (int i = 0; i < top; i++)
         if (threads[i].state == BLOCKED && threads[i].what != FOR_CONDITION && threads[i].what != FOR_BARRIER) threads[i].state = READY;
 }
+static int stays_away(u64 since) { // who has the turn
+    return since > seize_after && (since > 10 * seize_after || is_asleep(runs)); // else it runs, or the system does not let it
+}
 static void look_around(u64 n, u64 *when, u64 *idle) {
+    if (runs >= 0 && !stays_away(n - *when)) return; // before anything is drawn
     int p = choose(-1, 1);
     if (p < 0 && (p = soonest()) >= 0) {
         if (threads[p].until <= n || (runs < 0 && !is_any(AWAY))) threads[p].timed = 1;
         else p = -1;
     }
-    if (runs >= 0 && n - *when <= seize_after) return;
     if (p >= 0) {
         if (runs >= 0) threads[runs].state = AWAY, head->seized++;
         give(p), *when = n, *idle = 0;

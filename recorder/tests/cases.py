@@ -113,6 +113,9 @@ CASES = [
     touches("sendmsg", "int d[2]; if (socketpair(AF_UNIX, SOCK_STREAM, 0, d)) abort(); struct iovec v = {p, 4}; struct msghdr h = {.msg_iov = &v, .msg_iovlen = 1}; if (sendmsg(d[0], &h, 0) != 4) abort();", "rd"),
     touches("recvmsg", "int d[2]; if (socketpair(AF_UNIX, SOCK_STREAM, 0, d)) abort(); struct iovec v = {p, 4}; struct msghdr h = {.msg_iov = &v, .msg_iovlen = 1}; if (send(d[0], \"text\", 4, 0) != 4 || recvmsg(d[1], &h, 0) != 4) abort();", "wr"),
     touches("fwrite, fread", "FILE *t = tmpfile(); if (fwrite(p, 1, 9, t) != 9) abort(); rewind(t); if (fread(p, 1, 9, t) != 9) abort(); fclose(t);", "rd wr"),
+    ("annotations", "static int own_lock; void AnnotateRWLockAcquired(const char *, int, void *, long); void AnnotateRWLockReleased(const char *, int, void *, long); void __tsan_mutex_post_lock(void *, unsigned, int); int __tsan_mutex_pre_unlock(void *, unsigned); "
+     "void f(void) { AnnotateRWLockAcquired(\"\", 0, &own_lock, 1); AnnotateRWLockReleased(\"\", 0, &own_lock, 1); } void g(void) { __tsan_mutex_post_lock(&own_lock, 1 << 3, 0); __tsan_mutex_pre_unlock(&own_lock, 1 << 3); }", [],
+     one(block(0, *HOLD), block(1, "acqs 0", "rels 0"))),
     ("fields by DWARF", "struct inner { char c; int of[3]; union { long l; int i[2]; } u; }; struct { int first; struct inner in[2]; long matrix[2][3]; pthread_mutex_t m; } server; struct { struct { int x; } *next; int v; } list; int grid[3][4]; "
      "void f(void) { server.first++; server.in[1].of[2]++; server.in[0].u.l++; server.matrix[1][2]++; list.v++; grid[2][1]++; ((char *volatile)&grid[1][0])[1]++; pthread_mutex_lock(&server.m); pthread_mutex_unlock(&server.m); } void g(void) { f(); }", ALL,
      lambda log, names, out: [n.split(" ", 2)[2] for n in names.splitlines() if n[0] in "vl" and "label" not in n] ==

@@ -5,6 +5,7 @@
 #include <stdio.h>
 #include <stdlib.h>
 #include <string.h>
+#include <sys/time.h>
 #include <sys/wait.h>
 #include <unistd.h>
 
@@ -12,6 +13,8 @@ static volatile int x, y;
 void work(void) {
     for (int i = 0; i < 1000; i++) x++, y += x;
 }
+static volatile int came;
+static void handler(int n) { came += n; }
 static void *routine(void *a) {
     work();
     return a;
@@ -38,6 +41,15 @@ int main(int n, char **v) {
         if (!f) abort();
         for (int i = 0; i < 20; i++) work();
         if (ftell(f)) abort();
+    }
+    if (!strcmp(how, "signals")) {
+        struct itimerval often = {{0, 500}, {0, 500}};
+        signal(SIGALRM, handler);
+        setitimer(ITIMER_REAL, &often, 0);
+        for (int i = 0; i < 100 || !came; i++) work();
+        in_thread(0);
+        setitimer(ITIMER_REAL, &(struct itimerval){{0, 0}, {0, 0}}, 0);
+        if (!came) abort();
     }
     if (!strcmp(how, "much"))
         for (int i = 0; i < 3000; i++) work();
