@@ -111,15 +111,15 @@ def test_an_alarm_can_be_expected(run):
 
 
 def test_repeat_until_it_shows(run):
-    result = run(LOST.replace('other.wait(1)', 'pass') + '''
+    result = run(LOST.replace('other.wait(1)', 'other.wait(1) if len(times) == 5 else None') + '''
     times = []
     def test_lost():
         times.append(1)
-        two(Account().deposit)
+        two(Account().deposit) if len(times) == 5 else Account().deposit(1)
 
     def test_times():
-        assert len(times) > 1
-    ''', '--velodrome', '--velodrome-repeat', '1000', '--velodrome-noise', '2')
+        assert len(times) == 5
+    ''', '--velodrome', '--velodrome-repeat', '1000')
     result.assert_outcomes(failed=1, passed=1)
     result.stdout.fnmatch_lines(['FAILED *::test_lost*'])
 

@@ -527,10 +527,11 @@ while x.get() < 100: pass
         self.assertEqual(seen, [(int, type(None)), (int, int)])
 
     def test_noise_lets_others_run(self):
-        x, turns = Var(0), []
+        x, turns, together = Var(0), [], threading.Barrier(2)
 
         def work(name):
-            for _ in range(50):
+            together.wait()
+            for _ in range(200):
                 x.get()
                 turns.append(name)
 
@@ -539,7 +540,7 @@ while x.get() < 100: pass
             collections.deque((t.start() for t in threads), 0)
             collections.deque((t.join() for t in threads), 0)
         self.watch('clean', body, noise=1, seed=1)
-        self.assertGreater(sum(a != b for a, b in zip(turns, turns[1:])), 10)
+        self.assertGreater(sum(a != b for a, b in zip(turns, turns[1:])), 40)  # some 200; 8 if the GIL were held meanwhile
 
     def test_from_a_thread_of_its_own(self):
         """A session that is dropped by another thread than its opener."""
