@@ -539,8 +539,13 @@ while x.get() < 100: pass
             threads = [Thread(target=work, args=(n,)) for n in range(2)]
             collections.deque((t.start() for t in threads), 0)
             collections.deque((t.join() for t in threads), 0)
-        self.watch('clean', body, noise=1, seed=1)
-        self.assertGreater(sum(a != b for a, b in zip(turns, turns[1:])), 40)  # some 200; 8 if the GIL were held meanwhile
+        interval = sys.getswitchinterval()
+        sys.setswitchinterval(100)  # so that only who waits gives the GIL up
+        try:
+            self.watch('clean', body, noise=1)
+        finally:
+            sys.setswitchinterval(interval)
+        self.assertGreater(sum(a != b for a, b in zip(turns, turns[1:])), 4)
 
     def test_from_a_thread_of_its_own(self):
         """A session that is dropped by another thread than its opener."""
