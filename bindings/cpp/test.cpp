@@ -894,36 +894,34 @@ TEST(settings_of_the_environment) {
     unsetenv("VELODROME_NOISE");
     unsetenv("VELODROME_SEED");
 }
-static int alarms_in(int runs, std::uint32_t noise) {
-    int n = 0;
-    for (int i = 0; i < runs; i++) {
-        options o;
-        o.noise = noise;
-        o.seed = static_cast<std::uint64_t>(i) + 1;
-        session s(o);
-        var<int> x;
-        velodrome::mutex m;
-        auto add = [&] {
-            VELODROME_ATOMIC("inc");
-            int v;
-            {
-                std::lock_guard hold(m);
-                v = x;
-            }
+// Two threads, each with one round, as a unit test has it: an update is lost if one comes between the two holds of the other.
+static bool loses_one(std::uint64_t seed) {
+    options o;
+    o.noise = 4;
+    o.seed = seed;
+    session s(o);
+    var<int> x;
+    velodrome::mutex m;
+    auto add = [&] {
+        VELODROME_ATOMIC("inc");
+        int v;
+        {
             std::lock_guard hold(m);
-            x = v + 1;
-        };
-        velodrome::thread a(add), b(add);
-        a.join();
-        b.join();
-        n += s.close().what == verdict::alarm;
-    }
-    return n;
+            v = x;
+        }
+        std::lock_guard hold(m);
+        x = v + 1;
+    };
+    velodrome::thread a(add), b(add);
+    a.join();
+    b.join();
+    return s.close().what == verdict::alarm;
 }
 TEST(noise_finds_what_is_rare) {
-    const int without = alarms_in(200, 0), with = alarms_in(200, 2);
-    std::cout << "    alarms in 200 runs: " << without << " without noise, " << with << " with\n";
-    EXPECT(with > 0);
+    std::uint64_t run = 1;
+    while (run < 20000 && !loses_one(run)) run++;
+    std::cout << "    in run " << run << "\n";
+    EXPECT(run < 20000);
 }
 
 int main(int count, char **names) {
