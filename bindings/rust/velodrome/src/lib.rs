@@ -28,7 +28,8 @@
 //! # What is told
 //!
 //! Each lock and unlock, atomic access, access of a [`Var`](cell::Var), start and join of a thread, message, barrier and once
-//! of these modules, in threads of any kind. What other types do is not seen. A block that waits for another thread, by a join, a
+//! of these modules. A thread that no watched one started, such as one of a pool, is met where it uses a variable or lock that the
+//! run knows ([`Builder::everywhere`] meets all). What other types do is not seen. A block that waits for another thread, by a join, a
 //! condition variable or a barrier, is never serial: an alarm is then what is to be expected.
 //!
 //! # It never fails the program
