@@ -100,7 +100,7 @@ step "shared library exports velodrome_* and vs_* alone" exports_only_its_own
 build() {
     local compiler=$1 output=$2 source=$3
     shift 3
-    "$compiler" -std=gnu11 -O2 -g "${warnings[@]}" "${includes[@]}" -pthread -o "$output" "$source" "$@" "$out/libvelodrome.a"
+    "$compiler" -std=gnu11 -O2 -gdwarf-4 "${warnings[@]}" "${includes[@]}" -pthread -o "$output" "$source" "$@" "$out/libvelodrome.a"
 }
 
 # tsan_tests COMPILER: the C++ tests and the session layer, instrumented
@@ -108,6 +108,13 @@ tsan_tests() {
     local c=${1/clang++/clang}
     ${c/g++/gcc} -std=gnu11 -O1 -g -fsanitize=thread "${includes[@]}" -c "$session/session.c" -o "$out/session_tsan.o" &&
         $1 -std=c++17 -O1 -g -fsanitize=thread "${includes[@]}" -pthread -o "$out/cpp_tsan" "$top/bindings/cpp/test.cpp" "$out/session_tsan.o" "$out/libvelodrome.a"
+}
+
+# cost_builds COMPILER: what a round costs, by the shell and by the calls
+cost_builds() {
+    local c=${1/clang++/clang}
+    ${c/g++/gcc} -std=gnu11 -O2 "${warnings[@]}" "${includes[@]}" -c "$top/bindings/cpp/cost_calls.c" -o "$out/cost_calls.o" &&
+        $1 -std=c++17 -O2 "${warnings[@]}" "${includes[@]}" -pthread -o "$out/cpp_cost" "$top/bindings/cpp/cost.cpp" "$out/cost_calls.o" "$out/libvelodrome.a"
 }
 
 valgrinds() {
@@ -167,13 +174,15 @@ fi
 if wants cpp; then
     for compiler in g++ clang++; do
         have $compiler || continue
-        flags=(-O2 -g -Wpedantic "${warnings[@]}" "${includes[@]}" -pthread)
+        flags=(-O2 -gdwarf-4 -Wpedantic "${warnings[@]}" "${includes[@]}" -pthread)
         for standard in 17 20; do
             step "cpp: tests build (C++$standard, $compiler)" $compiler -std=c++$standard "${flags[@]}" -o "$out/cpp_test" "$top/bindings/cpp/test.cpp" "$out/libvelodrome.a"
             step "cpp: tests (C++$standard, $compiler)" in_time env -C "$out" "$out/cpp_test"
             step "cpp: VELODROME_OFF builds without the library (C++$standard, $compiler)" $compiler -std=c++$standard "${flags[@]}" -o "$out/cpp_off" "$top/bindings/cpp/off.cpp"
             step "cpp: VELODROME_OFF (C++$standard, $compiler)" "$out/cpp_off"
         done
+        step "cpp: cost builds ($compiler)" cost_builds $compiler
+        step "cpp: cost of a round ($compiler)" in_time "$out/cpp_cost"
         step "cpp: a block that ends at once is refused ($compiler)" says discarded $compiler -std=c++17 "${flags[@]}" -c -o /dev/null "$top/bindings/cpp/discarded.cpp"
         step "cpp: tests build for ThreadSanitizer ($compiler)" tsan_tests $compiler
         step "cpp: ThreadSanitizer is silent ($compiler)" in_time env -C "$out" TSAN_OPTIONS=die_after_fork=0 "$out/cpp_tsan"

@@ -101,14 +101,17 @@ typedef struct vs_start_ {
     vs_child child;
 } vs_start_;
 
-static inline void vs_ended_(vs_child *child) { vs_exit(*child); }
+static inline void vs_ended_(void *start) { vs_exit(((vs_start_ *)start)->child); }
 
 static inline void *vs_run_(void *argument) {
     vs_start_ start = *(vs_start_ *)argument;
     free(argument);
-    __attribute__((cleanup(vs_ended_))) vs_child child = start.child;
-    vs_born(child);
-    return start.body(start.argument);
+    void *result;
+    vs_born(start.child);
+    pthread_cleanup_push(vs_ended_, &start); /* also where it ends by pthread_exit */
+    result = start.body(start.argument);
+    pthread_cleanup_pop(1);
+    return result;
 }
 
 /* Another name for pthread_create and pthread_join. */

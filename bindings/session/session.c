@@ -2,13 +2,17 @@
 #define _GNU_SOURCE
 #include "velodrome_session.h"
 #include "velodrome.h"
+#include <errno.h>
+#include <linux/futex.h>
 #include <pthread.h>
 #include <stdarg.h>
 #include <stdatomic.h>
 #include <stdio.h>
 #include <stdlib.h>
 #include <string.h>
+#include <sys/syscall.h>
 #include <time.h>
+#include <unistd.h>
 #define SLOTS 256            /* sessions at a time */
 #define SEATS 4              /* sessions that one thread acts in at a time */
 #define DEPTH 32             /* blocks that are told; the outermost decide */
@@ -16,6 +20,8 @@
 #define NAME_BYTES 150       /* with a kind, a line and an ordinal it fits a names file */
 #define NUMBER_BITS 20       /* of a tag; the rest is the epoch */
 #define NOT_TOLD UINT32_MAX
+#define HOT static inline __attribute__((always_inline)) /* what every event passes */
+#define COLD static __attribute__((noinline))
 
 /* ---- what a session has */
 
@@ -65,10 +71,11 @@ typedef struct finding {
 } finding;
 
 typedef struct slot {
-    pthread_mutex_t order;
+    _Atomic uint32_t order;    /* its lock. 0: free, 1: held, 2: held and waited for */
+    uint32_t held;             /* how often, by its keeper */
     _Atomic uint64_t id;       /* while it is open; else 0 */
     _Atomic uint64_t last;     /* the epoch: of the numbers in tags since the last cut, from id on */
-    _Atomic uintptr_t keeper;  /* the thread that holds `order`, how often */
+    _Atomic uintptr_t keeper;  /* the thread that holds `order` */
     _Atomic bool recording;
     _Atomic bool slow;         /* noise is wanted, or it is crowded: events may have to wait */
     _Atomic bool crowded;      /* it can only be cut once the open blocks have ended */
@@ -76,7 +83,7 @@ typedef struct slot {
     _Atomic bool missed;       /* an event, since its lock could not be had */
     _Atomic uint32_t noise;
     void (*_Atomic wait)(uint32_t nanoseconds);
-    uint32_t held;
+    bool abandoned; /* it was in use when this process was forked */
 
     velodrome handle;
     uint32_t events, near, most; /* of this piece; from `near` on it is cut where it can be */
@@ -106,7 +113,7 @@ typedef struct slot {
     void *hook_data;
 } slot;
 
-static slot slots[SLOTS] = {[0 ... SLOTS - 1] = {.order = PTHREAD_MUTEX_INITIALIZER}};
+static slot slots[SLOTS];
 static pthread_mutex_t opening = PTHREAD_MUTEX_INITIALIZER;
 static _Atomic uint64_t everywhere;
 uint32_t vs_recording;
@@ -114,6 +121,7 @@ uint32_t vs_recording;
 /* ---- what a thread has */
 
 typedef struct seat {
+    slot *in;
     uint64_t id, who, epoch, random, waited;
     uint8_t number;
     int told; /* how many of its blocks */
@@ -132,7 +140,7 @@ static _Thread_local struct {
     uint64_t hooking;       /* the session whose hook this thread is in */
     int slots;              /* that it keeps */
 } mine;
-static inline struct vs_self *self(void) { return mine.acting ? mine.acting : &mine.itself; }
+HOT struct vs_self *self(void) { return mine.acting ? mine.acting : &mine.itself; }
 
 /* ---- slots and tags */
 
@@ -140,15 +148,15 @@ static slot *slot_of(uint64_t id) { return &slots[id % SLOTS]; }
 
 static bool is_open(uint64_t id) { return id && atomic_load_explicit(&slot_of(id)->id, memory_order_acquire) == id; }
 
-static uint64_t tag_of(const vs_object *o) { return __atomic_load_n(&o->tag, __ATOMIC_RELAXED); }
+HOT uint64_t tag_of(const vs_object *o) { return __atomic_load_n(&o->tag, __ATOMIC_RELAXED); }
 
-static inline uint64_t epoch_of(uint64_t tag) { return tag >> NUMBER_BITS; }
+HOT uint64_t epoch_of(uint64_t tag) { return tag >> NUMBER_BITS; }
 
-static inline uint32_t number_in(uint64_t tag) { return tag & ((1u << NUMBER_BITS) - 1); }
+HOT uint32_t number_in(uint64_t tag) { return tag & ((1u << NUMBER_BITS) - 1); }
 
 static uint64_t tag_with(uint64_t epoch, uint32_t number) { return epoch << NUMBER_BITS | number; }
 
-static uint64_t epoch(slot *s) { return atomic_load_explicit(&s->last, memory_order_relaxed); }
+HOT uint64_t epoch(slot *s) { return atomic_load_explicit(&s->last, memory_order_relaxed); }
 
 /* Whether the tag was given by the session that is open in the slot. */
 static bool is_of(slot *s, uint64_t tag) {
@@ -160,21 +168,38 @@ static void end_recording(slot *s) {
     if (atomic_exchange(&s->recording, false)) __atomic_fetch_sub(&vs_recording, 1, __ATOMIC_RELAXED);
 }
 
-static inline bool is_keeper(slot *s) { return atomic_load_explicit(&s->keeper, memory_order_relaxed) == (uintptr_t)&mine; }
+HOT bool is_keeper(slot *s) { return atomic_load_explicit(&s->keeper, memory_order_relaxed) == (uintptr_t)&mine; }
 
-/* Takes the lock of a second session in an access of a first: two threads may do so crosswise, so nobody waits for ever. */
-static bool lock_within(slot *s) {
-    struct timespec end;
-    clock_gettime(CLOCK_REALTIME, &end);
-    end.tv_sec++;
-    return pthread_mutex_timedlock(&s->order, &end) == 0;
+/* A lock of its own, as every event pays for it: half as dear as pthread's where nobody waits. */
+HOT bool try_lock(slot *s) {
+    uint32_t nobody = 0;
+    return atomic_compare_exchange_strong_explicit(&s->order, &nobody, 1, memory_order_acquire, memory_order_relaxed);
 }
 
-/* Takes the slot's lock, again where this thread has it: the program's code may come back here in an access. */
-static inline bool keep(slot *s) {
+/* False where it was not to be had in time; NULL: it waits for it. */
+COLD bool lock_slowly(slot *s, const struct timespec *most) {
+    for (int i = 0; i < 100; i++) {
+        if (!atomic_load_explicit(&s->order, memory_order_relaxed) && try_lock(s)) return true;
+#ifdef __x86_64__
+        __builtin_ia32_pause();
+#endif
+    }
+    while (atomic_exchange_explicit(&s->order, 2, memory_order_acquire)) {
+        if (syscall(SYS_futex, &s->order, FUTEX_WAIT_PRIVATE, 2, most, NULL, 0) && errno == ETIMEDOUT) return false;
+    }
+    return true;
+}
+
+HOT void unlock(slot *s) {
+    if (atomic_exchange_explicit(&s->order, 0, memory_order_release) == 2) syscall(SYS_futex, &s->order, FUTEX_WAKE_PRIVATE, 1, NULL, NULL, 0);
+}
+
+/* Takes the slot's lock, again where this thread has it: the program's code may come back here in an access. Two threads may each
+ * take the lock of a second session in an access of a first, crosswise; so nobody waits there for longer than a second. */
+HOT bool keep(slot *s) {
+    static const struct timespec second = {1, 0};
     if (!is_keeper(s)) {
-        if (!mine.slots) pthread_mutex_lock(&s->order);
-        else if (!lock_within(s)) return false;
+        if (!try_lock(s) && !lock_slowly(s, mine.slots ? &second : NULL)) return false;
         mine.slots++;
         atomic_store_explicit(&s->keeper, (uintptr_t)&mine, memory_order_relaxed);
     }
@@ -182,7 +207,7 @@ static inline bool keep(slot *s) {
     return true;
 }
 
-static void call_hook(slot *s, finding *found) {
+COLD void call_hook(slot *s, finding *found) {
     mine.hooking = found->alarm.session;
     found->hook(found->data, &found->alarm);
     mine.hooking = 0;
@@ -193,31 +218,31 @@ static void call_hook(slot *s, finding *found) {
     free(found);
 }
 
-static inline void let_go(slot *s) {
+HOT void let_go(slot *s) {
     if (!is_keeper(s) || --s->held) return; /* not its keeper: it came out of a fork */
     finding *found = s->found;
     s->found = NULL;
     mine.slots--;
     atomic_store_explicit(&s->keeper, 0, memory_order_relaxed);
-    pthread_mutex_unlock(&s->order);
+    unlock(s);
     if (found) call_hook(s, found);
 }
 
 /* The slot of the session, kept; NULL where it is not open. */
-static inline slot *kept(uint64_t id) {
-    if (!is_open(id)) return NULL;
-    slot *s = slot_of(id);
+HOT slot *kept_in(slot *s, uint64_t id) {
     if (!keep(s)) {
         s->missed = true;
         end_recording(s);
         return NULL;
     }
-    if (s->id == id) return s;
+    if (atomic_load_explicit(&s->id, memory_order_relaxed) == id) return s;
     let_go(s);
     return NULL;
 }
 
-__attribute__((format(printf, 2, 3))) static void stop(slot *s, const char *format, ...) {
+static slot *kept(uint64_t id) { return is_open(id) ? kept_in(slot_of(id), id) : NULL; }
+
+__attribute__((format(printf, 2, 3))) COLD void stop(slot *s, const char *format, ...) {
     if (s->why[0] || s->alarmed) return;
     va_list operands;
     va_start(operands, format);
@@ -355,7 +380,7 @@ static bool grow_places(slot *s) {
     return true;
 }
 
-static void note_place(slot *s, uint32_t position, const vs_place *p) {
+COLD void note_place(slot *s, uint32_t position, const vs_place *p) {
     if (!p || !p->file || !grow_places(s)) return;
     while (position >= s->event_room)
         if (!has_room(&s->event_place, &s->event_room, s->event_room, sizeof *s->event_place)) return;
@@ -540,7 +565,7 @@ static void fill_sides(slot *s, finding *found, const char *text) {
     }
 }
 
-static void alarm_found(slot *s) {
+COLD void alarm_found(slot *s) {
     char *text = explanation(s);
     s->alarmed = true;
     end_recording(s);
@@ -576,7 +601,7 @@ static const char *reason(uint32_t status) {
 }
 
 /* What a call answered: true where the event is in the log. */
-static inline bool told(slot *s, uint32_t status, const velodrome_answer *a, const vs_place *place) {
+HOT bool told(slot *s, uint32_t status, const velodrome_answer *a, const vs_place *place) {
     if (status) {
         stop(s, "%s", reason(status));
         return false;
@@ -751,7 +776,7 @@ static seat *seat_in(struct vs_self *me, uint64_t id) {
 static seat *new_seat(struct vs_self *me, slot *s, uint64_t who) {
     for (int i = 0; i < SEATS; i++) {
         if (is_open(me->seat[i].id)) continue;
-        me->seat[i] = (seat){.id = s->id, .who = who, .random = mixed(s->seed ^ mixed(who)) | 1};
+        me->seat[i] = (seat){.in = s, .id = s->id, .who = who, .random = mixed(s->seed ^ mixed(who)) | 1};
         return &me->seat[i];
     }
     return NULL;
@@ -795,7 +820,7 @@ static uint32_t label_number(slot *s, vs_object *label) {
     return w->label - 1;
 }
 
-static bool begin_blocks(slot *s, struct vs_self *me, seat *t) {
+COLD bool begin_blocks(slot *s, struct vs_self *me, seat *t) {
     velodrome_answer a;
     int deep = me->depth < DEPTH ? me->depth : DEPTH;
     while (t->told < deep && s->recording) {
@@ -807,7 +832,7 @@ static bool begin_blocks(slot *s, struct vs_self *me, seat *t) {
 }
 
 /* Tells the begins of the blocks that an event stands in. */
-static inline bool in_blocks(slot *s, struct vs_self *me, seat *t) { return t->told >= me->depth || begin_blocks(s, me, t); }
+HOT bool in_blocks(slot *s, struct vs_self *me, seat *t) { return t->told >= me->depth || begin_blocks(s, me, t); }
 
 void vs_begin(vs_object *label) {
     struct vs_self *me = self();
@@ -845,7 +870,7 @@ static bool claim(slot *s, vs_object *o, uint64_t old, uint32_t number) {
     return false;
 }
 
-static uint32_t new_variable(slot *s, vs_object *o, uint64_t tag) {
+COLD uint32_t new_variable(slot *s, vs_object *o, uint64_t tag) {
     if (s->variable.count >= s->variables) {
         stop(s, "more than %u variables while a block was open", s->variables);
         return NOT_TOLD;
@@ -858,13 +883,13 @@ static uint32_t new_variable(slot *s, vs_object *o, uint64_t tag) {
     return claim(s, o, tag, s->variable.count - 1) ? s->variable.count - 1 : NOT_TOLD;
 }
 
-static inline uint32_t variable_number(slot *s, vs_object *o) {
+HOT uint32_t variable_number(slot *s, vs_object *o) {
     uint64_t tag = tag_of(o);
     return epoch_of(tag) == epoch(s) ? number_in(tag) : new_variable(s, o, tag);
 }
 
 /* The number of a lock that is held since an earlier piece. */
-static uint32_t carried_lock(slot *s, vs_object *o, uint64_t tag) {
+COLD uint32_t carried_lock(slot *s, vs_object *o, uint64_t tag) {
     if (!is_of(s, tag)) return NOT_TOLD;
     for (uint32_t i = 0; i < s->lock.count; i++) {
         if (s->holds[i].old != tag) continue;
@@ -875,14 +900,13 @@ static uint32_t carried_lock(slot *s, vs_object *o, uint64_t tag) {
     return NOT_TOLD;
 }
 
-static inline uint32_t known_lock(slot *s, vs_object *o) {
+HOT uint32_t known_lock(slot *s, vs_object *o) {
     uint64_t tag = tag_of(o);
     return epoch_of(tag) == epoch(s) ? number_in(tag) : carried_lock(s, o, tag);
 }
 
-static uint32_t lock_number(slot *s, vs_object *o) {
-    uint32_t known = known_lock(s, o);
-    if (known != NOT_TOLD || !s->recording) return known;
+COLD uint32_t new_lock(slot *s, vs_object *o) {
+    if (!s->recording) return NOT_TOLD;
     if (s->lock.count >= s->locks) {
         stop(s, "more than %u locks while a block was open", s->locks);
         return NOT_TOLD;
@@ -891,6 +915,11 @@ static uint32_t lock_number(slot *s, vs_object *o) {
     word *w = word_of(s, o, "lock");
     uint32_t number = add_lock(s, w, w ? ++w->met[1] : 0);
     return number != NOT_TOLD && claim(s, o, tag, number) ? number : NOT_TOLD;
+}
+
+HOT uint32_t lock_number(slot *s, vs_object *o) {
+    uint32_t known = known_lock(s, o);
+    return known != NOT_TOLD ? known : new_lock(s, o);
 }
 
 static share *share_of(hold *h, uint64_t who) {
@@ -943,7 +972,7 @@ static void give_share_back(slot *s, struct vs_self *me, seat *t, vs_object *o, 
     *own = s->holds[n].share[--s->holds[n].shares];
 }
 
-static inline void access_variable(slot *s, struct vs_self *me, seat *t, vs_object *o, vs_kind kind, const vs_place *place) {
+HOT void access_variable(slot *s, struct vs_self *me, seat *t, vs_object *o, vs_kind kind, const vs_place *place) {
     velodrome_answer a;
     uint32_t n = variable_number(s, o);
     if (n == NOT_TOLD || !in_blocks(s, me, t)) return;
@@ -957,13 +986,13 @@ static void make_room_for_object(slot *s, vs_kind kind) {
 }
 
 /* The seat for an event, which may be the first of its thread or its object since the last cut; NULL where it cannot be told. */
-static seat *seat_for(slot *s, struct vs_self *me, vs_object *o, vs_kind kind) {
+COLD seat *seat_for(slot *s, struct vs_self *me, vs_object *o, vs_kind kind) {
     make_room_for_events(s);
     if (epoch_of(tag_of(o)) != epoch(s)) make_room_for_object(s, kind);
     return s->recording ? seat_of(s, me) : NULL;
 }
 
-static void event(slot *s, struct vs_self *me, vs_object *o, vs_kind kind, const vs_place *place) {
+HOT void event(slot *s, struct vs_self *me, vs_object *o, vs_kind kind, const vs_place *place) {
     seat *t = &me->seat[me->recent];
     uint64_t now = epoch(s);
     if (t->epoch != now || epoch_of(tag_of(o)) != now || s->events >= s->near) t = seat_for(s, me, o, kind);
@@ -1010,7 +1039,7 @@ static void miss(uint64_t id, const vs_object *o) {
 }
 
 /* The object's own session while it is open; else this thread's, else that of all. */
-static uint64_t session_for(vs_object *o) {
+COLD uint64_t session_for(vs_object *o) {
     uint64_t tag = tag_of(o), own = entered();
     slot *s = slot_of(epoch_of(tag));
     if (!is_of(s, tag)) return own ? own : vs_current();
@@ -1043,21 +1072,30 @@ static void wait_for_blocks(slot *s, struct vs_self *me, uint64_t id) {
     seat *t = seat_in(me, id);
     if (!t || t->told || t->waited == epoch(s)) return;
     t->waited = epoch(s);
-    for (int i = 0; i < 50 && s->crowded && s->recording && !is_keeper(s); i++) pause_for(s, 100000);
+    for (int i = 0; i < 50 && s->crowded && s->recording; i++) pause_for(s, 100000);
+}
+
+COLD void wait_before(slot *s, struct vs_self *me, uint64_t id) {
+    if (is_keeper(s)) return;
+    disturb(s, me, id);
+    wait_for_blocks(s, me, id);
+}
+
+/* The session of nearly all events: that of this thread's last one, where the object has a number since the last cut. */
+HOT bool is_usual(const struct vs_self *me, const seat *t, const vs_object *o) {
+    if (!t->epoch || t->epoch != epoch_of(tag_of(o)) || (me->current && me->current != t->id)) return false;
+    return atomic_load_explicit(&t->in->id, memory_order_relaxed) == t->id;
 }
 
 /* The slot of the session that an event about the object is of, kept; NULL where nothing is to be told. */
-static inline slot *slot_for(struct vs_self *me, vs_object *o) {
+HOT slot *slot_for(struct vs_self *me, vs_object *o) {
     const seat *t = &me->seat[me->recent];
-    bool usual = t->epoch && t->epoch == epoch_of(tag_of(o)) && (me->current == t->id || !me->current) && is_open(t->id);
+    bool usual = is_usual(me, t, o);
     uint64_t id = usual ? t->id : session_for(o);
-    slot *s = slot_of(id);
+    slot *s = usual ? t->in : slot_of(id);
     if (!id || !atomic_load_explicit(&s->recording, memory_order_relaxed)) return NULL;
-    if (atomic_load_explicit(&s->slow, memory_order_relaxed) && !is_keeper(s)) {
-        disturb(s, me, id);
-        wait_for_blocks(s, me, id);
-    }
-    return kept(id);
+    if (atomic_load_explicit(&s->slow, memory_order_relaxed)) wait_before(s, me, id);
+    return kept_in(s, id);
 }
 
 unsigned vs_hold(vs_object *o) {
@@ -1167,13 +1205,14 @@ void vs_self_free(vs_self *old) {
 
 /* ---- open, close */
 
-/* The locks may be held by threads that are not there. What they guard is left as it is, since it may be half changed. */
+/* Slots may be half changed, and their locks held, by threads that are not there: those in use are left as they are, for good. */
 static void child_of_fork(void) {
     opening = (pthread_mutex_t)PTHREAD_MUTEX_INITIALIZER;
-    for (int i = 0; i < SLOTS; i++) {
-        uint64_t last = slots[i].last;
-        slots[i] = (slot){.order = PTHREAD_MUTEX_INITIALIZER};
-        slots[i].last = last;
+    for (slot *s = slots; s < slots + SLOTS; s++) {
+        s->abandoned |= s->id || s->keeper;
+        s->id = 0;
+        s->keeper = 0;
+        s->recording = false;
     }
     everywhere = 0;
     vs_recording = 0;
@@ -1217,9 +1256,9 @@ static uint64_t open_in(slot *s, const vs_options *o, bool all) {
 
 /* Keeps the slot if no session is in it and no thread has it. */
 static bool keep_free(slot *s) {
-    if (s->id || is_keeper(s) || pthread_mutex_trylock(&s->order)) return false;
+    if (s->id || s->abandoned || is_keeper(s) || !try_lock(s)) return false;
     if (s->id) {
-        pthread_mutex_unlock(&s->order);
+        unlock(s);
         return false;
     }
     atomic_store_explicit(&s->keeper, (uintptr_t)&mine, memory_order_relaxed);
