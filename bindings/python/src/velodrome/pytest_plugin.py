@@ -5,7 +5,7 @@ import contextlib
 import functools
 import os
 import sys
-from typing import Any, Callable
+from typing import Any, Callable, Iterator
 
 import pytest
 
@@ -79,7 +79,7 @@ def _run_once(item: pytest.Item, body: Callable[[], None], options: dict[str, An
 
 
 @contextlib.contextmanager
-def _switching(seconds: float | None) -> Any:
+def _switching(seconds: float | None) -> Iterator[None]:
     before = sys.getswitchinterval()
     sys.setswitchinterval(seconds or before)
     try:

@@ -119,6 +119,8 @@ impl fmt::Display for Reason {
     }
 }
 
+impl std::error::Error for Reason {}
+
 impl Outcome {
     /// Whether it is [`Clean`](Outcome::Clean).
     #[must_use]
