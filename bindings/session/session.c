@@ -1326,7 +1326,7 @@ static void wait_for_hook(vs_session session) {
 vs_verdict vs_close(vs_session session, char **report) {
     wait_for_hook(session);
     slot *s = kept(session);
-    if (report) *report = NULL;
+    if (report) *report = s || session ? NULL : strdup("no session was opened: out of memory, or 256 are open\n");
     if (!s) return VS_INCOMPLETE;
     vs_verdict verdict = verdict_of(s);
     if (report) *report = report_of(s);

@@ -47,7 +47,8 @@ static void what_is_not_there(void) {
         vs_session s = i == 0 ? 0 : i == 1 ? old : 1234567;
         char *report = "x";
         bool fails;
-        EXPECT(vs_close(s, &report) == VS_INCOMPLETE && !report && vs_so_far(s) == VS_INCOMPLETE && !vs_save(s, "none.vlog"));
+        EXPECT(vs_close(s, &report) == VS_INCOMPLETE && !report == (s != 0) && vs_so_far(s) == VS_INCOMPLETE && !vs_save(s, "none.vlog"));
+        vs_free(report);
         EXPECT(vs_finish(s, "none", &report, &fails) == VS_INCOMPLETE && !fails);
         vs_free(report);
         vs_enter(s);
