@@ -185,7 +185,7 @@ if wants cpp; then
         step "cpp: cost of a round ($compiler)" in_time "$out/cpp_cost"
         step "cpp: a block that ends at once is refused ($compiler)" says discarded $compiler -std=c++17 "${flags[@]}" -c -o /dev/null "$top/bindings/cpp/discarded.cpp"
         step "cpp: tests build for ThreadSanitizer ($compiler)" tsan_tests $compiler
-        step "cpp: ThreadSanitizer is silent ($compiler)" in_time env -C "$out" TSAN_OPTIONS=die_after_fork=0 "$out/cpp_tsan"
+        step "cpp: ThreadSanitizer is silent ($compiler)" in_time env -C "$out" TSAN_OPTIONS=die_after_fork=0 "$out/cpp_tsan" -timed_mutexes
     done
     if [ -x "$out/cpp_test" ] && have valgrind; then
         valgrinds "cpp: tests" env -C "$out" "$out/cpp_test" -noise_finds_what_is_rare -more_objects_than_numbers -many_labels -thousands_of_sessions

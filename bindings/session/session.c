@@ -243,7 +243,7 @@ HOT slot *kept_in(slot *s, uint64_t id) {
 static slot *kept(uint64_t id) { return is_open(id) ? kept_in(slot_of(id), id) : NULL; }
 
 __attribute__((format(printf, 2, 3))) COLD void stop(slot *s, const char *format, ...) {
-    if (s->why[0] || s->alarmed) return;
+    if (s->why[0]) return;
     va_list operands;
     va_start(operands, format);
     vsnprintf(s->why, sizeof s->why, format, operands);
