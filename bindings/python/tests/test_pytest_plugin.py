@@ -59,7 +59,8 @@ def test_an_alarm_fails_its_test(run, pytester):
         assert Account().balance == 0
     ''', '--velodrome')
     result.assert_outcomes(failed=1, passed=1)
-    result.stdout.fnmatch_lines(['*not atomic: Account.deposit (test_an_alarm_fails_its_test.py:*)', '*velodrome explain */.velodrome/*test_lost.vlog --names *'])
+    result.stdout.fnmatch_lines(['*not atomic: Account.deposit (test_an_alarm_fails_its_test.py:*)',
+                                 '*velodrome explain */.velodrome/*test_lost.vlog --names *'])
     result.stdout.no_fnmatch_line('*pytest_plugin.py*')
     kept = sorted(path.name for path in pathlib.Path(pytester.path, '.velodrome').iterdir())
     assert kept == [f'test_an_alarm_fails_its_test.py..test_lost.vlog{end}' for end in ('', '.names')]
