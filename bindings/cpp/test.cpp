@@ -11,6 +11,7 @@
 #include <optional>
 #include <sstream>
 #include <stdexcept>
+#include <sys/stat.h>
 #include <sys/wait.h>
 #include <unistd.h>
 #include <vector>
@@ -882,8 +883,9 @@ TEST(names_of_any_kind) {
     EXPECT(clean(s));
 }
 TEST(the_end_of_a_test) {
-    setenv("VELODROME_LOGS", "/tmp", 1);
-    const std::string path = "/tmp/Bank.Deposit." + std::to_string(getpid());
+    mkdir("kept", 0700);
+    setenv("VELODROME_LOGS", "kept", 1);
+    const std::string path = "kept/Bank.Deposit";
     for (bool strict : {false, true}) {
         if (strict) setenv("VELODROME_INCOMPLETE", "fail", 1);
         session s(limited_to(2));
@@ -893,13 +895,14 @@ TEST(the_end_of_a_test) {
             x += 1;
             x += 1;
         }
-        const result r = s.finish(("Bank/Deposit " + std::to_string(getpid())).c_str());
+        const result r = s.finish("Bank/Deposit");
         EXPECT(r.what == verdict::incomplete && r.fails == strict);
         EXPECT(std::ifstream(path + ".vlog").good() == strict);
         if (strict) EXPECT(has(r.words, ("velodrome explain " + path + ".vlog --names " + path + ".vlog.names").c_str()));
     }
     std::remove((path + ".vlog").c_str());
     std::remove((path + ".vlog.names").c_str());
+    rmdir("kept");
     unsetenv("VELODROME_INCOMPLETE");
     unsetenv("VELODROME_LOGS");
     session s;
