@@ -778,7 +778,19 @@ static bool make_strings(void) {
     return str_co_filename && str_co_flags && str_f_back && str_dict && labels;
 }
 
+/* What the library is built for; the wheel's tag cannot say it. */
+static bool has_processor(void) {
+#ifdef __x86_64__
+    if (__builtin_cpu_supports("sse4.2")) return true;
+    PyErr_SetString(PyExc_ImportError, "velodrome is for processors with SSE4.2");
+    return false;
+#else
+    return true;
+#endif
+}
+
 PyMODINIT_FUNC PyInit__session(void) {
+    if (!has_processor()) return NULL;
     PyObject *module = PyModule_Create(&definition);
     if (module && make_strings() && find_threading() && add_type(module, "Tag", &tag_spec, &tag_type)
         && add_type(module, "Var", &var_spec, NULL) && add_type(module, "field", &field_spec, NULL) && add_type(module, "Block", &block_spec, &block_type)

@@ -14,7 +14,7 @@ LOST = '''
         @velodrome.atomic
         def deposit(self, amount):
             before = self.balance
-            other.wait(1)
+            other.wait(30)
             self.balance = before + amount
 
     def two(deposit):
@@ -112,7 +112,7 @@ def test_an_alarm_can_be_expected(run):
 
 
 def test_repeat_until_it_shows(run):
-    result = run(LOST.replace('other.wait(1)', 'other.wait(1) if len(times) == 5 else None') + '''
+    result = run(LOST.replace('other.wait(30)', 'other.wait(30) if len(times) == 5 else None') + '''
     times = []
     def test_lost():
         times.append(1)

@@ -440,7 +440,7 @@ class Host(Case):
             for _ in range(10):
                 child = os.fork()
                 if not child:
-                    signal.alarm(3)
+                    signal.alarm(30)
                     x.set(x.get() + 1)
                     fine = run.close().verdict == 'incomplete'
                     with velodrome.session() as own:
@@ -476,7 +476,7 @@ run = velodrome.session(noise=4)
 velodrome.Thread(target=work, daemon=True).start()
 while x.get() < 100: pass
 '''
-        self.assertEqual(subprocess.run([sys.executable, '-c', program], timeout=20).returncode, 0)
+        self.assertEqual(subprocess.run([sys.executable, '-c', program], timeout=120).returncode, 0)
 
     def test_signals(self):
         x, y = Var(0), Var(0)
@@ -637,7 +637,7 @@ class Types(Case):
                 done = threading.Event()
                 timer = threading.Timer(0.001, done.set)
                 timer.start()
-                self.assertTrue(done.wait(10))
+                self.assertTrue(done.wait(60))
                 timer.join()
         self.watch('clean', body)
         self.assertNotIn(threading.Thread, (Thread,))
