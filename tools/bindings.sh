@@ -100,7 +100,7 @@ step "shared library exports velodrome_* and vs_* alone" exports_only_its_own
 build() {
     local compiler=$1 output=$2 source=$3
     shift 3
-    "$compiler" -std=gnu11 -O2 -g "${warnings[@]}" "${includes[@]}" -pthread -o "$output" "$source" "$@" "$out/libvelodrome.a"
+    "$compiler" -std=gnu11 -O2 -gdwarf-4 "${warnings[@]}" "${includes[@]}" -pthread -o "$output" "$source" "$@" "$out/libvelodrome.a"
 }
 
 # tsan_tests COMPILER: the C++ tests and the session layer, instrumented
@@ -174,7 +174,7 @@ fi
 if wants cpp; then
     for compiler in g++ clang++; do
         have $compiler || continue
-        flags=(-O2 -g -Wpedantic "${warnings[@]}" "${includes[@]}" -pthread)
+        flags=(-O2 -gdwarf-4 -Wpedantic "${warnings[@]}" "${includes[@]}" -pthread)
         for standard in 17 20; do
             step "cpp: tests build (C++$standard, $compiler)" $compiler -std=c++$standard "${flags[@]}" -o "$out/cpp_test" "$top/bindings/cpp/test.cpp" "$out/libvelodrome.a"
             step "cpp: tests (C++$standard, $compiler)" in_time env -C "$out" "$out/cpp_test"
@@ -185,7 +185,7 @@ if wants cpp; then
         step "cpp: cost of a round ($compiler)" in_time "$out/cpp_cost"
         step "cpp: a block that ends at once is refused ($compiler)" says discarded $compiler -std=c++17 "${flags[@]}" -c -o /dev/null "$top/bindings/cpp/discarded.cpp"
         step "cpp: tests build for ThreadSanitizer ($compiler)" tsan_tests $compiler
-        step "cpp: ThreadSanitizer is silent ($compiler)" in_time env -C "$out" TSAN_OPTIONS=die_after_fork=0 "$out/cpp_tsan"
+        step "cpp: ThreadSanitizer is silent ($compiler)" in_time env -C "$out" TSAN_OPTIONS=die_after_fork=0 "$out/cpp_tsan" -timed_mutexes
     done
     if [ -x "$out/cpp_test" ] && have valgrind; then
         valgrinds "cpp: tests" env -C "$out" "$out/cpp_test" -noise_finds_what_is_rare -more_objects_than_numbers -many_labels -thousands_of_sessions

@@ -11,6 +11,7 @@
 #include <optional>
 #include <sstream>
 #include <stdexcept>
+#include <sys/stat.h>
 #include <sys/wait.h>
 #include <unistd.h>
 #include <vector>
@@ -629,6 +630,10 @@ TEST(mutexes) {
         r.unlock();
     }
     apart([&] { std::lock_guard a(r); });
+    EXPECT(clean(s));
+}
+TEST(timed_mutexes) { // not under ThreadSanitizer, which does not know of the C library's call behind them
+    session s;
     velodrome::timed_mutex t;
     {
         std::unique_lock a(t, std::chrono::milliseconds(1));
@@ -656,6 +661,25 @@ TEST(shared_mutexes) {
     a.unlock();
     std::unique_lock c(m, std::try_to_lock);
     EXPECT(c.owns_lock());
+    EXPECT(clean(s));
+}
+TEST(the_outermost_share_counts) {
+    session s;
+    velodrome::shared_mutex m;
+    var<int> x;
+    m.lock_shared();
+    m.lock_shared();
+    x = 1;
+    m.unlock_shared();
+    x = 2;
+    m.unlock_shared();
+    EXPECT(s.save("shares.vlog"));
+    std::ifstream log("shares.vlog");
+    std::stringstream text;
+    text << log.rdbuf();
+    EXPECT(has(text.str(), "1 acqs 0\n1 wr 0 0\n1 wr 0 0\n1 rels 0\n"));
+    std::remove("shares.vlog");
+    std::remove("shares.vlog.names");
     EXPECT(clean(s));
 }
 TEST(shares_guard_writers) { // an alarm: between two shares of one block another thread writes
@@ -752,7 +776,6 @@ TEST(a_compare_exchange_that_fails_reads) {
     for (int value : {0, 1}) {
         session s;
         velodrome::atomic<int> x(value);
-        var<int> y;
         {
             VELODROME_ATOMIC("b");
             (void)x.load();
@@ -860,8 +883,9 @@ TEST(names_of_any_kind) {
     EXPECT(clean(s));
 }
 TEST(the_end_of_a_test) {
-    setenv("VELODROME_LOGS", "/tmp", 1);
-    const std::string path = "/tmp/Bank.Deposit." + std::to_string(getpid());
+    mkdir("kept", 0700);
+    setenv("VELODROME_LOGS", "kept", 1);
+    const std::string path = "kept/Bank.Deposit";
     for (bool strict : {false, true}) {
         if (strict) setenv("VELODROME_INCOMPLETE", "fail", 1);
         session s(limited_to(2));
@@ -871,13 +895,14 @@ TEST(the_end_of_a_test) {
             x += 1;
             x += 1;
         }
-        const result r = s.finish(("Bank/Deposit " + std::to_string(getpid())).c_str());
+        const result r = s.finish("Bank/Deposit");
         EXPECT(r.what == verdict::incomplete && r.fails == strict);
         EXPECT(std::ifstream(path + ".vlog").good() == strict);
         if (strict) EXPECT(has(r.words, ("velodrome explain " + path + ".vlog --names " + path + ".vlog.names").c_str()));
     }
     std::remove((path + ".vlog").c_str());
     std::remove((path + ".vlog.names").c_str());
+    rmdir("kept");
     unsetenv("VELODROME_INCOMPLETE");
     unsetenv("VELODROME_LOGS");
     session s;
@@ -894,36 +919,34 @@ TEST(settings_of_the_environment) {
     unsetenv("VELODROME_NOISE");
     unsetenv("VELODROME_SEED");
 }
-static int alarms_in(int runs, std::uint32_t noise) {
-    int n = 0;
-    for (int i = 0; i < runs; i++) {
-        options o;
-        o.noise = noise;
-        o.seed = static_cast<std::uint64_t>(i) + 1;
-        session s(o);
-        var<int> x;
-        velodrome::mutex m;
-        auto add = [&] {
-            VELODROME_ATOMIC("inc");
-            int v;
-            {
-                std::lock_guard hold(m);
-                v = x;
-            }
+// Two threads, each with one round, as a unit test has it: an update is lost if one comes between the two holds of the other.
+static bool loses_one(std::uint64_t seed) {
+    options o;
+    o.noise = 4;
+    o.seed = seed;
+    session s(o);
+    var<int> x;
+    velodrome::mutex m;
+    auto add = [&] {
+        VELODROME_ATOMIC("inc");
+        int v;
+        {
             std::lock_guard hold(m);
-            x = v + 1;
-        };
-        velodrome::thread a(add), b(add);
-        a.join();
-        b.join();
-        n += s.close().what == verdict::alarm;
-    }
-    return n;
+            v = x;
+        }
+        std::lock_guard hold(m);
+        x = v + 1;
+    };
+    velodrome::thread a(add), b(add);
+    a.join();
+    b.join();
+    return s.close().what == verdict::alarm;
 }
 TEST(noise_finds_what_is_rare) {
-    const int without = alarms_in(200, 0), with = alarms_in(200, 2);
-    std::cout << "    alarms in 200 runs: " << without << " without noise, " << with << " with\n";
-    EXPECT(with > 0);
+    std::uint64_t run = 1;
+    while (run < 20000 && !loses_one(run)) run++;
+    std::cout << "    in run " << run << "\n";
+    EXPECT(run < 20000);
 }
 
 int main(int count, char **names) {

@@ -26,9 +26,6 @@ PLATFORM, GLIBC = 'manylinux_2_17_x86_64', (2, 17)
 TAG = f'cp39-abi3-{PLATFORM}'
 PACKAGE = ('__init__.py', '_session.pyi', 'py.typed', 'pytest_plugin.py')
 
-# Calls that glibc 2.34 gave a new version, with nothing new in them: the old one is wanted, which all have.
-OLD_SYMBOLS = ('pthread_mutex_trylock', 'pthread_mutex_timedlock')
-
 
 def project() -> dict:
     """What pyproject.toml says."""
@@ -37,28 +34,20 @@ def project() -> dict:
     return tomllib.loads((HERE / 'pyproject.toml').read_text())['project']
 
 
-def session_sources() -> pathlib.Path:
-    """The folder of session.c and its headers: beside this one, or in a source distribution."""
-    return next(folder for folder in (HERE / 'session', HERE.parent / 'session') if folder.is_dir())
-
-
-def include_folders() -> list[str]:
-    session = session_sources()
-    header = session if (session / 'velodrome.h').exists() else HERE.parent / 'c'
-    return [f'-I{folder}' for folder in (session, header, sysconfig.get_paths()['include'])]
+def header() -> pathlib.Path:
+    """velodrome_session.h: in the repository, or in a source distribution."""
+    return next(path for folder in (HERE.parent / 'session', HERE / 'src') if (path := folder / 'velodrome_session.h').exists())
 
 
 def compile_extension(library: pathlib.Path, folder: pathlib.Path) -> pathlib.Path:
-    """The extension, linked with the library and with a session layer of its own."""
-    extension, objects = folder / '_session.abi3.so', []
-    old = ''.join(f'__asm__(".symver {name},{name}@GLIBC_2.2.5");\n' for name in OLD_SYMBOLS)
-    (folder / 'old.h').write_text(old)
-    compiler = [*shlex.split(os.environ.get('CC', 'cc')), '-O2', '-fPIC', '-fvisibility=hidden', '-Wall', '-Wextra', '-Wno-missing-field-initializers']
-    for source, flags in ((HERE / 'src/_session.c', ['-DPy_LIMITED_API=0x03090000', '-Wno-cast-function-type']),
-                          (session_sources() / 'session.c', ['-include', str(folder / 'old.h')])):
-        objects.append(str(folder / source.with_suffix('.o').name))
-        subprocess.run([*compiler, *flags, *include_folders(), '-c', str(source), '-o', objects[-1]], check=True)
-    subprocess.run([*compiler, '-shared', *objects, str(library), '-Wl,--exclude-libs,ALL', '-Wl,-z,now', '-s', '-lpthread', '-o', str(extension)], check=True)
+    """The extension, with the library in it."""
+    extension = folder / '_session.abi3.so'
+    compiler = shlex.split(os.environ.get('CC', 'cc'))
+    flags = ['-O2', '-fPIC', '-fvisibility=hidden', '-Wall', '-Wextra', '-Wno-missing-field-initializers', '-Wno-cast-function-type']
+    includes = [f'-I{folder}' for folder in (header().parent, sysconfig.get_paths()['include'])]
+    linked = [str(library), '-Wl,--exclude-libs,ALL', '-Wl,-z,now', '-s', '-lpthread']
+    subprocess.run([*compiler, *flags, '-DPy_LIMITED_API=0x03090000', *includes, '-shared', str(HERE / 'src/_session.c'), *linked,
+                    '-o', str(extension)], check=True)
     return extension
 
 
@@ -123,12 +112,11 @@ def build_wheel(wheel_directory: str, config_settings: object = None, metadata_d
 
 def build_sdist(sdist_directory: str, config_settings: object = None) -> str:
     """For pip and build. The library is not in it, as it is built by another compiler."""
-    said, session = project(), session_sources()
+    said = project()
     stem = f'{said["name"]}-{said["version"]}'
     own = ['pyproject.toml', 'make_wheel.py', 'README.md', 'src/_session.c', *(f'src/velodrome/{name}' for name in PACKAGE)]
     files = {name: (HERE / name).read_bytes() for name in own}
-    header = next(folder / 'velodrome.h' for folder in (session, HERE.parent / 'c') if (folder / 'velodrome.h').exists())
-    files |= {f'session/{path.name}': path.read_bytes() for path in (session / 'session.c', session / 'velodrome_session.h', header)}
+    files['src/velodrome_session.h'] = header().read_bytes()
     with tarfile.open(pathlib.Path(sdist_directory, f'{stem}.tar.gz'), 'w:gz') as archive:
         for name, data in {**files, 'PKG-INFO': metadata().encode()}.items():
             entry = tarfile.TarInfo(f'{stem}/{name}')

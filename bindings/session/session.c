@@ -243,7 +243,7 @@ HOT slot *kept_in(slot *s, uint64_t id) {
 static slot *kept(uint64_t id) { return is_open(id) ? kept_in(slot_of(id), id) : NULL; }
 
 __attribute__((format(printf, 2, 3))) COLD void stop(slot *s, const char *format, ...) {
-    if (s->why[0] || s->alarmed) return;
+    if (s->why[0]) return;
     va_list operands;
     va_start(operands, format);
     vsnprintf(s->why, sizeof s->why, format, operands);
@@ -1326,7 +1326,7 @@ static void wait_for_hook(vs_session session) {
 vs_verdict vs_close(vs_session session, char **report) {
     wait_for_hook(session);
     slot *s = kept(session);
-    if (report) *report = NULL;
+    if (report) *report = s || session ? NULL : strdup("no session was opened: out of memory, or 256 are open\n");
     if (!s) return VS_INCOMPLETE;
     vs_verdict verdict = verdict_of(s);
     if (report) *report = report_of(s);

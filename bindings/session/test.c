@@ -47,7 +47,8 @@ static void what_is_not_there(void) {
         vs_session s = i == 0 ? 0 : i == 1 ? old : 1234567;
         char *report = "x";
         bool fails;
-        EXPECT(vs_close(s, &report) == VS_INCOMPLETE && !report && vs_so_far(s) == VS_INCOMPLETE && !vs_save(s, "none.vlog"));
+        EXPECT(vs_close(s, &report) == VS_INCOMPLETE && !report == (s != 0) && vs_so_far(s) == VS_INCOMPLETE && !vs_save(s, "none.vlog"));
+        vs_free(report);
         EXPECT(vs_finish(s, "none", &report, &fails) == VS_INCOMPLETE && !fails);
         vs_free(report);
         vs_enter(s);
@@ -94,12 +95,24 @@ static void blocks_end_with_their_scope(void) {
 
 static void sessions_nest(void) {
     vs_object x = VS_OBJECT("x"), y = VS_OBJECT("y");
-    vs_session a = vs_open(NULL, true), b = vs_open(NULL, true);
+    vs_session a = vs_open(NULL, false), b = vs_open(NULL, true);
     EXPECT(vs_current() == b);
     lost_update(&y);
     EXPECT(vs_close(b, NULL) == VS_ALARM && vs_current() == a);
     lost_update(&x);
     EXPECT(vs_close(a, NULL) == VS_ALARM && vs_current() == 0);
+}
+
+static void an_object_of_a_closed_session_is_anyones(void) { /* also where another session has its slot */
+    static vs_object x = VS_OBJECT("x");
+    vs_session a = vs_open(NULL, false);
+    set(&x);
+    EXPECT(vs_close(a, NULL) == VS_CLEAN);
+    vs_session b = vs_open(NULL, false);
+    vs_enter(0);
+    vs_session c = vs_open(NULL, true);
+    lost_update(&x);
+    EXPECT(vs_close(c, NULL) == VS_ALARM && vs_close(b, NULL) == VS_CLEAN);
 }
 
 static void tasks_are_themselves(void) { /* two tasks of one thread lose an update, and the end of one's block is not the other's */
@@ -286,7 +299,8 @@ static void a_lock_of_another_kind(void) { /* released by a thread that did not 
 int main(void) {
     static const struct { const char *name; void (*run)(void); } tests[] = {
 #define T(f) {#f, f}
-        T(what_is_not_there), T(blocks_end_with_their_scope), T(sessions_nest), T(tasks_are_themselves), T(a_task_goes_from_thread_to_thread),
+        T(what_is_not_there), T(blocks_end_with_their_scope), T(sessions_nest), T(an_object_of_a_closed_session_is_anyones),
+        T(tasks_are_themselves), T(a_task_goes_from_thread_to_thread),
         T(close_waits_for_the_hook), T(a_hook_may_close), T(sessions_come_and_go), T(a_crowded_run_is_cut), T(sessions_crosswise),
         T(a_child_of_fork_is_on_its_own), T(a_lock_of_another_kind)};
     for (size_t i = 0; i < sizeof tests / sizeof *tests; i++) {

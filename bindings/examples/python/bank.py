@@ -18,8 +18,5 @@ class Account:
 
     @velodrome.atomic
     def deposit_carelessly(self, amount):
-        """In two: another one may come between them, and is lost then."""
-        with self.lock:
-            before = self.balance
-        with self.lock:
-            self.balance = before + amount
+        """In none: another one may come between the read and the write, and is lost then."""
+        self.balance += amount

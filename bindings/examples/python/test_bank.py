@@ -1,4 +1,4 @@
-"""`pytest`: `test_careful` passes, `test_careless` fails, as soon as a schedule comes about that loses a deposit.
+"""`pytest`: `test_careless` fails, as soon as a schedule comes about that loses a deposit; the others pass.
 
 `--velodrome-noise 4` makes such schedules more frequent; `repeat` runs a test until one came.
 """
@@ -8,8 +8,8 @@ import pytest
 from bank import Account
 
 
-def two_threads(deposit):
-    threads = [threading.Thread(target=deposit, args=(5,)) for _ in range(2)]
+def two_threads(*deposits):
+    threads = [threading.Thread(target=deposit, args=(5,)) for deposit in deposits]
     for thread in threads:
         thread.start()
     for thread in threads:
@@ -18,9 +18,17 @@ def two_threads(deposit):
 
 @pytest.mark.velodrome(repeat=100)
 def test_careful():
-    two_threads(Account().deposit)
+    account = Account()
+    two_threads(account.deposit, account.deposit)
+    assert account.balance == 10
+
+
+@pytest.mark.velodrome(repeat=100)
+def test_careful_with_accounts_of_their_own():
+    two_threads(Account().deposit_carelessly, Account().deposit_carelessly)
 
 
 @pytest.mark.velodrome(repeat=1000)
 def test_careless():
-    two_threads(Account().deposit_carelessly)
+    account = Account()
+    two_threads(account.deposit_carelessly, account.deposit_carelessly)

@@ -562,14 +562,17 @@ static PyObject *rlock_acquire_restore(lock *self, PyObject *args) {
 }
 
 static PyObject *lock_repr(lock *self) {
-    return PyUnicode_FromFormat("<%s %R>", is_reentrant(self) ? "velodrome.RLock of" : "velodrome.Lock of", self->inner ? self->inner : Py_None);
+    const char *what = is_reentrant(self) ? "velodrome.RLock of" : "velodrome.Lock of";
+    return PyUnicode_FromFormat("<%s %R>", what, self->inner ? self->inner : Py_None);
 }
 
 #define LOCK_METHODS \
-    {"acquire", (PyCFunction)(void (*)(void))lock_acquire, METH_VARARGS | METH_KEYWORDS, "acquire($self, blocking=True, timeout=-1)\n--\n\nAs threading's."}, \
+    {"acquire", (PyCFunction)(void (*)(void))lock_acquire, METH_VARARGS | METH_KEYWORDS, \
+     "acquire($self, blocking=True, timeout=-1)\n--\n\nAs threading's."}, \
     {"release", (PyCFunction)lock_release, METH_NOARGS, "release($self)\n--\n\nAs threading's."}, \
     {"locked", (PyCFunction)lock_locked, METH_NOARGS, "locked($self)\n--\n\nWhether it is held."}, \
-    {"__enter__", (PyCFunction)lock_enter, METH_NOARGS, NULL}, {"__exit__", (PyCFunction)(void (*)(void))lock_exit, METH_FASTCALL, NULL}, \
+    {"__enter__", (PyCFunction)lock_enter, METH_NOARGS, NULL}, \
+    {"__exit__", (PyCFunction)(void (*)(void))lock_exit, METH_FASTCALL, NULL}, \
     {"_at_fork_reinit", (PyCFunction)lock_at_fork, METH_NOARGS, NULL}
 
 static PyMethodDef lock_methods[] = {LOCK_METHODS, {NULL, NULL, 0, NULL}};
@@ -621,7 +624,8 @@ static PyObject *py_open(PyObject *module, PyObject *args) {
     vs_environment(&options);
     unsigned long long e = options.events, n = options.noise, s = options.seed;
     if (!PyArg_ParseTuple(args, "OOOp", &events, &noise, &seed, &places)) return NULL;
-    if (!number_of(events, "events", 16777216, &e) || !number_of(noise, "noise", UINT32_MAX, &n) || !number_of(seed, "seed", UINT64_MAX, &s)) return NULL;
+    if (!number_of(events, "events", 16777216, &e) || !number_of(noise, "noise", UINT32_MAX, &n)) return NULL;
+    if (!number_of(seed, "seed", UINT64_MAX, &s)) return NULL;
     options.events = (uint32_t)e;
     options.noise = (uint32_t)n;
     options.seed = s;
@@ -632,7 +636,9 @@ static PyObject *py_open(PyObject *module, PyObject *args) {
 
 /* (verdict, report, whether a test fails by it) */
 static PyObject *ended(vs_verdict verdict, char *report, bool fails) {
-    PyObject *result = Py_BuildValue("iNO", (int)verdict, PyUnicode_DecodeUTF8(report ? report : "", report ? (Py_ssize_t)strlen(report) : 0, "replace"), fails ? Py_True : Py_False);
+    const char *words = report ? report : "";
+    PyObject *text = PyUnicode_DecodeUTF8(words, (Py_ssize_t)strlen(words), "replace");
+    PyObject *result = Py_BuildValue("iNO", (int)verdict, text, fails ? Py_True : Py_False);
     vs_free(report);
     return result;
 }
@@ -772,10 +778,22 @@ static bool make_strings(void) {
     return str_co_filename && str_co_flags && str_f_back && str_dict && labels;
 }
 
+/* What the library is built for; the wheel's tag cannot say it. */
+static bool has_processor(void) {
+#ifdef __x86_64__
+    if (__builtin_cpu_supports("sse4.2")) return true;
+    PyErr_SetString(PyExc_ImportError, "velodrome is for processors with SSE4.2");
+    return false;
+#else
+    return true;
+#endif
+}
+
 PyMODINIT_FUNC PyInit__session(void) {
+    if (!has_processor()) return NULL;
     PyObject *module = PyModule_Create(&definition);
-    if (module && make_strings() && find_threading() && add_type(module, "Tag", &tag_spec, &tag_type) && add_type(module, "Var", &var_spec, NULL)
-        && add_type(module, "field", &field_spec, NULL) && add_type(module, "Block", &block_spec, &block_type)
+    if (module && make_strings() && find_threading() && add_type(module, "Tag", &tag_spec, &tag_type)
+        && add_type(module, "Var", &var_spec, NULL) && add_type(module, "field", &field_spec, NULL) && add_type(module, "Block", &block_spec, &block_type)
         && add_type(module, "Lock", &lock_spec, &lock_type) && add_type(module, "RLock", &rlock_spec, &rlock_type)) return module;
     Py_XDECREF(module);
     return NULL;

@@ -14,7 +14,7 @@ LOST = '''
         @velodrome.atomic
         def deposit(self, amount):
             before = self.balance
-            other.wait(1)
+            other.wait(30)
             self.balance = before + amount
 
     def two(deposit):
@@ -59,7 +59,8 @@ def test_an_alarm_fails_its_test(run, pytester):
         assert Account().balance == 0
     ''', '--velodrome')
     result.assert_outcomes(failed=1, passed=1)
-    result.stdout.fnmatch_lines(['*not atomic: Account.deposit (test_an_alarm_fails_its_test.py:*)', '*velodrome explain */.velodrome/*test_lost.vlog --names *'])
+    result.stdout.fnmatch_lines(['*not atomic: Account.deposit (test_an_alarm_fails_its_test.py:*)',
+                                 '*velodrome explain */.velodrome/*test_lost.vlog --names *'])
     result.stdout.no_fnmatch_line('*pytest_plugin.py*')
     kept = sorted(path.name for path in pathlib.Path(pytester.path, '.velodrome').iterdir())
     assert kept == [f'test_an_alarm_fails_its_test.py..test_lost.vlog{end}' for end in ('', '.names')]
@@ -111,15 +112,15 @@ def test_an_alarm_can_be_expected(run):
 
 
 def test_repeat_until_it_shows(run):
-    result = run(LOST.replace('other.wait(1)', 'pass') + '''
+    result = run(LOST.replace('other.wait(30)', 'other.wait(30) if len(times) == 5 else None') + '''
     times = []
     def test_lost():
         times.append(1)
-        two(Account().deposit)
+        two(Account().deposit) if len(times) == 5 else Account().deposit(1)
 
     def test_times():
-        assert len(times) > 1
-    ''', '--velodrome', '--velodrome-repeat', '1000', '--velodrome-noise', '2')
+        assert len(times) == 5
+    ''', '--velodrome', '--velodrome-repeat', '1000')
     result.assert_outcomes(failed=1, passed=1)
     result.stdout.fnmatch_lines(['FAILED *::test_lost*'])
 

@@ -440,7 +440,7 @@ class Host(Case):
             for _ in range(10):
                 child = os.fork()
                 if not child:
-                    signal.alarm(3)
+                    signal.alarm(30)
                     x.set(x.get() + 1)
                     fine = run.close().verdict == 'incomplete'
                     with velodrome.session() as own:
@@ -476,7 +476,7 @@ run = velodrome.session(noise=4)
 velodrome.Thread(target=work, daemon=True).start()
 while x.get() < 100: pass
 '''
-        self.assertEqual(subprocess.run([sys.executable, '-c', program], timeout=20).returncode, 0)
+        self.assertEqual(subprocess.run([sys.executable, '-c', program], timeout=120).returncode, 0)
 
     def test_signals(self):
         x, y = Var(0), Var(0)
@@ -527,10 +527,11 @@ while x.get() < 100: pass
         self.assertEqual(seen, [(int, type(None)), (int, int)])
 
     def test_noise_lets_others_run(self):
-        x, turns = Var(0), []
+        x, turns, together = Var(0), [], threading.Barrier(2)
 
         def work(name):
-            for _ in range(50):
+            together.wait()
+            for _ in range(200):
                 x.get()
                 turns.append(name)
 
@@ -538,8 +539,13 @@ while x.get() < 100: pass
             threads = [Thread(target=work, args=(n,)) for n in range(2)]
             collections.deque((t.start() for t in threads), 0)
             collections.deque((t.join() for t in threads), 0)
-        self.watch('clean', body, noise=1, seed=1)
-        self.assertGreater(sum(a != b for a, b in zip(turns, turns[1:])), 10)
+        interval = sys.getswitchinterval()
+        sys.setswitchinterval(100)  # so that only who waits gives the GIL up
+        try:
+            self.watch('clean', body, noise=1)
+        finally:
+            sys.setswitchinterval(interval)
+        self.assertGreater(sum(a != b for a, b in zip(turns, turns[1:])), 4)
 
     def test_from_a_thread_of_its_own(self):
         """A session that is dropped by another thread than its opener."""
@@ -631,7 +637,7 @@ class Types(Case):
                 done = threading.Event()
                 timer = threading.Timer(0.001, done.set)
                 timer.start()
-                self.assertTrue(done.wait(10))
+                self.assertTrue(done.wait(60))
                 timer.join()
         self.watch('clean', body)
         self.assertNotIn(threading.Thread, (Thread,))

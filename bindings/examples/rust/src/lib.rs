@@ -1,31 +1,31 @@
 //! A bank whose accounts threads share. One of its deposits is atomic.
 #[cfg(not(feature = "watch"))]
-use std::sync::Mutex;
+use std::sync::atomic::{AtomicU32, Ordering::SeqCst};
 #[cfg(feature = "watch")]
-use velodrome::sync::Mutex;
+use velodrome::sync::atomic::{AtomicU32, Ordering::SeqCst};
 
 /// An account.
 #[derive(Debug, Default)]
 pub struct Account {
-    balance: Mutex<u32>,
+    balance: AtomicU32,
 }
 
 impl Account {
     /// The balance.
     pub fn balance(&self) -> u32 {
-        *self.balance.lock().unwrap()
+        self.balance.load(SeqCst)
     }
 
-    /// A deposit in one hold of the lock.
+    /// A deposit by one access.
     #[cfg_attr(feature = "watch", velodrome::atomic)]
     pub fn deposit(&self, amount: u32) {
-        *self.balance.lock().unwrap() += amount;
+        self.balance.fetch_add(amount, SeqCst);
     }
 
-    /// A deposit in two: another one may come between them, and is lost then.
+    /// A deposit by two: another one may come between the read and the write, and is lost then.
     #[cfg_attr(feature = "watch", velodrome::atomic)]
     pub fn deposit_carelessly(&self, amount: u32) {
-        let before = self.balance();
-        *self.balance.lock().unwrap() = before + amount;
+        let before = self.balance.load(SeqCst);
+        self.balance.store(before + amount, SeqCst);
     }
 }

@@ -56,11 +56,12 @@ class Outcome:
         return self.verdict == 'clean'
 
 
-_VERDICTS: dict[int, Literal['clean', 'alarm']] = {0: 'clean', 3: 'alarm'}
+_Verdict = Literal['clean', 'alarm', 'incomplete']
+_VERDICTS: dict[int, _Verdict] = {0: 'clean', 3: 'alarm'}
 
 
 def _outcome(verdict: int, text: str) -> Outcome:
-    word = _VERDICTS.get(verdict, 'incomplete')
+    word: _Verdict = _VERDICTS.get(verdict, 'incomplete')
     return Outcome(word, text or ('it could not be watched' if word == 'incomplete' else ''))
 
 

@@ -5,7 +5,7 @@ import contextlib
 import functools
 import os
 import sys
-from typing import Any, Callable
+from typing import Any, Callable, Iterator
 
 import pytest
 
@@ -21,12 +21,15 @@ class Incomplete(pytest.PytestWarning):
 def pytest_addoption(parser: pytest.Parser) -> None:
     group = parser.getgroup('velodrome', 'atomic blocks (velodrome)')
     group.addoption('--velodrome', action='store_true', help='watch the atomic blocks of every test')
-    group.addoption('--velodrome-noise', type=int, metavar='N', help='one event in N waits, so that more schedules come about (else VELODROME_NOISE)')
+    group.addoption('--velodrome-noise', type=int, metavar='N',
+                    help='one event in N waits, so that more schedules come about (else VELODROME_NOISE)')
     group.addoption('--velodrome-repeat', type=int, metavar='N', help='run each watched test up to N times, until it fails', default=1)
     group.addoption('--velodrome-switch', type=float, metavar='SECONDS', help='switch threads so often (sys.setswitchinterval)')
     group.addoption('--velodrome-logs', metavar='FOLDER', help=f'folder for the logs of alarms (else {_LOGS}, else .velodrome)')
-    group.addoption('--velodrome-incomplete', choices=('warn', 'fail'), help=f'for a test that was not watched to its end (else {_INCOMPLETE}, else warn)')
-    parser.addini('velodrome_patch', 'watch threading.Lock, RLock and Thread and the tasks of asyncio in watched tests', type='bool', default=True)
+    group.addoption('--velodrome-incomplete', choices=('warn', 'fail'),
+                    help=f'for a test that was not watched to its end (else {_INCOMPLETE}, else warn)')
+    parser.addini('velodrome_patch', 'watch threading.Lock, RLock and Thread and the tasks of asyncio in watched tests', type='bool',
+                  default=True)
 
 
 def pytest_configure(config: pytest.Config) -> None:
@@ -79,7 +82,7 @@ def _run_once(item: pytest.Item, body: Callable[[], None], options: dict[str, An
 
 
 @contextlib.contextmanager
-def _switching(seconds: float | None) -> Any:
+def _switching(seconds: float | None) -> Iterator[None]:
     before = sys.getswitchinterval()
     sys.setswitchinterval(seconds or before)
     try:

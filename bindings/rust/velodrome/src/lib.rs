@@ -119,6 +119,8 @@ impl fmt::Display for Reason {
     }
 }
 
+impl std::error::Error for Reason {}
+
 impl Outcome {
     /// Whether it is [`Clean`](Outcome::Clean).
     #[must_use]
@@ -214,8 +216,8 @@ impl Builder {
         self
     }
 
-    /// Runs the body, and returns its value and what its blocks came to. It is watched with the threads that it starts, by
-    /// [`thread`] or otherwise, and apart from all that runs beside it. Where the body panics, so does this.
+    /// Runs the body, and returns its value and what its blocks came to. It is watched with the threads that it starts by
+    /// [`thread`], and apart from all that runs beside it. Where the body panics, so does this.
     pub fn run<T>(&self, body: impl FnOnce() -> T) -> (T, Outcome) {
         let session = Session::open(&self.options(sys::vs_options::DEFAULT), self.everywhere);
         let value = body();

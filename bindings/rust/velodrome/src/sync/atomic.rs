@@ -67,7 +67,13 @@ macro_rules! atomic {
             /// The value that it has, if that is another than `current`.
             #[track_caller]
             #[inline]
-            pub fn compare_exchange(&self, current: $value, new: $value, success: Ordering, failure: Ordering) -> Result<$value, $value> {
+            pub fn compare_exchange(
+                &self,
+                current: $value,
+                new: $value,
+                success: Ordering,
+                failure: Ordering,
+            ) -> Result<$value, $value> {
                 exchanged(&self.object, Location::caller(), || self.inner.compare_exchange(current, new, success, failure))
             }
 
@@ -78,7 +84,13 @@ macro_rules! atomic {
             /// The value that it has, if that is another than `current`, or by chance.
             #[track_caller]
             #[inline]
-            pub fn compare_exchange_weak(&self, current: $value, new: $value, success: Ordering, failure: Ordering) -> Result<$value, $value> {
+            pub fn compare_exchange_weak(
+                &self,
+                current: $value,
+                new: $value,
+                success: Ordering,
+                failure: Ordering,
+            ) -> Result<$value, $value> {
                 exchanged(&self.object, Location::caller(), || self.inner.compare_exchange_weak(current, new, success, failure))
             }
 
