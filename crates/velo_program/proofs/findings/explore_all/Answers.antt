@@ -22,11 +22,11 @@ returns-clause-told g c =
       stuck = c.in_ok-found.ensures.stuck;
       refused = c.in_ok-found.ensures.refused;
       open_alarm = subst (λ (n : ℕ). OnOpen search.alarm (IsLeftOpen c.args.workload.now c.args.config n options.first search.states Cycle))
-      c.from-most_states.ensures c.in_ok-found.ensures.open_alarm;
+          c.from-most_states.ensures c.in_ok-found.ensures.open_alarm;
       open_stuck = subst (λ (n : ℕ). OnOpen search.stuck (IsLeftOpen c.args.workload.now c.args.config n options.first search.states Stuck))
-      c.from-most_states.ensures c.in_ok-found.ensures.open_stuck;
+          c.from-most_states.ensures c.in_ok-found.ensures.open_stuck;
       open_refused = subst (λ (n : ℕ). OnOpenRefusal search.refused (IsLeftOpen c.args.workload.now c.args.config n options.first search.states Refusing))
-      c.from-most_states.ensures c.in_ok-found.ensures.open_refused;
+          c.from-most_states.ensures c.in_ok-found.ensures.open_refused;
     })
     c.in_ok-events.ensures.simple_alarm c.in_ok-events.ensures.simple_stuck c.in_ok-events.ensures.simple_refused
     (ap (λ (n : ℕ). how.All n simple.states) c.in_ok-events.ensures.events ∙ ap (λ (n : ℕ). how.All search.events n) c.in_ok-events.ensures.states)
