@@ -293,29 +293,24 @@ fn call<R: Wait>(rt: &R, shared: &Shared, seat: &mut Seat, action: Action) -> Ou
     Ok((reply.value, reply.alarmed))
 }
 
-/// How many other threads wait for what the caller has, and how many there are.
-fn count_waiting(room: &Room, caller: ThreadId) -> (u8, u8) {
-    let mut waiting: u8 = 0;
-    let mut others: u8 = 0;
+/// Whether all other threads wait for what the caller has, or none does.
+fn do_others(room: &Room, caller: ThreadId, wait: bool) -> bool {
     for thread in 0..room.bounds().threads {
-        if thread != caller.0 {
-            others += 1;
-            if comes_back(room, caller, Wanted::Thread(ThreadId(thread))) {
-                waiting += 1;
-            }
+        let waits = comes_back(room, caller, Wanted::Thread(ThreadId(thread)));
+        if thread != caller.0 && waits != wait {
+            return false;
         }
     }
-    (waiting, others)
+    true
 }
 
 /// Whether the thread may go on.
 fn may_go_on(room: &Room, own: ThreadId, step: Step) -> bool {
-    let (waiting, others) = count_waiting(room, own);
     match step {
         Step::Do(_, _) | Step::Halt => true,
         Step::At(events) => room.count_events() >= events,
-        Step::IsAwaited => waiting == others,
-        Step::IsNotAwaited => waiting == 0,
+        Step::IsAwaited => do_others(room, own, true),
+        Step::IsNotAwaited => do_others(room, own, false),
     }
 }
 
