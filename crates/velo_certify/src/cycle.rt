@@ -1,8 +1,7 @@
 //! A shortest cycle through the transaction of a position, and whether a list is one.
-ghost use Rattle.std.specs.Prelude.{◌≡◌, ◌-◌, ◌<◌, ◌↔◌, ◌++◌, ℕ, List, length, slice_index, IfOk, IfErr, OnErr, IsTrue};
+ghost use Rattle.std.specs.Prelude.{◌≡◌, ◌-◌, ◌<◌, ◌↔◌, ◌++◌, ℕ, List, length, slice_index, IfOk, IfErr, IsTrue};
 ghost use Rattle.velo_events.specs.Block.{is_begin_at, owner};
 ghost use Rattle.velo_events.specs.Certificate.{IsShortestCycleAt};
-ghost use Rattle.velo_events.specs.Refusals.{GrowthRefused};
 ghost use Rattle.velo_events.specs.Reordering.{IsSelfSerializable};
 ghost use Rattle.velo_events.specs.declared.event.Event.{Event};
 ghost use Rattle.velo_certify.specs.Owners.{AreOwners};
@@ -31,8 +30,7 @@ fn cycle_through(
 ) -> Result<Vec<usize>, Memory>
     requires nearer { AreNearer start reached.now.distance.items reached.now.next.items }
     requires second { 0 < slice_index reached.now.distance.items second }
-    ensures cycle { IfOk result (λ cycle. (trace : List Event) → AreDistances trace start reached.now.distance.items → AreTowards trace start reached.now.distance.items reached.now.next.items → IsNearest trace reached.now.distance.items start second → IsShortestFrom trace start cycle.items) }
-    ensures memory { OnErr result GrowthRefused }
+    ensures { IfOk result (λ cycle. (trace : List Event) → AreDistances trace start reached.now.distance.items → AreTowards trace start reached.now.distance.items reached.now.next.items → IsNearest trace reached.now.distance.items start second → IsShortestFrom trace start cycle.items) }
 {
     let mut cycle = Vec::new(alloc);
     reserve(&mut cycle, 1)?;
@@ -115,8 +113,7 @@ fn is_linked(events: &[Event], owners: &[usize], table: &mut Table, cycle: &[usi
 /// Whether the list is a cycle that begins with the transaction of the last of the events.
 fn is_last_cycle(alloc: Global, events: &[Event], cycle: &[usize]) -> Result<bool, Memory>
     requires { 0 < length events.now }
-    ensures cycle { IfOk result (λ yes. IsTrue yes ↔ IsCycleFrom events.now (owner events.now (length events.now - 1)) cycle.now) }
-    ensures memory { OnErr result GrowthRefused }
+    ensures { IfOk result (λ yes. IsTrue yes ↔ IsCycleFrom events.now (owner events.now (length events.now - 1)) cycle.now) }
 {
     if cycle.len() < 2 {
         return Ok(false);
@@ -140,8 +137,7 @@ pub fn check_cycle(
     position: usize,
     cycle: &[usize],
 ) -> Result<bool, Memory>
-    ensures shortest { IfOk result (λ yes. IsTrue yes ↔ IsShortestCycleAt trace.now.events position cycle.now) }
-    ensures memory { OnErr result GrowthRefused }
+    ensures { IfOk result (λ yes. IsTrue yes ↔ IsShortestCycleAt trace.now.events position cycle.now) }
 {
     let shortest = match cycle_of(alloc, trace, position) {
         Ok(shortest) => shortest.len(),

@@ -1,9 +1,8 @@
 //! The greedy serial order of a trace without a cycle.
-ghost use Rattle.std.specs.Prelude.{◌≡◌, ◌≤◌, ◌<◌, ◌+◌, ◌++◌, ℕ, List, length, IfOk, IfErr, OnOk, OnErr, IsTrue, IsFalse};
+ghost use Rattle.std.specs.Prelude.{◌≡◌, ◌≤◌, ◌<◌, ◌+◌, ◌++◌, ℕ, List, length, IfOk, IfErr, OnOk, IsTrue, IsFalse};
 ghost use Rattle.velo_events.specs.Block.{IsTransaction};
 ghost use Rattle.velo_events.specs.Certificate.{positions_of, IsSerialOrder};
 ghost use Rattle.velo_events.specs.Graph.{HasCycle};
-ghost use Rattle.velo_events.specs.Refusals.{GrowthRefused};
 ghost use Rattle.velo_events.specs.Reordering.{IsReordering, events_in_order};
 ghost use Rattle.velo_events.specs.WellFormed.{IsWellFormed};
 ghost use Rattle.velo_events.specs.declared.config.Bounds.{Bounds};
@@ -98,7 +97,6 @@ fn append_positions(
     requires transaction { IsTransaction events.now a }
     ensures ok { OnOk result (order.new.items ≡ order.old.items ++ positions_of events.now a) }
     ensures behind { IfOk result (IsBehind events.now a) }
-    ensures memory { OnErr result GrowthRefused }
 {
     let mut at = a;
     while at < events.len() && owner_of(events, owners, at) == a {

@@ -1,5 +1,4 @@
-ghost use Rattle.velo_events.specs.Refusals.{GrowthRefused};
-ghost use Rattle.std.specs.Prelude.{◌≡◌, ◌<◌, ◌≤◌, map, length, replicate, IfOk, OnErr, IsTrue, false, if◌then◌else◌};
+ghost use Rattle.std.specs.Prelude.{◌≡◌, ◌<◌, ◌≤◌, map, length, replicate, IfOk, IsTrue, false, if◌then◌else◌};
 ghost use Rattle.std.specs.FinSet as set;
 ghost use Rattle.velo_rows.specs.Meet.{Meet};
 ghost use Rattle.velo_graph.specs.Roots.{with_root, may_meet, IsBelow, MeetBelow};
@@ -17,7 +16,6 @@ use velo_rows::Ancestors;
 pub fn empty_rows<A: Ancestors>(alloc: Global, limit: u16) -> Result<Vec<A>, Memory>
     ensures members { IfOk result (λ rows. map A.members rows.items ≡ replicate limit set.empty) }
     ensures capacities { IfOk result (λ rows. map A.capacity rows.items ≡ replicate limit limit) }
-    ensures memory { OnErr result GrowthRefused }
 {
     let mut rows = with_capacity(alloc, limit as usize)?;
     for _slot in 0..limit {

@@ -1,5 +1,4 @@
-ghost use Rattle.velo_events.specs.Refusals.{GrowthRefused};
-ghost use Rattle.std.specs.Prelude.{◌≡◌, ◌<◌, ◌≤◌, [], ◌∷◌, ◌++◌, ◌↔◌, List, IsTrue, IfOk, option_map, length, slice_get, OnErr};
+ghost use Rattle.std.specs.Prelude.{◌≡◌, ◌<◌, ◌≤◌, [], ◌∷◌, ◌++◌, ◌↔◌, List, IsTrue, IfOk, option_map, length, slice_get};
 ghost use Rattle.velo_events.specs.declared.event.Event.{Event};
 ghost use Rattle.velo_events.specs.Heap.{value_in, holder_in, shares_in, status_in, depth_in};
 ghost use Rattle.velo_events.specs.declared.limits.TheConstants.{MOST_THREADS};
@@ -43,8 +42,7 @@ impl Model for Heap {
 /// # Errors
 /// `Memory` where a growth was refused.
 fn copied<T: Copy>(alloc: Global, items: &[T]) -> Result<Vec<T>, Memory>
-    ensures items { IfOk result (λ copy. copy.items ≡ items.now) }
-    ensures memory { OnErr result GrowthRefused }
+    ensures { IfOk result (λ copy. copy.items ≡ items.now) }
 {
     let mut copy = with_capacity(alloc, items.len())?;
     match copy.extend_from_slice(items) {
@@ -82,7 +80,6 @@ impl Heap {
     pub fn new(alloc: Global, config: &Config) -> Result<Heap, Memory>
         ensures bounds { IfOk result (λ h. bounds_of h ≡ config.now.bounds) }
         ensures start { IfOk result (λ h. IsHeapOf h []) }
-        ensures memory { OnErr result GrowthRefused }
     {
         let bounds = config.bounds;
         let values = filled(alloc, 0, usize::from(bounds.variables))?;
@@ -101,8 +98,7 @@ impl Heap {
     /// # Errors
     /// `Memory` where a growth was refused.
     pub fn copy(&self, alloc: Global) -> Result<Heap, Memory>
-        ensures same { IfOk result (λ h. h ≡ self.now) }
-        ensures memory { OnErr result GrowthRefused }
+        ensures { IfOk result (λ h. h ≡ self.now) }
     {
         let values = copied(alloc, &self.values)?;
         let locks = copied(alloc, &self.locks)?;

@@ -1,4 +1,3 @@
-ghost use Rattle.velo_events.specs.Refusals.{GrowthRefused};
 ghost use Rattle.std.specs.Prelude.{◌≡◌, ◌*◌, ◌≤◌, ◌<◌, ℕ, [], ◌∷◌, ◌++◌, List, length, IsTrue, IsFalse, IfOk, OnOk, OnErr, ◌↔◌, Some};
 ghost use Rattle.std.specs.Option.{ForSome, option_to_list};
 ghost use Rattle.velo_events.specs.declared.config.Bounds.{Bounds as BoundsOf};
@@ -86,7 +85,6 @@ impl Monitor {
     pub fn new(alloc: Global, config: &Config) -> Result<Monitor, Memory>
         ensures start { IfOk result (λ monitor. IsMonitorOf config.now.bounds monitor []) }
         ensures limit { IfOk result (λ monitor. limit_of monitor.nodes.slots ≡ config.now.nodes) }
-        ensures memory { OnErr result GrowthRefused }
     {
         let graph = Graph::new(alloc, config.nodes)?;
         let freed = Freed::new(alloc, config.nodes)?;
@@ -114,7 +112,6 @@ impl Monitor {
         ensures same { (bounds : BoundsOf) (trace : List EventOf) → IsMonitorOf bounds self.old trace → IsMonitorOf bounds self.new trace }
         ensures room { OnOk result ((bounds : BoundsOf) (trace : List EventOf) → IsMonitorOf bounds self.old trace → MayFollow bounds trace event.now → HasRoomFor self.new.kept event.now) }
         ensures full { OnErr result (¬ HasRoomFor self.old.kept event.now) }
-        ensures memory { OnErr result GrowthRefused }
     {
         self.tables.reserve_for(event)
     }

@@ -1,4 +1,3 @@
-ghost use Rattle.velo_events.specs.Refusals.{GrowthRefused};
 ghost use Rattle.std.specs.Prelude.{◌≡◌, List, ◌≤◌, ◌<◌, ◌↔◌, ◌∷◌, ◌++◌, [], ℕ, length, None, Some, IfOk, IfSome, IfNone, OnErr, IsTrue, slice_get, slice_set};
 ghost use Rattle.velo_events.specs.declared.event.Action.TheVariants.{Fork};
 ghost use Rattle.velo_events.specs.declared.limits.TheConstants.{MOST_EVENTS};
@@ -79,7 +78,6 @@ impl World {
     pub fn new(alloc: Global, config: Config) -> Result<(World, Share), Memory>
         ensures world { IfOk result (λ opened. opened.0 ≡ opening config) }
         ensures share { IfOk result (λ opened. opened.1 ≡ opening_share config.run 0) }
-        ensures memory { OnErr result GrowthRefused }
     {
         let (book, mut kept) = Book::open(alloc, config.run, config.bounds.threads)?;
         let Some(share) = kept.take(ThreadId(0)) else {
@@ -162,7 +160,6 @@ impl World {
         ensures outcomes { IfOk result (λ outcomes.
             RunsTo self.old shares.old steps.now outcomes.items self.new shares.new) }
         ensures count { IfOk result (λ outcomes. length outcomes.items ≡ length steps.now) }
-        ensures memory { OnErr result GrowthRefused }
         ensures world { OnErr result (self.new ≡ self.old) }
         ensures shares { OnErr result (shares.new ≡ shares.old) }
         ensures ready { HoldsLiveShares self.new shares.new }

@@ -46,7 +46,7 @@ loop-rest-preserved c =
     let read-more = line_right text c.in-Some.bytes.now line more o c.take.new.self n read c.next_phrase.ensures.lines fine kept in
     let here = subst (λ r. IsSketchedUpTo all-names (phrases text) (phrases_left (option_copied r)) n (sketches_of c.loop-rest.bodies)) c.in-Some.is c.loop-rest.invariant.sketched in
     let here-line = subst (λ ls. IsSketchedUpTo all-names (phrases text) (map phrase_of ls) n (sketches_of c.loop-rest.bodies)) c.next_phrase.ensures.lines here in
-    let new-is = c.in-Ok-take.ensures.sketches ∙ ap (λ p. with_phrase (names_in (known_of c.take.new.self)) (sketches_of c.loop-rest.bodies) p (n + 1)) c.next_phrase.ensures.phrase in
+    let new-is = c.in-Ok-take.ensures ∙ ap (λ p. with_phrase (names_in (known_of c.take.new.self)) (sketches_of c.loop-rest.bodies) p (n + 1)) c.next_phrase.ensures.phrase in
     record {
       read = read-more;
       sketched = sketched_more all-names (names_in (known_of c.take.new.self)) (phrases text) (phrases_left more) (phrase_of line) n (sketches_of c.loop-rest.bodies) (sketches_of c.take-in-Some.new.self) (longer_then text more c.take.new.self (n + 1) read-more) here-line new-is;
