@@ -1,8 +1,7 @@
 //! A shortest cycle through the transaction of a position, and whether a list is one.
-ghost use Rattle.std.specs.Prelude.{◌≡◌, ◌-◌, ◌<◌, ◌↔◌, ◌++◌, ℕ, List, length, slice_index, IfOk, IfErr, IsTrue};
-ghost use Rattle.velo_events.specs.Block.{is_begin_at, owner};
+ghost use Rattle.std.specs.Prelude.{◌≡◌, ◌-◌, ◌<◌, ◌↔◌, List, length, slice_index, IfOk, IfErr, IsTrue};
+ghost use Rattle.velo_events.specs.Block.{owner};
 ghost use Rattle.velo_events.specs.Certificate.{IsShortestCycleAt};
-ghost use Rattle.velo_events.specs.Reordering.{IsSelfSerializable};
 ghost use Rattle.velo_events.specs.declared.event.Event.{Event};
 ghost use Rattle.velo_certify.specs.Owners.{AreOwners};
 ghost use Rattle.velo_certify.specs.Table.{AllNameRows, sizes};
@@ -63,8 +62,6 @@ fn last_cycle(alloc: Global, events: &[Event]) -> Result<Vec<usize>, CertFault>
 /// A shortest cycle of the events up to the position that begins with the transaction of the position. Each transaction is
 /// named by its first position; of several shortest cycles the least list is given.
 ///
-/// A block that is not self-serializable in the trace stays so, whatever events follow.
-///
 /// Each event is passed a bounded number of times, however long the cycle is, and the transactions that are at one distance are
 /// sorted.
 ///
@@ -74,7 +71,6 @@ fn last_cycle(alloc: Global, events: &[Event]) -> Result<Vec<usize>, CertFault>
 pub fn cycle_of(alloc: Global, trace: &Trace, position: usize) -> Result<Vec<usize>, CertFault>
     ensures cycle { IfOk result (λ cycle. IsShortestCycleAt trace.now.events position cycle.items) }
     ensures fault { IfErr result (IsCycleFault trace.now.events position) }
-    ensures stays { (more : List Event) (b : ℕ) → IsTrue (is_begin_at trace.now.events b) → ¬ IsSelfSerializable trace.now.events b → ¬ IsSelfSerializable (trace.now.events ++ more) b }
 {
     let events = trace.as_slice();
     if position >= events.len() {
