@@ -15,7 +15,7 @@ ghost use Rattle.velo_ledger.specs.Shares.{AreInPlace, events_in_all, opening_sh
 ghost use Rattle.velo_arena.specs.Slots.{limit_of};
 ghost use Rattle.velo_arena.specs.Stamps.{stamps_in};
 ghost use Rattle.velo_monitor.specs.Watched.{IsMonitorOf};
-ghost use Rattle.velo_world.specs.World.{IsAlarm, IsWatchedPart, opening, halted_world, meaning, FitsLog, OthersStillFit, IsBookOf, IsLiveThread, HoldsLiveShares, CompletesShares, IsNoFork, Replies, Acts, Forks, Closes, StepsTo, RunsTo};
+ghost use Rattle.velo_world.specs.World.{IsAlarm, ForWatchedPart, opening, halted_world, meaning, FitsLog, OthersStillFit, IsBookOf, IsLiveThread, HoldsLiveShares, CompletesShares, IsNoFork, Replies, Acts, Forks, Closes, StepsTo, RunsTo};
 ghost use Rattle.velo_world.specs.Kept.{left_by, taken_by, with_share};
 
 use crate::analysis::{Alarm, Analysis, Reply};
@@ -241,9 +241,13 @@ impl World {
     /// The graph of the log's transactions; with an alarm, of those before it. A transaction that it gave up is on no cycle,
     /// however the run goes on.
     pub fn monitor(&self) -> &Monitor
-        ensures stands { (trace : List EventOf) → IsWatchedPart self.now.log trace → IsMonitorOf self.now.config.bounds result.now trace }
-        ensures accounted { (trace : List EventOf) → IsWatchedPart self.now.log trace → (a : ℕ) → IsTransaction trace a → IsAccountedFor trace (stamps_in result.now.nodes.slots) a }
-        ensures given_up { (trace : List EventOf) → IsWatchedPart self.now.log trace → (a : ℕ) → IsGivenUp trace (stamps_in result.now.nodes.slots) a → IsHarmless self.now.config.bounds trace a }
+        ensures stands { ForWatchedPart self.now.log (λ trace.
+            IsMonitorOf self.now.config.bounds result.now trace) }
+        ensures accounted { ForWatchedPart self.now.log (λ trace. (a : ℕ) → IsTransaction trace a →
+            IsAccountedFor trace (stamps_in result.now.nodes.slots) a) }
+        ensures given_up { ForWatchedPart self.now.log (λ trace. (a : ℕ) →
+            IsGivenUp trace (stamps_in result.now.nodes.slots) a →
+            IsHarmless self.now.config.bounds trace a) }
         ensures limit { limit_of result.now.nodes.slots ≡ self.now.config.nodes }
     {
         &self.logged.analysis.monitor
