@@ -25,7 +25,7 @@ pub fn empty_rows<A: Ancestors>(alloc: Global, limit: u16) -> Result<Vec<A>, Mem
     Ok(rows)
 }
 
-/// Takes more in where the slot is a member.
+/// Adds `more` to the row if the row contains `slot`.
 fn widen<A: Ancestors>(row: &mut A, slot: u16, more: &A)
     requires slot { slot < A.capacity row.old }
     requires more { A.capacity more.now ≡ A.capacity row.old }
@@ -37,7 +37,7 @@ fn widen<A: Ancestors>(row: &mut A, slot: u16, more: &A)
     }
 }
 
-/// Takes more in, in those of the first rows where the slot is a member.
+/// Adds `more` to each of the first `count` rows that contains `slot`.
 fn widen_first<A: Ancestors>(rows: &mut [A], count: u16, slot: u16, more: &A)
     requires count { count ≤ length rows.old }
     requires slot { slot < length rows.old }

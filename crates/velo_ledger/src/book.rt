@@ -125,7 +125,7 @@ impl Book {
         *row = tally;
     }
 
-    /// Lets a share of this run say what the row of its thread says. The thread has to be one of the book's.
+    /// Copies the row of the share's thread into the share, which has to be of this run and of a thread of the book.
     pub fn settle(&self, share: &mut Share)
         requires run { share.old.run ≡ self.now.run }
         requires thread { share.old.thread.0 < length self.now.rows }

@@ -115,7 +115,7 @@ fn clear(list: &mut [Option<u16>])
     }
 }
 
-/// Finds of each thread an unfinished node, if it has one.
+/// For each thread, its unfinished node, if any.
 fn find_going(graph: &Graph<BitRow>, events: &[Event], going: &mut [Option<u16>])
     requires threads { HaveThreads graph.now events.now (length going.old) }
     ensures going { AreGoing graph.now events.now going.new (limit_of graph.now.slots) }

@@ -6,7 +6,7 @@ ghost use Rattle.velo_workload.specs.Names.{names_of};
 ghost use Rattle.velo_workload.specs.Bodies.{AreBodies};
 ghost use Rattle.velo_workload.specs.Outline.{AreFew, Judges, names_in};
 ghost use Rattle.velo_workload.specs.Known.{known_of, kept_of, whole};
-ghost use Rattle.velo_workload.specs.Program.{Program, meaning_of, ParsesAs};
+ghost use Rattle.velo_workload.specs.Program.{Program, program_of, meaning_of, ParsesAs};
 ghost use Rattle.velo_workload.specs.Sketch.{sketches_of, drafted, unknown_in_sketches, bodies_completed};
 ghost use Rattle.velo_events.specs.declared.limits.TheConstants.{MOST_THREADS, MOST_LOCKS};
 ghost use Rattle.velo_workload.specs.declared.limits.TheConstants.{MOST_WORKLOAD_BYTES};
@@ -122,7 +122,7 @@ fn assemble(
     requires some_thread { 1 ≤ length (known_of outline.now).threads }
     requires each { length bodies.items ≡ length (known_of outline.now).threads }
     requires nested { AreBodies (map (λ body. body.items) bodies.items) }
-    ensures { IfOk result (λ w. w ≡ record { bounds = record { threads = length (known_of outline.now).threads; variables = length (known_of outline.now).variables; locks = length (known_of outline.now).locks }; thread_names = (known_of outline.now).threads; variable_names = (known_of outline.now).variables; lock_names = (known_of outline.now).locks; label_names = (known_of outline.now).labels; bodies = map (λ body. body.items) bodies.items }) }
+    ensures { IfOk result (λ w. w ≡ program_of (names_in (known_of outline.now)) (map (λ body. body.items) bodies.items)) }
 {
     let threads = copies(alloc, outline.threads.as_slice())?;
     let variables = copies(alloc, outline.variables.as_slice())?;
