@@ -3,6 +3,8 @@
 
 mod renewal;
 mod stages;
+#[cfg(test)]
+mod tests;
 
 pub use renewal::{NotRenewed, renew};
 pub use stages::prologue;

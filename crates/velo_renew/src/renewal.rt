@@ -1,20 +1,15 @@
 //! A world that stands for all that another one's log left.
-ghost use Rattle.std.specs.Prelude.{◌≡◌, ◌<◌, ℕ, List, false, IfOk, IfErr, IfSome, IfNone};
-ghost use Rattle.velo_events.specs.declared.event.Event.{Event as EventOf};
+ghost use Rattle.std.specs.Prelude.{◌≡◌, ◌↔◌, false, IfOk, IfErr, IfSome, IfNone, IsTrue};
 ghost use Rattle.velo_events.specs.Graph.{HasCycle};
-ghost use Rattle.velo_events.specs.Heap.{depth_in};
-ghost use Rattle.velo_events.specs.WellFormed.{IsWellFormed};
-ghost use Rattle.velo_heap.specs.Contents.{bounds_of, IsHeapOf};
+ghost use Rattle.velo_heap.specs.Contents.{bounds_of, ForItsTraces};
 ghost use Rattle.velo_laws.specs.Cut.{NoBlockOpen};
-ghost use Rattle.velo_laws.specs.Restart.{IsPrologueOf, GoesOnAfresh};
 ghost use Rattle.velo_world.specs.World.{CompletesShares, HoldsLiveShares};
-ghost use Rattle.velo_world.specs.Faults.{IsFaultOfLog};
 ghost use Rattle.velo_renew.specs.Renewal.{IsFirstOpen, IsReasonAgainst, Renews};
 
 use crate::stages::prologue;
 use std::alloc::Global;
 use thiserror::Error;
-use velo_events::{Bounds, ThreadId};
+use velo_events::{Bounds, Memory, ThreadId};
 use velo_heap::Heap;
 use velo_ledger::Shares;
 use velo_world::{LogReplayFault, World};
@@ -52,7 +47,7 @@ pub fn renew(alloc: Global, world: &World) -> Result<(World, Shares), NotRenewed
     ensures complete { IfOk result (λ renewed. CompletesShares renewed.0 renewed.1) }
     ensures reason { IfErr result (IsReasonAgainst world.now) }
 {
-    if world.alarm().is_some() {
+    if has_alarm(world) {
         return Err(NotRenewed::Alarm);
     }
     let bounds = world.bounds();
@@ -60,22 +55,33 @@ pub fn renew(alloc: Global, world: &World) -> Result<(World, Shares), NotRenewed
     if let Some(thread) = first_open(bounds, heap) {
         return Err(NotRenewed::BlockOpen(thread));
     }
-    let Ok(made) = prologue(alloc, bounds, heap) else {
-        return Err(NotRenewed::Memory);
+    let made = match prologue(alloc, bounds, heap) {
+        Ok(made) => made,
+        Err(Memory) => return Err(NotRenewed::Memory),
     };
     match World::from_log(alloc, world.config(), made) {
         Ok(renewed) => Ok(renewed),
+        Err(LogReplayFault::Refused { .. }) => Err(NotRenewed::LogFull),
+        Err(LogReplayFault::WrongValue { .. }) => unreachable!(),
         Err(LogReplayFault::Memory) => Err(NotRenewed::Memory),
-        Err(_) => Err(NotRenewed::LogFull),
+    }
+}
+
+/// Whether an alarm is kept.
+fn has_alarm(world: &World) -> bool
+    ensures { IsTrue result ↔ HasCycle world.now.log }
+{
+    match world.alarm() {
+        Some(_) => true,
+        None => false,
     }
 }
 
 /// The first thread that has a block open.
 fn first_open(bounds: Bounds, heap: &Heap) -> Option<ThreadId>
     requires { bounds_of heap.now ≡ bounds }
-    ensures none { IfNone result ((log : List EventOf) → IsHeapOf heap.now log → NoBlockOpen log) }
-    ensures some { IfSome result (λ thread. (log : List EventOf) → IsHeapOf heap.now log
-        → IsFirstOpen log thread) }
+    ensures none { IfNone result (ForItsTraces heap.now NoBlockOpen) }
+    ensures some { IfSome result (λ thread. ForItsTraces heap.now (λ log. IsFirstOpen log thread)) }
 {
     for thread in 0..bounds.threads {
         if heap.depth(ThreadId(thread)) != 0 {

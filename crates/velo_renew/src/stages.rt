@@ -1,8 +1,6 @@
 //! A log that leaves what a heap has.
-ghost use Rattle.std.specs.Prelude.{◌≡◌, ◌+◌, ◌<◌, [], List, IfOk, OnOk, OnErr};
-ghost use Rattle.velo_events.specs.declared.event.Event.{Event as EventOf};
-ghost use Rattle.velo_events.specs.Refusals.{GrowthRefused};
-ghost use Rattle.velo_heap.specs.Contents.{bounds_of, IsHeapOf};
+ghost use Rattle.std.specs.Prelude.{◌≡◌, ◌+◌, ◌<◌, [], IfOk, OnOk};
+ghost use Rattle.velo_heap.specs.Contents.{bounds_of, ForItsTraces};
 ghost use Rattle.velo_laws.specs.Restart.{IsPrologueOf};
 ghost use Rattle.velo_renew.specs.Stages.{is_there, is_exited, HasForked, HasWritten, HasAcquired, HasShared, HasExited};
 
@@ -19,10 +17,9 @@ use velo_traces::Trace;
 /// # Errors
 /// `Memory` where a growth was refused.
 pub fn prologue(alloc: Global, bounds: Bounds, heap: &Heap) -> Result<Trace, Memory>
-    requires bounds { bounds_of heap.now ≡ bounds }
-    ensures stands { IfOk result (λ made. (log : List EventOf) → IsHeapOf heap.now log
-        → IsPrologueOf bounds log made.events) }
-    ensures memory { OnErr result GrowthRefused }
+    requires { bounds_of heap.now ≡ bounds }
+    ensures { IfOk result (λ made. ForItsTraces heap.now (λ log.
+        IsPrologueOf bounds log made.events)) }
 {
     let mut made = Trace::new(alloc);
     fork_threads(&mut made, bounds, heap)?;
@@ -51,9 +48,8 @@ fn is_exited(status: Status) -> bool
 fn fork_threads(made: &mut Trace, bounds: Bounds, heap: &Heap) -> Result<(), Memory>
     requires bounds { bounds_of heap.now ≡ bounds }
     requires nothing { made.old.events ≡ [] }
-    ensures ok { OnOk result ((log : List EventOf) → IsHeapOf heap.now log
-        → HasForked bounds log made.new.events bounds.threads) }
-    ensures memory { OnErr result GrowthRefused }
+    ensures { OnOk result (ForItsTraces heap.now (λ log.
+        HasForked bounds log made.new.events bounds.threads)) }
 {
     for thread in 0..bounds.threads {
         fork_thread(made, bounds, heap, ThreadId(thread))?;
@@ -70,10 +66,9 @@ fn fork_thread(
 ) -> Result<(), Memory>
     requires bounds { bounds_of heap.now ≡ bounds }
     requires within { thread.0 < bounds.threads }
-    ensures ok { OnOk result ((log : List EventOf) → IsHeapOf heap.now log
-        → HasForked bounds log made.old.events thread.0
-        → HasForked bounds log made.new.events (thread.0 + 1)) }
-    ensures memory { OnErr result GrowthRefused }
+    ensures { OnOk result (ForItsTraces heap.now (λ log.
+        HasForked bounds log made.old.events thread.0
+        → HasForked bounds log made.new.events (thread.0 + 1))) }
 {
     if thread.0 == 0 {
         return Ok(());
@@ -89,11 +84,10 @@ fn fork_thread(
 
 /// Writes the variables' values.
 fn write_values(made: &mut Trace, bounds: Bounds, heap: &Heap) -> Result<(), Memory>
-    requires bounds { bounds_of heap.now ≡ bounds }
-    ensures ok { OnOk result ((log : List EventOf) → IsHeapOf heap.now log
-        → HasForked bounds log made.old.events bounds.threads
-        → HasWritten bounds log made.new.events bounds.variables) }
-    ensures memory { OnErr result GrowthRefused }
+    requires { bounds_of heap.now ≡ bounds }
+    ensures { OnOk result (ForItsTraces heap.now (λ log.
+        HasForked bounds log made.old.events bounds.threads
+        → HasWritten bounds log made.new.events bounds.variables)) }
 {
     for variable in 0..bounds.variables {
         write_value(made, bounds, heap, VarId(variable))?;
@@ -102,18 +96,12 @@ fn write_values(made: &mut Trace, bounds: Bounds, heap: &Heap) -> Result<(), Mem
 }
 
 /// Writes the variable's value, if it is not 0.
-fn write_value(
-    made: &mut Trace,
-    bounds: Bounds,
-    heap: &Heap,
-    variable: VarId,
-) -> Result<(), Memory>
+fn write_value(made: &mut Trace, bounds: Bounds, heap: &Heap, variable: VarId) -> Result<(), Memory>
     requires bounds { bounds_of heap.now ≡ bounds }
     requires within { variable.0 < bounds.variables }
-    ensures ok { OnOk result ((log : List EventOf) → IsHeapOf heap.now log
-        → HasWritten bounds log made.old.events variable.0
-        → HasWritten bounds log made.new.events (variable.0 + 1)) }
-    ensures memory { OnErr result GrowthRefused }
+    ensures { OnOk result (ForItsTraces heap.now (λ log.
+        HasWritten bounds log made.old.events variable.0
+        → HasWritten bounds log made.new.events (variable.0 + 1))) }
 {
     let value = heap.value(variable);
     if value == 0 {
@@ -127,11 +115,10 @@ fn write_value(
 
 /// Acquires the locks that are held alone.
 fn acquire_locks(made: &mut Trace, bounds: Bounds, heap: &Heap) -> Result<(), Memory>
-    requires bounds { bounds_of heap.now ≡ bounds }
-    ensures ok { OnOk result ((log : List EventOf) → IsHeapOf heap.now log
-        → HasWritten bounds log made.old.events bounds.variables
-        → HasAcquired bounds log made.new.events bounds.locks) }
-    ensures memory { OnErr result GrowthRefused }
+    requires { bounds_of heap.now ≡ bounds }
+    ensures { OnOk result (ForItsTraces heap.now (λ log.
+        HasWritten bounds log made.old.events bounds.variables
+        → HasAcquired bounds log made.new.events bounds.locks)) }
 {
     for lock in 0..bounds.locks {
         acquire_lock(made, bounds, heap, LockId(lock))?;
@@ -140,18 +127,12 @@ fn acquire_locks(made: &mut Trace, bounds: Bounds, heap: &Heap) -> Result<(), Me
 }
 
 /// Acquires the lock, if it is held alone.
-fn acquire_lock(
-    made: &mut Trace,
-    bounds: Bounds,
-    heap: &Heap,
-    lock: LockId,
-) -> Result<(), Memory>
+fn acquire_lock(made: &mut Trace, bounds: Bounds, heap: &Heap, lock: LockId) -> Result<(), Memory>
     requires bounds { bounds_of heap.now ≡ bounds }
     requires within { lock.0 < bounds.locks }
-    ensures ok { OnOk result ((log : List EventOf) → IsHeapOf heap.now log
-        → HasAcquired bounds log made.old.events lock.0
-        → HasAcquired bounds log made.new.events (lock.0 + 1)) }
-    ensures memory { OnErr result GrowthRefused }
+    ensures { OnOk result (ForItsTraces heap.now (λ log.
+        HasAcquired bounds log made.old.events lock.0
+        → HasAcquired bounds log made.new.events (lock.0 + 1))) }
 {
     let Some(thread) = heap.holder(lock) else {
         return Ok(());
@@ -164,11 +145,10 @@ fn acquire_lock(
 
 /// Acquires the locks that are shared, for each of their sharers.
 fn share_locks(made: &mut Trace, bounds: Bounds, heap: &Heap) -> Result<(), Memory>
-    requires bounds { bounds_of heap.now ≡ bounds }
-    ensures ok { OnOk result ((log : List EventOf) → IsHeapOf heap.now log
-        → HasAcquired bounds log made.old.events bounds.locks
-        → HasShared bounds log made.new.events bounds.locks 0) }
-    ensures memory { OnErr result GrowthRefused }
+    requires { bounds_of heap.now ≡ bounds }
+    ensures { OnOk result (ForItsTraces heap.now (λ log.
+        HasAcquired bounds log made.old.events bounds.locks
+        → HasShared bounds log made.new.events bounds.locks 0)) }
 {
     for lock in 0..bounds.locks {
         share_lock(made, bounds, heap, LockId(lock))?;
@@ -180,10 +160,9 @@ fn share_locks(made: &mut Trace, bounds: Bounds, heap: &Heap) -> Result<(), Memo
 fn share_lock(made: &mut Trace, bounds: Bounds, heap: &Heap, lock: LockId) -> Result<(), Memory>
     requires bounds { bounds_of heap.now ≡ bounds }
     requires within { lock.0 < bounds.locks }
-    ensures ok { OnOk result ((log : List EventOf) → IsHeapOf heap.now log
-        → HasShared bounds log made.old.events lock.0 0
-        → HasShared bounds log made.new.events (lock.0 + 1) 0) }
-    ensures memory { OnErr result GrowthRefused }
+    ensures { OnOk result (ForItsTraces heap.now (λ log.
+        HasShared bounds log made.old.events lock.0 0
+        → HasShared bounds log made.new.events (lock.0 + 1) 0)) }
 {
     for thread in 0..bounds.threads {
         share_with(made, bounds, heap, lock, ThreadId(thread))?;
@@ -202,10 +181,9 @@ fn share_with(
     requires bounds { bounds_of heap.now ≡ bounds }
     requires known { lock.0 < bounds.locks }
     requires within { thread.0 < bounds.threads }
-    ensures ok { OnOk result ((log : List EventOf) → IsHeapOf heap.now log
-        → HasShared bounds log made.old.events lock.0 thread.0
-        → HasShared bounds log made.new.events lock.0 (thread.0 + 1)) }
-    ensures memory { OnErr result GrowthRefused }
+    ensures { OnOk result (ForItsTraces heap.now (λ log.
+        HasShared bounds log made.old.events lock.0 thread.0
+        → HasShared bounds log made.new.events lock.0 (thread.0 + 1))) }
 {
     if !heap.shares(lock, thread) {
         return Ok(());
@@ -218,11 +196,10 @@ fn share_with(
 
 /// Lets the threads exit that have exited and were not joined.
 fn exit_threads(made: &mut Trace, bounds: Bounds, heap: &Heap) -> Result<(), Memory>
-    requires bounds { bounds_of heap.now ≡ bounds }
-    ensures ok { OnOk result ((log : List EventOf) → IsHeapOf heap.now log
-        → HasShared bounds log made.old.events bounds.locks 0
-        → HasExited bounds log made.new.events bounds.threads) }
-    ensures memory { OnErr result GrowthRefused }
+    requires { bounds_of heap.now ≡ bounds }
+    ensures { OnOk result (ForItsTraces heap.now (λ log.
+        HasShared bounds log made.old.events bounds.locks 0
+        → HasExited bounds log made.new.events bounds.threads)) }
 {
     for thread in 0..bounds.threads {
         exit_thread(made, bounds, heap, ThreadId(thread))?;
@@ -239,10 +216,9 @@ fn exit_thread(
 ) -> Result<(), Memory>
     requires bounds { bounds_of heap.now ≡ bounds }
     requires within { thread.0 < bounds.threads }
-    ensures ok { OnOk result ((log : List EventOf) → IsHeapOf heap.now log
-        → HasExited bounds log made.old.events thread.0
-        → HasExited bounds log made.new.events (thread.0 + 1)) }
-    ensures memory { OnErr result GrowthRefused }
+    ensures { OnOk result (ForItsTraces heap.now (λ log.
+        HasExited bounds log made.old.events thread.0
+        → HasExited bounds log made.new.events (thread.0 + 1))) }
 {
     if !is_exited(heap.status(thread)) {
         return Ok(());

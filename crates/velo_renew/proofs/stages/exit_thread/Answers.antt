@@ -7,14 +7,14 @@ use Rattle.velo_renew.specs.Stages.{is_exited, HasExited}
 use Rattle.velo_renew.proofs.OnPrologues.{exits-is, exited-none, exited-one}
 use Rattle.velo_renew.proofs.stages.exit_thread.Goals as goal
 
-pub returns-then-not-is_exited-clause-ok : goal.returns-then-not-is_exited-clause-ok
-returns-then-not-is_exited-clause-ok c = λ log stands at.
+pub returns-then-not-is_exited : goal.returns-then-not-is_exited
+returns-then-not-is_exited c = λ log stands at.
     let well = subst (λ (b : Bounds). IsWellFormed b log) c.requires.bounds stands.well_formed in
     let stays : is_exited c.status.result ≡ false = cc in
     exited-none c.args.bounds log well c.args.made.now.events c.args.thread.0 (exits-is c.args.bounds log well c.args.thread.0 ∙ (ap is_exited (sym (c.status.ensures log stands)) ∙ stays)) at
 
-pub returns-clause-ok : goal.returns-clause-ok
-returns-clause-ok c = OnOk-weaker c.push.result _ _ c.push.ensures.ok (λ pushed log stands at.
+pub returns : goal.returns
+returns c = OnOk-weaker c.push.result _ _ c.push.ensures.ok (λ pushed log stands at.
     let well = subst (λ (b : Bounds). IsWellFormed b log) c.requires.bounds stands.well_formed in
     let gone : is_exited c.status.result ≡ true = cc in
     subst (λ (l : List Event). HasExited c.args.bounds log l (c.args.thread.0 + 1)) (sym pushed)

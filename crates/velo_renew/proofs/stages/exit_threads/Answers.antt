@@ -7,14 +7,16 @@ use Rattle.velo_renew.proofs.OnPrologues.{exited-start}
 use Rattle.velo_renew.proofs.stages.exit_threads.Goals as goal
 
 pub loop-thread-init : goal.loop-thread-init
-loop-thread-init c = record { so_far = λ log stands start.
-    let well = subst (λ (b : Bounds). IsWellFormed b log) c.requires.bounds stands.well_formed in
-    exited-start c.args.bounds log well c.args.made.now.events start }
+loop-thread-init c = record {
+  so_far = λ log stands start.
+      let well = subst (λ (b : Bounds). IsWellFormed b log) c.requires stands.well_formed in
+      exited-start c.args.bounds log well c.args.made.now.events start;
+}
 
 pub loop-thread-preserved : goal.loop-thread-preserved
-loop-thread-preserved c = record { so_far = λ log stands start. c.in_ok-exit_thread.ensures.ok log stands (c.loop-thread.invariant.so_far log stands start) }
+loop-thread-preserved c = record { so_far = λ log stands start. c.in_ok-exit_thread.ensures log stands (c.loop-thread.invariant.so_far log stands start) }
 
-pub returns-clause-ok : goal.returns-clause-ok
-returns-clause-ok c = λ log stands start.
+pub returns : goal.returns
+returns c = λ log stands start.
     let at : c.loop-thread.thread ≡ c.args.bounds.threads = omega (arith, c.loop-thread.auto.thread-end, c.loop-thread-test.false) in
     subst (λ (n : ℕ). HasExited c.args.bounds log c.loop-thread.made.events n) at (c.loop-thread.invariant.so_far log stands start)

@@ -7,15 +7,17 @@ use Rattle.velo_renew.proofs.OnPrologues.{shared-next}
 use Rattle.velo_renew.proofs.stages.share_lock.Goals as goal
 
 pub loop-thread-init : goal.loop-thread-init
-loop-thread-init c = record { so_far = λ log stands start.
-    let well = subst (λ (b : Bounds). IsWellFormed b log) c.requires.bounds stands.well_formed in
-    start }
+loop-thread-init c = record {
+  so_far = λ log stands start.
+      let well = subst (λ (b : Bounds). IsWellFormed b log) c.requires.bounds stands.well_formed in
+      start;
+}
 
 pub loop-thread-preserved : goal.loop-thread-preserved
-loop-thread-preserved c = record { so_far = λ log stands start. c.in_ok-share_with.ensures.ok log stands (c.loop-thread.invariant.so_far log stands start) }
+loop-thread-preserved c = record { so_far = λ log stands start. c.in_ok-share_with.ensures log stands (c.loop-thread.invariant.so_far log stands start) }
 
-pub returns-clause-ok : goal.returns-clause-ok
-returns-clause-ok c = λ log stands start.
+pub returns : goal.returns
+returns c = λ log stands start.
     let at : c.loop-thread.thread ≡ c.args.bounds.threads = omega (arith, c.loop-thread.auto.thread-end, c.loop-thread-test.false) in
     let well = subst (λ (b : Bounds). IsWellFormed b log) c.requires.bounds stands.well_formed in
     shared-next c.args.bounds log well c.loop-thread.made.events c.args.lock.0 (subst (λ (n : ℕ). HasShared c.args.bounds log c.loop-thread.made.events c.args.lock.0 n) at (c.loop-thread.invariant.so_far log stands start))
