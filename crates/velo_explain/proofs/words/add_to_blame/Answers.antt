@@ -3,4 +3,4 @@ use Rattle.velo_explain.proofs.words.add_to_blame.Goals as goal
 
 pub returns-clause-ok : goal.returns-clause-ok
 unfolding to_blame_text
-returns-clause-ok c = rw c.from.ensures at c.in_ok-add.ensures.ok
+returns-clause-ok c = rw c.from.ensures at c.add.ensures.ok
