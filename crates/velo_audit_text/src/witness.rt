@@ -1,7 +1,6 @@
 //! The witness of a round, in words.
-ghost use Rattle.std.specs.Prelude.{◌≡◌, ◌≤◌, ◌<◌, ◌++◌, length, OnOk, OnErr};
+ghost use Rattle.std.specs.Prelude.{◌≡◌, ◌≤◌, ◌<◌, ◌++◌, length, OnOk};
 ghost use Rattle.std.specs.List.{flat_map};
-ghost use Rattle.velo_events.specs.Refusals.{GrowthRefused};
 ghost use Rattle.velo_events.specs.declared.limits.TheConstants.{MOST_EVENTS};
 ghost use Rattle.velo_explain.specs.Evidence.{AreEdgesWithin, IsWithin};
 ghost use Rattle.velo_explain.specs.Text.{line_of, numbered, next_number};
@@ -26,8 +25,7 @@ fn add_closing(
 ) -> Result<(), Memory>
     requires within { position < length events.now }
     requires few { length events.now ≤ MOST_EVENTS }
-    ensures ok { OnOk result (page.new ≡ page.old ++ closing_text names.now events.now position count) }
-    ensures memory { OnErr result GrowthRefused }
+    ensures { OnOk result (page.new ≡ page.old ++ closing_text names.now events.now position count) }
 {
     page.add(&[Piece::Text("  ")])?;
     add_heading(page, names, events, position, count)
@@ -36,8 +34,7 @@ fn add_closing(
 /// Adds a block around an event.
 #[tactic(auto, unfolding(crate::specs::Witness::in_block_text))]
 fn add_in_block(page: &mut Page, names: &Names, block: Block) -> Result<(), Memory>
-    ensures ok { OnOk result (page.new ≡ page.old ++ in_block_text names.now block) }
-    ensures memory { OnErr result GrowthRefused }
+    ensures { OnOk result (page.new ≡ page.old ++ in_block_text names.now block) }
 {
     page.add(&[
         Piece::Text("      in block "),
@@ -49,8 +46,7 @@ fn add_in_block(page: &mut Page, names: &Names, block: Block) -> Result<(), Memo
 
 /// Adds blocks around an event.
 fn add_in_blocks(page: &mut Page, names: &Names, blocks: &[Block]) -> Result<(), Memory>
-    ensures ok { OnOk result (page.new ≡ page.old ++ flat_map (in_block_text names.now) blocks.now) }
-    ensures memory { OnErr result GrowthRefused }
+    ensures { OnOk result (page.new ≡ page.old ++ flat_map (in_block_text names.now) blocks.now) }
 {
     for block in blocks {
         add_in_block(page, names, *block)?;
@@ -68,8 +64,7 @@ fn add_stack(
 ) -> Result<(), Memory>
     requires within { position < length events.now }
     requires open { FewAreOpen events.now }
-    ensures ok { OnOk result (page.new ≡ page.old ++ flat_map (in_block_text names.now) (stack_at events.now position)) }
-    ensures memory { OnErr result GrowthRefused }
+    ensures { OnOk result (page.new ≡ page.old ++ flat_map (in_block_text names.now) (stack_at events.now position)) }
 {
     let blocks = open_blocks_in(&events[..position], events[position].thread, alloc);
     add_in_blocks(page, names, blocks.as_slice())
@@ -85,8 +80,7 @@ fn add_event_line(
 ) -> Result<(), Memory>
     requires within { position < length events.now }
     requires few { length events.now ≤ MOST_EVENTS }
-    ensures ok { OnOk result (page.new ≡ page.old ++ event_line_text names.now events.now position) }
-    ensures memory { OnErr result GrowthRefused }
+    ensures { OnOk result (page.new ≡ page.old ++ event_line_text names.now events.now position) }
 {
     page.add(&[
         Piece::Text("    line "),
@@ -110,8 +104,7 @@ fn add_event(
     requires within { position < length events.now }
     requires few { length events.now ≤ MOST_EVENTS }
     requires open { FewAreOpen events.now }
-    ensures ok { OnOk result (page.new ≡ page.old ++ event_in_blocks_text names.now events.now position) }
-    ensures memory { OnErr result GrowthRefused }
+    ensures { OnOk result (page.new ≡ page.old ++ event_in_blocks_text names.now events.now position) }
 {
     add_event_line(page, names, events, position)?;
     add_stack(page, names, alloc, events, position)
@@ -121,8 +114,7 @@ fn add_event(
 #[tactic(auto, unfolding(crate::specs::Witness::order_text))]
 fn add_order(page: &mut Page, count: usize, k: usize) -> Result<(), Memory>
     requires place { k < count }
-    ensures ok { OnOk result (page.new ≡ page.old ++ order_text count k) }
-    ensures memory { OnErr result GrowthRefused }
+    ensures { OnOk result (page.new ≡ page.old ++ order_text count k) }
 {
     page.add(&[
         Piece::Text("  T"),
@@ -148,8 +140,7 @@ fn add_edge(
     requires few { length events.now ≤ MOST_EVENTS }
     requires open { FewAreOpen events.now }
     requires place { k < count }
-    ensures ok { OnOk result (page.new ≡ page.old ++ edge_text names.now events.now count k edge) }
-    ensures memory { OnErr result GrowthRefused }
+    ensures { OnOk result (page.new ≡ page.old ++ edge_text names.now events.now count k edge) }
 {
     add_order(page, count, k)?;
     add_event(page, names, alloc, events, edge.from)?;
@@ -167,8 +158,7 @@ fn add_edges(
     requires within { AreEdgesWithin (length events.now) edges.now }
     requires few { length events.now ≤ MOST_EVENTS }
     requires open { FewAreOpen events.now }
-    ensures ok { OnOk result (page.new ≡ page.old ++ numbered (edge_text names.now events.now (length edges.now)) 0 edges.now) }
-    ensures memory { OnErr result GrowthRefused }
+    ensures { OnOk result (page.new ≡ page.old ++ numbered (edge_text names.now events.now (length edges.now)) 0 edges.now) }
 {
     for k in 0..edges.len() {
         add_edge(page, names, alloc, events, edges.len(), k, edges[k])?;
@@ -188,8 +178,7 @@ pub(crate) fn add_witness(
     requires within { IsWithin (length events.now) position evidence.now }
     requires few { length events.now ≤ MOST_EVENTS }
     requires open { FewAreOpen events.now }
-    ensures ok { OnOk result (page.new ≡ page.old ++ witness_text names.now events.now position evidence.now) }
-    ensures memory { OnErr result GrowthRefused }
+    ensures { OnOk result (page.new ≡ page.old ++ witness_text names.now events.now position evidence.now) }
 {
     add_closing(page, names, events, position, evidence.spans.len())?;
     add_members(page, names, events, &evidence.spans)?;
