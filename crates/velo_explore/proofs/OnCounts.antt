@@ -1,5 +1,5 @@
 -- How many states a level may have, by those looked at before it.
-use Rattle.std.proofs.Common.{◌≡◌, ℕ, zero, suc, ◌+◌, ◌*◌, ◌≤◌, ap, arith}
+use Rattle.std.proofs.Common.{◌≡◌, ℕ, zero, suc, ◌+◌, ◌*◌, ◌≤◌, ap, subst, arith}
 use Rattle.std.proofs.Math.Nat.{mul-le-mul_right, suc-mul, zero-mul}
 use Rattle.velo_explore.specs.Search.{ways}
 
@@ -19,6 +19,9 @@ pub few-level : (states looked threads after : ℕ) → states + looked ≤ stat
 few-level states looked threads after before few = omega (arith, before, few, times-sum states looked threads)
 
 -- and one event more in a run
-pub ways-level : (states looked threads levels : ℕ) → states + looked ≤ states * threads + 1 → states ≤ ways threads levels → states + looked ≤ ways threads (suc levels)
+pub ways-level : (states looked threads levels : ℕ) → states + looked ≤ states * threads + 1 → states ≤ ways threads levels → states + looked ≤ ways threads (levels + 1)
 unfolding ways
-ways-level states looked threads levels before few = omega (arith, before, mul-le-mul_right threads few)
+ways-level states looked threads levels before few =
+    let next : suc levels ≡ levels + 1 = omega arith in
+    let more : states + looked ≤ ways threads (suc levels) = omega (arith, before, mul-le-mul_right threads few) in
+    subst (λ n. states + looked ≤ ways threads n) next more

@@ -1,7 +1,7 @@
 -- Ways stay where more events come behind them, and lead to one list of turns.
 use Rattle.std.proofs.Common.{◌≡◌, ℕ, ◌+◌, ◌<◌, ◌≤◌, List, [], ◌∷◌, ◌++◌, take, append_assoc, append-nil, length, length-append, reverse, Option, Some, None, refl, sym, ap, ◌∙◌, subst, arith, ⊎_elim, inl, inr}
-use Rattle.std.specs.Prelude.{◌⊎◌, not, ◌&&◌, ◌||◌, Bool, true, false, All, Contains, is_some, IfSome, IsTrue, slice_get}
-use Rattle.std.proofs.lemmas.Bool.{and_parts, and_from, not-true, cases_lt, cases_Bool, false≢true}
+use Rattle.std.specs.Prelude.{◌⊎◌, nat_lt, not, ◌&&◌, ◌||◌, Bool, true, false, All, Contains, is_some, IfSome, IsTrue, slice_get}
+use Rattle.std.proofs.lemmas.Bool.{and_parts, and_from, not-true, cases_lt, cases_Bool, lt-ltb, false≢true}
 use Rattle.std.proofs.lemmas.List.{map-append, reverse-append}
 use Rattle.std.proofs.lemmas.List.Elements.{All-nil, All-push}
 use Rattle.std.proofs.Math.Seq.{take-append_seam}
@@ -230,6 +230,21 @@ alarms-note bounds scripts old now state r alarmed notes = record {
     more (inl same) = omega (arith, ap length same)
     more (inr (turns, is, way)) = omega (arith, ap length is, length-append (alarms_of old.shown) (turns ∷ []))
 
+-- nothing is noted where the state has no cycle, or one was noted before
+pub noted-unless : (trail : Trail) (state : State) (alarmed is : Bool) → is ≡ state.marks.alarmed → (is && not alarmed) ≡ false → (alarmed ≡ true → IsNoted trail state) → IsNoted trail state
+noted-unless trail state true is same none was = was refl
+noted-unless trail state false true same none was = absurd (false≢true (sym none))
+noted-unless trail state false false same none was = record { some = λ first alarmed. absurd (false≢true (same ∙ alarmed)) }
+
+-- no more are wanted where there are as many as may be
+pub kept-many : (first : Bool) (n most : ℕ) → (not first && nat_lt n most) ≡ false → first ≡ false → most ≤ n
+kept-many true n most none all = absurd (false≢true (sym all))
+kept-many false n most none all = ⊎_elim (λ few. absurd (false≢true (sym none ∙ lt-ltb n most few))) (λ many. many) (cases_lt n most)
+
+pub wants-none : (first : Bool) → not first ≡ true → first ≡ true → ⊥
+wants-none true wants only = false≢true wants
+wants-none false wants only = false≢true only
+
 -- what is noted stays so
 pub noted-on : (old now : Trail) (state : State) → now.first ≡ old.first → length (alarms_of old.shown) ≤ length (alarms_of now.shown) → IsNoted old state → IsNoted now state
 noted-on old now state same more noted = record { some = λ first alarmed. let some = noted.some (sym same ∙ first) alarmed in omega (arith, some, more) }
@@ -303,10 +318,10 @@ module _ (bounds : Bounds) (scripts : List (List Kind)) where
       leads fault (inr (none, some, way)) = to fault none some (turns_for now.shown fault) way
 
       kept : (fault : Fault) → IsTrue (is_some (turns_for old.shown fault)) → (turns_for now.shown fault ≡ turns_for old.shown fault) ⊎ ((has_fault before fault ≡ false) × (has_fault after fault ≡ true) × IfSome (turns_for now.shown fault) (IsWay now.steps.items state.place)) → has_fault before fault ≡ true → IsTrue (is_some (turns_for now.shown fault))
+
       at_least_one : first ≡ false → IsTrue (is_some (turns_for now.shown Cycle)) → (turns_for now.shown Cycle ≡ turns_for old.shown Cycle) ⊎ ((before.alarm ≡ false) × (after.alarm ≡ true) × IfSome (turns_for now.shown Cycle) (IsWay now.steps.items state.place)) → 0 < length (alarms_of old.shown)
       at_least_one all there (inl same) = shown.alarms.some all (ap is_some (sym same) ∙ there)
       at_least_one all there (inr (none, some, way)) = alarm (shown.same ∙ all) none some
-
       kept fault some (inl same) was = ap is_some same ∙ some
       kept fault some (inr (none, found, way)) was = absurd (false≢true (sym none ∙ was))
 

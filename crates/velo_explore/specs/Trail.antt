@@ -48,7 +48,7 @@ abbrev pub alarms_of : Schedules → List (List ThreadId)
 alarms_of shown = map (λ v. v.items) shown.alarms.items
 
 -- By each of them some run comes to a cycle. With `first` there is none; else there is one where turns are kept for an alarm
-pub record AreAlarms (bounds : Bounds) (scripts : List (List Kind)) (first : Bool) (shown : Schedules) : Type 0 where
+pub record LeadToCycles (bounds : Bounds) (scripts : List (List Kind)) (first : Bool) (shown : Schedules) : Type 0 where
   pub lead : All (LeadsTo bounds scripts Cycle) (alarms_of shown)
   pub few : length (alarms_of shown) ≤ MOST_ALARMS
   pub none : first ≡ true → alarms_of shown ≡ []
@@ -103,4 +103,4 @@ pub record AreShown (bounds : Bounds) (scripts : List (List Kind)) (first : Bool
   pub same : trail.first ≡ first
   pub leads : (fault : Fault) → IfSome (turns_for trail.shown fault) (LeadsTo bounds scripts fault)
   pub each : first ≡ false → (fault : Fault) → has_fault found fault ≡ true → IsTrue (is_some (turns_for trail.shown fault))
-  pub alarms : AreAlarms bounds scripts first trail.shown
+  pub alarms : LeadToCycles bounds scripts first trail.shown

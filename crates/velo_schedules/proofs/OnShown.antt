@@ -24,7 +24,7 @@ use Rattle.velo_schedules.specs.Bodies.{all_scripts}
 use Rattle.velo_explore.specs.Faults as faults
 use Rattle.velo_explore.specs.Faults.{Cycle, Refusing}
 use Rattle.velo_explore.specs.declared.schedules.Schedules.{Schedules}
-use Rattle.velo_explore.specs.Trail.{AreAlarms as LeadToCycles, LeadsTo, alarms_of, turns_for}
+use Rattle.velo_explore.specs.Trail.{LeadToCycles, LeadsTo, alarms_of, turns_for}
 use Rattle.velo_schedules.proofs.OnFollowed.{follows-cycle, follows-stuck, follows-refused}
 
 -- what was not found

@@ -21,7 +21,7 @@ use Rattle.velo_explore.specs.Search as searched
 use Rattle.velo_explore.specs.declared.schedules.Schedules.{Schedules}
 use Rattle.velo_explore.specs.Search.{ArePlain, AreShort, SomeRun, has_fault, ways}
 use Rattle.velo_explore.specs.Told.{has_ended}
-use Rattle.velo_explore.specs.Trail.{AreAlarms as LeadToCycles, LeadsTo}
+use Rattle.velo_explore.specs.Trail.{LeadToCycles, LeadsTo}
 use Rattle.velo_events.specs.declared.event.ThreadId.{ThreadId}
 use Rattle.velo_schedules.specs.declared.finding.Finding.{Finding}
 use Rattle.velo_schedules.specs.declared.finding.Finding.TheVariants.{Shown, Never, Open}

@@ -4,7 +4,7 @@ ghost use Rattle.velo_worker.specs.Counts.{body_events};
 ghost use Rattle.velo_schedules.specs.Logs.{AlwaysSerializable, NeverStuck, NeverRefused};
 ghost use Rattle.velo_explore.specs.Faults.{Fault, Cycle, Stuck, Refusing};
 ghost use Rattle.velo_explore.specs.Search.{has_fault};
-ghost use Rattle.velo_explore.specs.Trail.{AreAlarms as LeadToCycles, LeadsTo, turns_for};
+ghost use Rattle.velo_explore.specs.Trail.{LeadToCycles, LeadsTo, turns_for};
 ghost use Rattle.velo_schedules.specs.Bodies.{all_scripts};
 ghost use Rattle.velo_schedules.specs.Told.{AlarmTold, AreAlarms, StuckTold, RefusalTold};
 ghost use Rattle.velo_schedules.specs.Told.{IsCutShort, IsLeftOpen, IsSomewhere, OnOpen, OnOpenRefusal};

@@ -35,8 +35,8 @@ returns-clause-open_alarm g c =
     (λ none missed. elim c.if-whole.branch [
       | then-whole v ↦ inr (of_alarm c.in_ok-found.field-0.schedules _ (c.in_ok-found.ensures.each v.if-whole.true Cycle (was_found _ (sym v.alarm_ruled_out-is ∙ none))) missed)
       | else-whole v ↦ open-cut c.args.workload.now c.args.config c.args.most_states c.args.first c.in_ok-found.field-0.states Cycle c.in_ok-found.field-0.found.alarm
-        (c.in_ok-found.ensures.cut v.if-whole.false Cycle) (c.in_ok-found.ensures.found Cycle)
-        (λ some all. of_alarm c.in_ok-found.field-0.schedules _ (c.in_ok-found.ensures.each_all all Cycle some) missed)
+          (c.in_ok-found.ensures.cut v.if-whole.false Cycle) (c.in_ok-found.ensures.found Cycle)
+          (λ some all. of_alarm c.in_ok-found.field-0.schedules _ (c.in_ok-found.ensures.each_all all Cycle some) missed)
     ])
     c.in_ok-alarm.ensures.missed
 
@@ -46,8 +46,8 @@ returns-clause-open_stuck g c =
     (λ none missed. elim c.if-whole-2.branch [
       | then-whole-2 v ↦ inr (of_stuck c.in_ok-found.field-0.schedules _ (c.in_ok-found.ensures.each v.if-whole-2.true Stuck (was_found _ (sym v.stuck_ruled_out-is ∙ none))) missed)
       | else-whole-2 v ↦ open-cut c.args.workload.now c.args.config c.args.most_states c.args.first c.in_ok-found.field-0.states Stuck c.in_ok-found.field-0.found.stuck
-        (c.in_ok-found.ensures.cut v.if-whole-2.false Stuck) (c.in_ok-found.ensures.found Stuck)
-        (λ some all. of_stuck c.in_ok-found.field-0.schedules _ (c.in_ok-found.ensures.each_all all Stuck some) missed)
+          (c.in_ok-found.ensures.cut v.if-whole-2.false Stuck) (c.in_ok-found.ensures.found Stuck)
+          (λ some all. of_stuck c.in_ok-found.field-0.schedules _ (c.in_ok-found.ensures.each_all all Stuck some) missed)
     ])
     c.in_ok-stuck.ensures.missed
 
@@ -57,8 +57,8 @@ returns-clause-open_refused g c =
     (λ none missed. elim c.if-whole-3.branch [
       | then-whole-3 v ↦ inr (of_refused c.in_ok-found.field-0.schedules _ (c.in_ok-found.ensures.each v.if-whole-3.true Refusing (was_found _ (sym v.refusal_ruled_out-is ∙ none))) missed)
       | else-whole-3 v ↦ open-cut c.args.workload.now c.args.config c.args.most_states c.args.first c.in_ok-found.field-0.states Refusing c.in_ok-found.field-0.found.refused
-        (c.in_ok-found.ensures.cut v.if-whole-3.false Refusing) (c.in_ok-found.ensures.found Refusing)
-        (λ some all. of_refused c.in_ok-found.field-0.schedules _ (c.in_ok-found.ensures.each_all all Refusing some) missed)
+          (c.in_ok-found.ensures.cut v.if-whole-3.false Refusing) (c.in_ok-found.ensures.found Refusing)
+          (λ some all. of_refused c.in_ok-found.field-0.schedules _ (c.in_ok-found.ensures.each_all all Refusing some) missed)
     ])
     c.in_ok-refused.ensures.missed
 
