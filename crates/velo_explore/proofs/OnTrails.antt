@@ -317,11 +317,11 @@ module _ (bounds : Bounds) (scripts : List (List Kind)) where
       leads fault (inl same) = subst (λ o. IfSome o (LeadsTo bounds scripts fault)) (sym same) (shown.leads fault)
       leads fault (inr (none, some, way)) = to fault none some (turns_for now.shown fault) way
 
-      kept : (fault : Fault) → IsTrue (is_some (turns_for old.shown fault)) → (turns_for now.shown fault ≡ turns_for old.shown fault) ⊎ ((has_fault before fault ≡ false) × (has_fault after fault ≡ true) × IfSome (turns_for now.shown fault) (IsWay now.steps.items state.place)) → has_fault before fault ≡ true → IsTrue (is_some (turns_for now.shown fault))
-
       at_least_one : first ≡ false → IsTrue (is_some (turns_for now.shown Cycle)) → (turns_for now.shown Cycle ≡ turns_for old.shown Cycle) ⊎ ((before.alarm ≡ false) × (after.alarm ≡ true) × IfSome (turns_for now.shown Cycle) (IsWay now.steps.items state.place)) → 0 < length (alarms_of old.shown)
       at_least_one all there (inl same) = shown.alarms.some all (ap is_some (sym same) ∙ there)
       at_least_one all there (inr (none, some, way)) = alarm (shown.same ∙ all) none some
+
+      kept : (fault : Fault) → IsTrue (is_some (turns_for old.shown fault)) → (turns_for now.shown fault ≡ turns_for old.shown fault) ⊎ ((has_fault before fault ≡ false) × (has_fault after fault ≡ true) × IfSome (turns_for now.shown fault) (IsWay now.steps.items state.place)) → has_fault before fault ≡ true → IsTrue (is_some (turns_for now.shown fault))
       kept fault some (inl same) was = ap is_some same ∙ some
       kept fault some (inr (none, found, way)) was = absurd (false≢true (sym none ∙ was))
 
