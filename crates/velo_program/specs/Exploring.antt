@@ -15,7 +15,7 @@ use Rattle.velo_schedules.specs.declared.finding.RefusalFinding.{RefusalFinding}
 use Rattle.velo_schedules.specs.declared.finding.RefusalFinding.TheVariants as refusals
 use Rattle.velo_schedules.specs.declared.finding.RefusedRun.{RefusedRun}
 use Rattle.velo_explore.specs.Faults.{Cycle, Refusing, Stuck as Stopping}
-use Rattle.velo_schedules.specs.Told.{AlarmTold, AreAlarms, IsLeftOpen as IsOpenFor, OnOpen, OnOpenRefusal, RefusalTold, StuckTold}
+use Rattle.velo_schedules.specs.Told.{AlarmTold, IsLeftOpen as IsOpenFor, OnOpen, OnOpenRefusal, RefusalTold, StuckTold}
 use Rattle.velo_shrink.specs.declared.goal.Goal.{Goal}
 use Rattle.velo_shrink.specs.declared.goal.Goal.TheVariants as goals
 use Rattle.velo_shrink.specs.Simple.{Simplifies}
@@ -72,8 +72,6 @@ pub record IsSearchOf (program : Program) (config : Config) (options : ExploreOp
   pub open_stuck : OnOpen search.stuck (IsOpenFor program config options.states options.first search.states Stopping)
   pub open_refused : OnOpenRefusal search.refused
       (IsOpenFor program config options.states options.first search.states Refusing)
-  pub alarms : AreAlarms program config options.first search.alarm
-      (map (λ schedule. schedule.items) search.alarms.items)
 
 -- A finding of the search is told by its schedule, made simple; or it is left open.
 abbrev pub TellsFinding : Program → Config → Goal → Finding → Finding → Type 0

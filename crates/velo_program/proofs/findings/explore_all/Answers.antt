@@ -27,7 +27,6 @@ returns g c =
           c.from-most_states.ensures c.in_ok-found.ensures.open_stuck;
       open_refused = subst (λ (n : ℕ). OnOpenRefusal search.refused (IsLeftOpen c.args.workload.now c.args.config n options.first search.states Refusing))
           c.from-most_states.ensures c.in_ok-found.ensures.open_refused;
-      alarms = c.in_ok-found.ensures.alarms;
     })
     c.in_ok-events.ensures.simple_alarm c.in_ok-events.ensures.simple_stuck c.in_ok-events.ensures.simple_refused
     (ap (λ (n : ℕ). how.All n simple.states) c.in_ok-events.ensures.events ∙ ap (λ (n : ℕ). how.All search.events n) c.in_ok-events.ensures.states)
