@@ -2,7 +2,7 @@
 ghost use Rattle.std.specs.Prelude.{◌≡◌, ◌<◌, ◌+◌, ◌++◌, ◌∷◌, [], length, slice_index, slice_set, IfOk, OnOk, OnErr};
 ghost use Rattle.velo_events.specs.Refusals.{GrowthRefused};
 ghost use Rattle.velo_certify.specs.Chains.{AreDescending, AreWithin};
-ghost use Rattle.velo_certify.specs.Table.{IsBlank};
+ghost use Rattle.velo_conflicts.specs.Numbers.{IsBlank};
 
 use std::alloc::Global;
 use velo_events::Memory;

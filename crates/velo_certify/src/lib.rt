@@ -3,8 +3,6 @@
 #![tactic(auto)]
 
 mod chains;
-mod changes;
-mod counts;
 mod cycle;
 mod distances;
 mod edges;
@@ -12,11 +10,11 @@ mod fault;
 mod links;
 mod lists;
 mod nearest;
+mod numbered;
 mod order;
 mod owners;
 mod reached;
 mod serial;
-mod table;
 mod threads;
 mod witness;
 

@@ -3,10 +3,10 @@ ghost use Rattle.std.specs.Prelude.{◌≡◌, ◌≤◌, ◌<◌, ◌+◌, ◌�
 ghost use Rattle.velo_events.specs.Reordering.{IsReordering, IsSerial};
 ghost use Rattle.velo_events.specs.Refusals.{GrowthRefused};
 ghost use Rattle.velo_certify.specs.Order.{HasEachOnce, IsFilled, ArePlaces, KeepsConflicts, AreTogether, StandSoFar};
-ghost use Rattle.velo_certify.specs.Table.{IsBlank};
+ghost use Rattle.velo_conflicts.specs.Numbers.{IsBlank};
 
+use crate::numbered::{table_of, take_in};
 use crate::owners::owners_of;
-use crate::table::Table;
 use std::alloc::Global;
 use velo_events::growth::filled;
 use velo_events::{Event, Memory};
@@ -68,9 +68,9 @@ fn keeps_conflicts(alloc: Global, events: &[Event], places: &[usize]) -> Result<
     ensures keeps { IfOk result (λ yes. IsTrue yes ↔ KeepsConflicts events.now places.now) }
     ensures memory { OnErr result GrowthRefused }
 {
-    let mut table = Table::new(alloc, events)?;
+    let mut table = table_of(alloc, events)?;
     for j in 0..events.len() {
-        if table.take_in(events, j, places[j]) >= places[j] {
+        if take_in(&mut table, events, j, places[j]) >= places[j] {
             return Ok(false);
         }
     }

@@ -69,7 +69,8 @@ impl LoggedRun {
     {
         if self
             .analysis
-            .has_no_node_for(self.log.as_slice(), event, &self.config)
+            .make_node_room(self.log.as_slice(), event, &self.config)
+            .is_err()
         {
             return Err(Refusal::GraphFull);
         }
