@@ -41,12 +41,12 @@ fn pair_of(events: &[Event], from: usize, to: usize) -> usize
     events[to].thread.0 as usize * 256 + events[from].thread.0 as usize
 }
 
-/// No link between two threads is known.
-fn none_known(alloc: Global) -> Result<Vec<usize>, Memory>
-    ensures blank { IfOk result (λ known. IsBlank known.items) }
-    ensures count { IfOk result (λ known. length known.items ≡ 65536) }
+/// So many zeros.
+fn zeros(alloc: Global, count: usize) -> Result<Vec<usize>, Memory>
+    ensures blank { IfOk result (λ zeros. IsBlank zeros.items) }
+    ensures count { IfOk result (λ zeros. length zeros.items ≡ count) }
 {
-    filled(alloc, 0, PAIRS)
+    filled(alloc, 0, count)
 }
 
 /// Links two positions of two threads, unless a known link stands for it: one from the same position or a later one of its
@@ -162,7 +162,7 @@ fn link_all_back(
     ensures links { OnOk result (HasLinks events.now (length events.now) (length events.now) links.new) }
 {
     table.clear();
-    let mut known = none_known(alloc)?;
+    let mut known = zeros(alloc, PAIRS)?;
     for at in 0..events.len() {
         link_back(events, owners, table, &mut known, links, at)?;
     }
@@ -183,7 +183,7 @@ fn link_all_on(
     ensures { OnOk result (HasLinks events.now (length events.now) 0 links.new) }
 {
     table.clear();
-    let mut known = none_known(alloc)?;
+    let mut known = zeros(alloc, PAIRS)?;
     let mut at = events.len();
     while at > 0 {
         at -= 1;

@@ -7,7 +7,8 @@ use Rattle.velo_events.specs.Block.{is_open_at}
 use Rattle.velo_events.specs.Scan.{open_from}
 use Rattle.velo_events.proofs.OnOpenBlocks.{open_from-closed, open_from-opened}
 use Rattle.velo_traces.specs.declared.block.Block.{Block}
-use Rattle.velo_traces.specs.Blocks.{block_at, open_block_at}
+use Rattle.velo_traces.specs.Blocks.{block_at}
+use Rattle.velo_traces.specs.Open.{open_block_at}
 
 pub open_block_at-closed : (trace : List Event) (t n : ℕ) → IsFalse (is_open_at trace t n (length trace)) → None ≡ open_block_at trace t n
 open_block_at-closed trace t n h = sym (ap (λ b. cond b (Some (block_at trace n)) None) h)

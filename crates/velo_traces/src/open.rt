@@ -3,7 +3,8 @@ ghost use Rattle.std.specs.Prelude.{◌≡◌, ◌≤◌, ◌<◌, ◌+◌, [], 
 ghost use Rattle.velo_events.specs.declared.limits.TheConstants.{MOST_OPEN_BLOCKS};
 ghost use Rattle.velo_events.specs.Block.{is_open_at, open_blocks};
 ghost use Rattle.velo_events.specs.Scan.{LeavesEnds, open_from};
-ghost use Rattle.velo_traces.specs.Blocks.{block_at, open_block_at};
+ghost use Rattle.velo_traces.specs.Blocks.{block_at};
+ghost use Rattle.velo_traces.specs.Open.{open_block_at};
 
 use crate::block::Block;
 use smallvec::SmallVec;

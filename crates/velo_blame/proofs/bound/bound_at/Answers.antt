@@ -1,4 +1,4 @@
-use Rattle.std.proofs.Common.{◌≡◌, ◌+◌, ◌<◌, length, get_or, sym, ◌∙◌, subst, arith}
+use Rattle.std.proofs.Common.{◌≡◌, ◌+◌, ◌<◌, max, length, get_or, sym, ◌∙◌, subst, arith}
 use Rattle.std.proofs.lemmas.Option.{slice_get-get_or, same_Some}
 use Rattle.velo_events.specs.Event.{thread_of}
 use Rattle.velo_events.specs.Conflict.{conflict}
@@ -40,10 +40,12 @@ loop-at-preserved c =
       sizes = c.take_in-number.ensures.sizes ∙ c.loop-at.invariant.sizes;
       known = taken.0;
       bound = elim c.if-interrupts.branch [
-        | then-interrupts w ↦ subst (IsEndOf (IsKnown trace t (at + 1) (is_by_others t (λ f. conflict f last)))) (sym (w.bound-is ∙ w.max-bound.ensures))
-            (bound-raised trace t at e here _ c.loop-at.bound c.take_in-number.result taken.1 c.loop-at.invariant.bound (sym c.interrupts.ensures ∙ w.if-interrupts.true))
+        | then-interrupts w ↦
+            let raised : w.max-bound.result ≡ max c.loop-at.bound c.take_in-number.result = w.max-bound.ensures in
+            subst (IsEndOf (IsKnown trace t (at + 1) (is_by_others t (λ f. conflict f last)))) (sym (w.bound-is ∙ raised))
+            (bound-raised trace t at e here (is_by_others t (λ f. conflict f last)) c.loop-at.bound c.take_in-number.result taken.1 c.loop-at.invariant.bound (sym c.interrupts.ensures ∙ w.if-interrupts.true))
         | else-interrupts w ↦ subst (IsEndOf (IsKnown trace t (at + 1) (is_by_others t (λ f. conflict f last)))) (sym w.bound-is)
-            (bound-stays trace t at e here _ c.loop-at.bound c.take_in-number.result taken.1 c.loop-at.invariant.bound (sym c.interrupts.ensures ∙ w.if-interrupts.false))
+            (bound-stays trace t at e here (is_by_others t (λ f. conflict f last)) c.loop-at.bound c.take_in-number.result taken.1 c.loop-at.invariant.bound (sym c.interrupts.ensures ∙ w.if-interrupts.false))
       ];
     }
 

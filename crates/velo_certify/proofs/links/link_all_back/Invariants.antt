@@ -7,7 +7,7 @@ use Rattle.velo_certify.proofs.links.link_all_back.Given as goal
 
 abbrev pub invariant-loop-at : goal.invariant-loop-at
 invariant-loop-at l = record {
-  sizes : sizes l.table ≡ sizes l.fn.table;
+  same : sizes l.table ≡ sizes l.fn.table;
   names : AllHavePlaces (sizes l.table) l.events (length l.events);
   numbers : HasNumbers l.events (numbers_before counted l.at) l.table;
   known : AreShown l.events (IsBefore l.at) l.links l.known.items;

@@ -25,3 +25,9 @@ returns-clause-marks c =
     (λ same. elim c.if-at-begin.branch [ then-at-begin w ↦ w.number-is | else-at-begin w ↦ absurd (w.if-at-begin.false (sym c.requires.at ∙ same)) ])
     (λ other. elim c.if-at-begin.branch [ then-at-begin w ↦ absurd (other (c.requires.at ∙ w.if-at-begin.true)) | else-at-begin w ↦ w.number-is ])
     c.requires.marks)
+
+pub look_up-greatest-requires : goal.look_up-greatest-requires
+look_up-greatest-requires c = c.requires.names.each c.args.at _ c.requires.within (slice_get-get_or c.args.events.now c.args.at past c.requires.within)
+
+pub record-requires : goal.record-requires
+record-requires c = c.requires.names.each c.args.at _ c.requires.within (slice_get-get_or c.args.events.now c.args.at past c.requires.within)

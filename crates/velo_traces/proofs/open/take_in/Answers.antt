@@ -22,7 +22,7 @@ returns-in-Some-clause-blocks c =
     ∙ (ap (λ rest. c.in-Some.block ∷ rest) c.requires.blocks
     ∙ sym (blocks-found trace t n c.in-Some.block c.requires.within (sym c.in-Some.is ∙ c.scan_back-found.ensures.block)))
 
-pub returns-clause-blocks : goal.returns-clause-blocks
-returns-clause-blocks c =
+pub returns-in_default-clause-blocks : goal.returns-in_default-clause-blocks
+returns-in_default-clause-blocks c =
     let trace = c.args.events.now in let t = c.args.thread.0 in let n = c.args.at in
     c.requires.blocks ∙ sym (blocks-none trace t n c.requires.within (sym c.in_default.is ∙ c.scan_back-found.ensures.block))

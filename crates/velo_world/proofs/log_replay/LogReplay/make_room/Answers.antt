@@ -4,7 +4,7 @@ use Rattle.velo_graph.specs.Nodes.{Nodes}
 use Rattle.velo_heap.specs.Contents.{bounds_of}
 use Rattle.velo_traces.proofs.OnFlaws.{MayFollow-from_no_flaw}
 use Rattle.velo_world.proofs.OnAlarms.{length-before}
-use Rattle.velo_world.proofs.OnLogReplays.{flaw-by, follows-by}
+use Rattle.velo_world.proofs.OnLogReplays.{flaw-by, follows-by, on_ok-at, on_err-at}
 use Rattle.std.proofs.lemmas.Grind.{elements}
 use Rattle.velo_world.proofs.log_replay.LogReplay.make_room.Goals as goal
 
@@ -22,7 +22,7 @@ returns-then-is_err-clause-fault c =
       sym here,
       inr (
         flaw-by _ _ _ c.args.event.now stands.bounds none,
-        inr (refl, (let room = inside in omega (arith, here, room)), c.make_node_room.ensures.full c.if-is_err.true),
+        inr (refl, (let room = inside in omega (arith, here, room)), on_err-at c.make_node_room.result (sym c.is_err.ensures.value ∙ c.if-is_err.true) c.make_node_room.ensures.full),
       ),
     )
 
@@ -54,7 +54,7 @@ pub returns-in-Ok-clause-room : goal.returns-in-Ok-clause-room
 returns-in-Ok-clause-room c =
     let heap = c.requires.stands.analysis.heap in
     let follows = MayFollow-from_no_flaw _ _ c.args.event.now heap.well_formed (sym (c.flaw_in.ensures _ heap) ∙ c.in-None.is) in
-    c.in-Ok.ensures.room _ c.make_node_room.ensures.stands (follows-by _ _ _ c.args.event.now (sym (ap bounds_of c.make_node_room.ensures.heap)) follows) (c.make_node_room.ensures.slot c.if-is_err.false)
+    c.in-Ok.ensures.room _ c.make_node_room.ensures.stands (follows-by _ _ _ c.args.event.now (sym (ap bounds_of c.make_node_room.ensures.heap)) follows) (on_ok-at c.make_node_room.result (sym c.is_err.ensures.value ∙ c.if-is_err.false) c.make_node_room.ensures.slot)
 
 pub returns-in-Some-Refused-clause-fault : goal.returns-in-Some-Refused-clause-fault
 returns-in-Some-Refused-clause-fault c = grind (arith, elements)
