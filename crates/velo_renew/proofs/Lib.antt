@@ -1,3 +1,2 @@
 pub mod OnStages
 pub mod OnPrologues
-pub mod OnRenewals

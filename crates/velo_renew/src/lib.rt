@@ -1,10 +1,6 @@
-//! A run that goes on after a cut as a log of its own.
+//! A log that leaves what a heap has: with it a run goes on after a cut.
 #![tactic(auto)]
 
-mod renewal;
 mod stages;
-#[cfg(test)]
-mod tests;
 
-pub use renewal::{NotRenewed, renew};
 pub use stages::prologue;
