@@ -4,9 +4,6 @@ use Rattle.std.specs.Prelude.{◌⊎◌, ◌==◌, ◌&&◌, ◌||◌, IsTrue, I
 use Rattle.std.proofs.lemmas.Bool.{cases_eq, or_cases, or_left, or_right, and_parts, and_from, not_from_false, not-true, eqb-true, eq-eqb, ne_eqb, both_ways, false≢true, false_from_ne_true}
 use Rattle.velo_events.specs.declared.config.Bounds.{Bounds}
 use Rattle.velo_events.specs.declared.event.Event.{Event}
-use Rattle.velo_events.specs.declared.event.ThreadId.{ThreadId}
-use Rattle.velo_events.specs.declared.event.VarId.{VarId}
-use Rattle.velo_events.specs.declared.event.LockId.{LockId}
 use Rattle.velo_events.specs.declared.event.Kind.TheVariants.{Write, Acquire, AcquireShared, Fork, Exit}
 use Rattle.velo_events.specs.Event.{is_fork_of, is_exit_by, is_join_of, are_same}
 use Rattle.velo_events.specs.Heap.{latest, happened, value_in, holder_in, shares_in, was_born, status_in}
@@ -19,7 +16,7 @@ use Rattle.velo_events.proofs.OnWellFormed.{Facts-from, count_below-zero}
 use Rattle.velo_laws.specs.Restart.{StandsFor, IsPrologueOf}
 use Rattle.velo_laws.proofs.OnRestart.{times-no_begin}
 use Rattle.velo_laws.proofs.OnKnown.{Known, Known-from}
-use Rattle.velo_renew.specs.Stages.{Leaves, nobody, no_holder, no_sharer, no_value, forks, exits, is_there, is_exited, upto, sharers_upto, HasForked, HasWritten, HasAcquired, HasShared, HasExited}
+use Rattle.velo_renew.specs.Stages.{nobody, no_holder, no_sharer, no_value, forks, exits, is_there, is_exited, upto, sharers_upto, HasForked, HasWritten, HasAcquired, HasShared, HasExited}
 use Rattle.velo_renew.proofs.OnStages.{upto-out, upto-step, upto-keep, upto-all, grow_bool, and_true, or_false, or_and_false, keep_share, share_step, leaves-nothing, leaves-same, leaves-push}
 
 same_is : (o : Option ℕ) (k : ℕ) → IsTrue (are_same o (Some k)) → o ≡ Some k

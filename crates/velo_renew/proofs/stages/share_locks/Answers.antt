@@ -1,5 +1,4 @@
-use Rattle.std.proofs.Common.{◌≡◌, ℕ, List, subst, arith}
-use Rattle.velo_events.specs.declared.event.Event.{Event}
+use Rattle.std.proofs.Common.{◌≡◌, ℕ, subst, arith}
 use Rattle.velo_events.specs.declared.config.Bounds.{Bounds}
 use Rattle.velo_events.specs.WellFormed.{IsWellFormed}
 use Rattle.velo_renew.specs.Stages.{HasShared}
