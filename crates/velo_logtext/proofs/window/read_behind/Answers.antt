@@ -1,7 +1,7 @@
 use Rattle.std.proofs.Common.{◌≤◌, length, take, arith}
 use Rattle.velo_bytes.proofs.OnDevices.{keeps_read}
 use Rattle.velo_logtext.proofs.OnWindows.{filled_more}
-use Rattle.velo_logtext.proofs.reader.read_behind.Goals as goal
+use Rattle.velo_logtext.proofs.window.read_behind.Goals as goal
 
 pub returns-clause-bytes : goal.returns-clause-bytes
 returns-clause-bytes g c =

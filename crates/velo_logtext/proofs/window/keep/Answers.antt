@@ -1,6 +1,6 @@
 use Rattle.std.proofs.Common.{◌∙◌, ap, take}
 use Rattle.velo_logtext.proofs.OnWindows.{moved_front}
-use Rattle.velo_logtext.proofs.read.keep.Goals as goal
+use Rattle.velo_logtext.proofs.window.keep.Goals as goal
 
 pub returns : goal.returns
 returns c =

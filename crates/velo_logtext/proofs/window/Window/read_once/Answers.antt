@@ -1,8 +1,8 @@
 use Rattle.std.proofs.Common.{◌≡◌, ◌-◌, ◌+◌, ◌++◌, List, ℕ, length, drop, take, ap, subst, ◌∙◌, arith}
 use Rattle.std.proofs.lemmas.List.{take-take, take-append-le}
 use Rattle.std.specs.Io.KnownBytes.{Keeps, prepend_known}
-use Rattle.velo_logtext.specs.Front.{Window}
-use Rattle.velo_logtext.proofs.reader.Window.read_once.Goals as goal
+use Rattle.velo_logtext.specs.Window.{Window}
+use Rattle.velo_logtext.proofs.window.Window.read_once.Goals as goal
 
 pub returns-clause-bytes : goal.returns-clause-bytes
 returns-clause-bytes g c =
