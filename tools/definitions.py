@@ -44,7 +44,8 @@ PARTS = [
         "velo_list": "Line* Known* List"}),
     ("Laws of logs", {
         "velo_laws": "Cut* Restart* Renumber Ordered* Repeats*",
-        "velo_races": "Races*"}),
+        "velo_races": "Races*",
+        "velo_renew": "Renewal*"}),
     ("What the program does", {
         "velo_program": "Program* Check Explaining Carrying Scheduling Playing ByChance Exploring* Delivery Disk Writing Reading Fate Causes",
         "velo_command": "CommandLine Asked Together Running Usage"}),
