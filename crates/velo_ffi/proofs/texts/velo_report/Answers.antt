@@ -1,7 +1,7 @@
 use Rattle.std.proofs.Common.{◌≡◌, Option, IfSome, rules, subst, sym}
 use Rattle.velo_ffi.specs.Texts.{TellsReport}
 use Rattle.velo_ffi.specs.Watch.{WatchState}
-use Rattle.velo_ffi.proofs.texts.velodrome_report.Goals as goal
+use Rattle.velo_ffi.proofs.texts.velo_report.Goals as goal
 
 pub returns-clause-told : goal.returns-clause-told
 returns-clause-told c =
