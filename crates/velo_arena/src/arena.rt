@@ -1,4 +1,3 @@
-ghost use Rattle.velo_events.specs.Refusals.{GrowthRefused};
 ghost use Rattle.std.specs.Prelude.{◌≡◌, ℕ, ◌<◌, ◌≤◌, ◌↔◌, Some, None, replicate, IfOk, OnErr, IsErr, IsTrue, true, vec_capacity, if◌then◌else◌};
 ghost use Rattle.velo_arena.specs.Slots.{limit_of, is_used, used_in, bears, stamp_in, is_finished_in, with_node, Opens, HasOwnStamps};
 ghost use Rattle.std.specs.Option.{ForSome};
@@ -47,7 +46,6 @@ impl Arena {
     pub fn new(alloc: Global, limit: u16) -> Result<Arena, Memory>
         ensures nodes { IfOk result (λ arena. arena.nodes ≡ replicate limit None) }
         ensures newest { IfOk result (λ arena. arena.newest ≡ None) }
-        ensures memory { OnErr result GrowthRefused }
     {
         let nodes = filled(alloc, None, limit as usize)?;
         let free = slots_below(alloc, limit)?;
@@ -182,7 +180,6 @@ impl Arena {
 fn slots_below(alloc: Global, limit: u16) -> Result<Vec<u16>, Memory>
     ensures falling { IfOk result (λ slots. CountsDown slots.items limit limit) }
     ensures room { IfOk result (λ slots. limit ≤ vec_capacity slots) }
-    ensures memory { OnErr result GrowthRefused }
 {
     let mut slots = with_capacity(alloc, limit as usize)?;
     for taken in 0..limit {

@@ -1,6 +1,5 @@
 //! How many labels are atomic.
-ghost use Rattle.std.specs.Prelude.{◌≡◌, ◌<◌, ◌+◌, length, IfOk, OnOk, OnErr};
-ghost use Rattle.velo_events.specs.Refusals.{GrowthRefused};
+ghost use Rattle.std.specs.Prelude.{◌≡◌, ◌<◌, ◌+◌, length, IfOk, OnOk};
 ghost use Rattle.velo_thin.specs.Tables.{left_of};
 ghost use Rattle.velo_audit.specs.Count.{IsCountedTo};
 ghost use Rattle.velo_audit.specs.Rounds.{atomic_labels};
@@ -15,8 +14,7 @@ use velo_traces::Trace;
 /// # Errors
 /// `Memory` where a growth was refused.
 pub fn count_atomic(alloc: Global, log: &Trace, left: &LeftOut) -> Result<usize, Memory>
-    ensures count { IfOk result (λ count. count ≡ atomic_labels (left_of left.now) log.now.events) }
-    ensures memory { OnErr result GrowthRefused }
+    ensures { IfOk result (λ count. count ≡ atomic_labels (left_of left.now) log.now.events) }
 {
     let events = log.as_slice();
     let mut seen = LeftOut::new(alloc);
@@ -37,8 +35,7 @@ fn count_in(
 ) -> Result<(), Memory>
     requires within { position < length events.now }
     requires stands { IsCountedTo (left_of left.now) events.now position (left_of seen.old) count.old }
-    ensures stands { OnOk result (IsCountedTo (left_of left.now) events.now (position + 1) (left_of seen.new) count.new) }
-    ensures memory { OnErr result GrowthRefused }
+    ensures { OnOk result (IsCountedTo (left_of left.now) events.now (position + 1) (left_of seen.new) count.new) }
 {
     let Kind::Begin(label) = events[position].kind else {
         return Ok(());

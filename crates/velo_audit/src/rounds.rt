@@ -93,8 +93,7 @@ fn next_round(
 
 /// Leaves out the labels of the blocks.
 fn leave_out_all(left: &mut LeftOut, blocks: &[Block]) -> Result<(), Memory>
-    ensures ok { OnOk result (left_of left.new ≡ with_labels (left_of left.old) (map (λ (b : BlockOf). b.label.0) blocks.now)) }
-    ensures memory { OnErr result GrowthRefused }
+    ensures { OnOk result (left_of left.new ≡ with_labels (left_of left.old) (map (λ (b : BlockOf). b.label.0) blocks.now)) }
 {
     for block in blocks {
         left.leave_out_label(block.label)?;

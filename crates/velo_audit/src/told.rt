@@ -1,6 +1,5 @@
 //! What a round tells of the alarm of the rest, by the log as read.
-ghost use Rattle.std.specs.Prelude.{◌≡◌, ◌<◌, length, map, slice_index, All, IfOk, OnErr};
-ghost use Rattle.velo_events.specs.Refusals.{GrowthRefused};
+ghost use Rattle.std.specs.Prelude.{◌≡◌, ◌<◌, length, map, slice_index, All, IfOk};
 ghost use Rattle.velo_traces.specs.Blocks.{block_at};
 ghost use Rattle.velo_blame.specs.Blamed.{begins_of};
 ghost use Rattle.velo_world.specs.World.{IsAlarm};
@@ -41,8 +40,7 @@ pub(crate) fn told_of(
 ) -> Result<Told, Memory>
     requires alarm { IsAlarm what.now.events alarm.now }
     requires as_many { length places.now ≡ length what.now.events }
-    ensures told { IfOk result (λ told. Tells asked what.now.events places.now alarm.now told) }
-    ensures memory { OnErr result GrowthRefused }
+    ensures { IfOk result (λ told. Tells asked what.now.events places.now alarm.now told) }
 {
     let blocks = blocks_told(alloc, what.as_slice(), places, alarm)?;
     let witness = witness_if_asked(alloc, asked, what, places, alarm)?;
@@ -65,8 +63,7 @@ fn witness_if_asked(
 ) -> Result<Option<Evidence>, Memory>
     requires alarm { IsAlarm what.now.events alarm.now }
     requires as_many { length places.now ≡ length what.now.events }
-    ensures witness { IfOk result (λ witness. WitnessTells asked what.now.events places.now alarm.now witness) }
-    ensures memory { OnErr result GrowthRefused }
+    ensures { IfOk result (λ witness. WitnessTells asked what.now.events places.now alarm.now witness) }
 {
     if !asked {
         return Ok(None);
@@ -84,8 +81,7 @@ fn blocks_told(
 ) -> Result<Vec<Block>, Memory>
     requires alarm { IsAlarm events.now alarm.now }
     requires as_many { length places.now ≡ length events.now }
-    ensures blocks { IfOk result (λ blocks. blocks.items ≡ map (λ b. block_as_read (slice_index places.now) (block_at events.now b)) (told_of (begins_of alarm.now.blamed.items) alarm.now.transaction)) }
-    ensures memory { OnErr result GrowthRefused }
+    ensures { IfOk result (λ blocks. blocks.items ≡ map (λ b. block_as_read (slice_index places.now) (block_at events.now b)) (told_of (begins_of alarm.now.blamed.items) alarm.now.transaction)) }
 {
     let blamed = alarm.blamed.as_slice();
     if blamed.is_empty() {
@@ -111,8 +107,7 @@ fn first_block(events: &[Event], first: usize) -> Block
 /// The blocks as they stand in the log as read.
 fn all_as_read(alloc: Global, places: &[u32], blocks: &[Block]) -> Result<Vec<Block>, Memory>
     requires { All (λ block. block.first < length places.now) blocks.now }
-    ensures blocks { IfOk result (λ read. read.items ≡ map (block_as_read (slice_index places.now)) blocks.now) }
-    ensures memory { OnErr result GrowthRefused }
+    ensures { IfOk result (λ read. read.items ≡ map (block_as_read (slice_index places.now)) blocks.now) }
 {
     let mut read = with_capacity(alloc, blocks.len())?;
     for block in blocks {

@@ -1,6 +1,5 @@
 //! The witness of a round.
-ghost use Rattle.std.specs.Prelude.{◌≡◌, ◌≤◌, ◌<◌, length, map, slice_index, IfOk, OnErr};
-ghost use Rattle.velo_events.specs.Refusals.{GrowthRefused};
+ghost use Rattle.std.specs.Prelude.{◌≡◌, ◌≤◌, ◌<◌, length, map, slice_index, IfOk};
 ghost use Rattle.velo_explain.specs.Evidence.{AreSpansWithin, AreEdgesWithin, AreBlamesWithin, IsWithin};
 ghost use Rattle.velo_world.specs.World.{IsAlarm};
 ghost use Rattle.velo_audit.specs.Witness.{span_as_read, edge_as_read, block_as_read, blame_as_read, ReadsAs, IsEvidenceOf};
@@ -25,8 +24,7 @@ pub(crate) fn witness_of(
 ) -> Result<Evidence, Memory>
     requires alarm { IsAlarm what.now.events alarm.now }
     requires as_many { length places.now ≡ length what.now.events }
-    ensures witness { IfOk result (λ evidence. IsEvidenceOf what.now.events places.now alarm.now evidence) }
-    ensures memory { OnErr result GrowthRefused }
+    ensures { IfOk result (λ evidence. IsEvidenceOf what.now.events places.now alarm.now evidence) }
 {
     match evidence_of(alloc, what, alarm.position, alarm.blamed.as_slice()) {
         Ok(inside) => evidence_as_read(alloc, places, &inside),
@@ -41,8 +39,7 @@ fn evidence_as_read(alloc: Global, places: &[u32], inside: &Evidence) -> Result<
     requires spans { AreSpansWithin (length places.now) inside.now.spans.items }
     requires edges { AreEdgesWithin (length places.now) inside.now.edges.items }
     requires blames { AreBlamesWithin (length places.now) inside.now.blames.items }
-    ensures reads { IfOk result (λ evidence. ReadsAs (slice_index places.now) inside.now evidence) }
-    ensures memory { OnErr result GrowthRefused }
+    ensures { IfOk result (λ evidence. ReadsAs (slice_index places.now) inside.now evidence) }
 {
     let spans = spans_as_read(alloc, places, &inside.spans)?;
     let edges = edges_as_read(alloc, places, &inside.edges)?;
@@ -57,8 +54,7 @@ fn evidence_as_read(alloc: Global, places: &[u32], inside: &Evidence) -> Result<
 /// Transactions, by the places for which their positions stand.
 fn spans_as_read(alloc: Global, places: &[u32], spans: &[Span]) -> Result<Vec<Span>, Memory>
     requires within { AreSpansWithin (length places.now) spans.now }
-    ensures read { IfOk result (λ read. read.items ≡ map (span_as_read (slice_index places.now)) spans.now) }
-    ensures memory { OnErr result GrowthRefused }
+    ensures { IfOk result (λ read. read.items ≡ map (span_as_read (slice_index places.now)) spans.now) }
 {
     let mut read = with_capacity(alloc, spans.len())?;
     for k in 0..spans.len() {
@@ -78,8 +74,7 @@ fn edges_as_read(
     edges: &[EdgeEvents],
 ) -> Result<Vec<EdgeEvents>, Memory>
     requires within { AreEdgesWithin (length places.now) edges.now }
-    ensures read { IfOk result (λ read. read.items ≡ map (edge_as_read (slice_index places.now)) edges.now) }
-    ensures memory { OnErr result GrowthRefused }
+    ensures { IfOk result (λ read. read.items ≡ map (edge_as_read (slice_index places.now)) edges.now) }
 {
     let mut read = with_capacity(alloc, edges.len())?;
     for k in 0..edges.len() {
@@ -95,8 +90,7 @@ fn edges_as_read(
 /// Blocks to blame, by the places for which their positions stand.
 fn blames_as_read(alloc: Global, places: &[u32], blames: &[Blame]) -> Result<Vec<Blame>, Memory>
     requires within { AreBlamesWithin (length places.now) blames.now }
-    ensures read { IfOk result (λ read. read.items ≡ map (blame_as_read (slice_index places.now)) blames.now) }
-    ensures memory { OnErr result GrowthRefused }
+    ensures { IfOk result (λ read. read.items ≡ map (blame_as_read (slice_index places.now)) blames.now) }
 {
     let mut read = with_capacity(alloc, blames.len())?;
     for k in 0..blames.len() {

@@ -1,7 +1,6 @@
 //! The whole text of an audit.
-ghost use Rattle.std.specs.Prelude.{◌≡◌, ◌≤◌, ◌++◌, length, map, All, IfOk, OnOk, OnErr};
+ghost use Rattle.std.specs.Prelude.{◌≡◌, ◌≤◌, ◌++◌, length, map, All, IfOk, OnOk};
 ghost use Rattle.std.specs.List.{flat_map};
-ghost use Rattle.velo_events.specs.Refusals.{GrowthRefused};
 ghost use Rattle.velo_events.specs.declared.limits.TheConstants.{MOST_EVENTS};
 ghost use Rattle.velo_thin.specs.Left.{is_listed};
 ghost use Rattle.velo_thin.specs.Thinned.{CanComeAbout};
@@ -35,8 +34,7 @@ fn is_label_of(blocks: &[Block], label: Label) -> bool
 
 /// Adds the labels of the blocks, each once.
 fn add_labels(page: &mut Page, names: &Names, blocks: &[Block]) -> Result<(), Memory>
-    ensures ok { OnOk result (page.new ≡ page.old ++ flat_map (not_atomic_text names.now) (each_once (map (λ block. block.label.0) blocks.now))) }
-    ensures memory { OnErr result GrowthRefused }
+    ensures { OnOk result (page.new ≡ page.old ++ flat_map (not_atomic_text names.now) (each_once (map (λ block. block.label.0) blocks.now))) }
 {
     for k in 0..blocks.len() {
         if !is_label_of(&blocks[..k], blocks[k].label) {
@@ -58,8 +56,7 @@ fn add_witness_if_any(
     requires within { IsWitnessWithin (length events.now) closing witness.now }
     requires few { length events.now ≤ MOST_EVENTS }
     requires open { FewAreOpen events.now }
-    ensures ok { OnOk result (page.new ≡ page.old ++ optional_witness_text names.now events.now closing witness.now) }
-    ensures memory { OnErr result GrowthRefused }
+    ensures { OnOk result (page.new ≡ page.old ++ optional_witness_text names.now events.now closing witness.now) }
 {
     match witness {
         None => Ok(()),
@@ -78,8 +75,7 @@ fn add_told(
     requires within { IsWitnessWithin (length events.now) told.now.closing told.now.witness }
     requires few { length events.now ≤ MOST_EVENTS }
     requires open { FewAreOpen events.now }
-    ensures ok { OnOk result (page.new ≡ page.old ++ told_text names.now events.now told.now) }
-    ensures memory { OnErr result GrowthRefused }
+    ensures { OnOk result (page.new ≡ page.old ++ told_text names.now events.now told.now) }
 {
     add_labels(page, names, &told.blocks)?;
     add_mark(page, told.to_blame)?;
@@ -97,8 +93,7 @@ fn add_rounds(
     requires truly { All (TellsTruly events.now) rounds.now }
     requires few { length events.now ≤ MOST_EVENTS }
     requires open { FewAreOpen events.now }
-    ensures ok { OnOk result (page.new ≡ page.old ++ flat_map (told_text names.now events.now) rounds.now) }
-    ensures memory { OnErr result GrowthRefused }
+    ensures { OnOk result (page.new ≡ page.old ++ flat_map (told_text names.now events.now) rounds.now) }
 {
     for told in rounds {
         add_told(page, names, alloc, events, told)?;
@@ -123,8 +118,7 @@ pub fn audit_text(
     requires few { length log.now.events ≤ MOST_EVENTS }
     requires can_come_about { CanComeAbout log.now.events }
     requires truly { All (TellsTruly log.now.events) rounds.now }
-    ensures text { IfOk result (λ page. page ≡ audit_text names.now log.now.events asked.now rounds.now atomic) }
-    ensures memory { OnErr result GrowthRefused }
+    ensures { IfOk result (λ page. page ≡ audit_text names.now log.now.events asked.now rounds.now atomic) }
 {
     let mut page = Page::new(alloc);
     add_asked(&mut page, names, asked)?;

@@ -1,7 +1,6 @@
 //! The witness of a round, in words.
-ghost use Rattle.std.specs.Prelude.{◌≡◌, ◌≤◌, ◌<◌, ◌++◌, length, OnOk, OnErr};
+ghost use Rattle.std.specs.Prelude.{◌≡◌, ◌≤◌, ◌<◌, ◌++◌, length, OnOk};
 ghost use Rattle.std.specs.List.{flat_map};
-ghost use Rattle.velo_events.specs.Refusals.{GrowthRefused};
 ghost use Rattle.velo_events.specs.declared.limits.TheConstants.{MOST_EVENTS};
 ghost use Rattle.velo_explain.specs.Evidence.{AreSpansWithin, AreEdgesWithin, AreBlamesWithin, IsWithin};
 ghost use Rattle.velo_explain.specs.Text.{line_of, numbered, next_number};
@@ -24,8 +23,7 @@ fn add_closing(
 ) -> Result<(), Memory>
     requires within { position < length events.now }
     requires few { length events.now ≤ MOST_EVENTS }
-    ensures ok { OnOk result (page.new ≡ page.old ++ closing_text events.now position count) }
-    ensures memory { OnErr result GrowthRefused }
+    ensures { OnOk result (page.new ≡ page.old ++ closing_text events.now position count) }
 {
     page.add(&[
         Piece::Text("  line "),
@@ -51,8 +49,7 @@ fn add_member(
     requires last { span.last < length events.now }
     requires few { length events.now ≤ MOST_EVENTS }
     requires place { k < usize.MAX }
-    ensures ok { OnOk result (page.new ≡ page.old ++ member_text names.now events.now k span) }
-    ensures memory { OnErr result GrowthRefused }
+    ensures { OnOk result (page.new ≡ page.old ++ member_text names.now events.now k span) }
 {
     let first = events[span.first];
     page.add(&[
@@ -79,8 +76,7 @@ fn add_members(
 ) -> Result<(), Memory>
     requires within { AreSpansWithin (length events.now) spans.now }
     requires few { length events.now ≤ MOST_EVENTS }
-    ensures ok { OnOk result (page.new ≡ page.old ++ numbered (member_text names.now events.now) 0 spans.now) }
-    ensures memory { OnErr result GrowthRefused }
+    ensures { OnOk result (page.new ≡ page.old ++ numbered (member_text names.now events.now) 0 spans.now) }
 {
     for k in 0..spans.len() {
         add_member(page, names, events, k, spans[k])?;
@@ -91,8 +87,7 @@ fn add_members(
 /// Adds a block around an event.
 #[tactic(auto, unfolding(crate::specs::Witness::in_block_text))]
 fn add_in_block(page: &mut Page, names: &Names, block: Block) -> Result<(), Memory>
-    ensures ok { OnOk result (page.new ≡ page.old ++ in_block_text names.now block) }
-    ensures memory { OnErr result GrowthRefused }
+    ensures { OnOk result (page.new ≡ page.old ++ in_block_text names.now block) }
 {
     page.add(&[
         Piece::Text("      in block "),
@@ -104,8 +99,7 @@ fn add_in_block(page: &mut Page, names: &Names, block: Block) -> Result<(), Memo
 
 /// Adds blocks around an event.
 fn add_in_blocks(page: &mut Page, names: &Names, blocks: &[Block]) -> Result<(), Memory>
-    ensures ok { OnOk result (page.new ≡ page.old ++ flat_map (in_block_text names.now) blocks.now) }
-    ensures memory { OnErr result GrowthRefused }
+    ensures { OnOk result (page.new ≡ page.old ++ flat_map (in_block_text names.now) blocks.now) }
 {
     for block in blocks {
         add_in_block(page, names, *block)?;
@@ -123,8 +117,7 @@ fn add_stack(
 ) -> Result<(), Memory>
     requires within { position < length events.now }
     requires open { FewAreOpen events.now }
-    ensures ok { OnOk result (page.new ≡ page.old ++ flat_map (in_block_text names.now) (stack_at events.now position)) }
-    ensures memory { OnErr result GrowthRefused }
+    ensures { OnOk result (page.new ≡ page.old ++ flat_map (in_block_text names.now) (stack_at events.now position)) }
 {
     let blocks = open_blocks_in(&events[..position], events[position].thread, alloc);
     add_in_blocks(page, names, blocks.as_slice())
@@ -135,8 +128,7 @@ fn add_stack(
 fn add_event_line(page: &mut Page, events: &[Event], position: usize) -> Result<(), Memory>
     requires within { position < length events.now }
     requires few { length events.now ≤ MOST_EVENTS }
-    ensures ok { OnOk result (page.new ≡ page.old ++ event_line_text events.now position) }
-    ensures memory { OnErr result GrowthRefused }
+    ensures { OnOk result (page.new ≡ page.old ++ event_line_text events.now position) }
 {
     page.add(&[
         Piece::Text("    line "),
@@ -158,8 +150,7 @@ fn add_event(
     requires within { position < length events.now }
     requires few { length events.now ≤ MOST_EVENTS }
     requires open { FewAreOpen events.now }
-    ensures ok { OnOk result (page.new ≡ page.old ++ event_in_blocks_text names.now events.now position) }
-    ensures memory { OnErr result GrowthRefused }
+    ensures { OnOk result (page.new ≡ page.old ++ event_in_blocks_text names.now events.now position) }
 {
     add_event_line(page, events, position)?;
     add_stack(page, names, alloc, events, position)
@@ -169,8 +160,7 @@ fn add_event(
 #[tactic(auto, unfolding(crate::specs::Witness::order_text))]
 fn add_order(page: &mut Page, count: usize, k: usize) -> Result<(), Memory>
     requires place { k < count }
-    ensures ok { OnOk result (page.new ≡ page.old ++ order_text count k) }
-    ensures memory { OnErr result GrowthRefused }
+    ensures { OnOk result (page.new ≡ page.old ++ order_text count k) }
 {
     page.add(&[
         Piece::Text("  T"),
@@ -196,8 +186,7 @@ fn add_edge(
     requires few { length events.now ≤ MOST_EVENTS }
     requires open { FewAreOpen events.now }
     requires place { k < count }
-    ensures ok { OnOk result (page.new ≡ page.old ++ edge_text names.now events.now count k edge) }
-    ensures memory { OnErr result GrowthRefused }
+    ensures { OnOk result (page.new ≡ page.old ++ edge_text names.now events.now count k edge) }
 {
     add_order(page, count, k)?;
     add_event(page, names, alloc, events, edge.from)?;
@@ -215,8 +204,7 @@ fn add_edges(
     requires within { AreEdgesWithin (length events.now) edges.now }
     requires few { length events.now ≤ MOST_EVENTS }
     requires open { FewAreOpen events.now }
-    ensures ok { OnOk result (page.new ≡ page.old ++ numbered (edge_text names.now events.now (length edges.now)) 0 edges.now) }
-    ensures memory { OnErr result GrowthRefused }
+    ensures { OnOk result (page.new ≡ page.old ++ numbered (edge_text names.now events.now (length edges.now)) 0 edges.now) }
 {
     for k in 0..edges.len() {
         add_edge(page, names, alloc, events, edges.len(), k, edges[k])?;
@@ -237,8 +225,7 @@ fn add_blame(
     requires first { blame.block.first < length events.now }
     requires witness { blame.witness < length events.now }
     requires few { length events.now ≤ MOST_EVENTS }
-    ensures ok { OnOk result (page.new ≡ page.old ++ blame_text names.now events.now position blame) }
-    ensures memory { OnErr result GrowthRefused }
+    ensures { OnOk result (page.new ≡ page.old ++ blame_text names.now events.now position blame) }
 {
     page.add(&[
         Piece::Text("  block "),
@@ -267,8 +254,7 @@ fn add_blames(
     requires position { position < length events.now }
     requires within { AreBlamesWithin (length events.now) blames.now }
     requires few { length events.now ≤ MOST_EVENTS }
-    ensures ok { OnOk result (page.new ≡ page.old ++ flat_map (blame_text names.now events.now position) blames.now) }
-    ensures memory { OnErr result GrowthRefused }
+    ensures { OnOk result (page.new ≡ page.old ++ flat_map (blame_text names.now events.now position) blames.now) }
 {
     for k in 0..blames.len() {
         add_blame(page, names, events, position, blames[k])?;
@@ -288,8 +274,7 @@ pub(crate) fn add_witness(
     requires within { IsWithin (length events.now) position evidence.now }
     requires few { length events.now ≤ MOST_EVENTS }
     requires open { FewAreOpen events.now }
-    ensures ok { OnOk result (page.new ≡ page.old ++ witness_text names.now events.now position evidence.now) }
-    ensures memory { OnErr result GrowthRefused }
+    ensures { OnOk result (page.new ≡ page.old ++ witness_text names.now events.now position evidence.now) }
 {
     add_closing(page, events, position, evidence.spans.len())?;
     add_members(page, names, events, &evidence.spans)?;

@@ -1,7 +1,6 @@
 //! The lines of what was asked for, and of the counts.
-ghost use Rattle.std.specs.Prelude.{◌≡◌, ◌++◌, OnOk, OnErr};
+ghost use Rattle.std.specs.Prelude.{◌≡◌, ◌++◌, OnOk};
 ghost use Rattle.std.specs.List.{flat_map};
-ghost use Rattle.velo_events.specs.Refusals.{GrowthRefused};
 ghost use Rattle.velo_audit_text.specs.Words.{left_out_label_text, left_out_lock_text, left_out_variable_text, asked_text, count_text, not_atomic_text, nobody_text, mark_text};
 
 use velo_events::{Label, LockId, Memory, VarId};
@@ -22,8 +21,7 @@ pub struct Asked<'a> {
 /// Adds a label that was to be left out.
 #[tactic(auto, unfolding(crate::specs::Words::left_out_label_text))]
 fn add_left_out_label(page: &mut Page, names: &Names, label: Label) -> Result<(), Memory>
-    ensures ok { OnOk result (page.new ≡ page.old ++ left_out_label_text names.now label) }
-    ensures memory { OnErr result GrowthRefused }
+    ensures { OnOk result (page.new ≡ page.old ++ left_out_label_text names.now label) }
 {
     page.add(&[
         Piece::Text("left out label "),
@@ -36,8 +34,7 @@ fn add_left_out_label(page: &mut Page, names: &Names, label: Label) -> Result<()
 /// Adds a lock that was to be left out.
 #[tactic(auto, unfolding(crate::specs::Words::left_out_lock_text))]
 fn add_left_out_lock(page: &mut Page, names: &Names, lock: LockId) -> Result<(), Memory>
-    ensures ok { OnOk result (page.new ≡ page.old ++ left_out_lock_text names.now lock) }
-    ensures memory { OnErr result GrowthRefused }
+    ensures { OnOk result (page.new ≡ page.old ++ left_out_lock_text names.now lock) }
 {
     page.add(&[
         Piece::Text("left out lock "),
@@ -50,8 +47,7 @@ fn add_left_out_lock(page: &mut Page, names: &Names, lock: LockId) -> Result<(),
 /// Adds a variable that was to be left out.
 #[tactic(auto, unfolding(crate::specs::Words::left_out_variable_text))]
 fn add_left_out_variable(page: &mut Page, names: &Names, variable: VarId) -> Result<(), Memory>
-    ensures ok { OnOk result (page.new ≡ page.old ++ left_out_variable_text names.now variable) }
-    ensures memory { OnErr result GrowthRefused }
+    ensures { OnOk result (page.new ≡ page.old ++ left_out_variable_text names.now variable) }
 {
     page.add(&[
         Piece::Text("left out variable "),
@@ -63,8 +59,7 @@ fn add_left_out_variable(page: &mut Page, names: &Names, variable: VarId) -> Res
 
 /// Adds the labels that were to be left out.
 fn add_left_out_labels(page: &mut Page, names: &Names, labels: &[Label]) -> Result<(), Memory>
-    ensures ok { OnOk result (page.new ≡ page.old ++ flat_map (left_out_label_text names.now) labels.now) }
-    ensures memory { OnErr result GrowthRefused }
+    ensures { OnOk result (page.new ≡ page.old ++ flat_map (left_out_label_text names.now) labels.now) }
 {
     for label in labels {
         add_left_out_label(page, names, *label)?;
@@ -74,8 +69,7 @@ fn add_left_out_labels(page: &mut Page, names: &Names, labels: &[Label]) -> Resu
 
 /// Adds the locks that were to be left out.
 fn add_left_out_locks(page: &mut Page, names: &Names, locks: &[LockId]) -> Result<(), Memory>
-    ensures ok { OnOk result (page.new ≡ page.old ++ flat_map (left_out_lock_text names.now) locks.now) }
-    ensures memory { OnErr result GrowthRefused }
+    ensures { OnOk result (page.new ≡ page.old ++ flat_map (left_out_lock_text names.now) locks.now) }
 {
     for lock in locks {
         add_left_out_lock(page, names, *lock)?;
@@ -85,8 +79,7 @@ fn add_left_out_locks(page: &mut Page, names: &Names, locks: &[LockId]) -> Resul
 
 /// Adds the variables that were to be left out.
 fn add_left_out_variables(page: &mut Page, names: &Names, variables: &[VarId]) -> Result<(), Memory>
-    ensures ok { OnOk result (page.new ≡ page.old ++ flat_map (left_out_variable_text names.now) variables.now) }
-    ensures memory { OnErr result GrowthRefused }
+    ensures { OnOk result (page.new ≡ page.old ++ flat_map (left_out_variable_text names.now) variables.now) }
 {
     for variable in variables {
         add_left_out_variable(page, names, *variable)?;
@@ -96,8 +89,7 @@ fn add_left_out_variables(page: &mut Page, names: &Names, variables: &[VarId]) -
 
 /// Adds what was to be left out.
 pub(crate) fn add_asked(page: &mut Page, names: &Names, asked: &Asked) -> Result<(), Memory>
-    ensures ok { OnOk result (page.new ≡ page.old ++ asked_text names.now asked.now) }
-    ensures memory { OnErr result GrowthRefused }
+    ensures { OnOk result (page.new ≡ page.old ++ asked_text names.now asked.now) }
 {
     add_left_out_labels(page, names, asked.labels)?;
     add_left_out_locks(page, names, asked.locks)?;
@@ -107,8 +99,7 @@ pub(crate) fn add_asked(page: &mut Page, names: &Names, asked: &Asked) -> Result
 /// Adds a label that is not atomic.
 #[tactic(auto, unfolding(crate::specs::Words::not_atomic_text))]
 pub(crate) fn add_not_atomic(page: &mut Page, names: &Names, label: u32) -> Result<(), Memory>
-    ensures ok { OnOk result (page.new ≡ page.old ++ not_atomic_text names.now label) }
-    ensures memory { OnErr result GrowthRefused }
+    ensures { OnOk result (page.new ≡ page.old ++ not_atomic_text names.now label) }
 {
     page.add(&[
         Piece::Text("not atomic "),
@@ -121,8 +112,7 @@ pub(crate) fn add_not_atomic(page: &mut Page, names: &Names, label: u32) -> Resu
 /// Adds that no block is to blame, where none is.
 #[tactic(auto, unfolding(crate::specs::Words::nobody_text))]
 pub(crate) fn add_mark(page: &mut Page, to_blame: bool) -> Result<(), Memory>
-    ensures ok { OnOk result (page.new ≡ page.old ++ mark_text to_blame) }
-    ensures memory { OnErr result GrowthRefused }
+    ensures { OnOk result (page.new ≡ page.old ++ mark_text to_blame) }
 {
     if to_blame {
         return Ok(());
@@ -133,8 +123,7 @@ pub(crate) fn add_mark(page: &mut Page, to_blame: bool) -> Result<(), Memory>
 /// Adds how many labels are atomic, and how many rounds there were.
 #[tactic(auto, unfolding(crate::specs::Words::count_text))]
 pub(crate) fn add_counts(page: &mut Page, atomic: usize, rounds: usize) -> Result<(), Memory>
-    ensures ok { OnOk result (page.new ≡ page.old ++ count_text atomic rounds) }
-    ensures memory { OnErr result GrowthRefused }
+    ensures { OnOk result (page.new ≡ page.old ++ count_text atomic rounds) }
 {
     page.add(&[
         Piece::Text("atomic "),

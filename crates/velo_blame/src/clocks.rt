@@ -4,7 +4,6 @@ ghost use Rattle.velo_events.specs.declared.event.Event.{Event};
 ghost use Rattle.velo_events.specs.Event.{thread_of};
 ghost use Rattle.velo_events.specs.Block.{is_open_at, open_blocks};
 ghost use Rattle.velo_events.specs.Graph.{HasCycle};
-ghost use Rattle.velo_events.specs.Refusals.{GrowthRefused};
 ghost use Rattle.velo_events.specs.WellFormed.{IsWellFormed};
 ghost use Rattle.velo_traces.specs.Blocks.{block_at};
 ghost use Rattle.velo_clocks.specs.Clocks.{AreClocksSince};
@@ -62,7 +61,6 @@ impl Clocks {
     pub fn new(alloc: Global, config: &Config) -> Result<Clocks, Memory>
         ensures bounds { IfOk result (λ clocks. clocks.bounds ≡ config.now.bounds) }
         ensures start { IfOk result (λ clocks. (trace : List Event) → AreClocksSince (length trace) clocks.state trace) }
-        ensures memory { OnErr result GrowthRefused }
     {
         let tables = ClockTables::new(alloc, config)?;
         Ok(Clocks {
@@ -81,7 +79,6 @@ impl Clocks {
         ensures same { (first : ℕ) (trace : List Event) → AreClocksSince first self.old.state trace → AreClocksSince first self.new.state trace }
         ensures ok { OnOk result (IsOfThreads self.old.bounds.threads event.now → HasRoomToNote self.new.bounds.threads self.new.state event.now) }
         ensures err { OnErr result (¬ HasRoomToNote self.old.bounds.threads self.old.state event.now) }
-        ensures memory { OnErr result GrowthRefused }
     {
         self.tables.reserve_for(event)
     }

@@ -1,6 +1,5 @@
 //! Lists that are kept in one store.
-ghost use Rattle.std.specs.Prelude.{◌≡◌, ◌<◌, ◌+◌, ◌++◌, ◌∷◌, [], length, slice_index, slice_set, IfOk, OnOk, OnErr};
-ghost use Rattle.velo_events.specs.Refusals.{GrowthRefused};
+ghost use Rattle.std.specs.Prelude.{◌≡◌, ◌<◌, ◌+◌, ◌++◌, ◌∷◌, [], length, slice_index, slice_set, IfOk, OnOk};
 ghost use Rattle.velo_certify.specs.Chains.{AreDescending, AreWithin};
 ghost use Rattle.velo_certify.specs.Table.{IsBlank};
 
@@ -36,7 +35,6 @@ impl Links {
     pub fn new(alloc: Global, count: usize) -> Result<Links, Memory>
         ensures blank { IfOk result (λ l. IsBlank l.heads.items) }
         ensures count { IfOk result (λ l. length l.heads.items ≡ count) }
-        ensures memory { OnErr result GrowthRefused }
     {
         Ok(Links {
             heads: filled(alloc, 0, count)?,
@@ -52,7 +50,6 @@ impl Links {
         requires { to < length self.old.heads.items }
         ensures links { OnOk result (self.new.links.items ≡ self.old.links.items ++ record { before = before; next = slice_index self.old.heads.items to } ∷ []) }
         ensures heads { OnOk result (self.new.heads.items ≡ slice_set self.old.heads.items to (length self.old.links.items + 1)) }
-        ensures memory { OnErr result GrowthRefused }
     {
         reserve(&mut self.links, 1)?;
         let next = self.heads[to];

@@ -1,7 +1,6 @@
 //! Numbers of positions, kept by what their events change, so that the greatest of those that change what an event is about
 //! is found at one place.
-ghost use Rattle.std.specs.Prelude.{◌≡◌, ◌<◌, length, max, slice_index, slice_set, IfOk, OnErr};
-ghost use Rattle.velo_events.specs.Refusals.{GrowthRefused};
+ghost use Rattle.std.specs.Prelude.{◌≡◌, ◌<◌, length, max, slice_index, slice_set, IfOk};
 ghost use Rattle.velo_events.specs.Event.{access_of};
 ghost use Rattle.velo_certify.specs.Changes.{AreUnchanged, IsSwapped, TakesChanges, change_sizes};
 ghost use Rattle.velo_certify.specs.Table.{NamesRows, AllNameRows, sizes_of};
@@ -39,7 +38,6 @@ impl Changes {
     pub fn new(alloc: Global, counts: Counts) -> Result<Changes, Memory>
         ensures blank { IfOk result AreUnchanged }
         ensures sizes { IfOk result (λ changes. change_sizes changes ≡ sizes_of counts.threads counts.cells) }
-        ensures memory { OnErr result GrowthRefused }
     {
         Ok(Changes {
             threads: blank_row(alloc, counts.threads)?,

@@ -1,9 +1,7 @@
 //! A shortest cycle through the transaction of a position, and whether a list is one.
-ghost use Rattle.std.specs.Prelude.{◌≡◌, ◌-◌, ◌<◌, ◌↔◌, ◌++◌, ℕ, List, length, slice_index, IfOk, IfErr, OnErr, IsTrue};
-ghost use Rattle.velo_events.specs.Block.{is_begin_at, owner};
+ghost use Rattle.std.specs.Prelude.{◌≡◌, ◌-◌, ◌<◌, ◌↔◌, List, length, slice_index, IfOk, IfErr, IsTrue};
+ghost use Rattle.velo_events.specs.Block.{owner};
 ghost use Rattle.velo_events.specs.Certificate.{IsShortestCycleAt};
-ghost use Rattle.velo_events.specs.Refusals.{GrowthRefused};
-ghost use Rattle.velo_events.specs.Reordering.{IsSelfSerializable};
 ghost use Rattle.velo_events.specs.declared.event.Event.{Event};
 ghost use Rattle.velo_certify.specs.Owners.{AreOwners};
 ghost use Rattle.velo_certify.specs.Table.{AllNameRows, sizes};
@@ -31,8 +29,7 @@ fn cycle_through(
 ) -> Result<Vec<usize>, Memory>
     requires nearer { AreNearer start reached.now.distance.items reached.now.next.items }
     requires second { 0 < slice_index reached.now.distance.items second }
-    ensures cycle { IfOk result (λ cycle. (trace : List Event) → AreDistances trace start reached.now.distance.items → AreTowards trace start reached.now.distance.items reached.now.next.items → IsNearest trace reached.now.distance.items start second → IsShortestFrom trace start cycle.items) }
-    ensures memory { OnErr result GrowthRefused }
+    ensures { IfOk result (λ cycle. (trace : List Event) → AreDistances trace start reached.now.distance.items → AreTowards trace start reached.now.distance.items reached.now.next.items → IsNearest trace reached.now.distance.items start second → IsShortestFrom trace start cycle.items) }
 {
     let mut cycle = Vec::new(alloc);
     reserve(&mut cycle, 1)?;
@@ -65,8 +62,6 @@ fn last_cycle(alloc: Global, events: &[Event]) -> Result<Vec<usize>, CertFault>
 /// A shortest cycle of the events up to the position that begins with the transaction of the position. Each transaction is
 /// named by its first position; of several shortest cycles the least list is given.
 ///
-/// A block that is not self-serializable in the trace stays so, whatever events follow.
-///
 /// Each event is passed a bounded number of times, however long the cycle is, and the transactions that are at one distance are
 /// sorted.
 ///
@@ -76,7 +71,6 @@ fn last_cycle(alloc: Global, events: &[Event]) -> Result<Vec<usize>, CertFault>
 pub fn cycle_of(alloc: Global, trace: &Trace, position: usize) -> Result<Vec<usize>, CertFault>
     ensures cycle { IfOk result (λ cycle. IsShortestCycleAt trace.now.events position cycle.items) }
     ensures fault { IfErr result (IsCycleFault trace.now.events position) }
-    ensures stays { (more : List Event) (b : ℕ) → IsTrue (is_begin_at trace.now.events b) → ¬ IsSelfSerializable trace.now.events b → ¬ IsSelfSerializable (trace.now.events ++ more) b }
 {
     let events = trace.as_slice();
     if position >= events.len() {
@@ -115,8 +109,7 @@ fn is_linked(events: &[Event], owners: &[usize], table: &mut Table, cycle: &[usi
 /// Whether the list is a cycle that begins with the transaction of the last of the events.
 fn is_last_cycle(alloc: Global, events: &[Event], cycle: &[usize]) -> Result<bool, Memory>
     requires { 0 < length events.now }
-    ensures cycle { IfOk result (λ yes. IsTrue yes ↔ IsCycleFrom events.now (owner events.now (length events.now - 1)) cycle.now) }
-    ensures memory { OnErr result GrowthRefused }
+    ensures { IfOk result (λ yes. IsTrue yes ↔ IsCycleFrom events.now (owner events.now (length events.now - 1)) cycle.now) }
 {
     if cycle.len() < 2 {
         return Ok(false);
@@ -140,8 +133,7 @@ pub fn check_cycle(
     position: usize,
     cycle: &[usize],
 ) -> Result<bool, Memory>
-    ensures shortest { IfOk result (λ yes. IsTrue yes ↔ IsShortestCycleAt trace.now.events position cycle.now) }
-    ensures memory { OnErr result GrowthRefused }
+    ensures { IfOk result (λ yes. IsTrue yes ↔ IsShortestCycleAt trace.now.events position cycle.now) }
 {
     let shortest = match cycle_of(alloc, trace, position) {
         Ok(shortest) => shortest.len(),

@@ -1,6 +1,5 @@
 //! How far transactions are from one that they reach, found backwards along the edges of the graph.
-ghost use Rattle.std.specs.Prelude.{◌≡◌, ◌<◌, ℕ, length, slice_index, IfOk, OnErr};
-ghost use Rattle.velo_events.specs.Refusals.{GrowthRefused};
+ghost use Rattle.std.specs.Prelude.{◌≡◌, ◌<◌, ℕ, length, slice_index, IfOk};
 ghost use Rattle.velo_certify.specs.Owners.{AreOwners};
 ghost use Rattle.velo_certify.specs.Distances.{AreDistances, AreTowards};
 ghost use Rattle.velo_certify.specs.Search.{AreOnLevel, AreVisited, Expands, IsSearched};
@@ -70,7 +69,6 @@ pub(crate) fn reach_target(
     requires target { target < length events.now }
     ensures distances { IfOk result (λ reached. AreDistances events.now target reached.distance.items) }
     ensures next { IfOk result (λ reached. AreTowards events.now target reached.distance.items reached.next.items) }
-    ensures memory { OnErr result GrowthRefused }
 {
     let mut lists = Lists::new(alloc, events)?;
     let mut reached = Reached::new(alloc, events.len(), target)?;

@@ -1,9 +1,8 @@
 //! The pairs of events behind the edges of a cycle.
-ghost use Rattle.std.specs.Prelude.{◌≡◌, ◌≢◌, ◌<◌, ◌+◌, ◌-◌, length, take, slice_index, IfOk, OnErr, MatchOption};
+ghost use Rattle.std.specs.Prelude.{◌≡◌, ◌≢◌, ◌<◌, ◌+◌, ◌-◌, length, take, slice_index, IfOk, MatchOption};
 ghost use Rattle.velo_events.specs.Block.{owner};
 ghost use Rattle.velo_events.specs.Certificate.{IsCycleAt};
 ghost use Rattle.velo_events.specs.Graph.{Edge};
-ghost use Rattle.velo_events.specs.Refusals.{GrowthRefused};
 ghost use Rattle.velo_certify.specs.Cycle.{next_in, IsLinked};
 ghost use Rattle.velo_certify.specs.Edges.{ShowsEdge, ShowEdges, own_places};
 ghost use Rattle.velo_certify.specs.Owners.{AreOwners};
@@ -105,8 +104,7 @@ fn all_edge_events(
     cycle: &[usize],
 ) -> Result<Vec<EdgeEvents>, Memory>
     requires linked { IsLinked events.now cycle.now (length cycle.now) }
-    ensures edges { IfOk result (λ edges. ShowEdges events.now cycle.now edges.items) }
-    ensures memory { OnErr result GrowthRefused }
+    ensures { IfOk result (λ edges. ShowEdges events.now cycle.now edges.items) }
 {
     let owners = owners_of(alloc, events)?;
     let mut table = Table::new(alloc, events)?;
@@ -132,8 +130,7 @@ pub fn edge_events_of(
     cycle: &[usize],
 ) -> Result<Vec<EdgeEvents>, Memory>
     requires { IsCycleAt trace.now.events position cycle.now }
-    ensures edges { IfOk result (λ edges. ShowEdges (take (position + 1) trace.now.events) cycle.now edges.items) }
-    ensures memory { OnErr result GrowthRefused }
+    ensures { IfOk result (λ edges. ShowEdges (take (position + 1) trace.now.events) cycle.now edges.items) }
 {
     let events = trace.as_slice();
     all_edge_events(alloc, &events[..position + 1], cycle)

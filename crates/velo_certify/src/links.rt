@@ -1,7 +1,6 @@
 //! For each transaction some of those from which an edge leads to it: enough of them that chains of these stand for all edges.
-ghost use Rattle.std.specs.Prelude.{◌≡◌, ◌<◌, ◌+◌, length, IfOk, OnOk, OnErr, IsTrue};
+ghost use Rattle.std.specs.Prelude.{◌≡◌, ◌<◌, ◌+◌, length, IfOk, OnOk, IsTrue};
 ghost use Rattle.velo_events.specs.Graph.{conflict_at};
-ghost use Rattle.velo_events.specs.Refusals.{GrowthRefused};
 ghost use Rattle.velo_certify.specs.Changes.{change_sizes, HasChanges};
 ghost use Rattle.velo_certify.specs.Links.{is_weak, counted, counted_back, pair_at, AreShown, IsBefore, IsBehind, IsLinked, DropsListed, HasRows, HasLinks};
 ghost use Rattle.velo_certify.specs.Serial.{has};
@@ -62,7 +61,6 @@ fn link(
     requires rows { HasRows events.now links.old }
     ensures known { length known.new ≡ 65536 }
     ensures linked { OnOk result (IsLinked events.now from to number known.old known.new links.old links.new) }
-    ensures memory { OnErr result GrowthRefused }
 {
     if events[from].thread.0 == events[to].thread.0 {
         return Ok(());
@@ -94,7 +92,6 @@ fn link_back(
     ensures numbers { HasChanges events.now (numbers_before counted (at + 1)) changes.new }
     ensures known { OnOk result (AreShown events.now (IsBefore (at + 1)) links.new known.new) }
     ensures links { OnOk result (HasLinks events.now (at + 1) (length events.now) links.new) }
-    ensures memory { OnErr result GrowthRefused }
 {
     let other = changes.take(events, at, at + 1);
     if other == 0 {
@@ -122,7 +119,6 @@ fn link_on(
     ensures numbers { HasChanges events.now (numbers_from (counted_back events.now) at) changes.new }
     ensures known { OnOk result (AreShown events.now (IsBehind events.now at) links.new known.new) }
     ensures links { OnOk result (HasLinks events.now (length events.now) at links.new) }
-    ensures memory { OnErr result GrowthRefused }
 {
     let other = changes.take(events, at, events.len() - at);
     if other == 0 {
@@ -153,8 +149,7 @@ fn link_all_back(
     requires owners { AreOwners owners.now events.now }
     requires names { AllNameRows (sizes_of counts.threads counts.cells) events.now (length events.now) }
     requires links { HasLinks events.now 0 (length events.now) links.old }
-    ensures links { OnOk result (HasLinks events.now (length events.now) (length events.now) links.new) }
-    ensures memory { OnErr result GrowthRefused }
+    ensures { OnOk result (HasLinks events.now (length events.now) (length events.now) links.new) }
 {
     let mut changes = Changes::new(alloc, counts)?;
     let mut known = blank_row(alloc, PAIRS)?;
@@ -175,8 +170,7 @@ fn link_all_on(
     requires owners { AreOwners owners.now events.now }
     requires names { AllNameRows (sizes_of counts.threads counts.cells) events.now (length events.now) }
     requires links { HasLinks events.now (length events.now) (length events.now) links.old }
-    ensures links { OnOk result (HasLinks events.now (length events.now) 0 links.new) }
-    ensures memory { OnErr result GrowthRefused }
+    ensures { OnOk result (HasLinks events.now (length events.now) 0 links.new) }
 {
     let mut changes = Changes::new(alloc, counts)?;
     let mut known = blank_row(alloc, PAIRS)?;
@@ -200,8 +194,7 @@ pub(crate) fn links_of(
 ) -> Result<Links, Memory>
     requires owners { AreOwners owners.now events.now }
     requires names { AllNameRows (sizes_of counts.threads counts.cells) events.now (length events.now) }
-    ensures links { IfOk result (HasLinks events.now (length events.now) 0) }
-    ensures memory { OnErr result GrowthRefused }
+    ensures { IfOk result (HasLinks events.now (length events.now) 0) }
 {
     let mut links = Links::new(alloc, events.len())?;
     link_all_back(alloc, events, owners, counts, &mut links)?;

@@ -1,6 +1,5 @@
 //! The positions in rising lists, by what their events are about, and a search that visits each list from its front.
-ghost use Rattle.std.specs.Prelude.{◌≡◌, ◌≤◌, ◌<◌, ◌+◌, length, slice_index, slice_set, IfOk, OnErr};
-ghost use Rattle.velo_events.specs.Refusals.{GrowthRefused};
+ghost use Rattle.std.specs.Prelude.{◌≡◌, ◌≤◌, ◌<◌, ◌+◌, length, slice_index, slice_set, IfOk};
 ghost use Rattle.velo_certify.specs.Lists.{AreListed, IsRising, list_sizes};
 ghost use Rattle.velo_certify.specs.Owners.{AreOwners};
 ghost use Rattle.velo_certify.specs.Search.{AreVisited, IsSearching, Visits, VisitsConflicts, VisitsList, level_at};
@@ -75,7 +74,6 @@ impl Lists {
     pub fn new(alloc: Global, events: &[Event]) -> Result<Lists, Memory>
         ensures names { IfOk result (λ lists. AllNameRows (list_sizes lists) events.now (length events.now)) }
         ensures lists { IfOk result (AreListed events.now 0) }
-        ensures memory { OnErr result GrowthRefused }
     {
         let counts = counts_of(events);
         let none = events.len();

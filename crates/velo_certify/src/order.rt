@@ -1,7 +1,6 @@
 //! Whether a list is a serial reordering of a trace, told by a few passes over each.
-ghost use Rattle.std.specs.Prelude.{◌≡◌, ◌≤◌, ◌<◌, ◌+◌, ◌↔◌, ℕ, length, slice_index, IfOk, OnErr, IfSome, IfNone, IsTrue, IsFalse};
+ghost use Rattle.std.specs.Prelude.{◌≡◌, ◌≤◌, ◌<◌, ◌+◌, ◌↔◌, ℕ, length, slice_index, IfOk, IfSome, IfNone, IsTrue, IsFalse};
 ghost use Rattle.velo_events.specs.Reordering.{IsReordering, IsSerial};
-ghost use Rattle.velo_events.specs.Refusals.{GrowthRefused};
 ghost use Rattle.velo_certify.specs.Order.{HasEachOnce, IsFilled, ArePlaces, KeepsConflicts, AreTogether, StandSoFar};
 ghost use Rattle.velo_certify.specs.Table.{IsBlank};
 
@@ -49,7 +48,6 @@ fn is_full(places: &[usize]) -> bool
 fn places_of(alloc: Global, count: usize, order: &[usize]) -> Result<Option<Vec<usize>>, Memory>
     ensures places { IfOk result (λ found. IfSome found (λ places. ArePlaces count order.now places.items)) }
     ensures none { IfOk result (λ found. IfNone found (¬ HasEachOnce count order.now)) }
-    ensures memory { OnErr result GrowthRefused }
 {
     let mut places = filled(alloc, 0, count)?;
     if !fill_places(order, &mut places) {
@@ -65,8 +63,7 @@ fn places_of(alloc: Global, count: usize, order: &[usize]) -> Result<Option<Vec<
 fn keeps_conflicts(alloc: Global, events: &[Event], places: &[usize]) -> Result<bool, Memory>
     requires count { length places.now ≡ length events.now }
     requires positive { (i : ℕ) → i < length places.now → 0 < slice_index places.now i }
-    ensures keeps { IfOk result (λ yes. IsTrue yes ↔ KeepsConflicts events.now places.now) }
-    ensures memory { OnErr result GrowthRefused }
+    ensures { IfOk result (λ yes. IsTrue yes ↔ KeepsConflicts events.now places.now) }
 {
     let mut table = Table::new(alloc, events)?;
     for j in 0..events.len() {
@@ -104,8 +101,7 @@ fn goes_on_or_begins(owners: &[usize], order: &[usize], k: usize, begun: &mut [b
 fn are_together(alloc: Global, owners: &[usize], order: &[usize]) -> Result<bool, Memory>
     requires within { (m : ℕ) → m < length order.now → slice_index order.now m < length owners.now }
     requires small { (i : ℕ) → i < length owners.now → slice_index owners.now i < length owners.now }
-    ensures together { IfOk result (λ yes. IsTrue yes ↔ AreTogether owners.now order.now) }
-    ensures memory { OnErr result GrowthRefused }
+    ensures { IfOk result (λ yes. IsTrue yes ↔ AreTogether owners.now order.now) }
 {
     let mut begun = filled(alloc, false, owners.len())?;
     for k in 0..order.len() {
@@ -124,8 +120,7 @@ fn is_serial(
     places: &[usize],
 ) -> Result<bool, Memory>
     requires { ArePlaces (length events.now) order.now places.now }
-    ensures serial { IfOk result (λ yes. IsTrue yes ↔ (IsReordering events.now order.now × IsSerial events.now order.now)) }
-    ensures memory { OnErr result GrowthRefused }
+    ensures { IfOk result (λ yes. IsTrue yes ↔ (IsReordering events.now order.now × IsSerial events.now order.now)) }
 {
     if !keeps_conflicts(alloc, events, places)? {
         return Ok(false);
@@ -142,8 +137,7 @@ fn is_serial(
 /// # Errors
 /// `Memory` where a growth was refused.
 pub fn check_order(alloc: Global, trace: &Trace, order: &[usize]) -> Result<bool, Memory>
-    ensures serial { IfOk result (λ yes. IsTrue yes ↔ (IsReordering trace.now.events order.now × IsSerial trace.now.events order.now)) }
-    ensures memory { OnErr result GrowthRefused }
+    ensures { IfOk result (λ yes. IsTrue yes ↔ (IsReordering trace.now.events order.now × IsSerial trace.now.events order.now)) }
 {
     let events = trace.as_slice();
     match places_of(alloc, events.len(), order)? {

@@ -1,7 +1,6 @@
 //! The transactions of all positions of a trace, found in one pass.
-ghost use Rattle.std.specs.Prelude.{◌≡◌, ◌≤◌, ◌<◌, ◌+◌, ◌++◌, ◌∷◌, [], length, IfOk, OnErr};
+ghost use Rattle.std.specs.Prelude.{◌≡◌, ◌≤◌, ◌<◌, ◌+◌, ◌++◌, ◌∷◌, [], length, IfOk};
 ghost use Rattle.velo_events.specs.Block.{owner};
-ghost use Rattle.velo_events.specs.Refusals.{GrowthRefused};
 ghost use Rattle.velo_events.specs.Scan.{IsScanned};
 ghost use Rattle.velo_certify.specs.Owners.{AreOwners, AreScanned, event_at};
 
@@ -69,8 +68,7 @@ fn next_owner(events: &[Event], at: usize, threads: &mut [ThreadBlocks]) -> usiz
 /// # Errors
 /// `Memory` where a growth was refused.
 pub fn owners_of(alloc: Global, events: &[Event]) -> Result<Vec<usize>, Memory>
-    ensures owners { IfOk result (λ owners. AreOwners owners.items events.now) }
-    ensures memory { OnErr result GrowthRefused }
+    ensures { IfOk result (λ owners. AreOwners owners.items events.now) }
 {
     let mut owners = with_capacity(alloc, events.len())?;
     let blank = ThreadBlocks { depth: 0, first: 0 };

@@ -1,13 +1,8 @@
 //! The greedy serial order of a trace without a cycle.
-ghost use Rattle.std.specs.Prelude.{◌≡◌, ◌≤◌, ◌<◌, ◌+◌, ◌++◌, ℕ, List, length, IfOk, IfErr, OnOk, OnErr, IsTrue, IsFalse};
+ghost use Rattle.std.specs.Prelude.{◌≡◌, ◌≤◌, ◌<◌, ◌+◌, ◌++◌, length, IfOk, IfErr, OnOk, IsTrue, IsFalse};
 ghost use Rattle.velo_events.specs.Block.{IsTransaction};
 ghost use Rattle.velo_events.specs.Certificate.{positions_of, IsSerialOrder};
 ghost use Rattle.velo_events.specs.Graph.{HasCycle};
-ghost use Rattle.velo_events.specs.Refusals.{GrowthRefused};
-ghost use Rattle.velo_events.specs.Reordering.{IsReordering, events_in_order};
-ghost use Rattle.velo_events.specs.WellFormed.{IsWellFormed};
-ghost use Rattle.velo_events.specs.declared.config.Bounds.{Bounds};
-ghost use Rattle.velo_certify.specs.Reordered.{LeavesSameHeap};
 ghost use Rattle.velo_certify.specs.Owners.{AreOwners};
 ghost use Rattle.velo_certify.specs.Links.{HasLinksLeft};
 ghost use Rattle.velo_certify.specs.Serial.{is_before, AreClosed, IsCandidate, IsNext, IsOrderFault};
@@ -98,7 +93,6 @@ fn append_positions(
     requires transaction { IsTransaction events.now a }
     ensures ok { OnOk result (order.new.items ≡ order.old.items ++ positions_of events.now a) }
     ensures behind { IfOk result (IsBehind events.now a) }
-    ensures memory { OnErr result GrowthRefused }
 {
     let mut at = a;
     while at < events.len() && owner_of(events, owners, at) == a {
@@ -142,9 +136,6 @@ fn list_all(alloc: Global, events: &[Event]) -> Result<Vec<usize>, CertFault>
 /// A serial reordering of the trace: its transactions one after another, each time the least of those whose
 /// predecessors are all listed, the positions of each rising.
 ///
-/// Every reordering of a well-formed trace is well-formed and leaves the same heap, so what the trace does its serial
-/// order does too.
-///
 /// # Errors
 /// `HasCycle` where the trace has a cycle, and `Memory` where a growth was refused. Of a trace with a cycle no order is
 /// answered.
@@ -152,8 +143,6 @@ pub fn serial_order(alloc: Global, trace: &Trace) -> Result<Vec<usize>, CertFaul
     ensures order { IfOk result (λ order. IsSerialOrder trace.now.events order.items) }
     ensures acyclic { OnOk result (¬ HasCycle trace.now.events) }
     ensures fault { IfErr result (IsOrderFault trace.now.events) }
-    ensures well_formed { (bounds : Bounds) (order : List ℕ) → IsWellFormed bounds trace.now.events → IsReordering trace.now.events order → IsWellFormed bounds (events_in_order trace.now.events order) }
-    ensures same_heap { (order : List ℕ) → IsReordering trace.now.events order → LeavesSameHeap trace.now.events (events_in_order trace.now.events order) }
 {
     list_all(alloc, trace.as_slice())
 }

@@ -1,7 +1,6 @@
 //! Numbers of positions, kept by what their events are about, so that the greatest of those whose events conflict with a
 //! given one is found without a look at each.
-ghost use Rattle.std.specs.Prelude.{◌≡◌, ◌≤◌, ◌<◌, length, max, slice_index, slice_set, IfOk, OnErr, ℕ};
-ghost use Rattle.velo_events.specs.Refusals.{GrowthRefused};
+ghost use Rattle.std.specs.Prelude.{◌≡◌, ◌≤◌, ◌<◌, length, max, slice_index, slice_set, IfOk, ℕ};
 ghost use Rattle.velo_certify.specs.Table.{IsBlank, AreBlank, sizes, NamesRows, AllNameRows, IsLookedUp, IsNoted, TakesIn};
 
 use crate::counts::counts_of;
@@ -29,7 +28,6 @@ pub(crate) struct Table {
 pub(crate) fn blank_row(alloc: Global, count: usize) -> Result<Vec<usize>, Memory>
     ensures blank { IfOk result (λ row. IsBlank row.items) }
     ensures count { IfOk result (λ row. length row.items ≡ count) }
-    ensures memory { OnErr result GrowthRefused }
 {
     filled(alloc, 0, count)
 }
@@ -61,7 +59,6 @@ impl Table {
     pub fn new(alloc: Global, events: &[Event]) -> Result<Table, Memory>
         ensures blank { IfOk result AreBlank }
         ensures names { IfOk result (λ table. AllNameRows (sizes table) events.now (length events.now)) }
-        ensures memory { OnErr result GrowthRefused }
     {
         let counts = counts_of(events);
         Ok(Table {

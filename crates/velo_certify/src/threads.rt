@@ -1,6 +1,5 @@
 //! The events of each thread in their order, and how far each thread's are listed.
-ghost use Rattle.std.specs.Prelude.{◌≡◌, ◌<◌, ◌+◌, length, IfOk, OnErr};
-ghost use Rattle.velo_events.specs.Refusals.{GrowthRefused};
+ghost use Rattle.std.specs.Prelude.{◌≡◌, ◌<◌, ◌+◌, length, IfOk};
 ghost use Rattle.velo_certify.specs.Table.{AllNameRows, sizes_of};
 ghost use Rattle.velo_certify.specs.Threads.{AreFirstFrom, AreFollowing, NamesFronts};
 
@@ -28,7 +27,6 @@ impl Threads {
         ensures names { IfOk result (λ threads. NamesFronts events.now threads.fronts.items) }
         ensures fronts { IfOk result (λ threads. AreFirstFrom events.now 0 threads.fronts.items) }
         ensures following { IfOk result (λ threads. AreFollowing events.now 0 threads.following.items) }
-        ensures memory { OnErr result GrowthRefused }
     {
         let mut fronts = filled(alloc, events.len(), counts.threads)?;
         let mut following = filled(alloc, events.len(), events.len())?;

@@ -1,6 +1,5 @@
 //! Why a block is to blame: an event of another thread that no reordering moves out of it.
-ghost use Rattle.std.specs.Prelude.{◌≡◌, ◌≢◌, ◌≤◌, ◌<◌, ◌+◌, ℕ, length, slice_index, vec_len, vec_capacity, IfOk, OnErr, MatchOption, IsTrue};
-ghost use Rattle.velo_events.specs.Refusals.{GrowthRefused};
+ghost use Rattle.std.specs.Prelude.{◌≡◌, ◌≢◌, ◌≤◌, ◌<◌, ◌+◌, ℕ, length, slice_index, vec_len, vec_capacity, IfOk, MatchOption, IsTrue};
 ghost use Rattle.velo_certify.specs.Table.{AllNameRows, HasNumbers, sizes};
 ghost use Rattle.velo_certify.specs.Witness.{AreMarks, IsWitness};
 
@@ -41,7 +40,6 @@ fn marks_before(
     requires { position ≤ length events.now }
     ensures marks { IfOk result (λ marks. AreMarks events.now begin marks.items) }
     ensures count { IfOk result (λ marks. length marks.items ≡ position) }
-    ensures memory { OnErr result GrowthRefused }
 {
     let mut table = Table::new(alloc, events)?;
     let mut marks = with_capacity(alloc, position)?;
@@ -98,8 +96,7 @@ pub fn witness_of(
     position: usize,
 ) -> Result<Option<usize>, Memory>
     requires { position < length trace.now.events }
-    ensures witness { IfOk result (λ found. MatchOption found ((w : ℕ) → ¬ IsWitness trace.now.events begin position w) (IsWitness trace.now.events begin position)) }
-    ensures memory { OnErr result GrowthRefused }
+    ensures { IfOk result (λ found. MatchOption found ((w : ℕ) → ¬ IsWitness trace.now.events begin position w) (IsWitness trace.now.events begin position)) }
 {
     let events = trace.as_slice();
     let marks = marks_before(alloc, events, begin, position)?;

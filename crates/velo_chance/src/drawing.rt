@@ -1,7 +1,6 @@
 //! Schedules that are drawn by chance.
-ghost use Rattle.std.specs.Prelude.{◌≡◌, ◌<◌, IfOk, OnErr, OnOk};
+ghost use Rattle.std.specs.Prelude.{◌≡◌, ◌<◌, IfOk, OnOk};
 ghost use Rattle.rand_core.specs.Stream.{next_u64};
-ghost use Rattle.velo_events.specs.Refusals.{GrowthRefused};
 ghost use Rattle.velo_chance.specs.Drawing.{behind_words, drawn, stream, thread_of, turns_for};
 
 use rand_core::Rng;
@@ -50,7 +49,6 @@ pub(crate) fn draw(
     requires { 0 < threads }
     ensures turns { IfOk result (λ turns. turns.items ≡ drawn threads count (stream random.old)) }
     ensures rest { OnOk result (stream random.new ≡ behind_words count (stream random.old)) }
-    ensures memory { OnErr result GrowthRefused }
 {
     let mut turns = Vec::new(alloc);
     for _ in 0..count {

@@ -1,7 +1,6 @@
 //! Noting what a run shows.
-ghost use Rattle.std.specs.Prelude.{◌≡◌, ◌+◌, ◌-◌, ◌<◌, ◌^◌, ◌∷◌, ◌++◌, [], ℕ, List, Some, None, min, option_map, IfOk, OnErr, if◌then◌else◌};
+ghost use Rattle.std.specs.Prelude.{◌≡◌, ◌+◌, ◌-◌, ◌<◌, ◌^◌, ◌∷◌, ◌++◌, [], ℕ, List, Some, None, min, option_map, IfOk, if◌then◌else◌};
 ghost use Rattle.std.specs.Option.{option_or};
-ghost use Rattle.velo_events.specs.Refusals.{GrowthRefused};
 ghost use Rattle.velo_schedules.specs.Logs.{ends_refused};
 ghost use Rattle.velo_chance.specs.Runs.{Run, blocks_of, ends_stuck, has_label};
 ghost use Rattle.velo_chance.specs.Tallies.{AreCounts, ComesTo, ending_of};
@@ -17,8 +16,7 @@ use velo_world::Alarm;
 
 /// A copy of a schedule.
 fn copied(alloc: Global, schedule: &[ThreadId]) -> Result<Vec<ThreadId>, Memory>
-    ensures copy { IfOk result (λ copy. copy.items ≡ schedule.now) }
-    ensures memory { OnErr result GrowthRefused }
+    ensures { IfOk result (λ copy. copy.items ≡ schedule.now) }
 {
     let mut copy = Vec::new(alloc);
     reserve(&mut copy, schedule.len())?;
@@ -35,9 +33,8 @@ fn first_of(
     shows: bool,
     schedule: &[ThreadId],
 ) -> Result<Option<Vec<ThreadId>>, Memory>
-    ensures first { IfOk result (λ first. option_map (λ turns. turns.items) first ≡
+    ensures { IfOk result (λ first. option_map (λ turns. turns.items) first ≡
         option_or (option_map (λ turns. turns.items) kept) (if shows then Some schedule.now else None)) }
-    ensures memory { OnErr result GrowthRefused }
 {
     if kept.is_some() || !shows {
         return Ok(kept);
@@ -53,9 +50,8 @@ fn first_refused(
     ending: Ending,
     schedule: &[ThreadId],
 ) -> Result<Option<RefusedRun>, Memory>
-    ensures first { IfOk result (λ first. option_map ending_of first ≡
+    ensures { IfOk result (λ first. option_map ending_of first ≡
         option_or (option_map ending_of kept) (if ends_refused ending then Some (schedule.now, ending) else None)) }
-    ensures memory { OnErr result GrowthRefused }
 {
     if kept.is_some() {
         return Ok(kept);
@@ -77,9 +73,8 @@ fn blamed_with(
     blamed: Vec<Blamed>,
     alarm: Option<&Alarm>,
 ) -> Result<Vec<Blamed>, Memory>
-    ensures counted { IfOk result (λ after. (count : ℕ → ℕ) → ((label : ℕ) → count label < 2 ^ 64 - 1) → AreCounts count blamed.items →
+    ensures { IfOk result (λ after. (count : ℕ → ℕ) → ((label : ℕ) → count label < 2 ^ 64 - 1) → AreCounts count blamed.items →
         AreCounts (λ label. count label + (if has_label label (blocks_of (option_map (λ a. a.now) alarm.entry)) then 1 else 0)) after.items) }
-    ensures memory { OnErr result GrowthRefused }
 {
     match alarm {
         Some(alarm) => count_alarm(alloc, blamed, alarm.blamed.as_slice()),
@@ -117,7 +112,6 @@ pub(crate) fn note(
     ensures comes_to { IfOk result (λ after. (runs : List Run) → ComesTo runs tally →
         ComesTo (runs ++ record { schedule = schedule.now; ending = ending; alarm = option_map (λ a. a.now) alarm.entry } ∷ []) after) }
     ensures runs { IfOk result (λ after. after.runs ≡ tally.runs + 1) }
-    ensures memory { OnErr result GrowthRefused }
 {
     let Tally {
         runs,

@@ -1,7 +1,6 @@
 //! Runs by schedules that are given, or by chance.
-ghost use Rattle.std.specs.Prelude.{◌≡◌, ◌+◌, ◌-◌, ◌<◌, ◌^◌, ◌∷◌, ◌++◌, [], ℕ, List, map, IfOk, IfSome, OnErr};
+ghost use Rattle.std.specs.Prelude.{◌≡◌, ◌+◌, ◌-◌, ◌<◌, ◌^◌, ◌∷◌, ◌++◌, [], ℕ, List, map, IfOk, IfSome};
 ghost use Rattle.std.specs.List.Sorted.{IsNonDecreasingBy};
-ghost use Rattle.velo_events.specs.Refusals.{GrowthRefused};
 ghost use Rattle.velo_events.specs.declared.config.Config.{Config as ConfigOf};
 ghost use Rattle.velo_events.specs.declared.event.ThreadId.{ThreadId as Turn};
 ghost use Rattle.velo_schedules.specs.Told.{ShowsAlarm, ShowsStuck, ShowsRefusal};
@@ -50,7 +49,6 @@ fn run_once(
     ensures tried { IfOk result (λ after. (schedules : List (List Turn)) → IsTriedBy workload.now config schedules tally →
         IsTriedBy workload.now config (schedules ++ schedule.now ∷ []) after) }
     ensures runs { IfOk result (λ after. after.runs ≡ tally.runs + 1) }
-    ensures memory { OnErr result GrowthRefused }
 {
     let (closed, ending) = replayed(alloc, workload, schedule, config)?;
     let noted = note(alloc, tally, schedule, ending, closed.alarm());
@@ -72,7 +70,6 @@ pub fn try_all(
     requires bounds { config.bounds ≡ workload.now.bounds }
     ensures tried { IfOk result (IsTriedBy workload.now config (map (λ schedule. schedule.items) schedules.now)) }
     ensures order { IfOk result (λ tally. IsNonDecreasingBy rank tally.blamed.items) }
-    ensures memory { OnErr result GrowthRefused }
 {
     let mut tally = no_runs(alloc);
     for place in 0..schedules.len() {
@@ -107,7 +104,6 @@ pub fn try_by_chance(
     ensures alarm { IfOk result (λ tally. IfSome tally.alarm (λ schedule. ShowsAlarm workload.now config schedule.items)) }
     ensures stuck { IfOk result (λ tally. IfSome tally.stuck (λ schedule. ShowsStuck workload.now config schedule.items)) }
     ensures refused { IfOk result (λ tally. IfSome tally.refused (ShowsRefusal workload.now config)) }
-    ensures memory { OnErr result GrowthRefused }
 {
     let mut random = Xoshiro256PlusPlus::seed_from_u64(seed);
     let turns = turns_for(workload);

@@ -1,7 +1,6 @@
 //! Runs by chance, with simple schedules.
-ghost use Rattle.std.specs.Prelude.{◌≡◌, IfOk, IfSome, OnErr, is_some, option_map};
+ghost use Rattle.std.specs.Prelude.{◌≡◌, IfOk, IfSome, is_some, option_map};
 ghost use Rattle.std.specs.List.Sorted.{IsNonDecreasingBy};
-ghost use Rattle.velo_events.specs.Refusals.{GrowthRefused};
 ghost use Rattle.velo_schedules.specs.Told.{ShowsRefusal};
 ghost use Rattle.velo_shrink.specs.declared.goal.Goal.TheVariants as goals;
 ghost use Rattle.velo_shrink.specs.Shown.{Shows};
@@ -30,7 +29,6 @@ fn simple_schedule(
     ensures simple { IfOk result (λ simple. IfSome simple (λ turns.
         SimplifiesFirst workload.now config goal (option_map (λ schedule. schedule.items) found)
         turns.items)) }
-    ensures memory { OnErr result GrowthRefused }
 {
     match found {
         Some(schedule) => {
@@ -55,7 +53,6 @@ fn simple_refusal(
     ensures simple { IfOk result (λ simple. IfSome simple (λ run.
         SimplifiesFirst workload.now config (goals.Refused run.thread run.refusal)
         (option_map (λ run. run.schedule.items) refused) run.schedule.items)) }
-    ensures memory { OnErr result GrowthRefused }
 {
     match refused {
         Some(run) => {
@@ -94,7 +91,6 @@ pub fn explore_by_chance(
     requires { config.bounds ≡ workload.now.bounds }
     ensures told { IfOk result (IsTold workload.now config seed runs) }
     ensures order { IfOk result (λ tally. IsNonDecreasingBy rank tally.blamed.items) }
-    ensures memory { OnErr result GrowthRefused }
 {
     let Tally {
         runs,

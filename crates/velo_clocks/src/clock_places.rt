@@ -1,4 +1,3 @@
-ghost use Rattle.velo_events.specs.Refusals.{GrowthRefused};
 ghost use Rattle.std.specs.Prelude.{◌≡◌, ◌<◌, ◌≤◌, ◌+◌, ◌-◌, ◌^◌, ℕ, min, true, false, [], length, slice_index_or, slice_set, None, IsTrue, IsFalse, IfOk, OnOk, OnErr};
 ghost use Rattle.velo_events.specs.Event.{thread_of, access_of, forked_by};
 ghost use Rattle.velo_clocks.specs.Clocks.{ClockPlace, blank_clock, clock_at, known_at, OfLast, blame_bound, KnowsNothing, KnowsTheSame};
@@ -41,7 +40,6 @@ impl PlaceClocks {
         ensures places { IfOk result (ArePlaces threads) }
         ensures blank { IfOk result (λ places. KnowsNothing (state_of places)) }
         ensures few { IfOk result HasFewRows }
-        ensures memory { OnErr result GrowthRefused }
     {
         let rows = SharedRows::new(alloc, threads)?;
         let blanks = filled(alloc, Epoch::blank(), threads)?;
@@ -85,7 +83,6 @@ impl PlaceClocks {
         ensures few { HasFewRows self.old → HasFewRows self.new }
         ensures ok { OnOk result (IsOfThreads threads event.now → HasRoomToNote threads (state_of self.new) event.now) }
         ensures err { OnErr result (¬ HasRoomToNote threads (state_of self.old) event.now) }
-        ensures memory { OnErr result GrowthRefused }
     {
         self.reserve_beside(event, threads)?;
         self.reserve_lists(threads)?;
@@ -102,7 +99,6 @@ impl PlaceClocks {
         ensures lists { has_lists self.new.reads ≡ has_lists self.old.reads }
         ensures ok { OnOk result (IsOfThreads threads event.now → HasRoomToNoteBeside threads (state_of self.new) (access_of event.now.kind)) }
         ensures err { OnErr result (0 < threads → ¬ HasRoomToNoteBeside threads (state_of self.old) (access_of event.now.kind)) }
-        ensures memory { OnErr result GrowthRefused }
     {
         match event.kind.access() {
             Access::Shared(c) => self.reads.reserve(c.0 as usize),
@@ -121,7 +117,6 @@ impl PlaceClocks {
         ensures rows { self.new.rows ≡ self.old.rows }
         ensures ok { OnOk result (has_lists self.new.reads ≡ true) }
         ensures err { OnErr result (has_lists self.old.reads ≡ false) }
-        ensures memory { OnErr result GrowthRefused }
     {
         if self.reads.has_lists() {
             return Ok(());
@@ -138,7 +133,6 @@ impl PlaceClocks {
         ensures few { HasFewRows self.old → HasFewRows self.new }
         ensures ok { OnOk result (has_spare self.new.rows ≡ true) }
         ensures err { OnErr result (has_spare self.old.rows ≡ false) }
-        ensures memory { OnErr result GrowthRefused }
     {
         if self.rows.has_spare() {
             return Ok(());
@@ -155,7 +149,6 @@ impl PlaceClocks {
         ensures kept { KeepsPlaces self.old self.new }
         ensures few { HasFewRows self.old → HasFewRows self.new }
         ensures ok { OnOk result (has_spare self.new.rows ≡ true) }
-        ensures memory { OnErr result GrowthRefused }
     {
         self.rows.seek();
         if self.rows.has_spare() {

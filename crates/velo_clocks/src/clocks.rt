@@ -1,4 +1,3 @@
-ghost use Rattle.velo_events.specs.Refusals.{GrowthRefused};
 ghost use Rattle.std.specs.Prelude.{◌≡◌, ◌+◌, ◌<◌, ◌^◌, length, IsTrue, IsFalse, IfOk, OnOk, OnErr};
 ghost use Rattle.velo_clocks.specs.Clocks.{blame_bound, known_at, OfLast, KnowsNothing, IsNoted, KnowsTheSame};
 ghost use Rattle.velo_clocks.specs.Noted.{HasRoomToNote, IsOfThreads};
@@ -43,7 +42,6 @@ impl ClockTables {
     pub fn new(alloc: Global, config: &Config) -> Result<ClockTables, Memory>
         ensures blank { IfOk result KnowsNothing }
         ensures threads { IfOk result (λ tables. length tables.threads ≡ config.now.bounds.threads) }
-        ensures memory { OnErr result GrowthRefused }
     {
         let threads = config.bounds.threads as usize;
         let clock = filled(alloc, 0u32, threads)?;
@@ -73,7 +71,6 @@ impl ClockTables {
         ensures threads { length self.new.threads ≡ length self.old.threads }
         ensures ok { OnOk result (IsOfThreads (length self.old.threads) event.now → HasRoomToNote (length self.new.threads) self.new event.now) }
         ensures err { OnErr result (¬ HasRoomToNote (length self.old.threads) self.old event.now) }
-        ensures memory { OnErr result GrowthRefused }
     {
         let threads = self.clock.len();
         self.places.reserve_for(event, threads)

@@ -1,4 +1,3 @@
-ghost use Rattle.velo_events.specs.Refusals.{GrowthRefused};
 ghost use Rattle.std.specs.Prelude.{◌≡◌, ◌<◌, ◌≤◌, ◌^◌, ◌++◌, ℕ, max, replicate, [], length, slice_index_or, slice_set, OnOk, OnErr};
 ghost use Rattle.velo_clocks.specs.NumberRows.{with_row};
 ghost use Rattle.velo_clocks.specs.Noted.{maxima};
@@ -35,7 +34,6 @@ impl Model for NumberRows {
 fn append_zeros(numbers: &mut Vec<u32>, count: usize) -> Result<(), Memory>
     ensures ok { OnOk result (numbers.new.items ≡ numbers.old.items ++ replicate count 0) }
     ensures err { OnErr result (numbers.new.items ≡ numbers.old.items) }
-    ensures memory { OnErr result GrowthRefused }
 {
     reserve(numbers, count)?;
     let longer = numbers.len() + count;
@@ -85,7 +83,6 @@ impl NumberRows {
         ensures ok { OnOk result (self.new ≡ with_row width number self.old) }
         ensures err { OnErr result (self.new ≡ self.old) }
         ensures refused { OnErr result (number ≡ length self.old) }
-        ensures memory { OnErr result GrowthRefused }
     {
         if number < self.count {
             return Ok(());

@@ -1,4 +1,3 @@
-ghost use Rattle.velo_events.specs.Refusals.{GrowthRefused};
 ghost use Rattle.std.specs.Prelude.{◌≡◌, ◌<◌, ◌≤◌, ◌+◌, ◌^◌, ℕ, max, true, false, [], length, slice_index_or, slice_set, IsTrue, OnOk, OnErr};
 ghost use Rattle.velo_clocks.specs.declared.read_clocks.ReadBy.TheVariants.{Nobody, One, Several};
 ghost use Rattle.velo_clocks.specs.Clocks.{blank_clock};
@@ -95,7 +94,6 @@ impl ReadClocks {
         ensures same { (threads : ℕ) (rows : SharedRows) → AreRows threads rows → KeepNumbers (reads_in rows self.old) (reads_in rows self.new) }
         ensures ok { OnOk result ((threads : ℕ) (rows : SharedRows) → AreRows threads rows → AreReads threads rows self.new → HasRoomAt threads (reads_in rows self.new) number) }
         ensures refused { OnErr result ((threads : ℕ) (rows : SharedRows) → 0 < threads → ¬ HasRoomAt threads (reads_in rows self.old) number) }
-        ensures memory { OnErr result GrowthRefused }
     {
         fill_up_to(
             &mut self.places,
@@ -119,7 +117,6 @@ impl ReadClocks {
         ensures same { reads_in rows.now self.new ≡ reads_in rows.now self.old }
         ensures ok { OnOk result (has_lists self.new ≡ true) }
         ensures count { length self.new.places.items ≡ length self.old.places.items }
-        ensures memory { OnErr result GrowthRefused }
     {
         // No place has the first of them, since lists are counted from 1.
         self.reserve_list(rows, 0, threads)?;
@@ -143,7 +140,6 @@ impl ReadClocks {
         ensures places { self.new.places.items ≡ self.old.places.items }
         ensures spare { self.new.spare ≡ self.old.spare }
         ensures ok { OnOk result (length self.new.own ≡ max (number + 1) (length self.old.own)) }
-        ensures memory { OnErr result GrowthRefused }
     {
         self.by_others.reserve(number, threads)?;
         self.own.reserve(number, threads)

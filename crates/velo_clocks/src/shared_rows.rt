@@ -1,6 +1,5 @@
 //! Rows of numbers that places share.
-ghost use Rattle.velo_events.specs.Refusals.{GrowthRefused};
-ghost use Rattle.std.specs.Prelude.{◌≡◌, ◌<◌, ◌≤◌, ◌+◌, ℕ, true, false, [], length, slice_index_or, IsTrue, IsFalse, IfOk, OnOk, OnErr};
+ghost use Rattle.std.specs.Prelude.{◌≡◌, ◌<◌, ◌≤◌, ◌+◌, ℕ, true, false, [], length, slice_index_or, IsTrue, IsFalse, IfOk, OnOk};
 ghost use Rattle.velo_clocks.specs.Noted.{maxima};
 ghost use Rattle.velo_clocks.specs.Order.{KnowsOwn, KnowsTops};
 ghost use Rattle.velo_clocks.specs.Epochs.{blank_epoch, clock_in, alone_in, count_used, has_spare, AreRows, IsInUse, RefersTo, KeepsRows, UsesMore};
@@ -45,7 +44,6 @@ impl SharedRows {
     pub fn new(alloc: Global, threads: usize) -> Result<SharedRows, Memory>
         ensures rows { IfOk result (AreRows threads) }
         ensures count { IfOk result (λ rows. length rows.in_use.items ≡ 1) }
-        ensures memory { OnErr result GrowthRefused }
     {
         let mut rows = NumberRows::new(alloc);
         rows.reserve(0, threads)?;
@@ -160,7 +158,6 @@ impl SharedRows {
         ensures same { (r : ℕ) → r < length self.old.rows → slice_index_or self.new.rows r [] ≡ slice_index_or self.old.rows r [] }
         ensures ok { OnOk result (has_spare self.new ≡ true) }
         ensures count { length self.new.in_use.items ≤ length self.old.in_use.items + 1 }
-        ensures memory { OnErr result GrowthRefused }
     {
         reserve(&mut self.in_use, 1)?;
         let row = self.in_use.len();

@@ -1,5 +1,4 @@
-ghost use Rattle.velo_events.specs.Refusals.{GrowthRefused};
-ghost use Rattle.std.specs.Prelude.{◌≡◌, ◌≤◌, [], IfOk, OnErr};
+ghost use Rattle.std.specs.Prelude.{◌≡◌, ◌≤◌, [], IfOk};
 ghost use Rattle.velo_arena.specs.Slots.{limit_of};
 ghost use Rattle.velo_graph.specs.Collects.{Collects, TellsFreed, HasNothingLeft};
 ghost use Rattle.velo_graph.specs.Nodes.{IsSound};
@@ -34,7 +33,6 @@ impl Freed {
     pub fn new(alloc: Global, limit: u16) -> Result<Freed, Memory>
         ensures stamps { IfOk result (λ freed. freed.stamps ≡ []) }
         ensures room { IfOk result (λ freed. freed.room ≡ limit) }
-        ensures memory { OnErr result GrowthRefused }
     {
         let stamps = with_capacity(alloc, limit as usize)?;
         Ok(Freed { stamps })

@@ -1,7 +1,6 @@
 //! The words of the command line.
-ghost use Rattle.std.specs.Prelude.{◌≡◌, IfOk, OnErr, codes};
+ghost use Rattle.std.specs.Prelude.{◌≡◌, IfOk, codes};
 ghost use Rattle.clap.specs.Words.{app_of};
-ghost use Rattle.velo_events.specs.Refusals.{GrowthRefused};
 ghost use Rattle.velo_command.specs.CommandLine.{AddsRules, IsArgument, IsSubcommand, audit, bare, carry, check, command_line, events, explain, explore, flag, graph_options, needed, nodes, random, repeated, replay, run, run_options, search_options, seed, states, valued, watch, word};
 
 use crate::growth::{with_argument, with_subcommand};
@@ -20,8 +19,7 @@ use velo_program::{MOST_RUNS, MOST_STATES};
 /// # Errors
 /// `Memory` where a growth was refused.
 pub fn command<'a>(alloc: Global) -> Result<Command<'a>, Memory>
-    ensures reads { IfOk result (λ c. app_of c ≡ command_line) }
-    ensures memory { OnErr result GrowthRefused }
+    ensures { IfOk result (λ c. app_of c ≡ command_line) }
 {
     let program = with_subcommand(bare(alloc), check(alloc)?)?;
     let program = with_subcommand(program, replay(alloc)?)?;
@@ -45,8 +43,7 @@ fn bare<'a>(alloc: Global) -> Command<'a>
 }
 
 fn check<'a>(alloc: Global) -> Result<Command<'a>, Memory>
-    ensures reads { IfOk result (IsSubcommand check) }
-    ensures memory { OnErr result GrowthRefused }
+    ensures { IfOk result (IsSubcommand check) }
 {
     let command = Command::new(alloc, "check")
         .about("Reads a recorded log and reports the verdict")
@@ -57,8 +54,7 @@ fn check<'a>(alloc: Global) -> Result<Command<'a>, Memory>
 }
 
 fn replay<'a>(alloc: Global) -> Result<Command<'a>, Memory>
-    ensures reads { IfOk result (IsSubcommand replay) }
-    ensures memory { OnErr result GrowthRefused }
+    ensures { IfOk result (IsSubcommand replay) }
 {
     let command = Command::new(alloc, "replay")
         .about("Runs a workload by a schedule and reports the verdict")
@@ -70,8 +66,7 @@ fn replay<'a>(alloc: Global) -> Result<Command<'a>, Memory>
 }
 
 fn run<'a>(alloc: Global) -> Result<Command<'a>, Memory>
-    ensures reads { IfOk result (IsSubcommand run) }
-    ensures memory { OnErr result GrowthRefused }
+    ensures { IfOk result (IsSubcommand run) }
 {
     let command = Command::new(alloc, "run")
         .about("Runs a workload by threads of its own and reports the verdict")
@@ -81,8 +76,7 @@ fn run<'a>(alloc: Global) -> Result<Command<'a>, Memory>
 }
 
 fn explain<'a>(alloc: Global) -> Result<Command<'a>, Memory>
-    ensures reads { IfOk result (IsSubcommand explain) }
-    ensures memory { OnErr result GrowthRefused }
+    ensures { IfOk result (IsSubcommand explain) }
 {
     let command = Command::new(alloc, "explain")
         .about("Reads a recorded log and explains the verdict in lanes and words")
@@ -93,8 +87,7 @@ fn explain<'a>(alloc: Global) -> Result<Command<'a>, Memory>
 }
 
 fn carry<'a>(alloc: Global) -> Result<Command<'a>, Memory>
-    ensures reads { IfOk result (IsSubcommand carry) }
-    ensures memory { OnErr result GrowthRefused }
+    ensures { IfOk result (IsSubcommand carry) }
 {
     let command = Command::new(alloc, "carry")
         .about("Reads a recorded log and writes it in the newest version of its text")
@@ -104,8 +97,7 @@ fn carry<'a>(alloc: Global) -> Result<Command<'a>, Memory>
 }
 
 fn explore<'a>(alloc: Global) -> Result<Command<'a>, Memory>
-    ensures reads { IfOk result (IsSubcommand explore) }
-    ensures memory { OnErr result GrowthRefused }
+    ensures { IfOk result (IsSubcommand explore) }
 {
     let command = Command::new(alloc, "explore")
         .about("Tries every schedule of a workload and reports what it finds")
@@ -115,8 +107,7 @@ fn explore<'a>(alloc: Global) -> Result<Command<'a>, Memory>
 }
 
 fn watch<'a>(alloc: Global) -> Result<Command<'a>, Memory>
-    ensures reads { IfOk result (IsSubcommand watch) }
-    ensures memory { OnErr result GrowthRefused }
+    ensures { IfOk result (IsSubcommand watch) }
 {
     let command = Command::new(alloc, "watch")
         .about("Reads a log as it comes, tells its alarm at once, and reports the verdict")
@@ -128,8 +119,7 @@ fn watch<'a>(alloc: Global) -> Result<Command<'a>, Memory>
 }
 
 fn audit<'a>(alloc: Global) -> Result<Command<'a>, Memory>
-    ensures reads { IfOk result (IsSubcommand audit) }
-    ensures memory { OnErr result GrowthRefused }
+    ensures { IfOk result (IsSubcommand audit) }
 {
     let command = Command::new(alloc, "audit")
         .about("Reads a recorded log and lists the labels whose blocks are not atomic")
@@ -146,8 +136,7 @@ fn audit<'a>(alloc: Global) -> Result<Command<'a>, Memory>
 
 /// The command with the options of each command that runs a workload.
 fn with_run_options<'a>(alloc: Global, command: Command<'a>) -> Result<Command<'a>, Memory>
-    ensures adds { IfOk result (AddsRules run_options command.entry) }
-    ensures memory { OnErr result GrowthRefused }
+    ensures { IfOk result (AddsRules run_options command.entry) }
 {
     let command = with_argument(command, stop(alloc))?;
     let command = with_argument(command, out(alloc))?;
@@ -157,8 +146,7 @@ fn with_run_options<'a>(alloc: Global, command: Command<'a>) -> Result<Command<'
 
 /// The command with the options of each command that searches.
 fn with_search_options<'a>(alloc: Global, command: Command<'a>) -> Result<Command<'a>, Memory>
-    ensures adds { IfOk result (AddsRules search_options command.entry) }
-    ensures memory { OnErr result GrowthRefused }
+    ensures { IfOk result (AddsRules search_options command.entry) }
 {
     let command = with_argument(command, states_argument(alloc))?;
     let command = with_argument(command, first(alloc))?;
@@ -172,8 +160,7 @@ fn with_search_options<'a>(alloc: Global, command: Command<'a>) -> Result<Comman
 
 /// The command with the options of each command that keeps a graph.
 fn with_graph_options<'a>(alloc: Global, command: Command<'a>) -> Result<Command<'a>, Memory>
-    ensures adds { IfOk result (AddsRules graph_options command.entry) }
-    ensures memory { OnErr result GrowthRefused }
+    ensures { IfOk result (AddsRules graph_options command.entry) }
 {
     let command = with_argument(command, events_argument(alloc, "1048576"))?;
     let command = with_argument(command, nodes_argument(alloc, "1024"))?;

@@ -1,6 +1,6 @@
 //! Growing calls of `clap`, each with the fact that its refusal leaves. No other code of this
 //! crate can show this fact.
-ghost use Rattle.std.specs.Prelude.{◌≡◌, true, map, IfErr, IfOk, OnErr};
+ghost use Rattle.std.specs.Prelude.{◌≡◌, true, map, IfErr, IfOk};
 ghost use Rattle.clap.specs.Words.{AddsArg, AddsSubcommand, FailsBy, HasMatchesOf, app_of, fault_of, is_simple_and_free, kind_of};
 ghost use Rattle.clap.specs.declared.error.kind.ErrorKind.TheVariants.{OutOfMemory};
 ghost use Rattle.velo_events.specs.Refusals.{GrowthRefused};
@@ -15,8 +15,7 @@ use velo_events::Memory;
 /// # Errors
 /// `Memory` where a growth was refused.
 pub fn with_argument<'a>(command: Command<'a>, argument: Arg<'a>) -> Result<Command<'a>, Memory>
-    ensures adds { IfOk result (AddsArg command.entry argument.entry) }
-    ensures memory { OnErr result GrowthRefused }
+    ensures { IfOk result (AddsArg command.entry argument.entry) }
 {
     match command.arg(argument) {
         Ok(command) => Ok(command),
@@ -32,8 +31,7 @@ pub fn with_subcommand<'a>(
     command: Command<'a>,
     subcommand: Command<'a>,
 ) -> Result<Command<'a>, Memory>
-    ensures adds { IfOk result (AddsSubcommand command.entry subcommand.entry) }
-    ensures memory { OnErr result GrowthRefused }
+    ensures { IfOk result (AddsSubcommand command.entry subcommand.entry) }
 {
     match command.subcommand(subcommand) {
         Ok(command) => Ok(command),
@@ -65,7 +63,6 @@ pub fn matches_of<'a, W: AsStr>(
 /// # Errors
 /// `Memory` where a growth was refused.
 pub fn text_of(alloc: Global, error: &Error) -> Result<String, Memory>
-    ensures { OnErr result GrowthRefused }
 {
     match format!(in alloc; "{error}") {
         Ok(text) => Ok(text),

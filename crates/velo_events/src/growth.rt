@@ -2,7 +2,6 @@
 //! show this fact.
 ghost use Rattle.std.specs.Prelude.{◌≡◌, ◌≤◌, ◌<◌, ◌+◌, ◌-◌, ◌^◌, ◌++◌, [], length, if◌then◌else◌, is_ok, take, replicate, vec_len, vec_capacity, IfOk, OnOk, OnErr};
 ghost use Rattle.velo_events.specs.Growth.{filled_up};
-ghost use Rattle.velo_events.specs.Refusals.{GrowthRefused};
 
 use crate::Memory;
 use std::alloc::Global;
@@ -18,7 +17,6 @@ pub fn reserve<T>(items: &mut Vec<T>, more: usize) -> Result<(), Memory>
     ensures capacity { vec_capacity items.old ≤ vec_capacity items.new }
     ensures full { OnErr result (vec_capacity items.old < vec_len items.old + more) }
     ensures err { OnErr result (vec_capacity items.new ≡ vec_capacity items.old) }
-    ensures memory { OnErr result GrowthRefused }
 {
     match items.reserve(more) {
         Ok(()) => Ok(()),
@@ -35,7 +33,6 @@ pub fn with_capacity<T>(alloc: Global, capacity: usize) -> Result<Vec<T>, Memory
     ensures len { IfOk result (λ items. vec_len items ≡ 0) }
     ensures capacity { IfOk result (λ items. capacity ≤ vec_capacity items) }
     ensures exact { IfOk result (λ items. vec_capacity items ≡ capacity) }
-    ensures memory { OnErr result GrowthRefused }
 {
     match Vec::with_capacity(alloc, capacity) {
         Ok(items) => Ok(items),
@@ -52,7 +49,6 @@ pub fn resize<T: Copy>(items: &mut Vec<T>, count: usize, item: T) -> Result<(), 
     ensures len { vec_len items.new ≡ (if is_ok result then count else vec_len items.old) }
     ensures capacity { vec_capacity items.old ≤ vec_capacity items.new }
     ensures full { OnErr result (vec_capacity items.old < count) }
-    ensures memory { OnErr result GrowthRefused }
 {
     match items.resize(count, item) {
         Ok(()) => Ok(()),
@@ -70,7 +66,6 @@ pub fn fill_up_to<T: Copy>(items: &mut Vec<T>, number: usize, blank: T) -> Resul
     ensures ok { OnOk result (items.new.items ≡ filled_up blank (number + 1) items.old.items) }
     ensures err { OnErr result (items.new.items ≡ items.old.items) }
     ensures refused { OnErr result (length items.old.items ≤ number) }
-    ensures memory { OnErr result GrowthRefused }
 {
     if number < items.len() {
         return Ok(());
@@ -84,7 +79,6 @@ fn lengthen<T: Copy>(items: &mut Vec<T>, count: usize, blank: T) -> Result<(), M
     requires { length items.old.items ≤ count }
     ensures ok { OnOk result (items.new.items ≡ filled_up blank count items.old.items) }
     ensures err { OnErr result (items.new.items ≡ items.old.items) }
-    ensures memory { OnErr result GrowthRefused }
 {
     resize(items, count, blank)
 }
@@ -96,7 +90,6 @@ fn lengthen<T: Copy>(items: &mut Vec<T>, count: usize, blank: T) -> Result<(), M
 pub fn filled<T: Clone + Drop>(alloc: Global, item: T, count: usize) -> Result<Vec<T>, Memory>
     ensures items_if_clones_equal { IfOk result (λ items. ((y : T) → T.is_clone item y → y ≡ item) → items.items ≡ replicate count item) }
     ensures len { IfOk result (λ items. vec_len items ≡ count) }
-    ensures memory { OnErr result GrowthRefused }
 {
     match Vec::from_elem(alloc, item, count) {
         Ok(items) => Ok(items),

@@ -1,19 +1,20 @@
-use std::alloc::{AllocError, AllocFailed};
+use std::marker::Model;
 use thiserror::Error;
 
-/// A growth was refused. It is answered only by a call that asked for memory, and only where this was refused.
+/// Out of memory: an allocation failed. Each value keeps this fact, so that one can be made only where an allocation
+/// failed, in the `growth` modules; whoever holds one has it.
 #[derive(Clone, Copy, Debug, PartialEq, Eq, Error)]
 #[error("out of memory")]
 pub struct Memory;
 
-impl From<AllocError> for Memory {
-    fn from(_error: AllocError) -> Memory {
-        Memory
-    }
-}
+impl Model for Memory {
+    ghost use Rattle.velo_events.specs.Refusals.{GrowthRefused};
 
-impl<T: Drop> From<AllocFailed<T>> for Memory {
-    fn from(_error: AllocFailed<T>) -> Memory {
-        Memory
-    }
+    ghost Value = { Unit {0} };
+
+    ghost view = { λ _. tt };
+
+    ghost inverse = { λ _. record {} };
+
+    ghost invariant = { λ _. GrowthRefused };
 }

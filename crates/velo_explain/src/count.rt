@@ -1,6 +1,5 @@
 //! How many transactions a trace has.
-ghost use Rattle.std.specs.Prelude.{◌≡◌, IfOk, OnErr};
-ghost use Rattle.velo_events.specs.Refusals.{GrowthRefused};
+ghost use Rattle.std.specs.Prelude.{◌≡◌, IfOk};
 ghost use Rattle.velo_certify.specs.Owners.{AreOwners};
 ghost use Rattle.velo_explain.specs.Count.{transactions_of};
 
@@ -27,8 +26,7 @@ fn count_firsts(events: &[Event], owners: &[usize]) -> usize
 /// # Errors
 /// `Memory` where a growth was refused.
 pub(crate) fn transactions_of(alloc: Global, events: &[Event]) -> Result<usize, Memory>
-    ensures count { IfOk result (λ count. count ≡ transactions_of events.now) }
-    ensures memory { OnErr result GrowthRefused }
+    ensures { IfOk result (λ count. count ≡ transactions_of events.now) }
 {
     let owners = owners_of(alloc, events)?;
     Ok(count_firsts(events, &owners))

@@ -1,6 +1,5 @@
 //! A cycle as a picture for Graphviz.
-ghost use Rattle.std.specs.Prelude.{◌≡◌, ◌≤◌, ◌<◌, ◌++◌, length, IfOk, OnOk, OnErr};
-ghost use Rattle.velo_events.specs.Refusals.{GrowthRefused};
+ghost use Rattle.std.specs.Prelude.{◌≡◌, ◌≤◌, ◌<◌, ◌++◌, length, IfOk, OnOk};
 ghost use Rattle.velo_events.specs.declared.limits.TheConstants.{MOST_EVENTS};
 ghost use Rattle.velo_explain.specs.Evidence.{AreSpansWithin, AreEdgesWithin, IsWithin};
 ghost use Rattle.velo_explain.specs.Picture.{start_text, box_text, arrow_text, end_text, named_picture_text};
@@ -18,8 +17,7 @@ use velo_names::Names;
 /// Adds the start of a picture.
 #[tactic(auto, unfolding(crate::specs::Picture::start_text))]
 fn add_start(page: &mut Page) -> Result<(), Memory>
-    ensures ok { OnOk result (page.new ≡ page.old ++ start_text) }
-    ensures memory { OnErr result GrowthRefused }
+    ensures { OnOk result (page.new ≡ page.old ++ start_text) }
 {
     page.add(&[Piece::Text("digraph cycle {\n  rankdir=LR;\n  node [shape=box];\n")])?;
     Ok(())
@@ -28,8 +26,7 @@ fn add_start(page: &mut Page) -> Result<(), Memory>
 /// Adds its end.
 #[tactic(auto, unfolding(crate::specs::Picture::end_text))]
 fn add_end(page: &mut Page) -> Result<(), Memory>
-    ensures ok { OnOk result (page.new ≡ page.old ++ end_text) }
-    ensures memory { OnErr result GrowthRefused }
+    ensures { OnOk result (page.new ≡ page.old ++ end_text) }
 {
     page.add(&[Piece::Text("}\n")])?;
     Ok(())
@@ -48,8 +45,7 @@ fn add_box(
     requires last { span.last < length events.now }
     requires few { length events.now ≤ MOST_EVENTS }
     requires place { k < usize.MAX }
-    ensures ok { OnOk result (page.new ≡ page.old ++ box_text names.now events.now k span) }
-    ensures memory { OnErr result GrowthRefused }
+    ensures { OnOk result (page.new ≡ page.old ++ box_text names.now events.now k span) }
 {
     let first = events[span.first];
     let thread = Piece::Number(u64::from(first.thread.0));
@@ -78,8 +74,7 @@ fn add_box(
 fn add_boxes(page: &mut Page, names: &Names, events: &[Event], spans: &[Span]) -> Result<(), Memory>
     requires within { AreSpansWithin (length events.now) spans.now }
     requires few { length events.now ≤ MOST_EVENTS }
-    ensures ok { OnOk result (page.new ≡ page.old ++ numbered (box_text names.now events.now) 0 spans.now) }
-    ensures memory { OnErr result GrowthRefused }
+    ensures { OnOk result (page.new ≡ page.old ++ numbered (box_text names.now events.now) 0 spans.now) }
 {
     for k in 0..spans.len() {
         add_box(page, names, events, k, spans[k])?;
@@ -101,8 +96,7 @@ fn add_arrow(
     requires to { edge.to < length events.now }
     requires few { length events.now ≤ MOST_EVENTS }
     requires place { k < count }
-    ensures ok { OnOk result (page.new ≡ page.old ++ arrow_text names.now events.now count k edge) }
-    ensures memory { OnErr result GrowthRefused }
+    ensures { OnOk result (page.new ≡ page.old ++ arrow_text names.now events.now count k edge) }
 {
     page.add(&[
         Piece::Text("  T"),
@@ -133,8 +127,7 @@ fn add_arrows(
 ) -> Result<(), Memory>
     requires within { AreEdgesWithin (length events.now) edges.now }
     requires few { length events.now ≤ MOST_EVENTS }
-    ensures ok { OnOk result (page.new ≡ page.old ++ numbered (arrow_text names.now events.now (length edges.now)) 0 edges.now) }
-    ensures memory { OnErr result GrowthRefused }
+    ensures { OnOk result (page.new ≡ page.old ++ numbered (arrow_text names.now events.now (length edges.now)) 0 edges.now) }
 {
     for k in 0..edges.len() {
         add_arrow(page, names, events, edges.len(), k, edges[k])?;
@@ -155,8 +148,7 @@ pub(crate) fn picture_of(
 ) -> Result<Page, Memory>
     requires within { IsWithin (length events.now) position evidence.now }
     requires few { length events.now ≤ MOST_EVENTS }
-    ensures ok { IfOk result (λ page. page ≡ named_picture_text names.now events.now evidence.now) }
-    ensures memory { OnErr result GrowthRefused }
+    ensures { IfOk result (λ page. page ≡ named_picture_text names.now events.now evidence.now) }
 {
     let mut page = Page::new(alloc);
     add_start(&mut page)?;

@@ -1,7 +1,6 @@
 //! What an explanation stands on: a cycle with its events, and the blocks to blame, each with an event that parts it.
-ghost use Rattle.std.specs.Prelude.{◌≡◌, ◌<◌, length, take, IfOk, IfErr, OnErr};
+ghost use Rattle.std.specs.Prelude.{◌≡◌, ◌<◌, length, take, IfOk, IfErr};
 ghost use Rattle.velo_events.specs.Graph.{HasCycle};
-ghost use Rattle.velo_events.specs.Refusals.{GrowthRefused};
 ghost use Rattle.velo_certify.specs.Cycle.{IsCycleFault};
 ghost use Rattle.velo_explain.specs.Evidence.{AreBlames, IsEvidence, IsEvidenceAt, HaveReasons};
 
@@ -40,8 +39,7 @@ fn blames_of(
     blamed: &[Block],
 ) -> Result<Vec<Blame>, Memory>
     requires { position < length trace.now.events }
-    ensures blames { IfOk result (λ blames. AreBlames trace.now.events position blamed.now blames.items) }
-    ensures memory { OnErr result GrowthRefused }
+    ensures { IfOk result (λ blames. AreBlames trace.now.events position blamed.now blames.items) }
 {
     let mut blames = with_capacity(alloc, blamed.len())?;
     for k in 0..blamed.len() {

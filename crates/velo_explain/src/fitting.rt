@@ -1,6 +1,5 @@
 //! Text that fits into so many columns.
-ghost use Rattle.std.specs.Prelude.{◌≡◌, ◌≤◌, ◌<◌, ◌++◌, length, take, nat_eq, count_by, OnOk, OnErr};
-ghost use Rattle.velo_events.specs.Refusals.{GrowthRefused};
+ghost use Rattle.std.specs.Prelude.{◌≡◌, ◌≤◌, ◌<◌, ◌++◌, length, take, nat_eq, count_by, OnOk};
 ghost use Rattle.velo_explain.specs.Fitting.{spaces, right_text, begins_character, characters, first_characters, shortened};
 ghost use Rattle.velo_explain.specs.Lanes.{room_of};
 
@@ -86,8 +85,7 @@ fn end_of(text: &[u8], most: usize) -> usize
 
 /// Adds so many spaces.
 pub(crate) fn add_spaces(page: &mut Page, count: usize) -> Result<(), Memory>
-    ensures ok { OnOk result (page.new ≡ page.old ++ spaces count) }
-    ensures memory { OnErr result GrowthRefused }
+    ensures { OnOk result (page.new ≡ page.old ++ spaces count) }
 {
     for _ in 0..count {
         page.add_bytes(b" ")?;
@@ -98,8 +96,7 @@ pub(crate) fn add_spaces(page: &mut Page, count: usize) -> Result<(), Memory>
 /// Adds the digits of a number, with spaces before them up to 8 characters.
 #[tactic(auto, unfolding(crate::specs::Fitting::right_text))]
 pub(crate) fn add_right(page: &mut Page, number: u64) -> Result<(), Memory>
-    ensures ok { OnOk result (page.new ≡ page.old ++ right_text number) }
-    ensures memory { OnErr result GrowthRefused }
+    ensures { OnOk result (page.new ≡ page.old ++ right_text number) }
 {
     let mut buffer = [0u8; 20];
     let end = put_number(&mut buffer, 0, number);
@@ -110,8 +107,7 @@ pub(crate) fn add_right(page: &mut Page, number: u64) -> Result<(), Memory>
 /// Adds a text in so many characters.
 #[tactic(auto, unfolding(crate::specs::Fitting::shortened))]
 pub(crate) fn add_shortened(page: &mut Page, room: usize, text: &[u8]) -> Result<(), Memory>
-    ensures ok { OnOk result (page.new ≡ page.old ++ shortened room text.now) }
-    ensures memory { OnErr result GrowthRefused }
+    ensures { OnOk result (page.new ≡ page.old ++ shortened room text.now) }
 {
     if characters(text) <= room {
         return page.add_bytes(text);

@@ -1,6 +1,5 @@
 //! A cycle as a picture in text: a lane for each thread, a row for each event that is shown.
-ghost use Rattle.std.specs.Prelude.{◌≡◌, ◌≤◌, ◌<◌, ◌++◌, length, map, get_or, IfOk, OnOk, OnErr};
-ghost use Rattle.velo_events.specs.Refusals.{GrowthRefused};
+ghost use Rattle.std.specs.Prelude.{◌≡◌, ◌≤◌, ◌<◌, ◌++◌, length, map, get_or, IfOk, OnOk};
 ghost use Rattle.velo_events.specs.declared.limits.TheConstants.{MOST_EVENTS};
 ghost use Rattle.velo_explain.specs.Lanes.{lanes_of, lane_text, left_text, heading_cell, lanes_heading, actor_at, indent, row_text, lines_before, between_text, step_text, rows_text, shown_text, marked_text, AreBelow};
 ghost use Rattle.velo_explain.specs.Pieces.{numbered};
@@ -16,8 +15,7 @@ use velo_names::Names;
 /// The threads of some positions.
 fn threads_of(alloc: Global, events: &[Event], shown: &[usize]) -> Result<Vec<usize>, Memory>
     requires within { AreBelow (length events.now) shown.now }
-    ensures threads { IfOk result (λ threads. threads.items ≡ map (actor_at events.now) shown.now) }
-    ensures memory { OnErr result GrowthRefused }
+    ensures { IfOk result (λ threads. threads.items ≡ map (actor_at events.now) shown.now) }
 {
     let mut threads = Vec::new(alloc);
     for position in shown {
@@ -35,7 +33,6 @@ pub(crate) fn lanes_of(
     requires within { AreBelow (length events.now) shown.now }
     ensures ok { IfOk result (λ lanes. lanes.items ≡ lanes_of events.now shown.now) }
     ensures below { IfOk result (λ lanes. AreBelow 256 lanes.items) }
-    ensures memory { OnErr result GrowthRefused }
 {
     let threads = threads_of(alloc, events, shown)?;
     in_order(alloc, &threads, 256)
@@ -44,8 +41,7 @@ pub(crate) fn lanes_of(
 /// What stands over a lane.
 #[tactic(auto, unfolding(crate::specs::Lanes::lane_text))]
 fn lane_heading(alloc: Global, names: &Names, room: usize, thread: ThreadId) -> Result<Page, Memory>
-    ensures ok { IfOk result (λ page. page ≡ lane_text names.now room thread.0) }
-    ensures memory { OnErr result GrowthRefused }
+    ensures { IfOk result (λ page. page ≡ lane_text names.now room thread.0) }
 {
     let mut heading = Page::new(alloc);
     heading.add(&[Piece::Text("thread "), Piece::Number(u64::from(thread.0))])?;
@@ -67,8 +63,7 @@ fn add_left(
 ) -> Result<(), Memory>
     requires place { k < length lanes.now }
     requires threads { AreBelow 256 lanes.now }
-    ensures ok { OnOk result (page.new ≡ page.old ++ left_text names.now lanes.now k) }
-    ensures memory { OnErr result GrowthRefused }
+    ensures { OnOk result (page.new ≡ page.old ++ left_text names.now lanes.now k) }
 {
     if k == 0 {
         return Ok(());
@@ -89,8 +84,7 @@ fn add_heading_cell(
 ) -> Result<(), Memory>
     requires place { k < length lanes.now }
     requires threads { AreBelow 256 lanes.now }
-    ensures ok { OnOk result (page.new ≡ page.old ++ heading_cell names.now lanes.now k (get_or lanes.now k 0)) }
-    ensures memory { OnErr result GrowthRefused }
+    ensures { OnOk result (page.new ≡ page.old ++ heading_cell names.now lanes.now k (get_or lanes.now k 0)) }
 {
     add_left(page, alloc, names, lanes, k)?;
     page.add_bytes(b"  ")?;
@@ -106,8 +100,7 @@ fn add_heading_cells(
     lanes: &[usize],
 ) -> Result<(), Memory>
     requires threads { AreBelow 256 lanes.now }
-    ensures ok { OnOk result (page.new ≡ page.old ++ numbered (heading_cell names.now lanes.now) 0 lanes.now) }
-    ensures memory { OnErr result GrowthRefused }
+    ensures { OnOk result (page.new ≡ page.old ++ numbered (heading_cell names.now lanes.now) 0 lanes.now) }
 {
     for k in 0..lanes.len() {
         add_heading_cell(page, alloc, names, lanes, k)?;
@@ -118,8 +111,7 @@ fn add_heading_cells(
 /// Adds the first line.
 fn add_heading(page: &mut Page, alloc: Global, names: &Names, lanes: &[usize]) -> Result<(), Memory>
     requires threads { AreBelow 256 lanes.now }
-    ensures ok { OnOk result (page.new ≡ page.old ++ lanes_heading names.now lanes.now) }
-    ensures memory { OnErr result GrowthRefused }
+    ensures { OnOk result (page.new ≡ page.old ++ lanes_heading names.now lanes.now) }
 {
     page.add_bytes(b"    line")?;
     add_heading_cells(page, alloc, names, lanes)?;
@@ -128,8 +120,7 @@ fn add_heading(page: &mut Page, alloc: Global, names: &Names, lanes: &[usize]) -
 
 /// Leaves the lanes of threads with smaller numbers blank.
 fn add_indent(page: &mut Page, lanes: &[usize], thread: ThreadId) -> Result<(), Memory>
-    ensures ok { OnOk result (page.new ≡ page.old ++ indent lanes.now thread.0) }
-    ensures memory { OnErr result GrowthRefused }
+    ensures { OnOk result (page.new ≡ page.old ++ indent lanes.now thread.0) }
 {
     let width = room_of(lanes.len()) + 2;
     for lane in lanes {
@@ -152,8 +143,7 @@ fn add_row(
 ) -> Result<(), Memory>
     requires within { position < length events.now }
     requires few { length events.now ≤ MOST_EVENTS }
-    ensures ok { OnOk result (page.new ≡ page.old ++ row_text names.now events.now lanes.now position) }
-    ensures memory { OnErr result GrowthRefused }
+    ensures { OnOk result (page.new ≡ page.old ++ row_text names.now events.now lanes.now position) }
 {
     let event = events[position];
     let mut operation = Page::new(alloc);
@@ -183,8 +173,7 @@ fn lines_before(shown: &[usize], k: usize) -> usize
 /// Adds how many lines lie between two rows.
 #[tactic(auto, unfolding(crate::specs::Lanes::between_text))]
 fn add_between(page: &mut Page, count: usize) -> Result<(), Memory>
-    ensures ok { OnOk result (page.new ≡ page.old ++ between_text count) }
-    ensures memory { OnErr result GrowthRefused }
+    ensures { OnOk result (page.new ≡ page.old ++ between_text count) }
 {
     if count == 0 {
         return Ok(());
@@ -212,8 +201,7 @@ fn add_step(
     requires place { k < length shown.now }
     requires within { AreBelow (length events.now) shown.now }
     requires few { length events.now ≤ MOST_EVENTS }
-    ensures ok { OnOk result (page.new ≡ page.old ++ step_text names.now events.now lanes.now shown.now k (get_or shown.now k 0)) }
-    ensures memory { OnErr result GrowthRefused }
+    ensures { OnOk result (page.new ≡ page.old ++ step_text names.now events.now lanes.now shown.now k (get_or shown.now k 0)) }
 {
     add_between(page, lines_before(shown, k))?;
     add_row(page, alloc, names, events, lanes, shown[k])
@@ -230,8 +218,7 @@ fn add_steps(
 ) -> Result<(), Memory>
     requires within { AreBelow (length events.now) shown.now }
     requires few { length events.now ≤ MOST_EVENTS }
-    ensures ok { OnOk result (page.new ≡ page.old ++ numbered (step_text names.now events.now lanes.now shown.now) 0 shown.now) }
-    ensures memory { OnErr result GrowthRefused }
+    ensures { OnOk result (page.new ≡ page.old ++ numbered (step_text names.now events.now lanes.now shown.now) 0 shown.now) }
 {
     for k in 0..shown.len() {
         add_step(page, alloc, names, events, lanes, shown, k)?;
@@ -254,8 +241,7 @@ pub(crate) fn add_rows(
     requires threads { AreBelow 256 lanes.now }
     requires within { AreBelow (length events.now) shown.now }
     requires few { length events.now ≤ MOST_EVENTS }
-    ensures ok { OnOk result (page.new ≡ page.old ++ rows_text names.now events.now lanes.now shown.now) }
-    ensures memory { OnErr result GrowthRefused }
+    ensures { OnOk result (page.new ≡ page.old ++ rows_text names.now events.now lanes.now shown.now) }
 {
     add_heading(page, alloc, names, lanes)?;
     add_steps(page, alloc, names, events, lanes, shown)

@@ -1,7 +1,6 @@
 //! Which events a picture in lanes shows.
-ghost use Rattle.std.specs.Prelude.{◌≡◌, ◌≤◌, ◌++◌, length, map, fold, IfOk, OnOk, OnErr};
+ghost use Rattle.std.specs.Prelude.{◌≡◌, ◌≤◌, ◌++◌, length, map, fold, IfOk, OnOk};
 ghost use Rattle.std.specs.List.{flat_map};
-ghost use Rattle.velo_events.specs.Refusals.{GrowthRefused};
 ghost use Rattle.velo_events.specs.declared.limits.TheConstants.{MOST_EVENTS};
 ghost use Rattle.velo_explain.specs.declared.spans.Span.{Span};
 ghost use Rattle.velo_explain.specs.declared.evidence.Blame.{Blame};
@@ -20,8 +19,7 @@ use velo_names::Names;
 
 /// The events behind the edges of the cycle.
 fn cycle_marks(alloc: Global, edges: &[EdgeEvents]) -> Result<Vec<usize>, Memory>
-    ensures marks { IfOk result (λ marks. marks.items ≡ flat_map ends_of edges.now) }
-    ensures memory { OnErr result GrowthRefused }
+    ensures { IfOk result (λ marks. marks.items ≡ flat_map ends_of edges.now) }
 {
     let mut marks = Vec::new(alloc);
     for edge in edges {
@@ -33,8 +31,7 @@ fn cycle_marks(alloc: Global, edges: &[EdgeEvents]) -> Result<Vec<usize>, Memory
 
 /// Adds the events that part the blocks to blame.
 fn add_witnesses(marks: &mut Vec<usize>, blames: &[BlameOf]) -> Result<(), Memory>
-    ensures ok { OnOk result (marks.new.items ≡ marks.old.items ++ map (λ (b : Blame). b.witness) blames.now) }
-    ensures memory { OnErr result GrowthRefused }
+    ensures { OnOk result (marks.new.items ≡ marks.old.items ++ map (λ (b : Blame). b.witness) blames.now) }
 {
     for blame in blames {
         push(marks, blame.witness)?;
@@ -44,8 +41,7 @@ fn add_witnesses(marks: &mut Vec<usize>, blames: &[BlameOf]) -> Result<(), Memor
 
 /// Adds the first events of the transactions.
 fn add_firsts(marks: &mut Vec<usize>, spans: &[SpanOf]) -> Result<(), Memory>
-    ensures ok { OnOk result (marks.new.items ≡ marks.old.items ++ map (λ (s : Span). s.first) spans.now) }
-    ensures memory { OnErr result GrowthRefused }
+    ensures { OnOk result (marks.new.items ≡ marks.old.items ++ map (λ (s : Span). s.first) spans.now) }
 {
     for span in spans {
         push(marks, span.first)?;
@@ -55,8 +51,7 @@ fn add_firsts(marks: &mut Vec<usize>, spans: &[SpanOf]) -> Result<(), Memory>
 
 /// Adds the first events of the blocks to blame.
 fn add_begins(marks: &mut Vec<usize>, blames: &[BlameOf]) -> Result<(), Memory>
-    ensures ok { OnOk result (marks.new.items ≡ marks.old.items ++ map (λ (b : Blame). b.block.first) blames.now) }
-    ensures memory { OnErr result GrowthRefused }
+    ensures { OnOk result (marks.new.items ≡ marks.old.items ++ map (λ (b : Blame). b.block.first) blames.now) }
 {
     for blame in blames {
         push(marks, blame.block.first)?;
@@ -66,8 +61,7 @@ fn add_begins(marks: &mut Vec<usize>, blames: &[BlameOf]) -> Result<(), Memory>
 
 /// What is shown where there is room.
 fn other_marks(alloc: Global, evidence: &Evidence) -> Result<Vec<usize>, Memory>
-    ensures marks { IfOk result (λ marks. marks.items ≡ other_marks evidence.now) }
-    ensures memory { OnErr result GrowthRefused }
+    ensures { IfOk result (λ marks. marks.items ≡ other_marks evidence.now) }
 {
     let mut marks = Vec::new(alloc);
     add_witnesses(&mut marks, &evidence.blames)?;
@@ -80,8 +74,7 @@ fn other_marks(alloc: Global, evidence: &Evidence) -> Result<Vec<usize>, Memory>
 #[tactic(auto, unfolding(crate::specs::Lanes::fits))]
 fn fits(alloc: Global, names: &Names, events: &[Event], marks: &[usize]) -> Result<bool, Memory>
     requires few { length events.now ≤ MOST_EVENTS }
-    ensures ok { IfOk result (λ yes. yes ≡ fits names.now events.now marks.now) }
-    ensures memory { OnErr result GrowthRefused }
+    ensures { IfOk result (λ yes. yes ≡ fits names.now events.now marks.now) }
 {
     let shown = in_order(alloc, marks, events.len())?;
     let lanes = lanes_of(alloc, events, &shown)?;
@@ -102,8 +95,7 @@ fn add_mark(
     position: usize,
 ) -> Result<(), Memory>
     requires few { length events.now ≤ MOST_EVENTS }
-    ensures ok { OnOk result (marks.new.items ≡ with_mark names.now events.now marks.old.items position) }
-    ensures memory { OnErr result GrowthRefused }
+    ensures { OnOk result (marks.new.items ≡ with_mark names.now events.now marks.old.items position) }
 {
     let before = marks.len();
     push(marks, position)?;
@@ -122,8 +114,7 @@ fn add_marks(
     positions: &[usize],
 ) -> Result<(), Memory>
     requires few { length events.now ≤ MOST_EVENTS }
-    ensures ok { OnOk result (marks.new.items ≡ fold (with_mark names.now events.now) marks.old.items positions.now) }
-    ensures memory { OnErr result GrowthRefused }
+    ensures { OnOk result (marks.new.items ≡ fold (with_mark names.now events.now) marks.old.items positions.now) }
 {
     for position in positions {
         add_mark(alloc, names, events, marks, *position)?;
@@ -139,8 +130,7 @@ fn marks_of(
     evidence: &Evidence,
 ) -> Result<Vec<usize>, Memory>
     requires few { length events.now ≤ MOST_EVENTS }
-    ensures marks { IfOk result (λ marks. marks.items ≡ marks_of names.now events.now evidence.now) }
-    ensures memory { OnErr result GrowthRefused }
+    ensures { IfOk result (λ marks. marks.items ≡ marks_of names.now events.now evidence.now) }
 {
     let mut marks = cycle_marks(alloc, &evidence.edges)?;
     let others = other_marks(alloc, evidence)?;
@@ -157,8 +147,7 @@ fn add_marked(
     marks: &[usize],
 ) -> Result<(), Memory>
     requires few { length events.now ≤ MOST_EVENTS }
-    ensures ok { OnOk result (page.new ≡ page.old ++ marked_text names.now events.now marks.now) }
-    ensures memory { OnErr result GrowthRefused }
+    ensures { OnOk result (page.new ≡ page.old ++ marked_text names.now events.now marks.now) }
 {
     let shown = in_order(alloc, marks, events.len())?;
     let lanes = lanes_of(alloc, events, &shown)?;
@@ -177,8 +166,7 @@ pub(crate) fn add_lanes(
     evidence: &Evidence,
 ) -> Result<(), Memory>
     requires few { length events.now ≤ MOST_EVENTS }
-    ensures ok { OnOk result (page.new ≡ page.old ++ lanes_text names.now events.now evidence.now) }
-    ensures memory { OnErr result GrowthRefused }
+    ensures { OnOk result (page.new ≡ page.old ++ lanes_text names.now events.now evidence.now) }
 {
     let marks = marks_of(alloc, names, events, evidence)?;
     add_marked(page, alloc, names, events, &marks)

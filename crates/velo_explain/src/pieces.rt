@@ -1,6 +1,5 @@
 //! Text that is put together in memory, piece by piece.
-ghost use Rattle.std.specs.Prelude.{◌≡◌, ◌++◌, [], OnOk, OnErr, codes, decimal};
-ghost use Rattle.velo_events.specs.Refusals.{GrowthRefused};
+ghost use Rattle.std.specs.Prelude.{◌≡◌, ◌++◌, [], OnOk, codes, decimal};
 ghost use Rattle.velo_logtext.specs.Text.{kind_text};
 ghost use Rattle.velo_explain.specs.Pieces.{event_text, block_text, lines_text, piece_text, pieces_text, name_about, block_name, name_text, escape, escaped_text};
 ghost use Rattle.std.specs.Option.{option_copied};
@@ -114,24 +113,21 @@ impl Page {
     /// # Errors
     /// `Memory` where a growth was refused.
     pub(crate) fn add_bytes(&mut self, bytes: &[u8]) -> Result<(), Memory>
-        ensures ok { OnOk result (self.new ≡ self.old ++ bytes.now) }
-        ensures memory { OnErr result GrowthRefused }
+        ensures { OnOk result (self.new ≡ self.old ++ bytes.now) }
     {
         append(&mut self.bytes, bytes)
     }
 
     /// Adds the digits of a number.
     fn add_number(&mut self, number: u64) -> Result<(), Memory>
-        ensures ok { OnOk result (self.new ≡ self.old ++ decimal number) }
-        ensures memory { OnErr result GrowthRefused }
+        ensures { OnOk result (self.new ≡ self.old ++ decimal number) }
     {
         append_number(&mut self.bytes, number)
     }
 
     /// Adds an operation as it stands in the log.
     fn add_operation(&mut self, kind: Kind) -> Result<(), Memory>
-        ensures ok { OnOk result (self.new ≡ self.old ++ kind_text kind) }
-        ensures memory { OnErr result GrowthRefused }
+        ensures { OnOk result (self.new ≡ self.old ++ kind_text kind) }
     {
         let mut buffer = [0u8; 60];
         let end = put_kind(&mut buffer, 0, kind);
@@ -140,8 +136,7 @@ impl Page {
 
     /// Adds an event as it stands in the log.
     fn add_event(&mut self, event: Event) -> Result<(), Memory>
-        ensures ok { OnOk result (self.new ≡ self.old ++ event_text event) }
-        ensures memory { OnErr result GrowthRefused }
+        ensures { OnOk result (self.new ≡ self.old ++ event_text event) }
     {
         self.add_number(u64::from(event.thread.0))?;
         self.add_bytes(b" ")?;
@@ -150,8 +145,7 @@ impl Page {
 
     /// Adds what a transaction is.
     fn add_block(&mut self, kind: Kind) -> Result<(), Memory>
-        ensures ok { OnOk result (self.new ≡ self.old ++ block_text kind) }
-        ensures memory { OnErr result GrowthRefused }
+        ensures { OnOk result (self.new ≡ self.old ++ block_text kind) }
     {
         match kind {
             Kind::Begin(label) => {
@@ -165,8 +159,7 @@ impl Page {
 
     /// Adds a first and a last line.
     fn add_lines(&mut self, first: u64, last: u64) -> Result<(), Memory>
-        ensures ok { OnOk result (self.new ≡ self.old ++ lines_text first last) }
-        ensures memory { OnErr result GrowthRefused }
+        ensures { OnOk result (self.new ≡ self.old ++ lines_text first last) }
     {
         if first == last {
             self.add_bytes(b"line ")?;
@@ -182,8 +175,7 @@ impl Page {
 
     /// Adds a name behind a space, if there is one.
     fn add_name(&mut self, name: Option<&[u8]>) -> Result<(), Memory>
-        ensures ok { OnOk result (self.new ≡ self.old ++ name_text (option_copied name.entry)) }
-        ensures memory { OnErr result GrowthRefused }
+        ensures { OnOk result (self.new ≡ self.old ++ name_text (option_copied name.entry)) }
     {
         match name {
             None => Ok(()),
@@ -196,8 +188,7 @@ impl Page {
 
     /// Adds a byte of a text in a picture.
     fn add_escaped_byte(&mut self, byte: u8) -> Result<(), Memory>
-        ensures ok { OnOk result (self.new ≡ self.old ++ escape byte) }
-        ensures memory { OnErr result GrowthRefused }
+        ensures { OnOk result (self.new ≡ self.old ++ escape byte) }
     {
         if byte == b'"' || byte == b'\\' {
             return self.add_bytes(&[b'\\', byte]);
@@ -207,8 +198,7 @@ impl Page {
 
     /// Adds a text in a picture.
     fn add_escaped_bytes(&mut self, text: &[u8]) -> Result<(), Memory>
-        ensures ok { OnOk result (self.new ≡ self.old ++ flat_map escape text.now) }
-        ensures memory { OnErr result GrowthRefused }
+        ensures { OnOk result (self.new ≡ self.old ++ flat_map escape text.now) }
     {
         for byte in text {
             self.add_escaped_byte(*byte)?;
@@ -218,8 +208,7 @@ impl Page {
 
     /// Adds a name in a picture behind a space, if there is one.
     fn add_escaped(&mut self, name: Option<&[u8]>) -> Result<(), Memory>
-        ensures ok { OnOk result (self.new ≡ self.old ++ escaped_text (option_copied name.entry)) }
-        ensures memory { OnErr result GrowthRefused }
+        ensures { OnOk result (self.new ≡ self.old ++ escaped_text (option_copied name.entry)) }
     {
         match name {
             None => Ok(()),
@@ -232,8 +221,7 @@ impl Page {
 
     /// Adds a piece.
     fn add_piece(&mut self, piece: Piece) -> Result<(), Memory>
-        ensures ok { OnOk result (self.new ≡ self.old ++ piece_text piece.entry) }
-        ensures memory { OnErr result GrowthRefused }
+        ensures { OnOk result (self.new ≡ self.old ++ piece_text piece.entry) }
     {
         match piece {
             Piece::Text(text) => self.add_bytes(text.as_bytes()),
@@ -257,8 +245,7 @@ impl Page {
     /// # Errors
     /// `Memory` where a growth was refused; the text can then have a part of them, and is no more to be used.
     pub fn add(&mut self, pieces: &[Piece]) -> Result<(), Memory>
-        ensures ok { OnOk result (self.new ≡ self.old ++ pieces_text pieces.now) }
-        ensures memory { OnErr result GrowthRefused }
+        ensures { OnOk result (self.new ≡ self.old ++ pieces_text pieces.now) }
     {
         for piece in pieces {
             self.add_piece(*piece)?;

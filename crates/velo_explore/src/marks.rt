@@ -1,5 +1,4 @@
-ghost use Rattle.velo_events.specs.Refusals.{GrowthRefused};
-ghost use Rattle.std.specs.Prelude.{◌≡◌, ◌<◌, ◌≤◌, ◌==◌, ◌&&◌, ◌||◌, [], ◌∷◌, ◌++◌, ℕ, true, false, List, length, replicate, slice_index_or, IsTrue, IfOk, OnErr};
+ghost use Rattle.std.specs.Prelude.{◌≡◌, ◌<◌, ◌≤◌, ◌==◌, ◌&&◌, ◌||◌, [], ◌∷◌, ◌++◌, ℕ, true, false, List, length, replicate, slice_index_or, IsTrue, IfOk};
 ghost use Rattle.std.specs.List.{list_any};
 ghost use Rattle.velo_events.specs.declared.event.Event.{Event};
 ghost use Rattle.velo_events.specs.Event.{thread_of};
@@ -162,7 +161,6 @@ impl Marks {
         requires { bounds.threads ≤ 64 }
         ensures bounds { IfOk result (λ m. m.bounds ≡ bounds) }
         ensures start { IfOk result (λ m. IsSummaryOf [] (summary_of m)) }
-        ensures memory { OnErr result GrowthRefused }
     {
         let cells = usize::from(bounds.variables) + usize::from(bounds.locks);
         let count = usize::from(bounds.threads) + 2 * cells;
@@ -181,7 +179,6 @@ impl Marks {
     pub fn copy(&self, alloc: Global) -> Result<Marks, Memory>
         ensures bounds { IfOk result (λ m. m.bounds ≡ self.now.bounds) }
         ensures summary { IfOk result (λ m. summary_of m ≡ summary_of self.now) }
-        ensures memory { OnErr result GrowthRefused }
     {
         Ok(Marks {
             bounds: self.bounds,

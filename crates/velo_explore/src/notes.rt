@@ -1,6 +1,5 @@
-ghost use Rattle.std.specs.Prelude.{◌≡◌, ◌≢◌, ◌<◌, ℕ, false, true, length, take, map, slice_get, Some, Contains, IfOk, OnErr, OnOk};
+ghost use Rattle.std.specs.Prelude.{◌≡◌, ◌≢◌, ◌<◌, ℕ, false, true, length, take, map, slice_get, Some, Contains, IfOk, OnOk};
 ghost use Rattle.velo_events.specs.declared.event.Kind.{Kind};
-ghost use Rattle.velo_events.specs.Refusals.{GrowthRefused};
 ghost use Rattle.velo_moves.specs.Free.{is_private};
 ghost use Rattle.velo_explore.specs.declared.listing.TheConstants.{LISTS};
 ghost use Rattle.velo_explore.specs.declared.note.Note.{Note};
@@ -27,7 +26,6 @@ impl Notes {
 
     /// No operation.
     fn new(alloc: Global) -> Result<Notes, Memory>
-        ensures memory { OnErr result GrowthRefused }
     {
         let mut lists = Vec::new(alloc);
         for _list in 0..LISTS {
@@ -41,7 +39,6 @@ impl Notes {
     fn note(&mut self, alloc: Global, thread: usize, kind: Kind, held: &Held) -> Result<(), Memory>
         ensures before { OnOk result ((n : ℕ) (note : Note) → Contains (list_at self.old n) note → Contains (list_at self.new n) note) }
         ensures there { OnOk result (is_private kind ≡ false → IsAmong (list_at self.new (list_of kind)) thread kind held.now.locks.items) }
-        ensures memory { OnErr result GrowthRefused }
     {
         if is_private(kind) {
             return Ok(());
@@ -61,7 +58,6 @@ impl Notes {
         ensures before { OnOk result ((n : ℕ) (note : Note) → Contains (list_at self.old n) note → Contains (list_at self.new n) note) }
         ensures there { OnOk result ((i : ℕ) (k : Kind) → slice_get script.now i ≡ Some k → is_private k ≡ false →
             IsNoted (list_at self.new (list_of k)) thread (take i script.now) k) }
-        ensures memory { OnErr result GrowthRefused }
     {
         let mut held = Held::none(alloc, locks)?;
         for place in 0..script.len() {
@@ -77,8 +73,7 @@ impl Notes {
     /// # Errors
     /// `Memory` where a growth was refused.
     pub fn of_scripts(alloc: Global, scripts: &[Vec<Kind>], locks: usize) -> Result<Notes, Memory>
-        ensures noted { IfOk result (λ notes. AreNoted notes (map (λ v. v.items) scripts.now)) }
-        ensures memory { OnErr result GrowthRefused }
+        ensures { IfOk result (λ notes. AreNoted notes (map (λ v. v.items) scripts.now)) }
     {
         let mut notes = Notes::new(alloc)?;
         for thread in 0..scripts.len() {

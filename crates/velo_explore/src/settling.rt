@@ -1,6 +1,5 @@
 //! Free operations, which are done at once when their threads come to them.
-ghost use Rattle.std.specs.Prelude.{◌≡◌, ◌+◌, ◌<◌, ◌≤◌, ◌^◌, ◌∷◌, ◌++◌, [], List, length, slice_index_or, OnOk, OnErr};
-ghost use Rattle.velo_events.specs.Refusals.{GrowthRefused};
+ghost use Rattle.std.specs.Prelude.{◌≡◌, ◌+◌, ◌<◌, ◌≤◌, ◌^◌, ◌∷◌, ◌++◌, [], List, length, slice_index_or, OnOk};
 ghost use Rattle.velo_events.specs.declared.event.Event.{Event};
 ghost use Rattle.velo_events.specs.Event.{thread_of};
 ghost use Rattle.velo_heap.specs.Contents.{bounds_of, IsAdmitted};
@@ -29,7 +28,6 @@ pub(crate) fn advance(state: &mut State, event: &Event, trail: &mut Trail) -> Re
         trail.old.steps.items ++ record { before = state.old.place; thread = event.now.thread } ∷
         []) }
     ensures goes_on { OnOk result (GoesOn trail.old trail.new) }
-    ensures memory { OnErr result GrowthRefused }
 {
     let place = trail.push(state.place(), event.thread)?;
     state.step(event, place);
@@ -48,9 +46,8 @@ fn settle_once(
     requires thread { thread.0 < (bounds_of state.old.heap).threads }
     requires reached { IsReachedBy (bounds_of state.old.heap) scripts.now trail.old.steps.items
         state.old }
-    ensures settles { OnOk result
+    ensures { OnOk result
         (SettlesBy (bounds_of state.old.heap) scripts.now trail.old state.old trail.new state.new) }
-    ensures memory { OnErr result GrowthRefused }
 {
     if !scripts.is_free(thread, state.done_by(thread)) {
         return Ok(false);
@@ -74,9 +71,8 @@ fn settle_thread(
     requires thread { thread.0 < (bounds_of state.old.heap).threads }
     requires reached { IsReachedBy (bounds_of state.old.heap) scripts.now trail.old.steps.items
         state.old }
-    ensures settles { OnOk result
+    ensures { OnOk result
         (SettlesBy (bounds_of state.old.heap) scripts.now trail.old state.old trail.new state.new) }
-    ensures memory { OnErr result GrowthRefused }
 {
     for step in 0..u32::MAX {
         if !settle_once(scripts, state, thread, trail)? {
@@ -92,9 +88,8 @@ fn settle_all(scripts: &Scripts, state: &mut State, trail: &mut Trail) -> Result
     requires short { AreShort scripts.now }
     requires reached { IsReachedBy (bounds_of state.old.heap) scripts.now trail.old.steps.items
         state.old }
-    ensures settles { OnOk result
+    ensures { OnOk result
         (SettlesBy (bounds_of state.old.heap) scripts.now trail.old state.old trail.new state.new) }
-    ensures memory { OnErr result GrowthRefused }
 {
     let mut any = false;
     for thread in 0..state.threads() {
@@ -112,9 +107,8 @@ pub(crate) fn settle(scripts: &Scripts, state: &mut State, trail: &mut Trail) ->
     requires short { AreShort scripts.now }
     requires reached { IsReachedBy (bounds_of state.old.heap) scripts.now trail.old.steps.items
         state.old }
-    ensures settles { OnOk result
+    ensures { OnOk result
         (SettlesBy (bounds_of state.old.heap) scripts.now trail.old state.old trail.new state.new) }
-    ensures memory { OnErr result GrowthRefused }
 {
     for _round in 0..u32::MAX {
         if !settle_all(scripts, state, trail)? {

@@ -1,6 +1,5 @@
 //! Text that is gathered in memory, before a caller's buffer is touched.
 ghost use Rattle.std.specs.Prelude.{◌≡◌, ◌≢◌, []};
-ghost use Rattle.velo_events.specs.Refusals.{GrowthRefused};
 
 use std::alloc::Global;
 use std::marker::Model;
@@ -46,7 +45,6 @@ impl Gathered {
     /// What a failed write comes to.
     pub fn refusal(&self) -> Memory
         requires { self.now.failures ≢ 0 }
-        ensures { GrowthRefused }
     {
         let _failures = self.failures;
         Memory

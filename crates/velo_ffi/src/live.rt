@@ -1,6 +1,5 @@
 //! The life of a handle, and the step that each event is.
-ghost use Rattle.std.specs.Prelude.{◌≡◌, ◌≢◌, ◌↔◌, None, false, IfOk, OnErr};
-ghost use Rattle.velo_events.specs.Refusals.{GrowthRefused};
+ghost use Rattle.std.specs.Prelude.{◌≡◌, ◌≢◌, ◌↔◌, None, false, IfOk};
 ghost use Rattle.velo_events.specs.declared.event.Action.{Action as ActionOf};
 ghost use Rattle.velo_ffi.specs.Answers.{Does, IsOpened, Opens, Tells, Tries, number_of};
 ghost use Rattle.velo_ffi.specs.Numbers.{thread_of};
@@ -20,9 +19,8 @@ use velo_world::Reply;
 /// `Memory` where a growth was refused.
 fn start(alloc: Global, config: Config) -> Result<Box<Watch>, Memory>
     requires { config.stop ≡ false }
-    ensures opened { IfOk result (λ watch.
+    ensures { IfOk result (λ watch.
         IsOpened config.bounds config.events config.nodes watch.value.world) }
-    ensures memory { OnErr result GrowthRefused }
 {
     let watch = Watch::start(alloc, config)?;
     boxed(alloc, watch)

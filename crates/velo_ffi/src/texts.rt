@@ -1,6 +1,5 @@
 //! The report and the explanation of the events so far, whole or not at all.
-ghost use Rattle.std.specs.Prelude.{◌≡◌, ◌≢◌, ◌≤◌, ◌⊎◌, Ok, Err, List, None, ℕ, length, IfErr, IfOk, IfSome, OnErr};
-ghost use Rattle.velo_events.specs.Refusals.{GrowthRefused};
+ghost use Rattle.std.specs.Prelude.{◌≡◌, ◌≢◌, ◌≤◌, ◌⊎◌, Ok, Err, List, None, ℕ, length, IfErr, IfOk, IfSome};
 ghost use Rattle.velo_events.specs.declared.limits.TheConstants.{MOST_EVENTS};
 ghost use Rattle.velo_names.specs.Names.{ReadsAs, Stands};
 ghost use Rattle.velo_world.specs.World.{IsAlarm};
@@ -68,11 +67,11 @@ fn shown_by<'a>(file: &[u8], names: &'a Names<'a>) -> velo_report::Names<'a>
 /// `Memory` where a growth was refused.
 fn report_of(alloc: Global, world: &World, file: &[u8], names: &Names) -> Result<Gathered, Memory>
     requires { Stands file.now (Ok names.now) }
-    ensures report { IfOk result (λ text. IsReportBy file.now world.now text.bytes) }
-    ensures memory { OnErr result GrowthRefused }
+    ensures { IfOk result (λ text. IsReportBy file.now world.now text.bytes) }
 {
     let mut text = Gathered::new(alloc);
-    match report_so_far(world, &shown_by(file, names), &mut text) {
+    let shown = shown_by(file, names);
+    match report_so_far(world, &shown, &mut text) {
         Ok(()) => Ok(text),
         Err(WriteFault) => Err(text.refusal()),
     }
@@ -151,8 +150,7 @@ pub extern "C" fn velo_report(
 fn explain_alarm(alloc: Global, log: &Trace, alarm: &Alarm, names: &Names) -> Result<Page, Memory>
     requires few { length log.now.events ≤ MOST_EVENTS }
     requires alarm { IsAlarm log.now.events alarm.now }
-    ensures explains { IfOk result (λ page. ExplainsAlarm names.now log.now.events page) }
-    ensures memory { OnErr result GrowthRefused }
+    ensures { IfOk result (λ page. ExplainsAlarm names.now log.now.events page) }
 {
     let position = alarm.position;
     match evidence_of(alloc, log, position, alarm.blamed.as_slice()) {
@@ -172,8 +170,7 @@ fn explain_alarm(alloc: Global, log: &Trace, alarm: &Alarm, names: &Names) -> Re
 /// # Errors
 /// `Memory` where a growth was refused.
 fn explanation_of(alloc: Global, world: &World, names: &Names) -> Result<Page, Memory>
-    ensures explains { IfOk result (λ page. IsExplanation names.now world.now.log page) }
-    ensures memory { OnErr result GrowthRefused }
+    ensures { IfOk result (λ page. IsExplanation names.now world.now.log page) }
 {
     let log = world.log();
     match world.alarm() {

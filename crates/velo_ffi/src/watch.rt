@@ -1,6 +1,5 @@
 //! A world with the shares of its threads.
 ghost use Rattle.std.specs.Prelude.{◌≡◌, false, IfOk, IfErr, OnOk, OnErr};
-ghost use Rattle.velo_events.specs.Refusals.{GrowthRefused};
 ghost use Rattle.velo_renew.specs.Renewal.{IsReasonAgainst, Renews};
 ghost use Rattle.velo_world.specs.World.{StepsTo, opening};
 
@@ -39,8 +38,7 @@ impl Watch {
     /// `Memory` where a growth was refused.
     pub fn start(alloc: Global, config: Config) -> Result<Watch, Memory>
         requires { config.stop ≡ false }
-        ensures world { IfOk result (λ watch. watch.world ≡ opening config) }
-        ensures memory { OnErr result GrowthRefused }
+        ensures { IfOk result (λ watch. watch.world ≡ opening config) }
     {
         match World::from_log(alloc, config, Trace::new(alloc)) {
             Ok((world, shares)) => Ok(Watch { world, shares }),

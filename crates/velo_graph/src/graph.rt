@@ -1,4 +1,3 @@
-ghost use Rattle.velo_events.specs.Refusals.{GrowthRefused};
 ghost use Rattle.std.specs.Prelude.{◌≡◌, ◌≢◌, ◌↔◌, ℕ, ◌<◌, ◌≤◌, false, Some, None, length, replicate, is_some, IfOk, OnErr, IsErr, IsTrue, IsFalse, true, vec_capacity, if◌then◌else◌};
 ghost use Rattle.std.specs.Option.{ForSome};
 ghost use Rattle.velo_arena.specs.Slots.{limit_of, is_used, used_in, bears, stamp_in, is_finished_in, with_node, Opens};
@@ -68,7 +67,6 @@ impl<A: Ancestors> Graph<A> {
         ensures newest { IfOk result (λ graph. graph.slots.newest ≡ None) }
         ensures no_ancestors { IfOk result (λ graph. (m n : ℕ) → is_ancestor graph m n ≡ false) }
         ensures sound { IfOk result IsSound }
-        ensures memory { OnErr result GrowthRefused }
     {
         let may_have_descendants = filled(alloc, false, limit as usize)?;
         let carried = A::empty(alloc, limit)?;

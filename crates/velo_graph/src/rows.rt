@@ -1,5 +1,4 @@
-ghost use Rattle.velo_events.specs.Refusals.{GrowthRefused};
-ghost use Rattle.std.specs.Prelude.{◌≡◌, ◌<◌, ◌≤◌, map, length, replicate, IfOk, OnErr, IsTrue, false, if◌then◌else◌};
+ghost use Rattle.std.specs.Prelude.{◌≡◌, ◌<◌, ◌≤◌, map, length, replicate, IfOk, IsTrue, false, if◌then◌else◌};
 ghost use Rattle.std.specs.FinSet as set;
 ghost use Rattle.velo_rows.specs.Meet.{Meet};
 ghost use Rattle.velo_graph.specs.Roots.{with_root, may_meet, IsBelow, MeetBelow};
@@ -17,7 +16,6 @@ use velo_rows::Ancestors;
 pub fn empty_rows<A: Ancestors>(alloc: Global, limit: u16) -> Result<Vec<A>, Memory>
     ensures members { IfOk result (λ rows. map A.members rows.items ≡ replicate limit set.empty) }
     ensures capacities { IfOk result (λ rows. map A.capacity rows.items ≡ replicate limit limit) }
-    ensures memory { OnErr result GrowthRefused }
 {
     let mut rows = with_capacity(alloc, limit as usize)?;
     for _slot in 0..limit {
@@ -27,7 +25,7 @@ pub fn empty_rows<A: Ancestors>(alloc: Global, limit: u16) -> Result<Vec<A>, Mem
     Ok(rows)
 }
 
-/// Takes more in where the slot is a member.
+/// Adds `more` to the row if the row contains `slot`.
 fn widen<A: Ancestors>(row: &mut A, slot: u16, more: &A)
     requires slot { slot < A.capacity row.old }
     requires more { A.capacity more.now ≡ A.capacity row.old }
@@ -39,7 +37,7 @@ fn widen<A: Ancestors>(row: &mut A, slot: u16, more: &A)
     }
 }
 
-/// Takes more in, in those of the first rows where the slot is a member.
+/// Adds `more` to each of the first `count` rows that contains `slot`.
 fn widen_first<A: Ancestors>(rows: &mut [A], count: u16, slot: u16, more: &A)
     requires count { count ≤ length rows.old }
     requires slot { slot < length rows.old }

@@ -55,6 +55,10 @@ pub record IsHeapOf (heap : Contents) (trace : List Event) : Type 0 where
   pub locks : Tabulates heap.locks (lock_in (length heap.threads) trace)
   pub threads : Tabulates heap.threads (standing_in trace)
 
+-- a fact about each trace that the heap stands for
+abbrev pub ForItsTraces : Contents → (List Event → Type 0) → Type 0
+ForItsTraces heap Fact = (trace : List Event) → IsHeapOf heap trace → Fact trace
+
 -- ---- what the heap answers and takes
 
 abbrev pub unless_refused : Option Refusal → Event → Result Event Refusal

@@ -1,9 +1,8 @@
-ghost use Rattle.velo_events.specs.Refusals.{GrowthRefused};
-ghost use Rattle.std.specs.Prelude.{◌≡◌, ◌<◌, ◌≤◌, [], ◌∷◌, ◌++◌, ◌↔◌, List, IsTrue, IfOk, option_map, length, slice_get, OnErr};
+ghost use Rattle.std.specs.Prelude.{◌≡◌, ◌<◌, ◌≤◌, [], ◌∷◌, ◌++◌, ◌↔◌, List, IsTrue, IfOk, option_map, length, slice_get};
 ghost use Rattle.velo_events.specs.declared.event.Event.{Event};
 ghost use Rattle.velo_events.specs.Heap.{value_in, holder_in, shares_in, status_in, depth_in};
 ghost use Rattle.velo_events.specs.declared.limits.TheConstants.{MOST_THREADS};
-ghost use Rattle.velo_heap.specs.Contents.{bounds_of, mask_below, IsHeapOf, admission, IsAdmitted};
+ghost use Rattle.velo_heap.specs.Contents.{bounds_of, mask_below, IsHeapOf, ForItsTraces, admission, IsAdmitted};
 ghost use Rattle.velo_events.specs.Meaning.{refusal_of, action_of, has_its_value};
 ghost use Rattle.velo_events.specs.WellFormed.{NamesKnown};
 ghost use Rattle.velo_heap.specs.Steps.{refusal_in, read_at, write_at, acquire_at, acquire_shared_at, release_at, release_shared_at, fork_at, join_at, kind_in, live_kind, contents_after, CanChange};
@@ -43,8 +42,7 @@ impl Model for Heap {
 /// # Errors
 /// `Memory` where a growth was refused.
 fn copied<T: Copy>(alloc: Global, items: &[T]) -> Result<Vec<T>, Memory>
-    ensures items { IfOk result (λ copy. copy.items ≡ items.now) }
-    ensures memory { OnErr result GrowthRefused }
+    ensures { IfOk result (λ copy. copy.items ≡ items.now) }
 {
     let mut copy = with_capacity(alloc, items.len())?;
     match copy.extend_from_slice(items) {
@@ -82,7 +80,6 @@ impl Heap {
     pub fn new(alloc: Global, config: &Config) -> Result<Heap, Memory>
         ensures bounds { IfOk result (λ h. bounds_of h ≡ config.now.bounds) }
         ensures start { IfOk result (λ h. IsHeapOf h []) }
-        ensures memory { OnErr result GrowthRefused }
     {
         let bounds = config.bounds;
         let values = filled(alloc, 0, usize::from(bounds.variables))?;
@@ -101,8 +98,7 @@ impl Heap {
     /// # Errors
     /// `Memory` where a growth was refused.
     pub fn copy(&self, alloc: Global) -> Result<Heap, Memory>
-        ensures same { IfOk result (λ h. h ≡ self.now) }
-        ensures memory { OnErr result GrowthRefused }
+        ensures { IfOk result (λ h. h ≡ self.now) }
     {
         let values = copied(alloc, &self.values)?;
         let locks = copied(alloc, &self.locks)?;
@@ -171,7 +167,7 @@ impl Heap {
     /// The value of a variable.
     pub fn value(&self, x: VarId) -> u64
         requires { x.0 < (bounds_of self.now).variables }
-        ensures { (trace : List Event) → IsHeapOf self.now trace → result ≡ value_in trace x.0 }
+        ensures { ForItsTraces self.now (λ trace. result ≡ value_in trace x.0) }
     {
         let at = usize::from(x.0);
         self.values[at]
@@ -180,8 +176,7 @@ impl Heap {
     /// The thread that holds a lock alone, or `None` where none does.
     pub fn holder(&self, m: LockId) -> Option<ThreadId>
         requires { m.0 < (bounds_of self.now).locks }
-        ensures { (trace : List Event) → IsHeapOf self.now trace →
-            option_map (λ t. t.0) result ≡ holder_in trace m.0 }
+        ensures { ForItsTraces self.now (λ trace. option_map (λ t. t.0) result ≡ holder_in trace m.0) }
     {
         let at = usize::from(m.0);
         self.locks[at].holder
@@ -190,8 +185,8 @@ impl Heap {
     /// A bit for each thread that shares a lock.
     pub fn sharers(&self, m: LockId) -> u64
         requires { m.0 < (bounds_of self.now).locks }
-        ensures { (trace : List Event) → IsHeapOf self.now trace →
-            result ≡ mask_below (bounds_of self.now).threads (shares_in trace m.0) }
+        ensures { ForItsTraces self.now (λ trace.
+            result ≡ mask_below (bounds_of self.now).threads (shares_in trace m.0)) }
     {
         let at = usize::from(m.0);
         self.locks[at].sharers
@@ -200,7 +195,7 @@ impl Heap {
     /// Whether a thread shares a lock.
     pub fn shares(&self, m: LockId, t: ThreadId) -> bool
         requires { m.0 < (bounds_of self.now).locks }
-        ensures { (trace : List Event) → IsHeapOf self.now trace → result ≡ shares_in trace m.0 t.0 }
+        ensures { ForItsTraces self.now (λ trace. result ≡ shares_in trace m.0 t.0) }
     {
         let at = usize::from(m.0);
         self.locks[at].is_shared_by(t)
@@ -209,7 +204,7 @@ impl Heap {
     /// How far a thread has come.
     pub fn status(&self, t: ThreadId) -> Status
         requires { t.0 < (bounds_of self.now).threads }
-        ensures { (trace : List Event) → IsHeapOf self.now trace → result ≡ status_in trace t.0 }
+        ensures { ForItsTraces self.now (λ trace. result ≡ status_in trace t.0) }
     {
         let at = usize::from(t.0);
         self.threads[at].status
@@ -218,7 +213,7 @@ impl Heap {
     /// How many blocks a thread has open.
     pub fn depth(&self, t: ThreadId) -> u8
         requires { t.0 < (bounds_of self.now).threads }
-        ensures { (trace : List Event) → IsHeapOf self.now trace → result ≡ depth_in trace t.0 }
+        ensures { ForItsTraces self.now (λ trace. result ≡ depth_in trace t.0) }
     {
         let at = usize::from(t.0);
         self.threads[at].depth

@@ -116,14 +116,14 @@ impl Lock {
         }
     }
 
-    /// It, held alone by this thread or by none.
+    /// This lock with `holder`.
     pub fn with_holder(self, holder: Option<ThreadId>) -> Lock
         ensures { result ≡ with_holder holder self }
     {
         Lock { holder, ..self }
     }
 
-    /// It, shared by the thread too.
+    /// This lock with `t` among its sharers.
     pub fn with_sharer(self, t: ThreadId) -> Lock
         requires { t.0 < MOST_THREADS }
         ensures { result ≡ with_sharer t self }

@@ -16,7 +16,7 @@ use Rattle.velo_ledger.specs.declared.tally.Tally.{Tally}
 use Rattle.velo_ledger.specs.Tally.{blank, with_event, read_by, written_by}
 use Rattle.velo_ledger.specs.Views.{Accounts, Holding}
 use Rattle.velo_ledger.specs.Book.{FitsBook, with_row, opening_accounts}
-use Rattle.velo_ledger.specs.Logs.{tally_of, AreTalliesOf, events_below, IsOfThreadsBelow}
+use Rattle.velo_ledger.specs.Logs.{tally_of, AreTalliesOf, events_below}
 use Rattle.velo_ledger.proofs.Places.{slice_get-set_same, slice_get-set_other, slice_get-replicate}
 
 -- ---- the last position that passes a test
@@ -186,6 +186,10 @@ events_below-one_more e es (suc n) lt = counted (cases_eq (thread_of e) n) (λ l
         let by : IsFalse (is_by n e) = ne_eqb _ _ other in
         let here = events_of-cons e es n ∙ ap (λ b. cond {A = ℕ} b 1 0 + events_of es n) by in
         omega (arith, rest, here)
+
+-- each event is of a thread below this number
+pub record IsOfThreadsBelow (threads : ℕ) (trace : List Event) : Type 0 where
+  pub each : (i : ℕ) (e : Event) → slice_get trace i ≡ Some e → thread_of e < threads
 
 -- the threads' counts are all of the trace
 pub events_below-all : (trace : List Event) (n : ℕ) → IsOfThreadsBelow n trace → events_below trace n ≡ length trace

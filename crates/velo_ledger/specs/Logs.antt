@@ -1,7 +1,6 @@
 -- The tallies of the threads of a trace, by its definitions.
 use Rattle.std.specs.Prelude.{◌≡◌, ◌<◌, ℕ, zero, suc, ◌+◌, List, length, Some, slice_get}
 use Rattle.velo_events.specs.declared.event.Event.{Event}
-use Rattle.velo_events.specs.Event.{thread_of}
 use Rattle.velo_events.specs.Tally.{events_of, next_of, last_of, read_total_of, written_total_of}
 use Rattle.velo_ledger.specs.declared.tally.Tally.{Tally}
 
@@ -23,7 +22,3 @@ pub record AreTalliesOf (trace : List Event) (rows : List Tally) : Type 0 where
 unfoldable pub events_below : List Event → ℕ → ℕ
 events_below trace zero = 0
 events_below trace (suc t) = events_below trace t + events_of trace t
-
--- each event is of a thread below this number
-pub record IsOfThreadsBelow (threads : ℕ) (trace : List Event) : Type 0 where
-  pub each : (i : ℕ) (e : Event) → slice_get trace i ≡ Some e → thread_of e < threads

@@ -1,6 +1,5 @@
-ghost use Rattle.velo_events.specs.Refusals.{GrowthRefused};
 ghost use Rattle.velo_events.specs.declared.limits.TheConstants.{MOST_EVENTS};
-ghost use Rattle.std.specs.Prelude.{◌≡◌, ◌<◌, ◌≤◌, ◌+◌, ◌↔◌, Some, IfOk, IfSome, IsTrue, length, slice_get, sum_by, option_copied, OnErr};
+ghost use Rattle.std.specs.Prelude.{◌≡◌, ◌<◌, ◌≤◌, ◌+◌, ◌↔◌, Some, IfOk, IfSome, IsTrue, length, slice_get, sum_by, option_copied};
 ghost use Rattle.std.specs.Option.{SomeIff};
 ghost use Rattle.velo_ledger.specs.Tally.{with_event};
 ghost use Rattle.velo_ledger.specs.Shares.{AreInPlace, AreOpening, events_in, events_in_all};
@@ -45,7 +44,6 @@ impl Book {
         ensures book { IfOk result (λ opened. opened.0 ≡ opening_accounts run threads) }
         ensures shares { IfOk result (λ opened. AreOpening run threads opened.1) }
         ensures fit { IfOk result (λ opened. HasAllShares opened.0 opened.1) }
-        ensures memory { OnErr result GrowthRefused }
     {
         let mut rows = with_capacity(alloc, usize::from(threads))?;
         let mut places = with_capacity(alloc, usize::from(threads))?;
@@ -127,7 +125,7 @@ impl Book {
         *row = tally;
     }
 
-    /// Lets a share of this run say what the row of its thread says. The thread has to be one of the book's.
+    /// Copies the row of the share's thread into the share, which has to be of this run and of a thread of the book.
     pub fn settle(&self, share: &mut Share)
         requires run { share.old.run ≡ self.now.run }
         requires thread { share.old.thread.0 < length self.now.rows }

@@ -1,4 +1,3 @@
-ghost use Rattle.velo_events.specs.Refusals.{GrowthRefused};
 ghost use Rattle.std.specs.Prelude.{◌≡◌, ◌↔◌, [], None, Some, IsOk, IfOk, OnOk, IfErr, OnErr, IfSome, replicate, slice_get, slice_set};
 ghost use Rattle.std.specs.Option.{option_copied};
 ghost use Rattle.velo_ledger.specs.Shares.{AreInPlace, share_at, share_in};
@@ -43,8 +42,7 @@ impl Shares {
     /// # Errors
     /// `Memory` where a growth was refused.
     pub fn none(alloc: Global, threads: u8) -> Result<Shares, Memory>
-        ensures empty { IfOk result (λ shares. shares ≡ replicate threads None) }
-        ensures memory { OnErr result GrowthRefused }
+        ensures { IfOk result (λ shares. shares ≡ replicate threads None) }
     {
         let mut places = with_capacity(alloc, usize::from(threads))?;
         for _ in 0..threads {

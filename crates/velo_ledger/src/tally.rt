@@ -34,8 +34,8 @@ impl Tally {
         }
     }
 
-    /// The tally with one event more. It is made anew and then written to row and share: a copy of one of them would wait
-    /// for the parts just written.
+    /// The tally with one event more. It is made anew and then written to row and share: copying one to the other would
+    /// stall on store forwarding.
     #[inline]
     pub(crate) fn with(&self, position: u64, event: &Event) -> Tally
         requires small { IsSmall self.now }

@@ -1,6 +1,5 @@
 //! The labels that a list means.
-ghost use Rattle.std.specs.Prelude.{◌≡◌, ◌∷◌, [], IfOk, OnErr, OnOk, fold};
-ghost use Rattle.velo_events.specs.Refusals.{GrowthRefused};
+ghost use Rattle.std.specs.Prelude.{◌≡◌, ◌∷◌, [], IfOk, OnOk, fold};
 ghost use Rattle.velo_thin.specs.Tables.{left_of};
 ghost use Rattle.velo_list.specs.Answers.{AreSeen, entries, entry, numbers};
 ghost use Rattle.velo_list.specs.Known.{labels_by, labels_known, labels_meant, labels_told, with_number};
@@ -14,8 +13,7 @@ use velo_thin::LeftOut;
 
 /// A single number.
 fn one(alloc: Global, number: u32) -> Result<Vec<u32>, Memory>
-    ensures numbers { IfOk result (λ numbers. numbers.items ≡ number ∷ []) }
-    ensures memory { OnErr result GrowthRefused }
+    ensures { IfOk result (λ numbers. numbers.items ≡ number ∷ []) }
 {
     let mut numbers = with_capacity(alloc, 1)?;
     numbers.push_reserved(number);
@@ -24,8 +22,7 @@ fn one(alloc: Global, number: u32) -> Result<Vec<u32>, Memory>
 
 /// The labels of a name; but where it is nobody's, this number.
 fn labels_by(alloc: Global, names: &Names, number: u32, name: &[u8]) -> Result<Vec<u32>, Memory>
-    ensures numbers { IfOk result (λ labels. labels.items ≡ labels_by names.now number name.now) }
-    ensures memory { OnErr result GrowthRefused }
+    ensures { IfOk result (λ labels. labels.items ≡ labels_by names.now number name.now) }
 {
     let labels = names.numbers_of(alloc, NameKind::Label, name)?;
     if labels.is_empty() {
@@ -36,8 +33,7 @@ fn labels_by(alloc: Global, names: &Names, number: u32, name: &[u8]) -> Result<V
 
 /// The labels that an audit told by this number and this name.
 fn labels_told(alloc: Global, names: &Names, number: u32, name: &[u8]) -> Result<Vec<u32>, Memory>
-    ensures numbers { IfOk result (λ labels. labels.items ≡ labels_told names.now number name.now) }
-    ensures memory { OnErr result GrowthRefused }
+    ensures { IfOk result (λ labels. labels.items ≡ labels_told names.now number name.now) }
 {
     let Some(its_name) = names.name_of(NameKind::Label, number) else {
         return labels_by(alloc, names, number, name);
@@ -50,8 +46,7 @@ fn labels_told(alloc: Global, names: &Names, number: u32, name: &[u8]) -> Result
 
 /// The labels that an entry means.
 fn labels_meant(alloc: Global, names: &Names, found: Entry) -> Result<Vec<u32>, Memory>
-    ensures numbers { IfOk result (λ labels. labels.items ≡ labels_meant names.now (entry found.entry)) }
-    ensures memory { OnErr result GrowthRefused }
+    ensures { IfOk result (λ labels. labels.items ≡ labels_meant names.now (entry found.entry)) }
 {
     match found {
         Entry::Nothing => Ok(Vec::new(alloc)),
@@ -66,7 +61,6 @@ fn add_once(labels: &mut Vec<Label>, seen: &mut LeftOut, number: u32) -> Result<
     requires seen { AreSeen (left_of seen.old) (numbers labels.old.items) }
     ensures ok { OnOk result (numbers labels.new.items ≡ with_number (numbers labels.old.items) number) }
     ensures seen { OnOk result (AreSeen (left_of seen.new) (numbers labels.new.items)) }
-    ensures memory { OnErr result GrowthRefused }
 {
     let label = Label(number);
     if seen.has_label(label) {
@@ -84,7 +78,6 @@ fn add_all(labels: &mut Vec<Label>, seen: &mut LeftOut, found: &[u32]) -> Result
     ensures ok { OnOk result (numbers labels.new.items
         ≡ fold with_number (numbers labels.old.items) found.now) }
     ensures seen { OnOk result (AreSeen (left_of seen.new) (numbers labels.new.items)) }
-    ensures memory { OnErr result GrowthRefused }
 {
     for number in found {
         add_once(labels, seen, *number)?;
@@ -97,9 +90,8 @@ fn add_all(labels: &mut Vec<Label>, seen: &mut LeftOut, found: &[u32]) -> Result
 /// # Errors
 /// `Memory` where a growth was refused.
 pub fn known_labels(alloc: Global, names: &Names, found: &[Entry]) -> Result<Vec<Label>, Memory>
-    ensures labels { IfOk result (λ labels. numbers labels.items
+    ensures { IfOk result (λ labels. numbers labels.items
         ≡ labels_known names.now (entries found.now)) }
-    ensures memory { OnErr result GrowthRefused }
 {
     let mut labels = Vec::new(alloc);
     let mut seen = LeftOut::new(alloc);

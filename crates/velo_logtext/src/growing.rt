@@ -1,6 +1,5 @@
 //! Text that grows in memory.
 ghost use Rattle.std.specs.Prelude.{◌≡◌, ◌++◌, decimal, OnErr, OnOk};
-ghost use Rattle.velo_events.specs.Refusals.{GrowthRefused};
 
 use crate::buffer::put_number;
 use velo_events::Memory;
@@ -12,7 +11,6 @@ use velo_events::growth::reserve;
 /// `Memory` where a growth was refused.
 pub fn append(text: &mut Vec<u8>, bytes: &[u8]) -> Result<(), Memory>
     ensures ok { OnOk result (text.new.items ≡ text.old.items ++ bytes.now) }
-    ensures memory { OnErr result GrowthRefused }
     ensures kept { OnErr result (text.new.items ≡ text.old.items) }
 {
     reserve(text, bytes.len())?;
@@ -28,7 +26,6 @@ pub fn append(text: &mut Vec<u8>, bytes: &[u8]) -> Result<(), Memory>
 /// `Memory` where a growth was refused.
 pub fn append_number(text: &mut Vec<u8>, number: u64) -> Result<(), Memory>
     ensures ok { OnOk result (text.new.items ≡ text.old.items ++ decimal number) }
-    ensures memory { OnErr result GrowthRefused }
     ensures kept { OnErr result (text.new.items ≡ text.old.items) }
 {
     let mut buffer = [0u8; 20];

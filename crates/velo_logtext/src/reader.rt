@@ -54,7 +54,6 @@ impl Window {
     fn new(alloc: Global) -> Result<Window, Memory>
         ensures bytes { IfOk result (λ window. window.bytes ≡ []) }
         ensures ended { IfOk result (λ window. window.ended ≡ false) }
-        ensures memory { OnErr result GrowthRefused }
     {
         let buffer = growth::filled(alloc, 0u8, ROOM)?;
         Ok(Window {

@@ -77,3 +77,7 @@ pub record IsMonitorOf (bounds : Bounds) (monitor : Watched) (trace : List Event
   pub threads : length monitor.kept.threads ≡ bounds.threads
   pub accounted : (a : ℕ) → IsTransaction trace a → IsAccountedIn monitor.nodes trace a
   pub depths : AreDepths bounds monitor.depths trace
+
+-- a fact about each trace, within any bounds, that the monitor stands for
+abbrev pub ForItsTraces : Watched → (Bounds → List Event → Type 0) → Type 0
+ForItsTraces monitor Fact = (bounds : Bounds) (trace : List Event) → IsMonitorOf bounds monitor trace → Fact bounds trace

@@ -1,6 +1,5 @@
 //! Which finished nodes give way to which: of those of one thread that the same unfinished nodes reach, to the earliest.
-ghost use Rattle.velo_events.specs.Refusals.{GrowthRefused};
-ghost use Rattle.std.specs.Prelude.{◌≡◌, ◌*◌, ◌<◌, ◌≤◌, ℕ, Some, None, length, slice_index_or, IfOk, OnErr, IsTrue};
+ghost use Rattle.std.specs.Prelude.{◌≡◌, ◌*◌, ◌<◌, ◌≤◌, ℕ, Some, None, length, slice_index_or, IfOk, IsTrue};
 ghost use Rattle.std.specs.Option.{ForSome};
 ghost use Rattle.velo_events.specs.declared.limits.TheConstants.{MOST_THREADS};
 ghost use Rattle.velo_arena.specs.Slots.{is_used, is_finished_in, stamp_in, limit_of};
@@ -45,8 +44,7 @@ impl Heirs {
     /// # Errors
     /// `Memory` where a growth was refused.
     pub fn new(alloc: Global, limit: u16) -> Result<Heirs, Memory>
-        ensures limit { IfOk result (λ heirs. length heirs ≡ limit) }
-        ensures memory { OnErr result GrowthRefused }
+        ensures { IfOk result (λ heirs. length heirs ≡ limit) }
     {
         let firsts = filled(alloc, None, PAIRS)?;
         let heirs = filled(alloc, None, limit as usize)?;
@@ -117,7 +115,7 @@ fn clear(list: &mut [Option<u16>])
     }
 }
 
-/// Finds of each thread an unfinished node, if it has one.
+/// For each thread, its unfinished node, if any.
 fn find_going(graph: &Graph<BitRow>, events: &[Event], going: &mut [Option<u16>])
     requires threads { HaveThreads graph.now events.now (length going.old) }
     ensures going { AreGoing graph.now events.now going.new (limit_of graph.now.slots) }

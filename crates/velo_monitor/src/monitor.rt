@@ -1,4 +1,3 @@
-ghost use Rattle.velo_events.specs.Refusals.{GrowthRefused};
 ghost use Rattle.std.specs.Prelude.{◌≡◌, ◌*◌, ◌≤◌, ◌<◌, ℕ, [], ◌∷◌, ◌++◌, List, length, IsTrue, IsFalse, IfOk, OnOk, OnErr, ◌↔◌, Some};
 ghost use Rattle.std.specs.Option.{ForSome, option_to_list};
 ghost use Rattle.velo_events.specs.declared.config.Bounds.{Bounds as BoundsOf};
@@ -18,7 +17,7 @@ ghost use Rattle.velo_merge.specs.Named.{Bears, live_stamps, HasFinished, IsAnce
 ghost use Rattle.velo_events.specs.Place.{Place as PlaceOf, LastOf};
 ghost use Rattle.velo_tables.specs.LastAccesses.{entry, steps_looked_up, HasRoomFor};
 ghost use Rattle.velo_tables.specs.Others.{accesses_but_for};
-ghost use Rattle.velo_monitor.specs.Watched.{IsMonitorOf};
+ghost use Rattle.velo_monitor.specs.Watched.{IsMonitorOf, ForItsTraces};
 ghost use Rattle.velo_monitor.specs.Answers.{NeedsNode, GetsNewNode, IsNext, IsSeen};
 ghost use Rattle.velo_monitor.specs.Steps.{live_slots, ReachesSome};
 ghost use Rattle.velo_monitor.specs.Changed.{depth_of, CanCount, AfterInside, EndsBlock, CountsBlocks, BeginsBlock, IsPlaced, AfterOutside, ForgetsDead};
@@ -86,7 +85,6 @@ impl Monitor {
     pub fn new(alloc: Global, config: &Config) -> Result<Monitor, Memory>
         ensures start { IfOk result (λ monitor. IsMonitorOf config.now.bounds monitor []) }
         ensures limit { IfOk result (λ monitor. limit_of monitor.nodes.slots ≡ config.now.nodes) }
-        ensures memory { OnErr result GrowthRefused }
     {
         let graph = Graph::new(alloc, config.nodes)?;
         let freed = Freed::new(alloc, config.nodes)?;
@@ -114,7 +112,6 @@ impl Monitor {
         ensures same { (bounds : BoundsOf) (trace : List EventOf) → IsMonitorOf bounds self.old trace → IsMonitorOf bounds self.new trace }
         ensures room { OnOk result ((bounds : BoundsOf) (trace : List EventOf) → IsMonitorOf bounds self.old trace → MayFollow bounds trace event.now → HasRoomFor self.new.kept event.now) }
         ensures full { OnErr result (¬ HasRoomFor self.old.kept event.now) }
-        ensures memory { OnErr result GrowthRefused }
     {
         self.tables.reserve_for(event)
     }
@@ -178,9 +175,11 @@ impl Monitor {
     /// is covered by one, or is not live, and no continuation brings one that is given up into a cycle.
     pub fn used(&self) -> u16
         ensures used { result ≡ used_in self.now.nodes.slots }
-        ensures live { (bounds : BoundsOf) (trace : List EventOf) → IsMonitorOf bounds self.now trace → HasManyLive trace result }
-        ensures accounted { (bounds : BoundsOf) (trace : List EventOf) → IsMonitorOf bounds self.now trace → (a : ℕ) → IsTransaction trace a → IsAccountedFor trace (stamps_in self.now.nodes.slots) a }
-        ensures given_up { (bounds : BoundsOf) (trace : List EventOf) → IsMonitorOf bounds self.now trace → (a : ℕ) → IsGivenUp trace (stamps_in self.now.nodes.slots) a → IsHarmless bounds trace a }
+        ensures live { ForItsTraces self.now (λ bounds trace. HasManyLive trace result) }
+        ensures accounted { ForItsTraces self.now (λ bounds trace. (a : ℕ) →
+            IsTransaction trace a → IsAccountedFor trace (stamps_in self.now.nodes.slots) a) }
+        ensures given_up { ForItsTraces self.now (λ bounds trace. (a : ℕ) →
+            IsGivenUp trace (stamps_in self.now.nodes.slots) a → IsHarmless bounds trace a) }
     {
         self.graph.used()
     }

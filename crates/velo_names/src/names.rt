@@ -1,7 +1,6 @@
 //! The names of a file.
-ghost use Rattle.std.specs.Prelude.{◌≡◌, ◌+◌, ◌≤◌, length, IfOk, OnErr};
+ghost use Rattle.std.specs.Prelude.{◌≡◌, ◌+◌, ◌≤◌, length, IfOk};
 ghost use Rattle.std.specs.Option.{option_copied};
-ghost use Rattle.velo_events.specs.Refusals.{GrowthRefused};
 ghost use Rattle.velo_names.specs.Answers.{list_in, AnswersAs};
 ghost use Rattle.velo_names.specs.Said.{said};
 ghost use Rattle.velo_names.specs.Line.{lines};
@@ -68,8 +67,7 @@ fn name_in<'a>(names: &IndexMap<u32, &'a [u8]>, number: u32) -> Option<&'a [u8]>
 
 /// The numbers of a name in a list.
 fn numbers_in(alloc: Global, names: &IndexMap<u32, &[u8]>, name: &[u8]) -> Result<Vec<u32>, Memory>
-    ensures numbers { IfOk result (λ numbers. numbers.items ≡ numbers_in (list_in names.now) name.now) }
-    ensures memory { OnErr result GrowthRefused }
+    ensures { IfOk result (λ numbers. numbers.items ≡ numbers_in (list_in names.now) name.now) }
 {
     let mut numbers = Vec::new(alloc);
     for (number, other) in names {
@@ -179,8 +177,7 @@ impl<'a> Names<'a> {
     /// # Errors
     /// `Memory` where a growth was refused.
     pub fn numbers_of(&self, alloc: Global, kind: NameKind, name: &[u8]) -> Result<Vec<u32>, Memory>
-        ensures numbers { IfOk result (λ numbers. numbers.items ≡ numbers_of self.now kind name.now) }
-        ensures memory { OnErr result GrowthRefused }
+        ensures { IfOk result (λ numbers. numbers.items ≡ numbers_of self.now kind name.now) }
     {
         match kind {
             NameKind::Thread => numbers_in(alloc, &self.threads, name),
@@ -201,8 +198,7 @@ impl<'a> Names<'a> {
         kind: NameKind,
         argument: &[u8],
     ) -> Result<Vec<u32>, Memory>
-        ensures numbers { IfOk result (λ numbers. numbers.items ≡ meant_by self.now kind argument.now) }
-        ensures memory { OnErr result GrowthRefused }
+        ensures { IfOk result (λ numbers. numbers.items ≡ meant_by self.now kind argument.now) }
     {
         if !is_number(argument) {
             return self.numbers_of(alloc, kind, argument);

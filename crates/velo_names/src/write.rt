@@ -1,7 +1,6 @@
 //! The text of names.
-ghost use Rattle.std.specs.Prelude.{◌≡◌, ◌++◌, ◌∷◌, [], length, map, OnOk, OnErr};
+ghost use Rattle.std.specs.Prelude.{◌≡◌, ◌++◌, ◌∷◌, [], length, map, OnOk};
 ghost use Rattle.std.specs.String.{string_bytes};
-ghost use Rattle.velo_events.specs.Refusals.{GrowthRefused};
 ghost use Rattle.velo_names.specs.Line.{kind_text};
 ghost use Rattle.velo_names.specs.Names.{naming_line, list_text, by_place};
 
@@ -12,8 +11,7 @@ use velo_logtext::{append, append_number};
 
 /// Appends the word of a kind.
 fn append_kind(text: &mut Vec<u8>, kind: NameKind) -> Result<(), Memory>
-    ensures ok { OnOk result (text.new.items ≡ text.old.items ++ kind_text kind) }
-    ensures memory { OnErr result GrowthRefused }
+    ensures { OnOk result (text.new.items ≡ text.old.items ++ kind_text kind) }
 {
     match kind {
         NameKind::Thread => append(text, b"thread"),
@@ -25,8 +23,7 @@ fn append_kind(text: &mut Vec<u8>, kind: NameKind) -> Result<(), Memory>
 
 /// Appends the line of a name.
 fn append_line(text: &mut Vec<u8>, kind: NameKind, number: u64, name: &[u8]) -> Result<(), Memory>
-    ensures ok { OnOk result (text.new.items ≡ text.old.items ++ naming_line kind (number, name.now)) }
-    ensures memory { OnErr result GrowthRefused }
+    ensures { OnOk result (text.new.items ≡ text.old.items ++ naming_line kind (number, name.now)) }
 {
     append_kind(text, kind)?;
     append(text, b" ")?;
@@ -41,8 +38,7 @@ fn append_line(text: &mut Vec<u8>, kind: NameKind, number: u64, name: &[u8]) -> 
 /// # Errors
 /// `Memory` where a growth was refused.
 pub fn append_names(text: &mut Vec<u8>, kind: NameKind, names: &[String]) -> Result<(), Memory>
-    ensures ok { OnOk result (text.new.items ≡ text.old.items ++ list_text kind (by_place (map string_bytes names.now))) }
-    ensures memory { OnErr result GrowthRefused }
+    ensures { OnOk result (text.new.items ≡ text.old.items ++ list_text kind (by_place (map string_bytes names.now))) }
 {
     for i in 0..names.len() {
         append_line(text, kind, i as u64, names[i].as_bytes())?;

@@ -1,6 +1,5 @@
 //! `velodrome audit`.
-ghost use Rattle.std.specs.Prelude.{◌≡◌, ◌≤◌, All, false, length, map, IfOk, OnOk, OnErr};
-ghost use Rattle.velo_events.specs.Refusals.{GrowthRefused};
+ghost use Rattle.std.specs.Prelude.{◌≡◌, ◌≤◌, All, false, length, map, IfOk, OnOk};
 ghost use Rattle.velo_events.specs.declared.event.Label.{Label as LabelOf};
 ghost use Rattle.velo_events.specs.declared.event.LockId.{LockId as LockOf};
 ghost use Rattle.velo_events.specs.declared.event.VarId.{VarId as VariableOf};
@@ -36,9 +35,8 @@ use velo_world::Closed;
 
 /// Leaves out the labels.
 fn leave_out_labels(left: &mut LeftOut, labels: &[Label]) -> Result<(), Memory>
-    ensures ok { OnOk result (left_of left.new
+    ensures { OnOk result (left_of left.new
         ≡ with_labels (left_of left.old) (map (λ (l : LabelOf). l.0) labels.now)) }
-    ensures memory { OnErr result GrowthRefused }
 {
     for label in labels {
         left.leave_out_label(*label)?;
@@ -48,9 +46,8 @@ fn leave_out_labels(left: &mut LeftOut, labels: &[Label]) -> Result<(), Memory>
 
 /// Leaves out the locks.
 fn leave_out_locks(left: &mut LeftOut, locks: &[LockId]) -> Result<(), Memory>
-    ensures ok { OnOk result (left_of left.new
+    ensures { OnOk result (left_of left.new
         ≡ with_locks (left_of left.old) (map (λ (m : LockOf). m.0) locks.now)) }
-    ensures memory { OnErr result GrowthRefused }
 {
     for lock in locks {
         left.leave_out_lock(*lock)?;
@@ -60,9 +57,8 @@ fn leave_out_locks(left: &mut LeftOut, locks: &[LockId]) -> Result<(), Memory>
 
 /// Leaves out the variables.
 fn leave_out_variables(left: &mut LeftOut, variables: &[VarId]) -> Result<(), Memory>
-    ensures ok { OnOk result (left_of left.new
+    ensures { OnOk result (left_of left.new
         ≡ with_variables (left_of left.old) (map (λ (x : VariableOf). x.0) variables.now)) }
-    ensures memory { OnErr result GrowthRefused }
 {
     for variable in variables {
         left.leave_out_variable(*variable)?;
@@ -72,8 +68,7 @@ fn leave_out_variables(left: &mut LeftOut, variables: &[VarId]) -> Result<(), Me
 
 /// What was asked for, left out.
 fn left_out(alloc: Global, asked: &Asked) -> Result<LeftOut, Memory>
-    ensures left { IfOk result (λ left. left_of left ≡ left_at_first asked.now) }
-    ensures memory { OnErr result GrowthRefused }
+    ensures { IfOk result (λ left. left_of left ≡ left_at_first asked.now) }
 {
     let mut left = LeftOut::new(alloc);
     leave_out_labels(&mut left, asked.labels)?;

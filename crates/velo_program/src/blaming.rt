@@ -1,6 +1,5 @@
 //! Who is to blame for the alarms that a search finds.
-ghost use Rattle.std.specs.Prelude.{◌≡◌, IfOk, OnErr, map, take};
-ghost use Rattle.velo_events.specs.Refusals.{GrowthRefused};
+ghost use Rattle.std.specs.Prelude.{◌≡◌, IfOk, map, take};
 ghost use Rattle.velo_program.specs.ByChance.{IsBlameOf};
 ghost use Rattle.velo_program.specs.Exploring.{most_to_blame};
 
@@ -33,9 +32,8 @@ pub fn blame_of(
     config: Config,
 ) -> Result<ToBlame, Memory>
     requires { config.bounds ≡ workload.now.bounds }
-    ensures blame { IfOk result (IsBlameOf workload.now config
+    ensures { IfOk result (IsBlameOf workload.now config
         (map (λ schedule. schedule.items) (take (most_to_blame first) schedules.now))) }
-    ensures memory { OnErr result GrowthRefused }
 {
     let most = most_to_blame(first).min(schedules.len());
     let Tally { alarms, blamed, .. } = try_all(alloc, workload, &schedules[..most], config)?;

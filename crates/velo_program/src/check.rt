@@ -1,9 +1,8 @@
 //! `velodrome check`, and what all commands ask of a recorded log.
-ghost use Rattle.std.specs.Prelude.{◌≡◌, ◌≤◌, false, IfOk, IfErr, IfSome, OnOk, OnErr, is_some, length};
+ghost use Rattle.std.specs.Prelude.{◌≡◌, ◌≤◌, false, IfOk, IfErr, IfSome, OnOk, is_some, length};
 ghost use Rattle.velo_events.specs.Certificate.{IsSerialOrder, IsShortestCycleAt};
 ghost use Rattle.velo_events.specs.Graph.{HasCycle, IsClosing};
 ghost use Rattle.velo_events.specs.WellFormed.{IsWellFormed};
-ghost use Rattle.velo_events.specs.Refusals.{GrowthRefused};
 ghost use Rattle.velo_events.specs.declared.limits.TheConstants.{MOST_EVENTS, MOST_NODES};
 ghost use Rattle.velo_logtext.specs.Text.{AreBounds};
 ghost use Rattle.velo_report.specs.declared.names.Names.TheVariants.{Numbers};
@@ -138,8 +137,7 @@ pub fn verdict_of(closed: &Closed) -> Verdict
 /// The serial order of a log without a cycle.
 fn order_of(alloc: Global, log: &Trace) -> Result<Vec<usize>, Memory>
     requires { ¬ HasCycle log.now.events }
-    ensures order { IfOk result (λ order. IsSerialOrder log.now.events order.items) }
-    ensures memory { OnErr result GrowthRefused }
+    ensures { IfOk result (λ order. IsSerialOrder log.now.events order.items) }
 {
     match serial_order(alloc, log) {
         Ok(order) => Ok(order),
@@ -151,8 +149,7 @@ fn order_of(alloc: Global, log: &Trace) -> Result<Vec<usize>, Memory>
 /// A shortest cycle at the first event of a log that closes one.
 fn cycle_at(alloc: Global, log: &Trace, position: usize) -> Result<Vec<usize>, Memory>
     requires { IsClosing log.now.events position }
-    ensures cycle { IfOk result (λ cycle. IsShortestCycleAt log.now.events position cycle.items) }
-    ensures memory { OnErr result GrowthRefused }
+    ensures { IfOk result (λ cycle. IsShortestCycleAt log.now.events position cycle.items) }
 {
     match cycle_of(alloc, log, position) {
         Ok(cycle) => Ok(cycle),
@@ -167,8 +164,7 @@ fn cycle_at(alloc: Global, log: &Trace, position: usize) -> Result<Vec<usize>, M
 /// # Errors
 /// `Memory` where a growth was refused.
 pub fn order_or_cycle_of(alloc: Global, closed: &Closed) -> Result<Vec<usize>, Memory>
-    ensures list { IfOk result (λ list. IsOrderOrCycle closed.now.log list.items) }
-    ensures memory { OnErr result GrowthRefused }
+    ensures { IfOk result (λ list. IsOrderOrCycle closed.now.log list.items) }
 {
     match closed.alarm() {
         Some(alarm) => cycle_at(alloc, closed.log(), alarm.position),

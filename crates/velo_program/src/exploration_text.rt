@@ -1,6 +1,5 @@
 //! The text of what is told of the schedules of a workload.
-ghost use Rattle.std.specs.Prelude.{◌≡◌, ◌++◌, slice_get, IfOk, OnErr, OnOk};
-ghost use Rattle.velo_events.specs.Refusals.{GrowthRefused};
+ghost use Rattle.std.specs.Prelude.{◌≡◌, ◌++◌, slice_get, IfOk, OnOk};
 ghost use Rattle.velo_program.specs.Exploring.{blame_text, blamed_text, finding_text, found_text, label_text, name_text, refused_text, refusal_text, told_text, tried_text};
 
 use crate::fate::number_of;
@@ -15,8 +14,7 @@ use velo_workload::Workload;
 
 /// Adds what stands behind the word of a finding.
 fn add_finding(text: &mut Vec<u8>, finding: &Finding) -> Result<(), Memory>
-    ensures ok { OnOk result (text.new.items ≡ text.old.items ++ finding_text finding.now) }
-    ensures memory { OnErr result GrowthRefused }
+    ensures { OnOk result (text.new.items ≡ text.old.items ++ finding_text finding.now) }
 {
     match finding {
         Finding::Shown(schedule) => append_turns(text, schedule),
@@ -27,9 +25,8 @@ fn add_finding(text: &mut Vec<u8>, finding: &Finding) -> Result<(), Memory>
 
 /// Adds the name of a thread behind a space, if it has one.
 fn add_name(text: &mut Vec<u8>, workload: &Workload, thread: ThreadId) -> Result<(), Memory>
-    ensures ok { OnOk result (text.new.items
+    ensures { OnOk result (text.new.items
         ≡ text.old.items ++ name_text (slice_get workload.now.thread_names thread.0)) }
-    ensures memory { OnErr result GrowthRefused }
 {
     match workload.thread_names().get(usize::from(thread.0)) {
         Some(name) => {
@@ -42,9 +39,8 @@ fn add_name(text: &mut Vec<u8>, workload: &Workload, thread: ThreadId) -> Result
 
 /// Adds the number of a refusal, its thread, and its schedule.
 fn add_refused(text: &mut Vec<u8>, workload: &Workload, run: &RefusedRun) -> Result<(), Memory>
-    ensures ok { OnOk result (text.new.items
+    ensures { OnOk result (text.new.items
         ≡ text.old.items ++ refused_text workload.now run.now) }
-    ensures memory { OnErr result GrowthRefused }
 {
     append(text, b" ")?;
     append_number(text, u64::from(number_of(run.refusal)))?;
@@ -60,9 +56,8 @@ fn add_refusal(
     workload: &Workload,
     finding: &RefusalFinding,
 ) -> Result<(), Memory>
-    ensures ok { OnOk result (text.new.items
+    ensures { OnOk result (text.new.items
         ≡ text.old.items ++ refusal_text workload.now finding.now) }
-    ensures memory { OnErr result GrowthRefused }
 {
     match finding {
         RefusalFinding::Shown(run) => add_refused(text, workload, run),
@@ -73,8 +68,7 @@ fn add_refusal(
 
 /// Adds how schedules were tried.
 fn add_tried(text: &mut Vec<u8>, tried: Tried) -> Result<(), Memory>
-    ensures ok { OnOk result (text.new.items ≡ text.old.items ++ tried_text tried) }
-    ensures memory { OnErr result GrowthRefused }
+    ensures { OnOk result (text.new.items ≡ text.old.items ++ tried_text tried) }
 {
     match tried {
         Tried::All { events, states } => {
@@ -94,9 +88,8 @@ fn add_tried(text: &mut Vec<u8>, tried: Tried) -> Result<(), Memory>
 
 /// Adds the lines of what was found.
 fn add_found(text: &mut Vec<u8>, workload: &Workload, found: &Found) -> Result<(), Memory>
-    ensures ok { OnOk result (text.new.items
+    ensures { OnOk result (text.new.items
         ≡ text.old.items ++ found_text workload.now found.now) }
-    ensures memory { OnErr result GrowthRefused }
 {
     append(text, b"\nalarm")?;
     add_finding(text, &found.alarm)?;
@@ -109,9 +102,8 @@ fn add_found(text: &mut Vec<u8>, workload: &Workload, found: &Found) -> Result<(
 
 /// Adds the name of a label, or its number, if it has none.
 fn add_label(text: &mut Vec<u8>, workload: &Workload, label: Label) -> Result<(), Memory>
-    ensures ok { OnOk result (text.new.items
+    ensures { OnOk result (text.new.items
         ≡ text.old.items ++ label_text workload.now label.0) }
-    ensures memory { OnErr result GrowthRefused }
 {
     match workload.label_names().get(label.0 as usize) {
         Some(name) => append(text, name.as_bytes()),
@@ -126,9 +118,8 @@ fn add_blamed(
     alarms: u64,
     blamed: Blamed,
 ) -> Result<(), Memory>
-    ensures ok { OnOk result (text.new.items
+    ensures { OnOk result (text.new.items
         ≡ text.old.items ++ blamed_text workload.now alarms blamed) }
-    ensures memory { OnErr result GrowthRefused }
 {
     append(text, b"to blame ")?;
     add_label(text, workload, blamed.label)?;
@@ -141,9 +132,8 @@ fn add_blamed(
 
 /// Adds the lines of the labels that are to blame.
 fn add_blame(text: &mut Vec<u8>, workload: &Workload, blame: &ToBlame) -> Result<(), Memory>
-    ensures ok { OnOk result (text.new.items
+    ensures { OnOk result (text.new.items
         ≡ text.old.items ++ blame_text workload.now blame.now) }
-    ensures memory { OnErr result GrowthRefused }
 {
     let labels = blame.labels.as_slice();
     for place in 0..labels.len() {
@@ -157,8 +147,7 @@ fn add_blame(text: &mut Vec<u8>, workload: &Workload, blame: &ToBlame) -> Result
 /// # Errors
 /// `Memory` where a growth was refused.
 pub fn text_of_told(alloc: Global, workload: &Workload, told: &Told) -> Result<Vec<u8>, Memory>
-    ensures ok { IfOk result (λ text. text.items ≡ told_text workload.now told.now) }
-    ensures memory { OnErr result GrowthRefused }
+    ensures { IfOk result (λ text. text.items ≡ told_text workload.now told.now) }
 {
     let mut text = Vec::new(alloc);
     add_tried(&mut text, told.tried)?;

@@ -1,6 +1,5 @@
 //! `velodrome explore`.
-ghost use Rattle.std.specs.Prelude.{◌≡◌, IfOk, IfSome, OnErr, is_some};
-ghost use Rattle.velo_events.specs.Refusals.{GrowthRefused};
+ghost use Rattle.std.specs.Prelude.{◌≡◌, IfOk, IfSome, is_some};
 ghost use Rattle.velo_program.specs.Check.{IsOrderOrCycle};
 ghost use Rattle.velo_program.specs.Disk.{store};
 ghost use Rattle.velo_program.specs.Exploring.{IsToldOf, fate_of_found, run_of, waits_behind};
@@ -265,9 +264,8 @@ fn waits_behind(
     closed: &Closed,
 ) -> Result<Vec<u8>, Memory>
     requires { closed.now.config.bounds ≡ workload.now.bounds }
-    ensures text { IfOk result (λ text. text.items
+    ensures { IfOk result (λ text. text.items
         ≡ waits_behind found.now.alarm found.now.stuck workload.now closed.now.log) }
-    ensures memory { OnErr result GrowthRefused }
 {
     match &found.alarm {
         Finding::Shown(_) => Ok(Vec::new(alloc)),

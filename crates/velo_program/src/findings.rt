@@ -1,6 +1,5 @@
 //! What the schedules of a workload come to, and the replay that is reported.
-ghost use Rattle.std.specs.Prelude.{◌≡◌, ◌<◌, ◌↔◌, All, IfOk, IfSome, IsNone, IsTrue, None, OnErr, OnOk, Some};
-ghost use Rattle.velo_events.specs.Refusals.{GrowthRefused};
+ghost use Rattle.std.specs.Prelude.{◌≡◌, ◌<◌, ◌↔◌, All, IfOk, IfSome, IsNone, IsTrue, None, OnOk, Some};
 ghost use Rattle.velo_events.specs.declared.limits.TheConstants.{MOST_THREADS};
 ghost use Rattle.velo_program.specs.ByChance.{IsByChance, IsSayable};
 ghost use Rattle.velo_program.specs.Check.{IsVerdict};
@@ -85,8 +84,7 @@ fn explore_all<P: Progress>(
     progress: &mut P,
 ) -> Result<Told, Memory>
     requires { config.bounds ≡ workload.now.bounds }
-    ensures told { IfOk result (IsExplorationOf workload.now config options.now) }
-    ensures memory { OnErr result GrowthRefused }
+    ensures { IfOk result (IsExplorationOf workload.now config options.now) }
 {
     let most_states = u64::from(options.states);
     let found = explore(
@@ -145,8 +143,7 @@ fn try_some(
     config: Config,
 ) -> Result<Told, Memory>
     requires { config.bounds ≡ workload.now.bounds }
-    ensures told { IfOk result (IsByChance workload.now config random) }
-    ensures memory { OnErr result GrowthRefused }
+    ensures { IfOk result (IsByChance workload.now config random) }
 {
     let RandomRuns { runs, seed } = random;
     let Tally {
@@ -184,8 +181,7 @@ pub fn told_of<P: Progress>(
     progress: &mut P,
 ) -> Result<Told, Memory>
     requires { config.bounds ≡ workload.now.bounds }
-    ensures told { IfOk result (IsToldOf workload.now config options.now) }
-    ensures memory { OnErr result GrowthRefused }
+    ensures { IfOk result (IsToldOf workload.now config options.now) }
 {
     match options.random {
         Some(random) => try_some(alloc, workload, random, config),
@@ -203,7 +199,6 @@ fn replay_by(
     requires { config.bounds ≡ workload.now.bounds }
     ensures run { IfOk result (λ run. IsReplayBy workload.now config schedule.now run.1 run.0) }
     ensures verdict { IfOk result (λ run. IsVerdict run.0.log run.2) }
-    ensures memory { OnErr result GrowthRefused }
 {
     let (closed, ending) = replay(alloc, workload, schedule, config)?;
     if is_unreported(ending) {
@@ -234,8 +229,7 @@ fn run_with(
     schedule: &[ThreadId],
 ) -> Result<Option<(Closed, Ending)>, Memory>
     requires { config.bounds ≡ workload.now.bounds }
-    ensures run { IfOk result (IsRunFor workload.now config goal schedule.now) }
-    ensures memory { OnErr result GrowthRefused }
+    ensures { IfOk result (IsRunFor workload.now config goal schedule.now) }
 {
     let (closed, ending, verdict) = replay_by(alloc, workload, schedule, config)?;
     if has(goal, ending, verdict) {
@@ -291,7 +285,6 @@ pub fn first_replay(
     requires { config.bounds ≡ workload.now.bounds }
     ensures told { OnOk result (TellsNoMore workload.now config found.old found.new) }
     ensures run { IfOk result (IsRunOfFirst workload.now config found.new) }
-    ensures memory { OnErr result GrowthRefused }
 {
     while let Some((goal, schedule)) = first_shown(found) {
         match run_with(alloc, workload, config, goal, schedule)? {

@@ -1,6 +1,5 @@
 //! The locks and the variables that an audit is asked to ignore.
-ghost use Rattle.std.specs.Prelude.{◌≡◌, ◌≢◌, ◌++◌, ◌∷◌, [], map, Some, IfErr, IfOk, OnErr, OnOk};
-ghost use Rattle.velo_events.specs.Refusals.{GrowthRefused};
+ghost use Rattle.std.specs.Prelude.{◌≡◌, ◌≢◌, ◌++◌, ◌∷◌, [], map, Some, IfErr, IfOk, OnOk};
 ghost use Rattle.velo_events.specs.declared.event.LockId.{LockId as LockOf};
 ghost use Rattle.velo_events.specs.declared.event.VarId.{VarId as VariableOf};
 ghost use Rattle.velo_program.specs.Ignoring.{MeanNothing, MeansNone, ids_among, ids_by, ids_meant, kind_of};
@@ -27,8 +26,7 @@ fn kind_of(what: Ignorable) -> NameKind
 
 /// Adds a number if it can be an id.
 fn add_id(ids: &mut Vec<u16>, number: u32) -> Result<(), Memory>
-    ensures ok { OnOk result (ids.new.items ≡ ids.old.items ++ ids_among (number ∷ [])) }
-    ensures memory { OnErr result GrowthRefused }
+    ensures { OnOk result (ids.new.items ≡ ids.old.items ++ ids_among (number ∷ [])) }
 {
     if number > GREATEST_ID {
         return Ok(());
@@ -40,8 +38,7 @@ fn add_id(ids: &mut Vec<u16>, number: u32) -> Result<(), Memory>
 
 /// Adds the numbers that can be ids.
 fn add_ids(ids: &mut Vec<u16>, numbers: &[u32]) -> Result<(), Memory>
-    ensures ok { OnOk result (ids.new.items ≡ ids.old.items ++ ids_among numbers.now) }
-    ensures memory { OnErr result GrowthRefused }
+    ensures { OnOk result (ids.new.items ≡ ids.old.items ++ ids_among numbers.now) }
 {
     for number in numbers {
         add_id(ids, *number)?;
@@ -57,8 +54,7 @@ fn add_meant(
     what: Ignorable,
     word: &str,
 ) -> Result<(), Memory>
-    ensures ok { OnOk result (ids.new.items ≡ ids.old.items ++ ids_meant names.now what word.now) }
-    ensures memory { OnErr result GrowthRefused }
+    ensures { OnOk result (ids.new.items ≡ ids.old.items ++ ids_meant names.now what word.now) }
 {
     let numbers = names.meant_by(alloc, kind_of(what), word.as_bytes())?;
     add_ids(ids, &numbers)
@@ -104,8 +100,7 @@ fn ids_by(alloc: Global, names: &Names, what: Ignorable, words: &[&str]) -> Resu
 
 /// The locks of these ids.
 fn locks_of(alloc: Global, ids: &[u16]) -> Result<Vec<LockId>, Memory>
-    ensures locks { IfOk result (λ locks. map (λ (m : LockOf). m.0) locks.items ≡ ids.now) }
-    ensures memory { OnErr result GrowthRefused }
+    ensures { IfOk result (λ locks. map (λ (m : LockOf). m.0) locks.items ≡ ids.now) }
 {
     let mut locks = Vec::new(alloc);
     for id in ids {
@@ -117,9 +112,8 @@ fn locks_of(alloc: Global, ids: &[u16]) -> Result<Vec<LockId>, Memory>
 
 /// The variables of these ids.
 fn variables_of(alloc: Global, ids: &[u16]) -> Result<Vec<VarId>, Memory>
-    ensures variables { IfOk result (λ variables. map (λ (x : VariableOf). x.0) variables.items
+    ensures { IfOk result (λ variables. map (λ (x : VariableOf). x.0) variables.items
         ≡ ids.now) }
-    ensures memory { OnErr result GrowthRefused }
 {
     let mut variables = Vec::new(alloc);
     for id in ids {

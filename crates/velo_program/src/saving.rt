@@ -1,6 +1,5 @@
 //! What is saved of a run of a workload: its log, and behind it the names of the workload.
-ghost use Rattle.std.specs.Prelude.{◌≡◌, IfOk, OnErr};
-ghost use Rattle.velo_events.specs.Refusals.{GrowthRefused};
+ghost use Rattle.std.specs.Prelude.{◌≡◌, IfOk};
 ghost use Rattle.velo_program.specs.Disk.{store};
 ghost use Rattle.velo_program.specs.Playing.{text_of_log, text_of_names};
 ghost use Rattle.velo_program.specs.Steps.{AreNamesFor, IsSavedInTurn};
@@ -28,8 +27,7 @@ pub struct Saving<'a> {
 
 /// The file of names of a workload.
 fn list_names(alloc: Global, workload: &Workload) -> Result<Vec<u8>, Memory>
-    ensures names { IfOk result (λ text. text.items ≡ text_of_names workload.now) }
-    ensures memory { OnErr result GrowthRefused }
+    ensures { IfOk result (λ text. text.items ≡ text_of_names workload.now) }
 {
     let mut text = Vec::new(alloc);
     append_names(&mut text, NameKind::Thread, workload.thread_names())?;
@@ -41,8 +39,7 @@ fn list_names(alloc: Global, workload: &Workload) -> Result<Vec<u8>, Memory>
 
 /// The file of names of a workload, if there is a path for it.
 pub fn names_for(alloc: Global, workload: &Workload, path: Option<&str>) -> Result<Vec<u8>, Memory>
-    ensures names { IfOk result (λ text. AreNamesFor path.entry workload.now text.items) }
-    ensures memory { OnErr result GrowthRefused }
+    ensures { IfOk result (λ text. AreNamesFor path.entry workload.now text.items) }
 {
     match path {
         Some(_) => list_names(alloc, workload),

@@ -1,7 +1,6 @@
 //! The variables whose accesses are in order.
-ghost use Rattle.std.specs.Prelude.{◌≡◌, ◌≤◌, ◌<◌, ℕ, length, IfOk, OnErr, IsTrue};
+ghost use Rattle.std.specs.Prelude.{◌≡◌, ◌≤◌, ◌<◌, ℕ, length, IfOk, IsTrue};
 ghost use Rattle.velo_events.specs.declared.limits.TheConstants.{MOST_EVENTS};
-ghost use Rattle.velo_events.specs.Refusals.{GrowthRefused};
 ghost use Rattle.velo_events.specs.WellFormed.{IsWellFormed};
 ghost use Rattle.velo_laws.specs.Ordered.{only, IsOrderedWithin};
 ghost use Rattle.velo_thin.specs.Tables.{marked};
@@ -26,7 +25,6 @@ pub fn ordered_variables(alloc: Global, config: &Config, log: &Trace) -> Result<
     ensures free { IfOk result (λ ordered. (x : ℕ) → x < config.now.bounds.variables
         → IsFreeOfRaces log.now.events x → IsTrue (marked ordered.items x)) }
     ensures judged { IfOk result (λ ordered. IsJudgedWithout (marked ordered.items) log.now.events) }
-    ensures memory { OnErr result GrowthRefused }
 {
     let events = log.as_slice();
     let mut sweep = Sweep::new(alloc, config)?;

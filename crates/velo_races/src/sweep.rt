@@ -1,8 +1,7 @@
 //! One pass over the events of a log, from the first on.
-ghost use Rattle.std.specs.Prelude.{◌≡◌, ◌↔◌, List, ◌≤◌, ◌<◌, ◌+◌, ◌*◌, ◌^◌, ◌&&◌, ◌||◌, ◌==◌, ℕ, nat_le, if◌then◌else◌, true, false, not, length, slice_index_or, slice_set, IfOk, OnOk, OnErr, IsTrue, IsFalse};
+ghost use Rattle.std.specs.Prelude.{◌≡◌, ◌↔◌, List, ◌≤◌, ◌<◌, ◌+◌, ◌*◌, ◌^◌, ◌&&◌, ◌||◌, ◌==◌, ℕ, nat_le, if◌then◌else◌, true, false, not, length, slice_index_or, slice_set, IfOk, OnOk, IsTrue, IsFalse};
 ghost use Rattle.velo_events.specs.declared.limits.TheConstants.{MOST_EVENTS};
 ghost use Rattle.velo_events.specs.declared.event.Event.{Event};
-ghost use Rattle.velo_events.specs.Refusals.{GrowthRefused};
 ghost use Rattle.velo_events.specs.WellFormed.{IsWellFormed};
 ghost use Rattle.velo_clocks.specs.Clocks.{ClockState};
 ghost use Rattle.velo_clocks.specs.Noted.{IsOfThreads};
@@ -52,7 +51,6 @@ impl Sweep {
     pub fn new(alloc: Global, config: &Config) -> Result<Sweep, Memory>
         ensures bounds { IfOk result (λ sweep. sweep.bounds ≡ config.now.bounds) }
         ensures swept { IfOk result (λ sweep. (log : List Event) → IsSwept log 0 sweep) }
-        ensures memory { OnErr result GrowthRefused }
     {
         let variables = usize::from(config.bounds.variables);
         let nobody = LastWrite {
@@ -166,7 +164,6 @@ impl Sweep {
         ensures writes { self.new.writes.items ≡ self.old.writes.items }
         ensures reads { self.new.reads.items ≡ self.old.reads.items }
         ensures ordered { self.new.ordered.items ≡ self.old.ordered.items }
-        ensures memory { OnErr result GrowthRefused }
     {
         self.clocks.reserve_for(event)?;
         self.clocks.note(self.count, event);
@@ -185,7 +182,6 @@ impl Sweep {
         requires swept { IsSwept events.now position self.old }
         ensures bounds { self.new.bounds ≡ self.old.bounds }
         ensures swept { OnOk result (IsSwept events.now (position + 1) self.new) }
-        ensures memory { OnErr result GrowthRefused }
     {
         let event = events[position];
         match event.kind {

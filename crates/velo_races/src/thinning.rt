@@ -1,7 +1,6 @@
 //! A log without the variables that are in order.
-ghost use Rattle.std.specs.Prelude.{◌≡◌, ◌≤◌, ◌<◌, length, IfOk, OnOk, OnErr};
+ghost use Rattle.std.specs.Prelude.{◌≡◌, ◌≤◌, ◌<◌, length, IfOk, OnOk};
 ghost use Rattle.velo_events.specs.declared.limits.TheConstants.{MOST_EVENTS};
-ghost use Rattle.velo_events.specs.Refusals.{GrowthRefused};
 ghost use Rattle.velo_events.specs.WellFormed.{IsWellFormed};
 ghost use Rattle.velo_thin.specs.Tables.{left_of, marked};
 ghost use Rattle.velo_laws.specs.Ordered.{only};
@@ -20,8 +19,7 @@ use velo_traces::Trace;
 /// `Memory` where a growth was refused.
 fn leave_out_marked(left: &mut LeftOut, marks: &[bool], variable: u16) -> Result<(), Memory>
     requires within { variable < length marks.now }
-    ensures ok { OnOk result (left_of left.new ≡ with_marked marks.now variable (left_of left.old)) }
-    ensures memory { OnErr result GrowthRefused }
+    ensures { OnOk result (left_of left.new ≡ with_marked marks.now variable (left_of left.old)) }
 {
     if marks[usize::from(variable)] {
         left.leave_out_variable(VarId(variable))?;
@@ -35,8 +33,7 @@ fn leave_out_marked(left: &mut LeftOut, marks: &[bool], variable: u16) -> Result
 /// `Memory` where a growth was refused.
 fn marked_out(alloc: Global, marks: &[bool], variables: u16) -> Result<LeftOut, Memory>
     requires count { length marks.now ≡ variables }
-    ensures left { IfOk result (λ left. left_of left ≡ only no_lock (marked marks.now)) }
-    ensures memory { OnErr result GrowthRefused }
+    ensures { IfOk result (λ left. left_of left ≡ only no_lock (marked marks.now)) }
 {
     let mut left = LeftOut::new(alloc);
     for variable in 0..variables {
@@ -53,8 +50,7 @@ fn marked_out(alloc: Global, marks: &[bool], variables: u16) -> Result<LeftOut, 
 pub fn thin_ordered(alloc: Global, config: &Config, log: &Trace) -> Result<Thinned, Memory>
     requires few { length log.now.events ≤ MOST_EVENTS }
     requires well_formed { IsWellFormed config.now.bounds log.now.events }
-    ensures thinned { IfOk result (IsThinned config.now.bounds log.now.events) }
-    ensures memory { OnErr result GrowthRefused }
+    ensures { IfOk result (IsThinned config.now.bounds log.now.events) }
 {
     let ordered = ordered_variables(alloc, config, log)?;
     let left = marked_out(alloc, &ordered, config.bounds.variables)?;

@@ -4,4 +4,3 @@ pub mod Lines
 pub mod Names
 pub mod Report
 pub mod Runs
-pub mod Told

@@ -4,11 +4,9 @@ ghost use Rattle.std.specs.Option.{option_copied};
 ghost use Rattle.velo_logtext.specs.Device.{with_failure, AppendsBeginning};
 ghost use Rattle.velo_report.specs.Lines.{Buffers};
 ghost use Rattle.velo_report.specs.Report.{thread_line, thread_lines, blame_line, blame_lines, verdict_lines, AppendsReport, AppendsPartOfReport};
-ghost use Rattle.velo_report.specs.Told.{world_of};
 
 use crate::lines::{Lines, Word};
 use crate::names::Names;
-use crate::told::Told;
 use velo_events::ThreadId;
 use velo_logtext::{Sink, WriteFault};
 use velo_names::NameKind;
@@ -20,19 +18,19 @@ fn add_thread<S: Sink>(
     lines: &mut Lines,
     sink: &mut S,
     names: &Names,
-    told: &Told,
+    world: &World,
     thread: ThreadId,
 ) -> Result<(), WriteFault>
-    requires { thread.0 < (world_of told.now).config.bounds.threads }
+    requires { thread.0 < world.now.config.bounds.threads }
     ensures ok { OnOk result (Buffers (S.contents sink.old) (S.contents sink.new)
-        lines.old lines.new (thread_line names.now (world_of told.now).log thread.0)) }
+        lines.old lines.new (thread_line names.now world.now.log thread.0)) }
     ensures err { OnErr result (AppendsBeginning (S.contents sink.old) (S.contents sink.new)
-        (lines.old ++ thread_line names.now (world_of told.now).log thread.0)) }
+        (lines.old ++ thread_line names.now world.now.log thread.0)) }
     ensures no_failure { OnOk result (S.failures sink.new ≡ S.failures sink.old) }
     ensures failure { OnErr result (S.failures sink.new ≡ with_failure (S.failures sink.old)) }
 {
     let number = u64::from(thread.0);
-    let count = told.events_of(thread);
+    let count = world.book().tally(thread).events;
     if let Some(name) = names.behind(NameKind::Thread, u32::from(thread.0)) {
         return lines.add_line(
             sink,
@@ -55,17 +53,17 @@ fn add_threads<S: Sink>(
     lines: &mut Lines,
     sink: &mut S,
     names: &Names,
-    told: &Told,
+    world: &World,
 ) -> Result<(), WriteFault>
     ensures ok { OnOk result (Buffers (S.contents sink.old) (S.contents sink.new)
-        lines.old lines.new (thread_lines names.now (world_of told.now).log (world_of told.now).config.bounds.threads)) }
+        lines.old lines.new (thread_lines names.now world.now.log world.now.config.bounds.threads)) }
     ensures err { OnErr result (AppendsBeginning (S.contents sink.old) (S.contents sink.new)
-        (lines.old ++ thread_lines names.now (world_of told.now).log (world_of told.now).config.bounds.threads)) }
+        (lines.old ++ thread_lines names.now world.now.log world.now.config.bounds.threads)) }
     ensures no_failure { OnOk result (S.failures sink.new ≡ S.failures sink.old) }
     ensures failure { OnErr result (S.failures sink.new ≡ with_failure (S.failures sink.old)) }
 {
-    for t in 0..told.bounds().threads {
-        add_thread(lines, sink, names, told, ThreadId(t))?;
+    for t in 0..world.bounds().threads {
+        add_thread(lines, sink, names, world, ThreadId(t))?;
     }
     Ok(())
 }
@@ -163,24 +161,6 @@ fn add_verdict<S: Sink>(
     }
 }
 
-/// Writes the report of a world.
-fn tell<S: Sink>(told: &Told, names: &Names, sink: &mut S) -> Result<(), WriteFault>
-    ensures ok { OnOk result (AppendsReport (S.contents sink.old) (S.contents sink.new)
-        names.now (world_of told.now).config.bounds.threads (world_of told.now).log) }
-    ensures err { OnErr result (AppendsPartOfReport (S.contents sink.old) (S.contents sink.new)
-        names.now (world_of told.now).config.bounds.threads (world_of told.now).log) }
-    ensures no_failure { OnOk result (S.failures sink.new ≡ S.failures sink.old) }
-    ensures failure { OnErr result (S.failures sink.new ≡ with_failure (S.failures sink.old)) }
-{
-    let alarm = told.alarm();
-    let total = told.total();
-    let mut lines = Lines::new();
-    lines.add_line(sink, "events", &[Word::Number(total)])?;
-    add_threads(&mut lines, sink, names, told)?;
-    add_verdict(&mut lines, sink, names, alarm)?;
-    lines.flush(sink)
-}
-
 /// Writes the report of a closed world: how many events there are, how many of each thread, and the verdict; with an alarm
 /// its position, the first position of its transaction, and the blocks to blame.
 ///
@@ -193,7 +173,7 @@ pub fn report<S: Sink>(closed: &Closed, names: &Names, sink: &mut S) -> Result<(
     ensures no_failure { OnOk result (S.failures sink.new ≡ S.failures sink.old) }
     ensures failure { OnErr result (S.failures sink.new ≡ with_failure (S.failures sink.old)) }
 {
-    tell(&Told::Ended(closed), names, sink)
+    report_so_far(closed.world(), names, sink)
 }
 
 /// Writes the report of the events so far of a world that may go on: what `report` would write, were it closed now.
@@ -207,5 +187,11 @@ pub fn report_so_far<S: Sink>(world: &World, names: &Names, sink: &mut S) -> Res
     ensures no_failure { OnOk result (S.failures sink.new ≡ S.failures sink.old) }
     ensures failure { OnErr result (S.failures sink.new ≡ with_failure (S.failures sink.old)) }
 {
-    tell(&Told::Going(world), names, sink)
+    let alarm = world.alarm();
+    let total = world.log().len();
+    let mut lines = Lines::new();
+    lines.add_line(sink, "events", &[Word::Number(total as u64)])?;
+    add_threads(&mut lines, sink, names, world)?;
+    add_verdict(&mut lines, sink, names, alarm)?;
+    lines.flush(sink)
 }

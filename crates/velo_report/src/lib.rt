@@ -6,7 +6,6 @@ mod certificate;
 mod closed;
 mod lines;
 mod names;
-mod told;
 
 pub use alarm::alarm_line;
 pub use certificate::certificate_lines;

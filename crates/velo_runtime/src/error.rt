@@ -1,5 +1,4 @@
 ghost use Rattle.std.specs.Prelude.{◌≡◌};
-ghost use Rattle.velo_events.specs.declared.memory.Memory.{Memory};
 ghost use Rattle.velo_runtime.specs.declared.error.RunError.TheVariants as run_error;
 
 use crate::shared::Missing;
@@ -19,9 +18,12 @@ pub enum RunError {
     /// The run could not be closed. All is given back.
     #[error(transparent)]
     Missing(Missing),
-    /// A growth of the program's own was refused.
+    /// The library is out of memory.
     #[error(transparent)]
     Memory(Memory),
+    /// An allocation of the program's own failed.
+    #[error("out of memory")]
+    Allocation,
 }
 
 impl From<BadConfig> for RunError {
@@ -57,17 +59,17 @@ impl From<Memory> for RunError {
 }
 
 impl From<AllocError> for RunError {
-    ghost from_gives = { λ _ error. (memory : Memory) × (error ≡ run_error.Memory memory) };
+    ghost from_gives = { λ _ error. error ≡ run_error.Allocation };
 
     fn from(_error: AllocError) -> RunError {
-        RunError::Memory(Memory)
+        RunError::Allocation
     }
 }
 
 impl<T: Drop> From<AllocFailed<T>> for RunError {
-    ghost from_gives = { λ _ error. (memory : Memory) × (error ≡ run_error.Memory memory) };
+    ghost from_gives = { λ _ error. error ≡ run_error.Allocation };
 
     fn from(_error: AllocFailed<T>) -> RunError {
-        RunError::Memory(Memory)
+        RunError::Allocation
     }
 }

@@ -1,5 +1,5 @@
 ghost use Rattle.velo_events.specs.Refusals.{GrowthRefused};
-ghost use Rattle.std.specs.Prelude.{◌≡◌, ◌≢◌, ◌+◌, ◌⊎◌, ◌↔◌, None, Err, IfOk, IfErr, IfSome, IfNone, IsFalse, IsTrue, sum_by, length, replicate, OnErr};
+ghost use Rattle.std.specs.Prelude.{◌≡◌, ◌≢◌, ◌+◌, ◌⊎◌, ◌↔◌, None, Err, IfOk, IfErr, IfSome, IfNone, IsFalse, IsTrue, sum_by, length, replicate};
 ghost use Rattle.velo_events.specs.declared.refusal.Refusal.TheVariants as refusal;
 ghost use Rattle.velo_events.specs.Graph.{HasCycle};
 ghost use Rattle.velo_events.specs.Reordering.{IsSerializable};
@@ -65,7 +65,6 @@ impl Room {
     pub(crate) fn open(alloc: Global, config: Config) -> Result<(Room, Seat), Memory>
         ensures room { IfOk result (λ opened. opened.0 ≡ opening_room config) }
         ensures seat { IfOk result (λ opened. opened.1 ≡ opening_share config.run 0) }
-        ensures memory { OnErr result GrowthRefused }
     {
         let waits = no_waits(alloc, config.bounds.threads)?;
         let places = Shares::none(alloc, config.bounds.threads)?;
@@ -283,8 +282,7 @@ impl Room {
 
 /// A place for each thread, of which none waits.
 fn no_waits(alloc: Global, threads: u8) -> Result<Vec<Option<Wanted>>, Memory>
-    ensures waits { IfOk result (λ waits. waits.items ≡ replicate threads None) }
-    ensures memory { OnErr result GrowthRefused }
+    ensures { IfOk result (λ waits. waits.items ≡ replicate threads None) }
 {
     filled(alloc, None, usize::from(threads))
 }

@@ -1,6 +1,5 @@
 //! All schedules of a workload at once.
-ghost use Rattle.std.specs.Prelude.{◌≡◌, ◌≤◌, ◌-◌, ◌^◌, true, false, is_some, length, min, sum_by, IfOk, IfSome, IsTrue, OnErr};
-ghost use Rattle.velo_events.specs.Refusals.{GrowthRefused};
+ghost use Rattle.std.specs.Prelude.{◌≡◌, ◌≤◌, ◌-◌, ◌^◌, true, false, is_some, length, min, sum_by, IfOk, IfSome, IsTrue};
 ghost use Rattle.velo_worker.specs.Counts.{body_events};
 ghost use Rattle.velo_schedules.specs.Logs.{AlwaysSerializable, NeverStuck, NeverRefused};
 ghost use Rattle.velo_explore.specs.Faults.{Fault, Cycle, Stuck, Refusing};
@@ -51,7 +50,6 @@ pub fn explore<P: Progress>(
         (IsLeftOpen workload.now config most_states first x.states Stuck)) }
     ensures open_refused { IfOk result (λ x. OnOpenRefusal x.refused
         (IsLeftOpen workload.now config most_states first x.states Refusing)) }
-    ensures memory { OnErr result GrowthRefused }
 {
     let events = count_all(workload);
     if events > u64::from(config.events) {
@@ -116,7 +114,6 @@ fn search_all<P: Progress>(
         true → IsTrue (is_some (turns_for x.schedules fault))) }
     ensures count { IfOk result (λ x. length workload.now.bodies ≡ workload.now.bounds.threads) }
     ensures states { IfOk result (λ x. x.states ≤ most_states) }
-    ensures memory { OnErr result GrowthRefused }
 {
     let scripts = scripts_of(alloc, workload)?;
     let searched = search(alloc, config, &scripts, most_states, first, progress)?;

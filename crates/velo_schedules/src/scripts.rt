@@ -1,6 +1,5 @@
 //! The scripts of a workload: what each thread does, one operation after another, without values.
-ghost use Rattle.std.specs.Prelude.{◌≡◌, ◌-◌, ◌^◌, length, min, sum_by, IfOk, OnErr};
-ghost use Rattle.velo_events.specs.Refusals.{GrowthRefused};
+ghost use Rattle.std.specs.Prelude.{◌≡◌, ◌-◌, ◌^◌, length, min, sum_by, IfOk};
 ghost use Rattle.velo_workload.specs.Bodies.{IsBody};
 ghost use Rattle.velo_worker.specs.Counts.{body_events};
 ghost use Rattle.velo_worker.specs.Walk.{walk_of};
@@ -47,8 +46,7 @@ fn operation(statement: Statement) -> Kind
 
 /// The operations of a list of statements.
 fn operations(alloc: Global, statements: &[Statement]) -> Result<Vec<Kind>, Memory>
-    ensures operations { IfOk result (λ kinds. kinds.items ≡ operations statements.now) }
-    ensures memory { OnErr result GrowthRefused }
+    ensures { IfOk result (λ kinds. kinds.items ≡ operations statements.now) }
 {
     let mut kinds = Vec::new(alloc);
     for place in 0..statements.len() {
@@ -61,8 +59,7 @@ fn operations(alloc: Global, statements: &[Statement]) -> Result<Vec<Kind>, Memo
 /// What a thread with this body does, its exit included.
 fn script(alloc: Global, body: &[Statement]) -> Result<Vec<Kind>, Memory>
     requires { IsBody body.now }
-    ensures script { IfOk result (λ kinds. kinds.items ≡ operations_of (walk_of body.now)) }
-    ensures memory { OnErr result GrowthRefused }
+    ensures { IfOk result (λ kinds. kinds.items ≡ operations_of (walk_of body.now)) }
 {
     let events = list_events(alloc, body)?;
     let mut kinds = operations(alloc, &events)?;
@@ -78,7 +75,6 @@ fn script(alloc: Global, body: &[Statement]) -> Result<Vec<Kind>, Memory>
 pub(crate) fn scripts_of(alloc: Global, workload: &Workload) -> Result<Scripts, Memory>
     ensures scripts { IfOk result (λ scripts. scripts ≡ all_scripts workload.now) }
     ensures count { IfOk result (λ scripts. length workload.now.bodies ≡ workload.now.bounds.threads) }
-    ensures memory { OnErr result GrowthRefused }
 {
     let mut threads: Vec<Vec<Kind>> = Vec::new(alloc);
     for thread in 0..workload.bounds().threads {

@@ -1,6 +1,5 @@
 //! What was found is replayed before it is told.
-ghost use Rattle.std.specs.Prelude.{◌≡◌, ◌++◌, ◌∷◌, [], true, false, length, IsFalse, IfNone, IfOk, IfSome, OnErr};
-ghost use Rattle.velo_events.specs.Refusals.{GrowthRefused};
+ghost use Rattle.std.specs.Prelude.{◌≡◌, ◌++◌, ◌∷◌, [], true, false, length, IsFalse, IfNone, IfOk, IfSome};
 ghost use Rattle.velo_worker.specs.declared.ending.Ending.TheVariants.{Refused};
 ghost use Rattle.velo_worker.specs.Schedule.{Replays};
 ghost use Rattle.velo_schedules.specs.Logs.{AlwaysSerializable, NeverStuck, NeverRefused, ends_refused, is_for_room};
@@ -32,8 +31,7 @@ pub fn replayed(
     config: Config,
 ) -> Result<(Closed, Ending), Memory>
     requires { config.bounds ≡ workload.now.bounds }
-    ensures replays { IfOk result (λ run. Replays workload.now schedule.now config run.1 run.0) }
-    ensures memory { OnErr result GrowthRefused }
+    ensures { IfOk result (λ run. Replays workload.now schedule.now config run.1 run.0) }
 {
     let run = replay(alloc, workload, schedule, config)?;
     match run.1 {
@@ -62,8 +60,7 @@ fn outcome_of(
     config: Config,
 ) -> Result<Outcome, Memory>
     requires { config.bounds ≡ workload.now.bounds }
-    ensures outcome { IfOk result (IsOutcome workload.now config schedule.now) }
-    ensures memory { OnErr result GrowthRefused }
+    ensures { IfOk result (IsOutcome workload.now config schedule.now) }
 {
     let run = replayed(alloc, workload, schedule, config)?;
     let outcome = Outcome {
@@ -90,7 +87,6 @@ pub(crate) fn tell_alarm(
     ensures never { IfOk result (λ f. ruled_out ≡ true → f ≡ Never) }
     ensures missed { IfOk result (λ f. OnOpen f ((ruled_out ≡ false) × IfSome found
         (λ turns. IsMissed workload.now config Cycle))) }
-    ensures memory { OnErr result GrowthRefused }
 {
     if ruled_out {
         return Ok(Finding::Never);
@@ -123,7 +119,6 @@ pub(crate) fn tell_stuck(
     ensures never { IfOk result (λ f. ruled_out ≡ true → f ≡ Never) }
     ensures missed { IfOk result (λ f. OnOpen f ((ruled_out ≡ false) × IfSome found
         (λ turns. IsMissed workload.now config Stuck))) }
-    ensures memory { OnErr result GrowthRefused }
 {
     if ruled_out {
         return Ok(Finding::Never);
@@ -166,8 +161,7 @@ fn with_turn(
     schedule: &[ThreadId],
     thread: ThreadId,
 ) -> Result<Vec<ThreadId>, Memory>
-    ensures turns { IfOk result (λ longer. longer.items ≡ schedule.now ++ thread ∷ []) }
-    ensures memory { OnErr result GrowthRefused }
+    ensures { IfOk result (λ longer. longer.items ≡ schedule.now ++ thread ∷ []) }
 {
     let mut longer = Vec::new(alloc);
     for turn in schedule {
@@ -191,7 +185,6 @@ fn refused_run(
     ensures shows { IfOk result (λ run. IfSome run (ShowsRefusal workload.now config)) }
     ensures none { IfOk result
         (λ run. IfNone run (LacksRefusal workload.now config schedule.now thread.0)) }
-    ensures memory { OnErr result GrowthRefused }
 {
     let schedule = with_turn(alloc, schedule, thread)?;
     let outcome = outcome_of(alloc, workload, &schedule, config)?;
@@ -222,7 +215,6 @@ pub(crate) fn tell_refused(
     ensures never { IfOk result (λ f. ruled_out ≡ true → f ≡ refusals.Never) }
     ensures missed { IfOk result (λ f. OnOpenRefusal f ((ruled_out ≡ false) × IfSome found
         (λ turns. IsMissed workload.now config Refusing))) }
-    ensures memory { OnErr result GrowthRefused }
 {
     if ruled_out {
         return Ok(RefusalFinding::Never);

@@ -1,6 +1,5 @@
 //! Leaving out single turns of a schedule, until none can be left out.
-ghost use Rattle.std.specs.Prelude.{◌≡◌, ◌+◌, ◌<◌, ◌≤◌, length, IfNone, IfOk, IfSome, OnErr};
-ghost use Rattle.velo_events.specs.Refusals.{GrowthRefused};
+ghost use Rattle.std.specs.Prelude.{◌≡◌, ◌+◌, ◌<◌, ◌≤◌, length, IfNone, IfOk, IfSome};
 ghost use Rattle.velo_shrink.specs.Shown.{Shows};
 ghost use Rattle.velo_shrink.specs.Simple.{IsMinimal, IsNeeded};
 
@@ -33,7 +32,6 @@ fn leave_out(
         IfSome found (λ turns. length turns.items < length schedule.now)) }
     ensures needed { IfOk result (λ found.
         IfNone found (IsNeeded workload.now config goal schedule.now place)) }
-    ensures memory { OnErr result GrowthRefused }
 {
     let others = without_turn(alloc, schedule, place)?;
     let limits = config_of_try(goal, config, others.len());
@@ -67,7 +65,6 @@ fn leave_one_out(
         IfSome found (λ turns. length turns.items < length schedule.now)) }
     ensures minimal { IfOk result (λ found.
         IfNone found (IsMinimal workload.now config goal schedule.now)) }
-    ensures memory { OnErr result GrowthRefused }
 {
     for place in 0..schedule.len() {
         let left = leave_out(alloc, workload, goal, schedule, place, config, budget)?;
@@ -95,7 +92,6 @@ pub(crate) fn minimal(
     ensures shows { IfOk result (Shows workload.now config goal) }
     ensures shorter { IfOk result (λ turns. length turns.items ≤ length schedule.items) }
     ensures minimal { IfOk result (λ turns. IsMinimal workload.now config goal turns.items) }
-    ensures memory { OnErr result GrowthRefused }
 {
     let mut best = schedule;
     while let Some(turns) = leave_one_out(alloc, workload, goal, &best, config, budget)? {

@@ -1,6 +1,5 @@
 //! Trying one change of a schedule after another.
-ghost use Rattle.std.specs.Prelude.{◌≡◌, ◌≤◌, length, IfOk, OnErr};
-ghost use Rattle.velo_events.specs.Refusals.{GrowthRefused};
+ghost use Rattle.std.specs.Prelude.{◌≡◌, ◌≤◌, length, IfOk};
 ghost use Rattle.velo_shrink.specs.Shown.{Shows};
 ghost use Rattle.velo_shrink.specs.Simple.{Simplifies};
 
@@ -34,7 +33,6 @@ fn simplest(
     requires shows { Shows workload.now config goal schedule }
     ensures shows { IfOk result (Shows workload.now config goal) }
     ensures shorter { IfOk result (λ turns. length turns.items ≤ length schedule.items) }
-    ensures memory { OnErr result GrowthRefused }
 {
     let mut best = schedule;
     let mut plan = Plan::new();
@@ -84,7 +82,6 @@ pub fn shrink(
     ensures shows { IfOk result (Shows workload.now config goal) }
     ensures simple { IfOk result (λ turns.
         Simplifies workload.now config goal schedule.items turns.items) }
-    ensures memory { OnErr result GrowthRefused }
 {
     let mut budget = Budget::new(MOST_STEPS);
     let best = simplest(

@@ -1,6 +1,5 @@
 //! The schedules that an exploration shows, made simple.
-ghost use Rattle.std.specs.Prelude.{◌≡◌, IfOk, OnErr};
-ghost use Rattle.velo_events.specs.Refusals.{GrowthRefused};
+ghost use Rattle.std.specs.Prelude.{◌≡◌, IfOk};
 ghost use Rattle.velo_schedules.specs.Told.{AlarmTold, RefusalTold, StuckTold};
 ghost use Rattle.velo_shrink.specs.declared.goal.Goal.TheVariants.{Alarm, Stuck};
 ghost use Rattle.velo_shrink.specs.Simple.{SimplifiesFinding, SimplifiesRefusal};
@@ -23,7 +22,6 @@ fn shrink_alarm(
     requires told { AlarmTold workload.now config found }
     ensures told { IfOk result (AlarmTold workload.now config) }
     ensures simple { IfOk result (SimplifiesFinding workload.now config Alarm found) }
-    ensures memory { OnErr result GrowthRefused }
 {
     match found {
         Finding::Shown(schedule) => {
@@ -46,7 +44,6 @@ fn shrink_stuck(
     requires told { StuckTold workload.now config found }
     ensures told { IfOk result (StuckTold workload.now config) }
     ensures simple { IfOk result (SimplifiesFinding workload.now config Stuck found) }
-    ensures memory { OnErr result GrowthRefused }
 {
     match found {
         Finding::Shown(schedule) => {
@@ -69,7 +66,6 @@ fn shrink_refusal(
     requires told { RefusalTold workload.now config found }
     ensures told { IfOk result (RefusalTold workload.now config) }
     ensures simple { IfOk result (SimplifiesRefusal workload.now config found) }
-    ensures memory { OnErr result GrowthRefused }
 {
     match found {
         RefusalFinding::Shown(run) => {
@@ -117,7 +113,6 @@ pub fn shrink_told(
         SimplifiesFinding workload.now config Stuck told.stuck x.stuck) }
     ensures simple_refused { IfOk result (λ x.
         SimplifiesRefusal workload.now config told.refused x.refused) }
-    ensures memory { OnErr result GrowthRefused }
 {
     let Exploration {
         events,

@@ -1,6 +1,5 @@
 //! One try: a schedule is replayed, and taken up if it shows the goal and is simpler.
-ghost use Rattle.std.specs.Prelude.{◌≡◌, ◌≤◌, ◌↔◌, ℕ, length, IsTrue, IsFalse, IfOk, IfSome, OnErr};
-ghost use Rattle.velo_events.specs.Refusals.{GrowthRefused};
+ghost use Rattle.std.specs.Prelude.{◌≡◌, ◌≤◌, ◌↔◌, ℕ, length, IsTrue, IsFalse, IfOk, IfSome};
 ghost use Rattle.velo_worker.specs.declared.ending.Ending.{Ending as EndingOf};
 ghost use Rattle.velo_worker.specs.declared.ending.Ending.TheVariants.{Refused};
 ghost use Rattle.velo_schedules.specs.Logs.{is_for_room};
@@ -42,8 +41,7 @@ fn is_reached(goal: Goal, closed: &Closed, ending: Ending) -> bool
 
 /// The threads of the first events of a log, so many or as many as there are.
 fn threads_of(alloc: Global, log: &Trace, count: usize) -> Result<Vec<ThreadId>, Memory>
-    ensures few { IfOk result (λ threads. length threads.items ≤ count) }
-    ensures memory { OnErr result GrowthRefused }
+    ensures { IfOk result (λ threads. length threads.items ≤ count) }
 {
     let mut threads = Vec::new(alloc);
     for place in 0..count {
@@ -59,9 +57,8 @@ fn threads_of(alloc: Global, log: &Trace, count: usize) -> Result<Vec<ThreadId>,
 /// A turn for each event of a run up to where it shows the goal: up to the event that closes the first cycle, or of the
 /// whole log, and behind that the turn that was refused.
 fn own_turns(alloc: Global, goal: Goal, closed: &Closed) -> Result<Vec<ThreadId>, Memory>
-    ensures soonest { IfOk result (λ turns. (n : ℕ) (ending : EndingOf) →
+    ensures { IfOk result (λ turns. (n : ℕ) (ending : EndingOf) →
         ReachesWithin n goal ending closed.now → length turns.items ≤ n) }
-    ensures memory { OnErr result GrowthRefused }
 {
     let log = closed.log();
     match goal {
@@ -114,7 +111,6 @@ fn turns_if_reached(
         IfSome found (λ turns. Reaches goal ending closed.now)) }
     ensures misses { IfOk result (λ found. (n : ℕ) → IsAbove n found →
         ¬ ReachesWithin n goal ending closed.now) }
-    ensures memory { OnErr result GrowthRefused }
 {
     if !is_reached(goal, closed, ending) {
         return Ok(None);
@@ -140,7 +136,6 @@ pub(crate) fn tried(
         IfSome found (λ turns. Reached workload.now config goal schedule.now)) }
     ensures misses { IfOk result (λ found. (n : ℕ) → IsAbove n found →
         Misses n workload.now config goal schedule.now) }
-    ensures memory { OnErr result GrowthRefused }
 {
     let (closed, ending) = replayed(alloc, workload, schedule, config)?;
     budget.spend(schedule.len(), closed.log().len());
@@ -189,7 +184,6 @@ pub(crate) fn simpler(
     ensures shows { IfOk result (λ found. IfSome found (Shows workload.now config goal)) }
     ensures shorter { IfOk result (λ found.
         IfSome found (λ turns. length turns.items ≤ length best.now)) }
-    ensures memory { OnErr result GrowthRefused }
 {
     let in_try = config_of_try(goal, config, best.len());
     let Some(turns) = tried(alloc, workload, goal, candidate, in_try, budget)? else {

@@ -1,4 +1,3 @@
-ghost use Rattle.velo_events.specs.Refusals.{GrowthRefused};
 ghost use Rattle.std.specs.Prelude.{◌≡◌, ◌<◌, ◌≤◌, ◌+◌, ◌++◌, List, [], Option, None, length, slice_index_or, slice_set, map, vec_capacity, IsTrue, ◌↔◌, OnOk, OnErr};
 ghost use Rattle.std.specs.List.{filter_map};
 ghost use Rattle.std.specs.Option.{option_to_list};
@@ -309,7 +308,6 @@ impl Cells {
         ensures ok { OnOk result (self.new ≡ filled_up no_accesses (c.0 + 1) self.old) }
         ensures err { OnErr result (self.new ≡ self.old) }
         ensures refused { OnErr result (length self.old ≤ c.0) }
-        ensures memory { OnErr result GrowthRefused }
     {
         let blank = CellAccesses {
             write: Entry::new(None),
@@ -328,7 +326,6 @@ impl Cells {
         requires few { threads ≤ MOST_THREADS }
         ensures ok { OnOk result (self.new ≡ slice_set self.old c.0 (with_reads_of threads (slice_index_or self.old c.0 no_accesses))) }
         ensures err { OnErr result (self.new ≡ self.old) }
-        ensures memory { OnErr result GrowthRefused }
     {
         let reads = self.cells[c.0 as usize].reads;
         if threads <= reads.count {

@@ -1,4 +1,3 @@
-ghost use Rattle.velo_events.specs.Refusals.{GrowthRefused};
 ghost use Rattle.std.specs.Prelude.{◌≡◌, ◌+◌, ◌^◌, ◌<◌, ◌≤◌, ◌++◌, ◌∷◌, None, Some, length, map, slice_index_or, slice_set, IsTrue, IsFalse, ◌↔◌, IfOk, OnOk, OnErr};
 ghost use Rattle.std.specs.List.{filter_map};
 ghost use Rattle.std.specs.Option.{option_to_list};
@@ -60,7 +59,6 @@ impl Tables {
     pub fn new(alloc: Global, config: &Config) -> Result<Tables, Memory>
         ensures threads { IfOk result (λ tables. length tables.threads ≡ config.now.bounds.threads) }
         ensures blank { IfOk result IsBlank }
-        ensures memory { OnErr result GrowthRefused }
     {
         let mut threads = Vec::new(alloc);
         resize(
@@ -114,7 +112,6 @@ impl Tables {
         ensures threads { length self.new.threads ≡ length self.old.threads }
         ensures ok { OnOk result (HasItsThreads self.old event.now → HasRoomFor self.new event.now) }
         ensures err { OnErr result (¬ HasRoomFor self.old event.now) }
-        ensures memory { OnErr result GrowthRefused }
     {
         if self.has_room_for(event) {
             Ok(())
@@ -143,7 +140,6 @@ impl Tables {
         ensures unchanged { IsUnchanged self.old self.new }
         ensures threads { length self.new.threads ≡ length self.old.threads }
         ensures ok { OnOk result (HasItsThreads self.old event.now → HasRoomFor self.new event.now) }
-        ensures memory { OnErr result GrowthRefused }
     {
         match event.kind.access() {
             Access::Shared(c) => self.reserve_reads(c),
@@ -158,7 +154,6 @@ impl Tables {
         ensures threads { length self.new.threads ≡ length self.old.threads }
         ensures ok { OnOk result (c.0 < length self.new.cells) }
         ensures err { OnErr result (length self.old.cells ≤ c.0) }
-        ensures memory { OnErr result GrowthRefused }
     {
         self.cells.reserve(c)
     }
@@ -168,7 +163,6 @@ impl Tables {
         ensures same { IsUnchanged self.old self.new }
         ensures threads { length self.new.threads ≡ length self.old.threads }
         ensures ok { OnOk result (HasRoomToRead (length self.old.threads) self.new c.0) }
-        ensures memory { OnErr result GrowthRefused }
     {
         self.reserve_cell(c)?;
         self.cells.reserve_reads(c, self.threads.len())

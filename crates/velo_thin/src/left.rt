@@ -1,6 +1,5 @@
 //! What is left out of a log.
 ghost use Rattle.std.specs.Prelude.{◌≡◌, ◌<◌, [], ◌∷◌, ◌||◌, OnOk, OnErr};
-ghost use Rattle.velo_events.specs.Refusals.{GrowthRefused};
 ghost use Rattle.velo_events.specs.Event.{lock_of, variable_of};
 ghost use Rattle.velo_thin.specs.Left.{is_among, with_labels, with_number, with_lock, with_variable, nothing};
 ghost use Rattle.velo_thin.specs.Tables.{left_of, marked};
@@ -38,7 +37,6 @@ impl LeftOut {
     pub fn leave_out_label(&mut self, label: Label) -> Result<(), Memory>
         ensures ok { OnOk result (left_of self.new ≡ with_labels (left_of self.old) (label.0 ∷ [])) }
         ensures err { OnErr result (left_of self.new ≡ left_of self.old) }
-        ensures memory { OnErr result GrowthRefused }
     {
         insert(&mut self.labels, label.0)
     }
@@ -50,7 +48,6 @@ impl LeftOut {
     pub fn leave_out_lock(&mut self, lock: LockId) -> Result<(), Memory>
         ensures ok { OnOk result (left_of self.new ≡ with_lock (left_of self.old) lock.0) }
         ensures err { OnErr result (left_of self.new ≡ left_of self.old) }
-        ensures memory { OnErr result GrowthRefused }
     {
         mark(&mut self.locks, usize::from(lock.0))
     }
@@ -62,7 +59,6 @@ impl LeftOut {
     pub fn leave_out_variable(&mut self, variable: VarId) -> Result<(), Memory>
         ensures ok { OnOk result (left_of self.new ≡ with_variable (left_of self.old) variable.0) }
         ensures err { OnErr result (left_of self.new ≡ left_of self.old) }
-        ensures memory { OnErr result GrowthRefused }
     {
         mark(&mut self.variables, usize::from(variable.0))
     }
@@ -113,7 +109,6 @@ fn mark(marks: &mut Vec<bool>, number: usize) -> Result<(), Memory>
     requires small { number < 65536 }
     ensures ok { OnOk result (marked marks.new.items ≡ with_number (marked marks.old.items) number) }
     ensures err { OnErr result (marks.new.items ≡ marks.old.items) }
-    ensures memory { OnErr result GrowthRefused }
 {
     fill_up_to(marks, number, false)?;
     marks[number] = true;

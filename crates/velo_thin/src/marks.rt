@@ -1,6 +1,5 @@
 //! For each thread, which of its open blocks are left out: a bit each, the innermost's the last.
-ghost use Rattle.std.specs.Prelude.{◌≡◌, ◌<◌, ◌+◌, ◌*◌, ◌/◌, ◌%◌, ◌==◌, if◌then◌else◌, not, length, replicate, slice_index, slice_set, OnOk, OnErr, IfOk};
-ghost use Rattle.velo_events.specs.Refusals.{GrowthRefused};
+ghost use Rattle.std.specs.Prelude.{◌≡◌, ◌<◌, ◌+◌, ◌*◌, ◌/◌, ◌%◌, ◌==◌, if◌then◌else◌, not, length, replicate, slice_index, slice_set, OnOk, IfOk};
 ghost use Rattle.velo_thin.specs.Left.{is_left_out};
 ghost use Rattle.velo_thin.specs.Marks.{AreMarks, IsShallow};
 ghost use Rattle.velo_thin.specs.Tables.{left_of};
@@ -15,8 +14,7 @@ const ROWS: usize = 256;
 
 /// No block is open.
 pub fn no_marks(alloc: Global) -> Result<Vec<u64>, Memory>
-    ensures rows { IfOk result (λ rows. rows.items ≡ replicate 256 0) }
-    ensures memory { OnErr result GrowthRefused }
+    ensures { IfOk result (λ rows. rows.items ≡ replicate 256 0) }
 {
     let mut rows = Vec::new(alloc);
     resize(&mut rows, ROWS, 0)?;

@@ -1,8 +1,7 @@
 //! What is left of a log, as a trace of its own.
-ghost use Rattle.std.specs.Prelude.{◌≡◌, ◌≤◌, ◌<◌, ◌+◌, ◌++◌, ◌∷◌, [], length, IfOk, OnOk, OnErr};
+ghost use Rattle.std.specs.Prelude.{◌≡◌, ◌≤◌, ◌<◌, ◌+◌, ◌++◌, ◌∷◌, [], length, IfOk, OnOk};
 ghost use Rattle.velo_events.specs.declared.limits.TheConstants.{MOST_EVENTS};
 ghost use Rattle.velo_events.specs.declared.config.Bounds.{Bounds};
-ghost use Rattle.velo_events.specs.Refusals.{GrowthRefused};
 ghost use Rattle.velo_events.specs.Reordering.{IsSerializable};
 ghost use Rattle.velo_events.specs.WellFormed.{IsWellFormed};
 ghost use Rattle.velo_thin.specs.Left.{BlameIsKept, rest_of, places_of};
@@ -31,7 +30,6 @@ impl Thinned {
         requires { position < 4294967296 }
         ensures events { OnOk result (self.new.trace.events ≡ self.old.trace.events ++ event ∷ []) }
         ensures places { OnOk result (self.new.places.items ≡ self.old.places.items ++ position ∷ []) }
-        ensures memory { OnErr result GrowthRefused }
     {
         reserve(&mut self.places, 1)?;
         self.trace.push(event)?;
@@ -52,8 +50,7 @@ fn take_in(
     requires few { length events.now ≤ MOST_EVENTS }
     requires shallow { IsShallow events.now }
     requires stands { IsThinnedTo (left_of left.now) events.now position thinned.old rows.old }
-    ensures stands { OnOk result (IsThinnedTo (left_of left.now) events.now (position + 1) thinned.new rows.new) }
-    ensures memory { OnErr result GrowthRefused }
+    ensures { OnOk result (IsThinnedTo (left_of left.now) events.now (position + 1) thinned.new rows.new) }
 {
     if stays_at(rows, left, events, position) {
         thinned.push(position, events[position])?;
@@ -76,7 +73,6 @@ pub fn thin(alloc: Global, log: &Trace, left: &LeftOut) -> Result<Thinned, Memor
     ensures well_formed { IfOk result (λ thinned. (bounds : Bounds) → IsWellFormed bounds log.now.events → IsWellFormed bounds thinned.trace.events) }
     ensures serializable { IfOk result (λ thinned. IsSerializable log.now.events → IsSerializable thinned.trace.events) }
     ensures blame { IfOk result (λ thinned. BlameIsKept (left_of left.now) log.now.events) }
-    ensures memory { OnErr result GrowthRefused }
 {
     let events = log.as_slice();
     let mut rows = no_marks(alloc)?;

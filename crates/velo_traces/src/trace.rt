@@ -1,7 +1,6 @@
 ghost use Rattle.velo_events.specs.declared.limits.TheConstants.{MOST_OPEN_BLOCKS};
 ghost use Rattle.velo_events.specs.Block.{owner, open_blocks};
 ghost use Rattle.velo_traces.specs.Blocks.{block_at};
-ghost use Rattle.velo_events.specs.Refusals.{GrowthRefused};
 ghost use Rattle.velo_events.specs.Scan.{IsScanned};
 ghost use Rattle.std.specs.Prelude.{◌≤◌, ◌+◌, ◌≡◌, ◌∷◌, [], ◌++◌, ◌<◌, length, map, slice_get, OnOk, OnErr, IsOk, option_copied, IsTrue, ◌↔◌};
 
@@ -47,7 +46,6 @@ impl Trace {
         ensures ok { OnOk result (0 < self.new.room) }
         ensures full { OnErr result (self.old.room ≡ 0) }
         ensures err { OnErr result (self.new ≡ self.old) }
-        ensures memory { OnErr result GrowthRefused }
     {
         reserve(&mut self.items, 1)
     }
@@ -68,7 +66,6 @@ impl Trace {
         ensures ok { OnOk result (self.new.events ≡ self.old.events ++ event ∷ []) }
         ensures full { OnErr result (self.old.room ≡ 0) }
         ensures err { OnErr result (self.new ≡ self.old) }
-        ensures memory { OnErr result GrowthRefused }
     {
         self.reserve_one()?;
         self.push_reserved(event);

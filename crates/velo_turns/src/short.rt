@@ -1,6 +1,5 @@
 //! Writing a schedule in as few words as there can be.
-ghost use Rattle.std.specs.Prelude.{◌≡◌, ◌≤◌, ◌<◌, ◌++◌, ◌∷◌, drop, length, OnOk, OnErr};
-ghost use Rattle.velo_events.specs.Refusals.{GrowthRefused};
+ghost use Rattle.std.specs.Prelude.{◌≡◌, ◌≤◌, ◌<◌, ◌++◌, ◌∷◌, drop, length, OnOk};
 ghost use Rattle.velo_turns.specs.Schedule.{spaced, turns_text};
 ghost use Rattle.velo_turns.specs.Short.{longest};
 
@@ -10,8 +9,7 @@ use velo_logtext::{append, append_number};
 
 /// Appends a word.
 fn append_word(text: &mut Vec<u8>, turns: Turns) -> Result<(), Memory>
-    ensures ok { OnOk result (text.new.items ≡ text.old.items ++ turns_text turns) }
-    ensures memory { OnErr result GrowthRefused }
+    ensures { OnOk result (text.new.items ≡ text.old.items ++ turns_text turns) }
 {
     append_number(text, u64::from(turns.thread.0))?;
     if turns.count == 1 {
@@ -42,8 +40,7 @@ fn first_turns(schedule: &[ThreadId]) -> Turns
 /// # Errors
 /// `Memory` where a growth was refused.
 pub fn append_turns(text: &mut Vec<u8>, schedule: &[ThreadId]) -> Result<(), Memory>
-    ensures ok { OnOk result (text.new.items ≡ text.old.items ++ spaced (longest schedule.now)) }
-    ensures memory { OnErr result GrowthRefused }
+    ensures { OnOk result (text.new.items ≡ text.old.items ++ spaced (longest schedule.now)) }
 {
     let mut rest = schedule;
     while !rest.is_empty() {

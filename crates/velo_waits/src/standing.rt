@@ -1,9 +1,8 @@
 //! Where the threads of a run stand at its end.
-ghost use Rattle.std.specs.Prelude.{◌≡◌, ◌<◌, Some, IfOk, OnErr};
+ghost use Rattle.std.specs.Prelude.{◌≡◌, ◌<◌, Some, IfOk};
 ghost use Rattle.velo_events.specs.Event.{are_same};
 ghost use Rattle.velo_events.specs.Heap.{holder_in, shares_in, status_in};
 ghost use Rattle.velo_events.specs.Meaning.{is_live};
-ghost use Rattle.velo_events.specs.Refusals.{GrowthRefused};
 ghost use Rattle.velo_waits.specs.Waits.{next_of};
 
 use std::alloc::Global;
@@ -51,8 +50,7 @@ pub fn next_statement(
 ) -> Result<Option<Statement>, Memory>
     requires bounds { closed.now.config.bounds ≡ workload.now.bounds }
     requires there { thread.0 < workload.now.bounds.threads }
-    ensures next { IfOk result (λ next. next ≡ next_of workload.now closed.now.log thread.0) }
-    ensures memory { OnErr result GrowthRefused }
+    ensures { IfOk result (λ next. next ≡ next_of workload.now closed.now.log thread.0) }
 {
     let done = closed.tally(thread).events;
     event_at(alloc, workload.body(thread), done)

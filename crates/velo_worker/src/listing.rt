@@ -1,6 +1,5 @@
 //! The statements of a body that are events, in their order.
-ghost use Rattle.std.specs.Prelude.{◌≡◌, [], ◌∷◌, ◌++◌, filter, slice_get, IfOk, OnOk, OnErr};
-ghost use Rattle.velo_events.specs.Refusals.{GrowthRefused};
+ghost use Rattle.std.specs.Prelude.{◌≡◌, [], ◌∷◌, ◌++◌, filter, slice_get, IfOk, OnOk};
 ghost use Rattle.velo_workload.specs.Bodies.{IsBody};
 ghost use Rattle.velo_worker.specs.Counts.{has_event};
 ghost use Rattle.velo_worker.specs.Walk.{walk_of};
@@ -19,8 +18,7 @@ use velo_workload::Statement;
 /// `Memory` where a growth was refused.
 pub fn list_events(alloc: Global, body: &[Statement]) -> Result<Vec<Statement>, Memory>
     requires { IsBody body.now }
-    ensures events { IfOk result (λ events. events.items ≡ filter has_event (walk_of body.now)) }
-    ensures memory { OnErr result GrowthRefused }
+    ensures { IfOk result (λ events. events.items ≡ filter has_event (walk_of body.now)) }
 {
     let mut left = Walk::start(alloc, body)?;
     let mut events = Vec::new(alloc);
@@ -33,8 +31,7 @@ pub fn list_events(alloc: Global, body: &[Statement]) -> Result<Vec<Statement>, 
 
 /// Puts a statement behind the others, if it is an event.
 fn note_event(events: &mut Vec<Statement>, statement: Statement) -> Result<(), Memory>
-    ensures noted { OnOk result (events.new.items ≡ events.old.items ++ filter has_event (statement ∷ [])) }
-    ensures memory { OnErr result GrowthRefused }
+    ensures { OnOk result (events.new.items ≡ events.old.items ++ filter has_event (statement ∷ [])) }
 {
     if is_quiet(statement) {
         return Ok(());
@@ -51,8 +48,7 @@ fn note_event(events: &mut Vec<Statement>, statement: Statement) -> Result<(), M
 /// `Memory` where a growth was refused.
 pub fn event_at(alloc: Global, body: &[Statement], number: u64) -> Result<Option<Statement>, Memory>
     requires { IsBody body.now }
-    ensures event { IfOk result (λ event. event ≡ slice_get (filter has_event (walk_of body.now)) number) }
-    ensures memory { OnErr result GrowthRefused }
+    ensures { IfOk result (λ event. event ≡ slice_get (filter has_event (walk_of body.now)) number) }
 {
     let mut left = Walk::start(alloc, body)?;
     let mut before = number;

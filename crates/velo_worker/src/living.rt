@@ -122,7 +122,7 @@ fn retraced(
     }
 }
 
-/// Has each thread that is born done by a worker, and returns once all have ended.
+/// Starts a worker for each forked thread; returns when all have ended.
 fn run<'a, G: Gate + Sync, R: Threads + Wait + Sync>(
     rt: &'a R,
     site: &'a Site<'a, G>,

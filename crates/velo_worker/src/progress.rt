@@ -1,6 +1,5 @@
 //! How far a thread has come in its body.
-ghost use Rattle.std.specs.Prelude.{◌≡◌, map, IfOk, OnErr, length};
-ghost use Rattle.velo_events.specs.Refusals.{GrowthRefused};
+ghost use Rattle.std.specs.Prelude.{◌≡◌, map, IfOk, length};
 ghost use Rattle.velo_workload.specs.Bodies.{IsBody};
 ghost use Rattle.velo_worker.specs.Progress.{action_for, after_event, is_quiet, register_after, settled, start_of, wanted};
 
@@ -28,8 +27,7 @@ impl<'a> Progress<'a> {
     /// `Memory` where a growth was refused.
     pub fn start(alloc: Global, body: &'a [Statement]) -> Result<Progress<'a>, Memory>
         requires { IsBody body.now }
-        ensures start { IfOk result (λ progress. progress ≡ start_of body.now) }
-        ensures memory { OnErr result GrowthRefused }
+        ensures { IfOk result (λ progress. progress ≡ start_of body.now) }
     {
         let left = Walk::start(alloc, body)?;
         Ok(Progress {
@@ -81,7 +79,6 @@ impl<'a> Progress<'a> {
 pub fn threads_of<'a>(alloc: Global, workload: &'a Workload) -> Result<Vec<Progress<'a>>, Memory>
     ensures threads { IfOk result (λ threads. threads.items ≡ map start_of workload.now.bodies) }
     ensures count { IfOk result (λ threads. length threads.items ≡ workload.now.bounds.threads) }
-    ensures memory { OnErr result GrowthRefused }
 {
     let count = workload.bounds().threads;
     let mut threads: Vec<Progress<'a>> = Vec::new(alloc);

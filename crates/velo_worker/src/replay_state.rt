@@ -1,6 +1,5 @@
 //! Where a replay of a workload stands: its world, and how far each thread has come.
-ghost use Rattle.std.specs.Prelude.{◌≡◌, ◌≢◌, ◌≤◌, ◌↔◌, true, false, length, slice_get, IfOk, OnErr, IsTrue, ℕ};
-ghost use Rattle.velo_events.specs.Refusals.{GrowthRefused};
+ghost use Rattle.std.specs.Prelude.{◌≡◌, ◌≢◌, ◌≤◌, ◌↔◌, true, false, length, slice_get, IfOk, IsTrue, ℕ};
 ghost use Rattle.velo_events.specs.Heap.{status_in};
 ghost use Rattle.velo_world.specs.World.{HoldsLiveShares, CompletesShares, opening};
 ghost use Rattle.velo_worker.specs.Schedule.{AllIdle, IsIdle, RoundsOf, Tries, TurnOf, TurnsOf, all_threads, start};

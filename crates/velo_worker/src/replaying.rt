@@ -1,6 +1,5 @@
 //! Replaying a workload by a schedule.
-ghost use Rattle.std.specs.Prelude.{◌≡◌, IfOk, OnErr};
-ghost use Rattle.velo_events.specs.Refusals.{GrowthRefused};
+ghost use Rattle.std.specs.Prelude.{◌≡◌, IfOk};
 ghost use Rattle.velo_world.specs.World.{HoldsLiveShares, CompletesShares, opening};
 ghost use Rattle.velo_worker.specs.Causes.{EndsByGrowth};
 ghost use Rattle.velo_worker.specs.Schedule.{Replays, ReplaysTo, start};
@@ -33,7 +32,6 @@ pub fn replay(
     requires { config.bounds ≡ workload.now.bounds }
     ensures replays { IfOk result (λ run. Replays workload.now schedule.now config run.1 run.0) }
     ensures cause { IfOk result (λ run. EndsByGrowth run.1) }
-    ensures memory { OnErr result GrowthRefused }
 {
     let mut state = open(alloc, workload, config)?;
     let ending = take_all_turns(&mut state, schedule);
@@ -57,8 +55,7 @@ fn open<'a>(
     config: Config,
 ) -> Result<ReplayState<'a>, Memory>
     requires { config.bounds ≡ workload.now.bounds }
-    ensures start { IfOk result (λ state. state ≡ start workload.now config) }
-    ensures memory { OnErr result GrowthRefused }
+    ensures { IfOk result (λ state. state ≡ start workload.now config) }
 {
     let threads = threads_of(alloc, workload)?;
     let (world, shares) = open_world(alloc, config)?;
@@ -74,7 +71,6 @@ fn open_world(alloc: Global, config: Config) -> Result<(World, Shares), Memory>
     ensures world { IfOk result (λ opened. opened.0 ≡ opening config) }
     ensures ready { IfOk result (λ opened. HoldsLiveShares opened.0 opened.1) }
     ensures complete { IfOk result (λ opened. CompletesShares opened.0 opened.1) }
-    ensures memory { OnErr result GrowthRefused }
 {
     let mut shares = Shares::none(alloc, config.bounds.threads)?;
     let (world, share) = World::new(alloc, config)?;

@@ -1,6 +1,5 @@
 //! A thread's statements, one after another, with its repeats done as often as they say.
-ghost use Rattle.std.specs.Prelude.{◌≡◌, ◌<◌, ◌≤◌, drop, length, slice_get, IfOk, OnErr};
-ghost use Rattle.velo_events.specs.Refusals.{GrowthRefused};
+ghost use Rattle.std.specs.Prelude.{◌≡◌, ◌<◌, ◌≤◌, drop, length, slice_get, IfOk};
 ghost use Rattle.velo_workload.specs.Bodies.{IsBody};
 ghost use Rattle.velo_worker.specs.Walk.{walk_of};
 ghost use Rattle.velo_worker.specs.Cursor.{AreRepeatEnds, MayPass, end_before, past};
@@ -40,8 +39,7 @@ impl<'a> Walk<'a> {
     /// `Memory` where a growth was refused.
     pub fn start(alloc: Global, body: &'a [Statement]) -> Result<Walk<'a>, Memory>
         requires { IsBody body.now }
-        ensures whole { IfOk result (λ walk. walk ≡ walk_of body.now) }
-        ensures memory { OnErr result GrowthRefused }
+        ensures { IfOk result (λ walk. walk ≡ walk_of body.now) }
     {
         let ends = ends_of(alloc, body)?;
         Ok(Walk {
@@ -104,8 +102,7 @@ fn end_before(statement: Statement, position: usize, ends: &[usize], end: usize)
 
 /// For each statement the position behind the end of the repeat that is open behind it, found from the last to the first.
 fn ends_of(alloc: Global, body: &[Statement]) -> Result<Vec<usize>, Memory>
-    ensures ends { IfOk result (λ ends. AreRepeatEnds body.now ends.items) }
-    ensures memory { OnErr result GrowthRefused }
+    ensures { IfOk result (λ ends. AreRepeatEnds body.now ends.items) }
 {
     let mut ends = filled(alloc, 0, body.len())?;
     let mut end = body.len();

@@ -1,3 +1,4 @@
+pub mod Building
 pub mod OnCosts
 pub mod OnNames
 pub mod OnNaming

@@ -11,7 +11,7 @@ use Rattle.velo_workload.specs.Phrase.{Body}
 use Rattle.velo_workload.specs.Outline.{Names, Judges, first_of_two}
 use Rattle.velo_workload.specs.Program.{statement_of, unknown_in}
 use Rattle.velo_workload.specs.Sketch.{Put, Sketch, put_of, sketch_of, unknown_later, put_at, completed, unknown_in_sketches, bodies_completed}
-use Rattle.velo_workload.specs.Building.{IsCompletedUpTo, AreCompletedUpTo}
+use Rattle.velo_workload.proofs.Building.{IsCompletedUpTo, AreCompletedUpTo}
 use Rattle.velo_workload.proofs.OnReading.{wrong, judged_first, none_first}
 
 -- ---- the loop over the statements of a body

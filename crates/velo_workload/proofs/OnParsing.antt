@@ -5,7 +5,7 @@ use Rattle.velo_workload.specs.declared.fault.WorkFault.TheVariants.{BadLine, Un
 use Rattle.velo_workload.specs.declared.statement.Statement.{Statement}
 use Rattle.velo_workload.specs.Phrase.{phrases, Phrase, Blank, Bad, BadThread, Variable, Lock, Thread, Body}
 use Rattle.velo_workload.specs.Outline.{Judges, Names, names_in, known, threads, first_fault}
-use Rattle.velo_workload.specs.Program.{Program, program, bodies, first_unknown, fault_in, unless_fault, meaning_of, ParsesAs}
+use Rattle.velo_workload.specs.Program.{program_of, Program, program, bodies, first_unknown, fault_in, unless_fault, meaning_of, ParsesAs}
 use Rattle.velo_workload.proofs.OnReading.{wrong, judged_first, none_first}
 
 -- each thread has a body
@@ -51,14 +51,10 @@ module _ (text : List ℕ) where
       answered (fault_in (phrases text)) (program (phrases text)) f
       (subst (λ (g : Option WorkFault). Judges g (wrong f)) (sym (second_is names e fine)) h)
 
-  -- the program that is put together
-  abbrev pub made : Names → List (List Statement) → Program
-  made names found = record { bounds = record { threads = length names.threads; variables = length names.variables; locks = length names.locks }; thread_names = names.threads; variable_names = names.variables; lock_names = names.locks; label_names = names.labels; bodies = found }
-
   pub all_right : (names : Names) (found : List (List Statement)) (w : Program) → names ≡ names_in (known (phrases text)) → first_fault (phrases text) ≡ None → first_unknown names 0 (phrases text) ≡ None
-      → found ≡ bodies names (phrases text) → w ≡ made names found → meaning_of text ≡ Ok w
+      → found ≡ bodies names (phrases text) → w ≡ program_of names found → meaning_of text ≡ Ok w
   unfolding meaning_of
   all_right names found w e fine all_known found-is w-is =
       let same : found ≡ bodies (names_in (known (phrases text))) (phrases text) = found-is ∙ ap (λ (names : Names). bodies names (phrases text)) e in
-      let whole : w ≡ program (phrases text) = w-is ∙ (λ i. made (e i) (same i)) in
+      let whole : w ≡ program (phrases text) = w-is ∙ (λ i. program_of (e i) (same i)) in
       ap (λ (g : Option WorkFault). unless_fault g (program (phrases text))) (second_is names e fine ∙ all_known) ∙ ap (λ (p : Program). Ok p) (sym whole)

@@ -11,7 +11,7 @@ use Rattle.velo_workload.specs.Phrase.{Spoken, Phrase, Blank, Bad, BadThread, Va
 use Rattle.velo_workload.specs.Outline.{Names, first_of_two}
 use Rattle.velo_workload.specs.Program.{statement_of, unknown_in, first_unknown, body_from, bodies}
 use Rattle.velo_workload.specs.Sketch.{Put, Sketch, Sketches, no_sketch, with_known, with_statement, drafted, with_phrase, unknown_later, put_at, completed, unknown_in_sketches, bodies_completed, AreSketches}
-use Rattle.velo_workload.specs.Building.{Built, built_by, with_line_built, bodies_with, AreBelow, IsSketchedUpTo}
+use Rattle.velo_workload.proofs.Building.{Built, built_by, with_line_built, bodies_with, AreBelow, IsSketchedUpTo}
 use Rattle.velo_workload.proofs.OnLonger.{IsLonger, statement_longer}
 
 -- ---- the first of faults

@@ -4,10 +4,10 @@ use Rattle.std.specs.Str.{bytes_eq}
 use Rattle.indexmap.specs.IndexSet.{insert_key}
 use Rattle.velo_workload.specs.declared.outline.Outline.{Outline}
 use Rattle.velo_workload.specs.Words.{Word, lines}
-use Rattle.velo_workload.specs.Phrase.{phrase_of, phrases, Spoken, Repeat, Done, Begin, Phrase, Variable, Lock, Thread, Body}
+use Rattle.velo_workload.specs.Phrase.{phrase_of, Spoken, Repeat, Done, Begin, Phrase, Variable, Lock, Thread, Body}
 use Rattle.velo_workload.specs.Names.{names_of}
 use Rattle.velo_workload.specs.Nesting.{NestingState, new_nesting, nesting_after, nesting_of_lines, nesting_fault, most_kept, kept, nesting_of}
-use Rattle.velo_workload.specs.Outline.{AreFew, Known, variables, locks, threads, labels, statements, fault_from, first_fault}
+use Rattle.velo_workload.specs.Outline.{Known, variables, locks, threads, labels, statements}
 
 -- the names and labels so far, how many statements there were, and the body that is read
 pub record LineState : Type 0 where
@@ -62,12 +62,3 @@ lines_left (Some bytes) = lines bytes
 
 abbrev pub phrases_left : Option (List ℕ) → List Phrase
 phrases_left rest = map phrase_of (lines_left rest)
-
--- n lines of the text were read without a fault, and these are left
-pub record IsReadUpTo (text : List ℕ) (rest : Option (List ℕ)) (o : Outline) (n : ℕ) : Type 0 where
-  pub before : List Phrase
-  pub is_kept : kept_of o ≡ up_to_most (whole before)
-  pub number : n ≡ length before
-  pub few : AreFew (known_by (whole before))
-  pub all : before ++ phrases_left rest ≡ phrases text
-  pub fault : fault_from before (phrases_left rest) ≡ first_fault (phrases text)

@@ -6,5 +6,4 @@ pub mod Nesting
 pub mod Known
 pub mod Program
 pub mod Sketch
-pub mod Building
 pub mod Bodies

@@ -71,17 +71,19 @@ pub record Program : Type 0 where
   pub label_names : List Word
   pub bodies : List (List Statement)
 
+-- the program of these names and bodies
+abbrev pub program_of : Names → List (List Statement) → Program
+program_of names found = record {
+  bounds = record { threads = length names.threads; variables = length names.variables; locks = length names.locks };
+  thread_names = names.threads;
+  variable_names = names.variables;
+  lock_names = names.locks;
+  label_names = names.labels;
+  bodies = found;
+}
+
 abbrev pub program : List Phrase → Program
-program ps =
-    let names = names_in (known ps) in
-    record {
-      bounds = record { threads = length names.threads; variables = length names.variables; locks = length names.locks };
-      thread_names = names.threads;
-      variable_names = names.variables;
-      lock_names = names.locks;
-      label_names = names.labels;
-      bodies = bodies names ps;
-    }
+program ps = let names = names_in (known ps) in program_of names (bodies names ps)
 
 -- the first fault of the lines, in two passes
 abbrev pub fault_in : List Phrase → Option WorkFault

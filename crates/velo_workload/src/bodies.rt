@@ -1,6 +1,5 @@
 //! The bodies of a text's threads: drafts in the first pass, whole after the second.
-ghost use Rattle.std.specs.Prelude.{◌≡◌, ◌++◌, ◌∷◌, [], map, IfOk, OnOk, OnErr};
-ghost use Rattle.velo_events.specs.Refusals.{GrowthRefused};
+ghost use Rattle.std.specs.Prelude.{◌≡◌, ◌++◌, ◌∷◌, [], map, IfOk, OnOk};
 ghost use Rattle.velo_workload.specs.Phrase.{said};
 ghost use Rattle.velo_workload.specs.Outline.{AreFew, names_in, Judges};
 ghost use Rattle.velo_workload.specs.Known.{known_of};
@@ -42,8 +41,7 @@ impl<'a> Bodies<'a> {
     /// # Errors
     /// `Memory` where a growth was refused.
     pub fn finish(&mut self) -> Result<(), Memory>
-        ensures sketches { OnOk result (sketches_of self.new ≡ record { whole = (sketches_of self.old).whole ++ (sketches_of self.old).current ∷ []; current = record { statements = []; later = [] } }) }
-        ensures memory { OnErr result GrowthRefused }
+        ensures { OnOk result (sketches_of self.new ≡ record { whole = (sketches_of self.old).whole ++ (sketches_of self.old).current ∷ []; current = record { statements = []; later = [] } }) }
     {
         reserve(&mut self.whole, 1)?;
         let whole = replace(&mut self.current, Draft::new(self.alloc));
@@ -57,8 +55,7 @@ impl<'a> Bodies<'a> {
     /// `Memory` where a growth was refused.
     pub fn take(&mut self, outline: &Outline, phrase: Phrase<'a>, line: usize) -> Result<(), Memory>
         requires { AreFew (known_of outline.now) }
-        ensures sketches { OnOk result (sketches_of self.new ≡ with_phrase (names_in (known_of outline.now)) (sketches_of self.old) (said phrase.entry) line) }
-        ensures memory { OnErr result GrowthRefused }
+        ensures { OnOk result (sketches_of self.new ≡ with_phrase (names_in (known_of outline.now)) (sketches_of self.old) (said phrase.entry) line) }
     {
         match phrase {
             Phrase::Thread(_) => self.finish(),

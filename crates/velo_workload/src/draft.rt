@@ -1,6 +1,5 @@
 //! A body as the first pass finds it, and as the second pass ends it.
-ghost use Rattle.std.specs.Prelude.{◌≡◌, ◌∷◌, ◌++◌, [], length, slice_set, IfOk, OnOk, OnErr};
-ghost use Rattle.velo_events.specs.Refusals.{GrowthRefused};
+ghost use Rattle.std.specs.Prelude.{◌≡◌, ◌∷◌, ◌++◌, [], length, slice_set, IfOk, OnOk};
 ghost use Rattle.velo_workload.specs.declared.statement.Statement.TheVariants as of_statement;
 ghost use Rattle.velo_workload.specs.Phrase.{spoken};
 ghost use Rattle.velo_workload.specs.Outline.{AreFew, names_in, Judges};
@@ -51,7 +50,6 @@ impl<'a> Draft<'a> {
     fn put(&mut self, statement: Statement) -> Result<(), Memory>
         ensures statements { OnOk result (self.new.statements.items ≡ self.old.statements.items ++ statement ∷ []) }
         ensures later { OnOk result (self.new.later.items ≡ self.old.later.items) }
-        ensures memory { OnErr result GrowthRefused }
     {
         reserve(&mut self.statements, 1)?;
         self.statements.push_reserved(statement);
@@ -62,7 +60,6 @@ impl<'a> Draft<'a> {
     fn put_later(&mut self, said: Spoken<'a>, line: usize) -> Result<(), Memory>
         ensures statements { OnOk result (self.new.statements.items ≡ self.old.statements.items ++ of_statement.Done ∷ []) }
         ensures later { OnOk result (self.new.later.items ≡ self.old.later.items ++ record { said = said.entry; line = line; place = length self.old.statements.items } ∷ []) }
-        ensures memory { OnErr result GrowthRefused }
     {
         let place = self.statements.len();
         reserve(&mut self.statements, 1)?;
@@ -78,8 +75,7 @@ impl<'a> Draft<'a> {
     /// `Memory` where a growth was refused.
     pub fn take(&mut self, outline: &Outline, said: Spoken<'a>, line: usize) -> Result<(), Memory>
         requires { AreFew (known_of outline.now) }
-        ensures sketch { OnOk result (sketch_of self.new ≡ with_statement (names_in (known_of outline.now)) (sketch_of self.old) (spoken said.entry) line) }
-        ensures memory { OnErr result GrowthRefused }
+        ensures { OnOk result (sketch_of self.new ≡ with_statement (names_in (known_of outline.now)) (sketch_of self.old) (spoken said.entry) line) }
     {
         match statement(outline, said) {
             Some(statement) => self.put(statement),

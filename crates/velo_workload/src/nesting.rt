@@ -1,7 +1,6 @@
 //! The body that is read: its open repeats, and what it costs.
-ghost use Rattle.std.specs.Prelude.{◌≡◌, ◌+◌, ◌-◌, ◌*◌, ◌<◌, ◌∷◌, ◌++◌, [], None, Some, length, take, min, OnOk, OnErr};
+ghost use Rattle.std.specs.Prelude.{◌≡◌, ◌+◌, ◌-◌, ◌*◌, ◌<◌, ◌∷◌, ◌++◌, [], None, Some, length, take, min, OnOk};
 ghost use Rattle.std.specs.Option.{option_map_or};
-ghost use Rattle.velo_events.specs.Refusals.{GrowthRefused};
 ghost use Rattle.velo_workload.specs.Outline.{Judges};
 ghost use Rattle.velo_workload.specs.Nesting.{last_open, most_kept, nesting_fault, nesting_of};
 
@@ -92,7 +91,6 @@ impl Nesting {
         ensures open { OnOk result ((nesting_of self.new).open_repeats ≡ (nesting_of self.old).open_repeats ++ record { line = line; outside = (nesting_of self.old).rounds } ∷ []) }
         ensures rounds { OnOk result ((nesting_of self.new).rounds ≡ min ((nesting_of self.old).rounds * times) most_kept) }
         ensures cost { OnOk result ((nesting_of self.new).cost ≡ min ((nesting_of self.old).cost + ((nesting_of self.old).rounds + min ((nesting_of self.old).rounds * times) most_kept)) most_kept) }
-        ensures memory { OnErr result GrowthRefused }
     {
         reserve(&mut self.open, 1)?;
         let open = Open {

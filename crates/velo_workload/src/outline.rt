@@ -1,8 +1,7 @@
 //! The first pass over a text: what it declares, and its faults but for undeclared names.
-ghost use Rattle.std.specs.Prelude.{◌≡◌, ◌<◌, [], OnOk, OnErr};
+ghost use Rattle.std.specs.Prelude.{◌≡◌, ◌<◌, [], OnOk};
 ghost use Rattle.velo_workload.specs.Phrase.{said, spoken, phrases, Body, Thread};
 ghost use Rattle.velo_workload.specs.Outline.{AreFew, names_in, Judges, known, first_fault, fault_of_line, statement_fault, full_fault, fault_at_end};
-ghost use Rattle.velo_events.specs.Refusals.{GrowthRefused};
 ghost use Rattle.velo_workload.specs.Known.{known_of, kept_of, whole, with_line};
 ghost use Rattle.velo_workload.specs.Sketch.{sketches_of, AreSketches};
 
@@ -65,8 +64,7 @@ impl<'a> Outline<'a> {
     /// Takes in a statement that has no fault.
     fn put_statement(&mut self, statement: Spoken<'a>, line: usize) -> Result<(), Memory>
         requires { self.old.statements < MOST_STATEMENTS }
-        ensures kept { OnOk result (kept_of self.new ≡ with_line (kept_of self.old) (Body (spoken statement.entry)) line) }
-        ensures memory { OnErr result GrowthRefused }
+        ensures { OnOk result (kept_of self.new ≡ with_line (kept_of self.old) (Body (spoken statement.entry)) line) }
     {
         match statement {
             Spoken::Repeat(times) => self.body.open_repeat(times, line)?,

@@ -2,12 +2,11 @@
 ghost use Rattle.std.specs.Prelude.{◌≡◌, ◌≤◌, ◌<◌, ◌↔◌, [], Some, length, map, drop, slice_get, IfOk, OnOk, OnErr, Err};
 ghost use Rattle.std.specs.String.{string_bytes};
 ghost use Rattle.std.specs.Str.{IsUtf8};
-ghost use Rattle.velo_events.specs.Refusals.{GrowthRefused};
 ghost use Rattle.velo_workload.specs.Names.{names_of};
 ghost use Rattle.velo_workload.specs.Bodies.{AreBodies};
 ghost use Rattle.velo_workload.specs.Outline.{AreFew, Judges, names_in};
 ghost use Rattle.velo_workload.specs.Known.{known_of, kept_of, whole};
-ghost use Rattle.velo_workload.specs.Program.{Program, meaning_of, ParsesAs};
+ghost use Rattle.velo_workload.specs.Program.{Program, program_of, meaning_of, ParsesAs};
 ghost use Rattle.velo_workload.specs.Sketch.{sketches_of, drafted, unknown_in_sketches, bodies_completed};
 ghost use Rattle.velo_events.specs.declared.limits.TheConstants.{MOST_THREADS, MOST_LOCKS};
 ghost use Rattle.velo_workload.specs.declared.limits.TheConstants.{MOST_WORKLOAD_BYTES};
@@ -102,8 +101,7 @@ impl Workload {
 
 /// Copies of the names.
 fn copies(alloc: Global, names: &[&str]) -> Result<Vec<String>, Memory>
-    ensures names { IfOk result (λ copies. map string_bytes copies.items ≡ map (λ name. name.now) names.now) }
-    ensures memory { OnErr result GrowthRefused }
+    ensures { IfOk result (λ copies. map string_bytes copies.items ≡ map (λ name. name.now) names.now) }
 {
     let mut copies = Vec::new(alloc);
     for name in names {
@@ -124,8 +122,7 @@ fn assemble(
     requires some_thread { 1 ≤ length (known_of outline.now).threads }
     requires each { length bodies.items ≡ length (known_of outline.now).threads }
     requires nested { AreBodies (map (λ body. body.items) bodies.items) }
-    ensures workload { IfOk result (λ w. w ≡ record { bounds = record { threads = length (known_of outline.now).threads; variables = length (known_of outline.now).variables; locks = length (known_of outline.now).locks }; thread_names = (known_of outline.now).threads; variable_names = (known_of outline.now).variables; lock_names = (known_of outline.now).locks; label_names = (known_of outline.now).labels; bodies = map (λ body. body.items) bodies.items }) }
-    ensures memory { OnErr result GrowthRefused }
+    ensures { IfOk result (λ w. w ≡ program_of (names_in (known_of outline.now)) (map (λ body. body.items) bodies.items)) }
 {
     let threads = copies(alloc, outline.threads.as_slice())?;
     let variables = copies(alloc, outline.variables.as_slice())?;

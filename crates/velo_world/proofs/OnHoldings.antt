@@ -19,9 +19,9 @@ use Rattle.velo_ledger.specs.Tally.{blank, with_event}
 use Rattle.velo_ledger.specs.Views.{Accounts, Holding}
 use Rattle.velo_ledger.specs.Book.{FitsBook, with_row, with_tally, opening_accounts}
 use Rattle.velo_ledger.specs.Shares.{opening_share, AreOpening}
-use Rattle.velo_ledger.specs.Logs.{IsOfThreadsBelow, events_below, tally_of}
+use Rattle.velo_ledger.specs.Logs.{events_below, tally_of}
 use Rattle.velo_events.proofs.OnLists.{slice_get-set_same, slice_get-set_other}
-use Rattle.velo_ledger.proofs.OnLogs.{tally_of-nil, tally_of-own, tally_of-other, next_of-le, opening-rows, with_event-rows, sum_by-rows, events_below-all}
+use Rattle.velo_ledger.proofs.OnLogs.{IsOfThreadsBelow, tally_of-nil, tally_of-own, tally_of-other, next_of-le, opening-rows, with_event-rows, sum_by-rows, events_below-all}
 use Rattle.velo_world.specs.World.{WorldState, opening, FitsLog, IsBookOf}
 use Rattle.velo_world.specs.Kept.{KeptAt, KeepsUnborn}
 use Rattle.velo_events.proofs.OnStatuses.{first-born, others-unborn, unborn-before, unborn-same, actor-born, forked-after, forked-before}

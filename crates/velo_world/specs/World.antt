@@ -63,6 +63,10 @@ AlarmOf log (Some alarm) = IsAlarm log alarm
 pub record IsWatchedPart (log trace : List Event) : Type 0 where
   pub part : ((¬ HasCycle log) × (trace ≡ log)) ⊎ ((p : ℕ) × IsClosing log p × (trace ≡ take p log))
 
+-- a fact about the events whose graph is kept
+abbrev pub ForWatchedPart : List Event → (List Event → Type 0) → Type 0
+ForWatchedPart log Fact = (trace : List Event) → IsWatchedPart log trace → Fact trace
+
 -- ---- the book, and the shares of the threads
 
 -- the share is of this run and one of its threads, and says what the thread's events in the log come to

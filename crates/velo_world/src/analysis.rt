@@ -1,6 +1,5 @@
 //! What follows from the events of a run.
-ghost use Rattle.velo_events.specs.Refusals.{GrowthRefused};
-ghost use Rattle.std.specs.Prelude.{◌≡◌, [], ◌∷◌, ◌++◌, List, Some, None, take, slice_get, IsTrue, IsFalse, IfOk, OnOk, OnErr};
+ghost use Rattle.std.specs.Prelude.{◌≡◌, [], ◌∷◌, ◌++◌, List, Some, None, take, slice_get, IsTrue, IsFalse, IfOk, OnOk};
 ghost use Rattle.velo_events.specs.declared.event.Event.{Event as EventOf};
 ghost use Rattle.velo_events.specs.Block.{owner};
 ghost use Rattle.velo_events.specs.Collection.{HasManyLive};
@@ -66,7 +65,6 @@ impl Analysis {
         ensures bounds { IfOk result (λ analysis. bounds_of analysis.heap ≡ config.now.bounds) }
         ensures nodes { IfOk result (λ analysis. limit_of analysis.monitor.nodes.slots ≡ config.now.nodes) }
         ensures follows { IfOk result (λ analysis. IsAnalysisOf analysis []) }
-        ensures memory { OnErr result GrowthRefused }
     {
         let heap = Heap::new(alloc, config)?;
         let monitor = Monitor::new(alloc, config)?;
@@ -140,7 +138,6 @@ impl Analysis {
         ensures nodes { self.new.monitor.nodes ≡ self.old.monitor.nodes }
         ensures follows { (trace : List EventOf) → IsAnalysisOf self.old trace → IsAnalysisOf self.new trace }
         ensures room { OnOk result ((trace : List EventOf) → IsAnalysisOf self.old trace → MayFollow (bounds_of self.old.heap) trace event.now → HasSlotFor self.old trace event.now → HasRoomForNext self.new trace event.now) }
-        ensures memory { OnErr result GrowthRefused }
     {
         if self.alarm.is_some() {
             return Ok(());
@@ -167,7 +164,6 @@ impl Analysis {
         ensures nodes { self.new.monitor.nodes ≡ self.old.monitor.nodes }
         ensures follows { (trace : List EventOf) → IsAnalysisOf self.old trace → IsAnalysisOf self.new trace }
         ensures room { OnOk result ((trace : List EventOf) → IsAnalysisOf self.old trace → MayFollow (bounds_of self.old.heap) trace event.now → HasSlotFor self.old trace event.now → HasRoomForNext self.new trace event.now) }
-        ensures memory { OnErr result GrowthRefused }
     {
         self.clocks.reserve_for(event)?;
         self.monitor.reserve(event)

@@ -30,6 +30,13 @@ impl Model for Closed {
 }
 
 impl Closed {
+    /// The world, as it was when it was closed.
+    pub fn world(&self) -> &World
+        ensures { result.now ≡ self.now }
+    {
+        &self.world
+    }
+
     /// How many threads, variables and locks there are.
     pub fn bounds(&self) -> Bounds
         ensures { result ≡ self.now.config.bounds }

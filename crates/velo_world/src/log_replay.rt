@@ -1,6 +1,5 @@
 //! A recorded log, whose events come about again one after another.
-ghost use Rattle.std.specs.Prelude.{◌≡◌, ◌<◌, ◌+◌, [], ◌∷◌, ◌++◌, List, None, Some, false, length, take, slice_get, IfOk, OnOk, IfErr, OnErr};
-ghost use Rattle.velo_events.specs.Refusals.{GrowthRefused};
+ghost use Rattle.std.specs.Prelude.{◌≡◌, ◌<◌, ◌+◌, [], ◌∷◌, ◌++◌, List, None, Some, false, length, take, slice_get, IfOk, OnOk, IfErr};
 ghost use Rattle.velo_events.specs.declared.event.Event.{Event as EventOf};
 ghost use Rattle.velo_events.specs.Meaning.{is_unborn};
 ghost use Rattle.velo_heap.specs.Contents.{bounds_of, IsHeapOf};
@@ -81,8 +80,7 @@ impl World {
 impl LogReplay {
     /// No event has come about yet.
     fn new(alloc: Global, config: &Config) -> Result<LogReplay, Memory>
-        ensures start { IfOk result (λ replay. IsLogReplayOf config.now replay [] 0) }
-        ensures memory { OnErr result GrowthRefused }
+        ensures { IfOk result (λ replay. IsLogReplayOf config.now replay [] 0) }
     {
         let (book, kept) = Book::open(alloc, config.run, config.bounds.threads)?;
         let shares = Shares::none(alloc, config.bounds.threads)?;

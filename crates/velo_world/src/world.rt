@@ -1,8 +1,6 @@
-ghost use Rattle.velo_events.specs.Refusals.{GrowthRefused};
 ghost use Rattle.std.specs.Prelude.{◌≡◌, List, ◌≤◌, ◌<◌, ◌↔◌, ◌∷◌, ◌++◌, [], ℕ, length, None, Some, IfOk, IfSome, IfNone, OnErr, IsTrue, slice_get, slice_set};
 ghost use Rattle.velo_events.specs.declared.event.Action.TheVariants.{Fork};
 ghost use Rattle.velo_events.specs.declared.limits.TheConstants.{MOST_EVENTS};
-ghost use Rattle.velo_events.specs.declared.event.Event.{Event as EventOf};
 ghost use Rattle.velo_events.specs.Block.{IsTransaction};
 ghost use Rattle.velo_events.specs.Meaning.{action_of};
 ghost use Rattle.velo_events.specs.Collection.{IsAccountedFor, IsGivenUp, IsHarmless};
@@ -16,7 +14,7 @@ ghost use Rattle.velo_ledger.specs.Shares.{AreInPlace, events_in_all, opening_sh
 ghost use Rattle.velo_arena.specs.Slots.{limit_of};
 ghost use Rattle.velo_arena.specs.Stamps.{stamps_in};
 ghost use Rattle.velo_monitor.specs.Watched.{IsMonitorOf};
-ghost use Rattle.velo_world.specs.World.{IsAlarm, IsWatchedPart, opening, halted_world, meaning, FitsLog, OthersStillFit, IsBookOf, IsLiveThread, HoldsLiveShares, CompletesShares, IsNoFork, Replies, Acts, Forks, Closes, StepsTo, RunsTo};
+ghost use Rattle.velo_world.specs.World.{IsAlarm, ForWatchedPart, opening, halted_world, meaning, FitsLog, OthersStillFit, IsBookOf, IsLiveThread, HoldsLiveShares, CompletesShares, IsNoFork, Replies, Acts, Forks, Closes, StepsTo, RunsTo};
 ghost use Rattle.velo_world.specs.Kept.{left_by, taken_by, with_share};
 
 use crate::analysis::{Alarm, Analysis, Reply};
@@ -79,7 +77,6 @@ impl World {
     pub fn new(alloc: Global, config: Config) -> Result<(World, Share), Memory>
         ensures world { IfOk result (λ opened. opened.0 ≡ opening config) }
         ensures share { IfOk result (λ opened. opened.1 ≡ opening_share config.run 0) }
-        ensures memory { OnErr result GrowthRefused }
     {
         let (book, mut kept) = Book::open(alloc, config.run, config.bounds.threads)?;
         let Some(share) = kept.take(ThreadId(0)) else {
@@ -162,7 +159,6 @@ impl World {
         ensures outcomes { IfOk result (λ outcomes.
             RunsTo self.old shares.old steps.now outcomes.items self.new shares.new) }
         ensures count { IfOk result (λ outcomes. length outcomes.items ≡ length steps.now) }
-        ensures memory { OnErr result GrowthRefused }
         ensures world { OnErr result (self.new ≡ self.old) }
         ensures shares { OnErr result (shares.new ≡ shares.old) }
         ensures ready { HoldsLiveShares self.new shares.new }
@@ -244,9 +240,13 @@ impl World {
     /// The graph of the log's transactions; with an alarm, of those before it. A transaction that it gave up is on no cycle,
     /// however the run goes on.
     pub fn monitor(&self) -> &Monitor
-        ensures stands { (trace : List EventOf) → IsWatchedPart self.now.log trace → IsMonitorOf self.now.config.bounds result.now trace }
-        ensures accounted { (trace : List EventOf) → IsWatchedPart self.now.log trace → (a : ℕ) → IsTransaction trace a → IsAccountedFor trace (stamps_in result.now.nodes.slots) a }
-        ensures given_up { (trace : List EventOf) → IsWatchedPart self.now.log trace → (a : ℕ) → IsGivenUp trace (stamps_in result.now.nodes.slots) a → IsHarmless self.now.config.bounds trace a }
+        ensures stands { ForWatchedPart self.now.log (λ trace.
+            IsMonitorOf self.now.config.bounds result.now trace) }
+        ensures accounted { ForWatchedPart self.now.log (λ trace. (a : ℕ) → IsTransaction trace a →
+            IsAccountedFor trace (stamps_in result.now.nodes.slots) a) }
+        ensures given_up { ForWatchedPart self.now.log (λ trace. (a : ℕ) →
+            IsGivenUp trace (stamps_in result.now.nodes.slots) a →
+            IsHarmless self.now.config.bounds trace a) }
         ensures limit { limit_of result.now.nodes.slots ≡ self.now.config.nodes }
     {
         &self.logged.analysis.monitor

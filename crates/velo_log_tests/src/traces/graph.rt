@@ -1,6 +1,6 @@
 //! The graph of a trace and its first closing event by brute force: all pairs of events, and a search from each edge.
-use std::alloc::Global;
-use velo_events::{Memory, conflicts};
+use std::alloc::{AllocError, Global};
+use velo_events::conflicts;
 use velo_traces::Trace;
 
 /// An edge between two transactions, and the later event of the pair that brings it.
@@ -12,7 +12,7 @@ pub struct Edge {
 }
 
 /// The transaction of each position.
-pub fn owners_of(alloc: Global, trace: &Trace) -> Result<Vec<usize>, Memory> {
+pub fn owners_of(alloc: Global, trace: &Trace) -> Result<Vec<usize>, AllocError> {
     let mut owners = Vec::new(alloc);
     for i in 0..trace.len() {
         owners.push(trace.owner_of(i))?;
@@ -21,7 +21,7 @@ pub fn owners_of(alloc: Global, trace: &Trace) -> Result<Vec<usize>, Memory> {
 }
 
 /// The edges, in the order in which the events bring them.
-pub fn edges_of(alloc: Global, trace: &Trace) -> Result<Vec<Edge>, Memory> {
+pub fn edges_of(alloc: Global, trace: &Trace) -> Result<Vec<Edge>, AllocError> {
     let mut edges = Vec::new(alloc);
     let events = trace.as_slice();
     for at in 0..events.len() {
@@ -37,7 +37,7 @@ pub fn edges_of(alloc: Global, trace: &Trace) -> Result<Vec<Edge>, Memory> {
 }
 
 /// The pairs of transactions that have an edge, each once.
-pub fn pairs_of(alloc: Global, edges: &[Edge]) -> Result<Vec<(usize, usize)>, Memory> {
+pub fn pairs_of(alloc: Global, edges: &[Edge]) -> Result<Vec<(usize, usize)>, AllocError> {
     let mut pairs: Vec<(usize, usize)> = Vec::new(alloc);
     for edge in edges {
         if !pairs.contains(&(edge.from, edge.to)) {
@@ -53,7 +53,7 @@ fn reachable_from(
     edges: &[Edge],
     last: usize,
     from: usize,
-) -> Result<Vec<usize>, Memory> {
+) -> Result<Vec<usize>, AllocError> {
     let mut reached = Vec::new(alloc);
     reached.push(from)?;
     for _ in edges {
@@ -67,7 +67,7 @@ fn reachable_from(
 }
 
 /// Whether some edge of the events up to a position leads back to where it comes from.
-fn has_cycle(alloc: Global, edges: &[Edge], last: usize) -> Result<bool, Memory> {
+fn has_cycle(alloc: Global, edges: &[Edge], last: usize) -> Result<bool, AllocError> {
     for edge in edges {
         if edge.at <= last && reachable_from(alloc, edges, last, edge.to)?.contains(&edge.from) {
             return Ok(true);
@@ -77,7 +77,7 @@ fn has_cycle(alloc: Global, edges: &[Edge], last: usize) -> Result<bool, Memory>
 }
 
 /// The first position up to which the events have a cycle.
-pub fn first_closing(alloc: Global, edges: &[Edge], len: usize) -> Result<Option<usize>, Memory> {
+pub fn first_closing(alloc: Global, edges: &[Edge], len: usize) -> Result<Option<usize>, AllocError> {
     for last in 0..len {
         if has_cycle(alloc, edges, last)? {
             return Ok(Some(last));

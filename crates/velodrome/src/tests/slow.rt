@@ -1,11 +1,11 @@
 //! Logs by chance, and their reports by the definitions in the slowest way.
 ghost use Rattle.std.specs.Prelude.{◌≤◌, ◌<◌, length};
 
-use std::alloc::Global;
+use std::alloc::{AllocError, Global};
 use std::process::Abort;
 use std::test::Fail;
 use velo_events::{
-    Action, Bounds, Label, LockId, MOST_EVENTS, MOST_NODES, Memory, ThreadId, VarId, conflicts,
+    Action, Bounds, Label, LockId, MOST_EVENTS, MOST_NODES, ThreadId, VarId, conflicts,
 };
 use velo_program::config_of;
 use velo_traces::Trace;
@@ -124,7 +124,7 @@ fn list_ends(
     to: usize,
     sources: &mut Vec<usize>,
     targets: &mut Vec<usize>,
-) -> Result<(), Memory> {
+) -> Result<(), AllocError> {
     sources.push(from)?;
     targets.push(to)?;
     for (a, b) in reaches {
@@ -143,7 +143,7 @@ fn add_pairs(
     reaches: &mut Vec<(usize, usize)>,
     source: usize,
     targets: &[usize],
-) -> Result<(), Memory> {
+) -> Result<(), AllocError> {
     for target in targets {
         if !reaches.contains(&(source, *target)) {
             reaches.push((source, *target))?;
@@ -158,7 +158,7 @@ fn add_edge(
     reaches: &mut Vec<(usize, usize)>,
     from: usize,
     to: usize,
-) -> Result<(), Memory> {
+) -> Result<(), AllocError> {
     let mut sources = Vec::new(alloc);
     let mut targets = Vec::new(alloc);
     list_ends(reaches.as_slice(), from, to, &mut sources, &mut targets)?;
@@ -174,7 +174,7 @@ fn closes(
     reaches: &mut Vec<(usize, usize)>,
     trace: &Trace,
     at: usize,
-) -> Result<bool, Memory>
+) -> Result<bool, AllocError>
     requires { at < length trace.now.events }
 {
     let events = trace.as_slice();
@@ -192,7 +192,7 @@ fn closes(
 }
 
 /// The first position up to which the events have a cycle, by all pairs of events.
-fn first_closing(alloc: Global, trace: &Trace) -> Result<Option<usize>, Memory> {
+fn first_closing(alloc: Global, trace: &Trace) -> Result<Option<usize>, AllocError> {
     let mut reaches = Vec::new(alloc);
     for at in 0..trace.len() {
         if closes(alloc, &mut reaches, trace, at)? {

@@ -5,22 +5,20 @@ use Rattle.velo_audit.proofs.OnCount.{IsCountedTo-again, IsCountedTo-new, IsCoun
 use Rattle.velo_audit.proofs.count.count_in.Goals as goal
 
 pub returns-in_default : goal.returns-in_default
-returns-in_default c = record {
-  stands = IsCountedTo-none (left_of c.args.left.now) c.args.events.now c.args.position c.requires.within (left_of c.args.seen.now) c.args.count.now c.requires.stands (no_label _ c.in_default.not-Begin);
-  memory = tt;
-}
+returns-in_default c =
+    IsCountedTo-none (left_of c.args.left.now) c.args.events.now c.args.position c.requires.within (left_of c.args.seen.now) c.args.count.now c.requires.stands (no_label _ c.in_default.not-Begin)
 
-pub returns-then-has_label-clause-stands : goal.returns-then-has_label-clause-stands
-returns-then-has_label-clause-stands c =
+pub returns-then-has_label : goal.returns-then-has_label
+returns-then-has_label c =
     IsCountedTo-again (left_of c.args.left.now) c.args.events.now c.args.position c.requires.within (left_of c.args.seen.now) c.args.count.now c.requires.stands c.in-Begin.label c.in-Begin.is (sym c.if-has_label.ensures)
 
-pub returns-then-not-has_label-clause-stands : goal.returns-then-not-has_label-clause-stands
-returns-then-not-has_label-clause-stands c =
+pub returns-then-not-has_label : goal.returns-then-not-has_label
+returns-then-not-has_label c =
     IsCountedTo-new (left_of c.args.left.now) c.args.events.now c.args.position c.requires.within (left_of c.args.seen.now) c.args.count.now c.requires.stands c.in-Begin.label c.in-Begin.is (sym c.if-has_label.ensures) _ c.in_ok-leave_out_label.ensures.ok _
     (ap (λ b. c.args.count.now + (if b then 0 else 1)) c.if-not-has_label.ensures)
 
-pub returns-else-not-has_label-clause-stands : goal.returns-else-not-has_label-clause-stands
-returns-else-not-has_label-clause-stands c =
+pub returns-else-not-has_label : goal.returns-else-not-has_label
+returns-else-not-has_label c =
     IsCountedTo-new (left_of c.args.left.now) c.args.events.now c.args.position c.requires.within (left_of c.args.seen.now) c.args.count.now c.requires.stands c.in-Begin.label c.in-Begin.is (sym c.if-has_label.ensures) _ c.in_ok-leave_out_label.ensures.ok _
     (same ∙ ap (λ b. c.args.count.now + (if b then 0 else 1)) c.if-not-has_label.ensures)
   where

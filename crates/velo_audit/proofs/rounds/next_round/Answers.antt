@@ -11,4 +11,4 @@ returns-in-Ok-clause-left c =
     let log = c.args.log.now.events in
     let left = left_of c.args.left.now in
     let tells = subst (RoundTells c.args.asked log left) c.in-Some.is c.in_ok-round.ensures.tells in
-    c.in-Ok.ensures.ok ∙ ap (with_labels left) (ap (map (λ (b : Block). b.label.0)) c.deref.ensures.value ∙ labels-told log c.in-Some.told tells.1)
+    c.in-Ok.ensures ∙ ap (with_labels left) (ap (map (λ (b : Block). b.label.0)) c.deref.ensures.value ∙ labels-told log c.in-Some.told tells.1)

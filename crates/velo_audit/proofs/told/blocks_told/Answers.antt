@@ -21,9 +21,9 @@ if_ok : {T E : Type 0} {P Q : T → Type 0} (r : Result T E) → ((x : T) → P 
 if_ok (Ok x) f h = f x h
 if_ok (Err e) f h = tt
 
-pub returns-clause-blocks : goal.returns-clause-blocks
-returns-clause-blocks c = if_ok c.all_as_read-2.result
+pub returns : goal.returns
+returns c = if_ok c.all_as_read-2.result
     (λ read h. h ∙ (ap (map (block_as_read (slice_index c.args.places.now))) c.as_slice-blamed.ensures
     ∙ told-blamed_blocks c.args.events.now c.args.alarm.now c.requires.alarm c.args.places.now
     (λ e. false≢true (c.if-is_empty.ensures ∙ eq-eqb _ 0 (ap length (c.as_slice-blamed.ensures ∙ e))))))
-    c.all_as_read-2.ensures.blocks
+    c.all_as_read-2.ensures

@@ -11,7 +11,7 @@ unreachable-requires c =
     closing-on_cycle c.args.what.now.events c.args.alarm.now.position c.requires.alarm.closing
     (rw c.in-Err-NoCycle.field-0-is at c.in-Err-NoCycle.ensures.fault)
 
-pub returns-in-Ok-clause-witness : goal.returns-in-Ok-clause-witness
-returns-in-Ok-clause-witness c = if_ok c.evidence_as_read.result
+pub returns-in-Ok : goal.returns-in-Ok
+returns-in-Ok c = if_ok c.evidence_as_read.result
     (λ evidence reads. IsEvidenceOf-read c.args.what.now.events c.args.places.now c.args.alarm.now c.requires.alarm c.as_slice.result.now c.as_slice.ensures c.in-Ok.inside evidence c.in-Ok.ensures.evidence c.in-Ok.ensures.reasons reads)
-    c.evidence_as_read.ensures.reads
+    c.evidence_as_read.ensures

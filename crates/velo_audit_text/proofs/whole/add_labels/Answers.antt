@@ -17,6 +17,6 @@ pub loop-k-preserved : goal.loop-k-preserved
 loop-k-preserved c =
     let names = c.args.names.now in let blocks = c.args.blocks.now in let k = c.loop-k.k in
     elim c.if-not-is_label_of.branch [
-      | then-not-is_label_of+in_ok-add_not_atomic w ↦ w.page-is ∙ labels-new blocks k none c.loop-k-test.true names (sym c.is_label_of.ensures ∙ w.if-not-is_label_of.true) c.args.page.now _ _ c.loop-k.invariant w.in_ok-add_not_atomic.ensures.ok
+      | then-not-is_label_of+in_ok-add_not_atomic w ↦ w.page-is ∙ labels-new blocks k none c.loop-k-test.true names (sym c.is_label_of.ensures ∙ w.if-not-is_label_of.true) c.args.page.now _ _ c.loop-k.invariant w.in_ok-add_not_atomic.ensures
       | else-not-is_label_of w ↦ w.page-is ∙ labels-again blocks k none c.loop-k-test.true names (sym c.is_label_of.ensures ∙ w.if-not-is_label_of.false) c.args.page.now _ c.loop-k.invariant
     ]

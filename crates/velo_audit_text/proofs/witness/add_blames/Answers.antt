@@ -12,4 +12,4 @@ none = record { block = no_block; witness = 0 }
 pub loop-k-preserved : goal.loop-k-preserved
 loop-k-preserved c =
     let xs = c.args.blames.now in let k = c.loop-k.k in
-    texts-next (blame_text c.args.names.now c.args.events.now c.args.position) xs k (get_or xs k none) c.args.page.now _ _ (take_more xs k none c.loop-k-test.true) c.loop-k.invariant c.in_ok-add_blame.ensures.ok
+    texts-next (blame_text c.args.names.now c.args.events.now c.args.position) xs k (get_or xs k none) c.args.page.now _ _ (take_more xs k none c.loop-k-test.true) c.loop-k.invariant c.in_ok-add_blame.ensures

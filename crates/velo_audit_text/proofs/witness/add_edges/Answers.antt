@@ -14,7 +14,7 @@ loop-k-preserved c =
     let xs = c.args.edges.now in let k = c.loop-k.k in let item = get_or xs k none in
     let text = edge_text c.args.names.now c.args.events.now (length c.args.edges.now) in
     let more : take (k + 1) xs ≡ take k xs ++ item ∷ [] = take_more xs k none c.loop-k-test.true in
-    c.in_ok-add_edge.ensures.ok
+    c.in_ok-add_edge.ensures
     ∙ ap (λ (t : List ℕ). t ++ text k item) c.loop-k.invariant
     ∙ append_assoc c.args.page.now (numbered text 0 (take k xs)) (text k item)
     ∙ ap (λ (t : List ℕ). c.args.page.now ++ t) (numbered-more text xs k item more (length-take-le k xs (omega (arith, c.loop-k-test.true))))

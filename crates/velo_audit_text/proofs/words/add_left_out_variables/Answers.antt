@@ -11,4 +11,4 @@ none = record { 0 = 0 }
 pub loop-variable-preserved : goal.loop-variable-preserved
 loop-variable-preserved c =
     let xs = c.args.variables.now in let i = c.loop-variable.variable-index in
-    texts-next (left_out_variable_text c.args.names.now) xs i (get_or xs i none) c.args.page.now _ _ (take_more xs i none c.loop-variable-test.true) c.loop-variable.invariant c.in_ok-add_left_out_variable.ensures.ok
+    texts-next (left_out_variable_text c.args.names.now) xs i (get_or xs i none) c.args.page.now _ _ (take_more xs i none c.loop-variable-test.true) c.loop-variable.invariant c.in_ok-add_left_out_variable.ensures

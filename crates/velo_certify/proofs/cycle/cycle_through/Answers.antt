@@ -21,7 +21,7 @@ loop-present-preserved c =
           (WalksBack-next trace distance c.args.start c.args.second distances next towards c.loop-present.cycle.items present c.loop-present-test.true (c.loop-present.invariant.walks trace distances towards nearest)));
     }
 
-pub returns-clause-cycle : goal.returns-clause-cycle
-returns-clause-cycle c = λ trace distances towards nearest.
+pub returns : goal.returns
+returns c = λ trace distances towards nearest.
     IsShortestFrom-end trace c.args.reached.now.distance.items c.args.start c.args.second distances c.loop-present.cycle.items c.loop-present.present
     c.loop-present-test.false nearest (c.loop-present.invariant.walks trace distances towards nearest)

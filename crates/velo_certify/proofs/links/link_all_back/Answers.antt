@@ -16,5 +16,5 @@ loop-at-init c =
       links = c.requires.links;
     }
 
-pub returns-clause-links : goal.returns-clause-links
-returns-clause-links c = HasLinks-turn c.args.events.now c.loop-at.at c.loop-at.links (omega arith) c.loop-at.invariant.links
+pub returns : goal.returns
+returns c = HasLinks-turn c.args.events.now c.loop-at.at c.loop-at.links (omega arith) c.loop-at.invariant.links

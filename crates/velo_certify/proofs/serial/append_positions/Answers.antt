@@ -32,7 +32,6 @@ returns-else-owner_of-a c =
     record {
       ok = c.loop-at.invariant.items ∙ ap (λ xs. c.args.order.now.items ++ xs) (below-end trace a n n c.requires.transaction w (λ _ own. c.if-owner_of-a.false (c.owner_of.ensures.owner ∙ own)));
       behind = Follows-end trace a n n c.requires.transaction w (λ _ own. c.if-owner_of-a.false (c.owner_of.ensures.owner ∙ own));
-      memory = search rules;
     }
 
 pub returns-after-loop-at : goal.returns-after-loop-at
@@ -42,5 +41,4 @@ returns-after-loop-at c =
     record {
       ok = c.loop-at.invariant.items ∙ ap (λ xs. c.args.order.now.items ++ xs) (below-end trace a n n c.requires.transaction w (λ l. absurd (omega (arith, l, c.loop-at-test.false))));
       behind = Follows-end trace a n n c.requires.transaction w (λ l. absurd (omega (arith, l, c.loop-at-test.false)));
-      memory = search rules;
     }

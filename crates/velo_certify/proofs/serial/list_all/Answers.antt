@@ -41,7 +41,7 @@ pub rounds-init : goal.rounds-init
 rounds-init c =
     let none = c.in_ok-listed.ensures.items_if_clones_equal (λ y e. e) in
     record {
-      links = HasLinksLeft-start c.args.events.now c.in_ok-listed.listed.items c.in_ok-links.links c.in_ok-links.ensures.links;
+      links = HasLinksLeft-start c.args.events.now c.in_ok-listed.listed.items c.in_ok-links.links c.in_ok-links.ensures;
       lists = ListsSoFar-start c.args.events.now c.in_ok-listed.listed.items _ none (search rules);
       following = c.in_ok-threads.ensures.following;
       fronts = AreFronts-start c.args.events.now c.in_ok-listed.listed.items c.in_ok-threads.threads.fronts.items none c.in_ok-threads.ensures.names c.in_ok-threads.ensures.fronts;

@@ -6,12 +6,12 @@ use Rattle.velo_chance.specs.Tallies.{AreCounts}
 use Rattle.velo_chance.proofs.OnRuns.{AreCounts-no_alarm}
 use Rattle.velo_chance.proofs.noting.blamed_with.Goals as goal
 
-pub returns-in-Some-clause-counted : goal.returns-in-Some-clause-counted
-returns-in-Some-clause-counted c =
+pub returns-in-Some : goal.returns-in-Some
+returns-in-Some c =
     rw c.in-Some.is
     (subst (λ (blocks : List Block). IfOk c.count_alarm.result (λ after. (count : ℕ → ℕ) → ((label : ℕ) → count label < 2 ^ 64 - 1) → AreCounts count c.args.blamed.items
     → AreCounts (λ label. count label + (if has_label label blocks then 1 else 0)) after.items))
-    c.as_slice.ensures c.count_alarm.ensures.counted)
+    c.as_slice.ensures c.count_alarm.ensures)
 
-pub returns-in-None-clause-counted : goal.returns-in-None-clause-counted
-returns-in-None-clause-counted c = λ count few counts. AreCounts-no_alarm count c.args.alarm c.args.blamed.items c.in-None.is counts
+pub returns-in-None : goal.returns-in-None
+returns-in-None c = λ count few counts. AreCounts-no_alarm count c.args.alarm c.args.blamed.items c.in-None.is counts

@@ -10,9 +10,9 @@ returns-clause-comes_to c = λ runs comes.
     ComesTo-noted runs _ c.args.tally _ (record {
       few = c.requires.few;
       runs = refl;
-      alarm = c.in_ok-first_alarm.ensures.first ∙ ap (λ b. option_or (option_map (λ schedule. schedule.items) c.args.tally.alarm) (if b then Some c.args.schedule.now else None)) has;
-      stuck = c.in_ok-stuck.ensures.first ∙ ap (λ b. option_or (option_map (λ schedule. schedule.items) c.args.tally.stuck) (if b then Some c.args.schedule.now else None)) c.ends_stuck.ensures;
-      refused = c.in_ok-refused.ensures.first;
+      alarm = c.in_ok-first_alarm.ensures ∙ ap (λ b. option_or (option_map (λ schedule. schedule.items) c.args.tally.alarm) (if b then Some c.args.schedule.now else None)) has;
+      stuck = c.in_ok-stuck.ensures ∙ ap (λ b. option_or (option_map (λ schedule. schedule.items) c.args.tally.stuck) (if b then Some c.args.schedule.now else None)) c.ends_stuck.ensures;
+      refused = c.in_ok-refused.ensures;
       alarms = c.count_if.ensures ∙ ap (λ b. min (c.args.tally.alarms + (if b then 1 else 0)) (2 ^ 64 - 1)) has;
-      blamed = c.in_ok-blamed.ensures.counted;
+      blamed = c.in_ok-blamed.ensures;
     }) comes

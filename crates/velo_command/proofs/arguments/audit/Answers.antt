@@ -22,16 +22,16 @@ is_audit old new is local adds = (
   adds.1 ∙ local,
 )
 
-pub returns-clause-reads : goal.returns-clause-reads
-returns-clause-reads c =
+pub returns : goal.returns
+returns c =
     let is_new : app_of c.after_help-command.result ≡ new_app (codes "audit") = search rules in
     let local : (out-Command c.after_help-command.result).has_globals ≡ false = search rules in
     IfOk-weaker c.with_argument-8.result _ _ (λ command adds. is_audit c.after_help-command.result command is_new local
-    (adds_next _ (valued (codes "names") ∷ valued (codes "not-atomic") ∷ behind_lists) _ _ _ _ c.log.ensures c.in_ok-command.ensures.adds
-    (adds_next _ (valued (codes "not-atomic") ∷ behind_lists) _ _ _ _ c.names.ensures c.in_ok-command-2.ensures.adds
-    (adds_next _ behind_lists _ _ _ _ c.not_atomic.ensures c.in_ok-command-3.ensures.adds
-    (adds_next _ (repeated (codes "ignore-variable") ∷ flag (codes "no-witness") ∷ behind_witness) _ _ _ _ c.ignored_locks.ensures c.in_ok-command-4.ensures.adds
-    (adds_next _ (flag (codes "no-witness") ∷ behind_witness) _ _ _ _ c.ignored_variables.ensures c.in_ok-command-5.ensures.adds
-    (adds_next _ behind_witness _ _ _ _ c.no_witness.ensures c.in_ok-command-6.ensures.adds
-    (adds_next _ (nodes (codes "4096") ∷ []) _ _ _ _ c.events_argument.ensures c.in_ok-command-7.ensures.adds
-    (adds_last _ _ _ _ c.nodes_argument.ensures adds))))))))) c.with_argument-8.ensures.adds
+    (adds_next _ (valued (codes "names") ∷ valued (codes "not-atomic") ∷ behind_lists) _ _ _ _ c.log.ensures c.in_ok-command.ensures
+    (adds_next _ (valued (codes "not-atomic") ∷ behind_lists) _ _ _ _ c.names.ensures c.in_ok-command-2.ensures
+    (adds_next _ behind_lists _ _ _ _ c.not_atomic.ensures c.in_ok-command-3.ensures
+    (adds_next _ (repeated (codes "ignore-variable") ∷ flag (codes "no-witness") ∷ behind_witness) _ _ _ _ c.ignored_locks.ensures c.in_ok-command-4.ensures
+    (adds_next _ (flag (codes "no-witness") ∷ behind_witness) _ _ _ _ c.ignored_variables.ensures c.in_ok-command-5.ensures
+    (adds_next _ behind_witness _ _ _ _ c.no_witness.ensures c.in_ok-command-6.ensures
+    (adds_next _ (nodes (codes "4096") ∷ []) _ _ _ _ c.events_argument.ensures c.in_ok-command-7.ensures
+    (adds_last _ _ _ _ c.nodes_argument.ensures adds))))))))) c.with_argument-8.ensures

@@ -1,5 +1,5 @@
 use Rattle.velo_seal.specs.Seal.{refused}
 use Rattle.velo_command.proofs.growth.with_subcommand.Goals as goal
 
-pub returns-in-Err : goal.returns-in-Err
-returns-in-Err c = record { adds = tt; memory = refused }
+pub invariant_of-result : goal.invariant_of-result
+invariant_of-result c = refused

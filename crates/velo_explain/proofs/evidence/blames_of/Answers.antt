@@ -17,13 +17,13 @@ loop-k-preserved c =
           record {
             blames = subst (λ v. AreBlamesSoFar trace p blamed (k + 1) v.items) (sym w.blames-is)
                 (subst (AreBlamesSoFar trace p blamed (k + 1)) (sym w.push_reserved.ensures.items)
-                (AreBlamesSoFar-next trace p blamed k c.loop-k.blames.items c.loop-k-test.true c.loop-k.invariant.blames blame refl (subst found w.in-Some.is c.in_ok-witness.ensures.witness)));
+                (AreBlamesSoFar-next trace p blamed k c.loop-k.blames.items c.loop-k-test.true c.loop-k.invariant.blames blame refl (subst found w.in-Some.is c.in_ok-witness.ensures)));
             room = subst (λ v. length blamed ≤ vec_capacity v) (sym w.blames-is) (omega (arith, w.push_reserved.ensures.capacity, c.loop-k.invariant.room));
           }
       | in_default w ↦
           record {
             blames = subst (λ v. AreBlamesSoFar trace p blamed (k + 1) v.items) (sym w.blames-is)
-                (AreBlamesSoFar-none trace p blamed k c.loop-k.blames.items c.loop-k-test.true c.loop-k.invariant.blames (subst found w.in_default.is c.in_ok-witness.ensures.witness));
+                (AreBlamesSoFar-none trace p blamed k c.loop-k.blames.items c.loop-k-test.true c.loop-k.invariant.blames (subst found w.in_default.is c.in_ok-witness.ensures));
             room = subst (λ v. length blamed ≤ vec_capacity v) (sym w.blames-is) c.loop-k.invariant.room;
           }
     ]

@@ -3,4 +3,4 @@ use Rattle.velo_explain.proofs.evidence.evidence_of.Goals as goal
 
 pub returns-clause-reasons : goal.returns-clause-reasons
 returns-clause-reasons c = λ none.
-    HaveReasons-by c.args.trace.now.events c.args.position c.args.blamed.now _ c.in_ok-cycle.ensures.cycle.is_cycle.in_trace c.in_ok-blames.ensures.blames none
+    HaveReasons-by c.args.trace.now.events c.args.position c.args.blamed.now _ c.in_ok-cycle.ensures.cycle.is_cycle.in_trace c.in_ok-blames.ensures none

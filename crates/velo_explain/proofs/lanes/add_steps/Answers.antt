@@ -10,7 +10,7 @@ loop-k-preserved c =
     let shown = c.args.shown.now in let k = c.loop-k.k in let item = get_or shown k 0 in
     let text = step_text c.args.names.now c.args.events.now c.args.lanes.now shown in
     let more : take (k + 1) shown ≡ take k shown ++ item ∷ [] = take_more shown k 0 c.loop-k-test.true in
-    c.in_ok-add_step.ensures.ok
+    c.in_ok-add_step.ensures
     ∙ ap (λ (t : List ℕ). t ++ text k item) c.loop-k.invariant
     ∙ append_assoc c.args.page.now (numbered text 0 (take k shown)) (text k item)
     ∙ ap (λ (t : List ℕ). c.args.page.now ++ t) (numbered-more text shown k item more (length-take-le k shown (omega (arith, c.loop-k-test.true))))

@@ -12,7 +12,7 @@ loop-k-preserved c =
     let blames = c.args.blames.now in let k = c.loop-k.k in let nothing : Blame = record { block = no_block; witness = 0 } in let item = get_or blames k nothing in
     let text = blame_text c.args.names.now c.args.events.now c.args.position in let before = c.args.page.now ++ to_blame_text c.args.names.now c.args.events.now c.args.position in
     let more : take (k + 1) blames ≡ take k blames ++ item ∷ [] = take_more blames k nothing c.loop-k-test.true in
-    c.in_ok-add_blame.ensures.ok
+    c.in_ok-add_blame.ensures
     ∙ ap (λ (t : List ℕ). t ++ text item) c.loop-k.invariant
     ∙ append_assoc before (flat_map text (take k blames)) (text item)
     ∙ ap (λ (t : List ℕ). before ++ t) (texts-more text blames k item more)

@@ -10,7 +10,7 @@ loop-k-preserved c =
     let edges = c.args.edges.now in let k = c.loop-k.k in let nothing : EdgeEvents = record { from = 0; to = 0 } in let item = get_or edges k nothing in
     let text = edge_text c.args.names.now c.args.events.now (length c.args.edges.now) in
     let more : take (k + 1) edges ≡ take k edges ++ item ∷ [] = take_more edges k nothing c.loop-k-test.true in
-    c.in_ok-add_edge.ensures.ok
+    c.in_ok-add_edge.ensures
     ∙ ap (λ (t : List ℕ). t ++ text k item) c.loop-k.invariant
     ∙ append_assoc c.args.page.now (numbered text 0 (take k edges)) (text k item)
     ∙ ap (λ (t : List ℕ). c.args.page.now ++ t) (numbered-more text edges k item more (length-take-le k edges (omega (arith, c.loop-k-test.true))))

@@ -10,7 +10,7 @@ loop-k-preserved c =
     let spans = c.args.spans.now in let k = c.loop-k.k in let nothing : Span = record { first = 0; last = 0 } in let item = get_or spans k nothing in
     let text = member_text c.args.names.now c.args.events.now in
     let more : take (k + 1) spans ≡ take k spans ++ item ∷ [] = take_more spans k nothing c.loop-k-test.true in
-    c.in_ok-add_member.ensures.ok
+    c.in_ok-add_member.ensures
     ∙ ap (λ (t : List ℕ). t ++ text k item) c.loop-k.invariant
     ∙ append_assoc c.args.page.now (numbered text 0 (take k spans)) (text k item)
     ∙ ap (λ (t : List ℕ). c.args.page.now ++ t) (numbered-more text spans k item more (length-take-le k spans (omega (arith, c.loop-k-test.true))))

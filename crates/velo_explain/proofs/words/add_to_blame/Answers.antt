@@ -1,6 +1,6 @@
 use Rattle.velo_explain.specs.Text.{to_blame_text}
 use Rattle.velo_explain.proofs.words.add_to_blame.Goals as goal
 
-pub returns-clause-ok : goal.returns-clause-ok
+pub returns : goal.returns
 unfolding to_blame_text
-returns-clause-ok c = rw c.from.ensures at c.in_ok-add.ensures.ok
+returns c = rw c.from.ensures at c.in_ok-add.ensures

@@ -25,7 +25,7 @@ loop-thread-preserved c =
       each = subst (λ xs. (u i : ℕ) (k : Kind) → IsMarked (map (λ v. v.items) xs) u i → slice_get (script_of scripts u) i ≡ Some k → IsFreeAt scripts u i k) (sym items)
           (marks-next (λ v. v.items) scripts free own inv.each
           (λ i k marked there. subst (λ n. IsFreeAt scripts n i k) (sym inv.count)
-          (IsFreeAt-clear notes scripts c.in_ok-notes.ensures.noted t i k
+          (IsFreeAt-clear notes scripts c.in_ok-notes.ensures t i k
           (subst (λ ks. IsClearBehind notes t (take i ks) k) (sym script)
-          (c.in_ok-own.ensures.clear i k marked (ap (λ ks. slice_get ks i) (sym script) ∙ (ap (λ n. slice_get (script_of scripts n) i) (sym inv.count) ∙ there)))))));
+          (c.in_ok-own.ensures i k marked (ap (λ ks. slice_get ks i) (sym script) ∙ (ap (λ n. slice_get (script_of scripts n) i) (sym inv.count) ∙ there)))))));
     }

@@ -1,5 +1,5 @@
 use Rattle.velo_seal.specs.Seal.{refused}
 use Rattle.velo_explore.proofs.growth.insert.Goals as goal
 
-pub returns-in-Err : goal.returns-in-Err
-returns-in-Err c = record { memory = refused }
+pub invariant_of-result : goal.invariant_of-result
+invariant_of-result c = refused

@@ -13,5 +13,5 @@ returns-clause-there c =
       there = subst (λ xs. Contains xs note) (sym items) (Contains-push c.args.list.now.items note);
       thread = refl;
       kind = refl;
-      locks = c.in_ok-held.ensures.locks;
+      locks = c.in_ok-held.ensures;
     }

@@ -14,7 +14,7 @@ settle-requires-clause-reached c =
     reached-start (bounds_of c.in_ok-start.start.heap) c.args.scripts.now c.args.trail.now.steps.items c.in_ok-start.start refl c.in_ok-start.ensures.start c.in_ok-start.ensures.place
 
 pub note_closing-requires : goal.note_closing-requires
-note_closing-requires c = reached-within (bounds_of c.in_ok-start.start.heap) c.args.scripts.now c.settle.new.trail.steps.items c.settle.new.state c.in_ok-settle.ensures.settles.reached
+note_closing-requires c = reached-within (bounds_of c.in_ok-start.start.heap) c.args.scripts.now c.settle.new.trail.steps.items c.settle.new.state c.in_ok-settle.ensures.reached
 
 pub returns-clause-reached : goal.returns-clause-reached
 returns-clause-reached c =
@@ -22,16 +22,16 @@ returns-clause-reached c =
     All-kept P c.new-level.result.states.items c.keep.new.self.states.items c.settle.new.state c.in_ok-keep.ensures.members
     (subst (All P) (sym c.new-level.ensures) (All-nil P))
     (subst (λ xs. IsReachedBy c.args.config.now.bounds c.args.scripts.now xs c.settle.new.state) (sym c.note_closing.ensures.steps)
-    (subst (λ b. IsReachedBy b c.args.scripts.now c.settle.new.trail.steps.items c.settle.new.state) c.in_ok-start.ensures.bounds c.in_ok-settle.ensures.settles.reached))
+    (subst (λ b. IsReachedBy b c.args.scripts.now c.settle.new.trail.steps.items c.settle.new.state) c.in_ok-start.ensures.bounds c.in_ok-settle.ensures.reached))
 
 pub returns-clause-goes_on : goal.returns-clause-goes_on
 returns-clause-goes_on c =
-    goes-next c.args.trail.now c.settle.new.trail c.note_closing.new.trail c.in_ok-settle.ensures.settles.goes_on c.in_ok-note_closing.ensures.goes_on
+    goes-next c.args.trail.now c.settle.new.trail c.note_closing.new.trail c.in_ok-settle.ensures.goes_on c.in_ok-note_closing.ensures.goes_on
 
 pub returns-clause-leads : goal.returns-clause-leads
 returns-clause-leads c = λ fault clean.
     let bounds = c.args.config.now.bounds in
     let scripts = c.args.scripts.now in
     let start = c.in_ok-start.start in
-    let settled : Settles bounds scripts start c.settle.new.state = subst (λ b. Settles b scripts start c.settle.new.state) c.in_ok-start.ensures.bounds c.in_ok-settle.ensures.settles.settles in
+    let settled : Settles bounds scripts start c.settle.new.state = subst (λ b. Settles b scripts start c.settle.new.state) c.in_ok-start.ensures.bounds c.in_ok-settle.ensures.settles in
     (settled.clean fault (clean-among bounds scripts fault c.keep.new.self.states.items c.settle.new.state c.in_ok-keep.ensures.there clean)).each [] (IsRunOf-nil bounds scripts) c.in_ok-start.ensures.start

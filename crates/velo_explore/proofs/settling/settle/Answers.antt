@@ -16,4 +16,4 @@ pub loop-round-preserved : goal.loop-round-preserved
 loop-round-preserved c =
     let scripts = c.args.scripts.now in
     settles_by-next (bounds_of c.args.state.now.heap) scripts c.args.trail.now c.loop-round.trail c.settle_all.new.trail c.args.state.now c.loop-round.state c.settle_all.new.state c.loop-round.invariant
-    (subst (λ b. SettlesBy b scripts c.loop-round.trail c.loop-round.state c.settle_all.new.trail c.settle_all.new.state) c.loop-round.invariant.reached.same c.in_ok-settle_all.ensures.settles)
+    (subst (λ b. SettlesBy b scripts c.loop-round.trail c.loop-round.state c.settle_all.new.trail c.settle_all.new.state) c.loop-round.invariant.reached.same c.in_ok-settle_all.ensures)

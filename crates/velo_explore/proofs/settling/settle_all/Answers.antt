@@ -16,7 +16,7 @@ pub loop-thread-preserved : goal.loop-thread-preserved
 loop-thread-preserved c =
     let scripts = c.args.scripts.now in
     settles_by-next (bounds_of c.args.state.now.heap) scripts c.args.trail.now c.loop-thread.trail c.settle_thread.new.trail c.args.state.now c.loop-thread.state c.settle_thread.new.state c.loop-thread.invariant
-    (subst (λ b. SettlesBy b scripts c.loop-thread.trail c.loop-thread.state c.settle_thread.new.trail c.settle_thread.new.state) c.loop-thread.invariant.reached.same c.in_ok-settle_thread.ensures.settles)
+    (subst (λ b. SettlesBy b scripts c.loop-thread.trail c.loop-thread.state c.settle_thread.new.trail c.settle_thread.new.state) c.loop-thread.invariant.reached.same c.in_ok-settle_thread.ensures)
 
 pub settle_thread-requires-clause-thread : goal.settle_thread-requires-clause-thread
 settle_thread-requires-clause-thread c =

@@ -8,12 +8,12 @@ use Rattle.velo_explore.proofs.OnFreeEvents.{settles_free, next-reached, counted
 use Rattle.velo_explore.proofs.OnTrails.{reached-next, reached-within, settles_by-same}
 use Rattle.velo_explore.proofs.settling.settle_once.Goals as goal
 
-pub returns-then-not-is_free-clause-settles : goal.returns-then-not-is_free-clause-settles
-returns-then-not-is_free-clause-settles c =
+pub returns-then-not-is_free : goal.returns-then-not-is_free
+returns-then-not-is_free c =
     settles_by-same (bounds_of c.args.state.now.heap) c.args.scripts.now c.args.trail.now c.args.state.now c.requires.reached
 
-pub returns-in_default-clause-settles : goal.returns-in_default-clause-settles
-returns-in_default-clause-settles c =
+pub returns-in_default : goal.returns-in_default
+returns-in_default c =
     settles_by-same (bounds_of c.args.state.now.heap) c.args.scripts.now c.args.trail.now c.args.state.now c.requires.reached
 
 pub advance-requires-clause-admitted : goal.advance-requires-clause-admitted
@@ -31,8 +31,8 @@ pub advance-requires-clause-within : goal.advance-requires-clause-within
 advance-requires-clause-within c =
     reached-within (bounds_of c.args.state.now.heap) c.args.scripts.now c.args.trail.now.steps.items c.args.state.now c.requires.reached
 
-pub returns-clause-settles : goal.returns-clause-settles
-returns-clause-settles c =
+pub returns : goal.returns
+returns c =
     let bounds = bounds_of c.args.state.now.heap in
     let scripts = c.args.scripts.now in
     let t = c.args.thread.0 in

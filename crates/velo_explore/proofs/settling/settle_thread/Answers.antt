@@ -16,7 +16,7 @@ pub loop-step-preserved : goal.loop-step-preserved
 loop-step-preserved c =
     let scripts = c.args.scripts.now in
     settles_by-next (bounds_of c.args.state.now.heap) scripts c.args.trail.now c.loop-step.trail c.settle_once.new.trail c.args.state.now c.loop-step.state c.settle_once.new.state c.loop-step.invariant
-    (subst (λ b. SettlesBy b scripts c.loop-step.trail c.loop-step.state c.settle_once.new.trail c.settle_once.new.state) c.loop-step.invariant.reached.same c.in_ok-settle_once.ensures.settles)
+    (subst (λ b. SettlesBy b scripts c.loop-step.trail c.loop-step.state c.settle_once.new.trail c.settle_once.new.state) c.loop-step.invariant.reached.same c.in_ok-settle_once.ensures)
 
 pub settle_once-requires-clause-thread : goal.settle_once-requires-clause-thread
 settle_once-requires-clause-thread c = subst (λ b. c.args.thread.0 < b.threads) (sym c.loop-step.invariant.reached.same) c.requires.thread

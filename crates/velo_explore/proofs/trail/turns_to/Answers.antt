@@ -27,8 +27,8 @@ loop-from-preserved c =
       way = way-back steps c.args.place c.loop-from.from i s c.loop-from.turns.items _ next here inv.way (c.push_reserved.ensures.items ∙ ap (λ xs. xs ++ s.thread ∷ []) c.reserve.ensures.items);
     }
 
-pub returns-clause-way : goal.returns-clause-way
-returns-clause-way c =
+pub returns : goal.returns
+returns c =
     let steps = c.args.steps.now in
     let first : c.loop-from.from ≡ 0 = omega (arith, c.loop-from-test.false) in
     subst (IsWay steps c.args.place) (sym c.reverse.ensures.items) (c.loop-from.invariant.way [] (IsWay.none steps c.loop-from.from [] first refl))

@@ -6,6 +6,6 @@ use Rattle.velo_ffi.proofs.texts.put_explanation.Goals as goal
 pub returns-in-Ok-clause-told : goal.returns-in-Ok-clause-told
 returns-in-Ok-clause-told c = inl (
   c.in-Ok.page,
-  subst (λ (w : WatchState). IsExplanation w.world.log c.in-Ok.page) c.watch.view_is c.in-Ok.ensures.explains,
+  subst (λ (w : WatchState). IsExplanation w.world.log c.in-Ok.page) c.watch.view_is c.in-Ok.ensures,
   subst (λ (text : List ℕ). TellsAll text c.put_whole.result c.put_whole.new.buffer c.put_whole.new.count) c.as_slice.ensures c.put_whole.ensures.told,
 )

@@ -6,6 +6,6 @@ use Rattle.velo_ffi.proofs.texts.put_report.Goals as goal
 pub returns-in-Ok-clause-told : goal.returns-in-Ok-clause-told
 returns-in-Ok-clause-told c = inl (
   c.in-Ok.text.bytes,
-  subst (λ (w : WatchState). IsReportOf w.world c.in-Ok.text.bytes) c.watch.view_is c.in-Ok.ensures.report,
+  subst (λ (w : WatchState). IsReportOf w.world c.in-Ok.text.bytes) c.watch.view_is c.in-Ok.ensures,
   subst (λ (text : List ℕ). TellsAll text c.put_whole.result c.put_whole.new.buffer c.put_whole.new.count) c.as_slice.ensures c.put_whole.ensures.told,
 )

@@ -33,6 +33,3 @@ pub returns-clause-capacities : goal.returns-clause-capacities
 returns-clause-capacities g c =
     let all : c.loop-slot._slot ≡ c.args.limit = omega (arith, c.loop-slot-test.false, c.loop-slot.auto._slot-end) in
     c.loop-slot.invariant.1 ∙ ap (λ k. replicate k c.args.limit) all
-
-pub returns-in_err-rows-clause-memory : goal.returns-in_err-rows-clause-memory
-returns-in_err-rows-clause-memory g c = search rules

@@ -18,7 +18,7 @@ pub loop-entry-preserved : goal.loop-entry-preserved
 loop-entry-preserved c =
     record {
       so =
-          entry_added c.args.names.now c.args.found.now c.loop-entry.entry-index Nothing c.loop-entry-test.true _ _ _ _ c.loop-entry.invariant.so c.in_ok-meant.ensures.numbers
+          entry_added c.args.names.now c.args.found.now c.loop-entry.entry-index Nothing c.loop-entry-test.true _ _ _ _ c.loop-entry.invariant.so c.in_ok-meant.ensures
           (c.in_ok-add_all.ensures.ok ∙ ap (fold with_number (numbers c.loop-entry.labels.items)) c.deref.ensures.value);
       seen = c.in_ok-add_all.ensures.seen;
     }

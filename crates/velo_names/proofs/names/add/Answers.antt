@@ -11,4 +11,4 @@ insert-requires c = none_seen c.args.number c.args.names.now.entries (sym c.cont
 pub returns : goal.returns
 returns c =
     named_now c.args.names.now.entries c.args.number c.args.name.now c.args.line (sym c.contains_key.ensures ∙ c.if-contains_key.false)
-    ∙ ap Ok (sym c.in_ok-insert.ensures.names)
+    ∙ ap Ok (sym c.in_ok-insert.ensures)

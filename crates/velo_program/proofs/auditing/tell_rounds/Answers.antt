@@ -10,5 +10,5 @@ returns-in-Err g c = inr (c.in-Err.ensures.memory, refl, (refl, refl))
 pub returns-in-Ok-audit_text : goal.returns-in-Ok-audit_text
 returns-in-Ok-audit_text g c =
     inl (told_put c.args.names.now c.args.log.now.events c.args.asked.now c.args.rounds.now (left_of c.args.left.now) _ _ _
-    (c.as_slice.ensures ∙ c.in-Ok-audit_text.ensures.text) c.in-Ok.ensures.count c.requires.left c.is_found.ensures
+    (c.as_slice.ensures ∙ c.in-Ok-audit_text.ensures) c.in-Ok.ensures c.requires.left c.is_found.ensures
     (writing g.O.Sink.contents g.O.Sink.failures c.args.out.now c.print.new.out) c.print.result c.print.ensures)

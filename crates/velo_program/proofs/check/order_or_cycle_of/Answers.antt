@@ -5,8 +5,8 @@ use Rattle.velo_certify.proofs.OnOrders.{IfOk-map}
 use Rattle.velo_program.specs.Check.{IsOrderOrCycle}
 use Rattle.velo_program.proofs.check.order_or_cycle_of.Goals as goal
 
-pub returns-in-Some-clause-list : goal.returns-in-Some-clause-list
-returns-in-Some-clause-list c =
+pub returns-in-Some : goal.returns-in-Some
+returns-in-Some c =
     let position = c.in-Some.alarm.now.position in
     IfOk-map (λ v. IsShortestCycleAt c.log.result.now.events position v.items) (λ v. IsOrderOrCycle c.args.closed.now.log v.items)
     (λ v h. inr (record {
@@ -14,4 +14,4 @@ returns-in-Some-clause-list c =
       closing = c.in-Some.ensures.some.closing;
       shortest = subst (λ (log : List Event). IsShortestCycleAt log position v.items) c.log.ensures.events h;
     }))
-    c.cycle_at.result c.cycle_at.ensures.cycle
+    c.cycle_at.result c.cycle_at.ensures

@@ -17,7 +17,7 @@ returns-in_default g c =
     let evidence = c.args.evidence.now in
     rw c.in_default.is
     (inl (words_put (store g.F.Files.disk c.args.files.now c.args.files.now) None (writing g.O.Sink.contents g.O.Sink.failures c.args.out.now c.print.new.out)
-    (Some (named_picture_text c.args.names.now log evidence)) c.as_slice.result.now (named_explanation_text c.args.names.now log c.args.position evidence) true (c.as_slice.ensures ∙ c.in-Ok.ensures.ok) refl c.print.result c.print.ensures))
+    (Some (named_picture_text c.args.names.now log evidence)) c.as_slice.result.now (named_explanation_text c.args.names.now log c.args.position evidence) true (c.as_slice.ensures ∙ c.in-Ok.ensures) refl c.print.result c.print.ensures))
 
 pub returns-in-Err-picture_named : goal.returns-in-Err-picture_named
 returns-in-Err-picture_named g c = inr (c.in-Err-picture_named.ensures.memory, refl, refl, (refl, refl))
@@ -28,8 +28,8 @@ returns-in-Ok-save g c =
     let evidence = c.args.evidence.now in
     rw c.in-Some.is
     (inl (words_put (store g.F.Files.disk c.args.files.now c.save.new.files) (Some c.in-Some.path) (writing g.O.Sink.contents g.O.Sink.failures c.args.out.now c.print-in-Ok-save.new.out)
-    (Some (named_picture_text c.args.names.now log evidence)) c.as_slice-in-Ok-save.result.now (named_explanation_text c.args.names.now log c.args.position evidence) true (c.as_slice-in-Ok-save.ensures ∙ c.in-Ok.ensures.ok)
-    (saved_text (store g.F.Files.disk c.args.files.now c.save.new.files) (Some c.in-Some.path) (writing g.O.Sink.contents g.O.Sink.failures c.args.out.now c.args.out.now) _ _ (c.as_slice-2.ensures ∙ c.in-Ok-picture_named.ensures.ok) c.in-Ok-save.ensures)
+    (Some (named_picture_text c.args.names.now log evidence)) c.as_slice-in-Ok-save.result.now (named_explanation_text c.args.names.now log c.args.position evidence) true (c.as_slice-in-Ok-save.ensures ∙ c.in-Ok.ensures)
+    (saved_text (store g.F.Files.disk c.args.files.now c.save.new.files) (Some c.in-Some.path) (writing g.O.Sink.contents g.O.Sink.failures c.args.out.now c.args.out.now) _ _ (c.as_slice-2.ensures ∙ c.in-Ok-picture_named.ensures) c.in-Ok-save.ensures)
     c.print-in-Ok-save.result c.print-in-Ok-save.ensures))
 
 pub returns : goal.returns
@@ -38,4 +38,4 @@ returns g c =
     let evidence = c.args.evidence.now in
     rw c.in-Some.is
     (inl (undrawn (store g.F.Files.disk c.args.files.now c.save.new.files) (Some c.in-Some.path) (writing g.O.Sink.contents g.O.Sink.failures c.args.out.now c.args.out.now)
-    _ (named_picture_text c.args.names.now log evidence) (named_explanation_text c.args.names.now log c.args.position evidence) (Finished Done true) c.in-Err-save.fate (c.as_slice-2.ensures ∙ c.in-Ok-picture_named.ensures.ok) c.in-Err-save.ensures (refl, refl)))
+    _ (named_picture_text c.args.names.now log evidence) (named_explanation_text c.args.names.now log c.args.position evidence) (Finished Done true) c.in-Err-save.fate (c.as_slice-2.ensures ∙ c.in-Ok-picture_named.ensures) c.in-Err-save.ensures (refl, refl)))

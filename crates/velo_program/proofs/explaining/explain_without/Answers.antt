@@ -9,7 +9,7 @@ use Rattle.velo_program.proofs.explaining.explain_without.Goals as goal
 pub returns-in-Ok : goal.returns-in-Ok
 returns-in-Ok g c =
     inl (subst (λ (t : List ℕ). IsPrinted (writing g.O.Sink.contents g.O.Sink.failures c.args.out.now c.print.new.out) (printing t (Finished Done false)) c.print.result)
-    (c.as_slice.ensures ∙ c.in-Ok.ensures.ok) c.print.ensures)
+    (c.as_slice.ensures ∙ c.in-Ok.ensures) c.print.ensures)
 
 pub returns-in-Err : goal.returns-in-Err
 returns-in-Err g c = inr (c.in-Err.ensures.memory, refl, (refl, refl))

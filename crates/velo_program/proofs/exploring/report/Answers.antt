@@ -3,7 +3,7 @@ use Rattle.velo_program.proofs.OnSaving.{names_lent}
 use Rattle.velo_program.proofs.exploring.report.Goals as goal
 
 pub show_replay-told-requires-clause-names : goal.show_replay-told-requires-clause-names
-show_replay-told-requires-clause-names g c = names_lent c.args.options.now.names_target c.args.workload.now _ _ c.deref.ensures.value c.in-Ok.ensures.names
+show_replay-told-requires-clause-names g c = names_lent c.args.options.now.names_target c.args.workload.now _ _ c.deref.ensures.value c.in-Ok.ensures
 
 pub returns-in-Err : goal.returns-in-Err
 returns-in-Err g c = inr (c.in-Err.ensures.memory, refl, (refl, refl))

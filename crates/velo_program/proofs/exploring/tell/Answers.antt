@@ -15,7 +15,7 @@ returns-in-Ok g c =
     rw c.in-Some.is
     (subst (λ (behind : List ℕ). ReportsOrLacks c.args.workload.now c.args.text.now c.args.options.now c.in-Some.closed behind
     (store g.F.Files.disk c.args.files.now c.report.new.files) (writing g.O.Sink.contents g.O.Sink.failures c.args.out.now c.report.new.out) c.report.result)
-    (c.deref.ensures.value ∙ c.in-Ok.ensures.text) c.report.ensures)
+    (c.deref.ensures.value ∙ c.in-Ok.ensures) c.report.ensures)
 
 pub returns-in-Err : goal.returns-in-Err
 returns-in-Err g c = rw c.in-Some.is (inr (c.in-Err.ensures.memory, refl, (refl, refl)))

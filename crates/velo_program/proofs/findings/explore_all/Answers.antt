@@ -9,8 +9,8 @@ use Rattle.velo_program.specs.declared.told.Tried.TheVariants as how
 use Rattle.velo_program.proofs.OnFindings.{all_told}
 use Rattle.velo_program.proofs.findings.explore_all.Goals as goal
 
-pub returns-clause-told : goal.returns-clause-told
-returns-clause-told g c =
+pub returns : goal.returns
+returns g c =
     let search = c.in_ok-found.found in
     let simple = c.in_ok-events.field-0 in
     let options = c.args.options.now in
@@ -33,4 +33,4 @@ returns-clause-told g c =
     c.in_ok-events.ensures.alarm c.in_ok-events.ensures.stuck c.in_ok-events.ensures.refused c.sayable.ensures c.sayable-2.ensures c.sayable_refusal.ensures
     (subst
     (λ (s : List (Vec ThreadId)). IsBlameOf c.args.workload.now c.args.config (map (λ schedule. schedule.items) (take (most_to_blame options.first) s)) c.in_ok-blame.blame)
-    c.deref.ensures.value c.in_ok-blame.ensures.blame)
+    c.deref.ensures.value c.in_ok-blame.ensures)

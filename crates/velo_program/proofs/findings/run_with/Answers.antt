@@ -2,8 +2,8 @@ use Rattle.std.proofs.Common.{sym, ◌∙◌}
 use Rattle.std.proofs.lemmas.Bool.{false≢true}
 use Rattle.velo_program.proofs.findings.run_with.Goals as goal
 
-pub returns-then-has-clause-run : goal.returns-then-has-clause-run
-returns-then-has-clause-run c =
+pub returns-then-has : goal.returns-then-has
+returns-then-has c =
     record {
       replay = c.in_ok-closed.ensures.run;
       verdict = c.in_ok-closed.verdict;
@@ -11,8 +11,8 @@ returns-then-has-clause-run c =
       has = c.has.ensures.0 c.if-has.true;
     }
 
-pub returns-else-has-clause-run : goal.returns-else-has-clause-run
-returns-else-has-clause-run c =
+pub returns-else-has : goal.returns-else-has
+returns-else-has c =
     record {
       ended = c.in_ok-closed.ending;
       world = c.in_ok-closed.closed;

@@ -11,7 +11,7 @@ loop-number-preserved c =
     let i = c.loop-number.number-index in
     let before = take i all in
     let next = get_or all i 0 ∷ [] in
-    c.in_ok-add_id.ensures.ok
+    c.in_ok-add_id.ensures
     ∙ (ap (λ (xs : List ℕ). xs ++ ids_among next) c.loop-number.invariant
     ∙ (append_assoc c.args.ids.now.items (ids_among before) (ids_among next)
     ∙ ap (λ (xs : List ℕ). c.args.ids.now.items ++ xs) (sym (ap ids_among (take_more all i 0 c.loop-number-test.true) ∙ filter-append (λ n. nat_le n 65535) before next))))

@@ -15,7 +15,7 @@ pub show_with-fate-requires-clause-reported : goal.show_with-fate-requires-claus
 show_with-fate-requires-clause-reported g c = sym c.is_unreported.ensures ∙ c.if-is_unreported.false
 
 pub show_with-fate-requires-clause-names : goal.show_with-fate-requires-clause-names
-show_with-fate-requires-clause-names g c = names_lent c.args.options.now.names_target c.args.workload.now _ _ c.deref.ensures.value c.in-Ok.ensures.names
+show_with-fate-requires-clause-names g c = names_lent c.args.options.now.names_target c.args.workload.now _ _ c.deref.ensures.value c.in-Ok.ensures
 
 pub returns-in-Err : goal.returns-in-Err
 returns-in-Err g c = (silent Memory, inr (c.in-Err.ensures.memory, refl), (refl, refl, (refl, refl)))

@@ -8,10 +8,10 @@ loop-variable-init c = record { out = marked-start c.args.marks.now (left_of c.n
 
 pub loop-variable-preserved : goal.loop-variable-preserved
 loop-variable-preserved c = record {
-  out = marked-next c.args.marks.now c.loop-variable.variable (left_of c.loop-variable.left) (left_of c.leave_out_marked.new.left) c.in_ok-leave_out_marked.ensures.ok c.loop-variable.invariant.out;
+  out = marked-next c.args.marks.now c.loop-variable.variable (left_of c.loop-variable.left) (left_of c.leave_out_marked.new.left) c.in_ok-leave_out_marked.ensures c.loop-variable.invariant.out;
 }
 
-pub returns-clause-left : goal.returns-clause-left
-returns-clause-left c =
+pub returns : goal.returns
+returns c =
     let all : length c.args.marks.now ≤ c.loop-variable.variable = omega (arith, c.requires.count, c.loop-variable-test.false) in
     marked-all c.args.marks.now c.loop-variable.variable (left_of c.loop-variable.left) all c.loop-variable.invariant.out

@@ -10,12 +10,12 @@ use Rattle.velo_races.proofs.thinning.thin_ordered.Goals as goal
 pub thin-requires-clause-can_come_about : goal.thin-requires-clause-can_come_about
 thin-requires-clause-can_come_about c = record { bounds = c.args.config.now.bounds; well_formed = c.requires.well_formed }
 
-pub returns-clause-thinned : goal.returns-clause-thinned
-returns-clause-thinned c =
+pub returns : goal.returns
+returns c =
     let log = c.args.log.now.events in
     let marks = c.in_ok-ordered.ordered.items in
     let left = left_of c.in_ok-left.left in
-    let is = c.in_ok-left.ensures.left ∙ ap (λ xs. only no_lock (marked xs)) c.deref.ensures.value in
+    let is = c.in_ok-left.ensures ∙ ap (λ xs. only no_lock (marked xs)) c.deref.ensures.value in
     both_ok (λ (thinned : Thinned). thinned.trace.events ≡ rest_of left log) (λ (thinned : Thinned). thinned.places.items ≡ places_of left log) (IsThinned c.args.config.now.bounds log)
     (λ thinned events places. record {
       variables = marked marks;

@@ -4,14 +4,13 @@ use Rattle.std.specs.List.{flat_map, range_with_len}
 use Rattle.std.proofs.lemmas.Result.{err_from_is_err_and}
 use Rattle.velo_report.specs.Lines.{Buffers}
 use Rattle.velo_report.specs.Report.{thread_line}
-use Rattle.velo_report.specs.Told.{world_of}
 use Rattle.velo_report.proofs.OnReports.{threads-more, threads-split, later}
 use Rattle.velo_report.proofs.OnBuffering.{buffers-then, buffers-failed}
 use Rattle.velo_report.proofs.closed.add_threads.Goals as goal
 
 pub returns-in_err-add_thread-clause-err : goal.returns-in_err-add_thread-clause-err
 returns-in_err-add_thread-clause-err g c =
-    let line = thread_line c.args.names.now (world_of c.args.told.now).log in let t = c.loop-t.t in let n = (world_of c.args.told.now).config.bounds.threads in
+    let line = thread_line c.args.names.now c.args.world.now.log in let t = c.loop-t.t in let n = c.args.world.now.config.bounds.threads in
     let p = err_from_is_err_and c.from_residual.result c.from_residual.ensures.1 in
     rw p.1 (buffers-failed _ _ _ _ _ (flat_map line (range_with_len 0 t)) (line t) (later line t n) _ c.loop-t.invariant.buffers c.in_err-add_thread.ensures.err
     (threads-split line t n (omega (arith, ap (λ (b : Bounds). b.threads) c.bounds-t-end.ensures))))
@@ -19,7 +18,7 @@ returns-in_err-add_thread-clause-err g c =
 pub loop-t-preserved : goal.loop-t-preserved
 loop-t-preserved g c =
     let contents = g.S.Sink.contents in
-    let line = thread_line c.args.names.now (world_of c.args.told.now).log in let t = c.loop-t.t in
+    let line = thread_line c.args.names.now c.args.world.now.log in let t = c.loop-t.t in
     record {
       buffers = subst (Buffers (contents c.args.sink.now) (contents c.add_thread.new.sink) c.args.lines.now c.add_thread.new.lines) (threads-more line t)
           (buffers-then _ _ _ _ _ _ (flat_map line (range_with_len 0 t)) (line t) c.loop-t.invariant.buffers c.in_ok-add_thread.ensures.ok);

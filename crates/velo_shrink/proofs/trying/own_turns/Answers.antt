@@ -2,14 +2,14 @@ use Rattle.std.proofs.Common.{arith, length}
 use Rattle.velo_shrink.proofs.OnShown.{if_ok, soonest-alarm, soonest-none}
 use Rattle.velo_shrink.proofs.trying.own_turns.Goals as goal
 
-pub returns-in-Some-clause-soonest : goal.returns-in-Some-clause-soonest
-returns-in-Some-clause-soonest c =
+pub returns-in-Some : goal.returns-in-Some
+returns-in-Some c =
     if_ok c.threads_of.result
     (λ turns few. soonest-alarm c.args.goal c.args.closed.now c.alarm.result c.in-Some.alarm (length turns.items) c.in-Alarm.is c.in-Some.is c.alarm.ensures.some (omega (arith, few, c.saturating_add.ensures)))
-    c.threads_of.ensures.few
+    c.threads_of.ensures
 
-pub returns-in-None-clause-soonest : goal.returns-in-None-clause-soonest
-returns-in-None-clause-soonest c =
+pub returns-in-None : goal.returns-in-None
+returns-in-None c =
     if_ok c.threads_of-in-None.result
     (λ turns few. soonest-none c.args.goal c.args.closed.now c.alarm.result (length turns.items) c.in-Alarm.is c.in-None.is c.alarm.ensures.none)
-    c.threads_of-in-None.ensures.few
+    c.threads_of-in-None.ensures

@@ -5,7 +5,7 @@ pub returns-clause-reached : goal.returns-clause-reached
 returns-clause-reached c = in_case c.turns_if_reached-found.result (λ reaches. record {
   ending = c.in_ok-closed.ending;
   closed = c.in_ok-closed.closed;
-  replays = c.in_ok-closed.ensures.replays;
+  replays = c.in_ok-closed.ensures;
   reaches = reaches;
 }) c.turns_if_reached-found.ensures.reaches
 
@@ -13,6 +13,6 @@ pub returns-clause-misses : goal.returns-clause-misses
 returns-clause-misses c = if_ok c.turns_if_reached-found.result (λ found misses. λ n above. record {
   ending = c.in_ok-closed.ending;
   closed = c.in_ok-closed.closed;
-  replays = c.in_ok-closed.ensures.replays;
+  replays = c.in_ok-closed.ensures;
   misses = misses n above;
 }) c.turns_if_reached-found.ensures.misses

@@ -1,5 +1,5 @@
 use Rattle.velo_seal.specs.Seal.{refused}
 use Rattle.velo_thin.proofs.growth.insert.Goals as goal
 
-pub returns-in-Err-clause-memory : goal.returns-in-Err-clause-memory
-returns-in-Err-clause-memory c = refused
+pub invariant_of-result : goal.invariant_of-result
+invariant_of-result c = refused

@@ -4,8 +4,8 @@ use Rattle.velo_thin.specs.Tables.{left_of}
 use Rattle.velo_thin.proofs.OnThinned.{first_places-stays, first_of_rest-stays, first_places-goes, first_of_rest-goes}
 use Rattle.velo_thin.proofs.thinned.take_in.Goals as goal
 
-pub returns-in_ok-push-clause-stands : goal.returns-in_ok-push-clause-stands
-returns-in_ok-push-clause-stands c =
+pub returns-in_ok-push : goal.returns-in_ok-push
+returns-in_ok-push c =
     let stay = sym c.if-stays_at.ensures.stays in
     let log = c.args.events.now in
     let n = c.args.position in
@@ -16,8 +16,8 @@ returns-in_ok-push-clause-stands c =
       marks = c.if-stays_at.ensures.marks;
     }
 
-pub returns-else-stays_at-clause-stands : goal.returns-else-stays_at-clause-stands
-returns-else-stays_at-clause-stands c =
+pub returns-else-stays_at : goal.returns-else-stays_at
+returns-else-stays_at c =
     let gone = sym c.if-stays_at.ensures.stays in
     record {
       events = c.requires.stands.events ∙ first_of_rest-goes (left_of c.args.left.now) c.args.events.now c.args.position c.requires.within gone;

@@ -22,8 +22,8 @@ loop-position-init c = record {
   stands = record {
     events = c.new.ensures;
     places = c.new-2.ensures.items;
-    as_many = ap length c.in_ok-rows.ensures.rows ∙ length-replicate {A = ℕ} 256 0;
-    marks = subst (AreMarks (left_of c.args.left.now) c.as_slice-events.result.now 0) (sym c.in_ok-rows.ensures.rows) (AreMarks-start (left_of c.args.left.now) c.as_slice-events.result.now 256);
+    as_many = ap length c.in_ok-rows.ensures ∙ length-replicate {A = ℕ} 256 0;
+    marks = subst (AreMarks (left_of c.args.left.now) c.as_slice-events.result.now 0) (sym c.in_ok-rows.ensures) (AreMarks-start (left_of c.args.left.now) c.as_slice-events.result.now 256);
   };
 }
 

@@ -7,4 +7,4 @@ loop-thread-init c = no-texts (wait_text c.args.workload.now c.args.closed.now.l
 
 pub loop-thread-preserved : goal.loop-thread-preserved
 loop-thread-preserved c =
-    texts-first (wait_text c.args.workload.now c.args.closed.now.log) c.loop-thread.thread c.loop-thread.text.items c.add_wait.new.text.items c.loop-thread.invariant c.in_ok-add_wait.ensures.ok
+    texts-first (wait_text c.args.workload.now c.args.closed.now.log) c.loop-thread.thread c.loop-thread.text.items c.add_wait.new.text.items c.loop-thread.invariant c.in_ok-add_wait.ensures

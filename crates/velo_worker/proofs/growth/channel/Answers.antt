@@ -1,5 +1,5 @@
 use Rattle.velo_seal.specs.Seal.{refused}
 use Rattle.velo_worker.proofs.growth.channel.Goals as goal
 
-pub returns-in-Err : goal.returns-in-Err
-returns-in-Err g c = record { memory = refused }
+pub invariant_of-result : goal.invariant_of-result
+invariant_of-result g c = refused

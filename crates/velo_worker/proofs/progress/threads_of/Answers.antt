@@ -15,7 +15,7 @@ loop-thread-preserved c =
     let bodies = c.args.workload.now.bodies in record {
       items = c.push_reserved.ensures.items
           ∙ ap (λ xs. xs ++ c.in_ok-start.field-0 ∷ []) l.invariant.items
-          ∙ ap (λ p. map start_of (take l.thread bodies) ++ p ∷ []) c.in_ok-start.ensures.start
+          ∙ ap (λ p. map start_of (take l.thread bodies) ++ p ∷ []) c.in_ok-start.ensures
           ∙ sym (map_next start_of bodies l.thread c.body.result.now c.body.ensures.here);
       len = omega (arith, c.push_reserved.ensures.len, l.invariant.len);
       room = omega (arith, c.push_reserved.ensures.capacity, l.invariant.room);

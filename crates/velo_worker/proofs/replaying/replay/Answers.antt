@@ -6,7 +6,7 @@ use Rattle.velo_worker.proofs.replaying.replay.Goals as goal
 pub returns-clause-replays : goal.returns-clause-replays
 returns-clause-replays c = record {
   last = c.take_all_turns-ending.new.state;
-  runs = subst (λ opened. ReplaysTo opened c.args.schedule.now c.take_all_turns-ending.result c.take_all_turns-ending.new.state) c.in_ok-state.ensures.start c.take_all_turns-ending.ensures;
+  runs = subst (λ opened. ReplaysTo opened c.args.schedule.now c.take_all_turns-ending.result c.take_all_turns-ending.new.state) c.in_ok-state.ensures c.take_all_turns-ending.ensures;
   world = c.close.ensures;
 }
 

@@ -1,5 +1,5 @@
 use Rattle.std.proofs.Common.{◌≡◌, map, drop}
-use Rattle.velo_workload.specs.Building.{AreCompletedUpTo}
+use Rattle.velo_workload.proofs.Building.{AreCompletedUpTo}
 use Rattle.velo_workload.specs.Known.{known_of}
 use Rattle.velo_workload.specs.Outline.{names_in}
 use Rattle.velo_workload.proofs.bodies.complete_bodies.Given as goal

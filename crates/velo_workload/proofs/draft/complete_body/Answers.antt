@@ -2,7 +2,7 @@ use Rattle.std.proofs.Common.{◌+◌, ◌∙◌, ap, sym, subst, map, arith}
 use Rattle.velo_workload.specs.Known.{known_of}
 use Rattle.velo_workload.specs.Outline.{names_in}
 use Rattle.velo_workload.specs.Sketch.{put_of, unknown_later}
-use Rattle.velo_workload.specs.Building.{IsCompletedUpTo}
+use Rattle.velo_workload.proofs.Building.{IsCompletedUpTo}
 use Rattle.velo_workload.proofs.OnCompleting.{completed_wrong, completed_next}
 use Rattle.velo_workload.proofs.draft.complete_body.Goals as goal
 

@@ -1,4 +1,4 @@
-use Rattle.velo_workload.specs.Building.{IsCompletedUpTo}
+use Rattle.velo_workload.proofs.Building.{IsCompletedUpTo}
 use Rattle.velo_workload.specs.Known.{known_of}
 use Rattle.velo_workload.specs.Outline.{names_in}
 use Rattle.velo_workload.proofs.draft.complete_body.Given as goal

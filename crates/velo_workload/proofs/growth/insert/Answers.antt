@@ -10,5 +10,5 @@ returns-in-Ok-clause-names c = ap words_of c.in-Ok.ensures.keys ∙ insert_word 
 pub returns-in-Ok-clause-new : goal.returns-in-Ok-clause-new
 returns-in-Ok-clause-new c = c.in-Ok.ensures.added ∙ ap not (any_word c.args.names.now.keys c.args.name)
 
-pub returns-in-Err-clause-memory : goal.returns-in-Err-clause-memory
-returns-in-Err-clause-memory c = refused
+pub invariant_of-result : goal.invariant_of-result
+invariant_of-result c = refused

@@ -43,7 +43,7 @@ returns-in-Ok-assemble c =
     let are = subst (λ names. AreSketches names ps (sketches_of c.read.new.bodies)) (sym c.in-Ok.ensures.names) c.in-Ok.ensures.bodies in
     let found = bodies_found names ps (sketches_of c.read.new.bodies) _ are c.in-Ok-bodies_of.ensures.judged c.in-Ok-bodies_of.ensures.bodies in
     let all_known = sym are.fault ∙ c.in-Ok-bodies_of.ensures.judged in
-    all_right c.args.text.now names (map (λ body. body.items) c.in-Ok-bodies_of.bodies.items) c.in-Ok-assemble.workload c.in-Ok.ensures.names c.in-Ok.ensures.judged all_known found c.in-Ok-assemble.ensures.workload
+    all_right c.args.text.now names (map (λ body. body.items) c.in-Ok-bodies_of.bodies.items) c.in-Ok-assemble.workload c.in-Ok.ensures.names c.in-Ok.ensures.judged all_known found c.in-Ok-assemble.ensures
 
 pub assemble-requires-clause-nested : goal.assemble-requires-clause-nested
 assemble-requires-clause-nested c =

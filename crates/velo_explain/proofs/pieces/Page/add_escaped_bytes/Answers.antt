@@ -9,7 +9,7 @@ pub loop-byte-preserved : goal.loop-byte-preserved
 loop-byte-preserved c =
     let text = c.args.text.now in let i = c.loop-byte.byte-index in let byte = get_or text i 0 in
     let more : take (i + 1) text ≡ take i text ++ byte ∷ [] = take_more text i 0 c.loop-byte-test.true in
-    c.in_ok-add_escaped_byte.ensures.ok
+    c.in_ok-add_escaped_byte.ensures
     ∙ ap (λ (t : List ℕ). t ++ escape byte) c.loop-byte.invariant
     ∙ append_assoc c.args.self.now (flat_map escape (take i text)) (escape byte)
     ∙ ap (λ (t : List ℕ). c.args.self.now ++ t) (texts-more escape text i byte more)

@@ -5,7 +5,7 @@ use Rattle.velo_explore.specs.Free.{hold_after}
 use Rattle.velo_explore.proofs.OnNotes.{hold_after-nil}
 use Rattle.velo_explore.proofs.held.Held.none.Goals as goal
 
-pub returns-clause-locks : goal.returns-clause-locks
-returns-clause-locks c =
+pub returns : goal.returns
+returns c =
     subst (λ items. Tabulates items (hold_after [])) (sym (c.in_ok-locks.ensures.items_if_clones_equal (λ y e. e)))
     (Tabulates-replicate c.args.locks c.none.result (hold_after []) (λ m. hold_after-nil m ∙ sym c.none.ensures))

@@ -20,8 +20,8 @@ loop-thread-preserved c =
     (λ u j l below here may. noted-before (list_at old (list_of l)) (list_at new (list_of l)) u (take j (script_of scripts u)) l (c.in_ok-note_script.ensures.before (list_of l)) (c.loop-thread.invariant u j l below here may))
     (λ j l here may. subst (λ ks. IsNoted (list_at new (list_of l)) t (take j ks) l) (sym script) (c.in_ok-note_script.ensures.there j l (ap (λ ks. slice_get ks j) (sym script) ∙ here) may))
 
-pub returns-clause-noted : goal.returns-clause-noted
-returns-clause-noted c = record {
+pub returns : goal.returns
+returns c = record {
   each = λ u j k here may.
       let below = of_those (map (λ v. v.items) c.args.scripts.now) u j k here in
       let long = length-map c.args.scripts.now (λ v. v.items) in

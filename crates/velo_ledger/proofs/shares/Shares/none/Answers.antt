@@ -2,8 +2,5 @@ use Rattle.std.proofs.Common.{arith, rules}
 use Rattle.std.proofs.lemmas.Grind.{elements}
 use Rattle.velo_ledger.proofs.shares.Shares.none.Goals as goal
 
-pub returns-in_err-places-clause-memory : goal.returns-in_err-places-clause-memory
-returns-in_err-places-clause-memory c = search rules
-
 pub invariant_of-result : goal.invariant_of-result
 invariant_of-result c = grind (arith, elements)

@@ -117,5 +117,4 @@ returns-in_ok-synchronize-in_default c =
     record {
       bounds = w.bounds;
       swept = swept-synchronizing log n e (slice_get-get_or log n past c.requires.within) k.0 k.1 c.args.self.now c.synchronize.new.self c.requires.well c.requires.swept w.bounds w.noted w.count w.writes w.reads w.ordered;
-      memory = tt;
     }

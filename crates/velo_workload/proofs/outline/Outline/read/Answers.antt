@@ -3,10 +3,10 @@ use Rattle.std.specs.Prelude.{option_copied}
 use Rattle.std.specs.List.{before_first}
 use Rattle.velo_workload.specs.Words.{is_newline}
 use Rattle.velo_workload.specs.Outline.{Judges, fault_of_line, names_in, known}
-use Rattle.velo_workload.specs.Known.{IsReadUpTo, phrases_left, known_of, kept_of, with_line}
+use Rattle.velo_workload.specs.Known.{phrases_left, known_of, kept_of, with_line}
 use Rattle.velo_workload.specs.Phrase.{phrases, phrase_of}
 use Rattle.velo_workload.specs.Sketch.{sketches_of, with_phrase}
-use Rattle.velo_workload.specs.Building.{IsSketchedUpTo}
+use Rattle.velo_workload.proofs.Building.{IsReadUpTo, IsSketchedUpTo}
 use Rattle.velo_workload.proofs.OnReading.{line_wrong, line_right, all_names, few_then, longer_then, end_is, on_ok, wrong}
 use Rattle.velo_workload.proofs.OnSketches.{sketched_more, sketched_all}
 use Rattle.velo_workload.proofs.outline.Outline.read.Goals as goal
@@ -46,7 +46,7 @@ loop-rest-preserved c =
     let read-more = line_right text c.in-Some.bytes.now line more o c.take.new.self n read c.next_phrase.ensures.lines fine kept in
     let here = subst (λ r. IsSketchedUpTo all-names (phrases text) (phrases_left (option_copied r)) n (sketches_of c.loop-rest.bodies)) c.in-Some.is c.loop-rest.invariant.sketched in
     let here-line = subst (λ ls. IsSketchedUpTo all-names (phrases text) (map phrase_of ls) n (sketches_of c.loop-rest.bodies)) c.next_phrase.ensures.lines here in
-    let new-is = c.in-Ok-take.ensures.sketches ∙ ap (λ p. with_phrase (names_in (known_of c.take.new.self)) (sketches_of c.loop-rest.bodies) p (n + 1)) c.next_phrase.ensures.phrase in
+    let new-is = c.in-Ok-take.ensures ∙ ap (λ p. with_phrase (names_in (known_of c.take.new.self)) (sketches_of c.loop-rest.bodies) p (n + 1)) c.next_phrase.ensures.phrase in
     record {
       read = read-more;
       sketched = sketched_more all-names (names_in (known_of c.take.new.self)) (phrases text) (phrases_left more) (phrase_of line) n (sketches_of c.loop-rest.bodies) (sketches_of c.take-in-Some.new.self) (longer_then text more c.take.new.self (n + 1) read-more) here-line new-is;

@@ -4,8 +4,8 @@ use Rattle.velo_world.proofs.OnHandingOut.{handed-none, unborn-opening}
 use Rattle.velo_world.specs.World.{opening}
 use Rattle.velo_world.proofs.log_replay.LogReplay.new.Goals as goal
 
-pub returns-clause-start : goal.returns-clause-start
-returns-clause-start c =
+pub returns : goal.returns
+returns c =
     let config = c.args.config.now in
     record {
       short = omega arith;
@@ -14,5 +14,5 @@ returns-clause-start c =
       analysis = c.in_ok-analysis.ensures.follows;
       book = rw c.in_ok-book.ensures.book (IsBookOf-opening config);
       unborn = unborn-opening config;
-      shares = handed-none (opening config) _ _ c.in_ok-book.ensures.shares c.in_ok-shares.ensures.empty;
+      shares = handed-none (opening config) _ _ c.in_ok-book.ensures.shares c.in_ok-shares.ensures;
     }

@@ -1,9 +1,11 @@
--- How far the two passes have come with the bodies. Private contracts cite these words.
-use Rattle.std.specs.Prelude.{ℕ, ◌≡◌, ◌<◌, List, [], ◌∷◌, ◌++◌, length, map, drop, None, ⊤}
+-- How far the two passes have come with the lines and the bodies.
+use Rattle.std.specs.Prelude.{ℕ, ◌≡◌, ◌<◌, List, [], ◌∷◌, ◌++◌, length, map, drop, Option, None, ⊤}
 use Rattle.std.specs.Option.{option_to_list}
 use Rattle.velo_workload.specs.declared.statement.Statement.{Statement}
-use Rattle.velo_workload.specs.Phrase.{Phrase, Thread, Body}
-use Rattle.velo_workload.specs.Outline.{Names, first_of_two}
+use Rattle.velo_workload.specs.declared.outline.Outline.{Outline}
+use Rattle.velo_workload.specs.Phrase.{Phrase, Thread, Body, phrases}
+use Rattle.velo_workload.specs.Outline.{AreFew, Names, fault_from, first_fault, first_of_two}
+use Rattle.velo_workload.specs.Known.{kept_of, known_by, phrases_left, up_to_most, whole}
 use Rattle.velo_workload.specs.Program.{statement_of, first_unknown, body_from, bodies}
 use Rattle.velo_workload.specs.declared.draft.Later.{Later}
 use Rattle.velo_workload.specs.declared.draft.Draft.{Draft}
@@ -37,6 +39,17 @@ pub record IsSketchedUpTo (names : Names) (ps rest : List Phrase) (n : ℕ) (b :
   pub within : AreBelow (length b.current.statements) b.current.later
   pub fault : first_of_two (unknown_in_sketches names (drafted b)) (first_unknown names n rest) ≡ first_unknown names 0 ps
   pub all : unknown_in_sketches names (drafted b) ≡ None → bodies_with names (built_by names b) rest ≡ body_from names ps ∷ bodies names ps
+
+-- ---- how far the first pass has come
+
+-- n lines of the text were read without a fault, and these are left
+pub record IsReadUpTo (text : List ℕ) (rest : Option (List ℕ)) (o : Outline) (n : ℕ) : Type 0 where
+  pub before : List Phrase
+  pub is_kept : kept_of o ≡ up_to_most (whole before)
+  pub number : n ≡ length before
+  pub few : AreFew (known_by (whole before))
+  pub all : before ++ phrases_left rest ≡ phrases text
+  pub fault : fault_from before (phrases_left rest) ≡ first_fault (phrases text)
 
 -- ---- how far the second pass has come
 
