@@ -101,7 +101,7 @@ versions_agree() {
     local version file
     version=$(sed -n 's/^#define VELODROME_VERSION "\(.*\)"$/\1/p' "$top/bindings/c/velodrome.h")
     for file in CMakeLists.txt rust/Cargo.toml python/pyproject.toml python/src/velodrome/__init__.py; do
-        grep -E -i -q "version\W+$version\b" "$top/bindings/$file" || { echo "$file is not of version $version"; return 1; }
+        grep -E -q "(version|VERSION)(__)?\W+$version\b" "$top/bindings/$file" || { echo "$file is not of version $version"; return 1; }
     done
 }
 step "versions agree" versions_agree

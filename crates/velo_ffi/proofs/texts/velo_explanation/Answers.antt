@@ -7,5 +7,5 @@ pub returns-clause-told : goal.returns-clause-told
 returns-clause-told c =
     let status = c.put_explanation-status.result in let buffer = c.put_explanation-status.new.buffer in let count = c.put_explanation-status.new.count in
     let same : c.deref.result.now ≡ c.in-Some.watch.value = search rules in
-    subst (λ (kept : Option WatchState). IfSome kept (λ watch. TellsExplanation watch.world.log status buffer count)) (sym c.in-Some.ensures.some)
-    (subst (λ (w : WatchState). TellsExplanation w.world.log status buffer count) same c.put_explanation-status.ensures.told)
+    subst (λ (kept : Option WatchState). IfSome kept (λ watch. TellsExplanation c.args.names.now watch.world.log status buffer count)) (sym c.in-Some.ensures.some)
+    (subst (λ (w : WatchState). TellsExplanation c.args.names.now w.world.log status buffer count) same c.put_explanation-status.ensures.told)

@@ -7,5 +7,5 @@ pub returns-clause-told : goal.returns-clause-told
 returns-clause-told c =
     let status = c.put_report-status.result in let buffer = c.put_report-status.new.buffer in let count = c.put_report-status.new.count in
     let same : c.deref.result.now ≡ c.in-Some.watch.value = search rules in
-    subst (λ (kept : Option WatchState). IfSome kept (λ watch. TellsReport watch.world status buffer count)) (sym c.in-Some.ensures.some)
-    (subst (λ (w : WatchState). TellsReport w.world status buffer count) same c.put_report-status.ensures.told)
+    subst (λ (kept : Option WatchState). IfSome kept (λ watch. TellsReport c.args.names.now watch.world status buffer count)) (sym c.in-Some.ensures.some)
+    (subst (λ (w : WatchState). TellsReport c.args.names.now w.world status buffer count) same c.put_report-status.ensures.told)
