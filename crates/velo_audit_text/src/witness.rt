@@ -2,86 +2,33 @@
 ghost use Rattle.std.specs.Prelude.{◌≡◌, ◌≤◌, ◌<◌, ◌++◌, length, OnOk};
 ghost use Rattle.std.specs.List.{flat_map};
 ghost use Rattle.velo_events.specs.declared.limits.TheConstants.{MOST_EVENTS};
-ghost use Rattle.velo_explain.specs.Evidence.{AreSpansWithin, AreEdgesWithin, AreBlamesWithin, IsWithin};
+ghost use Rattle.velo_explain.specs.Evidence.{AreEdgesWithin, IsWithin};
 ghost use Rattle.velo_explain.specs.Text.{line_of, numbered, next_number};
-ghost use Rattle.velo_audit_text.specs.Witness.{closing_text, member_text, stack_at, in_block_text, event_line_text, event_in_blocks_text, order_text, edge_text, blame_text, witness_text, FewAreOpen};
+ghost use Rattle.velo_audit_text.specs.Witness.{closing_text, stack_at, in_block_text, event_line_text, event_in_blocks_text, order_text, edge_text, witness_text, FewAreOpen};
 
 use std::alloc::Global;
 use velo_certify::EdgeEvents;
 use velo_events::{Event, MOST_EVENTS, Memory};
-use velo_explain::{Blame, Evidence, Page, Piece, Span, line_of, next_number};
+use velo_explain::{
+    Evidence, Page, Piece, add_heading, add_members, add_reasons, line_of, next_number,
+};
 use velo_names::{NameKind, Names};
 use velo_traces::{Block, open_blocks_in};
 
 /// Adds the closing event.
-#[tactic(auto, unfolding(crate::specs::Witness::closing_text))]
 fn add_closing(
     page: &mut Page,
+    names: &Names,
     events: &[Event],
     position: usize,
     count: usize,
 ) -> Result<(), Memory>
     requires within { position < length events.now }
     requires few { length events.now ≤ MOST_EVENTS }
-    ensures { OnOk result (page.new ≡ page.old ++ closing_text events.now position count) }
+    ensures { OnOk result (page.new ≡ page.old ++ closing_text names.now events.now position count) }
 {
-    page.add(&[
-        Piece::Text("  line "),
-        Piece::Number(line_of(position)),
-        Piece::Text(" `"),
-        Piece::Words(events[position]),
-        Piece::Text("` closes a cycle of "),
-        Piece::Number(count as u64),
-        Piece::Text(" transactions\n"),
-    ])
-}
-
-/// Adds a transaction of the cycle.
-#[tactic(auto, unfolding(crate::specs::Witness::member_text))]
-fn add_member(
-    page: &mut Page,
-    names: &Names,
-    events: &[Event],
-    k: usize,
-    span: Span,
-) -> Result<(), Memory>
-    requires first { span.first < length events.now }
-    requires last { span.last < length events.now }
-    requires few { length events.now ≤ MOST_EVENTS }
-    requires place { k < usize.MAX }
-    ensures { OnOk result (page.new ≡ page.old ++ member_text names.now events.now k span) }
-{
-    let first = events[span.first];
-    page.add(&[
-        Piece::Text("  T"),
-        Piece::Number(k as u64 + 1),
-        Piece::Text(": thread "),
-        Piece::Number(u64::from(first.thread.0)),
-        Piece::ThreadName(names, first.thread),
-        Piece::Text(", "),
-        Piece::Block(first.kind),
-        Piece::BlockName(names, first.kind),
-        Piece::Text(", "),
-        Piece::Lines(line_of(span.first), line_of(span.last)),
-        Piece::Text("\n"),
-    ])
-}
-
-/// Adds the transactions of the cycle.
-fn add_members(
-    page: &mut Page,
-    names: &Names,
-    events: &[Event],
-    spans: &[Span],
-) -> Result<(), Memory>
-    requires within { AreSpansWithin (length events.now) spans.now }
-    requires few { length events.now ≤ MOST_EVENTS }
-    ensures { OnOk result (page.new ≡ page.old ++ numbered (member_text names.now events.now) 0 spans.now) }
-{
-    for k in 0..spans.len() {
-        add_member(page, names, events, k, spans[k])?;
-    }
-    Ok(())
+    page.add(&[Piece::Text("  ")])?;
+    add_heading(page, names, events, position, count)
 }
 
 /// Adds a block around an event.
@@ -125,17 +72,24 @@ fn add_stack(
 
 /// Adds the line of an event.
 #[tactic(auto, unfolding(crate::specs::Witness::event_line_text))]
-fn add_event_line(page: &mut Page, events: &[Event], position: usize) -> Result<(), Memory>
+fn add_event_line(
+    page: &mut Page,
+    names: &Names,
+    events: &[Event],
+    position: usize,
+) -> Result<(), Memory>
     requires within { position < length events.now }
     requires few { length events.now ≤ MOST_EVENTS }
-    ensures { OnOk result (page.new ≡ page.old ++ event_line_text events.now position) }
+    ensures { OnOk result (page.new ≡ page.old ++ event_line_text names.now events.now position) }
 {
     page.add(&[
         Piece::Text("    line "),
         Piece::Number(line_of(position)),
         Piece::Text(" `"),
         Piece::Words(events[position]),
-        Piece::Text("`\n"),
+        Piece::Text("`"),
+        Piece::KindName(names, events[position].kind),
+        Piece::Text("\n"),
     ])
 }
 
@@ -152,7 +106,7 @@ fn add_event(
     requires open { FewAreOpen events.now }
     ensures { OnOk result (page.new ≡ page.old ++ event_in_blocks_text names.now events.now position) }
 {
-    add_event_line(page, events, position)?;
+    add_event_line(page, names, events, position)?;
     add_stack(page, names, alloc, events, position)
 }
 
@@ -212,56 +166,6 @@ fn add_edges(
     Ok(())
 }
 
-/// Adds a block to blame, and why.
-#[tactic(auto, unfolding(crate::specs::Witness::blame_text))]
-fn add_blame(
-    page: &mut Page,
-    names: &Names,
-    events: &[Event],
-    position: usize,
-    blame: Blame,
-) -> Result<(), Memory>
-    requires position { position < length events.now }
-    requires first { blame.block.first < length events.now }
-    requires witness { blame.witness < length events.now }
-    requires few { length events.now ≤ MOST_EVENTS }
-    ensures { OnOk result (page.new ≡ page.old ++ blame_text names.now events.now position blame) }
-{
-    page.add(&[
-        Piece::Text("  block "),
-        Piece::Number(u64::from(blame.block.label.0)),
-        Piece::Name(names.name_of(NameKind::Label, blame.block.label.0)),
-        Piece::Text(", from line "),
-        Piece::Number(line_of(blame.block.first)),
-        Piece::Text(": line "),
-        Piece::Number(line_of(blame.witness)),
-        Piece::Text(" `"),
-        Piece::Words(events[blame.witness]),
-        Piece::Text("` must come after its begin and before line "),
-        Piece::Number(line_of(position)),
-        Piece::Text("\n"),
-    ])
-}
-
-/// Adds the blocks to blame.
-fn add_blames(
-    page: &mut Page,
-    names: &Names,
-    events: &[Event],
-    position: usize,
-    blames: &[Blame],
-) -> Result<(), Memory>
-    requires position { position < length events.now }
-    requires within { AreBlamesWithin (length events.now) blames.now }
-    requires few { length events.now ≤ MOST_EVENTS }
-    ensures { OnOk result (page.new ≡ page.old ++ flat_map (blame_text names.now events.now position) blames.now) }
-{
-    for k in 0..blames.len() {
-        add_blame(page, names, events, position, blames[k])?;
-    }
-    Ok(())
-}
-
 /// Adds the witness of a round whose closing event stands at the position.
 pub(crate) fn add_witness(
     page: &mut Page,
@@ -276,8 +180,8 @@ pub(crate) fn add_witness(
     requires open { FewAreOpen events.now }
     ensures { OnOk result (page.new ≡ page.old ++ witness_text names.now events.now position evidence.now) }
 {
-    add_closing(page, events, position, evidence.spans.len())?;
+    add_closing(page, names, events, position, evidence.spans.len())?;
     add_members(page, names, events, &evidence.spans)?;
     add_edges(page, names, alloc, events, &evidence.edges)?;
-    add_blames(page, names, events, position, &evidence.blames)
+    add_reasons(page, names, events, position, &evidence.blames)
 }

@@ -18,5 +18,5 @@ pub use evidence::{Blame, Evidence, evidence_of};
 pub use fitting::{LEAST_LANE, SCREEN_LANES, SCREEN_LINES};
 pub use pieces::{Page, Piece};
 pub use spans::Span;
-pub use words::{line_of, next_number};
+pub use words::{add_heading, add_members, add_reasons, line_of, next_number};
 pub use writing::{explain, explain_clean, explain_named, picture, picture_named};

@@ -2,6 +2,7 @@
 ghost use Rattle.std.specs.Prelude.{◌≡◌, ◌≤◌, ◌<◌, ◌++◌, length, IfOk, OnOk};
 ghost use Rattle.velo_events.specs.declared.limits.TheConstants.{MOST_EVENTS};
 ghost use Rattle.velo_explain.specs.Evidence.{AreSpansWithin, AreEdgesWithin, AreBlamesWithin, IsWithin};
+ghost use Rattle.std.specs.List.{flat_map};
 ghost use Rattle.velo_explain.specs.Lanes.{lanes_text};
 ghost use Rattle.velo_explain.specs.Text.{line_of, numbered, alarm_text, heading_text, member_text, next_number, edge_text, blame_text, to_blame_text, nobody_text, order_text, blames_text, words_text, named_explanation_text, clean_text};
 
@@ -11,8 +12,8 @@ use crate::pieces::{Page, Piece};
 use crate::spans::Span;
 use std::alloc::Global;
 use velo_certify::EdgeEvents;
-use velo_events::{Event, Kind, MOST_EVENTS, Memory};
-use velo_names::Names;
+use velo_events::{Event, MOST_EVENTS, Memory};
+use velo_names::{NameKind, Names};
 
 /// The number of the line on which a position stands, behind the header on line 1.
 pub fn line_of(position: usize) -> u64
@@ -39,9 +40,12 @@ fn add_alarm(page: &mut Page) -> Result<(), Memory>
     Ok(())
 }
 
-/// Adds the closing event.
+/// Adds the line that says which event closes the cycle, and of how many transactions it is.
+///
+/// # Errors
+/// `Memory` if an allocation failed; the page is then no longer to be used.
 #[tactic(auto, unfolding(crate::specs::Text::heading_text))]
-fn add_heading(
+pub fn add_heading(
     page: &mut Page,
     names: &Names,
     events: &[Event],
@@ -57,11 +61,11 @@ fn add_heading(
         Piece::Number(line_of(position)),
         Piece::Text(" `"),
         Piece::Words(events[position]),
-        Piece::Text("` closes a cycle of "),
-        Piece::Number(count as u64),
-        Piece::Text(" transactions:"),
+        Piece::Text("`"),
         Piece::KindName(names, events[position].kind),
-        Piece::Text("\n"),
+        Piece::Text(" closes a cycle of "),
+        Piece::Number(count as u64),
+        Piece::Text(" transactions:\n"),
     ])
 }
 
@@ -86,18 +90,21 @@ fn add_member(
         Piece::Number(k as u64 + 1),
         Piece::Text(": thread "),
         Piece::Number(u64::from(first.thread.0)),
+        Piece::ThreadName(names, first.thread),
         Piece::Text(", "),
         Piece::Block(first.kind),
+        Piece::BlockName(names, first.kind),
         Piece::Text(", "),
         Piece::Lines(line_of(span.first), line_of(span.last)),
-        Piece::ThreadName(names, first.thread),
-        Piece::BlockName(names, first.kind),
         Piece::Text("\n"),
     ])
 }
 
-/// Adds the transactions of the cycle.
-fn add_members(
+/// Adds a line for each transaction of the cycle.
+///
+/// # Errors
+/// `Memory` if an allocation failed; the page is then no longer to be used.
+pub fn add_members(
     page: &mut Page,
     names: &Names,
     events: &[Event],
@@ -138,7 +145,9 @@ fn add_edge(
         Piece::Number(line_of(edge.from)),
         Piece::Text(" `"),
         Piece::Words(events[edge.from]),
-        Piece::Text("`, then line "),
+        Piece::Text("`"),
+        Piece::KindName(names, events[edge.from].kind),
+        Piece::Text(", then line "),
         Piece::Number(line_of(edge.to)),
         Piece::Text(" `"),
         Piece::Words(events[edge.to]),
@@ -183,15 +192,17 @@ fn add_blame(
     page.add(&[
         Piece::Text("  block "),
         Piece::Number(u64::from(blame.block.label.0)),
+        Piece::Name(names.name_of(NameKind::Label, blame.block.label.0)),
         Piece::Text(", from line "),
         Piece::Number(line_of(blame.block.first)),
         Piece::Text(": line "),
         Piece::Number(line_of(blame.witness)),
         Piece::Text(" `"),
         Piece::Words(events[blame.witness]),
-        Piece::Text("` must come after its begin and before line "),
+        Piece::Text("`"),
+        Piece::KindName(names, events[blame.witness].kind),
+        Piece::Text(" must come after its begin and before line "),
         Piece::Number(line_of(position)),
-        Piece::BlockName(names, Kind::Begin(blame.block.label)),
         Piece::Text("\n"),
     ])
 }
@@ -221,11 +232,9 @@ fn add_to_blame(
     page.add(&[
         Piece::Text("To blame in thread "),
         Piece::Number(u64::from(events[position].thread.0)),
-        Piece::Text(":"),
         Piece::ThreadName(names, events[position].thread),
-        Piece::Text("\n"),
-    ])?;
-    Ok(())
+        Piece::Text(":\n"),
+    ])
 }
 
 /// Adds what an edge is.
@@ -234,6 +243,28 @@ fn add_order(page: &mut Page) -> Result<(), Memory>
     ensures { OnOk result (page.new ≡ page.old ++ order_text) }
 {
     page.add(&[Piece::Text("Each must come before the next, and the last before the first:\n")])?;
+    Ok(())
+}
+
+/// Adds a line for each block to blame, with the event that cannot be moved out of it.
+///
+/// # Errors
+/// `Memory` if an allocation failed; the page is then no longer to be used.
+pub fn add_reasons(
+    page: &mut Page,
+    names: &Names,
+    events: &[Event],
+    position: usize,
+    blames: &[Blame],
+) -> Result<(), Memory>
+    requires position { position < length events.now }
+    requires within { AreBlamesWithin (length events.now) blames.now }
+    requires few { length events.now ≤ MOST_EVENTS }
+    ensures { OnOk result (page.new ≡ page.old ++ flat_map (blame_text names.now events.now position) blames.now) }
+{
+    for k in 0..blames.len() {
+        add_blame(page, names, events, position, blames[k])?;
+    }
     Ok(())
 }
 
@@ -254,10 +285,7 @@ fn add_blames(
         return add_nobody(page);
     }
     add_to_blame(page, names, events, position)?;
-    for k in 0..blames.len() {
-        add_blame(page, names, events, position, blames[k])?;
-    }
-    Ok(())
+    add_reasons(page, names, events, position, blames)
 }
 
 /// Adds the words of an alarm at a position.

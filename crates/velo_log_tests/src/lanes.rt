@@ -83,7 +83,7 @@ The blocks of this log cannot be serialized.
       11                                                  rd 1 1 aaaaaaaaaaaaé..
       12                                                  wr 2 1 exactly fifteen
       13  rd 2 1 exactly fifteen
-Line 13 `0 rd 2 1` closes a cycle of 3 transactions: exactly fifteen
+Line 13 `0 rd 2 1` exactly fifteen closes a cycle of 3 transactions:
 ",
         dot: false,
     };
@@ -119,7 +119,7 @@ The blocks of this log cannot be serialized.
       .. 2 lines ..
       10                                      rel 0 table
       11  acq 0 table
-Line 11 `0 acq 0` closes a cycle of 2 transactions: table
+Line 11 `0 acq 0` table closes a cycle of 2 transactions:
 ",
         dot: false,
     };
@@ -194,7 +194,7 @@ The blocks of this log cannot be serialized.
       33                                                              wr 5 1 abc
       .. 1 line ..
       35  rd 5 1 abc
-Line 35 `0 rd 5 1` closes a cycle of 6 transactions: abc
+Line 35 `0 rd 5 1` abc closes a cycle of 6 transactions:
 ",
         dot: false,
     };

@@ -17,7 +17,7 @@ const CLEAN: &str = "vlog 1 1 0 0\n0 begin 7\n0 end\n";
 
 const WITNESS: &str = "\
 not atomic 7 flush\n  \
-line 6 `0 wr 0 1` closes a cycle of 2 transactions\n  \
+Line 6 `0 wr 0 1` closes a cycle of 2 transactions:\n  \
 T1: thread 0 main, block 7 flush, lines 3 to 6\n  \
 T2: thread 1, outside blocks, line 5\n  \
 T1 before T2:\n    \

@@ -5,6 +5,7 @@ use Rattle.velo_events.specs.Block.{owner}
 use Rattle.velo_certify.proofs.OnSerial.{positions_below, below-own, below-first}
 use Rattle.velo_certify.proofs.OnThreads.{Follows-start, Follows-next, below-next, Follows-end, below-end}
 use Rattle.velo_certify.proofs.serial.append_positions.Goals as goal
+use Rattle.velo_certify.proofs.serial.append_positions.Goals.{then-loop-at-test+else-owner_of-a, else-loop-at-test}
 
 pub loop-at-init : goal.loop-at-init
 loop-at-init c = record {
@@ -25,20 +26,11 @@ loop-at-preserved c =
           ∙ ap (λ xs. old ++ xs) (sym (below-own trace a n own) ∙ sym (below-next trace a n k c.requires.transaction w c.loop-at-test.true own next))));
     }
 
-pub returns-else-owner_of-a : goal.returns-else-owner_of-a
-returns-else-owner_of-a c =
+pub returns-clause-ok : goal.returns-clause-ok
+returns-clause-ok c =
     let trace = c.args.events.now in let a = c.args.a in let n = c.loop-at.at in
-    let w = c.loop-at.invariant.follows in
-    record {
-      ok = c.loop-at.invariant.items ∙ ap (λ xs. c.args.order.now.items ++ xs) (below-end trace a n n c.requires.transaction w (λ _ own. c.if-owner_of-a.false (c.owner_of.ensures.owner ∙ own)));
-      behind = Follows-end trace a n n c.requires.transaction w (λ _ own. c.if-owner_of-a.false (c.owner_of.ensures.owner ∙ own));
-    }
-
-pub returns-after-loop-at : goal.returns-after-loop-at
-returns-after-loop-at c =
-    let trace = c.args.events.now in let a = c.args.a in let n = c.loop-at.at in
-    let w = c.loop-at.invariant.follows in
-    record {
-      ok = c.loop-at.invariant.items ∙ ap (λ xs. c.args.order.now.items ++ xs) (below-end trace a n n c.requires.transaction w (λ l. absurd (omega (arith, l, c.loop-at-test.false))));
-      behind = Follows-end trace a n n c.requires.transaction w (λ l. absurd (omega (arith, l, c.loop-at-test.false)));
-    }
+    c.loop-at.invariant.items ∙ ap (λ xs. c.args.order.now.items ++ xs) (below-end trace a n n c.requires.transaction c.loop-at.invariant.follows (λ l own.
+    elim c.loop-at-test.branch [
+      then-loop-at-test+else-owner_of-a w ↦ w.if-owner_of-a.false (w.owner_of.ensures.owner ∙ own)
+      | else-loop-at-test w ↦ omega (arith, l, w.loop-at-test.false)
+    ]))

@@ -3,4 +3,4 @@ use Rattle.velo_explain.proofs.words.add_to_blame.Goals as goal
 
 pub returns : goal.returns
 unfolding to_blame_text
-returns c = rw c.from.ensures at c.in_ok-add.ensures
+returns c = rw c.from.ensures at c.add.ensures
