@@ -31,9 +31,7 @@ const char *velodrome_strerror(velodrome_status status) {
         [VELODROME_BAD_NUMBER] = "a number is out of its range",
         [VELODROME_NO_MEMORY] = "out of memory",
         [VELODROME_TOO_SHORT] = "the buffer is too short",
-        [VELODROME_BAD_NAMES] = "the names have a fault",
-        [VELODROME_IN_BLOCK] = "a block is open",
-        [VELODROME_ALARMED] = "there is an alarm"};
+        [VELODROME_BAD_NAMES] = "the names have a fault"};
     unsigned at = (unsigned)status;
     return at < sizeof words / sizeof *words && words[at] ? words[at] : "unknown status";
 }
@@ -108,8 +106,6 @@ velodrome_status velodrome_join(velodrome *monitor, uint32_t thread, uint32_t ch
 velodrome_status velodrome_exit(velodrome *monitor, uint32_t thread, velodrome_answer *answer) {
     return CALL(velo_exit(monitor, thread, TOLD));
 }
-
-velodrome_status velodrome_renew(velodrome *monitor) { return CALL(velo_renew(monitor)); }
 
 /* ---- what is told of them */
 

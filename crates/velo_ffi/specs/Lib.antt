@@ -6,4 +6,3 @@ pub mod Texts
 pub mod Numbers
 pub mod Answers
 pub mod Pieces
-pub mod Renewal

@@ -13,7 +13,6 @@ mod live;
 mod logs;
 mod monitor;
 mod numbers;
-mod renewal;
 mod texts;
 mod verdicts;
 mod watch;
