@@ -19,7 +19,8 @@ PARTS = [
     ("Traces, and what is meant by atomic", {
         "velo_events": "Event Conflict* Heap Meaning* WellFormed* Block* Graph* Reordering* Certificate* Collection* Refusals*"}),
     ("Texts", {
-        "velo_logtext": "Text* Finding Device",
+        "velo_bytes": "Device Parsing",
+        "velo_logtext": "Text* Finding",
         "velo_names": "Names Line Fault",
         "velo_workload": "Program Names Phrase Words Bodies"}),
     ("A run and its world", {

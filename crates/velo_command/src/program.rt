@@ -21,8 +21,8 @@ use std::convert::AsStr;
 use std::io;
 use std::sync::Wait;
 use std::thread::Threads;
+use velo_bytes::Sink;
 use velo_events::Memory;
-use velo_logtext::Sink;
 use velo_program::{ExploreProgress, Fate, Files, do_request, end_with};
 
 /// Does what the words ask for, with reports and help on the one sink and all else on the other, and answers the status

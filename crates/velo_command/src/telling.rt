@@ -11,8 +11,8 @@ use crate::growth::text_of;
 use clap::Error;
 use clap::error::ErrorKind;
 use std::alloc::Global;
+use velo_bytes::{Sink, write_all};
 use velo_events::Memory;
-use velo_logtext::{Sink, write_all};
 use velo_program::status::{DONE, FAILED};
 use velo_program::{Fate, end_with};
 

@@ -12,7 +12,7 @@ ghost use Rattle.velo_command.specs.Usage.{bad_usage};
 use crate::telling::tell_fault;
 use clap::ArgMatches;
 use clap::parser::ValueSource;
-use velo_logtext::Sink;
+use velo_bytes::Sink;
 use velo_program::{ExploreOptions, RandomRuns, ReplayOptions, Request, ScheduleSource};
 
 /// Why the options of a request do not go together.

@@ -1,7 +1,6 @@
 pub mod OnLists
 pub mod OnResults
 pub mod OnTests
-pub mod OnNumbers
 pub mod OnFilling
 pub mod OnTraces
 pub mod OnBlocks

@@ -4,8 +4,8 @@ ghost use Rattle.velo_explain.specs.Fitting.{spaces, right_text, begins_characte
 ghost use Rattle.velo_explain.specs.Lanes.{room_of};
 
 use crate::pieces::Page;
+use velo_bytes::put_number;
 use velo_events::Memory;
-use velo_logtext::put_number;
 
 /// The most lines of a picture in lanes that shows more than the events of its cycle.
 pub const SCREEN_LINES: usize = 24;

@@ -9,8 +9,9 @@ ghost use Rattle.velo_names.specs.declared.kind.NameKind.TheVariants as of_name;
 
 use std::alloc::Global;
 use std::marker::Model;
+use velo_bytes::{append, append_number};
 use velo_events::{Event, Kind, Memory, ThreadId};
-use velo_logtext::{append, append_number, put_kind};
+use velo_logtext::put_kind;
 use velo_names::{NameKind, Names};
 
 /// A piece of text.

@@ -1,8 +1,9 @@
 -- Ways stay where more events come behind them, and lead to one list of turns.
-use Rattle.std.proofs.Common.{◌≡◌, ℕ, ◌+◌, ◌≤◌, List, [], ◌∷◌, ◌++◌, take, append_assoc, append-nil, length, length-append, reverse, Option, Some, None, refl, sym, ap, ◌∙◌, subst, arith, ⊎_elim, inl, inr}
-use Rattle.std.specs.Prelude.{◌⊎◌, not, ◌&&◌, ◌||◌, Bool, true, false, All, Contains, is_some, IfSome, IsTrue, slice_get}
-use Rattle.std.proofs.lemmas.Bool.{and_parts, and_from, not-true, cases_lt, cases_Bool, false≢true}
+use Rattle.std.proofs.Common.{◌≡◌, ℕ, ◌+◌, ◌<◌, ◌≤◌, List, [], ◌∷◌, ◌++◌, take, append_assoc, append-nil, length, length-append, reverse, Option, Some, None, refl, sym, ap, ◌∙◌, subst, arith, ⊎_elim, inl, inr}
+use Rattle.std.specs.Prelude.{◌⊎◌, nat_lt, not, ◌&&◌, ◌||◌, Bool, true, false, All, Contains, is_some, IfSome, IsTrue, slice_get}
+use Rattle.std.proofs.lemmas.Bool.{and_parts, and_from, not-true, cases_lt, cases_Bool, lt-ltb, false≢true}
 use Rattle.std.proofs.lemmas.List.{map-append, reverse-append}
+use Rattle.std.proofs.lemmas.List.Elements.{All-nil, All-push}
 use Rattle.std.proofs.Math.Seq.{take-append_seam}
 use Rattle.std.proofs.lemmas.Option.{same_Some, slice_get_within}
 use Rattle.velo_events.proofs.OnTraces.{slice_get-append, slice_get-push}
@@ -11,6 +12,7 @@ use Rattle.velo_events.specs.declared.event.Event.{Event}
 use Rattle.velo_events.specs.declared.event.Kind.{Kind}
 use Rattle.velo_events.specs.declared.event.ThreadId.{ThreadId}
 use Rattle.velo_heap.specs.Contents.{bounds_of}
+use Rattle.velo_explore.specs.declared.schedules.TheConstants.{MOST_ALARMS}
 use Rattle.velo_explore.specs.declared.state.State.{State}
 use Rattle.velo_explore.specs.declared.step.Step.{Step}
 use Rattle.velo_explore.specs.Runs.{IsRunOf, IsNext}
@@ -21,7 +23,7 @@ use Rattle.velo_explore.specs.declared.trail.Trail.{Trail}
 use Rattle.velo_explore.specs.Faults.{Fault, Cycle, Stuck, Refusing, IsFault}
 use Rattle.velo_explore.specs.Told.{foremost, nothing}
 use Rattle.velo_explore.specs.Search.{IsReached, has_fault}
-use Rattle.velo_explore.specs.Trail.{IsReachedBy, LeadsTo, turns_of, turns_for, GoesOn, SettlesBy, NotesTurns, AreShown}
+use Rattle.velo_explore.specs.Trail.{IsReachedBy, LeadsTo, turns_of, turns_for, alarms_of, AlarmsGoOn, IsNoted, NotesAlarm, GoesOn, SettlesBy, NotesTurns, AreShown}
 use Rattle.velo_explore.proofs.OnRuns.{IsRunOf-next, IsRunOf-nil}
 use Rattle.velo_explore.proofs.OnKept.{All-kept}
 use Rattle.velo_explore.proofs.OnFreeEvents.{settles_same, settles_next}
@@ -159,14 +161,15 @@ module _ (bounds : Bounds) (scripts : List (List Kind)) where
 pub notes-steps : (one other : List Step) → one ≡ other → (place : ℕ) (before after : Bool) (was now : Option (List ThreadId)) → Notes one place before after was now → Notes other place before after was now
 notes-steps one other same place before after was now notes = subst (λ xs. Notes xs place before after was now) same notes
 
-pub notes-by : (old : Trail) (place : ℕ) (before given after : Found) (now : Trail) → now.steps.items ≡ old.steps.items → now.first ≡ old.first →
+pub notes-by : (old : Trail) (place : ℕ) (before given after : Found) (now : Trail) → now.steps.items ≡ old.steps.items → now.first ≡ old.first → alarms_of now.shown ≡ alarms_of old.shown →
     ((fault : Fault) → has_fault after fault ≡ true → has_fault given fault ≡ true) → (old.first ≡ false → after ≡ given) →
     Notes old.steps.items place before.alarm after.alarm (turns_for old.shown Cycle) (turns_for now.shown Cycle) →
     Notes old.steps.items place before.stuck after.stuck (turns_for old.shown Stuck) (turns_for now.shown Stuck) →
     Notes old.steps.items place before.refused after.refused (turns_for old.shown Refusing) (turns_for now.shown Refusing) → NotesTurns old place before given now
-notes-by old place before given after now steps first told all alarm stuck refused = record {
+notes-by old place before given after now steps first alarms told all alarm stuck refused = record {
   steps = steps;
   first = first;
+  alarms = alarms;
   turns = λ fault. ⊎_elim
       (λ fresh.
       let both = and_parts (has_fault after fault) (not (has_fault before fault)) fresh in
@@ -189,6 +192,66 @@ foremost-told found Refusing h = (and_parts found.refused (not (found.alarm || f
 
 -- ---- trails that go on
 
+pub alarms-same : (bounds : Bounds) (scripts : List (List Kind)) (old now : Trail) → alarms_of now.shown ≡ alarms_of old.shown → AlarmsGoOn bounds scripts old now
+alarms-same bounds scripts old now same = record {
+  lead = λ all. subst (All (LeadsTo bounds scripts Cycle)) (sym same) all;
+  more = omega (arith, ap length same);
+  few = λ l. subst (λ xs. length xs ≤ MOST_ALARMS) (sym same) l;
+  none = λ first. same;
+}
+
+pub alarms-next : (bounds : Bounds) (scripts : List (List Kind)) (one two three : Trail) → two.first ≡ one.first → AlarmsGoOn bounds scripts one two → AlarmsGoOn bounds scripts two three → AlarmsGoOn bounds scripts one three
+alarms-next bounds scripts one two three same here there = record {
+  lead = λ all. there.lead (here.lead all);
+  more = omega (arith, here.more, there.more);
+  few = λ l. there.few (here.few l);
+  none = λ first. there.none (same ∙ first) ∙ here.none first;
+}
+
+-- one more is noted, to a state with a cycle
+pub alarms-note : (bounds : Bounds) (scripts : List (List Kind)) (old now : Trail) (state : State) → IsReachedBy bounds scripts old.steps.items state → state.marks.alarmed ≡ true → NotesAlarm old state.place now → AlarmsGoOn bounds scripts old now
+alarms-note bounds scripts old now state r alarmed notes = record {
+  lead = λ all. lead all notes.alarms;
+  more = more notes.alarms;
+  few = notes.few;
+  none = notes.none;
+}
+  where
+    lead : All (LeadsTo bounds scripts Cycle) (alarms_of old.shown) → (alarms_of now.shown ≡ alarms_of old.shown) ⊎ ((turns : List ThreadId) × (alarms_of now.shown ≡ alarms_of old.shown ++ turns ∷ []) × IsWay old.steps.items state.place turns) → All (LeadsTo bounds scripts Cycle) (alarms_of now.shown)
+    lead all (inl same) = subst (All (LeadsTo bounds scripts Cycle)) (sym same) all
+    lead all (inr (turns, is, way)) = subst (All (LeadsTo bounds scripts Cycle)) (sym is) (All-push (LeadsTo bounds scripts Cycle) (alarms_of old.shown) turns all (record {
+      log = r.log;
+      run = r.run;
+      by = way-one old.steps.items state.place (turns_of r.log) turns r.way way;
+      bad = r.stands.graph.alarmed.0 alarmed;
+    }))
+
+    more : (alarms_of now.shown ≡ alarms_of old.shown) ⊎ ((turns : List ThreadId) × (alarms_of now.shown ≡ alarms_of old.shown ++ turns ∷ []) × IsWay old.steps.items state.place turns) → length (alarms_of old.shown) ≤ length (alarms_of now.shown)
+    more (inl same) = omega (arith, ap length same)
+    more (inr (turns, is, way)) = omega (arith, ap length is, length-append (alarms_of old.shown) (turns ∷ []))
+
+-- nothing is noted where the state has no cycle, or one was noted before
+pub noted-unless : (trail : Trail) (state : State) (alarmed is : Bool) → is ≡ state.marks.alarmed → (is && not alarmed) ≡ false → (alarmed ≡ true → IsNoted trail state) → IsNoted trail state
+noted-unless trail state true is same none was = was refl
+noted-unless trail state false true same none was = absurd (false≢true (sym none))
+noted-unless trail state false false same none was = record { some = λ first alarmed. absurd (false≢true (same ∙ alarmed)) }
+
+-- no more are wanted where there are as many as may be
+pub kept-many : (first : Bool) (n most : ℕ) → (not first && nat_lt n most) ≡ false → first ≡ false → most ≤ n
+kept-many true n most none all = absurd (false≢true (sym all))
+kept-many false n most none all = ⊎_elim (λ few. absurd (false≢true (sym none ∙ lt-ltb n most few))) (λ many. many) (cases_lt n most)
+
+pub wants-none : (first : Bool) → not first ≡ true → first ≡ true → ⊥
+wants-none true wants only = false≢true wants
+wants-none false wants only = false≢true only
+
+-- what is noted stays so
+pub noted-on : (old now : Trail) (state : State) → now.first ≡ old.first → length (alarms_of old.shown) ≤ length (alarms_of now.shown) → IsNoted old state → IsNoted now state
+noted-on old now state same more noted = record { some = λ first alarmed. let some = noted.some (sym same ∙ first) alarmed in omega (arith, some, more) }
+
+pub all-noted_on : (old now : Trail) (states : List State) → now.first ≡ old.first → length (alarms_of old.shown) ≤ length (alarms_of now.shown) → All (IsNoted old) states → All (IsNoted now) states
+all-noted_on old now states same more all = λ k d l. noted-on old now _ same more (all k d l)
+
 pub goes-same : (old now : Trail) → now ≡ old → GoesOn old now
 goes-same old now is = subst (GoesOn old) (sym is) (record { longer = longer-same old.steps.items old.steps.items refl; shown = λ fault. refl; first = refl })
 
@@ -209,13 +272,14 @@ goes-cut first second third one steps shown is = record {
 
 module _ (bounds : Bounds) (scripts : List (List Kind)) where
   pub settles_by-same : (trail : Trail) (state : State) → IsReachedBy bounds scripts trail.steps.items state → SettlesBy bounds scripts trail state trail state
-  settles_by-same trail state r = record { settles = settles_same bounds scripts state; reached = r; goes_on = goes-same trail trail refl }
+  settles_by-same trail state r = record { settles = settles_same bounds scripts state; reached = r; goes_on = goes-same trail trail refl; alarms = refl }
 
   pub settles_by-next : (one two three : Trail) (first second third : State) → SettlesBy bounds scripts one first two second → SettlesBy bounds scripts two second three third → SettlesBy bounds scripts one first three third
   settles_by-next one two three first second third p q = record {
     settles = settles_next bounds scripts first second third p.settles q.settles;
     reached = q.reached;
     goes_on = goes-next one two three p.goes_on q.goes_on;
+    alarms = q.alarms ∙ p.alarms;
   }
 
   -- ---- what is shown
@@ -223,14 +287,21 @@ module _ (bounds : Bounds) (scripts : List (List Kind)) where
   -- the turns to a state at which a fault was found first
   pub shown-note : (first : Bool) (before after : Found) (old now : Trail) (state : State) → IsReachedBy bounds scripts old.steps.items state → AreShown bounds scripts first before old →
       ((fault : Fault) → has_fault before fault ≡ false → has_fault after fault ≡ true → (log : List Event) → IsRunOf bounds scripts log → IsStateOf log state → IsFault bounds scripts fault log) →
+      (old.first ≡ false → before.alarm ≡ false → after.alarm ≡ true → 0 < length (alarms_of old.shown)) →
       NotesTurns old state.place before after now → AreShown bounds scripts first after now
-  shown-note first before after old now state r shown bad notes = record {
+  shown-note first before after old now state r shown bad alarm notes = record {
     same = notes.first ∙ shown.same;
     leads = λ fault. leads fault (notes.turns fault);
     each = λ all fault found. ⊎_elim
         (λ was. kept fault (shown.each all fault was) (notes.turns fault) was)
         (λ not_before. notes.each (shown.same ∙ all) fault not_before found)
         (cases_Bool (has_fault before fault));
+    alarms = record {
+      lead = subst (All (LeadsTo bounds scripts Cycle)) (sym notes.alarms) shown.alarms.lead;
+      few = subst (λ xs. length xs ≤ MOST_ALARMS) (sym notes.alarms) shown.alarms.few;
+      none = λ all. notes.alarms ∙ shown.alarms.none all;
+      some = λ all there. subst (λ xs. 0 < length xs) (sym notes.alarms) (at_least_one all there (notes.turns Cycle));
+    };
   }
     where
       to : (fault : Fault) → has_fault before fault ≡ false → has_fault after fault ≡ true → (o : Option (List ThreadId)) → IfSome o (IsWay now.steps.items state.place) → IfSome o (LeadsTo bounds scripts fault)
@@ -246,16 +317,26 @@ module _ (bounds : Bounds) (scripts : List (List Kind)) where
       leads fault (inl same) = subst (λ o. IfSome o (LeadsTo bounds scripts fault)) (sym same) (shown.leads fault)
       leads fault (inr (none, some, way)) = to fault none some (turns_for now.shown fault) way
 
+      at_least_one : first ≡ false → IsTrue (is_some (turns_for now.shown Cycle)) → (turns_for now.shown Cycle ≡ turns_for old.shown Cycle) ⊎ ((before.alarm ≡ false) × (after.alarm ≡ true) × IfSome (turns_for now.shown Cycle) (IsWay now.steps.items state.place)) → 0 < length (alarms_of old.shown)
+      at_least_one all there (inl same) = shown.alarms.some all (ap is_some (sym same) ∙ there)
+      at_least_one all there (inr (none, some, way)) = alarm (shown.same ∙ all) none some
+
       kept : (fault : Fault) → IsTrue (is_some (turns_for old.shown fault)) → (turns_for now.shown fault ≡ turns_for old.shown fault) ⊎ ((has_fault before fault ≡ false) × (has_fault after fault ≡ true) × IfSome (turns_for now.shown fault) (IsWay now.steps.items state.place)) → has_fault before fault ≡ true → IsTrue (is_some (turns_for now.shown fault))
       kept fault some (inl same) was = ap is_some same ∙ some
       kept fault some (inr (none, found, way)) was = absurd (false≢true (sym none ∙ was))
 
   -- nothing is, at the start
-  pub shown-nothing : (first : Bool) (found : Found) (trail : Trail) → found ≡ nothing → trail.first ≡ first → ((fault : Fault) → turns_for trail.shown fault ≡ None) → AreShown bounds scripts first found trail
-  shown-nothing first found trail is same none = record {
+  pub shown-nothing : (first : Bool) (found : Found) (trail : Trail) → found ≡ nothing → trail.first ≡ first → ((fault : Fault) → turns_for trail.shown fault ≡ None) → alarms_of trail.shown ≡ [] → AreShown bounds scripts first found trail
+  shown-nothing first found trail is same none empty = record {
     same = same;
     leads = λ fault. subst (λ o. IfSome o (LeadsTo bounds scripts fault)) (sym (none fault)) tt;
     each = λ all fault h. absurd (nowhere fault (subst (λ (f : Found). has_fault f fault ≡ true) is h));
+    alarms = record {
+      lead = subst (All (LeadsTo bounds scripts Cycle)) (sym empty) (All-nil (LeadsTo bounds scripts Cycle));
+      few = omega (arith, ap length empty);
+      none = λ all. empty;
+      some = λ all there. absurd (false≢true (sym (ap is_some (none Cycle)) ∙ there));
+    };
   }
     where
       nowhere : (fault : Fault) → has_fault nothing fault ≡ true → ⊥
@@ -264,11 +345,17 @@ module _ (bounds : Bounds) (scripts : List (List Kind)) where
       nowhere Refusing h = false≢true h
 
   -- it stays shown where the trail goes on
-  pub shown-goes_on : (first : Bool) (found : Found) (old now : Trail) → GoesOn old now → AreShown bounds scripts first found old → AreShown bounds scripts first found now
-  shown-goes_on first found old now on shown = record {
+  pub shown-goes_on : (first : Bool) (found : Found) (old now : Trail) → GoesOn old now → AlarmsGoOn bounds scripts old now → AreShown bounds scripts first found old → AreShown bounds scripts first found now
+  shown-goes_on first found old now on alarms shown = record {
     same = on.first ∙ shown.same;
     leads = λ fault. subst (λ o. IfSome o (LeadsTo bounds scripts fault)) (sym (on.shown fault)) (shown.leads fault);
     each = λ all fault h. ap is_some (on.shown fault) ∙ shown.each all fault h;
+    alarms = record {
+      lead = alarms.lead shown.alarms.lead;
+      few = alarms.few shown.alarms.few;
+      none = λ all. alarms.none (shown.same ∙ all) ∙ shown.alarms.none all;
+      some = λ all there. let some = shown.alarms.some all (ap is_some (sym (on.shown Cycle)) ∙ there) in omega (arith, some, alarms.more);
+    };
   }
 
 -- ---- a state that is kept, or is there

@@ -7,8 +7,7 @@ use velo_events::Memory;
 ///
 /// # Errors
 /// `Memory` where a growth was refused.
-pub fn insert(places: &mut HashMap<u64, usize>, key: u64, place: usize) -> Result<(), Memory>
-{
+pub fn insert(places: &mut HashMap<u64, usize>, key: u64, place: usize) -> Result<(), Memory> {
     match places.insert(key, place) {
         Ok(_) => Ok(()),
         Err(_) => Err(Memory),

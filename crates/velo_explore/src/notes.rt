@@ -25,8 +25,7 @@ impl Notes {
     ghost use Rattle.velo_explore.specs.Notes.{list_at, list_of, AreNoted, IsAmong, IsClear, IsNoted};
 
     /// No operation.
-    fn new(alloc: Global) -> Result<Notes, Memory>
-    {
+    fn new(alloc: Global) -> Result<Notes, Memory> {
         let mut lists = Vec::new(alloc);
         for _list in 0..LISTS {
             reserve(&mut lists, 1)?;

@@ -6,7 +6,7 @@ ghost use Rattle.velo_heap.specs.Contents.{bounds_of, IsAdmitted};
 ghost use Rattle.velo_explore.specs.declared.step.Step.{Step};
 ghost use Rattle.velo_explore.specs.States.{IsStateOf};
 ghost use Rattle.velo_explore.specs.Search.{ArePlain, AreShort};
-ghost use Rattle.velo_explore.specs.Trail.{GoesOn, IsReachedBy, SettlesBy};
+ghost use Rattle.velo_explore.specs.Trail.{alarms_of, GoesOn, IsReachedBy, SettlesBy};
 
 use crate::next::Next;
 use crate::scripts::Scripts;
@@ -28,6 +28,7 @@ pub(crate) fn advance(state: &mut State, event: &Event, trail: &mut Trail) -> Re
         trail.old.steps.items ++ record { before = state.old.place; thread = event.now.thread } ∷
         []) }
     ensures goes_on { OnOk result (GoesOn trail.old trail.new) }
+    ensures alarms { OnOk result (alarms_of trail.new.shown ≡ alarms_of trail.old.shown) }
 {
     let place = trail.push(state.place(), event.thread)?;
     state.step(event, place);

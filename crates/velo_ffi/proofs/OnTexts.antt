@@ -4,7 +4,7 @@ use Rattle.std.specs.Prelude.{ℕ}
 use Rattle.velo_events.specs.declared.event.Event.{Event}
 use Rattle.velo_events.specs.Graph.{HasCycle}
 use Rattle.velo_traces.specs.declared.block.Block.{Block}
-use Rattle.velo_logtext.specs.Device.{with_failure}
+use Rattle.velo_bytes.specs.Device.{with_failure}
 use Rattle.velo_world.specs.declared.analysis.Alarm.{Alarm}
 use Rattle.velo_world.specs.World.{IsAlarm}
 use Rattle.velo_explain.specs.declared.evidence.Evidence.{Evidence}

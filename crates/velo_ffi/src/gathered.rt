@@ -3,9 +3,9 @@ ghost use Rattle.std.specs.Prelude.{◌≡◌, ◌≢◌, []};
 
 use std::alloc::Global;
 use std::marker::Model;
+use velo_bytes::{Failed, Sink};
 use velo_events::Memory;
 use velo_events::growth::reserve;
-use velo_logtext::{Failed, Sink};
 
 /// Bytes that were written, in memory. A write fails only where a growth was refused.
 #[derive(Drop)]

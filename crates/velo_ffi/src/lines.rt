@@ -3,8 +3,9 @@ ghost use Rattle.std.specs.Prelude.{◌≡◌, ◌<◌, ◌≤◌, ◌+◌, ◌+
 ghost use Rattle.velo_logtext.specs.Text.{event_line, event_lines};
 ghost use Rattle.velo_ffi.specs.Pieces.{head_at};
 
+use velo_bytes::{put_bytes, put_number};
 use velo_events::{Bounds, Event};
-use velo_logtext::{put_bytes, put_kind, put_number};
+use velo_logtext::put_kind;
 
 /// Room that is enough for a line.
 pub const LINE_ROOM: usize = 90;

@@ -7,7 +7,7 @@ use crate::lines::{LINE_ROOM, first_length, put_head, put_lines};
 use crate::monitor::Monitor;
 use crate::watch::Watch;
 use std::alloc::Global;
-use velo_logtext::put_bytes;
+use velo_bytes::put_bytes;
 
 /// Puts the lines from an event on, as many as there is room for, and before the first event the header.
 fn put_piece(

@@ -3,8 +3,8 @@
 use Rattle.std.specs.Prelude.{ℕ, ◌-◌, ◌^◌, ◌==◌, ◌||◌, Bool, true, false, List, [], ◌∷◌, codes, Option, Some, None, option_map, if◌then◌else◌}
 use Rattle.std.specs.Option.{option_map_or}
 use Rattle.std.specs.Str.{bytes_eq}
-use Rattle.velo_logtext.specs.Reading.{◌>>=◌, number_at, after_word, by_word}
-use Rattle.velo_names.specs.Line.{greatest, is_name, is_number, whole_number}
+use Rattle.velo_bytes.specs.Parsing.{◌>>=◌, number_at, after_word, by_word}
+use Rattle.velo_names.specs.Line.{greatest, is_name, is_number, number_of_kind}
 use Rattle.velo_names.specs.declared.kind.NameKind.{NameKind}
 use Rattle.velo_names.specs.declared.kind.NameKind.TheVariants.{Label, Lock, Variable}
 
@@ -58,7 +58,7 @@ other_at kind bytes = told_at kind bytes >>= λ told. Some Nothing
 -- digits alone are the number of a label, and all else is a name
 abbrev pub bare_entry : List ℕ → Option Entry
 bare_entry line =
-    if is_number line then option_map Number (whole_number Label line)
+    if is_number line then option_map Number (number_of_kind Label line)
     else (if is_name line then Some (Name line) else None)
 
 -- what follows one of the words that an audit writes before a number, or else the line itself

@@ -3,8 +3,8 @@ ghost use Rattle.std.specs.Prelude.{◌≡◌, option_map};
 ghost use Rattle.velo_list.specs.Answers.{entry};
 ghost use Rattle.velo_list.specs.Line.{bare_entry, entry_of, is_count, is_counted, is_silent, named_at, other_at, told_at, told_entry};
 
-use velo_logtext::{after, number};
-use velo_names::{NameKind, is_name, is_number, whole_number};
+use velo_bytes::{after, number};
+use velo_names::{NameKind, is_name, is_number, number_of_kind};
 
 /// What a line says of the labels that are known.
 #[derive(Clone, Copy, Debug)]
@@ -84,7 +84,7 @@ fn bare_entry(line: &[u8]) -> Option<Entry<'_>>
     ensures { option_map entry result ≡ bare_entry line.now }
 {
     if is_number(line) {
-        let number = whole_number(NameKind::Label, line)?;
+        let number = number_of_kind(NameKind::Label, line)?;
         return Some(Entry::Number(number));
     }
     if !is_name(line) {

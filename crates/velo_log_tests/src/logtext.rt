@@ -8,11 +8,9 @@ use std::alloc::Global;
 use std::fmt::Display;
 use std::io::{Cursor, Error, ErrorKind, Read, Write};
 use std::test::Fail;
+use velo_bytes::{Bytes, Failed, ReaderSource, Source, Text, WriteFault, WriterSink, write_all};
 use velo_events::{Bounds, Event, Kind, MOST_EVENTS, ThreadId, VarId};
-use velo_logtext::{
-    Bytes, Failed, LogFault, ReaderSource, Source, Text, WriteFault, WriterSink, read_log,
-    write_all, write_log,
-};
+use velo_logtext::{LogFault, read_log, write_log};
 use velo_traces::Trace;
 
 fn fault_of(alloc: Global, text: &[u8]) -> Option<LogFault> {

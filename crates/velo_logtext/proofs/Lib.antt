@@ -1,10 +1,7 @@
-pub mod Choices
-pub mod OnDevices
 pub mod OnFindings
 pub mod OnLaws
 pub mod OnLines
 pub mod OnNewlines
-pub mod OnNumbers
 pub mod OnReaders
 pub mod OnStreams
 pub mod OnWindows

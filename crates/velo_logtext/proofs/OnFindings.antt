@@ -16,8 +16,8 @@ use Rattle.velo_logtext.specs.Finding.{HasNoHeader, HasNoEvent, IsCutLine, Reads
 use Rattle.velo_logtext.specs.Reading.{event_in, header_at}
 use Rattle.velo_events.specs.Refusals.{GrowthRefused}
 use Rattle.velo_logtext.specs.Window.{margin, IsReason, judged, LinesGive}
-use Rattle.velo_logtext.proofs.Choices.{front_of}
-use Rattle.velo_logtext.proofs.OnDevices.{keeps_from_none}
+use Rattle.velo_bytes.proofs.Choices.{front_of}
+use Rattle.velo_bytes.proofs.OnDevices.{keeps_from_none}
 use Rattle.velo_logtext.proofs.OnWindows.{rest_is}
 use Rattle.velo_logtext.proofs.OnLines.{event_in_again, event_short, header_taken, header_again, header_short}
 

@@ -9,7 +9,8 @@ use Rattle.velo_logtext.specs.declared.fault.LogFault.{LogFault}
 use Rattle.velo_logtext.specs.declared.fault.LogFault.TheVariants.{BadHeader, BadLine, Truncated, TooLong, Read, Memory}
 use Rattle.velo_logtext.specs.Text.{Head, header_line, event_line, event_lines, IsEventIn, AreEventsIn, Begins, IsTextIn, IsLogText}
 use Rattle.velo_logtext.specs.Finding.{HasNoHeader, HasNoEvent, IsBadLine, IsCutLine, Finding, Stands, ReadsAs, IsFindingOrFailure}
-use Rattle.velo_logtext.specs.Reading.{Taken, event_in, header_at}
+use Rattle.velo_bytes.specs.Parsing.{Taken}
+use Rattle.velo_logtext.specs.Reading.{event_in, header_at}
 use Rattle.velo_logtext.proofs.OnLines.{event_in_taken, event_in_again, event_short, header_taken, header_again}
 use Rattle.velo_logtext.proofs.OnFindings.{is_bad, ended_bad, cut_not_bad, newline_of_event}
 

@@ -9,9 +9,10 @@ use Rattle.velo_events.specs.declared.limits.TheConstants.{MOST_LOCKS, MOST_THRE
 use Rattle.velo_events.specs.declared.event.Kind.{Kind}
 use Rattle.velo_events.specs.declared.event.Kind.TheVariants.{Read, Write, Acquire, Release, AcquireShared, ReleaseShared, Begin, End, Fork, Join, Exit}
 use Rattle.velo_logtext.specs.Text.{kind_text, event_line, Head, header_line, AreBounds, IsKind, has_kind, IsEvent, IsEventIn}
-use Rattle.velo_logtext.specs.Reading.{◌>>=◌, Taken, number_at, after_word, by_word, of_number, access_at, thread_kind_at, block_kind_at, share_kind_at, lock_kind_at, kind_at, event_at, event_in, spaced_number_at, bounds_at, header_at}
-use Rattle.velo_logtext.proofs.Choices.{chosen, some_is, bind_some, by_word_is}
-use Rattle.velo_logtext.proofs.OnNumbers.{number_taken, number_again, after_taken}
+use Rattle.velo_bytes.specs.Parsing.{◌>>=◌, Taken, number_at, after_word, by_word, of_number, spaced_number_at}
+use Rattle.velo_logtext.specs.Reading.{access_at, thread_kind_at, block_kind_at, share_kind_at, lock_kind_at, kind_at, event_at, event_in, bounds_at, header_at}
+use Rattle.velo_bytes.proofs.Choices.{chosen, some_is, bind_some, by_word_is}
+use Rattle.velo_bytes.proofs.OnNumbers.{number_taken, number_again, after_taken}
 
 -- ---- what is taken
 

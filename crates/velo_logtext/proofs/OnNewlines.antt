@@ -11,7 +11,7 @@ use Rattle.velo_logtext.specs.Text.{kind_text, event_line, header_line, Head, Is
 use Rattle.velo_logtext.specs.Finding.{HasNoHeader, HasNoEvent}
 use Rattle.velo_logtext.specs.Front.{is_whole}
 use Rattle.velo_logtext.specs.Reading.{event_in, header_at}
-use Rattle.velo_logtext.proofs.Choices.{front_of}
+use Rattle.velo_bytes.proofs.Choices.{front_of}
 use Rattle.velo_logtext.proofs.OnFindings.{has_newline}
 use Rattle.velo_logtext.proofs.OnLines.{event_in_again, event_short, header_again, header_short}
 

@@ -14,7 +14,7 @@ use Rattle.velo_logtext.specs.Finding.{Stands, ReadsAs, HasNoHeader, IsCutLine, 
 use Rattle.velo_logtext.specs.Front.{IsOfText, Takes, Finds, is_whole, judged_front, judged_full}
 use Rattle.velo_logtext.specs.Reader.{ReaderState, HasGiven, HasWholeLine}
 use Rattle.velo_logtext.specs.Reading.{event_in, header_at}
-use Rattle.velo_logtext.proofs.OnDevices.{keeps_front, keeps_then}
+use Rattle.velo_bytes.proofs.OnDevices.{keeps_front, keeps_then}
 use Rattle.velo_logtext.proofs.OnFindings.{header_moved, no_header, newline_more, bad_ended, ended_bad, not_bad}
 use Rattle.velo_logtext.proofs.OnNewlines.{no_event_there, no_header_there}
 use Rattle.velo_logtext.proofs.OnLines.{header_taken}

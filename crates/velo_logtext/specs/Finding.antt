@@ -6,7 +6,7 @@ use Rattle.velo_events.specs.Refusals.{GrowthRefused}
 use Rattle.velo_traces.specs.declared.trace.Trace.{Trace}
 use Rattle.velo_logtext.specs.declared.fault.LogFault.{LogFault}
 use Rattle.velo_logtext.specs.declared.fault.LogFault.TheVariants.{BadHeader, BadLine, Truncated, TooLong, Read, Memory}
-use Rattle.velo_logtext.specs.Device.{with_failure}
+use Rattle.velo_bytes.specs.Device.{with_failure}
 use Rattle.velo_logtext.specs.Text.{AreBounds, IsEventIn, Head, header_line, event_line, Begins, IsLogText}
 
 -- no header with its newline stands at the front

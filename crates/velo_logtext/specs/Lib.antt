@@ -1,4 +1,3 @@
-pub mod Device
 pub mod Text
 pub mod Finding
 pub mod Reading

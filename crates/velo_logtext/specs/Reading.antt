@@ -1,49 +1,11 @@
--- What the readers of numbers, words and lines take from the front of bytes. Private contracts cite these words.
-use Rattle.std.specs.Prelude.{ℕ, Bool, true, false, ◌+◌, ◌-◌, ◌*◌, ◌^◌, ◌==◌, nat_le, List, [], ◌∷◌, codes, Option, Some, None, option_and_then, if◌then◌else◌}
-use Rattle.std.specs.Char.{is_ascii_digit}
+-- What the readers of lines take from the front of bytes. Private contracts cite these words.
+use Rattle.std.specs.Prelude.{ℕ, Bool, true, false, ◌-◌, ◌^◌, ◌==◌, List, codes, Some, None, if◌then◌else◌}
+use Rattle.velo_bytes.specs.Parsing.{◌>>=◌, Taken, number_at, spaced_number_at, after_word, by_word, of_number}
 use Rattle.velo_events.specs.declared.event.Event.{Event}
 use Rattle.velo_events.specs.declared.limits.TheConstants.{MOST_LOCKS, MOST_THREADS}
 use Rattle.velo_events.specs.declared.event.Kind.{Kind}
 use Rattle.velo_logtext.specs.Text.{Head, has_kind}
 use Rattle.velo_events.specs.declared.event.Kind.TheVariants.{Read, Write, Acquire, Release, AcquireShared, ReleaseShared, Begin, End, Fork, Join, Exit}
-
-infixl 10 ◌>>=◌
-abbrev pub ◌>>=◌ : {A B : Type 0} → Option A → (A → Option B) → Option B
-o >>= f = option_and_then f o
-
--- a value with the bytes after it
-abbrev pub Taken : Type 0 → Type 0
-Taken X = Option (X × List ℕ)
-
--- the digits that go on a number that is not 0, up to most
-abbrev pub digits_on : ℕ → ℕ → List ℕ → Taken ℕ
-digits_on most n [] = Some (n, [])
-digits_on most n (c ∷ cs) =
-    if is_ascii_digit c
-    then (if nat_le (n * 10 + (c - 48)) most then digits_on most (n * 10 + (c - 48)) cs else None)
-    else Some (n, c ∷ cs)
-
--- a number up to most, which is at least 9
-abbrev pub number_at : ℕ → List ℕ → Taken ℕ
-number_at most [] = None
-number_at most (c ∷ cs) =
-    if c == 48 then Some (0, cs)
-    else (if is_ascii_digit c then digits_on most (c - 48) cs else None)
-
--- what follows the word
-abbrev pub after_word : List ℕ → List ℕ → Option (List ℕ)
-after_word [] bytes = Some bytes
-after_word (w ∷ ws) [] = None
-after_word (w ∷ ws) (b ∷ bs) = if b == w then after_word ws bs else None
-
--- the first where the word is there, else the second
-abbrev pub by_word : {X : Type 0} → Option (List ℕ) → (List ℕ → Option X) → Option X → Option X
-by_word (Some rest) f other = f rest
-by_word None f other = other
-
--- a number, and what is made of it
-abbrev pub of_number : {X : Type 0} → ℕ → (ℕ → X) → List ℕ → Taken X
-of_number most f bytes = number_at most bytes >>= λ n. Some (f n.0, n.1)
 
 -- a variable's number and a value
 unfoldable pub access_at : List ℕ → Taken (ℕ × ℕ)
@@ -101,13 +63,6 @@ event_at bytes = do
 -- the same in a version, which has shared operations or not
 unfoldable pub event_in : Bool → List ℕ → Taken Event
 event_in shares bytes = event_at bytes >>= λ e. if has_kind shares e.0.kind then Some e else None
-
--- a number and the space behind it
-abbrev pub spaced_number_at : ℕ → List ℕ → Taken ℕ
-spaced_number_at most bytes = do
-  n ← number_at most bytes
-  rest ← after_word (codes " ") n.1
-  Some (n.0, rest)
 
 -- the bounds and the newline
 unfoldable pub bounds_at : Bool → List ℕ → Taken Head

@@ -1,8 +1,8 @@
-//! Why a log could not be read or written.
+//! Why a log could not be read.
 ghost use Rattle.std.specs.Prelude.{◌≡◌};
 
-use crate::device::Failed;
 use thiserror::Error;
+use velo_bytes::Failed;
 use velo_events::Memory;
 
 /// Why a log could not be read. Lines are counted from 1, the header's.
@@ -29,11 +29,6 @@ pub enum LogFault {
     Memory,
 }
 
-/// The sink failed in this call.
-#[derive(Clone, Copy, Debug, PartialEq, Eq, Error)]
-#[error("write failed")]
-pub struct WriteFault;
-
 impl From<Failed> for LogFault {
     ghost use Rattle.velo_logtext.specs.declared.fault.LogFault.TheVariants.{Read};
 
@@ -51,11 +46,5 @@ impl From<Memory> for LogFault {
 
     fn from(_refused: Memory) -> LogFault {
         LogFault::Memory
-    }
-}
-
-impl From<Failed> for WriteFault {
-    fn from(_failed: Failed) -> WriteFault {
-        WriteFault
     }
 }

@@ -3,8 +3,7 @@ ghost use Rattle.std.specs.Prelude.{◌≡◌, false, not, option_map};
 ghost use Rattle.velo_logtext.specs.Text.{has_kind};
 ghost use Rattle.velo_logtext.specs.Reading.{access_at, thread_kind_at, block_kind_at, share_kind_at, lock_kind_at, kind_at, event_at, event_in, bounds_at, header_at};
 
-use crate::numbers::{number, spaced_number};
-use crate::words::after;
+use velo_bytes::{after, number, spaced_number};
 use velo_events::{Bounds, Event, Kind, Label, LockId, MOST_LOCKS, MOST_THREADS, ThreadId, VarId};
 
 /// A variable and a value.

@@ -4,15 +4,15 @@ ghost use Rattle.std.specs.Io.KnownBytes.{IsAtEnd, Keeps, prepend_known};
 ghost use Rattle.velo_events.specs.Refusals.{GrowthRefused};
 ghost use Rattle.velo_events.specs.declared.limits.TheConstants.{MOST_EVENTS};
 ghost use Rattle.velo_logtext.specs.declared.fault.LogFault.TheVariants as log_fault;
-ghost use Rattle.velo_logtext.specs.Device.{with_failure};
+ghost use Rattle.velo_bytes.specs.Device.{with_failure};
 ghost use Rattle.velo_logtext.specs.Text.{AreBounds, AreEvents, AreEventsIn, event_lines};
 ghost use Rattle.velo_logtext.specs.Finding.{Finding, Stands, ReadsAs, IsFindingOrFailure, finding_of, failures_after};
 ghost use Rattle.velo_logtext.specs.Window.{margin, IsReason, judged, LinesGive};
 
-use crate::device::{Failed, Source};
 use crate::fault::LogFault;
 use crate::lines::{event, header};
 use std::alloc::Global;
+use velo_bytes::{Failed, Source};
 use velo_events::{Bounds, MOST_EVENTS, growth};
 use velo_traces::Trace;
 

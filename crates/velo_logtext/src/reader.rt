@@ -5,17 +5,17 @@ ghost use Rattle.velo_events.specs.Refusals.{GrowthRefused};
 ghost use Rattle.velo_events.specs.declared.event.Event.{Event as EventOf};
 ghost use Rattle.velo_events.specs.declared.limits.TheConstants.{MOST_EVENTS};
 ghost use Rattle.velo_logtext.specs.declared.fault.LogFault.TheVariants as log_fault;
-ghost use Rattle.velo_logtext.specs.Device.{with_failure};
+ghost use Rattle.velo_bytes.specs.Device.{with_failure};
 ghost use Rattle.velo_logtext.specs.Finding.{ReadsAs, failures_after};
 ghost use Rattle.velo_logtext.specs.Reader.{HasGiven, Gives, HasWholeLine, IsMetBehind, IsMetInHeader};
 ghost use Rattle.velo_logtext.specs.Front.{is_whole, judged_front, judged_full, Takes, Finds};
 
-use crate::device::{Failed, Source};
 use crate::fault::LogFault;
 use crate::lines::{event, header};
 use crate::read::{LONGEST_LINE, ROOM, keep};
 use std::alloc::Global;
 use std::marker::Model;
+use velo_bytes::{Failed, Source};
 use velo_events::{Bounds, Event, MOST_EVENTS, Memory, growth};
 
 /// What stands at the front of the bytes at hand.

@@ -2,12 +2,10 @@
 ghost use Rattle.std.specs.Prelude.{◌≡◌, ◌≤◌, ◌+◌, ◌++◌, true, length, take, decimal, OnOk, OnErr};
 ghost use Rattle.std.specs.Io.KnownBytes.{Appends};
 ghost use Rattle.velo_events.specs.declared.limits.TheConstants.{MOST_EVENTS};
-ghost use Rattle.velo_logtext.specs.Device.{with_failure, AppendsBeginning};
+ghost use Rattle.velo_bytes.specs.Device.{with_failure, AppendsBeginning};
 ghost use Rattle.velo_logtext.specs.Text.{AreBounds, IsEvent, IsLogText, kind_text, event_line, header_line, log_text};
 
-use crate::buffer::{put_bytes, put_number};
-use crate::device::{Sink, write_all};
-use crate::fault::WriteFault;
+use velo_bytes::{Sink, WriteFault, put_bytes, put_number, write_all};
 use velo_events::{Bounds, Event, Kind};
 use velo_traces::Trace;
 

@@ -1,9 +1,9 @@
 -- What `naming_of` takes is the line of a name, and such a line is taken again.
 use Rattle.std.proofs.Common.{◌≡◌, ℕ, ◌^◌, ◌<◌, ◌≤◌, Bool, true, false, cond, List, [], ◌∷◌, ◌++◌, Option, Some, None, ⊎_elim, refl, sym, ap, subst, ◌∙◌, append_assoc, arith}
 use Rattle.std.specs.Prelude.{decimal, codes, IsTrue}
-use Rattle.velo_logtext.specs.Reading.{◌>>=◌, number_at, after_word, by_word}
-use Rattle.velo_logtext.proofs.Choices.{chosen, some_is, bind_some, by_word_is}
-use Rattle.velo_logtext.proofs.OnNumbers.{number_taken, number_again, after_taken, after_again}
+use Rattle.velo_bytes.specs.Parsing.{◌>>=◌, number_at, after_word, by_word}
+use Rattle.velo_bytes.proofs.Choices.{chosen, some_is, bind_some, by_word_is}
+use Rattle.velo_bytes.proofs.OnNumbers.{number_taken, number_again, after_taken, after_again}
 use Rattle.velo_names.specs.declared.kind.NameKind.{NameKind}
 use Rattle.velo_names.specs.declared.kind.NameKind.TheVariants.{Thread, Variable, Lock, Label}
 use Rattle.velo_names.specs.Line.{Naming, IsNaming, is_name, kind_text, greatest, naming_text, name_at, number_and_name_at, naming_of}

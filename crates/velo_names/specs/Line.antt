@@ -2,7 +2,7 @@
 use Rattle.std.specs.Prelude.{◌≡◌, ℕ, ◌-◌, ◌^◌, ◌≤◌, ◌==◌, ◌||◌, ◌&&◌, nat_lt, nat_le, not, Bool, true, false, IsTrue, List, [], ◌∷◌, ◌++◌, length, codes, decimal, Option, Some, None, if◌then◌else◌}
 use Rattle.std.specs.Char.{is_ascii_digit}
 use Rattle.std.specs.List.{onto_first, list_all}
-use Rattle.velo_logtext.specs.Reading.{◌>>=◌, number_at, after_word, by_word}
+use Rattle.velo_bytes.specs.Parsing.{◌>>=◌, number_at, whole_number, after_word, by_word}
 use Rattle.velo_names.specs.declared.limits.TheConstants.{MOST_NAME_BYTES}
 use Rattle.velo_names.specs.declared.kind.NameKind.{NameKind}
 use Rattle.velo_names.specs.declared.kind.NameKind.TheVariants.{Thread, Variable, Lock, Label}
@@ -87,9 +87,6 @@ naming_of line =
 abbrev pub is_number : List ℕ → Bool
 is_number bytes = nat_lt 0 (length bytes) && list_all is_ascii_digit bytes
 
-abbrev pub if_whole : ℕ × List ℕ → Option ℕ
-if_whole taken = if length taken.1 == 0 then Some taken.0 else None
-
 -- the number of a kind that the bytes are, if they are one
-abbrev pub whole_number : NameKind → List ℕ → Option ℕ
-whole_number kind bytes = number_at (greatest kind) bytes >>= if_whole
+abbrev pub number_of_kind : NameKind → List ℕ → Option ℕ
+number_of_kind kind bytes = whole_number (greatest kind) bytes

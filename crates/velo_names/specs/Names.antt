@@ -10,7 +10,7 @@ use Rattle.velo_names.specs.declared.fault.NamesFault.{NamesFault}
 use Rattle.velo_names.specs.declared.fault.NamesFault.TheVariants.{BadLine, NamedTwice, TooManyLines, TooManyBytes, NotText, Memory}
 use Rattle.velo_names.specs.declared.kind.NameKind.{NameKind}
 use Rattle.velo_names.specs.declared.kind.NameKind.TheVariants.{Thread, Variable, Lock, Label}
-use Rattle.velo_names.specs.Line.{Naming, IsNaming, naming_text, naming_of, is_silent, lines, is_number, whole_number}
+use Rattle.velo_names.specs.Line.{Naming, IsNaming, naming_text, naming_of, is_silent, lines, is_number, number_of_kind}
 
 -- numbers with their names, in the order of the lines
 abbrev pub NameList : Type 0
@@ -56,7 +56,7 @@ numbers_of names kind name = numbers_in (list_of kind names) name
 
 -- What an argument means: digits alone are a number, which has to be one of the kind; all else is a name
 abbrev pub meant_by : NameLists → NameKind → List ℕ → List ℕ
-meant_by names kind argument = if is_number argument then option_to_list (whole_number kind argument) else numbers_of names kind argument
+meant_by names kind argument = if is_number argument then option_to_list (number_of_kind kind argument) else numbers_of names kind argument
 
 -- ---- what a text says
 

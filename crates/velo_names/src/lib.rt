@@ -14,6 +14,6 @@ pub use fault::NamesFault;
 pub use kind::NameKind;
 pub use laws::{one_line, read_back};
 pub use limits::{MOST_NAME_BYTES, MOST_NAME_LINES, MOST_NAMES_BYTES};
-pub use line::{is_name, is_number, split_line, whole_number};
+pub use line::{is_name, is_number, number_of_kind, split_line};
 pub use names::Names;
 pub use write::append_names;

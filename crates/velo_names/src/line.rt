@@ -2,12 +2,12 @@
 ghost use Rattle.std.specs.Prelude.{◌≡◌, ◌==◌, ◌<◌, ◌≤◌, option_map, ◌∷◌, length};
 ghost use Rattle.std.specs.Char.{is_ascii_digit};
 ghost use Rattle.std.specs.List.{list_all, position_or_len};
-ghost use Rattle.velo_names.specs.Line.{is_number, whole_number, is_control, has_control, is_name, is_silent, lines, name_at, number_and_name_at, naming_of};
+ghost use Rattle.velo_names.specs.Line.{is_number, number_of_kind, is_control, has_control, is_name, is_silent, lines, name_at, number_and_name_at, naming_of};
 ghost use Rattle.velo_names.specs.Said.{said};
 
 use crate::kind::NameKind;
 use crate::limits::MOST_NAME_BYTES;
-use velo_logtext::{after, number};
+use velo_bytes::{after, number, whole_number};
 
 /// A number of a kind, and its name.
 #[derive(Clone, Copy)]
@@ -130,12 +130,9 @@ pub fn is_number(bytes: &[u8]) -> bool
 }
 
 /// The number of a kind that the bytes are, if they are one.
-pub fn whole_number(kind: NameKind, bytes: &[u8]) -> Option<u32>
-    ensures { result ≡ whole_number kind bytes.now }
+pub fn number_of_kind(kind: NameKind, bytes: &[u8]) -> Option<u32>
+    ensures { result ≡ number_of_kind kind bytes.now }
 {
-    let (number, rest) = number(bytes, u64::from(kind.greatest()))?;
-    if !rest.is_empty() {
-        return None;
-    }
+    let number = whole_number(bytes, u64::from(kind.greatest()))?;
     Some(number as u32)
 }

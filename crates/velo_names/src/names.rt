@@ -10,7 +10,7 @@ use crate::fault::NamesFault;
 use crate::growth::insert;
 use crate::kind::NameKind;
 use crate::limits::{MOST_NAME_LINES, MOST_NAMES_BYTES};
-use crate::line::{Said, is_number, is_silent, naming, split_line, whole_number};
+use crate::line::{Said, is_number, is_silent, naming, number_of_kind, split_line};
 use indexmap::IndexMap;
 use std::alloc::Global;
 use std::fmt;
@@ -204,7 +204,7 @@ impl<'a> Names<'a> {
             return self.numbers_of(alloc, kind, argument);
         }
         let mut numbers = Vec::new(alloc);
-        if let Some(number) = whole_number(kind, argument) {
+        if let Some(number) = number_of_kind(kind, argument) {
             reserve(&mut numbers, 1)?;
             numbers.push_reserved(number);
         }

@@ -6,8 +6,8 @@ ghost use Rattle.velo_names.specs.Names.{naming_line, list_text, by_place};
 
 use crate::kind::NameKind;
 use std::alloc::Global;
+use velo_bytes::{append, append_number};
 use velo_events::Memory;
-use velo_logtext::{append, append_number};
 
 /// Appends the word of a kind.
 fn append_kind(text: &mut Vec<u8>, kind: NameKind) -> Result<(), Memory>

@@ -11,8 +11,8 @@ use Rattle.std.specs.List.Sorted.{IsNonDecreasingBy}
 use Rattle.velo_events.specs.declared.config.Config.{Config}
 use Rattle.velo_events.specs.declared.event.ThreadId.{ThreadId}
 use Rattle.velo_events.specs.declared.limits.TheConstants.{MOST_THREADS}
-use Rattle.velo_logtext.proofs.OnDevices.{appends_nothing, appends_then, beginning_then}
-use Rattle.velo_logtext.specs.Device.{AppendsBeginning, with_failure}
+use Rattle.velo_bytes.proofs.OnDevices.{appends_nothing, appends_then, beginning_then}
+use Rattle.velo_bytes.specs.Device.{AppendsBeginning, with_failure}
 use Rattle.velo_report.specs.declared.names.Names.{Names}
 use Rattle.velo_schedules.specs.declared.exploration.Exploration.{Exploration}
 use Rattle.velo_schedules.specs.declared.finding.RefusedRun.{RefusedRun}

@@ -12,9 +12,9 @@ use Rattle.velo_events.proofs.OnBlocks.{owner-append}
 use Rattle.velo_events.proofs.OnGraphs.{HasCycle-from_closing, HasCycle-push, Edge-append, Path-map, newest}
 use Rattle.velo_events.proofs.OnReaching.{IsCycle-by}
 use Rattle.velo_events.proofs.OnScans.{event_at, take-next}
-use Rattle.velo_logtext.proofs.OnDevices.{appends_then, appends_nothing, beginning_then}
+use Rattle.velo_bytes.proofs.OnDevices.{appends_then, appends_nothing, beginning_then}
 use Rattle.velo_certify.specs.Cycle.{HasNoCycleAt}
-use Rattle.velo_logtext.specs.Device.{with_failure}
+use Rattle.velo_bytes.specs.Device.{with_failure}
 use Rattle.velo_logtext.specs.Finding.{ReadsAs}
 use Rattle.velo_logtext.specs.Finding as reader
 use Rattle.velo_logtext.specs.declared.fault.LogFault.{LogFault}

@@ -10,9 +10,9 @@ use Rattle.velo_events.specs.Refusals.{GrowthRefused}
 use Rattle.velo_events.proofs.OnGraphs.{HasCycle-from_closing}
 use Rattle.velo_logtext.specs.declared.fault.LogFault.{LogFault}
 use Rattle.velo_logtext.specs.declared.fault.LogFault.TheVariants as log_fault
-use Rattle.velo_logtext.specs.Device.{with_failure}
+use Rattle.velo_bytes.specs.Device.{with_failure}
 use Rattle.velo_logtext.specs.Reader.{IsMetBehind, IsMetInHeader}
-use Rattle.velo_logtext.proofs.OnDevices.{appends_then, beginning_then}
+use Rattle.velo_bytes.proofs.OnDevices.{appends_then, beginning_then}
 use Rattle.velo_watch.specs.UnderWay.{Advances, CameAbout, HasTold, IsFaultOfOpening, IsUnderWay, Steps, read_failures, write_failures}
 use Rattle.velo_watch.specs.Watch.{IsFront, Tells, told_text}
 use Rattle.velo_watch.specs.declared.fault.WatchFault.{WatchFault}

@@ -1,6 +1,6 @@
 -- What a command does to the source of its input, and what reading all of it gives.
 use Rattle.std.specs.Prelude.{◌≡◌, ℕ, List, Option}
-use Rattle.velo_logtext.specs.Device.{with_failure}
+use Rattle.velo_bytes.specs.Device.{with_failure}
 use Rattle.velo_logtext.specs.declared.fault.LogFault.TheVariants.{Read}
 use Rattle.velo_program.specs.declared.check.CheckFault.TheVariants.{Log}
 use Rattle.velo_program.specs.declared.fate.Fate.{Fate}

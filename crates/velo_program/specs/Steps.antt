@@ -5,7 +5,7 @@ use Rattle.std.specs.Io.KnownBytes.{Consumes, IsAtEnd}
 use Rattle.std.specs.Prelude.{◌≡◌, ◌≤◌, ◌⊎◌, ◌++◌, [], ⊤, ℕ, Bool, List, length, Option, Some, None, Result, Ok, Err}
 use Rattle.velo_events.specs.Refusals.{GrowthRefused}
 use Rattle.velo_events.specs.declared.event.Event.{Event}
-use Rattle.velo_logtext.specs.Device.{with_failure}
+use Rattle.velo_bytes.specs.Device.{with_failure}
 use Rattle.velo_names.specs.Names.{NameLists}
 use Rattle.velo_report.specs.declared.names.Names.{Names}
 use Rattle.velo_worker.specs.declared.ending.Ending.{Ending}

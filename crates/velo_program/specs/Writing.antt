@@ -2,7 +2,7 @@
 -- writes.
 use Rattle.std.specs.Prelude.{◌≡◌, ℕ, List, Option, Result, Ok, Err}
 use Rattle.std.specs.Io.KnownBytes.{Appends}
-use Rattle.velo_logtext.specs.Device.{AppendsBeginning, with_failure}
+use Rattle.velo_bytes.specs.Device.{AppendsBeginning, with_failure}
 
 -- the bytes of a sink, where they are known, and how often it has failed
 pub record Writing : Type 0 where

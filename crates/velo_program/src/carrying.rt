@@ -13,7 +13,8 @@ use crate::files::{Files, is_standard_input, open_input};
 use crate::request::{CarryOptions, Operand};
 use std::alloc::Global;
 use thiserror::Error;
-use velo_logtext::{LogFault, Sink, Source, WriteFault, read_log, write_log};
+use velo_bytes::{Sink, Source, WriteFault};
+use velo_logtext::{LogFault, read_log, write_log};
 use velo_worker::Ending;
 
 /// Why a log was not carried over.

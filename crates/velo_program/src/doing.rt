@@ -19,7 +19,7 @@ use crate::watching::watch_file;
 use std::alloc::Global;
 use std::sync::Wait;
 use std::thread::Threads;
-use velo_logtext::Sink;
+use velo_bytes::Sink;
 
 /// Does what was asked for, with the report, the certificate or the words of an explanation on the sink, and answers what it
 /// came to. How far a search is goes to `progress`. A run of a workload by threads of its own may wait; the other commands start

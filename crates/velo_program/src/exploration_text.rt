@@ -5,9 +5,9 @@ ghost use Rattle.velo_program.specs.Exploring.{blame_text, blamed_text, finding_
 use crate::fate::number_of;
 use crate::told::{Found, ToBlame, Told, Tried};
 use std::alloc::Global;
+use velo_bytes::{append, append_number};
 use velo_chance::Blamed;
 use velo_events::{Label, Memory, ThreadId};
-use velo_logtext::{append, append_number};
 use velo_schedules::{Finding, RefusalFinding, RefusedRun};
 use velo_turns::append_turns;
 use velo_workload::Workload;

@@ -8,9 +8,10 @@ ghost use Rattle.velo_program.specs.Fate.{Ends, number_of, status_of, status_of_
 use crate::check::CheckFault;
 use crate::request::{Ignorable, Operand};
 use crate::status::{ALARM, BAD_INPUT, DONE, FAILED, INCOMPLETE};
+use velo_bytes::{Sink, WriteFault, put_bytes, put_number, write_all};
 use velo_events::{Refusal, ThreadId};
 use velo_list::ListFault;
-use velo_logtext::{LogFault, Sink, WriteFault, put_bytes, put_number, write_all};
+use velo_logtext::LogFault;
 use velo_names::NamesFault;
 use velo_turns::ScheduleFault;
 use velo_worker::Ending;

@@ -4,7 +4,7 @@ ghost use Rattle.velo_program.specs.Disk.{AreOneTarget, Disk, IsBarred, IsBarred
 
 use crate::fate::Fate;
 use crate::request::Operand;
-use velo_logtext::{Sink, Source};
+use velo_bytes::{Sink, Source};
 
 /// Where the program finds its files.
 pub trait Files {

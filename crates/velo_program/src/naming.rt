@@ -9,7 +9,7 @@ use crate::fate::Fate;
 use crate::files::{Files, is_standard_input};
 use crate::reading::{ReadFault, read_whole};
 use std::alloc::Global;
-use velo_logtext::Source;
+use velo_bytes::Source;
 use velo_names::Names;
 use velo_report::Names as ReportNames;
 

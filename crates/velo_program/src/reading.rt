@@ -5,9 +5,9 @@ ghost use Rattle.velo_program.specs.declared.reading.ReadFault.TheVariants as re
 ghost use Rattle.velo_program.specs.Steps.{GrowsByPiece, IsReadOf, failures_by};
 
 use std::alloc::Global;
+use velo_bytes::Source;
 use velo_events::Memory;
 use velo_events::growth::resize;
-use velo_logtext::Source;
 
 /// How many bytes are asked for at one time.
 const PIECE: usize = 65_536;

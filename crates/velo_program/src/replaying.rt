@@ -11,8 +11,8 @@ use crate::request::{ReplayOptions, RunOptions};
 use crate::scheduling::schedule_of_source;
 use crate::work::{config_of_run, finish_run, open_workload};
 use std::alloc::Global;
+use velo_bytes::Sink;
 use velo_events::{Memory, ThreadId};
-use velo_logtext::Sink;
 use velo_worker::replay;
 use velo_workload::Workload;
 

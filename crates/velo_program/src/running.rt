@@ -12,7 +12,7 @@ use crate::work::{config_of_run, finish_run, open_workload};
 use std::alloc::Global;
 use std::sync::Wait;
 use std::thread::Threads;
-use velo_logtext::Sink;
+use velo_bytes::Sink;
 use velo_worker::{LiveFault, OpenGate, live};
 use velo_workload::Workload;
 

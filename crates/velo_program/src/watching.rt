@@ -15,7 +15,7 @@ use crate::files::{Files, is_standard_input, open_input};
 use crate::naming::{names_in, read_given, shown_by};
 use crate::request::{Operand, WatchOptions};
 use std::alloc::Global;
-use velo_logtext::{Sink, Source};
+use velo_bytes::{Sink, Source};
 use velo_names::MOST_NAMES_BYTES;
 use velo_report::Names;
 use velo_watch::{Watch, WatchFault};

@@ -2,8 +2,8 @@
 use Rattle.std.proofs.Common.{◌≡◌, ℕ, List, [], ◌++◌, Option, sym, ap, ◌∙◌, subst, append_assoc}
 use Rattle.std.proofs.lemmas.List.{append-nil}
 use Rattle.std.specs.Io.KnownBytes.{Appends}
-use Rattle.velo_logtext.specs.Device.{AppendsBeginning}
-use Rattle.velo_logtext.proofs.OnDevices.{appends_then, appends_nothing, beginning_then}
+use Rattle.velo_bytes.specs.Device.{AppendsBeginning}
+use Rattle.velo_bytes.proofs.OnDevices.{appends_then, appends_nothing, beginning_then}
 use Rattle.velo_report.specs.Lines.{Buffers}
 
 -- ---- steps that succeed

@@ -10,7 +10,7 @@ use Rattle.velo_events.specs.declared.event.Event.{Event}
 use Rattle.velo_events.specs.Certificate.{positions_of}
 use Rattle.velo_events.specs.Graph.{HasCycle}
 use Rattle.velo_events.proofs.OnGraphs.{HasCycle-from_closing}
-use Rattle.velo_logtext.specs.Device.{AppendsBeginning}
+use Rattle.velo_bytes.specs.Device.{AppendsBeginning}
 use Rattle.velo_report.specs.Certificate.{Certifies, CertifiesOrder, is_first, serial_line, serial_lines, IsCertificate, FailsInCertificate, AppendsCertificate, AppendsPartOfCertificate}
 use Rattle.velo_report.specs.Lines.{numbers_line}
 use Rattle.velo_report.specs.Runs.{IsRun}

@@ -7,7 +7,7 @@ use Rattle.velo_events.specs.Block.{owner}
 use Rattle.velo_events.specs.Certificate.{positions_of, IsCycleAt}
 use Rattle.velo_events.specs.Graph.{HasCycle, IsClosing}
 use Rattle.velo_events.specs.Reordering.{IsReordering, IsSerial}
-use Rattle.velo_logtext.specs.Device.{AppendsBeginning}
+use Rattle.velo_bytes.specs.Device.{AppendsBeginning}
 use Rattle.velo_report.specs.Lines.{numbers_line, Buffers}
 
 -- the log has no cycle, and the list is a serial reordering of it

@@ -1,12 +1,12 @@
 //! The line of an alarm.
 ghost use Rattle.std.specs.Prelude.{◌≡◌, ◌++◌, OnOk, OnErr};
 ghost use Rattle.std.specs.Io.KnownBytes.{Appends};
-ghost use Rattle.velo_logtext.specs.Device.{with_failure, AppendsBeginning};
+ghost use Rattle.velo_bytes.specs.Device.{with_failure, AppendsBeginning};
 ghost use Rattle.velo_report.specs.Alarm.{spaced_words, blame_text, blame_texts, alarm_line};
 ghost use Rattle.velo_report.specs.Lines.{words_text, Buffers};
 
 use crate::lines::{Lines, Word};
-use velo_logtext::{Sink, WriteFault};
+use velo_bytes::{Sink, WriteFault};
 use velo_traces::Block;
 use velo_world::Alarm;
 

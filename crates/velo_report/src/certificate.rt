@@ -1,14 +1,14 @@
 //! The certificate of a closed world.
 ghost use Rattle.std.specs.Prelude.{◌≡◌, ◌≤◌, ◌<◌, ◌+◌, ◌++◌, ◌↔◌, ℕ, length, slice_index, IsTrue, OnOk, OnErr};
 ghost use Rattle.velo_events.specs.Reordering.{IsReordering, IsSerial};
-ghost use Rattle.velo_logtext.specs.Device.{with_failure, AppendsBeginning};
+ghost use Rattle.velo_bytes.specs.Device.{with_failure, AppendsBeginning};
 ghost use Rattle.velo_report.specs.Certificate.{Certifies, serial_lines, BuffersCertificate, FailsInCertificate, AppendsCertificate, AppendsPartOfCertificate};
 ghost use Rattle.velo_report.specs.Lines.{Buffers};
 ghost use Rattle.velo_report.specs.Runs.{AreInside, GoesOn, IsDepthAfter, IsRun, IsStart};
 
 use crate::lines::Lines;
+use velo_bytes::{Sink, WriteFault};
 use velo_events::{Event, Kind};
-use velo_logtext::{Sink, WriteFault};
 use velo_world::Closed;
 
 /// How many blocks of the event's thread are open behind it, where so many are open before it.

@@ -1,14 +1,14 @@
 //! The report of a world.
 ghost use Rattle.std.specs.Prelude.{◌≡◌, ◌<◌, ◌++◌, ◌∷◌, [], codes, decimal, length, Some, OnOk, OnErr};
 ghost use Rattle.std.specs.Option.{option_copied};
-ghost use Rattle.velo_logtext.specs.Device.{with_failure, AppendsBeginning};
+ghost use Rattle.velo_bytes.specs.Device.{with_failure, AppendsBeginning};
 ghost use Rattle.velo_report.specs.Lines.{Buffers};
 ghost use Rattle.velo_report.specs.Report.{thread_line, thread_lines, blame_line, blame_lines, verdict_lines, AppendsReport, AppendsPartOfReport};
 
 use crate::lines::{Lines, Word};
 use crate::names::Names;
+use velo_bytes::{Sink, WriteFault};
 use velo_events::ThreadId;
-use velo_logtext::{Sink, WriteFault};
 use velo_names::NameKind;
 use velo_traces::Block;
 use velo_world::{Alarm, Closed, World};

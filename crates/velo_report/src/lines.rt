@@ -1,12 +1,12 @@
 //! Lines on their way to a sink, which sees few writes.
 ghost use Rattle.std.specs.Prelude.{◌≡◌, ◌≤◌, ◌+◌, ◌++◌, [], ◌∷◌, codes, decimal, drop, length, take, OnOk, OnErr};
 ghost use Rattle.std.specs.Io.KnownBytes.{Appends};
-ghost use Rattle.velo_logtext.specs.Device.{with_failure, AppendsBeginning};
+ghost use Rattle.velo_bytes.specs.Device.{with_failure, AppendsBeginning};
 ghost use Rattle.velo_report.specs.Lines.{word_text, spaced, words_text, line_of, numbers_line, Buffers};
 
 use itoa::{Buffer, write_digits};
 use std::marker::Model;
-use velo_logtext::{Sink, WriteFault, write_all};
+use velo_bytes::{Sink, WriteFault, write_all};
 
 /// How many bytes are gathered before they are written.
 const ROOM: usize = 1_024;

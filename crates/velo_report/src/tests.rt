@@ -3,7 +3,7 @@ ghost use Rattle.std.specs.Prelude.{None};
 
 use crate::lines::{Lines, Word};
 use std::test::Fail;
-use velo_logtext::{Failed, Sink};
+use velo_bytes::{Failed, Sink};
 
 /// A sink that counts the writes.
 #[derive(Drop)]

@@ -14,15 +14,17 @@ use Rattle.velo_world.specs.World.{WorldState, IsAlarm}
 use Rattle.velo_worker.specs.declared.ending.Ending.{Ending}
 use Rattle.velo_worker.specs.declared.ending.Ending.TheVariants.{Stuck, Refused}
 use Rattle.velo_worker.specs.Schedule.{Replays}
+use Rattle.velo_schedules.specs.declared.finding.Finding.{Finding}
+use Rattle.velo_schedules.specs.declared.finding.Finding.TheVariants.{Shown, Never, Open}
 use Rattle.velo_schedules.specs.declared.finding.RefusedRun.{RefusedRun}
 use Rattle.velo_schedules.specs.declared.showing.Outcome.{Outcome}
 use Rattle.velo_schedules.specs.Logs.{ends_refused, is_for_room}
-use Rattle.velo_schedules.specs.Told.{IsOutcome, ShowsAlarm, ShowsStuck, ShowsRefusal, LacksRefusal, IsMissed}
+use Rattle.velo_schedules.specs.Told.{AreAlarms, IsOutcome, OnShown, ShowsAlarm, ShowsStuck, ShowsRefusal, LacksRefusal, IsMissed}
 use Rattle.velo_schedules.specs.Bodies.{all_scripts}
 use Rattle.velo_explore.specs.Faults as faults
 use Rattle.velo_explore.specs.Faults.{Cycle, Refusing}
 use Rattle.velo_explore.specs.declared.schedules.Schedules.{Schedules}
-use Rattle.velo_explore.specs.Trail.{LeadsTo, turns_for}
+use Rattle.velo_explore.specs.Trail.{LeadToCycles, LeadsTo, alarms_of, turns_for}
 use Rattle.velo_schedules.proofs.OnFollowed.{follows-cycle, follows-stuck, follows-refused}
 
 -- what was not found
@@ -147,3 +149,28 @@ module _ (shown : Schedules) where
 
   pub in_refused : (P : List ThreadId → Type 0) → IfSome (turns_for shown Refusing) P → IfSome shown.refused (λ v. P v.items)
   in_refused P h = IfSome-mapped (λ v. v.items) P shown.refused h
+
+-- ---- the schedules to alarms
+
+OnShown-map : (finding : Finding) (P Q : Type 0) → (P → Q) → OnShown finding P → OnShown finding Q
+OnShown-map Open P Q f p = tt
+OnShown-map Never P Q f p = tt
+OnShown-map (Shown schedule) P Q f p = f p
+
+some-mapped : {X Y : Type 0} (f : X → Y) (o : Option X) → IsTrue (is_some o) → IsTrue (is_some (option_map f o))
+some-mapped f None some = some
+some-mapped f (Some x) some = refl
+
+pub alarms-told : (program : Program) (config : Config) → config.bounds ≡ program.bounds → (first : Bool) (alarm : Finding) (shown : Schedules) →
+    LeadToCycles program.bounds (all_scripts program) first shown → OnShown alarm (IsTrue (is_some shown.alarm)) → AreAlarms program config first alarm (alarms_of shown)
+alarms-told program config same first alarm shown cycles from = record {
+  each = λ k d l.
+      let leads = cycles.lead k d l in
+      record {
+        leads = leads;
+        replayed = λ ending closed r. follows-cycle program leads.log leads.run config same ending closed leads.bad (subst (λ ts. Replays program ts config ending closed) (sym leads.by) r);
+      };
+  few = cycles.few;
+  none = cycles.none;
+  some = λ all. OnShown-map alarm (IsTrue (is_some shown.alarm)) (0 < length (alarms_of shown)) (λ there. cycles.some all (some-mapped (λ v. v.items) shown.alarm there)) from;
+}

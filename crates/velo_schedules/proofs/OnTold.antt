@@ -18,15 +18,16 @@ use Rattle.velo_explore.specs.Faults.{Fault, Cycle, Stuck, Refusing, IsFault}
 use Rattle.velo_explore.specs.Runs.{script_of}
 use Rattle.velo_explore.specs.Runs as runs
 use Rattle.velo_explore.specs.Search as searched
-use Rattle.velo_explore.specs.Search.{ArePlain, AreShort, SomeRun, has_fault}
+use Rattle.velo_explore.specs.declared.schedules.Schedules.{Schedules}
+use Rattle.velo_explore.specs.Search.{ArePlain, AreShort, SomeRun, has_fault, ways}
 use Rattle.velo_explore.specs.Told.{has_ended}
-use Rattle.velo_explore.specs.Trail.{LeadsTo}
+use Rattle.velo_explore.specs.Trail.{LeadToCycles, LeadsTo}
 use Rattle.velo_events.specs.declared.event.ThreadId.{ThreadId}
 use Rattle.velo_schedules.specs.declared.finding.Finding.{Finding}
 use Rattle.velo_schedules.specs.declared.finding.Finding.TheVariants.{Shown, Never, Open}
 use Rattle.velo_schedules.specs.declared.finding.RefusalFinding.{RefusalFinding}
 use Rattle.velo_schedules.specs.declared.finding.RefusalFinding.TheVariants as refusals
-use Rattle.velo_schedules.specs.Told.{IsCutShort, IsSomewhere, OnOpen, OnOpenRefusal}
+use Rattle.velo_schedules.specs.Told.{IsCutShort, IsLeftOpen, IsMissed, IsSomewhere, OnOpen, OnOpenRefusal}
 use Rattle.velo_schedules.specs.Logs.{AlwaysSerializable, NeverStuck, NeverRefused}
 use Rattle.velo_schedules.specs.Bodies.{operation, operations_of, operations_by, all_scripts}
 use Rattle.velo_schedules.proofs.OnPlainLogs.{script_in, ArePlain-bodies, AlwaysSerializable-runs, NeverStuck-runs, NeverRefused-runs}
@@ -44,6 +45,14 @@ pub OnOpenRefusal-map : (finding : RefusalFinding) (ruled_out : Bool) (P Q : Typ
 OnOpenRefusal-map refusals.Open ruled_out P Q f p = f p.0 p.1
 OnOpenRefusal-map refusals.Never ruled_out P Q f p = tt
 OnOpenRefusal-map (refusals.Shown run) ruled_out P Q f p = tt
+
+-- why a fault is open after a search that was cut short
+pub open-cut : (program : Program) (config : Config) (most : ℕ) (first : Bool) (states : ℕ) (fault : Fault) (found : Bool) →
+    (found ≡ false → IsCutShort program config most first states fault) → (found ≡ true → IsSomewhere program fault) →
+    (found ≡ true → first ≡ false → IsMissed program config fault) → IsLeftOpen program config most first states fault
+open-cut program config most first states fault false cut somewhere missed = inl (cut refl)
+open-cut program config most true states fault true cut somewhere missed = inl (inr (inl (refl, fault, somewhere refl)))
+open-cut program config most false states fault true cut somewhere missed = inr (missed refl refl)
 
 -- a search that ended at the first finding has one
 ended_found : (first : Bool) (found : Found) → has_ended first found ≡ true → (first ≡ true) × (fault : Fault) × (has_fault found fault ≡ true)
@@ -98,11 +107,22 @@ module _ (program : Program) (bounds : Bounds) (same : bounds ≡ program.bounds
   leads-bodies fault turns leads = subst (λ ks. IfSome turns (LeadsTo program.bounds ks fault)) is (subst (λ b. IfSome turns (LeadsTo b list fault)) same leads)
 
   -- why the search was cut short
-  pub cut-search : (config : Config) (most : ℕ) (first : Bool) (found : Found) (states : ℕ) → ((fault : Fault) → has_fault found fault ≡ true → SomeRun bounds list fault) → searched.IsCutShort bounds.threads most first found states → IsCutShort program config most first states
-  cut-search config most first found states true_of (inl ended) =
+  pub cut-search : (config : Config) (most : ℕ) (first : Bool) (found : Found) (states : ℕ) → ((fault : Fault) → has_fault found fault ≡ true → SomeRun bounds list fault) → searched.IsCutShort bounds list most first found states →
+      (fault : Fault) → has_fault found fault ≡ false → IsCutShort program config most first states fault
+  cut-search config most first found states true_of (inl ended) fault none =
       let w = ended_found first found ended in
       inr (inl (w.0, w.1, somewhere w.1 (true_of w.1 w.2)))
-  cut-search config most first found states true_of (inr spent) = inr (inr (subst (λ (b : Bounds). most ≤ states + states * b.threads) same spent))
+  cut-search config most first found states true_of (inr spent) fault none = inr (inr (record {
+    all = subst (λ (b : Bounds). most ≤ states * b.threads) same spent.all;
+    events = spent.events;
+    none = subst (λ ks. runs.NeverWithin spent.events (IsFault program.bounds ks fault) program.bounds ks []) is
+        (subst (λ b. runs.NeverWithin spent.events (IsFault b list fault) b list []) same (spent.tried.none fault none));
+    few = subst (λ (b : Bounds). states ≤ ways b.threads spent.events) same spent.tried.few;
+  }))
+
+  -- the schedules to cycles are those of the program's scripts
+  pub alarms-bodies : (first : Bool) (shown : Schedules) → LeadToCycles bounds list first shown → LeadToCycles program.bounds (all_scripts program) first shown
+  alarms-bodies first shown alarms = subst (λ ks. LeadToCycles program.bounds ks first shown) is (subst (λ b. LeadToCycles b list first shown) same alarms)
 
   -- ---- no run has the fault, so no replay has
 

@@ -1,10 +1,12 @@
 -- What is told of all schedules of a program.
-use Rattle.std.specs.Prelude.{◌≡◌, ◌⊎◌, ◌↔◌, ◌+◌, ◌*◌, ◌<◌, ◌≤◌, ◌++◌, ◌∷◌, [], ⊤, ℕ, Bool, true, List, IsTrue, IsFalse, sum_by}
+use Rattle.std.specs.Prelude.{◌≡◌, ◌⊎◌, ◌↔◌, ◌*◌, ◌<◌, ◌≤◌, ◌++◌, ◌∷◌, [], ⊤, ℕ, Bool, true, false, List, length, All, IsTrue, IsFalse, sum_by}
 use Rattle.velo_events.specs.declared.config.Config.{Config}
 use Rattle.velo_events.specs.declared.event.ThreadId.{ThreadId}
 use Rattle.velo_events.specs.Graph.{HasCycle}
-use Rattle.velo_explore.specs.Faults.{Fault}
-use Rattle.velo_explore.specs.Search.{SomeRun}
+use Rattle.velo_explore.specs.declared.schedules.TheConstants.{MOST_ALARMS}
+use Rattle.velo_explore.specs.Faults.{Fault, Cycle, IsFault}
+use Rattle.velo_explore.specs.Runs.{NeverWithin}
+use Rattle.velo_explore.specs.Search.{SomeRun, ways}
 use Rattle.velo_explore.specs.Trail.{LeadsTo}
 use Rattle.velo_workload.specs.Program.{Program}
 use Rattle.velo_world.specs.World.{WorldState}
@@ -102,15 +104,43 @@ OnOpenRefusal finding P = ⊤
 abbrev pub IsSomewhere : Program → Fault → Type 0
 IsSomewhere program fault = SomeRun program.bounds (all_scripts program) fault
 
+-- The states next to those that were looked at, one a thread, are as many as may be looked at. No run of the program's scripts
+-- with fewer than so many events has the fault, and there are as many ways to take fewer turns as states were looked at
+pub record AreSpent (program : Program) (most states : ℕ) (fault : Fault) : Type 0 where
+  pub all : most ≤ states * program.bounds.threads
+  pub events : ℕ
+  pub none : NeverWithin events (IsFault program.bounds (all_scripts program) fault) program.bounds (all_scripts program) []
+  pub few : states ≤ ways program.bounds.threads events
+
 -- not all schedules were tried: the bodies have more events than a log may have; or the first finding was enough, and there is
--- one; or the states that were looked at and those next to them, at most one a thread, are as many as may be looked at
-abbrev pub IsCutShort : Program → Config → ℕ → Bool → ℕ → Type 0
-IsCutShort program config most first states =
+-- one; or the states are spent
+abbrev pub IsCutShort : Program → Config → ℕ → Bool → ℕ → Fault → Type 0
+IsCutShort program config most first states fault =
     (config.events < sum_by body_events program.bodies)
-    ⊎ (((first ≡ true) × (fault : Fault) × IsSomewhere program fault)
-    ⊎ (most ≤ states + states * program.bounds.threads))
+    ⊎ (((first ≡ true) × (some : Fault) × IsSomewhere program some)
+    ⊎ AreSpent program most states fault)
 
 -- a fault is open only where not all schedules were tried, or the replay misses it
 abbrev pub IsLeftOpen : Program → Config → ℕ → Bool → ℕ → Fault → Type 0
 IsLeftOpen program config most first states fault =
-    IsCutShort program config most first states ⊎ IsMissed program config fault
+    IsCutShort program config most first states fault ⊎ IsMissed program config fault
+
+-- ---- the schedules to alarms
+
+-- some run of the program's scripts has these turns and a cycle, and each replay by them has one, too, unless it is cut
+pub record LeadsToAlarm (program : Program) (config : Config) (schedule : List ThreadId) : Type 0 where
+  pub leads : LeadsTo program.bounds (all_scripts program) Cycle schedule
+  pub replayed : (ending : Ending) (closed : WorldState) → Replays program schedule config ending closed →
+      HasCycle closed.log ⊎ IsCut ending closed
+
+-- it holds where something is shown
+abbrev pub OnShown : Finding → Type 0 → Type 0
+OnShown (Shown schedule) P = P
+OnShown finding P = ⊤
+
+-- each leads to an alarm; where the first finding is enough there is none, and else one at least where an alarm is shown
+pub record AreAlarms (program : Program) (config : Config) (first : Bool) (alarm : Finding) (alarms : List (List ThreadId)) : Type 0 where
+  pub each : All (LeadsToAlarm program config) alarms
+  pub few : length alarms ≤ MOST_ALARMS
+  pub none : first ≡ true → alarms ≡ []
+  pub some : first ≡ false → OnShown alarm (0 < length alarms)

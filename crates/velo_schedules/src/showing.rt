@@ -1,10 +1,10 @@
 //! What was found is replayed before it is told.
-ghost use Rattle.std.specs.Prelude.{◌≡◌, ◌++◌, ◌∷◌, [], true, false, length, IsFalse, IfNone, IfOk, IfSome};
+ghost use Rattle.std.specs.Prelude.{◌≡◌, ◌++◌, ◌∷◌, [], true, false, is_some, length, IsFalse, IsTrue, IfNone, IfOk, IfSome};
 ghost use Rattle.velo_worker.specs.declared.ending.Ending.TheVariants.{Refused};
 ghost use Rattle.velo_worker.specs.Schedule.{Replays};
 ghost use Rattle.velo_schedules.specs.Logs.{AlwaysSerializable, NeverStuck, NeverRefused, ends_refused, is_for_room};
 ghost use Rattle.velo_schedules.specs.Told.{AlarmTold, IsOutcome, StuckTold, RefusalTold, ShowsRefusal};
-ghost use Rattle.velo_schedules.specs.Told.{IsMissed, LacksRefusal, OnOpen, OnOpenRefusal};
+ghost use Rattle.velo_schedules.specs.Told.{IsMissed, LacksRefusal, OnOpen, OnOpenRefusal, OnShown};
 ghost use Rattle.velo_schedules.specs.Bodies.{all_scripts};
 ghost use Rattle.velo_explore.specs.Faults.{Cycle, Stuck, Refusing};
 ghost use Rattle.velo_explore.specs.Trail.{LeadsTo};
@@ -87,6 +87,7 @@ pub(crate) fn tell_alarm(
     ensures never { IfOk result (λ f. ruled_out ≡ true → f ≡ Never) }
     ensures missed { IfOk result (λ f. OnOpen f ((ruled_out ≡ false) × IfSome found
         (λ turns. IsMissed workload.now config Cycle))) }
+    ensures from { IfOk result (λ f. OnShown f (IsTrue (is_some found))) }
 {
     if ruled_out {
         return Ok(Finding::Never);

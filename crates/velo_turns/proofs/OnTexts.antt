@@ -10,7 +10,7 @@ use Rattle.std.proofs.lemmas.List.Splits.{slice_split_none, slice_split_at, join
 use Rattle.velo_events.specs.Refusals.{GrowthRefused}
 use Rattle.velo_events.specs.declared.event.ThreadId.{ThreadId}
 use Rattle.velo_events.specs.declared.limits.TheConstants.{MOST_THREADS}
-use Rattle.velo_logtext.proofs.Choices.{some_is}
+use Rattle.velo_bytes.proofs.Choices.{some_is}
 use Rattle.velo_turns.specs.declared.limits.TheConstants.{MOST_TURNS}
 use Rattle.velo_turns.specs.declared.turns.Turns.{Turns}
 use Rattle.velo_turns.specs.declared.schedule.ScheduleFault.{ScheduleFault}

@@ -5,9 +5,9 @@ use Rattle.std.proofs.lemmas.Fmt.{decimal_digit}
 use Rattle.std.proofs.lemmas.Bool.{cases_lt}
 use Rattle.std.proofs.lemmas.Bool.Decides.{eqb_tells, nat_tests}
 use Rattle.velo_events.specs.declared.limits.TheConstants.{MOST_THREADS}
-use Rattle.velo_logtext.specs.Reading.{◌>>=◌, number_at, after_word}
-use Rattle.velo_logtext.proofs.Choices.{chosen, some_is, bind_some}
-use Rattle.velo_logtext.proofs.OnNumbers.{number_taken, number_read, number_again, after_taken, after_again}
+use Rattle.velo_bytes.specs.Parsing.{◌>>=◌, number_at, after_word}
+use Rattle.velo_bytes.proofs.Choices.{chosen, some_is, bind_some}
+use Rattle.velo_bytes.proofs.OnNumbers.{number_taken, number_read, number_again, after_taken, after_again}
 use Rattle.velo_turns.specs.declared.limits.TheConstants.{MOST_TURNS}
 use Rattle.velo_turns.specs.declared.turns.Turns.{Turns}
 use Rattle.velo_turns.specs.Schedule.{turns_text, AreTurns}

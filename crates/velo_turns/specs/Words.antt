@@ -1,7 +1,7 @@
 -- What a word of a schedule's text says.
 use Rattle.std.specs.Prelude.{ℕ, ◌-◌, nat_le, List, [], ◌∷◌, codes, Option, Some, None, if◌then◌else◌}
 use Rattle.velo_events.specs.declared.limits.TheConstants.{MOST_THREADS}
-use Rattle.velo_logtext.specs.Reading.{◌>>=◌, number_at, after_word}
+use Rattle.velo_bytes.specs.Parsing.{◌>>=◌, number_at, after_word}
 use Rattle.velo_turns.specs.declared.limits.TheConstants.{MOST_TURNS}
 use Rattle.velo_turns.specs.declared.turns.Turns.{Turns}
 

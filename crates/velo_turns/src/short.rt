@@ -4,8 +4,8 @@ ghost use Rattle.velo_turns.specs.Schedule.{spaced, turns_text};
 ghost use Rattle.velo_turns.specs.Short.{longest};
 
 use crate::turns::Turns;
+use velo_bytes::{append, append_number};
 use velo_events::{Memory, ThreadId};
-use velo_logtext::{append, append_number};
 
 /// Appends a word.
 fn append_word(text: &mut Vec<u8>, turns: Turns) -> Result<(), Memory>

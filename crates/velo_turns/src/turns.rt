@@ -3,8 +3,8 @@ ghost use Rattle.std.specs.Prelude.{◌≡◌};
 ghost use Rattle.velo_turns.specs.Words.{count_in, turns_in};
 
 use crate::limits::MOST_TURNS;
+use velo_bytes::{after, number};
 use velo_events::{MOST_THREADS, ThreadId};
-use velo_logtext::{after, number};
 
 /// Turns of one thread that come one after another.
 #[derive(Clone, Copy, Debug, PartialEq, Eq)]

@@ -5,8 +5,8 @@ ghost use Rattle.velo_waits.specs.Waits.{end_text, holder_text, holders_text, lo
 
 use crate::standing::{holds_alone, is_live, next_statement, shares};
 use std::alloc::Global;
+use velo_bytes::{append, append_number};
 use velo_events::{LockId, Memory, ThreadId};
-use velo_logtext::{append, append_number};
 use velo_workload::{Statement, Workload};
 use velo_world::Closed;
 

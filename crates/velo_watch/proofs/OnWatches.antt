@@ -12,7 +12,7 @@ use Rattle.velo_logtext.specs.declared.fault.LogFault.TheVariants.{BadHeader, Ba
 use Rattle.velo_logtext.specs.Finding.{failures_after}
 use Rattle.velo_logtext.specs.Reader.{ReaderState, HasGiven}
 use Rattle.velo_logtext.specs.Text.{text_in}
-use Rattle.velo_logtext.proofs.OnDevices.{appends_then, appends_nothing, beginning_then}
+use Rattle.velo_bytes.proofs.OnDevices.{appends_then, appends_nothing, beginning_then}
 use Rattle.velo_world.proofs.OnAlarms.{AlarmOf-stays}
 use Rattle.velo_report.specs.Alarm.{alarm_line}
 use Rattle.velo_watch.specs.declared.state.Watch.{Watch}

@@ -6,7 +6,7 @@ use Rattle.velo_events.specs.declared.limits.TheConstants.{MOST_EVENTS}
 use Rattle.velo_events.specs.Graph.{HasCycle}
 use Rattle.velo_events.specs.Refusals.{GrowthRefused}
 use Rattle.velo_events.specs.WellFormed.{IsWellFormed}
-use Rattle.velo_logtext.specs.Device.{AppendsBeginning, with_failure}
+use Rattle.velo_bytes.specs.Device.{AppendsBeginning, with_failure}
 use Rattle.velo_logtext.specs.Finding.{ReadsAs}
 use Rattle.velo_logtext.specs.Reader.{HasGiven, IsMetBehind, IsMetInHeader}
 use Rattle.velo_logtext.specs.declared.fault.LogFault.TheVariants.{Read}

@@ -2,7 +2,8 @@
 use crate::{Watch, WatchFault};
 use std::alloc::Global;
 use std::test::Fail;
-use velo_logtext::{Bytes, LogFault, Text};
+use velo_bytes::{Bytes, Text};
+use velo_logtext::LogFault;
 
 /// What came of a log of which so many bytes could be read.
 #[derive(Drop, Debug, PartialEq, Eq)]

@@ -1,7 +1,7 @@
 //! A log that is watched as it comes, event by event.
 ghost use Rattle.std.specs.Prelude.{◌≡◌, ◌≤◌, List, ℕ, false, [], Option, IfOk, IfErr, OnOk, OnErr};
 ghost use Rattle.velo_events.specs.declared.limits.TheConstants.{MOST_EVENTS, MOST_NODES};
-ghost use Rattle.velo_logtext.specs.Device.{with_failure};
+ghost use Rattle.velo_bytes.specs.Device.{with_failure};
 ghost use Rattle.velo_logtext.specs.Reader.{HasWholeLine};
 ghost use Rattle.velo_logtext.specs.Text.{AreBounds};
 ghost use Rattle.velo_watch.specs.declared.fault.WatchFault.TheVariants as watch_fault;
@@ -10,8 +10,9 @@ ghost use Rattle.velo_watch.specs.UnderWay.{Advances, HasTold, TellsPart, CanGoO
 use crate::fault::WatchFault;
 use crate::state::Watch;
 use std::alloc::Global;
+use velo_bytes::{Sink, Source, WriteFault};
 use velo_events::{Bounds, Config};
-use velo_logtext::{LogReader, Sink, Source, WriteFault};
+use velo_logtext::LogReader;
 use velo_report::alarm_line;
 use velo_traces::Trace;
 use velo_world::{Closed, LogReplayFault, World};

@@ -3,7 +3,6 @@ pub mod OnCosts
 pub mod OnNames
 pub mod OnNaming
 pub mod OnNested
-pub mod OnNumbers
 pub mod OnParsing
 pub mod OnPhrases
 pub mod OnReading

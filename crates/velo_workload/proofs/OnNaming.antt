@@ -4,12 +4,13 @@ use Rattle.std.specs.Prelude.{IsTrue}
 use Rattle.std.specs.List.{flat_map, list_any}
 use Rattle.std.specs.Str.{bytes_eq}
 use Rattle.indexmap.specs.IndexSet.{insert_all, insert_key}
+use Rattle.velo_bytes.specs.Parsing.{whole_number}
 use Rattle.velo_workload.specs.declared.fault.WorkFault.{WorkFault}
 use Rattle.velo_workload.specs.declared.phrase.Verb.{Verb}
 use Rattle.velo_workload.specs.declared.phrase.Verb.TheVariants as verb
 use Rattle.velo_workload.specs.declared.phrase.Argument.{Argument}
 use Rattle.velo_workload.specs.declared.phrase.Argument.TheVariants.{Nothing, Name, Number}
-use Rattle.velo_workload.specs.Words.{Word, is_name, lines, number_of, words}
+use Rattle.velo_workload.specs.Words.{Word, is_name, lines, words}
 use Rattle.velo_workload.specs.Phrase.{Begin, Phrase, Variable, Lock, Thread, Body, argument_of, bad_phrase, phrase_of, phrase_of_one_word, phrase_of_words, phrase_with_argument, phrase_with_name, phrase_with_number_or_bad, phrases, verb_of}
 use Rattle.velo_workload.specs.Outline.{AreFew, Known, first_fault, first_of_two, fault_from, fault_of_line, known, label_in, lock_in, thread_in, variable_in}
 use Rattle.velo_workload.specs.Known.{known_by, whole}
@@ -49,7 +50,7 @@ with_number v None = bad v
 
 with_argument : (v : Verb) (a : Argument) (w : Word) → NamesWell (phrase_with_argument v a w)
 with_argument v Nothing w = bad v
-with_argument v Number w = with_number v (number_of (2 ^ 64 - 1) w)
+with_argument v Number w = with_number v (whole_number (2 ^ 64 - 1) w)
 with_argument v Name w = by (is_name w) refl
   where
     by : (b : Bool) → is_name w ≡ b → NamesWell (cond b (phrase_with_name v w) (bad_phrase v))

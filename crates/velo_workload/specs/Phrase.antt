@@ -1,7 +1,8 @@
 -- What a line says.
 use Rattle.std.specs.Prelude.{ℕ, ◌-◌, ◌^◌, ◌==◌, Bool, List, [], ◌∷◌, codes, length, map, Option, Some, None, if◌then◌else◌}
 use Rattle.std.specs.Str.{bytes_eq}
-use Rattle.velo_workload.specs.Words.{Word, lines, words, is_name, number_of}
+use Rattle.velo_bytes.specs.Parsing.{whole_number}
+use Rattle.velo_workload.specs.Words.{Word, lines, words, is_name}
 use Rattle.velo_workload.specs.declared.phrase.Verb.{Verb}
 use Rattle.velo_workload.specs.declared.phrase.Verb.TheVariants as verb
 use Rattle.velo_workload.specs.declared.phrase.Argument.{Argument}
@@ -130,7 +131,7 @@ phrase_with_number_or_bad v None = bad_phrase v
 abbrev pub phrase_with_argument : Verb → Argument → Word → Phrase
 phrase_with_argument v Nothing w = bad_phrase v
 phrase_with_argument v Name w = if is_name w then phrase_with_name v w else bad_phrase v
-phrase_with_argument v Number w = phrase_with_number_or_bad v (number_of (2 ^ 64 - 1) w)
+phrase_with_argument v Number w = phrase_with_number_or_bad v (whole_number (2 ^ 64 - 1) w)
 
 abbrev pub phrase_of_words : List Word → Phrase
 phrase_of_words [] = Blank

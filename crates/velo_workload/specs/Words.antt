@@ -1,5 +1,5 @@
 -- The lines of a text, and the words of a line.
-use Rattle.std.specs.Prelude.{◌≡◌, ◌<◌, ℕ, ◌+◌, ◌-◌, ◌*◌, ◌==◌, ◌||◌, ◌&&◌, nat_le, Bool, true, false, not, List, [], ◌∷◌, length, drop, filter, Option, Some, None, if◌then◌else◌}
+use Rattle.std.specs.Prelude.{◌≡◌, ◌<◌, ℕ, ◌==◌, ◌||◌, ◌&&◌, nat_le, Bool, true, false, not, List, [], ◌∷◌, length, drop, filter}
 use Rattle.std.specs.Char.{is_ascii_digit, is_ascii_alphanumeric}
 use Rattle.std.specs.List.{slice_split, position_or_len, before_first, list_all}
 
@@ -59,7 +59,7 @@ lines_behind (b ∷ bs) = lines bs
 abbrev pub later_lines : List ℕ → List (List ℕ)
 later_lines bytes = lines_behind (drop (position_or_len is_newline bytes) bytes)
 
--- ---- names and numbers
+-- ---- names
 
 abbrev pub is_name_byte : ℕ → Bool
 is_name_byte b = is_ascii_alphanumeric b || b == 95
@@ -68,19 +68,6 @@ is_name_byte b = is_ascii_alphanumeric b || b == 95
 abbrev pub is_name : Word → Bool
 is_name [] = false
 is_name (c ∷ cs) = not (is_ascii_digit c) && (nat_le (length (c ∷ cs)) 32 && list_all is_name_byte (c ∷ cs))
-
--- the number that these digits make of a number before them, up to most
-abbrev pub digits_on : ℕ → ℕ → List ℕ → Option ℕ
-digits_on most n [] = Some n
-digits_on most n (c ∷ cs) =
-    if is_ascii_digit c
-    then (if nat_le (n * 10 + (c - 48)) most then digits_on most (n * 10 + (c - 48)) cs else None)
-    else None
-
--- a number of decimal digits without leading zeros, up to most, which is at least 9
-abbrev pub number_of : ℕ → Word → Option ℕ
-number_of most [] = None
-number_of most (c ∷ cs) = if is_ascii_digit c && not (c == 48 && is_word cs) then digits_on most (c - 48) cs else None
 
 -- ---- what a reader of words gives: the first two, each empty where it is not there, and whether there are more
 

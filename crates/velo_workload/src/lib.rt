@@ -10,7 +10,6 @@ mod limits;
 mod names;
 mod naming;
 mod nesting;
-mod numbers;
 mod outline;
 mod phrase;
 mod resolving;

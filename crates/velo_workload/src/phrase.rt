@@ -7,8 +7,8 @@ ghost use Rattle.velo_workload.specs.Known.{lines_left};
 ghost use Rattle.velo_workload.specs.Words.{lines, is_newline};
 
 use crate::naming::name;
-use crate::numbers::number;
 use crate::words::{Words, after_line, find_words};
+use velo_bytes::whole_number;
 
 /// What the first word of a line says.
 #[derive(Clone, Copy)]
@@ -292,7 +292,7 @@ fn phrase_with_argument<'a>(verb: Verb, word: &'a [u8]) -> Phrase<'a>
             Some(name) => phrase_with_name(verb, name),
             None => bad_phrase(verb),
         },
-        Argument::Number => match number(word, u64::MAX) {
+        Argument::Number => match whole_number(word, u64::MAX) {
             Some(n) => phrase_with_number(verb, n),
             None => bad_phrase(verb),
         },

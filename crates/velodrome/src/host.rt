@@ -3,7 +3,7 @@
 use std::fs::{self, File, Metadata};
 use std::io::Stdin;
 use std::os::unix::fs::MetadataExt;
-use velo_logtext::{ReaderSource, WriterSink};
+use velo_bytes::{ReaderSource, WriterSink};
 use velo_program::Files;
 
 /// The files of the system.

@@ -5,7 +5,7 @@ use std::cmp::max;
 use std::fs;
 use std::os::unix::fs::MetadataExt;
 use std::time::{Clock, Duration};
-use velo_logtext::{Sink, write_all};
+use velo_bytes::{Sink, write_all};
 use velo_program::{ExploreProgress, Progress};
 
 /// A search that takes no longer is not told of on a terminal, and lines that stay are no nearer to one another: in

@@ -1,8 +1,9 @@
 //! One growth is refused, whichever it is: the call tells it, and done again it answers as it would have. Without a refusal
 //! each call is done once.
 use crate::growths::again;
+use velo_bytes::Bytes;
 use velo_events::{Bounds, Kind, Label, LockId, ThreadId, VarId};
-use velo_logtext::{Bytes, LogFault, read_log};
+use velo_logtext::{LogFault, read_log};
 
 const LOG: &str =
     "vlog 1 2 1 1\n0 fork 1\n0 begin 7\n0 rd 0 0\n1 wr 0 5\n0 wr 0 1\n0 end\n1 acq 0\n1 rel 0\n1 exit\n0 join 1\n";

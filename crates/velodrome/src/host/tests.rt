@@ -4,8 +4,8 @@ use std::alloc::Global;
 use std::process::Abort;
 use std::sync::Wait;
 use std::thread::Threads;
+use velo_bytes::{Bytes, Text};
 use velo_command::run;
-use velo_logtext::{Bytes, Text};
 use velo_program::{Files, Quiet};
 
 /// Two paths, and whether one regular file stands at both.

@@ -5,7 +5,7 @@ use std::cell::Cell;
 use std::io;
 use std::process::Abort;
 use std::time::{Clock, Duration};
-use velo_logtext::Text;
+use velo_bytes::Text;
 use velo_program::{ExploreProgress, Progress};
 
 /// A clock that is set by hand, in milliseconds.

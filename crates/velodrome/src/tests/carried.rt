@@ -4,7 +4,8 @@ use std::alloc::Global;
 use std::process::Abort;
 use std::sync::Wait;
 use std::thread::Threads;
-use velo_logtext::{Bytes, LogFault, Text};
+use velo_bytes::{Bytes, Text};
+use velo_logtext::LogFault;
 use velo_program::{CarryFault, carry_run};
 
 /// The lost update in version 2.

@@ -4,9 +4,9 @@ use std::alloc::Global;
 use std::io::ErrorKind;
 use std::process::Abort;
 use std::test::Fail;
+use velo_bytes::Text;
 use velo_command::{end_without_words, help};
 use velo_events::{MOST_EVENTS, MOST_NODES, MOST_THREADS, Refusal};
-use velo_logtext::Text;
 use velo_program::{DEFAULT_SEED, MOST_RUNS, MOST_STATES};
 
 /// Right words, with the status and standard error: of the two logs one raises an alarm at its last event.

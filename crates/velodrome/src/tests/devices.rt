@@ -4,9 +4,10 @@ use std::alloc::Global;
 use std::io::Write;
 use std::sync::Wait;
 use std::thread::Threads;
+use velo_bytes::{Bytes, Text, WriterSink};
 use velo_command::run;
 use velo_events::{MOST_EVENTS, Refusal};
-use velo_logtext::{Bytes, LogFault, Text, WriterSink};
+use velo_logtext::LogFault;
 use velo_program::{CheckFault, Fate, Quiet, check_run, end_with};
 
 #[test]

@@ -4,8 +4,8 @@ use std::alloc::Global;
 use std::process::Abort;
 use std::sync::Wait;
 use std::thread::Threads;
+use velo_bytes::Text;
 use velo_events::MOST_EVENTS;
-use velo_logtext::Text;
 use velo_program::{
     ExploreOptions, Limits, MOST_RUNS, MOST_STATES, Quiet, RandomRuns, Request, do_request,
     end_with,

@@ -5,9 +5,10 @@ use super::{Folder, LOST_UPDATE, LOST_UPDATE_CERTIFIED};
 use std::alloc::Global;
 use std::sync::Wait;
 use std::thread::Threads;
+use velo_bytes::{Bytes, WriterSink};
 use velo_command::run;
 use velo_events::{Action, Refusal, ThreadId, VarId};
-use velo_logtext::{Bytes, LogFault, WriterSink, read_log};
+use velo_logtext::{LogFault, read_log};
 use velo_program::{CarryFault, CheckFault, Quiet, Verdict, carry_run, check_run, config_of};
 use velo_world::{LogReplayFault, World};
 

@@ -9,8 +9,9 @@ use std::process::Abort;
 use std::sync::Wait;
 use std::test::Fail;
 use std::thread::Threads;
+use velo_bytes::{Bytes, Text};
 use velo_events::Bounds;
-use velo_logtext::{Bytes, LogFault, Text, read_log};
+use velo_logtext::{LogFault, read_log};
 use velo_program::Files;
 use velo_traces::{Flaw, Trace, well_formed};
 

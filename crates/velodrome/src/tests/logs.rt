@@ -5,8 +5,8 @@ use std::alloc::Global;
 use std::process::Abort;
 use std::sync::Wait;
 use std::thread::Threads;
+use velo_bytes::{Bytes, Text};
 use velo_events::MOST_EVENTS;
-use velo_logtext::{Bytes, Text};
 use velo_program::check_run;
 
 /// Reads of one block's write by operations outside blocks.

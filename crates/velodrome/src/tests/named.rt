@@ -5,8 +5,8 @@ use std::io::Write;
 use std::process::Abort;
 use std::sync::Wait;
 use std::thread::Threads;
+use velo_bytes::{Bytes, Text, WriterSink};
 use velo_events::MOST_EVENTS;
-use velo_logtext::{Bytes, Text, WriterSink};
 use velo_program::{
     ExploreOptions, Fate, Files, Limits, Quiet, ReplayOptions, Request, RunOptions, ScheduleSource,
     do_request, end_with,

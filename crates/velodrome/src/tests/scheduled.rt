@@ -6,7 +6,7 @@ use std::cell::Cell;
 use std::process::Abort;
 use std::sync::Wait;
 use std::thread::Threads;
-use velo_logtext::{Bytes, Text};
+use velo_bytes::{Bytes, Text};
 use velo_program::Files;
 
 /// The text of a file, which is standard input too, and what a replay by its turns shows.

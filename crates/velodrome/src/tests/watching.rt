@@ -4,8 +4,9 @@ use std::alloc::Global;
 use std::process::Abort;
 use std::sync::Wait;
 use std::thread::Threads;
+use velo_bytes::{Bytes, Sink, Text, WriterSink};
 use velo_events::{MOST_EVENTS, Refusal};
-use velo_logtext::{Bytes, LogFault, Sink, Text, WriterSink};
+use velo_logtext::LogFault;
 use velo_program::{CheckFault, Fate, Files, Limits, Quiet, Request, WatchOptions, do_request};
 use velo_worker::Ending;
 

@@ -11,16 +11,3 @@ returns-in_default c =
 pub returns-then-has_label : goal.returns-then-has_label
 returns-then-has_label c =
     IsCountedTo-again (left_of c.args.left.now) c.args.events.now c.args.position c.requires.within (left_of c.args.seen.now) c.args.count.now c.requires.stands c.in-Begin.label c.in-Begin.is (sym c.if-has_label.ensures)
-
-pub returns-then-not-has_label : goal.returns-then-not-has_label
-returns-then-not-has_label c =
-    IsCountedTo-new (left_of c.args.left.now) c.args.events.now c.args.position c.requires.within (left_of c.args.seen.now) c.args.count.now c.requires.stands c.in-Begin.label c.in-Begin.is (sym c.if-has_label.ensures) _ c.in_ok-leave_out_label.ensures.ok _
-    (ap (λ b. c.args.count.now + (if b then 0 else 1)) c.if-not-has_label.ensures)
-
-pub returns-else-not-has_label : goal.returns-else-not-has_label
-returns-else-not-has_label c =
-    IsCountedTo-new (left_of c.args.left.now) c.args.events.now c.args.position c.requires.within (left_of c.args.seen.now) c.args.count.now c.requires.stands c.in-Begin.label c.in-Begin.is (sym c.if-has_label.ensures) _ c.in_ok-leave_out_label.ensures.ok _
-    (same ∙ ap (λ b. c.args.count.now + (if b then 0 else 1)) c.if-not-has_label.ensures)
-  where
-    same : c.args.count.now ≡ c.args.count.now + 0
-    same = omega arith

@@ -1,12 +1,13 @@
-use Rattle.std.proofs.Common.{[], refl, sym, subst}
+use Rattle.std.proofs.Common.{[], false, true, refl, sym, ◌∙◌, subst}
 use Rattle.std.specs.Prelude.{All}
+use Rattle.std.proofs.lemmas.Bool.{false≢true}
 use Rattle.std.proofs.lemmas.List.Elements.{All-nil}
 use Rattle.velo_heap.specs.Contents.{bounds_of}
 use Rattle.velo_explore.specs.Search.{Settles}
-use Rattle.velo_explore.specs.Trail.{IsReachedBy}
+use Rattle.velo_explore.specs.Trail.{IsNoted, IsReachedBy}
 use Rattle.velo_explore.proofs.OnKept.{All-kept, clean-among}
 use Rattle.velo_explore.proofs.OnRuns.{IsRunOf-nil}
-use Rattle.velo_explore.proofs.OnTrails.{goes-next, reached-start, reached-within}
+use Rattle.velo_explore.proofs.OnTrails.{alarms-next, alarms-same, goes-next, reached-start, reached-within}
 use Rattle.velo_explore.proofs.searching.first_level.Goals as goal
 
 pub settle-requires-clause-reached : goal.settle-requires-clause-reached
@@ -29,9 +30,26 @@ returns-clause-goes_on c =
     goes-next c.args.trail.now c.settle.new.trail c.note_closing.new.trail c.in_ok-settle.ensures.goes_on c.in_ok-note_closing.ensures.goes_on
 
 pub returns-clause-leads : goal.returns-clause-leads
-returns-clause-leads c = λ fault clean.
+returns-clause-leads c = λ n fault clean.
     let bounds = c.args.config.now.bounds in
     let scripts = c.args.scripts.now in
     let start = c.in_ok-start.start in
     let settled : Settles bounds scripts start c.settle.new.state = subst (λ b. Settles b scripts start c.settle.new.state) c.in_ok-start.ensures.bounds c.in_ok-settle.ensures.settles in
-    (settled.clean fault (clean-among bounds scripts fault c.keep.new.self.states.items c.settle.new.state c.in_ok-keep.ensures.there clean)).each [] (IsRunOf-nil bounds scripts) c.in_ok-start.ensures.start
+    (settled.clean n fault (clean-among bounds scripts n fault c.keep.new.self.states.items c.settle.new.state c.in_ok-keep.ensures.there clean)).each [] (IsRunOf-nil bounds scripts) c.in_ok-start.ensures.start
+
+pub returns-clause-alarms : goal.returns-clause-alarms
+returns-clause-alarms c =
+    let bounds = c.args.config.now.bounds in
+    let scripts = c.args.scripts.now in
+    let settled = c.in_ok-settle.ensures in
+    let reached = subst (λ b. IsReachedBy b scripts c.settle.new.trail.steps.items c.settle.new.state) c.in_ok-start.ensures.bounds settled.reached in
+    alarms-next bounds scripts c.args.trail.now c.settle.new.trail c.note_closing.new.trail settled.goes_on.first
+    (alarms-same bounds scripts c.args.trail.now c.settle.new.trail settled.alarms)
+    (c.in_ok-note_closing.ensures.alarms bounds scripts reached)
+
+pub returns-clause-noted : goal.returns-clause-noted
+returns-clause-noted c =
+    let P = IsNoted c.note_closing.new.trail in
+    All-kept P c.new-level.result.states.items c.keep.new.self.states.items c.settle.new.state c.in_ok-keep.ensures.members
+    (subst (All P) (sym c.new-level.ensures) (All-nil P))
+    (c.in_ok-note_closing.ensures.noted (λ alarmed. absurd (false≢true alarmed)))

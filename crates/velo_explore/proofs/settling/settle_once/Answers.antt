@@ -55,4 +55,5 @@ returns c =
           let r = c.requires.reached in
           reached-next bounds scripts c.args.trail.now.steps.items c.advance.new.trail.steps.items before after e r (c.in-May.ensures r.log r.run r.stands).1 (done.next r.log r.stands) done.bounds done.steps done.place;
       goes_on = done.goes_on;
+      alarms = done.alarms;
     }

@@ -1,6 +1,6 @@
 use Rattle.std.proofs.Common.{◌<◌, length, take, ◌≤◌, rules, ◌∙◌, arith}
 use Rattle.std.proofs.lemmas.Bool.Decides.{nat_tests}
-use Rattle.velo_logtext.proofs.OnDevices.{keeps_then, keeps_read}
+use Rattle.velo_bytes.proofs.OnDevices.{keeps_then, keeps_read}
 use Rattle.velo_logtext.proofs.OnWindows.{filled_more}
 use Rattle.velo_logtext.proofs.read.fill.Goals as goal
 

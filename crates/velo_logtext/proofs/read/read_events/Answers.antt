@@ -3,7 +3,7 @@ use Rattle.std.proofs.lemmas.List.{length-take-le}
 use Rattle.std.proofs.lemmas.Result.{err_from_is_err_and}
 use Rattle.velo_logtext.specs.Text.{event_lines}
 use Rattle.velo_logtext.specs.Window.{judged}
-use Rattle.velo_logtext.proofs.OnDevices.{stream_kept}
+use Rattle.velo_bytes.proofs.OnDevices.{stream_kept}
 use Rattle.velo_logtext.proofs.OnFindings.{judged_fault}
 use Rattle.velo_logtext.proofs.OnWindows.{rest_is}
 use Rattle.velo_logtext.proofs.read.read_events.Goals as goal

@@ -1,5 +1,5 @@
 use Rattle.std.proofs.Common.{◌≤◌, length, take, arith}
-use Rattle.velo_logtext.proofs.OnDevices.{keeps_read}
+use Rattle.velo_bytes.proofs.OnDevices.{keeps_read}
 use Rattle.velo_logtext.proofs.OnWindows.{filled_more}
 use Rattle.velo_logtext.proofs.reader.read_behind.Goals as goal
 

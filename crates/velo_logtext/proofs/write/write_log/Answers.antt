@@ -4,7 +4,7 @@ use Rattle.std.proofs.lemmas.Result.{IfErr-weaker, err_from_is_err_and}
 use Rattle.velo_events.specs.declared.event.Event.{Event}
 use Rattle.velo_events.specs.declared.event.Kind.TheVariants.{Read}
 use Rattle.velo_logtext.specs.Text.{AreEventsIn, event_line, event_lines, header_line, log_text}
-use Rattle.velo_logtext.proofs.OnDevices.{WroteSome, wrote_part, wrote_held, wrote_out}
+use Rattle.velo_bytes.proofs.OnDevices.{WroteSome, wrote_part, wrote_held, wrote_out}
 use Rattle.velo_logtext.proofs.OnStreams.{text_split, text_more, fit_more}
 use Rattle.velo_logtext.proofs.write.write_log.Goals as goal
 use Rattle.velo_logtext.proofs.write.write_log.Goals.{then-used+in_ok-write_all, else-used}

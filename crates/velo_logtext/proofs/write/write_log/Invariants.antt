@@ -1,6 +1,6 @@
 use Rattle.std.proofs.Common.{◌≡◌, true, ◌≤◌, ◌++◌, take}
 use Rattle.velo_logtext.specs.Text.{header_line, event_lines, AreEventsIn}
-use Rattle.velo_logtext.proofs.OnDevices.{WroteSome}
+use Rattle.velo_bytes.proofs.OnDevices.{WroteSome}
 use Rattle.velo_logtext.specs.declared.write.TheConstants.{ROOM}
 use Rattle.velo_logtext.proofs.write.write_log.Given as goal
 

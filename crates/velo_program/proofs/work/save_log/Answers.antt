@@ -1,7 +1,7 @@
 use Rattle.std.proofs.Common.{◌≡◌, ◌∙◌, List, ap, subst}
 use Rattle.std.specs.Prelude.{ℕ}
 use Rattle.std.specs.Io.KnownBytes.{Appends}
-use Rattle.velo_logtext.specs.Device.{AppendsBeginning}
+use Rattle.velo_bytes.specs.Device.{AppendsBeginning}
 use Rattle.velo_logtext.specs.Text.{log_text}
 use Rattle.velo_program.specs.Playing.{text_of_log}
 use Rattle.velo_program.specs.Writing.{writing}

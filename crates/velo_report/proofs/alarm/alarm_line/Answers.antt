@@ -3,7 +3,7 @@ use Rattle.std.specs.Prelude.{codes, decimal, OnOk, OnErr}
 use Rattle.std.specs.Io.KnownBytes.{Appends}
 use Rattle.std.proofs.lemmas.Result.{on_ok_weaker, on_err_weaker, err_from_is_err_and}
 use Rattle.velo_traces.specs.declared.block.Block.{Block}
-use Rattle.velo_logtext.specs.Device.{AppendsBeginning}
+use Rattle.velo_bytes.specs.Device.{AppendsBeginning}
 use Rattle.velo_report.specs.Alarm.{blame_texts}
 use Rattle.velo_report.specs.Lines.{spaced}
 use Rattle.velo_report.proofs.OnBuffering.{buffers-then, buffers-flushed, buffers-failed, first-failed, last-failed, flush-failed}

@@ -1,7 +1,7 @@
 use Rattle.std.proofs.Common.{List, ℕ, ◌++◌, refl, subst, ◌∙◌}
 use Rattle.std.specs.Prelude.{codes, slice_index}
 use Rattle.std.proofs.lemmas.Result.{err_from_is_err_and}
-use Rattle.velo_logtext.specs.Device.{AppendsBeginning}
+use Rattle.velo_bytes.specs.Device.{AppendsBeginning}
 use Rattle.velo_report.specs.Certificate.{serial_line}
 use Rattle.velo_report.specs.Lines.{Buffers, numbers_line}
 use Rattle.velo_report.proofs.OnCertificates.{run_items, run_next, run_split, lines_before, lines_from}

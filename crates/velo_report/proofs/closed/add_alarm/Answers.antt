@@ -1,7 +1,7 @@
 use Rattle.std.proofs.Common.{List, ◌∷◌, [], ◌++◌, refl, subst}
 use Rattle.std.specs.Prelude.{codes, decimal, OnOk, OnErr}
 use Rattle.velo_traces.specs.declared.block.Block.{Block}
-use Rattle.velo_logtext.specs.Device.{AppendsBeginning}
+use Rattle.velo_bytes.specs.Device.{AppendsBeginning}
 use Rattle.std.proofs.lemmas.Result.{on_ok_weaker, on_err_weaker, err_from_is_err_and}
 use Rattle.velo_report.specs.Lines.{line_of, Buffers}
 use Rattle.velo_report.specs.Report.{blame_lines}

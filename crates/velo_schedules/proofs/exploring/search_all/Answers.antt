@@ -1,7 +1,7 @@
 use Rattle.std.proofs.Common.{sym, ◌∙◌, arith}
 use Rattle.std.proofs.lemmas.Bool.{false≢true}
 use Rattle.velo_explore.specs.Trail.{turns_for}
-use Rattle.velo_schedules.proofs.OnTold.{cut-search, goes_on_all, leads-bodies, plain-scripts, short-scripts, alarm-ruled_out, stuck-ruled_out, refusal-ruled_out}
+use Rattle.velo_schedules.proofs.OnTold.{alarms-bodies, cut-search, goes_on_all, leads-bodies, plain-scripts, short-scripts, alarm-ruled_out, stuck-ruled_out, refusal-ruled_out}
 use Rattle.velo_explore.specs.Faults.{Cycle, Stuck, Refusing}
 use Rattle.velo_schedules.proofs.exploring.search_all.Goals as goal
 
@@ -25,9 +25,9 @@ returns-clause-refused g c = λ whole none.
     refusal-ruled_out c.args.workload.now c.args.config.now.bounds c.requires.bounds c.in_ok-scripts.scripts c.in_ok-scripts.ensures.scripts c.in_ok-scripts.ensures.count (c.in_ok-searched.ensures.whole whole Refusing none)
 
 pub returns-clause-cut : goal.returns-clause-cut
-returns-clause-cut g c = λ part.
+returns-clause-cut g c = λ part fault none.
     cut-search c.args.workload.now c.args.config.now.bounds c.requires.bounds c.in_ok-scripts.scripts c.in_ok-scripts.ensures.scripts c.args.config.now c.args.most_states c.args.first c.in_ok-searched.searched.found c.in_ok-searched.searched.states
-    c.in_ok-searched.ensures.found (c.in_ok-searched.ensures.cut part)
+    c.in_ok-searched.ensures.found (c.in_ok-searched.ensures.cut part) fault none
 
 pub returns-clause-leads : goal.returns-clause-leads
 returns-clause-leads g c = λ fault.
@@ -36,3 +36,7 @@ returns-clause-leads g c = λ fault.
 pub returns-clause-each : goal.returns-clause-each
 returns-clause-each g c = λ whole fault found.
     c.in_ok-searched.ensures.each (goes_on_all c.args.first (λ first. false≢true (sym (c.in_ok-searched.ensures.first first whole fault) ∙ found))) fault found
+
+pub returns-clause-alarms : goal.returns-clause-alarms
+returns-clause-alarms g c =
+    alarms-bodies c.args.workload.now c.args.config.now.bounds c.requires.bounds c.in_ok-scripts.scripts c.in_ok-scripts.ensures.scripts c.args.first c.in_ok-searched.searched.schedules c.in_ok-searched.ensures.alarms

@@ -1,6 +1,6 @@
 use Rattle.std.proofs.Common.{◌++◌, List, ℕ, subst}
 use Rattle.std.specs.Prelude.{OnOk, OnErr}
-use Rattle.velo_logtext.specs.Device.{AppendsBeginning}
+use Rattle.velo_bytes.specs.Device.{AppendsBeginning}
 use Rattle.velo_report.specs.Lines.{Buffers}
 use Rattle.velo_report.proofs.OnLines.{spaced-taken}
 use Rattle.velo_report.proofs.lines.Lines.add_number.Goals as goal

@@ -1,0 +1,4 @@
+pub mod Choices
+pub mod OnDevices
+pub mod OnDigits
+pub mod OnNumbers

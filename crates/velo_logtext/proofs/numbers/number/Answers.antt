@@ -1,5 +1,0 @@
-use Rattle.std.proofs.Common.{arith}
-use Rattle.velo_logtext.proofs.numbers.number.Goals as goal
-
-pub near_digits-requires-clause-near : goal.near_digits-requires-clause-near
-near_digits-requires-clause-near c = omega arith

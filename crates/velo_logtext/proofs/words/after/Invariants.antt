@@ -1,6 +1,0 @@
-use Rattle.std.proofs.Common.{◌≡◌, drop}
-use Rattle.velo_logtext.specs.Reading.{after_word}
-use Rattle.velo_logtext.proofs.words.after.Given as goal
-
-abbrev pub invariant-loop-i : goal.invariant-loop-i
-invariant-loop-i l = after_word (drop l.i l.word) (drop l.i l.bytes) ≡ after_word l.word l.bytes
