@@ -3,8 +3,7 @@ pub mod OnLinks
 pub mod OnLinkedPaths
 pub mod OnListed
 pub mod OnGreatest
-pub mod OnRows
-pub mod OnChanges
+pub mod OnNumbered
 pub mod OnCovering
 pub mod OnOwners
 pub mod OnOrders

@@ -1,18 +1,9 @@
--- Numbers before the first is taken in, and paths to a transaction to which distances are known.
-use Rattle.std.proofs.Common.{ℕ, ◌+◌, ◌<◌, ◌≤◌, cond, List, [], ◌∷◌, length, ap, arith}
+-- Paths to a transaction to which distances are known.
+use Rattle.std.proofs.Common.{ℕ, ◌+◌, ◌<◌, ◌≤◌, List, [], ◌∷◌, length, arith}
 use Rattle.std.specs.Prelude.{slice_index}
-use Rattle.std.proofs.lemmas.Bool.{lt-leb}
 use Rattle.velo_events.specs.declared.event.Event.{Event}
 use Rattle.velo_events.specs.Graph.{Path, Edge}
-use Rattle.velo_certify.specs.Table.{HasNumbers, numbers_from, AreBlank}
-use Rattle.velo_certify.specs.declared.table.Table.{Table}
 use Rattle.velo_certify.specs.Distances.{AreDistances}
-use Rattle.velo_certify.proofs.OnRows.{HasNumbers-none}
-
-pub HasNumbers-start : (trace : List Event) (numbers : ℕ → ℕ) (table : Table) → AreBlank table → HasNumbers trace (numbers_from numbers (length trace)) table
-HasNumbers-start trace numbers table blank = HasNumbers-none trace (numbers_from numbers (length trace)) table (λ i l. ap (λ b. cond {A = ℕ} b (numbers i) 0) (lt-leb (length trace) i l)) blank
-
--- ---- paths
 
 -- a path to the target is as long as its first number says, or longer
 pub AreDistances-path : (trace : List Event) (target : ℕ) (distance : List ℕ) → AreDistances trace target distance → (a : ℕ) (between : List ℕ) → Path (Edge trace) a between target → (0 < slice_index distance a) × (slice_index distance a ≤ length between + 2)

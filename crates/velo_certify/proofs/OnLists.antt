@@ -16,7 +16,7 @@ use Rattle.velo_traces.proofs.Past.{past}
 use Rattle.velo_certify.specs.declared.lists.Lists.{Lists}
 use Rattle.velo_certify.specs.Lists.{IsFirst, IsRising, IsListed, AreListed, list_sizes}
 use Rattle.velo_certify.specs.Owners.{event_at}
-use Rattle.velo_certify.specs.Table.{NamesRows, HasPlaces}
+use Rattle.velo_conflicts.specs.Places.{HasPlaces, NamesPlaces}
 
 are_same-some : (o : Option ℕ) (x : ℕ) → IsTrue (are_same o (Some x)) → o ≡ Some x
 are_same-some (Some y) x h = ap Some (eqb-true y x h)
@@ -196,27 +196,27 @@ module _ (trace : List Event) (n : ℕ) (old : Lists) (within : n < length trace
   after_n : (named : Event → Option ℕ) (fronts following : List ℕ) (x : ℕ) → IsListed trace named (n + 1) fronts following → x < length fronts → n < slice_index fronts x
   after_n named fronts following x v place = let f = (v.first x place).from_n in omega (arith, f)
 
-  next_same-rising : (k : Access) → HasPlaces (list_sizes old) k → IsRising trace (alike_with old k n)
+  next_same-rising : (k : Access) → NamesPlaces (list_sizes old) k → IsRising trace (alike_with old k n)
   next_same-rising (Shared x) h = IsRising-set trace old.next_same.items n (slice_index old.reads.items x.0) within (after_n read_in old.reads.items old.next_same.items x.0 w.reads h.1) w.next_same
   next_same-rising (Exclusive x) h = IsRising-set trace old.next_same.items n (slice_index old.writes.items x.0) within (after_n written_in old.writes.items old.next_same.items x.0 w.writes h.0) w.next_same
   next_same-rising (Access.Fork u) h = IsRising-set trace old.next_same.items n (slice_index old.handles.items u.0) within (after_n handled_in old.handles.items old.next_same.items u.0 w.handles h.1) w.next_same
   next_same-rising (Access.Join u) h = IsRising-set trace old.next_same.items n (slice_index old.handles.items u.0) within (after_n handled_in old.handles.items old.next_same.items u.0 w.handles h.1) w.next_same
   next_same-rising _ h = w.next_same
 
-placed-handle : (old : Lists) (k : Access) → HasPlaces (list_sizes old) k → IsPlaced old.handles.items (handled_of k)
+placed-handle : (old : Lists) (k : Access) → NamesPlaces (list_sizes old) k → IsPlaced old.handles.items (handled_of k)
 placed-handle old (Access.Fork u) h = h.1
 placed-handle old (Access.Join u) h = h.1
 placed-handle old _ h = tt
 
-placed-write : (old : Lists) (k : Access) → HasPlaces (list_sizes old) k → IsPlaced old.writes.items (cell_written k)
+placed-write : (old : Lists) (k : Access) → NamesPlaces (list_sizes old) k → IsPlaced old.writes.items (cell_written k)
 placed-write old (Exclusive x) h = h.0
 placed-write old _ h = tt
 
-placed-read : (old : Lists) (k : Access) → HasPlaces (list_sizes old) k → IsPlaced old.reads.items (cell_read k)
+placed-read : (old : Lists) (k : Access) → NamesPlaces (list_sizes old) k → IsPlaced old.reads.items (cell_read k)
 placed-read old (Shared x) h = h.1
 placed-read old _ h = tt
 
-pub AreListed-put : (trace : List Event) (n : ℕ) (e : Event) (old new : Lists) → slice_get trace n ≡ Some e → n < length trace → NamesRows (list_sizes old) e → AreListed trace (n + 1) old → (k : Access) → access_of e.kind ≡ k → ArePut old (thread_of e) k n new → AreListed trace n new
+pub AreListed-put : (trace : List Event) (n : ℕ) (e : Event) (old new : Lists) → slice_get trace n ≡ Some e → n < length trace → HasPlaces (list_sizes old) e → AreListed trace (n + 1) old → (k : Access) → access_of e.kind ≡ k → ArePut old (thread_of e) k n new → AreListed trace n new
 AreListed-put trace n e old new here within names w k kind is = record {
   threads = subst (λ xs. IsListed trace thread_in n xs new.following.items) (sym is.threads) (subst (IsListed trace thread_in n (set old.threads.items (thread_of e) n)) (sym is.following)
       (IsListed-after trace n e here within thread_in old.threads.items old.following.items (set old.following.items n (slice_index old.threads.items (thread_of e))) w.threads (AreSameBut-set old.following.items n (slice_index old.threads.items (thread_of e))) (Some (thread_of e)) refl names.thread
@@ -228,8 +228,8 @@ AreListed-put trace n e old new here within names w k kind is = record {
   next_same = subst (IsRising trace) (sym is.next_same) (next_same-rising trace n old within w k places);
 }
   where
-    places : HasPlaces (list_sizes old) k
-    places = subst (HasPlaces (list_sizes old)) kind names.names
+    places : NamesPlaces (list_sizes old) k
+    places = subst (NamesPlaces (list_sizes old)) kind names.names
 
     alike_row : (named : Event → Option ℕ) (o : Option ℕ) → named e ≡ o → (fronts after : List ℕ) → IsListed trace named (n + 1) fronts old.next_same.items → after ≡ with_front fronts o n → IsPlaced fronts o → ((x : ℕ) → o ≡ Some x → slice_index (alike_with old k n) n ≡ slice_index fronts x) → IsListed trace named n after new.next_same.items
     alike_row named o about fronts after v after_is place next_is = subst (λ xs. IsListed trace named n xs new.next_same.items) (sym after_is) (subst (IsListed trace named n (with_front fronts o n)) (sym is.next_same)

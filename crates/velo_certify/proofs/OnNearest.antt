@@ -7,10 +7,9 @@ use Rattle.velo_events.specs.declared.event.Event.{Event}
 use Rattle.velo_events.specs.Block.{owner}
 use Rattle.velo_events.specs.Graph.{Edge}
 use Rattle.velo_events.proofs.OnReorderings.{conflict_at-within}
-use Rattle.velo_certify.specs.Table.{IsGreatestBefore, HasNumbers, numbers_before, AreBlank}
-use Rattle.velo_certify.specs.declared.table.Table.{Table}
+use Rattle.velo_conflicts.specs.Numbers.{HasNumbers, AreBlank}
+use Rattle.velo_certify.specs.Table.{IsGreatestBefore, numbers_before}
 use Rattle.velo_certify.specs.Nearest.{own_positions, LeadsInto, IsNearest, IsNearestBelow, IsNearestSoFar, IsWithNext}
-use Rattle.velo_certify.proofs.OnRows.{HasNumbers-none}
 
 pub own_positions-yes : (trace : List Event) (a i : ℕ) → owner trace i ≡ a → own_positions trace a i ≡ 1
 unfolding own_positions
@@ -19,9 +18,6 @@ own_positions-yes trace a i h = ap (λ b. cond {A = ℕ} b 1 0) (eq-eqb _ a h)
 pub own_positions-no : (trace : List Event) (a i : ℕ) → owner trace i ≢ a → own_positions trace a i ≡ 0
 unfolding own_positions
 own_positions-no trace a i h = ap (λ b. cond {A = ℕ} b 1 0) (ne_eqb _ a h)
-
-pub HasNumbers-first : (trace : List Event) (numbers : ℕ → ℕ) (table : Table) → AreBlank table → HasNumbers trace (numbers_before numbers 0) table
-HasNumbers-first trace numbers table blank = HasNumbers-none trace (numbers_before numbers 0) table (λ i l. ap (λ b. cond {A = ℕ} b (numbers i) 0) (le-ltb i 0 (omega arith))) blank
 
 module _ (trace : List Event) (a n m : ℕ) (g : IsGreatestBefore trace (own_positions trace a) n m) where
   pub LeadsInto-by : 0 < m → owner trace n ≢ a → LeadsInto trace a n

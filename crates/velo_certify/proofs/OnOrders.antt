@@ -12,7 +12,7 @@ use Rattle.velo_events.proofs.OnBlocks.{owner-le}
 use Rattle.velo_events.proofs.OnReorderings.{conflict_at-within, IsReordering-place, IsReordering-pair}
 use Rattle.velo_certify.specs.Owners.{AreOwners}
 use Rattle.velo_certify.specs.Order.{HasEachOnce, IsFilled, ArePlaces, KeepsConflicts, owner_at, AreTogether, StandSoFar}
-use Rattle.velo_certify.specs.Table.{IsBlank}
+use Rattle.velo_conflicts.specs.Numbers.{IsBlank}
 
 -- ---- places
 

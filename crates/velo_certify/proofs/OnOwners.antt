@@ -7,7 +7,7 @@ use Rattle.velo_events.specs.declared.event.Event.{Event}
 use Rattle.velo_events.specs.Scan.{IsScanned}
 use Rattle.velo_events.proofs.OnScans.{IsScanned-start, IsScanned-other_thread}
 use Rattle.velo_traces.proofs.Past.{past}
-use Rattle.velo_certify.specs.declared.owners.ThreadBlocks.{ThreadBlocks}
+use Rattle.velo_traces.specs.declared.scanned.ThreadBlocks.{ThreadBlocks}
 use Rattle.velo_certify.specs.Owners.{AreScanned, event_at, no_blocks}
 
 -- before the first event nothing is known

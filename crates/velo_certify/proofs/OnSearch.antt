@@ -18,7 +18,7 @@ use Rattle.velo_certify.specs.Distances.{AreDistances, AreTowards}
 use Rattle.velo_certify.specs.Lists.{IsFirst, IsListed, AreListed, list_sizes}
 use Rattle.velo_certify.specs.Owners.{event_at}
 use Rattle.velo_certify.specs.Search.{IsStart, IsQueued, Grows, LeadsNewTo, AreOnLevel, IsSortedFrom, IsVisited, AreVisited, level_at, Visits, VisitsConflicts, ExpandsBelow, Expands, IsSearched}
-use Rattle.velo_certify.specs.Table.{AllNameRows}
+use Rattle.velo_conflicts.specs.Places.{AllHavePlaces}
 use Rattle.velo_certify.specs.Threads.{thread_at, IsFirstFrom}
 use Rattle.velo_certify.proofs.OnGreatest.{passes-conflict, conflict-passes}
 use Rattle.velo_certify.proofs.OnLists.{here, about-named, named-about}
@@ -35,7 +35,7 @@ IsVisited-start trace named distance fronts following w = record {
   visited = λ x i l upto h. absurd ((w.first x l).none i (omega arith) upto h);
 }
 
-pub AreVisited-start : (trace : List Event) (lists : Lists) (reached : Reached) → AreListed trace 0 lists → AllNameRows (list_sizes lists) trace (length trace) → length reached.distance.items ≡ length trace → AreVisited trace lists reached
+pub AreVisited-start : (trace : List Event) (lists : Lists) (reached : Reached) → AreListed trace 0 lists → AllHavePlaces (list_sizes lists) trace (length trace) → length reached.distance.items ≡ length trace → AreVisited trace lists reached
 AreVisited-start trace lists reached w names count = record {
   threads = IsVisited-start trace thread_in reached.distance.items lists.threads.items lists.following.items w.threads;
   handles = IsVisited-start trace handled_in reached.distance.items lists.handles.items lists.next_same.items w.handles;

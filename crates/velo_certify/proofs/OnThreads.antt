@@ -18,7 +18,7 @@ use Rattle.velo_certify.specs.declared.serial.Next.{Next}
 use Rattle.velo_certify.specs.declared.serial.Next.TheVariants.{Ready, Stuck, Done}
 use Rattle.velo_certify.specs.Owners.{event_at}
 use Rattle.velo_certify.specs.Serial.{has, AreClosed, IsFree, IsCandidate, IsNext, is_before}
-use Rattle.velo_certify.specs.Table.{Sizes, AllNameRows}
+use Rattle.velo_conflicts.specs.Places.{Sizes, AllHavePlaces}
 use Rattle.velo_certify.specs.Threads.{thread_at, IsFirstFrom, AreFirstFrom, AreFollowing, NamesFronts, AreFronts, IsBehind, IsNextSoFar, IsWithFront}
 use Rattle.velo_certify.proofs.OnSerial.{has-set, positions_below, below-stays, below-last}
 
@@ -38,7 +38,7 @@ own-conflict trace i j before within same =
 
 -- ---- the places, found from the end
 
-pub NamesFronts-by : (trace : List Event) (s : Sizes) (fronts : List ℕ) → AllNameRows s trace (length trace) → s.threads ≡ length fronts → NamesFronts trace fronts
+pub NamesFronts-by : (trace : List Event) (s : Sizes) (fronts : List ℕ) → AllHavePlaces s trace (length trace) → s.threads ≡ length fronts → NamesFronts trace fronts
 NamesFronts-by trace s fronts names count = record {
   each = λ i within. let w = (names.each i (event_at trace i) within (slice_get-get_or trace i past within)).thread in omega (arith, w, count);
 }

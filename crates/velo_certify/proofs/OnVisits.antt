@@ -20,7 +20,7 @@ use Rattle.velo_certify.specs.declared.reached.Reached.{Reached}
 use Rattle.velo_certify.specs.Lists.{list_sizes}
 use Rattle.velo_certify.specs.Owners.{event_at}
 use Rattle.velo_certify.specs.Search.{Grows, ReachesOneMore, IsVisited, AreVisited, level_at, IsSearching, ReachesBelow, Visits, VisitsList, VisitsConflicts}
-use Rattle.velo_certify.specs.Table.{NamesRows, AllNameRows}
+use Rattle.velo_conflicts.specs.Places.{HasPlaces, AllHavePlaces}
 use Rattle.velo_certify.proofs.OnLists.{here as event_here}
 use Rattle.velo_certify.proofs.OnReached.{cases_zero, Grows-twice, LeadsNewTo-twice}
 
@@ -119,7 +119,7 @@ module _ (trace : List Event) (owners : List ℕ) (at_hand x : ℕ) (lists : Lis
     reads = grows-row read_in lists.reads.items lists.next_same.items p.grows w.visited.reads;
     following = w.visited.following;
     next_same = w.visited.next_same;
-    names = subst (λ n. AllNameRows (record { threads = n; handles = length lists.handles.items; writes = length lists.writes.items; reads = length lists.reads.items }) trace (length trace)) (sym p.count) w.visited.names;
+    names = subst (λ n. AllHavePlaces (record { threads = n; handles = length lists.handles.items; writes = length lists.writes.items; reads = length lists.reads.items }) trace (length trace)) (sym p.count) w.visited.names;
     count = p.grows.count ∙ w.visited.count;
   })
 
@@ -131,7 +131,7 @@ module _ (trace : List Event) (owners : List ℕ) (at_hand x : ℕ) (lists : Lis
     reads = grows-row read_in lists.reads.items lists.next_same.items p.grows w.visited.reads;
     following = w.visited.following;
     next_same = w.visited.next_same;
-    names = subst (λ n. AllNameRows (record { threads = length lists.threads.items; handles = n; writes = length lists.writes.items; reads = length lists.reads.items }) trace (length trace)) (sym p.count) w.visited.names;
+    names = subst (λ n. AllHavePlaces (record { threads = length lists.threads.items; handles = n; writes = length lists.writes.items; reads = length lists.reads.items }) trace (length trace)) (sym p.count) w.visited.names;
     count = p.grows.count ∙ w.visited.count;
   })
 
@@ -143,7 +143,7 @@ module _ (trace : List Event) (owners : List ℕ) (at_hand x : ℕ) (lists : Lis
     reads = grows-row read_in lists.reads.items lists.next_same.items p.grows w.visited.reads;
     following = w.visited.following;
     next_same = w.visited.next_same;
-    names = subst (λ n. AllNameRows (record { threads = length lists.threads.items; handles = length lists.handles.items; writes = n; reads = length lists.reads.items }) trace (length trace)) (sym p.count) w.visited.names;
+    names = subst (λ n. AllHavePlaces (record { threads = length lists.threads.items; handles = length lists.handles.items; writes = n; reads = length lists.reads.items }) trace (length trace)) (sym p.count) w.visited.names;
     count = p.grows.count ∙ w.visited.count;
   })
 
@@ -155,7 +155,7 @@ module _ (trace : List Event) (owners : List ℕ) (at_hand x : ℕ) (lists : Lis
     reads = p.visited read_in w.visited.reads;
     following = w.visited.following;
     next_same = w.visited.next_same;
-    names = subst (λ n. AllNameRows (record { threads = length lists.threads.items; handles = length lists.handles.items; writes = length lists.writes.items; reads = n }) trace (length trace)) (sym p.count) w.visited.names;
+    names = subst (λ n. AllHavePlaces (record { threads = length lists.threads.items; handles = length lists.handles.items; writes = length lists.writes.items; reads = n }) trace (length trace)) (sym p.count) w.visited.names;
     count = p.grows.count ∙ w.visited.count;
   })
 
@@ -236,5 +236,5 @@ VisitsConflicts-plain trace n old near within plain w =
 -- ---- the places of the lists
 
 module _ (trace : List Event) (owners : List ℕ) (n : ℕ) (lists : Lists) (reached : Reached) (w : IsSearching trace owners lists reached n) where
-  pub places : NamesRows (list_sizes lists) (event_at trace n)
+  pub places : HasPlaces (list_sizes lists) (event_at trace n)
   places = w.visited.names.each n (event_at trace n) w.within (event_here trace n w.within)

@@ -1,6 +1,4 @@
 pub mod Table
-pub mod Changes
-pub mod Counts
 pub mod Owners
 pub mod Order
 pub mod Distances

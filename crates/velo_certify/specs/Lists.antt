@@ -4,7 +4,7 @@ use Rattle.velo_events.specs.declared.event.Event.{Event}
 use Rattle.velo_events.specs.About.{is_about, thread_in, handled_in, written_in, read_in}
 use Rattle.velo_events.specs.Block.{passes_at}
 use Rattle.velo_certify.specs.declared.lists.Lists.{Lists}
-use Rattle.velo_certify.specs.Table.{Sizes}
+use Rattle.velo_conflicts.specs.Places.{Sizes}
 
 -- j is the first position from n on whose event passes the test, or the number of positions where there is none
 pub record IsFirst (trace : List Event) (test : Event → Bool) (n j : ℕ) : Type 0 where

@@ -4,7 +4,7 @@ use Rattle.velo_events.specs.declared.event.Event.{Event}
 use Rattle.velo_events.specs.declared.event.Kind.TheVariants.{Read}
 use Rattle.velo_events.specs.Block.{owner}
 use Rattle.velo_events.specs.Scan.{IsScanned}
-use Rattle.velo_certify.specs.declared.owners.ThreadBlocks.{ThreadBlocks}
+use Rattle.velo_traces.specs.declared.scanned.ThreadBlocks.{ThreadBlocks}
 
 -- the numbers are the first positions of the transactions of the trace's positions
 pub record AreOwners (owners : List ℕ) (trace : List Event) : Type 0 where

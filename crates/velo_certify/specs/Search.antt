@@ -10,7 +10,7 @@ use Rattle.velo_certify.specs.declared.reached.Reached.{Reached}
 use Rattle.velo_certify.specs.Distances.{AreTowards}
 use Rattle.velo_certify.specs.Lists.{AreNext, IsRising, list_sizes}
 use Rattle.velo_certify.specs.Owners.{AreOwners}
-use Rattle.velo_certify.specs.Table.{AllNameRows}
+use Rattle.velo_conflicts.specs.Places.{AllHavePlaces}
 
 -- ---- what was reached
 
@@ -61,7 +61,7 @@ pub record AreVisited (trace : List Event) (lists : Lists) (reached : Reached) :
   pub reads : IsVisited trace read_in reached.distance.items lists.reads.items lists.next_same.items
   pub following : IsRising trace lists.following.items
   pub next_same : IsRising trace lists.next_same.items
-  pub names : AllNameRows (list_sizes lists) trace (length trace)
+  pub names : AllHavePlaces (list_sizes lists) trace (length trace)
   pub count : length reached.distance.items ≡ length trace
 
 -- the number of the transaction of a position

@@ -4,7 +4,7 @@ ghost use Rattle.velo_events.specs.Block.{owner};
 ghost use Rattle.velo_events.specs.Certificate.{IsShortestCycleAt};
 ghost use Rattle.velo_events.specs.declared.event.Event.{Event};
 ghost use Rattle.velo_certify.specs.Owners.{AreOwners};
-ghost use Rattle.velo_certify.specs.Table.{AllNameRows, sizes};
+ghost use Rattle.velo_conflicts.specs.Places.{AllHavePlaces, sizes};
 ghost use Rattle.velo_certify.specs.Distances.{AreDistances, AreNearer, AreTowards};
 ghost use Rattle.velo_certify.specs.Nearest.{IsNearest};
 ghost use Rattle.velo_certify.specs.Cycle.{IsCycleFault, IsLastFault, IsCycleFrom, IsShortestFrom, IsLinked, next_in};
@@ -12,10 +12,11 @@ ghost use Rattle.velo_certify.specs.Cycle.{IsCycleFault, IsLastFault, IsCycleFro
 use crate::CertFault;
 use crate::distances::reach_target;
 use crate::nearest::{has_edge, nearest_next};
+use crate::numbered::table_of;
 use crate::owners::{owner_of, owners_of};
 use crate::reached::Reached;
-use crate::table::Table;
 use std::alloc::Global;
+use velo_conflicts::ConflictTable;
 use velo_events::growth::reserve;
 use velo_events::{Event, Memory};
 use velo_traces::Trace;
@@ -52,7 +53,7 @@ fn last_cycle(alloc: Global, events: &[Event]) -> Result<Vec<usize>, CertFault>
     let owners = owners_of(alloc, events)?;
     let start = owner_of(events, &owners, events.len() - 1);
     let reached = reach_target(alloc, events, &owners, start)?;
-    let mut table = Table::new(alloc, events)?;
+    let mut table = table_of(alloc, events)?;
     match nearest_next(events, &owners, &mut table, &reached.distance, start) {
         Some(second) => Ok(cycle_through(alloc, &reached, start, second)?),
         None => Err(CertFault::NoCycle),
@@ -92,9 +93,9 @@ pub(crate) fn next_in(cycle: &[usize], k: usize) -> usize
 }
 
 /// Whether each transaction of the list has an edge to what comes next.
-fn is_linked(events: &[Event], owners: &[usize], table: &mut Table, cycle: &[usize]) -> bool
+fn is_linked(events: &[Event], owners: &[usize], table: &mut ConflictTable, cycle: &[usize]) -> bool
     requires owners { AreOwners owners.now events.now }
-    requires names { AllNameRows (sizes table.old) events.now (length events.now) }
+    requires names { AllHavePlaces (sizes table.old) events.now (length events.now) }
     ensures yes { IsTrue result → IsLinked events.now cycle.now (length cycle.now) }
     ensures no { IsLinked events.now cycle.now (length cycle.now) → IsTrue result }
 {
@@ -118,7 +119,7 @@ fn is_last_cycle(alloc: Global, events: &[Event], cycle: &[usize]) -> Result<boo
     if cycle[0] != owner_of(events, &owners, events.len() - 1) {
         return Ok(false);
     }
-    let mut table = Table::new(alloc, events)?;
+    let mut table = table_of(alloc, events)?;
     Ok(is_linked(events, &owners, &mut table, cycle))
 }
 

@@ -7,12 +7,15 @@ ghost use Rattle.velo_certify.specs.Cycle.{next_in, IsLinked};
 ghost use Rattle.velo_certify.specs.Edges.{ShowsEdge, ShowEdges, own_places};
 ghost use Rattle.velo_certify.specs.Owners.{AreOwners};
 ghost use Rattle.velo_certify.specs.Nearest.{LeadsInto};
-ghost use Rattle.velo_certify.specs.Table.{AllNameRows, HasNumbers, numbers_before, sizes};
+ghost use Rattle.velo_conflicts.specs.Numbers.{HasNumbers};
+ghost use Rattle.velo_conflicts.specs.Places.{AllHavePlaces, sizes};
+ghost use Rattle.velo_certify.specs.Table.{numbers_before};
 
 use crate::cycle::next_in;
+use crate::numbered::{table_of, take_in};
 use crate::owners::{owner_of, owners_of};
-use crate::table::Table;
 use std::alloc::Global;
+use velo_conflicts::ConflictTable;
 use velo_events::growth::with_capacity;
 use velo_events::{Event, Memory};
 use velo_traces::Trace;
@@ -31,13 +34,13 @@ pub struct EdgeEvents {
 fn place_before(
     events: &[Event],
     owners: &[usize],
-    table: &mut Table,
+    table: &mut ConflictTable,
     from: usize,
     at: usize,
 ) -> usize
     requires within { at < length events.now }
     requires owners { AreOwners owners.now events.now }
-    requires names { AllNameRows (sizes table.old) events.now (length events.now) }
+    requires names { AllHavePlaces (sizes table.old) events.now (length events.now) }
     requires numbers { HasNumbers events.now (numbers_before (own_places events.now from) at) table.old }
     ensures names { sizes table.new ≡ sizes table.old }
     ensures numbers { HasNumbers events.now (numbers_before (own_places events.now from) (at + 1)) table.new }
@@ -46,19 +49,19 @@ fn place_before(
 {
     let transaction = owner_of(events, owners, at);
     let number = if transaction == from { at + 1 } else { 0 };
-    table.take_in(events, at, number)
+    take_in(table, events, at, number)
 }
 
 /// The earliest event of the one transaction that conflicts with an earlier one of the other, with the latest of these.
 fn edge_events_between(
     events: &[Event],
     owners: &[usize],
-    table: &mut Table,
+    table: &mut ConflictTable,
     from: usize,
     to: usize,
 ) -> Option<EdgeEvents>
     requires owners { AreOwners owners.now events.now }
-    requires names { AllNameRows (sizes table.old) events.now (length events.now) }
+    requires names { AllHavePlaces (sizes table.old) events.now (length events.now) }
     requires differ { from ≢ to }
     ensures names { sizes table.new ≡ sizes table.old }
     ensures edge { MatchOption result (¬ Edge events.now from to) (ShowsEdge events.now from to) }
@@ -80,12 +83,12 @@ fn edge_events_between(
 fn next_edge_events(
     events: &[Event],
     owners: &[usize],
-    table: &mut Table,
+    table: &mut ConflictTable,
     cycle: &[usize],
     k: usize,
 ) -> EdgeEvents
     requires owners { AreOwners owners.now events.now }
-    requires names { AllNameRows (sizes table.old) events.now (length events.now) }
+    requires names { AllHavePlaces (sizes table.old) events.now (length events.now) }
     requires within { k < length cycle.now }
     requires linked { IsLinked events.now cycle.now (length cycle.now) }
     ensures names { sizes table.new ≡ sizes table.old }
@@ -107,7 +110,7 @@ fn all_edge_events(
     ensures { IfOk result (λ edges. ShowEdges events.now cycle.now edges.items) }
 {
     let owners = owners_of(alloc, events)?;
-    let mut table = Table::new(alloc, events)?;
+    let mut table = table_of(alloc, events)?;
     let mut edges = with_capacity(alloc, cycle.len())?;
     for k in 0..cycle.len() {
         edges.push_reserved(next_edge_events(events, &owners, &mut table, cycle, k));

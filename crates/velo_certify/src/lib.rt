@@ -3,8 +3,6 @@
 #![tactic(auto)]
 
 mod chains;
-mod changes;
-mod counts;
 mod cycle;
 mod distances;
 mod edges;
@@ -13,11 +11,11 @@ mod laws;
 mod links;
 mod lists;
 mod nearest;
+mod numbered;
 mod order;
 mod owners;
 mod reached;
 mod serial;
-mod table;
 mod threads;
 mod witness;
 

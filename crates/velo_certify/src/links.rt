@@ -1,19 +1,20 @@
 //! For each transaction some of those from which an edge leads to it: enough of them that chains of these stand for all edges.
 ghost use Rattle.std.specs.Prelude.{◌≡◌, ◌<◌, ◌+◌, length, IfOk, OnOk, IsTrue};
 ghost use Rattle.velo_events.specs.Graph.{conflict_at};
-ghost use Rattle.velo_certify.specs.Changes.{change_sizes, HasChanges};
+ghost use Rattle.velo_conflicts.specs.Numbers.{HasNumbers, IsBlank};
 ghost use Rattle.velo_certify.specs.Links.{is_weak, counted, counted_back, pair_at, AreShown, IsBefore, IsBehind, IsLinked, DropsListed, HasRows, HasLinks};
 ghost use Rattle.velo_certify.specs.Serial.{has};
 ghost use Rattle.velo_certify.specs.Owners.{AreOwners};
-ghost use Rattle.velo_certify.specs.Table.{AllNameRows, numbers_before, numbers_from, sizes_of};
+ghost use Rattle.velo_conflicts.specs.Places.{AllHavePlaces, sizes, sizes_of};
+ghost use Rattle.velo_certify.specs.Table.{numbers_before, numbers_from};
 ghost use Rattle.velo_certify.specs.Threads.{thread_at};
 
 use crate::chains::Links;
-use crate::changes::Changes;
-use crate::counts::Counts;
+use crate::numbered::take_change;
 use crate::owners::owner_of;
-use crate::table::blank_row;
 use std::alloc::Global;
+use velo_conflicts::{ConflictTable, Counts};
+use velo_events::growth::filled;
 use velo_events::{Access, Event, Memory};
 
 /// How many pairs of thread numbers there are.
@@ -38,6 +39,14 @@ fn pair_of(events: &[Event], from: usize, to: usize) -> usize
     ensures small { result < 65536 }
 {
     events[to].thread.0 as usize * 256 + events[from].thread.0 as usize
+}
+
+/// So many zeros.
+fn zeros(alloc: Global, count: usize) -> Result<Vec<usize>, Memory>
+    ensures blank { IfOk result (λ zeros. IsBlank zeros.items) }
+    ensures count { IfOk result (λ zeros. length zeros.items ≡ count) }
+{
+    filled(alloc, 0, count)
 }
 
 /// Links two positions of two threads, unless a known link stands for it: one from the same position or a later one of its
@@ -77,23 +86,23 @@ fn link(
 fn link_back(
     events: &[Event],
     owners: &[usize],
-    changes: &mut Changes,
+    table: &mut ConflictTable,
     known: &mut [usize],
     links: &mut Links,
     at: usize,
 ) -> Result<(), Memory>
     requires within { at < length events.now }
     requires owners { AreOwners owners.now events.now }
-    requires names { AllNameRows (change_sizes changes.old) events.now (length events.now) }
-    requires numbers { HasChanges events.now (numbers_before counted at) changes.old }
+    requires names { AllHavePlaces (sizes table.old) events.now (length events.now) }
+    requires numbers { HasNumbers events.now (numbers_before counted at) table.old }
     requires known { AreShown events.now (IsBefore at) links.old known.old }
     requires links { HasLinks events.now at (length events.now) links.old }
-    ensures names { change_sizes changes.new ≡ change_sizes changes.old }
-    ensures numbers { HasChanges events.now (numbers_before counted (at + 1)) changes.new }
+    ensures names { sizes table.new ≡ sizes table.old }
+    ensures numbers { HasNumbers events.now (numbers_before counted (at + 1)) table.new }
     ensures known { OnOk result (AreShown events.now (IsBefore (at + 1)) links.new known.new) }
     ensures links { OnOk result (HasLinks events.now (at + 1) (length events.now) links.new) }
 {
-    let other = changes.take(events, at, at + 1);
+    let other = take_change(table, events, at, at + 1);
     if other == 0 {
         return Ok(());
     }
@@ -104,23 +113,23 @@ fn link_back(
 fn link_on(
     events: &[Event],
     owners: &[usize],
-    changes: &mut Changes,
+    table: &mut ConflictTable,
     known: &mut [usize],
     links: &mut Links,
     at: usize,
 ) -> Result<(), Memory>
     requires within { at < length events.now }
     requires owners { AreOwners owners.now events.now }
-    requires names { AllNameRows (change_sizes changes.old) events.now (length events.now) }
-    requires numbers { HasChanges events.now (numbers_from (counted_back events.now) (at + 1)) changes.old }
+    requires names { AllHavePlaces (sizes table.old) events.now (length events.now) }
+    requires numbers { HasNumbers events.now (numbers_from (counted_back events.now) (at + 1)) table.old }
     requires known { AreShown events.now (IsBehind events.now (at + 1)) links.old known.old }
     requires links { HasLinks events.now (length events.now) (at + 1) links.old }
-    ensures names { change_sizes changes.new ≡ change_sizes changes.old }
-    ensures numbers { HasChanges events.now (numbers_from (counted_back events.now) at) changes.new }
+    ensures names { sizes table.new ≡ sizes table.old }
+    ensures numbers { HasNumbers events.now (numbers_from (counted_back events.now) at) table.new }
     ensures known { OnOk result (AreShown events.now (IsBehind events.now at) links.new known.new) }
     ensures links { OnOk result (HasLinks events.now (length events.now) at links.new) }
 {
-    let other = changes.take(events, at, events.len() - at);
+    let other = take_change(table, events, at, events.len() - at);
     if other == 0 {
         return Ok(());
     }
@@ -143,18 +152,19 @@ fn link_all_back(
     alloc: Global,
     events: &[Event],
     owners: &[usize],
-    counts: Counts,
+    table: &mut ConflictTable,
     links: &mut Links,
 ) -> Result<(), Memory>
     requires owners { AreOwners owners.now events.now }
-    requires names { AllNameRows (sizes_of counts.threads counts.cells) events.now (length events.now) }
+    requires names { AllHavePlaces (sizes table.old) events.now (length events.now) }
     requires links { HasLinks events.now 0 (length events.now) links.old }
-    ensures { OnOk result (HasLinks events.now (length events.now) (length events.now) links.new) }
+    ensures names { sizes table.new ≡ sizes table.old }
+    ensures links { OnOk result (HasLinks events.now (length events.now) (length events.now) links.new) }
 {
-    let mut changes = Changes::new(alloc, counts)?;
-    let mut known = blank_row(alloc, PAIRS)?;
+    table.clear();
+    let mut known = zeros(alloc, PAIRS)?;
     for at in 0..events.len() {
-        link_back(events, owners, &mut changes, &mut known, links, at)?;
+        link_back(events, owners, table, &mut known, links, at)?;
     }
     Ok(())
 }
@@ -164,20 +174,20 @@ fn link_all_on(
     alloc: Global,
     events: &[Event],
     owners: &[usize],
-    counts: Counts,
+    table: &mut ConflictTable,
     links: &mut Links,
 ) -> Result<(), Memory>
     requires owners { AreOwners owners.now events.now }
-    requires names { AllNameRows (sizes_of counts.threads counts.cells) events.now (length events.now) }
+    requires names { AllHavePlaces (sizes table.old) events.now (length events.now) }
     requires links { HasLinks events.now (length events.now) (length events.now) links.old }
     ensures { OnOk result (HasLinks events.now (length events.now) 0 links.new) }
 {
-    let mut changes = Changes::new(alloc, counts)?;
-    let mut known = blank_row(alloc, PAIRS)?;
+    table.clear();
+    let mut known = zeros(alloc, PAIRS)?;
     let mut at = events.len();
     while at > 0 {
         at -= 1;
-        link_on(events, owners, &mut changes, &mut known, links, at)?;
+        link_on(events, owners, table, &mut known, links, at)?;
     }
     Ok(())
 }
@@ -193,12 +203,13 @@ pub(crate) fn links_of(
     counts: Counts,
 ) -> Result<Links, Memory>
     requires owners { AreOwners owners.now events.now }
-    requires names { AllNameRows (sizes_of counts.threads counts.cells) events.now (length events.now) }
+    requires names { AllHavePlaces (sizes_of counts.threads counts.cells) events.now (length events.now) }
     ensures { IfOk result (HasLinks events.now (length events.now) 0) }
 {
     let mut links = Links::new(alloc, events.len())?;
-    link_all_back(alloc, events, owners, counts, &mut links)?;
-    link_all_on(alloc, events, owners, counts, &mut links)?;
+    let mut table = ConflictTable::new(alloc, counts.threads, counts.cells)?;
+    link_all_back(alloc, events, owners, &mut table, &mut links)?;
+    link_all_on(alloc, events, owners, &mut table, &mut links)?;
     Ok(links)
 }
 

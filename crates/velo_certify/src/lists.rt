@@ -3,11 +3,12 @@ ghost use Rattle.std.specs.Prelude.{◌≡◌, ◌≤◌, ◌<◌, ◌+◌, leng
 ghost use Rattle.velo_certify.specs.Lists.{AreListed, IsRising, list_sizes};
 ghost use Rattle.velo_certify.specs.Owners.{AreOwners};
 ghost use Rattle.velo_certify.specs.Search.{AreVisited, IsSearching, Visits, VisitsConflicts, VisitsList, level_at};
-ghost use Rattle.velo_certify.specs.Table.{AllNameRows, is_about, thread_in, handled_in, written_in, read_in};
+ghost use Rattle.velo_events.specs.About.{is_about, thread_in, handled_in, written_in, read_in};
+ghost use Rattle.velo_conflicts.specs.Places.{AllHavePlaces};
 
-use crate::counts::counts_of;
 use crate::reached::Reached;
 use std::alloc::Global;
+use velo_conflicts::counts_of;
 use velo_events::growth::filled;
 use velo_events::{Access, Event, Memory};
 
@@ -72,7 +73,7 @@ impl Lists {
     /// # Errors
     /// `Memory` where a growth was refused.
     pub fn new(alloc: Global, events: &[Event]) -> Result<Lists, Memory>
-        ensures names { IfOk result (λ lists. AllNameRows (list_sizes lists) events.now (length events.now)) }
+        ensures names { IfOk result (λ lists. AllHavePlaces (list_sizes lists) events.now (length events.now)) }
         ensures lists { IfOk result (AreListed events.now 0) }
     {
         let counts = counts_of(events);
@@ -96,7 +97,7 @@ impl Lists {
     /// Puts a position at the front of its lists.
     fn put(&mut self, events: &[Event], at: usize)
         requires within { at < length events.now }
-        requires names { AllNameRows (list_sizes self.old) events.now (length events.now) }
+        requires names { AllHavePlaces (list_sizes self.old) events.now (length events.now) }
         requires lists { AreListed events.now (at + 1) self.old }
         ensures sizes { list_sizes self.new ≡ list_sizes self.old }
         ensures lists { AreListed events.now at self.new }

@@ -2,19 +2,28 @@
 ghost use Rattle.std.specs.Prelude.{◌≡◌, ◌≤◌, ◌<◌, ◌+◌, ◌↔◌, ◌⊎◌, ℕ, length, slice_index, IfSome, MatchOption, IsTrue};
 ghost use Rattle.velo_events.specs.Graph.{Edge};
 ghost use Rattle.velo_certify.specs.Owners.{AreOwners};
-ghost use Rattle.velo_certify.specs.Table.{HasNumbers, numbers_before, AllNameRows, sizes};
+ghost use Rattle.velo_conflicts.specs.Numbers.{HasNumbers};
+ghost use Rattle.velo_conflicts.specs.Places.{AllHavePlaces, sizes};
+ghost use Rattle.velo_certify.specs.Table.{numbers_before};
 ghost use Rattle.velo_certify.specs.Nearest.{own_positions, LeadsInto, IsWithNext, IsNearest};
 
+use crate::numbered::take_in;
 use crate::owners::owner_of;
-use crate::table::Table;
+use velo_conflicts::ConflictTable;
 use velo_events::Event;
 
 /// Takes in the event at a position, where those before it were taken in. Whether it makes an edge from the transaction to
 /// its own.
-fn makes_edge(events: &[Event], owners: &[usize], table: &mut Table, from: usize, at: usize) -> bool
+fn makes_edge(
+    events: &[Event],
+    owners: &[usize],
+    table: &mut ConflictTable,
+    from: usize,
+    at: usize,
+) -> bool
     requires within { at < length events.now }
     requires owners { AreOwners owners.now events.now }
-    requires names { AllNameRows (sizes table.old) events.now (length events.now) }
+    requires names { AllHavePlaces (sizes table.old) events.now (length events.now) }
     requires numbers { HasNumbers events.now (numbers_before (own_positions events.now from) at) table.old }
     ensures names { sizes table.new ≡ sizes table.old }
     ensures numbers { HasNumbers events.now (numbers_before (own_positions events.now from) (at + 1)) table.new }
@@ -22,7 +31,7 @@ fn makes_edge(events: &[Event], owners: &[usize], table: &mut Table, from: usize
 {
     let transaction = owner_of(events, owners, at);
     let number = if transaction == from { 1 } else { 0 };
-    let found = table.take_in(events, at, number);
+    let found = take_in(table, events, at, number);
     found > 0 && transaction != from
 }
 
@@ -30,12 +39,12 @@ fn makes_edge(events: &[Event], owners: &[usize], table: &mut Table, from: usize
 pub(crate) fn has_edge(
     events: &[Event],
     owners: &[usize],
-    table: &mut Table,
+    table: &mut ConflictTable,
     from: usize,
     to: usize,
 ) -> bool
     requires owners { AreOwners owners.now events.now }
-    requires names { AllNameRows (sizes table.old) events.now (length events.now) }
+    requires names { AllHavePlaces (sizes table.old) events.now (length events.now) }
     ensures names { sizes table.new ≡ sizes table.old }
     ensures yes { IsTrue result → Edge events.now from to }
     ensures no { Edge events.now from to → IsTrue result }
@@ -85,12 +94,12 @@ fn with_next(distance: &[usize], nearest: Option<usize>, next: usize) -> Option<
 pub(crate) fn nearest_next(
     events: &[Event],
     owners: &[usize],
-    table: &mut Table,
+    table: &mut ConflictTable,
     distance: &[usize],
     from: usize,
 ) -> Option<usize>
     requires owners { AreOwners owners.now events.now }
-    requires names { AllNameRows (sizes table.old) events.now (length events.now) }
+    requires names { AllHavePlaces (sizes table.old) events.now (length events.now) }
     requires count { length distance.now ≡ length events.now }
     ensures names { sizes table.new ≡ sizes table.old }
     ensures nearest { MatchOption result ((b : ℕ) → Edge events.now from b → slice_index distance.now b ≡ 0) (IsNearest events.now distance.now from) }

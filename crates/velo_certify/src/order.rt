@@ -2,10 +2,10 @@
 ghost use Rattle.std.specs.Prelude.{◌≡◌, ◌≤◌, ◌<◌, ◌+◌, ◌↔◌, ℕ, length, slice_index, IfOk, IfSome, IfNone, IsTrue, IsFalse};
 ghost use Rattle.velo_events.specs.Reordering.{IsReordering, IsSerial};
 ghost use Rattle.velo_certify.specs.Order.{HasEachOnce, IsFilled, ArePlaces, KeepsConflicts, AreTogether, StandSoFar};
-ghost use Rattle.velo_certify.specs.Table.{IsBlank};
+ghost use Rattle.velo_conflicts.specs.Numbers.{IsBlank};
 
+use crate::numbered::{table_of, take_in};
 use crate::owners::owners_of;
-use crate::table::Table;
 use std::alloc::Global;
 use velo_events::growth::filled;
 use velo_events::{Event, Memory};
@@ -65,9 +65,9 @@ fn keeps_conflicts(alloc: Global, events: &[Event], places: &[usize]) -> Result<
     requires positive { (i : ℕ) → i < length places.now → 0 < slice_index places.now i }
     ensures { IfOk result (λ yes. IsTrue yes ↔ KeepsConflicts events.now places.now) }
 {
-    let mut table = Table::new(alloc, events)?;
+    let mut table = table_of(alloc, events)?;
     for j in 0..events.len() {
-        if table.take_in(events, j, places[j]) >= places[j] {
+        if take_in(&mut table, events, j, places[j]) >= places[j] {
             return Ok(false);
         }
     }

@@ -1,54 +1,15 @@
 //! The transactions of all positions of a trace, found in one pass.
 ghost use Rattle.std.specs.Prelude.{◌≡◌, ◌≤◌, ◌<◌, ◌+◌, ◌++◌, ◌∷◌, [], length, IfOk};
 ghost use Rattle.velo_events.specs.Block.{owner};
-ghost use Rattle.velo_events.specs.Scan.{IsScanned};
-ghost use Rattle.velo_certify.specs.Owners.{AreOwners, AreScanned, event_at};
+ghost use Rattle.velo_certify.specs.Owners.{AreOwners, AreScanned};
 
 use std::alloc::Global;
 use velo_events::growth::{filled, with_capacity};
-use velo_events::{Event, Kind, Memory};
+use velo_events::{Event, Memory};
+use velo_traces::{ThreadBlocks, blocks_after};
 
 /// How many numbers a thread can have.
 const THREAD_NUMBERS: usize = 256;
-
-/// What is known of a thread's open blocks before some position of a trace.
-#[derive(Clone, Copy)]
-pub(crate) struct ThreadBlocks {
-    /// How many are open.
-    depth: usize,
-    /// Where the outermost begins, if one is open.
-    first: usize,
-}
-
-/// Takes the event at a position in, which is of the scanned thread.
-fn blocks_after(events: &[Event], at: usize, blocks: ThreadBlocks) -> ThreadBlocks
-    requires within { at < length events.now }
-    requires small { blocks.depth ≤ at }
-    requires scanned { IsScanned events.now (event_at events.now at).thread.0 at blocks.depth blocks.first }
-    ensures small { result.depth ≤ at + 1 }
-    ensures scanned { IsScanned events.now (event_at events.now at).thread.0 (at + 1) result.depth result.first }
-{
-    match events[at].kind {
-        Kind::Begin(_) => {
-            if blocks.depth == 0 {
-                ThreadBlocks {
-                    depth: 1,
-                    first: at,
-                }
-            } else {
-                ThreadBlocks {
-                    depth: blocks.depth + 1,
-                    ..blocks
-                }
-            }
-        }
-        Kind::End => ThreadBlocks {
-            depth: blocks.depth.saturating_sub(1),
-            ..blocks
-        },
-        _ => blocks,
-    }
-}
 
 /// The transaction of a position, after which its thread is scanned one event further.
 fn next_owner(events: &[Event], at: usize, threads: &mut [ThreadBlocks]) -> usize
@@ -59,7 +20,7 @@ fn next_owner(events: &[Event], at: usize, threads: &mut [ThreadBlocks]) -> usiz
 {
     let thread = events[at].thread.0 as usize;
     let blocks = threads[thread];
-    threads[thread] = blocks_after(events, at, blocks);
+    threads[thread] = blocks_after(events, events[at].thread, at, blocks);
     if blocks.depth > 0 { blocks.first } else { at }
 }
 

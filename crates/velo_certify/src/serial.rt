@@ -10,11 +10,11 @@ ghost use Rattle.velo_certify.specs.Threads.{AreFollowing, AreFronts, IsBehind, 
 
 use crate::CertFault;
 use crate::chains::Links;
-use crate::counts::counts_of;
 use crate::links::{drop_listed, links_of};
 use crate::owners::{owner_of, owners_of};
 use crate::threads::Threads;
 use std::alloc::Global;
+use velo_conflicts::counts_of;
 use velo_events::growth::{filled, reserve, with_capacity};
 use velo_events::{Event, Memory};
 use velo_traces::Trace;

@@ -1,10 +1,10 @@
 //! The events of each thread in their order, and how far each thread's are listed.
 ghost use Rattle.std.specs.Prelude.{◌≡◌, ◌<◌, ◌+◌, length, IfOk};
-ghost use Rattle.velo_certify.specs.Table.{AllNameRows, sizes_of};
+ghost use Rattle.velo_conflicts.specs.Places.{AllHavePlaces, sizes_of};
 ghost use Rattle.velo_certify.specs.Threads.{AreFirstFrom, AreFollowing, NamesFronts};
 
-use crate::counts::Counts;
 use std::alloc::Global;
+use velo_conflicts::Counts;
 use velo_events::growth::filled;
 use velo_events::{Event, Memory};
 
@@ -23,7 +23,7 @@ impl Threads {
     /// # Errors
     /// `Memory` where a growth was refused.
     pub fn new(alloc: Global, events: &[Event], counts: Counts) -> Result<Threads, Memory>
-        requires { AllNameRows (sizes_of counts.threads counts.cells) events.now (length events.now) }
+        requires { AllHavePlaces (sizes_of counts.threads counts.cells) events.now (length events.now) }
         ensures names { IfOk result (λ threads. NamesFronts events.now threads.fronts.items) }
         ensures fronts { IfOk result (λ threads. AreFirstFrom events.now 0 threads.fronts.items) }
         ensures following { IfOk result (λ threads. AreFollowing events.now 0 threads.following.items) }

@@ -1,20 +1,28 @@
 //! Why a block is to blame: an event of another thread that no reordering moves out of it.
 ghost use Rattle.std.specs.Prelude.{◌≡◌, ◌≢◌, ◌≤◌, ◌<◌, ◌+◌, ℕ, length, slice_index, vec_len, vec_capacity, IfOk, MatchOption, IsTrue};
-ghost use Rattle.velo_certify.specs.Table.{AllNameRows, HasNumbers, sizes};
+ghost use Rattle.velo_conflicts.specs.Numbers.{HasNumbers};
+ghost use Rattle.velo_conflicts.specs.Places.{AllHavePlaces, sizes};
 ghost use Rattle.velo_certify.specs.Witness.{AreMarks, IsWitness};
 
-use crate::table::Table;
+use crate::numbered::table_of;
 use std::alloc::Global;
+use velo_conflicts::ConflictTable;
 use velo_events::growth::with_capacity;
 use velo_events::{Event, Memory, conflicts};
 use velo_traces::Trace;
 
 /// Takes the next event in, and marks it where it is the begin or a marked one conflicts with it.
-fn mark_next(events: &[Event], table: &mut Table, begin: usize, marks: &mut Vec<usize>, at: usize)
+fn mark_next(
+    events: &[Event],
+    table: &mut ConflictTable,
+    begin: usize,
+    marks: &mut Vec<usize>,
+    at: usize,
+)
     requires at { length marks.old.items ≡ at }
     requires within { at < length events.now }
     requires room { vec_len marks.old < vec_capacity marks.old }
-    requires names { AllNameRows (sizes table.old) events.now (length events.now) }
+    requires names { AllHavePlaces (sizes table.old) events.now (length events.now) }
     requires numbers { HasNumbers events.now (slice_index marks.old.items) table.old }
     requires marks { AreMarks events.now begin marks.old.items }
     ensures names { sizes table.new ≡ sizes table.old }
@@ -26,7 +34,7 @@ fn mark_next(events: &[Event], table: &mut Table, begin: usize, marks: &mut Vec<
     let event = events[at];
     let greatest = table.look_up(event);
     let number = if at == begin { 1 } else { greatest };
-    table.note(event, number);
+    table.record(event, number);
     marks.push_reserved(number);
 }
 
@@ -41,7 +49,7 @@ fn marks_before(
     ensures marks { IfOk result (λ marks. AreMarks events.now begin marks.items) }
     ensures count { IfOk result (λ marks. length marks.items ≡ position) }
 {
-    let mut table = Table::new(alloc, events)?;
+    let mut table = table_of(alloc, events)?;
     let mut marks = with_capacity(alloc, position)?;
     for at in 0..position {
         mark_next(events, &mut table, begin, &mut marks, at);

@@ -4,6 +4,7 @@ ghost use Rattle.velo_events.specs.declared.limits.TheConstants.{MOST_OPEN_BLOCK
 ghost use Rattle.velo_events.specs.Block.{is_open_at, open_blocks};
 ghost use Rattle.velo_events.specs.Scan.{LeavesEnds, open_from};
 ghost use Rattle.velo_traces.specs.Blocks.{block_at};
+ghost use Rattle.velo_traces.specs.Open.{open_block_at};
 
 use crate::block::Block;
 use smallvec::SmallVec;
@@ -23,8 +24,51 @@ fn put_first(blocks: &mut SmallVec<Block, MOST_OPEN_BLOCKS>, block: Block)
     }
 }
 
-/// Takes the event at a position in, where those after it were taken in before. Counts the ends that wait for a begin
-/// further up: a begin that meets one is closed, another is open.
+/// What a scan from the end of a trace finds at a position.
+#[derive(Clone, Copy, Debug)]
+pub struct ScannedBack {
+    /// The ends of the thread from here on that wait for a begin further up.
+    pub ends: usize,
+    /// The block that begins here, if it is open at the end of the trace.
+    pub block: Option<Block>,
+}
+
+/// Looks at the event at a position, by the ends that wait behind it: a begin that meets one is closed, another is open.
+pub fn scan_back(events: &[Event], thread: ThreadId, at: usize, ends: usize) -> ScannedBack
+    requires within { at < length events.now }
+    requires few_ends { ends + at < length events.now }
+    requires ends { LeavesEnds events.now thread.0 (at + 1) ends }
+    ensures few_ends { result.ends + at ≤ length events.now }
+    ensures ends { LeavesEnds events.now thread.0 at result.ends }
+    ensures block { result.block ≡ open_block_at events.now thread.0 at }
+{
+    let event = events[at];
+    if event.thread != thread {
+        return ScannedBack { ends, block: None };
+    }
+    match event.kind {
+        Kind::End => ScannedBack {
+            ends: ends + 1,
+            block: None,
+        },
+        Kind::Begin(label) => {
+            if ends > 0 {
+                return ScannedBack {
+                    ends: ends - 1,
+                    block: None,
+                };
+            }
+            ScannedBack {
+                ends,
+                block: Some(Block { first: at, label }),
+            }
+        }
+        _ => ScannedBack { ends, block: None },
+    }
+}
+
+/// Puts the block that begins at a position before the others, if it is open at the end. The answer is the number of ends
+/// that wait for a begin further up.
 fn take_in(
     events: &[Event],
     thread: ThreadId,
@@ -43,21 +87,11 @@ fn take_in(
     ensures blocks { blocks.new.items ≡ map (block_at events.now) (open_from events.now thread.0 at) }
     ensures inline { blocks.new.capacity ≡ MOST_OPEN_BLOCKS }
 {
-    let event = events[at];
-    if event.thread != thread {
-        return ends;
+    let found = scan_back(events, thread, at, ends);
+    if let Some(block) = found.block {
+        put_first(blocks, block);
     }
-    match event.kind {
-        Kind::End => ends + 1,
-        Kind::Begin(label) => {
-            if ends > 0 {
-                return ends - 1;
-            }
-            put_first(blocks, Block { first: at, label });
-            0
-        }
-        _ => ends,
-    }
+    found.ends
 }
 
 /// The blocks of a thread that are open at the end of the events, outermost first. At most [`MOST_OPEN_BLOCKS`] may be

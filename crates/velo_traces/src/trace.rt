@@ -1,16 +1,16 @@
 ghost use Rattle.velo_events.specs.declared.limits.TheConstants.{MOST_OPEN_BLOCKS};
 ghost use Rattle.velo_events.specs.Block.{owner, open_blocks};
 ghost use Rattle.velo_traces.specs.Blocks.{block_at};
-ghost use Rattle.velo_events.specs.Scan.{IsScanned};
 ghost use Rattle.std.specs.Prelude.{◌≤◌, ◌+◌, ◌≡◌, ◌∷◌, [], ◌++◌, ◌<◌, length, map, slice_get, OnOk, OnErr, IsOk, option_copied, IsTrue, ◌↔◌};
 
 use crate::block::Block;
 use crate::open::open_blocks_in;
+use crate::scanned::{ThreadBlocks, blocks_after};
 use smallvec::SmallVec;
 use std::alloc::Global;
 use std::marker::Model;
 use velo_events::growth::reserve;
-use velo_events::{Event, Kind, MOST_OPEN_BLOCKS, Memory, ThreadId};
+use velo_events::{Event, MOST_OPEN_BLOCKS, Memory, ThreadId};
 
 /// The events that threads performed over a shared heap, in order. It stores whatever is pushed: `well_formed` judges it.
 #[derive(Debug, Drop)]
@@ -116,49 +116,6 @@ impl Trace {
         ensures { result ≡ owner self.now.events i }
     {
         owner_in(self.as_slice(), i)
-    }
-}
-
-/// What is known of a thread's open blocks before some position of a trace.
-#[derive(Clone, Copy)]
-struct ThreadBlocks {
-    /// How many are open.
-    depth: usize,
-    /// Where the outermost begins, if one is open.
-    first: usize,
-}
-
-/// Takes the event at a position in, where those before it were taken in before.
-fn blocks_after(events: &[Event], thread: ThreadId, at: usize, blocks: ThreadBlocks) -> ThreadBlocks
-    requires within { at < length events.now }
-    requires small { blocks.depth ≤ at }
-    requires scanned { IsScanned events.now thread.0 at blocks.depth blocks.first }
-    ensures small { result.depth ≤ at + 1 }
-    ensures scanned { IsScanned events.now thread.0 (at + 1) result.depth result.first }
-{
-    let event = events[at];
-    if event.thread != thread {
-        return blocks;
-    }
-    match event.kind {
-        Kind::Begin(_) => {
-            if blocks.depth == 0 {
-                ThreadBlocks {
-                    depth: 1,
-                    first: at,
-                }
-            } else {
-                ThreadBlocks {
-                    depth: blocks.depth + 1,
-                    ..blocks
-                }
-            }
-        }
-        Kind::End => ThreadBlocks {
-            depth: blocks.depth.saturating_sub(1),
-            ..blocks
-        },
-        _ => blocks,
     }
 }
 

@@ -1,13 +1,15 @@
-use Rattle.std.proofs.Common.{length}
-use Rattle.velo_certify.specs.Changes.{change_sizes, HasChanges}
+use Rattle.std.proofs.Common.{◌≡◌, length}
+use Rattle.velo_conflicts.specs.Numbers.{HasNumbers}
 use Rattle.velo_certify.specs.Links.{counted, IsBefore, AreShown, HasLinks}
-use Rattle.velo_certify.specs.Table.{AllNameRows, numbers_before}
+use Rattle.velo_conflicts.specs.Places.{sizes, AllHavePlaces}
+use Rattle.velo_certify.specs.Table.{numbers_before}
 use Rattle.velo_certify.proofs.links.link_all_back.Given as goal
 
 abbrev pub invariant-loop-at : goal.invariant-loop-at
 invariant-loop-at l = record {
-  names : AllNameRows (change_sizes l.changes) l.events (length l.events);
-  numbers : HasChanges l.events (numbers_before counted l.at) l.changes;
+  same : sizes l.table ≡ sizes l.fn.table;
+  names : AllHavePlaces (sizes l.table) l.events (length l.events);
+  numbers : HasNumbers l.events (numbers_before counted l.at) l.table;
   known : AreShown l.events (IsBefore l.at) l.links l.known.items;
   links : HasLinks l.events l.at (length l.events) l.links;
 }

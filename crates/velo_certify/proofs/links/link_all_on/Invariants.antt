@@ -1,14 +1,15 @@
 use Rattle.std.proofs.Common.{◌≤◌, length}
-use Rattle.velo_certify.specs.Changes.{change_sizes, HasChanges}
+use Rattle.velo_conflicts.specs.Numbers.{HasNumbers}
 use Rattle.velo_certify.specs.Links.{counted_back, IsBehind, AreShown, HasLinks}
-use Rattle.velo_certify.specs.Table.{AllNameRows, numbers_from}
+use Rattle.velo_conflicts.specs.Places.{sizes, AllHavePlaces}
+use Rattle.velo_certify.specs.Table.{numbers_from}
 use Rattle.velo_certify.proofs.links.link_all_on.Given as goal
 
 abbrev pub invariant-loop-at : goal.invariant-loop-at
 invariant-loop-at l = record {
   within : l.at ≤ length l.events;
-  names : AllNameRows (change_sizes l.changes) l.events (length l.events);
-  numbers : HasChanges l.events (numbers_from (counted_back l.events) l.at) l.changes;
+  names : AllHavePlaces (sizes l.table) l.events (length l.events);
+  numbers : HasNumbers l.events (numbers_from (counted_back l.events) l.at) l.table;
   known : AreShown l.events (IsBehind l.events l.at) l.links l.known.items;
   links : HasLinks l.events (length l.events) l.at l.links;
 }

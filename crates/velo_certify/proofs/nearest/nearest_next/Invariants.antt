@@ -1,5 +1,7 @@
 use Rattle.std.proofs.Common.{◌≡◌}
-use Rattle.velo_certify.specs.Table.{HasNumbers, numbers_before, sizes}
+use Rattle.velo_conflicts.specs.Numbers.{HasNumbers}
+use Rattle.velo_conflicts.specs.Places.{sizes}
+use Rattle.velo_certify.specs.Table.{numbers_before}
 use Rattle.velo_certify.specs.Nearest.{own_positions, IsNearestSoFar}
 use Rattle.velo_certify.proofs.nearest.nearest_next.Given as goal
 

@@ -1,7 +1,7 @@
 use Rattle.std.proofs.Common.{sym, ◌∙◌, subst, ⊎_elim, inl, inr}
 use Rattle.velo_events.specs.declared.event.Access.{Access}
 use Rattle.velo_certify.specs.Lists.{list_sizes}
-use Rattle.velo_certify.specs.Table.{HasPlaces}
+use Rattle.velo_conflicts.specs.Places.{NamesPlaces}
 use Rattle.velo_certify.proofs.OnVisits.{places, Visits-near, VisitsConflicts-read, VisitsConflicts-write, VisitsConflicts-handled, VisitsConflicts-plain}
 use Rattle.velo_certify.proofs.lists.Lists.visit_conflicts.Goals as goal
 
@@ -11,25 +11,25 @@ visit_handle-requires-clause-thing c = (places c.args.events.now c.args.owners.n
 pub visit_writes-requires-clause-thing : goal.visit_writes-requires-clause-thing
 visit_writes-requires-clause-thing c =
     let lists = c.visit_handle.new.self in
-    (subst (HasPlaces (list_sizes lists)) (sym c.access.ensures ∙ c.in-Shared.is) (places c.args.events.now c.args.owners.now c.args.at lists c.visit_handle.new.reached c.visit_handle.ensures.search).names).0
+    (subst (NamesPlaces (list_sizes lists)) (sym c.access.ensures ∙ c.in-Shared.is) (places c.args.events.now c.args.owners.now c.args.at lists c.visit_handle.new.reached c.visit_handle.ensures.search).names).0
 
 pub visit_writes-requires-in-Exclusive-clause-thing : goal.visit_writes-requires-in-Exclusive-clause-thing
 visit_writes-requires-in-Exclusive-clause-thing c =
     let lists = c.visit_handle.new.self in
-    (subst (HasPlaces (list_sizes lists)) (sym c.access.ensures ∙ c.in-Exclusive.is) (places c.args.events.now c.args.owners.now c.args.at lists c.visit_handle.new.reached c.visit_handle.ensures.search).names).0
+    (subst (NamesPlaces (list_sizes lists)) (sym c.access.ensures ∙ c.in-Exclusive.is) (places c.args.events.now c.args.owners.now c.args.at lists c.visit_handle.new.reached c.visit_handle.ensures.search).names).0
 
 pub visit_reads-requires-clause-thing : goal.visit_reads-requires-clause-thing
 visit_reads-requires-clause-thing c =
     let lists = c.visit_writes-in-Exclusive.new.self in
-    (subst (HasPlaces (list_sizes lists)) (sym c.access.ensures ∙ c.in-Exclusive.is) (places c.args.events.now c.args.owners.now c.args.at lists c.visit_writes-in-Exclusive.new.reached c.visit_writes-in-Exclusive.ensures.search).names).1
+    (subst (NamesPlaces (list_sizes lists)) (sym c.access.ensures ∙ c.in-Exclusive.is) (places c.args.events.now c.args.owners.now c.args.at lists c.visit_writes-in-Exclusive.new.reached c.visit_writes-in-Exclusive.ensures.search).names).1
 
 pub visit_thread-requires-in-Fork-clause-thing : goal.visit_thread-requires-in-Fork-clause-thing
 visit_thread-requires-in-Fork-clause-thing c =
     let lists = c.visit_handle.new.self in
     let w = places c.args.events.now c.args.owners.now c.args.at lists c.visit_handle.new.reached c.visit_handle.ensures.search in
     ⊎_elim
-    (λ is. let named : HasPlaces (list_sizes lists) (Access.Fork c.in-Fork.u) = subst (HasPlaces (list_sizes lists)) (sym c.access.ensures ∙ is) w.names in named.0)
-    (λ is. let named : HasPlaces (list_sizes lists) (Access.Join c.in-Fork.u) = subst (HasPlaces (list_sizes lists)) (sym c.access.ensures ∙ is) w.names in named.0)
+    (λ is. let named : NamesPlaces (list_sizes lists) (Access.Fork c.in-Fork.u) = subst (NamesPlaces (list_sizes lists)) (sym c.access.ensures ∙ is) w.names in named.0)
+    (λ is. let named : NamesPlaces (list_sizes lists) (Access.Join c.in-Fork.u) = subst (NamesPlaces (list_sizes lists)) (sym c.access.ensures ∙ is) w.names in named.0)
     c.in-Fork.is
 
 pub returns-in-Shared-clause-visits : goal.returns-in-Shared-clause-visits

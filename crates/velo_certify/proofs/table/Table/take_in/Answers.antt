@@ -1,9 +1,0 @@
-use Rattle.std.proofs.lemmas.Option.{slice_get-get_or}
-use Rattle.velo_traces.proofs.Past.{past}
-use Rattle.velo_certify.proofs.OnRows.{TakesIn-by}
-use Rattle.velo_certify.proofs.table.Table.take_in.Goals as goal
-
-pub returns-clause-taken : goal.returns-clause-taken
-returns-clause-taken c =
-    TakesIn-by c.args.events.now c.args.at _ c.args.number c.args.self.now c.note.new.self c.look_up-greatest.result
-    (slice_get-get_or c.args.events.now c.args.at past c.requires.within) c.look_up-greatest.ensures c.note.ensures.noted

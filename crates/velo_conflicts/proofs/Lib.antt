@@ -1,0 +1,2 @@
+pub mod OnGreatest
+pub mod OnRows
