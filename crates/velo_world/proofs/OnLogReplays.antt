@@ -1,7 +1,7 @@
 -- A recorded log that comes about again, or does not.
-use Rattle.std.proofs.Common.{◌≡◌, ℕ, ◌+◌, ◌<◌, ◌≤◌, Bool, true, false, List, [], ◌∷◌, ◌++◌, length, take, Option, Some, None, Ok, refl, sym, ap, ◌∙◌, subst, arith, inl, inr}
-use Rattle.std.specs.Prelude.{slice_get, ◌⊎◌, IsTrue, is_some}
-use Rattle.std.proofs.lemmas.Bool.{eqb-true, lt-leb}
+use Rattle.std.proofs.Common.{◌≡◌, ℕ, ◌+◌, ◌<◌, ◌≤◌, Bool, true, false, List, [], ◌∷◌, ◌++◌, length, take, Option, Some, None, Result, Ok, Err, refl, sym, ap, ◌∙◌, subst, arith, inl, inr}
+use Rattle.std.specs.Prelude.{slice_get, ◌⊎◌, IsTrue, IsFalse, is_some, is_err, OnOk, OnErr}
+use Rattle.std.proofs.lemmas.Bool.{eqb-true, lt-leb, false≢true}
 use Rattle.std.proofs.lemmas.Option.{slice_get_within}
 use Rattle.velo_events.specs.declared.config.Bounds.{Bounds}
 use Rattle.velo_events.specs.declared.config.Config.{Config}
@@ -153,3 +153,13 @@ fault_in_log config log i e (Refused p refusal) here well short (at, inr (none, 
 fault_in_log config log i e (WrongValue p) here well short (at, flawed) =
     record { reason = first_flaw config.bounds log i p e _ here well at flawed; within = omega (arith, at, short) }
 fault_in_log config log i e Memory here well short stops = stops
+
+-- ---- a call that went well, or did not
+
+pub on_ok-at : {T E P : Type 0} (r : Result T E) → IsFalse (is_err r) → OnOk r P → P
+on_ok-at (Ok x) went p = p
+on_ok-at (Err e) went p = absurd (false≢true (sym went))
+
+pub on_err-at : {T E P : Type 0} (r : Result T E) → IsTrue (is_err r) → OnErr r P → P
+on_err-at (Ok x) went p = absurd (false≢true went)
+on_err-at (Err e) went p = p

@@ -1,5 +1,5 @@
 //! What follows from the events of a run.
-ghost use Rattle.std.specs.Prelude.{◌≡◌, [], ◌∷◌, ◌++◌, List, Some, None, take, slice_get, IsTrue, IsFalse, IfOk, OnOk};
+ghost use Rattle.std.specs.Prelude.{◌≡◌, [], ◌∷◌, ◌++◌, List, Some, None, take, slice_get, IsTrue, IfOk, OnOk, OnErr};
 ghost use Rattle.velo_events.specs.declared.event.Event.{Event as EventOf};
 ghost use Rattle.velo_events.specs.Block.{owner};
 ghost use Rattle.velo_events.specs.Collection.{HasManyLive};
@@ -13,6 +13,7 @@ ghost use Rattle.velo_world.specs.Analysis.{ComesNext, HasRoomForNext, HasSlotFo
 
 use smallvec::SmallVec;
 use std::alloc::Global;
+use velo_arena::GraphFull;
 use velo_blame::Clocks;
 use velo_events::{Config, Event, MOST_OPEN_BLOCKS, Memory};
 use velo_heap::Heap;
@@ -78,10 +79,18 @@ impl Analysis {
         })
     }
 
-    /// Whether the next event needs a node, and there is none for it: all that there may be are in use, and these are too few
-    /// for a compaction. After an alarm no event needs one. The events are those so far.
+    /// Makes room for the node of the next event, if it needs one: where all that there may be are in use, the graph is
+    /// compacted. After an alarm no event needs one. The events are those so far.
+    ///
+    /// # Errors
+    /// `GraphFull` where these are too few for a compaction. Nothing changes then.
     #[inline]
-    pub fn has_no_node_for(&mut self, events: &[Event], event: &Event, config: &Config) -> bool
+    pub fn make_node_room(
+        &mut self,
+        events: &[Event],
+        event: &Event,
+        config: &Config,
+    ) -> Result<(), GraphFull>
         requires limit { limit_of self.old.monitor.nodes.slots ≡ config.now.nodes }
         requires bounds { bounds_of self.old.heap ≡ config.now.bounds }
         requires stands { IsAnalysisOf self.old events.now }
@@ -89,22 +98,28 @@ impl Analysis {
         ensures heap { self.new.heap ≡ self.old.heap }
         ensures limit { limit_of self.new.monitor.nodes.slots ≡ config.now.nodes }
         ensures stands { IsAnalysisOf self.new events.now }
-        ensures slot { IsFalse result → HasSlotFor self.new events.now event.now }
-        ensures full { IsTrue result → FindsNoNode config.now.bounds.threads events.now event.now config.now.nodes }
+        ensures slot { OnOk result (HasSlotFor self.new events.now event.now) }
+        ensures full { OnErr result (FindsNoNode config.now.bounds.threads events.now event.now config.now.nodes) }
+        ensures same { OnErr result (self.new ≡ self.old) }
     {
         if self.alarm.is_some() {
-            return false;
+            return Ok(());
         }
         if self.monitor.used() < config.nodes {
-            return false;
+            return Ok(());
         }
-        self.is_full_for(events, event, config)
+        self.compact_for(events, event, config)
     }
 
-    /// The same where all nodes that there may be are in use and no alarm is kept. If they are enough for it, a compaction leaves
-    /// one for the event.
+    /// Makes the room where all nodes that there may be are in use and no alarm is kept. If they are enough for it, a
+    /// compaction leaves one for the event.
     #[inline(never)]
-    fn is_full_for(&mut self, events: &[Event], event: &Event, config: &Config) -> bool
+    fn compact_for(
+        &mut self,
+        events: &[Event],
+        event: &Event,
+        config: &Config,
+    ) -> Result<(), GraphFull>
         requires quiet { self.old.alarm ≡ None }
         requires many { HasManyLive events.now config.now.nodes }
         requires limit { limit_of self.old.monitor.nodes.slots ≡ config.now.nodes }
@@ -114,18 +129,19 @@ impl Analysis {
         ensures heap { self.new.heap ≡ self.old.heap }
         ensures limit { limit_of self.new.monitor.nodes.slots ≡ config.now.nodes }
         ensures stands { IsAnalysisOf self.new events.now }
-        ensures slot { IsFalse result → HasSlotFor self.new events.now event.now }
-        ensures full { IsTrue result → FindsNoNode config.now.bounds.threads events.now event.now config.now.nodes }
+        ensures slot { OnOk result (HasSlotFor self.new events.now event.now) }
+        ensures full { OnErr result (FindsNoNode config.now.bounds.threads events.now event.now config.now.nodes) }
+        ensures same { OnErr result (self.new ≡ self.old) }
     {
         if !self.monitor.needs_node(event) {
-            return false;
+            return Ok(());
         }
         let threads = config.bounds.threads as u16;
         if config.nodes < threads * threads {
-            return true;
+            return Err(GraphFull);
         }
         self.monitor.compact(events);
-        false
+        Ok(())
     }
 
     /// Makes room for the next event, which finds a slot for its node if it needs one. After an alarm no event needs room.

@@ -164,7 +164,8 @@ impl LogReplay {
         }
         if self
             .analysis
-            .has_no_node_for(&events[..position], event, config)
+            .make_node_room(&events[..position], event, config)
+            .is_err()
         {
             return Err(LogReplayFault::Refused {
                 position,

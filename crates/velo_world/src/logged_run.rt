@@ -6,6 +6,7 @@ ghost use Rattle.velo_world.specs.LoggedRun.{logged_state, FollowsFromItsLog, Fi
 ghost use Rattle.velo_world.specs.Analysis.{HasRoomForNext};
 
 use crate::analysis::{Analysis, Reply};
+use velo_arena::GraphFull;
 use velo_events::{Action, Config, Event, Kind, Memory, Refusal, ThreadId};
 use velo_traces::Trace;
 
@@ -67,11 +68,12 @@ impl LoggedRun {
         ensures room { OnOk result (HasRoomForNext self.new.analysis self.new.log.events event.now) }
         ensures none { IfErr result (λ refusal. FindsNoRoom (logged_state self.old) event.now refusal) }
     {
-        if self
+        match self
             .analysis
-            .has_no_node_for(self.log.as_slice(), event, &self.config)
+            .make_node_room(self.log.as_slice(), event, &self.config)
         {
-            return Err(Refusal::GraphFull);
+            Ok(()) => {}
+            Err(GraphFull) => return Err(Refusal::GraphFull),
         }
         if self.log.reserve_one().is_err() {
             return Err(Refusal::Memory);

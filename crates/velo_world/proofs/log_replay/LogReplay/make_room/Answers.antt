@@ -4,17 +4,17 @@ use Rattle.velo_graph.specs.Nodes.{Nodes}
 use Rattle.velo_heap.specs.Contents.{bounds_of}
 use Rattle.velo_traces.proofs.OnFlaws.{MayFollow-from_no_flaw}
 use Rattle.velo_world.proofs.OnAlarms.{length-before}
-use Rattle.velo_world.proofs.OnLogReplays.{flaw-by, follows-by}
+use Rattle.velo_world.proofs.OnLogReplays.{flaw-by, follows-by, on_ok-at, on_err-at}
 use Rattle.std.proofs.lemmas.Grind.{elements}
 use Rattle.velo_world.proofs.log_replay.LogReplay.make_room.Goals as goal
 
-pub has_no_node_for-requires-clause-follows : goal.has_no_node_for-requires-clause-follows
-has_no_node_for-requires-clause-follows c =
+pub make_node_room-requires-clause-follows : goal.make_node_room-requires-clause-follows
+make_node_room-requires-clause-follows c =
     let heap = c.requires.stands.analysis.heap in
     MayFollow-from_no_flaw _ _ c.args.event.now heap.well_formed (sym (c.flaw_in.ensures _ heap) ∙ c.in-None.is)
 
-pub returns-then-has_no_node_for-clause-fault : goal.returns-then-has_no_node_for-clause-fault
-returns-then-has_no_node_for-clause-fault c =
+pub returns-then-is_err-clause-fault : goal.returns-then-is_err-clause-fault
+returns-then-is_err-clause-fault c =
     let here = length-before c.args.events.now c.args.position c.args.event.now c.requires.here in
     let stands = c.requires.stands in
     let none = sym (c.flaw_in.ensures _ stands.analysis.heap) ∙ c.in-None.is in
@@ -22,7 +22,7 @@ returns-then-has_no_node_for-clause-fault c =
       sym here,
       inr (
         flaw-by _ _ _ c.args.event.now stands.bounds none,
-        inr (refl, (let room = inside in omega (arith, here, room)), c.has_no_node_for.ensures.full c.if-has_no_node_for.true),
+        inr (refl, (let room = inside in omega (arith, here, room)), on_err-at c.make_node_room.result (sym c.is_err.ensures.value ∙ c.if-is_err.true) c.make_node_room.ensures.full),
       ),
     )
 
@@ -31,9 +31,9 @@ returns-in-Ok-clause-stands c =
     let stands = c.requires.stands in
     record {
       short = stands.short;
-      bounds = ap bounds_of (c.reserve_for.ensures.heap ∙ c.has_no_node_for.ensures.heap) ∙ stands.bounds;
-      nodes = ap (λ (n : Nodes). limit_of n.slots) c.reserve_for.ensures.nodes ∙ c.has_no_node_for.ensures.limit;
-      analysis = c.reserve_for.ensures.follows _ c.has_no_node_for.ensures.stands;
+      bounds = ap bounds_of (c.reserve_for.ensures.heap ∙ c.make_node_room.ensures.heap) ∙ stands.bounds;
+      nodes = ap (λ (n : Nodes). limit_of n.slots) c.reserve_for.ensures.nodes ∙ c.make_node_room.ensures.limit;
+      analysis = c.reserve_for.ensures.follows _ c.make_node_room.ensures.stands;
       book = stands.book;
       unborn = stands.unborn;
       shares = stands.shares;
@@ -45,8 +45,8 @@ returns-in-Ok-clause-next c =
     let heap = c.requires.stands.analysis.heap in
     let follows = MayFollow-from_no_flaw _ _ c.args.event.now heap.well_formed (sym (c.flaw_in.ensures _ heap) ∙ c.in-None.is) in
     record {
-      stands = c.reserve_for.ensures.follows _ c.has_no_node_for.ensures.stands;
-      follows = follows-by _ _ _ c.args.event.now (sym (ap bounds_of (c.reserve_for.ensures.heap ∙ c.has_no_node_for.ensures.heap))) follows;
+      stands = c.reserve_for.ensures.follows _ c.make_node_room.ensures.stands;
+      follows = follows-by _ _ _ c.args.event.now (sym (ap bounds_of (c.reserve_for.ensures.heap ∙ c.make_node_room.ensures.heap))) follows;
       short = (let inside = c.if-position-config.false in let few = c.args.config.now.few_events in omega (arith, here, inside, few));
     }
 
@@ -54,7 +54,7 @@ pub returns-in-Ok-clause-room : goal.returns-in-Ok-clause-room
 returns-in-Ok-clause-room c =
     let heap = c.requires.stands.analysis.heap in
     let follows = MayFollow-from_no_flaw _ _ c.args.event.now heap.well_formed (sym (c.flaw_in.ensures _ heap) ∙ c.in-None.is) in
-    c.in-Ok.ensures.room _ c.has_no_node_for.ensures.stands (follows-by _ _ _ c.args.event.now (sym (ap bounds_of c.has_no_node_for.ensures.heap)) follows) (c.has_no_node_for.ensures.slot c.if-has_no_node_for.false)
+    c.in-Ok.ensures.room _ c.make_node_room.ensures.stands (follows-by _ _ _ c.args.event.now (sym (ap bounds_of c.make_node_room.ensures.heap)) follows) (on_ok-at c.make_node_room.result (sym c.is_err.ensures.value ∙ c.if-is_err.false) c.make_node_room.ensures.slot)
 
 pub returns-in-Some-Refused-clause-fault : goal.returns-in-Some-Refused-clause-fault
 returns-in-Some-Refused-clause-fault c = grind (arith, elements)
