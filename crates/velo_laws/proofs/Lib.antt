@@ -5,7 +5,6 @@ pub mod OnCut
 pub mod OnSameHeap
 pub mod OnRestart
 pub mod OnKnown
-pub mod OnPrologues
 pub mod OnFresh
 pub mod OnRenumbered
 pub mod OnRenumberedRuns

@@ -33,10 +33,8 @@ pub record IsJudgedTheSame (before prologue after : List Event) : Type 0 where
       → AreBlamed (take (length before + q + 1) (before ++ after)) t (later_by (length before) own)
       ↔ AreBlamed (take (length prologue + q + 1) (prologue ++ after)) t (later_by (length prologue) own)
 
--- A prologue in which no block begins stands for what was before. It forks, writes, acquires and exits, and is no longer than
--- the bounds say
-pub record HasPrologue (bounds : Bounds) (before : List Event) : Type 0 where
-  pub prologue : List Event
+-- A prologue in which no block begins stands for what was before. It can come about, and is no longer than the bounds say
+pub record IsPrologueOf (bounds : Bounds) (before prologue : List Event) : Type 0 where
   pub well_formed : IsWellFormed bounds prologue
   pub no_begin : HasNoBegin prologue
   pub stands : StandsFor prologue before

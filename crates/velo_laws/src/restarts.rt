@@ -1,11 +1,11 @@
 //! What holds of every run that goes on after a cut as a log of its own.
-ghost use Rattle.std.specs.Prelude.{ℕ, ◌<◌, List, ◌++◌};
+ghost use Rattle.std.specs.Prelude.{List, ◌++◌};
 ghost use Rattle.velo_events.specs.declared.config.Bounds.{Bounds};
 ghost use Rattle.velo_events.specs.declared.event.Event.{Event};
 ghost use Rattle.velo_events.specs.WellFormed.{IsWellFormed};
 ghost use Rattle.velo_events.specs.Graph.{HasCycle};
 ghost use Rattle.velo_laws.specs.Cut.{NoBlockOpen, IsQuiet};
-ghost use Rattle.velo_laws.specs.Restart.{HasNoBegin, HasPrologue, StandsFor, IsJudgedTheSame, GoesOnAfresh};
+ghost use Rattle.velo_laws.specs.Restart.{HasNoBegin, IsPrologueOf, StandsFor, IsJudgedTheSame, GoesOnAfresh};
 
 /// After two cuts with no cycle before them a run is judged the same, whatever was before.
 pub fn restart()
@@ -27,15 +27,9 @@ pub fn prologue()
         → NoBlockOpen prologue × IsQuiet prologue × (¬ HasCycle prologue) }
 {}
 
-/// Each log has a prologue that stands for it, of no more events than the bounds say.
-pub fn has_prologue()
-    ensures { (bounds : Bounds) (before : List Event) → 0 < bounds.threads
-        → IsWellFormed bounds before → HasPrologue bounds before }
-{}
-
-/// With it a run goes on after a cut as a log of its own.
+/// With a prologue that stands for what was before, a run goes on after a cut as a log of its own.
 pub fn afresh()
-    ensures { (bounds : Bounds) (before : List Event) (p : HasPrologue bounds before)
-        (after : List Event) → IsWellFormed bounds before → NoBlockOpen before
-        → ¬ HasCycle before → GoesOnAfresh bounds before p.prologue after }
+    ensures { (bounds : Bounds) (before prologue after : List Event)
+        → IsPrologueOf bounds before prologue → IsWellFormed bounds before → NoBlockOpen before
+        → ¬ HasCycle before → GoesOnAfresh bounds before prologue after }
 {}

@@ -1,5 +1,0 @@
-use Rattle.velo_laws.proofs.OnPrologues.{has_prologue_law}
-use Rattle.velo_laws.proofs.restarts.has_prologue.Goals as goal
-
-pub returns : goal.returns
-returns c = has_prologue_law

@@ -1,0 +1,3 @@
+pub mod OnStages
+pub mod OnPrologues
+pub mod OnRenewals
