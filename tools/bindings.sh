@@ -70,31 +70,41 @@ for compiler in gcc clang; do
 done
 [ ${#compilers[@]} -gt 0 ] || { echo "bindings: no C compiler" >&2; exit 1; }
 
-# ---- the library: its calls, the session layer, and the calls of the C library that it makes, in one archive
+# ---- the library: its calls behind their shell, and the session layer, in one archive. What the calls stand on, the calls of the C
+# library included, is known within its object alone
 
 $built || (cd "$top/crates/velo_ffi" && rt lib) || exit 1
-made=$top/crates/velo_ffi/out/libvelo_ffi.a
+made=${VELODROME_CALLS:-$top/crates/velo_ffi/out/libvelo_ffi.a} # another one: to try the bindings before its proof
 [ -f "$made" ] || { echo "bindings: $made is not there: run this without --built" >&2; exit 1; }
 mkdir -p "$out"
-"${compilers[0]}" -std=gnu11 -O2 -fPIC -Wshadow "${warnings[@]}" "${includes[@]}" -c "$session/session.c" -o "$out/session.o" || exit 1
+for source in c/velodrome.c session/session.c; do
+    "${compilers[0]}" -std=gnu11 -O2 -fPIC -Wshadow "${warnings[@]}" "${includes[@]}" -c "$top/bindings/$source" -o "$out/$(basename "$source" .c).o" || exit 1
+done
+ld -r -o "$out/calls.o" "$out/velodrome.o" --whole-archive "$made" --no-whole-archive "$kit/c/liblibc_c.a" || exit 1
+objcopy -w --keep-global-symbol='velodrome_*' "$out/calls.o" || exit 1
 rm -f "$out/libvelodrome.a" "$out"/libvelodrome.so*
-ar -M <<SCRIPT || exit 1
-create $out/libvelodrome.a
-addlib $made
-addlib $kit/c/liblibc_c.a
-addmod $out/session.o
-save
-end
-SCRIPT
+ar rcs "$out/libvelodrome.a" "$out/calls.o" "$out/session.o" || exit 1
 step "shared library" "${compilers[0]}" -shared -pthread -o "$out/libvelodrome.so.0" -Wl,-soname,libvelodrome.so.0 \
     -Wl,--version-script="$session/exports.map" -Wl,--whole-archive "$out/libvelodrome.a" -Wl,--no-whole-archive
 ln -sf libvelodrome.so.0 "$out/libvelodrome.so"
 
-exports_only_its_own() {
-    ! nm -D --defined-only "$out/libvelodrome.so.0" | awk '$2 != "A" {print $3}' | grep -v -E '^(velodrome|vs)_' &&
-        objdump -p "$out/libvelodrome.so.0" | grep -q 'SONAME *libvelodrome.so.0'
+# has_its_own_alone NM..: each symbol that it lists is velodrome_* or vs_*
+has_its_own_alone() {
+    "$@" | awk 'NF == 3 && $2 != "A" {sub("@.*", "", $3); print $3}' >"$out/symbols" && grep -q '^velodrome_open$' "$out/symbols" && ! grep -v -E '^(velodrome|vs)_' "$out/symbols"
 }
-step "shared library exports velodrome_* and vs_* alone" exports_only_its_own
+step "archive: its symbols are velodrome_* and vs_* alone" has_its_own_alone nm -g --defined-only "$out/libvelodrome.a"
+step "shared library: its symbols are velodrome_* and vs_* alone" has_its_own_alone nm -D --defined-only "$out/libvelodrome.so.0"
+step "shared library: SONAME" sh -c "objdump -p '$out/libvelodrome.so.0' | grep -q 'SONAME *libvelodrome.so.0'"
+
+# every package has the version of the header
+versions_agree() {
+    local version file
+    version=$(sed -n 's/^#define VELODROME_VERSION "\(.*\)"$/\1/p' "$top/bindings/c/velodrome.h")
+    for file in CMakeLists.txt rust/Cargo.toml python/pyproject.toml python/src/velodrome/__init__.py; do
+        grep -E -q "(version|VERSION)(__)?\W+$version\b" "$top/bindings/$file" || { echo "$file is not of version $version"; return 1; }
+    done
+}
+step "versions agree" versions_agree
 
 # build COMPILER OUTPUT SOURCE FLAG..: a C program over the library
 build() {
@@ -153,7 +163,7 @@ if wants c; then
         rm -f "$out"/{lost_update,cost,test,threads,memory}
         step "c: make with $compiler" make -s -C "$top/bindings/c" CC="$compiler" LIBRARY="$out"
         step "c: example ($compiler)" "$out/lost_update"
-        step "c: tests ($compiler)" "$out/test"
+        step "c: tests ($compiler)" "$out/test" "$top/bindings/c/data"
         step "c: each growth refused in turn ($compiler)" "$out/memory"
         step "c: 64 threads behind a lock ($compiler)" "$out/threads"
         step "c: a million events ($compiler)" "$out/cost"
@@ -163,8 +173,8 @@ if wants c; then
         step "c: pthreads with VELODROME_OFF: tests ($compiler)" in_time "$out/pthreads_off"
     done
     if have valgrind; then
-        for program in test memory threads cost pthreads; do
-            valgrinds "c: $program" "$out/$program"
+        for program in "test $top/bindings/c/data" memory threads cost pthreads; do
+            valgrinds "c: ${program%% *}" $out/$program
         done
     fi
 fi
@@ -230,6 +240,7 @@ if wants rust && have cargo; then
     cargo clippy --version >/dev/null 2>&1 &&
         step "rust: no warnings" cargo clippy --offline --quiet --workspace --all-targets --manifest-path "$rust" -- -D warnings
     step "rust: documents" env RUSTDOCFLAGS="-D warnings" cargo doc --offline --quiet --no-deps --workspace --manifest-path "$rust"
+    step "rust: a relative folder" sh -c "cd '$top' && VELODROME_LIB_DIR=bindings/out cargo test --offline --quiet --no-run --manifest-path bindings/rust/Cargo.toml -p velodrome"
     step "rust: cost of a round" in_time cargo run --release --offline --quiet --manifest-path "$rust" --example cost
     platform=$top/bindings/rust/velodrome-sys/lib/$(rustc -vV | sed -n 's/^host: //p')
     mkdir -p "$platform" && cp "$out/libvelodrome.a" "$platform/"
@@ -272,6 +283,6 @@ if wants python && have python3; then
     unset PYTHONDONTWRITEBYTECODE VELODROME_LOGS
 fi
 
-rm -f "$out/step.log" "$out/said.log"
+rm -f "$out/step.log" "$out/said.log" "$out/symbols"
 echo "$passed passed, $failed failed"
 [ "$failed" -eq 0 ] && [ "$passed" -gt 0 ]

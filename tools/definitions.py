@@ -49,7 +49,7 @@ PARTS = [
         "velo_program": "Program* Check Explaining Carrying Scheduling Playing ByChance Exploring* Delivery Disk Writing Reading Fate Causes",
         "velo_command": "CommandLine Asked Together Running Usage"}),
     ("The library for other languages", {
-        "velo_ffi": "Answers Texts* Pieces*"}),
+        "velo_ffi": "Answers Numbers Texts* Pieces*"}),
 ]
 
 ITEM = re.compile(r"(?:abbrev |unfoldable |opaque )*pub (?:abbrev |unfoldable |opaque )*(?:record |data )?(\S+)")

@@ -20,6 +20,7 @@ static bool refuses(void) {
 void *__wrap_malloc(size_t size) { return refuses() ? NULL : __real_malloc(size); }
 void *__wrap_realloc(void *block, size_t size) { return refuses() ? NULL : __real_realloc(block, size); }
 
+static const velodrome_limits limits = {.threads = 2, .variables = 1, .locks = 1, .events = 100, .nodes = 64};
 static int failed;
 static void expect(const char *what, uint64_t got, uint64_t wanted) {
     if (got == wanted) return;
@@ -32,7 +33,7 @@ static void play(velodrome *m) {
     velodrome_answer a = {77, 78, false};
     static const struct { uint8_t thread, kind; } events[] = {{0, 0}, {0, 1}, {0, 2}, {1, 3}, {0, 3}, {0, 4}};
     for (size_t i = 0; i < 6; i++) {
-        uint32_t status;
+        velodrome_status status;
         uint64_t before = a.position;
         do {
             uint8_t t = events[i].thread;
@@ -48,13 +49,13 @@ static void play(velodrome *m) {
 }
 
 /* A text, with this growth of its call refused; whether there was one. */
-static bool short_of(velodrome *m, uint32_t (*call)(velodrome *, uint8_t *, size_t, size_t *), long growth, const char *text) {
-    uint8_t buffer[1024];
+static bool short_of(velodrome *m, velodrome_status (*call)(velodrome *, char *, size_t, size_t *), long growth, const char *text) {
+    char buffer[1024];
     size_t count = 99;
     memset(buffer, 98, sizeof buffer);
     until_refusal = growth;
     refused = false;
-    uint32_t status = call(m, buffer, sizeof buffer, &count);
+    velodrome_status status = call(m, buffer, sizeof buffer, &count);
     until_refusal = -1;
     expect("text", status, refused ? VELODROME_NO_MEMORY : VELODROME_DONE);
     if (!refused) {
@@ -72,28 +73,28 @@ int main(void) {
     char words[1024];
     long opened = 0, told = 0;
     for (bool more = true; more && !failed; opened++) {
-        velodrome m = VELODROME_CLOSED_HANDLE;
+        velodrome *m = (velodrome *)&limits; /* is not read */
         until_refusal = opened;
         refused = false;
-        uint32_t status = velodrome_open(&m, 2, 1, 0, 100, 64);
+        velodrome_status status = velodrome_open(&m, &limits);
         expect("open", status, refused ? VELODROME_NO_MEMORY : VELODROME_DONE);
+        expect("the handle is null", !m, refused);
         more = refused;
-        if (refused) expect("closed still", velodrome_close(&m), VELODROME_CLOSED);
-        else expect("close", velodrome_close(&m), VELODROME_DONE);
+        velodrome_close(m);
     }
     for (long growth = 0; growth < 40 && !failed; growth++) {
-        velodrome m = VELODROME_CLOSED_HANDLE;
+        velodrome *m;
         size_t count = 0;
         until_refusal = -1;
-        expect("open", velodrome_open(&m, 2, 1, 0, 100, 64), VELODROME_DONE);
+        expect("open", velodrome_open(&m, &limits), VELODROME_DONE);
         until_refusal = growth;
-        play(&m);
+        play(m);
         until_refusal = -1;
-        for (told = 0; short_of(&m, velodrome_report, told, report); told++) {}
-        expect("explanation", velodrome_explanation(&m, (uint8_t *)words, sizeof words - 1, &count), VELODROME_DONE);
+        for (told = 0; short_of(m, velodrome_report, told, report); told++) {}
+        expect("explanation", velodrome_explanation(m, words, sizeof words - 1, &count), VELODROME_DONE);
         words[count] = 0;
-        for (told = 0; short_of(&m, velodrome_explanation, told, words); told++) {}
-        expect("close", velodrome_close(&m), VELODROME_DONE);
+        for (told = 0; short_of(m, velodrome_explanation, told, words); told++) {}
+        velodrome_close(m);
     }
     printf("%s: %ld growths to open, %ld to explain\n", failed ? "failed" : "passed", opened - 1, told);
     return failed;

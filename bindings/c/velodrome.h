@@ -1,12 +1,15 @@
 /* velodrome.h: a proved checker of atomic blocks, in process.
  *
- * What each call does is proved; what you owe is not checked by anything:
+ * What each call does is proved, but for a shell in C (velodrome.c) that keeps the handle's memory, takes null pointers and has the
+ * words of the statuses. What you owe is not checked by anything:
  *
  *  - One call at a time has a handle. Hold a lock of your own round each call.
  *  - The access that a call reports stands in the same hold of that lock: lock, access, report, unlock.
- *  - A handle is not copied, and its fields are neither read nor written.
- *  - Pointers are not null (a buffer of no bytes may be at any address but null), do not overlap, and lengths are what they say.
+ *  - Buffers do not overlap, and lengths are what they say.
  *  - No call comes from a signal handler, nor from the forked child of a process with threads.
+ *
+ * A pointer to what a call returns, such as an answer or a count, may be null: then it is not told. A null handle has the status
+ * VELODROME_CLOSED.
  */
 #ifndef VELODROME_H
 #define VELODROME_H
@@ -17,24 +20,27 @@
 extern "C" {
 #endif
 
-/* A handle, yours. All bytes zero is a closed one. Close it before its memory goes. */
-typedef struct velodrome {
-    bool live_;
-    struct { void *address_; } kept_;
-} velodrome;
-#define VELODROME_CLOSED_HANDLE { false, { NULL } }
+#define VELODROME_VERSION "0.1.0"
+#define VELODROME_VERSION_NUMBER 100 /* 10000 * major + 100 * minor + patch */
 
-/* Limits of a run. */
+/* The version of the library that is linked: VELODROME_VERSION, where it is that of this header. */
+const char *velodrome_version(void);
+
+/* A run that is watched. */
+typedef struct velodrome velodrome;
+
+/* Limits of a run, and what is told of it. */
 #define VELODROME_MOST_THREADS 64
 #define VELODROME_MOST_VARIABLES 65535
 #define VELODROME_MOST_LOCKS 4096
 #define VELODROME_MOST_EVENTS 16777216
 #define VELODROME_MOST_NODES 4096
 #define VELODROME_MOST_BLAMED 32
-#define VELODROME_REPORT_ROOM 4096 /* bytes, always enough for a report */
+#define VELODROME_REPORT_ROOM 4096 /* bytes, always enough for a report without names */
 
-/* 0: done. 1 to 19: the event is refused. Where it is not 0 nothing has changed, but for *count with VELODROME_TOO_SHORT. */
-enum velodrome_status {
+/* 1 to 19: the event is refused. Where a status is not VELODROME_DONE nothing has changed, and nothing is told, but for what
+ * VELODROME_TOO_SHORT and VELODROME_BAD_NAMES put into *count. */
+typedef enum velodrome_status {
     VELODROME_DONE = 0,
     VELODROME_HALTED = 1,
     VELODROME_NOT_LIVE = 2,
@@ -55,12 +61,15 @@ enum velodrome_status {
     VELODROME_LOG_FULL = 17,
     VELODROME_GRAPH_FULL = 18,
     VELODROME_EVENT_MEMORY = 19,
-    VELODROME_CLOSED = 100,
-    VELODROME_ALREADY_OPEN = 101,
-    VELODROME_BAD_NUMBER = 102,
+    VELODROME_CLOSED = 100,     /* the handle is null */
+    VELODROME_BAD_NUMBER = 102, /* a number is out of its range */
     VELODROME_NO_MEMORY = 103,
-    VELODROME_TOO_SHORT = 104
-};
+    VELODROME_TOO_SHORT = 104,  /* *count says how much room it takes; the buffer is as it was */
+    VELODROME_BAD_NAMES = 105   /* *count says which line of the names is wrong; 0: they are too many, or no UTF-8 */
+} velodrome_status;
+
+/* The words of a status, such as "lock busy". */
+const char *velodrome_strerror(velodrome_status status);
 
 /* What an event came to: its position in the log; the value that a read read, else 0; whether there is an alarm now. */
 typedef struct velodrome_answer {
@@ -84,70 +93,76 @@ typedef struct velodrome_block {
     uint32_t label;
 } velodrome_block;
 
-/* Opens a monitor without events. The handle has to be closed. The bounds are the numbers of threads (1 to 64; thread 0 is
- * there from the start), variables and locks; the limits are the most events (1 to 16777216) and nodes of the graph
- * (1 to 4096; 64 * 64 are enough for 64 threads). */
-uint32_t velodrome_open(velodrome *monitor, uint8_t threads, uint16_t variables, uint16_t locks, uint32_t events, uint16_t nodes);
+/* How many of each a run may have; 0 stands for the default. */
+typedef struct velodrome_limits {
+    uint32_t threads;   /* at most 64, which is the default; thread 0 is there from the start */
+    uint32_t variables; /* at most 65535, the default */
+    uint32_t locks;     /* at most 4096, the default */
+    uint32_t events;    /* at most 16777216; 1048576 by default */
+    uint32_t nodes;     /* of the graph: at most 4096; by default threads * threads, which are always enough */
+} velodrome_limits;
 
-/* Frees what the monitor held. The handle is closed then. */
-uint32_t velodrome_close(velodrome *monitor);
+/* *monitor is a run without events, to be closed; null, where the status is not VELODROME_DONE. What it was before is not read.
+ * The limits may be null: all of them are the default then. */
+velodrome_status velodrome_open(velodrome **monitor, const velodrome_limits *limits);
+
+/* Frees what the run held. Of null it does nothing. */
+void velodrome_close(velodrome *monitor);
 
 /* One call for each event, by the number of the thread that does it. Yours: the call is made under the lock that the access
  * itself is under, the thread is the one that did it, and a number always means the same variable, lock or thread.
  *
- * A read answers the value that was written last by velodrome_write, 0 at first. Where your values are of no interest, write 0. */
-uint32_t velodrome_read(velodrome *monitor, uint8_t thread, uint16_t variable, velodrome_answer *answer);
-uint32_t velodrome_write(velodrome *monitor, uint8_t thread, uint16_t variable, uint64_t value, velodrome_answer *answer);
+ * A read tells the value that was written last by velodrome_write, 0 at first. Where your values are of no interest, write 0. */
+velodrome_status velodrome_read(velodrome *monitor, uint32_t thread, uint32_t variable, velodrome_answer *answer);
+velodrome_status velodrome_write(velodrome *monitor, uint32_t thread, uint32_t variable, uint64_t value, velodrome_answer *answer);
 
 /* Report an acquire after the lock was acquired, and a release before it is released. Locks are not re-entrant. */
-uint32_t velodrome_acquire(velodrome *monitor, uint8_t thread, uint16_t lock, velodrome_answer *answer);
-uint32_t velodrome_release(velodrome *monitor, uint8_t thread, uint16_t lock, velodrome_answer *answer);
-uint32_t velodrome_acquire_shared(velodrome *monitor, uint8_t thread, uint16_t lock, velodrome_answer *answer);
-uint32_t velodrome_release_shared(velodrome *monitor, uint8_t thread, uint16_t lock, velodrome_answer *answer);
+velodrome_status velodrome_acquire(velodrome *monitor, uint32_t thread, uint32_t lock, velodrome_answer *answer);
+velodrome_status velodrome_release(velodrome *monitor, uint32_t thread, uint32_t lock, velodrome_answer *answer);
+velodrome_status velodrome_acquire_shared(velodrome *monitor, uint32_t thread, uint32_t lock, velodrome_answer *answer);
+velodrome_status velodrome_release_shared(velodrome *monitor, uint32_t thread, uint32_t lock, velodrome_answer *answer);
 
 /* An atomic block from begin to end; blocks nest up to 32 deep. Labels are yours, and blocks may share one. */
-uint32_t velodrome_begin(velodrome *monitor, uint8_t thread, uint32_t label, velodrome_answer *answer);
-uint32_t velodrome_end(velodrome *monitor, uint8_t thread, velodrome_answer *answer);
+velodrome_status velodrome_begin(velodrome *monitor, uint32_t thread, uint32_t label, velodrome_answer *answer);
+velodrome_status velodrome_end(velodrome *monitor, uint32_t thread, velodrome_answer *answer);
 
 /* Report a fork before the thread is started, its exit as its last event, and a join after it was joined. The number of a
  * thread is never used again. */
-uint32_t velodrome_fork(velodrome *monitor, uint8_t thread, uint8_t child, velodrome_answer *answer);
-uint32_t velodrome_join(velodrome *monitor, uint8_t thread, uint8_t child, velodrome_answer *answer);
-uint32_t velodrome_exit(velodrome *monitor, uint8_t thread, velodrome_answer *answer);
+velodrome_status velodrome_fork(velodrome *monitor, uint32_t thread, uint32_t child, velodrome_answer *answer);
+velodrome_status velodrome_join(velodrome *monitor, uint32_t thread, uint32_t child, velodrome_answer *answer);
+velodrome_status velodrome_exit(velodrome *monitor, uint32_t thread, velodrome_answer *answer);
 
 /* The verdict of the events so far: an alarm exactly where no serial order of the transactions explains them. */
-uint32_t velodrome_verdict(velodrome *monitor, velodrome_summary *summary);
+velodrome_status velodrome_verdict(velodrome *monitor, velodrome_summary *summary);
 
 /* The blocks to blame, outermost first, and how many they are; none without an alarm. VELODROME_TOO_SHORT where there is no
- * room for all: *count says how many they are, and the buffer is as it was. Room for 32 is always enough. */
-uint32_t velodrome_blamed(velodrome *monitor, velodrome_block *buffer, size_t room, size_t *count);
+ * room for all. Room for 32 is always enough. */
+velodrome_status velodrome_blamed(velodrome *monitor, velodrome_block *buffer, size_t room, size_t *count);
 
 /* The text of the log in pieces of whole lines: from the event `from` on, the header before the first. *count says how many
  * bytes were put into the buffer, and *next the event to go on from; the number of events is the end. The pieces together are
- * the text that `velodrome check` reads. VELODROME_TOO_SHORT where not even one line has room: *count says how many bytes it
- * takes, and the buffer is as it was. Room for 180 bytes is always enough.
+ * the text that `velodrome check` reads. VELODROME_TOO_SHORT where not even one line has room. Room for 180 bytes is always enough.
  *
  *     size_t from = 0, count;
  *     do {
- *         if (velodrome_log(&monitor, from, buffer, sizeof buffer, &count, &from)) break;
+ *         if (velodrome_log(monitor, from, buffer, sizeof buffer, &count, &from)) break;
  *         fwrite(buffer, 1, count, file);
  *     } while (from < events);
  */
-uint32_t velodrome_log(velodrome *monitor, size_t from, uint8_t *buffer, size_t room, size_t *count, size_t *next);
+velodrome_status velodrome_log(velodrome *monitor, size_t from, char *buffer, size_t room, size_t *count, size_t *next);
 
 /* The report of the events so far, and their explanation: the bytes that `velodrome check` and `velodrome explain`
  * write for the text of the log, all of them or none. *count says how many bytes were put into the buffer, without a zero byte
- * behind them. VELODROME_TOO_SHORT where there is no room for all: *count says how many bytes it takes, and the buffer is as it
- * was. VELODROME_NO_MEMORY where memory was refused: nothing has changed. The monitor goes on after each.
+ * behind them. VELODROME_TOO_SHORT where there is no room for all. The run goes on after each.
  *
  * The report is short. An explanation takes time and memory in proportion to the log, each time that it is asked for. */
-uint32_t velodrome_report(velodrome *monitor, uint8_t *buffer, size_t room, size_t *count);
-uint32_t velodrome_explanation(velodrome *monitor, uint8_t *buffer, size_t room, size_t *count);
+velodrome_status velodrome_report(velodrome *monitor, char *buffer, size_t room, size_t *count);
+velodrome_status velodrome_explanation(velodrome *monitor, char *buffer, size_t room, size_t *count);
 
-/* The words of a refusal, 1 to 22 (20 to 22 refuse no event here), without a zero byte behind them; *count says how many
- * bytes. VELODROME_BAD_NUMBER for another number; VELODROME_TOO_SHORT where there is no room, and *count says how much it takes.
- * Room for 32 is always enough. */
-uint32_t velodrome_refusal(uint32_t number, uint8_t *buffer, size_t room, size_t *count);
+/* The same by names: what `velodrome check --names FILE` and `velodrome explain --names FILE` write, where the file has these bytes.
+ * They are lines such as "variable 3 balance" (also thread, lock, label). */
+velodrome_status velodrome_report_named(velodrome *monitor, const char *names, size_t bytes, char *buffer, size_t room, size_t *count);
+velodrome_status velodrome_explanation_named(velodrome *monitor, const char *names, size_t bytes, char *buffer, size_t room, size_t *count);
 
 #ifdef __cplusplus
 }

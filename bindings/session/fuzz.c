@@ -24,13 +24,13 @@ static struct {
     int depth[THREADS], told[THREADS], label[THREADS][DEPTH];
     int owner[LOCKS], times[LOCKS], share[LOCKS][THREADS];
     vs_object variable[VARIABLES], lock[LOCKS], labels[3];
-    velodrome handle;
+    velodrome *handle;
     long events;
 } run;
 
 static bool refused;
 static bool alarm_of_handle;
-static void answered(uint32_t status, const velodrome_answer *a) {
+static void answered(velodrome_status status, const velodrome_answer *a) {
     refused |= status != 0;
     if (!status) run.events++;
     if (!status) alarm_of_handle = a->alarmed;
@@ -39,7 +39,7 @@ static void answered(uint32_t status, const velodrome_answer *a) {
 /* The handle is told of blocks when their first event comes, as the session does. */
 static void in_blocks(int t) {
     velodrome_answer a;
-    for (; run.told[t] < run.depth[t]; run.told[t]++) answered(velodrome_begin(&run.handle, (uint8_t)t, (uint32_t)run.label[t][run.told[t]], &a), &a);
+    for (; run.told[t] < run.depth[t]; run.told[t]++) answered(velodrome_begin(run.handle, (uint32_t)t, (uint32_t)run.label[t][run.told[t]], &a), &a);
 }
 
 static void open_block(int t) {
@@ -53,7 +53,7 @@ static void close_block(int t) {
     vs_end();
     if (!run.depth[t]) return;
     if (run.told[t] == run.depth[t]--) {
-        answered(velodrome_end(&run.handle, (uint8_t)t, &a), &a);
+        answered(velodrome_end(run.handle, (uint32_t)t, &a), &a);
         run.told[t]--;
     }
 }
@@ -63,7 +63,7 @@ static void access_variable(int t, bool write) {
     int x = (int)draw(VARIABLES);
     in_blocks(t);
     vs_after(vs_before(&run.variable[x], write ? VS_WRITE : VS_READ));
-    answered(write ? velodrome_write(&run.handle, (uint8_t)t, (uint16_t)x, 0, &a) : velodrome_read(&run.handle, (uint8_t)t, (uint16_t)x, &a), &a);
+    answered(write ? velodrome_write(run.handle, (uint32_t)t, (uint32_t)x, 0, &a) : velodrome_read(run.handle, (uint32_t)t, (uint32_t)x, &a), &a);
 }
 
 static int sharers(int m) {
@@ -81,13 +81,13 @@ static void use_lock(int t) {
         if (--run.times[m]) return;
         run.owner[m] = 0;
         in_blocks(t);
-        answered(velodrome_release(&run.handle, (uint8_t)t, (uint16_t)m, &a), &a);
+        answered(velodrome_release(run.handle, (uint32_t)t, (uint32_t)m, &a), &a);
     } else if (run.owner[m] == t || (!run.owner[m] && !sharers(m))) {
         vs_tell(&run.lock[m], VS_ACQUIRE);
         run.owner[m] = t;
         if (run.times[m]++) return;
         in_blocks(t);
-        answered(velodrome_acquire(&run.handle, (uint8_t)t, (uint16_t)m, &a), &a);
+        answered(velodrome_acquire(run.handle, (uint32_t)t, (uint32_t)m, &a), &a);
     }
 }
 
@@ -99,12 +99,12 @@ static void use_share(int t) {
         vs_tell(&run.lock[m], VS_RELEASE_SHARED);
         if (--run.share[m][t]) return;
         in_blocks(t);
-        answered(velodrome_release_shared(&run.handle, (uint8_t)t, (uint16_t)m, &a), &a);
+        answered(velodrome_release_shared(run.handle, (uint32_t)t, (uint32_t)m, &a), &a);
     } else if (!run.owner[m]) {
         vs_tell(&run.lock[m], VS_ACQUIRE_SHARED);
         if (run.share[m][t]++) return;
         in_blocks(t);
-        answered(velodrome_acquire_shared(&run.handle, (uint8_t)t, (uint16_t)m, &a), &a);
+        answered(velodrome_acquire_shared(run.handle, (uint32_t)t, (uint32_t)m, &a), &a);
     }
 }
 
@@ -123,7 +123,7 @@ static void start_thread(int t, int child) {
     vs_born(run.child[child]);
     vs_switch(run.self[t]);
     run.life[child] = 1;
-    answered(velodrome_fork(&run.handle, (uint8_t)t, (uint8_t)child, &a), &a);
+    answered(velodrome_fork(run.handle, (uint32_t)t, (uint32_t)child, &a), &a);
 }
 
 static void end_thread(int t) {
@@ -134,10 +134,10 @@ static void end_thread(int t) {
 
 static void join_thread(int t, int child) {
     velodrome_answer a;
-    answered(velodrome_exit(&run.handle, (uint8_t)child, &a), &a);
+    answered(velodrome_exit(run.handle, (uint32_t)child, &a), &a);
     in_blocks(t);
     vs_join(run.child[child]);
-    answered(velodrome_join(&run.handle, (uint8_t)t, (uint8_t)child, &a), &a);
+    answered(velodrome_join(run.handle, (uint32_t)t, (uint32_t)child, &a), &a);
     run.life[child] = 3;
 }
 
@@ -174,8 +174,9 @@ static void begin_run(uint32_t room) {
     vs_options limits = {.events = room, .variables = 8, .locks = 8, .seed = 1};
     memset(&run, 0, sizeof run);
     alarm_of_handle = refused = false;
-    velodrome_open(&run.handle, THREADS, VARIABLES, LOCKS, 100000, 64);
-    answered(velodrome_fork(&run.handle, 0, 1, &a), &a);
+    velodrome_limits whole = {THREADS, VARIABLES, LOCKS, 100000, 64};
+    velodrome_open(&run.handle, &whole);
+    answered(velodrome_fork(run.handle, 0, 1, &a), &a);
     vs_open(&limits, false);
     run.self[1] = vs_self_new();
     run.life[1] = 1;
@@ -187,7 +188,7 @@ static bool end_run(vs_session s) {
     vs_switch(NULL);
     bool other = vs_close(s, &report) == VS_INCOMPLETE && !strstr(report, "while a block was open");
     vs_free(report);
-    velodrome_close(&run.handle);
+    velodrome_close(run.handle);
     for (int t = 0; t < THREADS; t++) vs_self_free(run.self[t]);
     return other;
 }

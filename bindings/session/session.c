@@ -85,7 +85,7 @@ typedef struct slot {
     void (*_Atomic wait)(uint32_t nanoseconds);
     bool abandoned; /* it was in use when this process was forked */
 
-    velodrome handle;
+    velodrome *handle;
     uint32_t events, near, most; /* of this piece; from `near` on it is cut where it can be */
     uint64_t earlier;      /* events of the pieces before */
     uint16_t variables, locks;
@@ -469,11 +469,10 @@ static void put_line(FILE *f, slot *s, const char *text, const char *end) {
 
 /* The library's words of the alarm, without a zero byte; to be freed. */
 static char *explanation(slot *s) {
-    uint8_t none[1];
     size_t count = 0;
-    if (velodrome_explanation(&s->handle, none, 0, &count) != VELODROME_TOO_SHORT) return NULL;
+    if (velodrome_explanation(s->handle, NULL, 0, &count) != VELODROME_TOO_SHORT) return NULL;
     char *text = malloc(count + 1);
-    if (!text || velodrome_explanation(&s->handle, (uint8_t *)text, count, &count)) {
+    if (!text || velodrome_explanation(s->handle, text, count, &count)) {
         free(text);
         return NULL;
     }
@@ -484,7 +483,7 @@ static char *explanation(slot *s) {
 static void put_blamed(FILE *f, slot *s) {
     velodrome_block blocks[VELODROME_MOST_BLAMED];
     size_t count = 0;
-    velodrome_blamed(&s->handle, blocks, VELODROME_MOST_BLAMED, &count);
+    velodrome_blamed(s->handle, blocks, VELODROME_MOST_BLAMED, &count);
     for (size_t i = 0; i < count; i++) {
         fputs("not atomic: ", f);
         put_name(f, s, &s->label, blocks[i].label);
@@ -586,7 +585,7 @@ COLD void alarm_found(slot *s) {
 
 /* ---- one event */
 
-static const char *reason(uint32_t status) {
+static const char *reason(velodrome_status status) {
     static const char *const words[] = {
         [VELODROME_NOT_LIVE] = "a thread acted after it was joined",
         [VELODROME_BUSY] = "a lock was taken that another thread holds, so not all of its uses are told",
@@ -597,11 +596,11 @@ static const char *reason(uint32_t status) {
         [VELODROME_LOG_FULL] = "too many events while a block was open",
         [VELODROME_GRAPH_FULL] = "the graph is full",
         [VELODROME_EVENT_MEMORY] = "out of memory"};
-    return status < sizeof words / sizeof *words && words[status] ? words[status] : "an event was refused";
+    return (unsigned)status < sizeof words / sizeof *words && words[status] ? words[status] : velodrome_strerror(status);
 }
 
 /* What a call answered: true where the event is in the log. */
-HOT bool told(slot *s, uint32_t status, const velodrome_answer *a, const vs_place *place) {
+HOT bool told(slot *s, velodrome_status status, const velodrome_answer *a, const vs_place *place) {
     if (status) {
         stop(s, "%s", reason(status));
         return false;
@@ -627,7 +626,7 @@ static uint32_t enrol(slot *s, uint32_t parent, uint64_t who, const vs_place *pl
         stop(s, "more than %d threads while a block was open", THREADS - 1);
         return 0;
     }
-    if (!told(s, velodrome_fork(&s->handle, (uint8_t)parent, (uint8_t)s->threads, &a), &a, place)) return 0;
+    if (!told(s, velodrome_fork(s->handle, parent, s->threads, &a), &a, place)) return 0;
     s->thread[s->threads] = (thread){.who = who};
     return s->threads++;
 }
@@ -650,10 +649,10 @@ static void next_piece(slot *s) {
     s->slow = s->noise != 0;
 }
 
-static uint32_t open_handle(slot *s) {
+static velodrome_status open_handle(slot *s) {
     uint32_t nodes = s->most < VELODROME_MOST_NODES ? s->most : VELODROME_MOST_NODES; /* no more transactions than events */
-    s->handle = (velodrome)VELODROME_CLOSED_HANDLE;
-    return velodrome_open(&s->handle, THREADS, s->variables, s->locks, s->most, (uint16_t)nodes);
+    velodrome_limits limits = {THREADS, s->variables, s->locks, s->most, nodes};
+    return velodrome_open(&s->handle, &limits);
 }
 
 /* A lock that is held across a cut. */
@@ -696,9 +695,9 @@ static uint32_t number_again(slot *s, uint64_t who) {
 static void hold_again(slot *s, const hold *h, uint16_t lock) {
     velodrome_answer a;
     uint32_t t;
-    if (h->owner && (t = number_again(s, h->owner))) told(s, velodrome_acquire(&s->handle, (uint8_t)t, lock, &a), &a, NULL);
+    if (h->owner && (t = number_again(s, h->owner))) told(s, velodrome_acquire(s->handle, t, lock, &a), &a, NULL);
     for (uint32_t i = 0; i < h->shares; i++)
-        if ((t = number_again(s, h->share[i].who))) told(s, velodrome_acquire_shared(&s->handle, (uint8_t)t, lock, &a), &a, NULL);
+        if ((t = number_again(s, h->share[i].who))) told(s, velodrome_acquire_shared(s->handle, t, lock, &a), &a, NULL);
 }
 
 static bool grow_holds(slot *s) {
@@ -721,7 +720,7 @@ static bool renew(slot *s) {
     uint32_t count;
     if (!take_held(s, &list, &count)) return false;
     s->earlier += s->events;
-    velodrome_close(&s->handle);
+    velodrome_close(s->handle);
     clear_names(s);
     next_piece(s);
     if (open_handle(s)) stop(s, "out of memory");
@@ -825,7 +824,7 @@ COLD bool begin_blocks(slot *s, struct vs_self *me, seat *t) {
     int deep = me->depth < DEPTH ? me->depth : DEPTH;
     while (t->told < deep && s->recording) {
         uint32_t label = label_number(s, me->label[t->told]);
-        if (label == NOT_TOLD || !told(s, velodrome_begin(&s->handle, t->number, label, &a), &a, NULL)) return false;
+        if (label == NOT_TOLD || !told(s, velodrome_begin(s->handle, t->number, label, &a), &a, NULL)) return false;
         if (!t->told++) s->open++;
     }
     return s->recording;
@@ -847,7 +846,7 @@ static void end_in(seat *t) {
     if (!s) return;
     if (t->epoch == epoch(s)) {
         if (!t->told) s->open--;
-        if (s->recording) told(s, velodrome_end(&s->handle, t->number, &a), &a, NULL);
+        if (s->recording) told(s, velodrome_end(s->handle, t->number, &a), &a, NULL);
         if (s->recording) make_room_for_events(s);
     }
     let_go(s);
@@ -934,7 +933,7 @@ static void take(slot *s, struct vs_self *me, seat *t, vs_object *o, const vs_pl
     if (n == NOT_TOLD) return;
     if (s->holds[n].owner == t->who) {
         s->holds[n].times++;
-    } else if (in_blocks(s, me, t) && told(s, velodrome_acquire(&s->handle, t->number, (uint16_t)n, &a), &a, place)) {
+    } else if (in_blocks(s, me, t) && told(s, velodrome_acquire(s->handle, t->number, n, &a), &a, place)) {
         s->holds[n].owner = t->who;
         s->holds[n].times = 1;
     }
@@ -945,7 +944,7 @@ static void give_back(slot *s, struct vs_self *me, seat *t, vs_object *o, const 
     uint32_t n = known_lock(s, o);
     if (n == NOT_TOLD || !s->holds[n].owner) return; /* it was taken before the session */
     if (s->holds[n].owner == t->who && --s->holds[n].times) return;
-    if (in_blocks(s, me, t) && told(s, velodrome_release(&s->handle, t->number, (uint16_t)n, &a), &a, place)) s->holds[n].owner = 0;
+    if (in_blocks(s, me, t) && told(s, velodrome_release(s->handle, t->number, n, &a), &a, place)) s->holds[n].owner = 0;
 }
 
 static void take_share(slot *s, struct vs_self *me, seat *t, vs_object *o, const vs_place *place) {
@@ -958,7 +957,7 @@ static void take_share(slot *s, struct vs_self *me, seat *t, vs_object *o, const
         own->times++;
     } else if (!has_room(&h->share, &h->room, h->shares, sizeof *h->share)) {
         stop(s, "out of memory");
-    } else if (in_blocks(s, me, t) && told(s, velodrome_acquire_shared(&s->handle, t->number, (uint16_t)n, &a), &a, place)) {
+    } else if (in_blocks(s, me, t) && told(s, velodrome_acquire_shared(s->handle, t->number, n, &a), &a, place)) {
         h->share[h->shares++] = (share){t->who, 1};
     }
 }
@@ -968,7 +967,7 @@ static void give_share_back(slot *s, struct vs_self *me, seat *t, vs_object *o, 
     uint32_t n = known_lock(s, o);
     share *own = n == NOT_TOLD ? NULL : share_of(&s->holds[n], t->who);
     if (!own || --own->times) return;
-    if (in_blocks(s, me, t)) told(s, velodrome_release_shared(&s->handle, t->number, (uint16_t)n, &a), &a, place);
+    if (in_blocks(s, me, t)) told(s, velodrome_release_shared(s->handle, t->number, n, &a), &a, place);
     *own = s->holds[n].share[--s->holds[n].shares];
 }
 
@@ -976,8 +975,8 @@ HOT void access_variable(slot *s, struct vs_self *me, seat *t, vs_object *o, vs_
     velodrome_answer a;
     uint32_t n = variable_number(s, o);
     if (n == NOT_TOLD || !in_blocks(s, me, t)) return;
-    if (kind == VS_READ) told(s, velodrome_read(&s->handle, t->number, (uint16_t)n, &a), &a, place);
-    else told(s, velodrome_write(&s->handle, t->number, (uint16_t)n, 0, &a), &a, place);
+    if (kind == VS_READ) told(s, velodrome_read(s->handle, t->number, n, &a), &a, place);
+    else told(s, velodrome_write(s->handle, t->number, n, 0, &a), &a, place);
 }
 
 static void make_room_for_object(slot *s, vs_kind kind) {
@@ -1177,9 +1176,9 @@ void vs_join_at(vs_child child, const vs_place *place) {
     struct vs_self *me = self();
     seat *t = s->recording ? seat_of(s, me) : NULL;
     uint32_t n = t ? number_of_who(s, child.who) : 0;
-    if (n && n != t->number && !s->thread[n].joined && told(s, velodrome_exit(&s->handle, (uint8_t)n, &a), &a, NULL)) {
+    if (n && n != t->number && !s->thread[n].joined && told(s, velodrome_exit(s->handle, n, &a), &a, NULL)) {
         s->thread[n].joined = true;
-        if (in_blocks(s, me, t)) told(s, velodrome_join(&s->handle, t->number, (uint8_t)n, &a), &a, place);
+        if (in_blocks(s, me, t)) told(s, velodrome_join(s->handle, t->number, n, &a), &a, place);
     }
     let_go(s);
 }
@@ -1331,7 +1330,7 @@ vs_verdict vs_close(vs_session session, char **report) {
     vs_verdict verdict = verdict_of(s);
     if (report) *report = report_of(s);
     end_recording(s);
-    velodrome_close(&s->handle);
+    velodrome_close(s->handle);
     free_all(s);
     uint64_t all = session;
     atomic_compare_exchange_strong(&everywhere, &all, s->outer_everywhere);
@@ -1354,12 +1353,12 @@ void vs_free(char *text) { free(text); }
 /* ---- files and settings */
 
 static bool put_log(FILE *f, slot *s) {
-    uint8_t piece[1 << 14];
+    char piece[1 << 14];
     size_t from = 0, count;
     velodrome_summary v;
-    if (velodrome_verdict(&s->handle, &v)) return false;
+    if (velodrome_verdict(s->handle, &v)) return false;
     do {
-        if (velodrome_log(&s->handle, from, piece, sizeof piece, &count, &from) || fwrite(piece, 1, count, f) != count) return false;
+        if (velodrome_log(s->handle, from, piece, sizeof piece, &count, &from) || fwrite(piece, 1, count, f) != count) return false;
     } while (from < v.events);
     return true;
 }

@@ -284,6 +284,34 @@ static void a_child_of_fork_is_on_its_own(void) {
     EXPECT(status == 0 && vs_close(s, NULL) == VS_CLEAN);
 }
 
+static void a_thread_met_in_a_block_is_no_child_of_it(void) { /* such as one of a pool that is older than the session */
+    vs_session s = vs_open(NULL, true);
+    vs_object x = VS_OBJECT("x"), y = VS_OBJECT("y"), label = VS_OBJECT("block");
+    vs_begin(&label);
+    set(&x);
+    set_apart(&y);
+    get(&y);
+    vs_end();
+    EXPECT(vs_close(s, NULL) == VS_CLEAN);
+}
+
+static void a_full_log_is_told_and_nothing_else(void) {
+    vs_options few = {.events = 20};
+    vs_session s = vs_open(&few, true);
+    vs_object x = VS_OBJECT("x"), l = VS_OBJECT("l"), label = VS_OBJECT("block");
+    vs_begin(&label);
+    for (int i = 0; i < 100; i++) {
+        vs_tell(&l, VS_ACQUIRE);
+        set(&x);
+        vs_tell(&l, VS_RELEASE);
+    }
+    vs_end();
+    set_apart(&x);
+    char *report;
+    EXPECT(vs_close(s, &report) == VS_INCOMPLETE && strstr(report, "too many events while a block was open"));
+    vs_free(report);
+}
+
 static void a_lock_of_another_kind(void) { /* released by a thread that did not take it: it cannot be told, and the program goes on */
     vs_session s = vs_open(NULL, true);
     static vs_object l = VS_OBJECT("l");
@@ -302,7 +330,8 @@ int main(void) {
         T(what_is_not_there), T(blocks_end_with_their_scope), T(sessions_nest), T(an_object_of_a_closed_session_is_anyones),
         T(tasks_are_themselves), T(a_task_goes_from_thread_to_thread),
         T(close_waits_for_the_hook), T(a_hook_may_close), T(sessions_come_and_go), T(a_crowded_run_is_cut), T(sessions_crosswise),
-        T(a_child_of_fork_is_on_its_own), T(a_lock_of_another_kind)};
+        T(a_child_of_fork_is_on_its_own), T(a_thread_met_in_a_block_is_no_child_of_it), T(a_full_log_is_told_and_nothing_else),
+        T(a_lock_of_another_kind)};
     for (size_t i = 0; i < sizeof tests / sizeof *tests; i++) {
         printf("%s\n", tests[i].name);
         fflush(stdout);

@@ -3,16 +3,19 @@
 #include <stdio.h>
 
 int main(void) {
-    velodrome monitor = VELODROME_CLOSED_HANDLE;
+    velodrome *monitor;
     velodrome_answer answer;
-    velodrome_summary summary;
-    if (velodrome_open(&monitor, 2, 1, 0, 1000, 64)) return 1;
-    velodrome_fork(&monitor, 0, 1, &answer);
-    velodrome_begin(&monitor, 0, 7, &answer);
-    velodrome_read(&monitor, 0, 0, &answer);
-    velodrome_write(&monitor, 1, 0, 5, &answer);
-    velodrome_write(&monitor, 0, 0, 1, &answer);
-    velodrome_verdict(&monitor, &summary);
-    printf("alarm %d at %d\n", summary.alarmed, (int)summary.position);
-    return velodrome_close(&monitor) != 0 || !summary.alarmed || summary.position != 4;
+    velodrome_status status = velodrome_open(&monitor, NULL);
+    if (status) {
+        fprintf(stderr, "%s\n", velodrome_strerror(status));
+        return 1;
+    }
+    velodrome_fork(monitor, 0, 1, NULL);
+    velodrome_begin(monitor, 0, 7, NULL);
+    velodrome_read(monitor, 0, 0, NULL);
+    velodrome_write(monitor, 1, 0, 5, NULL);
+    velodrome_write(monitor, 0, 0, 1, &answer);
+    printf("alarm %d at %d\n", answer.alarmed, (int)answer.position);
+    velodrome_close(monitor);
+    return !answer.alarmed || answer.position != 4;
 }

@@ -42,7 +42,7 @@ pub(crate) fn bound_at(known: &mut ConflictTable, events: &[Event], position: us
 {
     let last = events[position];
     known.clear();
-    let mut bound = 0;
+    let mut bound: usize = 0;
     for at in 0..position {
         let event = events[at];
         let number = take_in(known, event, at, last.thread);

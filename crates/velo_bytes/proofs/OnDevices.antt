@@ -50,10 +50,6 @@ keeps_then (Some x) None c p q = absurd p
 keeps_then (Some x) (Some y) None p q = absurd q
 keeps_then (Some x) (Some y) (Some z) p q = q ∙ p
 
-pub keeps_same : (a : Option (List ℕ)) → Keeps a a
-keeps_same None = tt
-keeps_same (Some x) = refl
-
 -- bytes that were read stand behind those that were there
 pub keeps_read : (there read : List ℕ) (a b : Option (List ℕ)) → Consumes a b read → Keeps (prepend_known there a) (prepend_known (there ++ read) b)
 keeps_read there read None b p = tt
@@ -65,16 +61,6 @@ pub keeps_front : (front xs ys : List ℕ) (a b : Option (List ℕ)) → Keeps (
 keeps_front front xs ys None b p = tt
 keeps_front front xs ys (Some x) None p = absurd p
 keeps_front front xs ys (Some x) (Some y) p = append_assoc front ys y ∙ ap (λ (t : List ℕ). front ++ t) p ∙ sym (append_assoc front xs x)
-
--- the lines that were taken, and what is left, as more bytes came
-pub stream_kept : (total r s : Option (List ℕ)) (lines there now more rest : List ℕ) → Keeps total (prepend_known (lines ++ there) r) → Keeps (prepend_known there r) (prepend_known now s) → more ++ rest ≡ lines ++ now → Keeps total (prepend_known (more ++ rest) s)
-stream_kept total r s lines there now more rest so_far filled same =
-    subst (λ (t : List ℕ). Keeps total (prepend_known t s)) (sym same) (keeps_then total (prepend_known (lines ++ there) r) (prepend_known (lines ++ now) s) so_far (keeps_front lines there now r s filled))
-
-pub keeps_from_none : (a b : Option (List ℕ)) → Keeps (prepend_known [] a) b → Keeps a b
-keeps_from_none None b p = tt
-keeps_from_none (Some x) None p = absurd p
-keeps_from_none (Some x) (Some y) p = p
 
 -- ---- a sink behind a buffer
 

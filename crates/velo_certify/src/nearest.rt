@@ -14,7 +14,13 @@ use velo_events::Event;
 
 /// Takes in the event at a position, where those before it were taken in. Whether it makes an edge from the transaction to
 /// its own.
-fn makes_edge(events: &[Event], owners: &[usize], table: &mut ConflictTable, from: usize, at: usize) -> bool
+fn makes_edge(
+    events: &[Event],
+    owners: &[usize],
+    table: &mut ConflictTable,
+    from: usize,
+    at: usize,
+) -> bool
     requires within { at < length events.now }
     requires owners { AreOwners owners.now events.now }
     requires names { AllHavePlaces (sizes table.old) events.now (length events.now) }

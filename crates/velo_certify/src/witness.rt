@@ -12,7 +12,13 @@ use velo_events::{Event, Memory, conflicts};
 use velo_traces::Trace;
 
 /// Takes the next event in, and marks it where it is the begin or a marked one conflicts with it.
-fn mark_next(events: &[Event], table: &mut ConflictTable, begin: usize, marks: &mut Vec<usize>, at: usize)
+fn mark_next(
+    events: &[Event],
+    table: &mut ConflictTable,
+    begin: usize,
+    marks: &mut Vec<usize>,
+    at: usize,
+)
     requires at { length marks.old.items ≡ at }
     requires within { at < length events.now }
     requires room { vec_len marks.old < vec_capacity marks.old }

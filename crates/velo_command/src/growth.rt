@@ -62,8 +62,7 @@ pub fn matches_of<'a, W: AsStr>(
 ///
 /// # Errors
 /// `Memory` where a growth was refused.
-pub fn text_of(alloc: Global, error: &Error) -> Result<String, Memory>
-{
+pub fn text_of(alloc: Global, error: &Error) -> Result<String, Memory> {
     match format!(in alloc; "{error}") {
         Ok(text) => Ok(text),
         Err(_) => Err(Memory),

@@ -1,7 +1,6 @@
 -- What the calls of a handle come to.
 use Rattle.std.specs.Prelude.{◌≡◌, ◌≢◌, ◌⊎◌, ℕ, true, false, List, [], length, map, Option, Some, None, Result, Ok, Err}
 use Rattle.velo_events.specs.declared.config.Bounds.{Bounds}
-use Rattle.velo_events.specs.Config.{first_bad_value}
 use Rattle.velo_events.specs.declared.event.Action.{Action}
 use Rattle.velo_events.specs.declared.event.Event.{Event}
 use Rattle.velo_events.specs.declared.event.ThreadId.{ThreadId}
@@ -14,7 +13,8 @@ use Rattle.velo_world.specs.World.{AlarmOf, StepsTo, WorldState}
 use Rattle.velo_ffi.specs.declared.answers.Answer.{Answer}
 use Rattle.velo_ffi.specs.declared.answers.Blamed.{Blamed}
 use Rattle.velo_ffi.specs.declared.answers.Verdict.{Verdict}
-use Rattle.velo_ffi.specs.declared.answers.TheConstants.{ALREADY_OPEN, BAD_NUMBER, CLOSED, DONE}
+use Rattle.velo_ffi.specs.declared.answers.TheConstants.{BAD_NUMBER, CLOSED, DONE}
+use Rattle.velo_ffi.specs.Numbers.{AreBad}
 use Rattle.velo_ffi.specs.Texts.{TellsAll, WantsMemory}
 use Rattle.velo_ffi.specs.Watch.{WatchState}
 
@@ -29,12 +29,11 @@ pub record IsOpened (asked : Bounds) (most_events most_nodes : ℕ) (w : WorldSt
   pub live : w.halted ≡ false
   pub empty : w.log ≡ []
 
--- what opening came to, by what the handle keeps before and after: a number may be bad, or a growth refused
-abbrev pub Opens : Option WatchState → Bounds → ℕ → ℕ → ℕ → Option WatchState → Type 0
-Opens (Some w) bounds events nodes status kept = (status ≡ ALREADY_OPEN) × (kept ≡ Some w)
-Opens None bounds events nodes status (Some w) = (status ≡ DONE) × IsOpened bounds events nodes w.world
-Opens None bounds events nodes status None =
-    ((status ≡ BAD_NUMBER) × (first_bad_value bounds events nodes ≢ None)) ⊎ WantsMemory status
+-- what opening came to, by what the handle keeps then: a number may be bad, or a growth refused
+abbrev pub Opens : Bounds → ℕ → ℕ → ℕ → Option WatchState → Type 0
+Opens bounds events nodes status (Some w) = (status ≡ DONE) × IsOpened bounds events nodes w.world
+Opens bounds events nodes status None =
+    ((status ≡ BAD_NUMBER) × AreBad bounds events nodes) ⊎ WantsMemory status
 
 -- ---- an event
 
@@ -82,11 +81,16 @@ pub record Steps (w : WatchState) (thread : ThreadId) (action : Action) (before 
   pub steps : StepsTo w.world w.shares thread action outcome w'.world w'.shares
   pub told : Tells outcome before status after
 
+-- what the numbers of a call come to: a step, unless one of them is beyond its type
+abbrev pub Tries : WatchState → Option ThreadId → Option Action → Answer → ℕ → Answer → WatchState → Type 0
+Tries w (Some thread) (Some action) before status after w' = Steps w thread action before status after w'
+Tries w _ _ before status after w' = (status ≡ BAD_NUMBER) × (after ≡ before) × (w' ≡ w)
+
 -- a call that does an action, by what the handle keeps before and after
-abbrev pub Does : Option WatchState → ThreadId → Action → Answer → ℕ → Answer → Option WatchState → Type 0
+abbrev pub Does : Option WatchState → Option ThreadId → Option Action → Answer → ℕ → Answer → Option WatchState → Type 0
 Does None thread action before status after kept = (status ≡ CLOSED) × (after ≡ before) × (kept ≡ None)
 Does (Some w) thread action before status after None = ⊥
-Does (Some w) thread action before status after (Some w') = Steps w thread action before status after w'
+Does (Some w) thread action before status after (Some w') = Tries w thread action before status after w'
 
 -- ---- the verdict
 

@@ -3,6 +3,6 @@ pub mod Inside
 pub mod Kept
 pub mod Gathered
 pub mod Texts
+pub mod Numbers
 pub mod Answers
 pub mod Pieces
-pub mod Names

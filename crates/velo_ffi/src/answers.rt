@@ -44,9 +44,6 @@ pub const DONE: u32 = 0;
 /// The handle is closed.
 pub const CLOSED: u32 = 100;
 
-/// The handle is open already.
-pub const ALREADY_OPEN: u32 = 101;
-
 /// A number is out of its range.
 pub const BAD_NUMBER: u32 = 102;
 
@@ -55,3 +52,6 @@ pub const NO_MEMORY: u32 = 103;
 
 /// The buffer is too short. It is as it was.
 pub const TOO_SHORT: u32 = 104;
+
+/// A line of the names says no name, or a name for a second time, or they are too many or no UTF-8.
+pub const BAD_NAMES: u32 = 105;

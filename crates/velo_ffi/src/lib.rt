@@ -12,7 +12,7 @@ mod lines;
 mod live;
 mod logs;
 mod monitor;
-mod names;
+mod numbers;
 mod texts;
 mod verdicts;
 mod watch;

@@ -1,48 +1,52 @@
 //! The life of a handle, and the step that each event is.
-ghost use Rattle.std.specs.Prelude.{◌≡◌, ◌≢◌, ◌↔◌, None};
+ghost use Rattle.std.specs.Prelude.{◌≡◌, ◌≢◌, ◌↔◌, None, false, IfOk};
 ghost use Rattle.velo_events.specs.declared.event.Action.{Action as ActionOf};
-ghost use Rattle.velo_ffi.specs.Answers.{Does, Opens, Tells, number_of};
+ghost use Rattle.velo_ffi.specs.Answers.{Does, IsOpened, Opens, Tells, Tries, number_of};
+ghost use Rattle.velo_ffi.specs.Numbers.{thread_of};
 
-use crate::answers::{ALREADY_OPEN, Answer, BAD_NUMBER, CLOSED, DONE, NO_MEMORY};
+use crate::answers::{Answer, BAD_NUMBER, CLOSED, DONE, NO_MEMORY};
 use crate::growth::boxed;
 use crate::monitor::Monitor;
+use crate::numbers::{config_of, thread_of};
 use crate::watch::Watch;
 use std::alloc::Global;
-use velo_events::{Action, Bounds, Config, Refusal, ThreadId};
+use velo_events::{Action, Config, Memory, Refusal};
 use velo_world::Reply;
 
-/// Opens a monitor without events, of so many threads, variables and locks, and with these limits of events and of nodes.
-/// `ALREADY_OPEN` where it is open, `BAD_NUMBER` where a number is out of its range, `NO_MEMORY` where a growth was refused;
-/// nothing has changed then.
+/// A watch without events, in a box of its own.
+///
+/// # Errors
+/// `Memory` where a growth was refused.
+fn start(alloc: Global, config: Config) -> Result<Box<Watch>, Memory>
+    requires { config.stop ≡ false }
+    ensures { IfOk result (λ watch.
+        IsOpened config.bounds config.events config.nodes watch.value.world) }
+{
+    let watch = Watch::start(alloc, config)?;
+    boxed(alloc, watch)
+}
+
+/// Opens a monitor without events, of so many threads, variables and locks, and with these limits of events and of nodes. What
+/// the handle had before is not read. `BAD_NUMBER` where a number is out of its range, `NO_MEMORY` where a growth was refused;
+/// it is closed then.
 #[unsafe(no_mangle)]
-pub extern "C" fn velodrome_open(
+pub extern "C" fn velo_open(
     alloc: Global,
     monitor: &mut Monitor,
-    threads: u8,
-    variables: u16,
-    locks: u16,
+    threads: u32,
+    variables: u32,
+    locks: u32,
     events: u32,
-    nodes: u16,
+    nodes: u32,
 ) -> u32
-    ensures opens { Opens monitor.old.kept.watch (record { threads = threads; variables = variables; locks = locks })
+    ensures opens { Opens (record { threads = threads; variables = variables; locks = locks })
         events nodes result monitor.new.kept.watch }
-    ensures same { result ≢ DONE → monitor.new.kept.watch ≡ monitor.old.kept.watch }
 {
-    if monitor.live {
-        return ALREADY_OPEN;
-    }
-    let bounds = Bounds {
-        threads,
-        variables,
-        locks,
-    };
-    let Ok(config) = Config::new(0, bounds, events, nodes, false) else {
+    *monitor = Monitor::closed(alloc);
+    let Some(config) = config_of(threads, variables, locks, events, nodes) else {
         return BAD_NUMBER;
     };
-    let Ok(watch) = Watch::start(alloc, config) else {
-        return NO_MEMORY;
-    };
-    let Ok(watch) = boxed(alloc, watch) else {
+    let Ok(watch) = start(alloc, config) else {
         return NO_MEMORY;
     };
     *monitor = Monitor::of(watch);
@@ -51,7 +55,7 @@ pub extern "C" fn velodrome_open(
 
 /// Closes a monitor, and frees what it held.
 #[unsafe(no_mangle)]
-pub extern "C" fn velodrome_close(alloc: Global, monitor: &mut Monitor) -> u32
+pub extern "C" fn velo_close(alloc: Global, monitor: &mut Monitor) -> u32
     ensures closed { monitor.new.kept.watch ≡ None }
     ensures done { result ≡ DONE ↔ monitor.old.kept.watch ≢ None }
     ensures already { result ≡ CLOSED ↔ monitor.old.kept.watch ≡ None }
@@ -112,21 +116,34 @@ fn tell(outcome: Result<Reply, Refusal>, answer: &mut Answer) -> u32
     }
 }
 
-/// Does an action of a thread.
+/// Does what the numbers of a call come to.
+fn try_to(watch: &mut Watch, thread: u32, action: Option<Action>, answer: &mut Answer) -> u32
+    ensures { Tries watch.old (thread_of thread) action answer.old result answer.new watch.new }
+{
+    let Some(thread) = thread_of(thread) else {
+        return BAD_NUMBER;
+    };
+    let Some(action) = action else {
+        return BAD_NUMBER;
+    };
+    tell(watch.act(thread, action), answer)
+}
+
+/// Does an action of a thread; no action where a number of it is beyond its type.
 pub fn act(
     alloc: Global,
     monitor: &mut Monitor,
-    thread: u8,
-    action: Action,
+    thread: u32,
+    action: Option<Action>,
     answer: &mut Answer,
 ) -> u32
-    ensures does { Does monitor.old.kept.watch (record { 0 = thread }) action answer.old result answer.new monitor.new.kept.watch }
+    ensures does { Does monitor.old.kept.watch (thread_of thread) action answer.old result answer.new monitor.new.kept.watch }
     ensures refused { result ≢ 0 → monitor.new.kept.watch ≡ monitor.old.kept.watch }
 {
     let Some(mut watch) = monitor.take(alloc) else {
         return CLOSED;
     };
-    let status = tell(watch.act(ThreadId(thread), action), answer);
+    let status = try_to(&mut watch, thread, action, answer);
     *monitor = Monitor::of(watch);
     status
 }

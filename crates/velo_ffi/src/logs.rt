@@ -47,7 +47,7 @@ fn put_piece(
 /// Where not even one line has room, `TOO_SHORT` with the length that is needed; the buffer is as it was. One of 180 bytes is
 /// always long enough.
 #[unsafe(no_mangle)]
-pub extern "C" fn velodrome_log(
+pub extern "C" fn velo_log(
     alloc: Global,
     monitor: &mut Monitor,
     from: usize,

@@ -20,7 +20,7 @@ pub struct Monitor {
 
 impl Monitor {
     /// A closed one.
-    fn closed(alloc: Global) -> Monitor
+    pub fn closed(alloc: Global) -> Monitor
         ensures { result.kept.watch ≡ None }
     {
         Monitor {

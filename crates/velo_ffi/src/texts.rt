@@ -1,10 +1,11 @@
 //! The report and the explanation of the events so far, whole or not at all.
-ghost use Rattle.std.specs.Prelude.{◌≡◌, ◌≢◌, ◌≤◌, None, length, IfOk, IfSome};
+ghost use Rattle.std.specs.Prelude.{◌≡◌, ◌≢◌, ◌≤◌, ◌⊎◌, Ok, Err, List, None, ℕ, length, IfErr, IfOk, IfSome};
 ghost use Rattle.velo_events.specs.declared.limits.TheConstants.{MOST_EVENTS};
+ghost use Rattle.velo_names.specs.Names.{ReadsAs, Stands};
 ghost use Rattle.velo_world.specs.World.{IsAlarm};
-ghost use Rattle.velo_ffi.specs.Texts.{ExplainsAlarm, IsExplanation, IsReportOf, TellsAll, TellsExplanation, TellsReport};
+ghost use Rattle.velo_ffi.specs.Texts.{AreNamesBy, ExplainsAlarm, IsExplanation, IsExplanationBy, IsReportBy, TellsAll, TellsExplanation, TellsFault, TellsReport, WantsMemory};
 
-use crate::answers::{CLOSED, DONE, NO_MEMORY, TOO_SHORT};
+use crate::answers::{BAD_NAMES, CLOSED, DONE, NO_MEMORY, TOO_SHORT};
 use crate::gathered::Gathered;
 use crate::monitor::Monitor;
 use crate::watch::Watch;
@@ -12,16 +13,17 @@ use std::alloc::Global;
 use velo_bytes::{WriteFault, put_bytes};
 use velo_certify::CertFault;
 use velo_events::Memory;
-use velo_explain::{Page, evidence_of, explain, explain_clean};
-use velo_report::{Names, report_so_far};
+use velo_explain::{Page, evidence_of, explain_clean, explain_named};
+use velo_names::{Names, NamesFault};
+use velo_report::report_so_far;
 use velo_traces::Trace;
 use velo_world::{Alarm, World};
 
 /// Puts a whole text at the front of a buffer, if there is room for it, and tells how many bytes it is.
-pub fn put_whole(text: &[u8], buffer: &mut [u8], count: &mut usize) -> u32
+fn put_whole(text: &[u8], buffer: &mut [u8], count: &mut usize) -> u32
     ensures told { TellsAll text.now result buffer.new count.new }
     ensures same { result ≢ DONE → buffer.new ≡ buffer.old }
-    ensures length { count.new ≡ length text.now }
+    ensures status { result ≢ DONE → result ≡ TOO_SHORT }
 {
     *count = text.len();
     if text.len() > buffer.len() {
@@ -31,71 +33,129 @@ pub fn put_whole(text: &[u8], buffer: &mut [u8], count: &mut usize) -> u32
     DONE
 }
 
-/// The report of the events so far.
+/// Tells why a file has no names: the line of its fault, or that memory was refused.
+fn put_fault(fault: NamesFault, count: &mut usize) -> u32
+    ensures told { (file : List ℕ) → ReadsAs file (Err fault)
+        → TellsFault file result count.new ⊎ WantsMemory result }
+    ensures refused { result ≢ DONE }
+    ensures untold { result ≢ BAD_NAMES → count.new ≡ count.old }
+{
+    match fault {
+        NamesFault::Memory => NO_MEMORY,
+        _ => {
+            *count = fault.line();
+            BAD_NAMES
+        }
+    }
+}
+
+/// What a report calls threads and labels by the names of a file; nothing, where it has no bytes.
+fn shown_by<'a>(file: &[u8], names: &'a Names<'a>) -> velo_report::Names<'a>
+    requires { Stands file.now (Ok names.now) }
+    ensures { AreNamesBy file.now result }
+{
+    if file.is_empty() {
+        velo_report::Names::Numbers
+    } else {
+        velo_report::Names::Listed(names)
+    }
+}
+
+/// The report of the events so far, by the names of a file.
 ///
 /// # Errors
 /// `Memory` where a growth was refused.
-fn report_of(alloc: Global, world: &World) -> Result<Gathered, Memory>
-    ensures { IfOk result (λ text. IsReportOf world.now text.bytes) }
+fn report_of(alloc: Global, world: &World, file: &[u8], names: &Names) -> Result<Gathered, Memory>
+    requires { Stands file.now (Ok names.now) }
+    ensures { IfOk result (λ text. IsReportBy file.now world.now text.bytes) }
 {
     let mut text = Gathered::new(alloc);
-    match report_so_far(world, &Names::Numbers, &mut text) {
+    let shown = shown_by(file, names);
+    match report_so_far(world, &shown, &mut text) {
         Ok(()) => Ok(text),
         Err(WriteFault) => Err(text.refusal()),
     }
 }
 
-/// Puts the report of the events so far.
-fn put_report(alloc: Global, watch: &Watch, buffer: &mut [u8], count: &mut usize) -> u32
-    ensures told { TellsReport watch.now.world result buffer.new count.new }
-    ensures same { result ≢ DONE → buffer.new ≡ buffer.old }
-    ensures untold { result ≢ DONE → result ≢ TOO_SHORT → count.new ≡ count.old }
+/// The report of the events so far, by the names in the bytes of a file; no bytes are no names.
+///
+/// # Errors
+/// The fault of the file. `Memory` where a growth was refused.
+fn report_by(alloc: Global, world: &World, file: &[u8]) -> Result<Gathered, NamesFault>
+    ensures report { IfOk result (λ text. IsReportBy file.now world.now text.bytes) }
+    ensures fault { IfErr result (λ fault. ReadsAs file.now (Err fault)) }
 {
-    match report_of(alloc, &watch.world) {
-        Ok(text) => put_whole(text.as_slice(), buffer, count),
-        Err(Memory) => NO_MEMORY,
+    let names = Names::parse(alloc, file)?;
+    let text = report_of(alloc, world, file, &names);
+    drop(names);
+    match text {
+        Ok(text) => Ok(text),
+        Err(Memory) => Err(NamesFault::Memory),
     }
 }
 
-/// Writes the report of the events so far to a buffer, and tells how many bytes it is: what `velodrome check` writes for the log.
-/// The monitor goes on.
+/// Puts the report of the events so far.
+fn put_report(
+    alloc: Global,
+    watch: &Watch,
+    file: &[u8],
+    buffer: &mut [u8],
+    count: &mut usize,
+) -> u32
+    ensures told { TellsReport file.now watch.now.world result buffer.new count.new }
+    ensures same { result ≢ DONE → buffer.new ≡ buffer.old }
+    ensures untold { result ≢ DONE → result ≢ TOO_SHORT → result ≢ BAD_NAMES
+        → count.new ≡ count.old }
+{
+    match report_by(alloc, &watch.world, file) {
+        Ok(text) => put_whole(text.as_slice(), buffer, count),
+        Err(fault) => put_fault(fault, count),
+    }
+}
+
+/// Writes the report of the events so far to a buffer, and tells how many bytes it is: what `velodrome check` writes for the log,
+/// with `--names` where the file of names has bytes. The monitor goes on.
 ///
-/// Where there is no room for all, `TOO_SHORT` with the length that is needed; the buffer is as it was. One of 4,096 bytes is
-/// always long enough. `NO_MEMORY` where a growth was refused; nothing has changed then.
+/// Where there is no room for all, `TOO_SHORT` with the length that is needed; the buffer is as it was. Without names one of
+/// 4,096 bytes is always long enough. Where the file has a fault, `BAD_NAMES` with the line of it, which is 0 where it is one of
+/// the whole. `NO_MEMORY` where a growth was refused; nothing has changed then.
 #[unsafe(no_mangle)]
-pub extern "C" fn velodrome_report(
+pub extern "C" fn velo_report(
     alloc: Global,
     monitor: &mut Monitor,
+    names: &[u8],
     buffer: &mut [u8],
     count: &mut usize,
 ) -> u32
     ensures kept { monitor.new.kept.watch ≡ monitor.old.kept.watch }
-    ensures told { IfSome monitor.old.kept.watch (λ watch. TellsReport watch.world result buffer.new count.new) }
+    ensures told { IfSome monitor.old.kept.watch (λ watch.
+        TellsReport names.now watch.world result buffer.new count.new) }
     ensures closed { monitor.old.kept.watch ≡ None → result ≡ CLOSED }
     ensures same { result ≢ DONE → buffer.new ≡ buffer.old }
-    ensures untold { result ≢ DONE → result ≢ TOO_SHORT → count.new ≡ count.old }
+    ensures untold { result ≢ DONE → result ≢ TOO_SHORT → result ≢ BAD_NAMES
+        → count.new ≡ count.old }
 {
     let Some(watch) = monitor.take(alloc) else {
         return CLOSED;
     };
-    let status = put_report(alloc, &watch, buffer, count);
+    let status = put_report(alloc, &watch, names, buffer, count);
     *monitor = Monitor::of(watch);
     status
 }
 
-/// The explanation of an alarm of a log.
+/// The explanation of an alarm of a log, by names.
 ///
 /// # Errors
 /// `Memory` where a growth was refused.
-fn explain_alarm(alloc: Global, log: &Trace, alarm: &Alarm) -> Result<Page, Memory>
+fn explain_alarm(alloc: Global, log: &Trace, alarm: &Alarm, names: &Names) -> Result<Page, Memory>
     requires few { length log.now.events ≤ MOST_EVENTS }
     requires alarm { IsAlarm log.now.events alarm.now }
-    ensures { IfOk result (λ page. ExplainsAlarm log.now.events page) }
+    ensures { IfOk result (λ page. ExplainsAlarm names.now log.now.events page) }
 {
     let position = alarm.position;
     match evidence_of(alloc, log, position, alarm.blamed.as_slice()) {
         Ok(evidence) => {
-            let page = explain(alloc, log, position, &evidence);
+            let page = explain_named(alloc, log, position, &evidence, names);
             drop(evidence);
             page
         }
@@ -105,54 +165,83 @@ fn explain_alarm(alloc: Global, log: &Trace, alarm: &Alarm) -> Result<Page, Memo
     }
 }
 
-/// The explanation of the events so far.
+/// The explanation of the events so far, by names.
 ///
 /// # Errors
 /// `Memory` where a growth was refused.
-fn explanation_of(alloc: Global, world: &World) -> Result<Page, Memory>
-    ensures { IfOk result (λ page. IsExplanation world.now.log page) }
+fn explanation_of(alloc: Global, world: &World, names: &Names) -> Result<Page, Memory>
+    ensures { IfOk result (λ page. IsExplanation names.now world.now.log page) }
 {
     let log = world.log();
     match world.alarm() {
         None => explain_clean(alloc, log),
-        Some(alarm) => explain_alarm(alloc, log, alarm),
+        Some(alarm) => explain_alarm(alloc, log, alarm, names),
+    }
+}
+
+/// The explanation of the events so far, by the names in the bytes of a file; no bytes are no names.
+///
+/// # Errors
+/// The fault of the file. `Memory` where a growth was refused.
+fn explanation_by(alloc: Global, world: &World, file: &[u8]) -> Result<Page, NamesFault>
+    ensures explains { IfOk result (λ page. IsExplanationBy file.now world.now.log page) }
+    ensures fault { IfErr result (λ fault. ReadsAs file.now (Err fault)) }
+{
+    let names = Names::parse(alloc, file)?;
+    let page = explanation_of(alloc, world, &names);
+    drop(names);
+    match page {
+        Ok(page) => Ok(page),
+        Err(Memory) => Err(NamesFault::Memory),
     }
 }
 
 /// Puts the explanation of the events so far.
-fn put_explanation(alloc: Global, watch: &Watch, buffer: &mut [u8], count: &mut usize) -> u32
-    ensures told { TellsExplanation watch.now.world.log result buffer.new count.new }
+fn put_explanation(
+    alloc: Global,
+    watch: &Watch,
+    file: &[u8],
+    buffer: &mut [u8],
+    count: &mut usize,
+) -> u32
+    ensures told { TellsExplanation file.now watch.now.world.log result buffer.new count.new }
     ensures same { result ≢ DONE → buffer.new ≡ buffer.old }
-    ensures untold { result ≢ DONE → result ≢ TOO_SHORT → count.new ≡ count.old }
+    ensures untold { result ≢ DONE → result ≢ TOO_SHORT → result ≢ BAD_NAMES
+        → count.new ≡ count.old }
 {
-    match explanation_of(alloc, &watch.world) {
+    match explanation_by(alloc, &watch.world, file) {
         Ok(page) => put_whole(page.as_slice(), buffer, count),
-        Err(Memory) => NO_MEMORY,
+        Err(fault) => put_fault(fault, count),
     }
 }
 
 /// Writes the explanation of the events so far to a buffer, and tells how many bytes it is: what `velodrome explain` writes for
-/// the log. The monitor goes on. It takes time and memory in proportion to the log.
+/// the log, with `--names` where the file of names has bytes. The monitor goes on. It takes time and memory in proportion to the
+/// log.
 ///
-/// Where there is no room for all, `TOO_SHORT` with the length that is needed; the buffer is as it was. `NO_MEMORY` where a
-/// growth was refused; nothing has changed then.
+/// Where there is no room for all, `TOO_SHORT` with the length that is needed; the buffer is as it was. Where the file has a
+/// fault, `BAD_NAMES` with the line of it, which is 0 where it is one of the whole. `NO_MEMORY` where a growth was refused;
+/// nothing has changed then.
 #[unsafe(no_mangle)]
-pub extern "C" fn velodrome_explanation(
+pub extern "C" fn velo_explanation(
     alloc: Global,
     monitor: &mut Monitor,
+    names: &[u8],
     buffer: &mut [u8],
     count: &mut usize,
 ) -> u32
     ensures kept { monitor.new.kept.watch ≡ monitor.old.kept.watch }
-    ensures told { IfSome monitor.old.kept.watch (λ watch. TellsExplanation watch.world.log result buffer.new count.new) }
+    ensures told { IfSome monitor.old.kept.watch (λ watch.
+        TellsExplanation names.now watch.world.log result buffer.new count.new) }
     ensures closed { monitor.old.kept.watch ≡ None → result ≡ CLOSED }
     ensures same { result ≢ DONE → buffer.new ≡ buffer.old }
-    ensures untold { result ≢ DONE → result ≢ TOO_SHORT → count.new ≡ count.old }
+    ensures untold { result ≢ DONE → result ≢ TOO_SHORT → result ≢ BAD_NAMES
+        → count.new ≡ count.old }
 {
     let Some(watch) = monitor.take(alloc) else {
         return CLOSED;
     };
-    let status = put_explanation(alloc, &watch, buffer, count);
+    let status = put_explanation(alloc, &watch, names, buffer, count);
     *monitor = Monitor::of(watch);
     status
 }

@@ -33,11 +33,7 @@ fn verdict_of(watch: &Watch) -> Verdict
 
 /// Tells the verdict so far.
 #[unsafe(no_mangle)]
-pub extern "C" fn velodrome_verdict(
-    alloc: Global,
-    monitor: &mut Monitor,
-    verdict: &mut Verdict,
-) -> u32
+pub extern "C" fn velo_verdict(alloc: Global, monitor: &mut Monitor, verdict: &mut Verdict) -> u32
     ensures kept { monitor.new.kept.watch ≡ monitor.old.kept.watch }
     ensures told { IfSome monitor.old.kept.watch (λ watch. IsVerdict watch.world.log verdict.new) }
     ensures open { monitor.old.kept.watch ≢ None → result ≡ DONE }
@@ -91,7 +87,7 @@ fn put_blamed(watch: &Watch, buffer: &mut [Blamed], count: &mut usize) -> u32
 ///
 /// Where there is no room for all, `TOO_SHORT` with their number; the buffer is as it was. One of 32 is always long enough.
 #[unsafe(no_mangle)]
-pub extern "C" fn velodrome_blamed(
+pub extern "C" fn velo_blamed(
     alloc: Global,
     monitor: &mut Monitor,
     buffer: &mut [Blamed],

@@ -1,5 +1,5 @@
 -- How what a reader has given grows, and what stands in the bytes where it ends.
-use Rattle.std.proofs.Common.{◌≡◌, ℕ, ◌+◌, ◌-◌, ◌<◌, Bool, true, false, cond, drop, List, [], ◌∷◌, ◌++◌, length, Option, Some, None, Result, Ok, Err, inl, inr, refl, sym, ap, subst, ◌∙◌, append_assoc, length-append, arith}
+use Rattle.std.proofs.Common.{◌≡◌, ℕ, ◌+◌, ◌-◌, ◌<◌, ◌≤◌, Bool, true, false, cond, drop, List, [], ◌∷◌, ◌++◌, length, Option, Some, None, Result, Ok, Err, inl, inr, refl, sym, ap, subst, ◌∙◌, append_assoc, length-append, arith}
 use Rattle.std.specs.Prelude.{IfSome, IsTrue, ◌⊎◌}
 use Rattle.std.specs.Io.KnownBytes.{Keeps, prepend_known, IsAtEnd}
 use Rattle.std.proofs.lemmas.List.{append-nil}
@@ -9,10 +9,10 @@ use Rattle.velo_logtext.specs.declared.fault.LogFault.{LogFault}
 use Rattle.velo_logtext.specs.declared.fault.LogFault.TheVariants.{BadHeader, BadLine, Truncated, TooLong, Read, Memory}
 use Rattle.velo_logtext.specs.declared.reader.Front.{Front}
 use Rattle.velo_logtext.specs.declared.reader.Front.TheVariants.{Open, End}
-use Rattle.velo_logtext.specs.Text.{header_line, event_line, event_lines, text_in, Begins, Head}
+use Rattle.velo_logtext.specs.Text.{AreEventsIn, header_line, event_line, event_lines, text_in, Begins, Head}
 use Rattle.velo_logtext.specs.Finding.{Stands, ReadsAs, HasNoHeader, IsCutLine, failures_after}
 use Rattle.velo_logtext.specs.Front.{IsOfText, Takes, Finds, is_whole, judged_front, judged_full}
-use Rattle.velo_logtext.specs.Reader.{ReaderState, HasGiven, HasWholeLine}
+use Rattle.velo_logtext.specs.Reader.{ReaderState, HasGiven, Gives, HasWholeLine}
 use Rattle.velo_logtext.specs.Reading.{event_in, header_at}
 use Rattle.velo_bytes.proofs.OnDevices.{keeps_front, keeps_then}
 use Rattle.velo_logtext.proofs.OnFindings.{header_moved, no_header, newline_more, bad_ended, ended_bad, not_bad}
@@ -51,6 +51,29 @@ given_one bytes events old remaining e rest h is room =
       few = omega (arith, room, h.count, len);
       end = h.end;
     }
+
+-- and several events more
+pub given_lines : (bytes : Option (List ℕ)) (events more : List Event) (old : ReaderState) (remaining : Option (List ℕ)) (given : ℕ) (rest : List ℕ) → HasGiven bytes events old remaining → event_lines more ++ rest ≡ event_lines events ++ old.held
+    → (AreEventsIn old.shares events → AreEventsIn old.shares more) → given + length events ≡ old.given + length more → given ≤ MOST_EVENTS → HasGiven bytes more (record old { given = given; held = rest }) remaining
+given_lines bytes events more old remaining given rest h stream fit count few =
+    let header = header_line (old.shares, old.bounds) in
+    let same : text_in old.shares old.bounds events ++ old.held ≡ text_in old.shares old.bounds more ++ rest =
+    append_assoc header (event_lines events) old.held ∙ ap (λ (t : List ℕ). header ++ t) (sym stream) ∙ sym (append_assoc header (event_lines more) rest) in
+    record {
+      bounds_fit = h.bounds_fit;
+      events_fit = fit h.events_fit;
+      text = subst (λ (t : List ℕ). Keeps bytes (prepend_known t remaining)) same h.text;
+      count = omega (arith, count, h.count);
+      few = omega (arith, count, few, h.count);
+      end = h.end;
+    }
+
+-- what came next, if anything did
+pub given_some : (bytes : Option (List ℕ)) (events : List Event) (next : Option Event) (e : Event) (r : ReaderState) (remaining : Option (List ℕ)) → Gives bytes events (Ok next) r remaining → next ≡ Some e → HasGiven bytes (events ++ e ∷ []) r remaining
+given_some bytes events next e r remaining h is = subst (λ (o : Option Event). Gives bytes events (Ok o) r remaining) is h
+
+pub given_all : (bytes : Option (List ℕ)) (events : List Event) (next : Option Event) (r : ReaderState) (remaining : Option (List ℕ)) → Gives bytes events (Ok next) r remaining → next ≡ None → IfSome bytes (λ all. Stands MOST_EVENTS all (Ok (r.bounds, events)))
+given_all bytes events next r remaining h is = subst (λ (o : Option Event). Gives bytes events (Ok o) r remaining) is h
 
 -- what is left behind an event's line, and behind a header
 pub event_left : (shares : Bool) (held : List ℕ) (e : Event) (rest : List ℕ) → Some (e, rest) ≡ event_in shares held → drop (length held - length rest) held ≡ rest
@@ -145,7 +168,7 @@ front_finds bytes events r remaining h none room (b ∷ bs) false false held-is 
 
 front_takes : (r : ReaderState) (held : List ℕ) (ended whole : Bool) → r.held ≡ held → r.ended ≡ ended → is_whole r.held ≡ whole → Takes r (judged held ended whole (r.given + 2)) r
 unfolding judged
-front_takes r [] true whole held-is ended-is whole-is = refl
+front_takes r [] true whole held-is ended-is whole-is = (refl, ended-is)
 front_takes r [] false whole held-is ended-is whole-is = (refl, ended-is, ap is_whole held-is)
 front_takes r (b ∷ bs) ended true held-is ended-is whole-is = (refl, tt, refl)
 front_takes r (b ∷ bs) true false held-is ended-is whole-is = (refl, tt, refl)
@@ -164,7 +187,7 @@ full_finds bytes events r remaining h full [] false held-is ended-is = tt
 full_finds bytes events r remaining h full (b ∷ bs) ended held-is ended-is = too_long_stands bytes events r remaining h (omega (arith, ap length held-is)) full
 
 full_takes : (r : ReaderState) (held : List ℕ) (ended : Bool) → r.given ≡ MOST_EVENTS → r.held ≡ held → r.ended ≡ ended → Takes r (judged_full held ended) r
-full_takes r [] true full held-is ended-is = refl
+full_takes r [] true full held-is ended-is = (refl, ended-is)
 full_takes r [] false full held-is ended-is = (refl, ended-is, ap is_whole held-is)
 full_takes r (b ∷ bs) ended full held-is ended-is = (refl, tt, full)
 

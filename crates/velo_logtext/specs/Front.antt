@@ -1,5 +1,5 @@
 -- What a reader makes of the bytes that it holds. Private contracts cite these words.
-use Rattle.std.specs.Prelude.{◌≡◌, ℕ, ◌||◌, ◌==◌, nat_lt, Bool, false, if◌then◌else◌, List, [], ◌∷◌, ◌++◌, length, IfSome, Option, Result, Ok, Err}
+use Rattle.std.specs.Prelude.{◌≡◌, ℕ, ◌||◌, ◌==◌, nat_lt, Bool, true, false, if◌then◌else◌, List, [], ◌∷◌, ◌++◌, length, IfSome, Option, Result, Ok, Err}
 use Rattle.std.specs.List.{list_any}
 use Rattle.velo_events.specs.declared.event.Event.{Event}
 use Rattle.velo_events.specs.declared.limits.TheConstants.{MOST_EVENTS}
@@ -9,11 +9,6 @@ use Rattle.velo_logtext.specs.declared.reader.Front.{Front}
 use Rattle.velo_logtext.specs.declared.reader.Front.TheVariants.{Line, Open, End}
 use Rattle.velo_logtext.specs.Finding.{Stands}
 use Rattle.velo_logtext.specs.Reader.{ReaderState, HasGiven, IsMetBehind}
-
--- bytes that were read and not taken yet, and whether the source has told its end
-pub record Window : Type 0 where
-  pub bytes : List ℕ
-  pub ended : Bool
 
 -- a newline stands there, or more bytes than a line may have
 abbrev pub is_whole : List ℕ → Bool
@@ -36,10 +31,11 @@ IsOfText Read = ⊥
 IsOfText Memory = ⊥
 IsOfText _ = Unit {0}
 
--- what taking does to the reader: only the line of an event changes it, and more bytes are wanted only where no line is whole
+-- what taking does to the reader: only the line of an event changes it, the end is told only where the source has told it, and
+-- more bytes are wanted only where no line is whole
 abbrev pub Takes : ReaderState → Result Front LogFault → ReaderState → Type 0
 Takes old (Ok (Line e)) new = new.bounds ≡ old.bounds
-Takes old (Ok End) new = new ≡ old
+Takes old (Ok End) new = (new ≡ old) × (old.ended ≡ true)
 Takes old (Ok Open) new = (new ≡ old) × (old.ended ≡ false) × (is_whole old.held ≡ false)
 Takes old (Err fault) new = (new ≡ old) × IsOfText fault × IsMetBehind old.given fault
 

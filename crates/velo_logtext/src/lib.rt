@@ -6,6 +6,7 @@ mod laws;
 mod lines;
 mod read;
 mod reader;
+mod window;
 mod write;
 
 pub use fault::LogFault;

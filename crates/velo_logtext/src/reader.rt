@@ -1,22 +1,23 @@
 //! Reading a log line by line, each as soon as it has come.
-ghost use Rattle.std.specs.Prelude.{◌≡◌, ◌≤◌, ◌<◌, ◌⊎◌, ◌+◌, ◌-◌, List, ℕ, [], true, false, length, take, drop, Option, IfOk, IfErr, OnOk, OnErr, IfSome, IsTrue, Err};
-ghost use Rattle.std.specs.Io.KnownBytes.{IsAtEnd, Keeps, prepend_known};
+ghost use Rattle.std.specs.Prelude.{◌≡◌, ◌≤◌, ◌+◌, ◌++◌, List, ℕ, [], length, Option, None, IfOk, IfErr, OnOk, IfSome, Ok, Err};
+ghost use Rattle.std.specs.Io.KnownBytes.{IsAtEnd};
 ghost use Rattle.velo_events.specs.Refusals.{GrowthRefused};
 ghost use Rattle.velo_events.specs.declared.event.Event.{Event as EventOf};
 ghost use Rattle.velo_events.specs.declared.limits.TheConstants.{MOST_EVENTS};
 ghost use Rattle.velo_logtext.specs.declared.fault.LogFault.TheVariants as log_fault;
-ghost use Rattle.velo_bytes.specs.Device.{with_failure};
+ghost use Rattle.velo_logtext.specs.Text.{AreEventsIn, event_lines};
 ghost use Rattle.velo_logtext.specs.Finding.{ReadsAs, failures_after};
 ghost use Rattle.velo_logtext.specs.Reader.{HasGiven, Gives, HasWholeLine, IsMetBehind, IsMetInHeader};
 ghost use Rattle.velo_logtext.specs.Front.{is_whole, judged_front, judged_full, Takes, Finds};
 
 use crate::fault::LogFault;
 use crate::lines::{event, header};
-use crate::read::{LONGEST_LINE, ROOM, keep};
+use crate::window::{LONGEST_LINE, Window};
 use std::alloc::Global;
 use std::marker::Model;
-use velo_bytes::{Failed, Source};
-use velo_events::{Bounds, Event, MOST_EVENTS, Memory, growth};
+use velo_bytes::Source;
+use velo_events::{Bounds, Event, MOST_EVENTS, Memory};
+use velo_traces::Trace;
 
 /// What stands at the front of the bytes at hand.
 #[derive(Clone, Copy)]
@@ -27,102 +28,6 @@ pub enum Front {
     Open,
     /// Nothing, and no more bytes come.
     End,
-}
-
-/// Bytes that were read and not taken yet.
-#[derive(Drop)]
-struct Window {
-    buffer: Vec<u8>,
-    start: usize,
-    end: usize,
-    ended: bool,
-}
-
-impl Model for Window {
-    ghost use Rattle.std.specs.Prelude.{◌≤◌, ◌<◌, ◌-◌, length, take, drop};
-    ghost use Rattle.velo_logtext.specs.Front.{Window};
-
-    ghost Value = { Window };
-
-    ghost view = { λ w. record { bytes = drop w.start (take w.end w.buffer.items); ended = w.ended } };
-
-    ghost invariant = { λ w. (w.start ≤ w.end) × (w.end ≤ length w.buffer.items) × (64 < length w.buffer.items) };
-}
-
-impl Window {
-    /// No bytes yet.
-    fn new(alloc: Global) -> Result<Window, Memory>
-        ensures bytes { IfOk result (λ window. window.bytes ≡ []) }
-        ensures ended { IfOk result (λ window. window.ended ≡ false) }
-    {
-        let buffer = growth::filled(alloc, 0u8, ROOM)?;
-        Ok(Window {
-            buffer,
-            start: 0,
-            end: 0,
-            ended: false,
-        })
-    }
-
-    /// The bytes.
-    fn bytes(&self) -> &[u8]
-        ensures { result.now ≡ self.now.bytes }
-    {
-        &self.buffer[self.start..self.end]
-    }
-
-    /// Whether the source has told its end.
-    fn is_ended(&self) -> bool
-        ensures { result ≡ self.now.ended }
-    {
-        self.ended
-    }
-
-    /// Takes all but the last bytes.
-    fn take_to(&mut self, left: usize)
-        requires { left ≤ length self.old.bytes }
-        ensures { self.new ≡ record self.old { bytes = drop (length self.old.bytes - left) self.old.bytes } }
-    {
-        self.start = self.end - left;
-    }
-
-    /// Reads once.
-    fn read_once<S: Source>(&mut self, source: &mut S) -> Result<(), Failed>
-        requires { length self.old.bytes ≤ 64 }
-        ensures bytes { OnOk result (Keeps (prepend_known self.old.bytes (S.remaining source.old)) (prepend_known self.new.bytes (S.remaining source.new))) }
-        ensures known_end { OnOk result (IsTrue self.new.ended → IsAtEnd (S.remaining source.new)) }
-        ensures progress { OnOk result ((length self.old.bytes < length self.new.bytes) ⊎ ((self.new.ended ≡ true) × (length self.old.bytes ≤ length self.new.bytes))) }
-        ensures ok { OnOk result (S.failures source.new ≡ S.failures source.old) }
-        ensures err { OnErr result (S.failures source.new ≡ with_failure (S.failures source.old)) }
-    {
-        let left = self.end - self.start;
-        let count = read_behind(source, self.buffer.as_mut_slice(), self.end, left)?;
-        self.start = 0;
-        self.end = left + count;
-        self.ended = count == 0;
-        Ok(())
-    }
-}
-
-/// Moves the last bytes of those that are there to the front, and reads once behind them.
-fn read_behind<S: Source>(
-    source: &mut S,
-    buffer: &mut [u8],
-    end: usize,
-    left: usize,
-) -> Result<usize, Failed>
-    requires within { end ≤ length buffer.old }
-    requires few { left ≤ end }
-    requires room { left < length buffer.old }
-    ensures bytes { IfOk result (λ count. Keeps (prepend_known (drop (end - left) (take end buffer.old)) (S.remaining source.old)) (prepend_known (take (left + count) buffer.new) (S.remaining source.new))) }
-    ensures within { IfOk result (λ count. left + count ≤ length buffer.new) }
-    ensures known_end { IfOk result (λ count. count ≡ 0 → IsAtEnd (S.remaining source.new)) }
-    ensures ok { OnOk result (S.failures source.new ≡ S.failures source.old) }
-    ensures err { OnErr result (S.failures source.new ≡ with_failure (S.failures source.old)) }
-{
-    keep(buffer, end, left);
-    let count = source.read(&mut buffer[left..])?;
-    Ok(count)
 }
 
 /// Whether a newline stands in the bytes, or they are more than a line may have.
@@ -165,6 +70,38 @@ fn judge_full(bytes: &[u8], ended: bool) -> Result<Front, LogFault>
     } else {
         Ok(Front::Open)
     }
+}
+
+/// Appends the events whose lines stand at the front, as long as more bytes are there than a line may have, so that hardly a byte is
+/// looked for beyond the end. How many events were given then, and the bytes that are left.
+fn append_lines<'a>(
+    bytes: &'a [u8],
+    shares: bool,
+    given: usize,
+    trace: &mut Trace,
+) -> Result<(usize, &'a [u8]), Memory>
+    requires { given ≤ MOST_EVENTS }
+    ensures stream { IfOk result (λ r.
+        event_lines trace.new.events ++ r.1.now ≡ event_lines trace.old.events ++ bytes.now) }
+    ensures fit { OnOk result
+        (AreEventsIn shares trace.old.events → AreEventsIn shares trace.new.events) }
+    ensures count { IfOk result (λ r.
+        r.0 + length trace.old.events ≡ given + length trace.new.events) }
+    ensures few { IfOk result (λ r. r.0 ≤ MOST_EVENTS) }
+    ensures grows { OnOk result (length trace.old.events ≤ length trace.new.events) }
+    ensures shorter { IfOk result (λ r. length r.1.now ≤ length bytes.now) }
+{
+    let mut given = given;
+    let mut rest = bytes;
+    while rest.len() > LONGEST_LINE && given < MOST_EVENTS as usize {
+        let Some((event, after)) = event(rest, shares) else {
+            return Ok((given, rest));
+        };
+        trace.push(event)?;
+        given += 1;
+        rest = after;
+    }
+    Ok((given, rest))
 }
 
 /// A log that is read line by line: each line is judged as soon as its newline has come, or more than 64 bytes of it, or the
@@ -235,6 +172,10 @@ impl LogReader {
     /// failed in this call.
     pub fn next<S: Source>(&mut self, source: &mut S) -> Result<Option<Event>, LogFault>
         ensures gives { (bytes : Option (List ℕ)) (events : List EventOf) → HasGiven bytes events self.old (S.remaining source.old) → Gives bytes events result self.new (S.remaining source.new) }
+        ensures end { (bytes : Option (List ℕ)) (events : List EventOf)
+            → HasGiven bytes events self.old (S.remaining source.old)
+            → result ≡ Ok None
+            → IsAtEnd (S.remaining source.new) }
         ensures bounds { self.new.bounds ≡ self.old.bounds }
         ensures unread { HasWholeLine self.old.held → source.new ≡ source.old }
         ensures failures { S.failures source.new ≡ failures_after result (S.failures source.old) }
@@ -248,6 +189,21 @@ impl LogReader {
                 Err(fault) => return Err(fault),
             }
         }
+    }
+
+    /// Appends the events of lines that are at hand, and reads nothing.
+    pub(crate) fn take_lines(&mut self, trace: &mut Trace) -> Result<(), Memory>
+        ensures given { (bytes remaining : Option (List ℕ))
+            → HasGiven bytes trace.old.events self.old remaining
+            → OnOk result (HasGiven bytes trace.new.events self.new remaining) }
+        ensures grows { OnOk result (length trace.old.events ≤ length trace.new.events) }
+    {
+        let held = self.window.bytes();
+        let (given, rest) = append_lines(held, self.shares, self.given, trace)?;
+        let left = rest.len();
+        self.window.take_to(left);
+        self.given = given;
+        Ok(())
     }
 
     /// Takes the event whose line stands at the front, or says what stands there.

@@ -12,8 +12,7 @@ const PLACES: usize = 128;
 ///
 /// # Errors
 /// `Memory` where a growth was refused.
-pub fn channel<T: Drop>(alloc: Global) -> Result<(Sender<T>, Receiver<T>), Memory>
-{
+pub fn channel<T: Drop>(alloc: Global) -> Result<(Sender<T>, Receiver<T>), Memory> {
     match crossbeam_channel::bounded(alloc, PLACES) {
         Ok(ends) => Ok(ends),
         Err(_) => Err(Memory),
@@ -24,8 +23,7 @@ pub fn channel<T: Drop>(alloc: Global) -> Result<(Sender<T>, Receiver<T>), Memor
 ///
 /// # Errors
 /// `Memory` where a growth was refused.
-pub fn copy<T: Drop>(sender: &Sender<T>) -> Result<Sender<T>, Memory>
-{
+pub fn copy<T: Drop>(sender: &Sender<T>) -> Result<Sender<T>, Memory> {
     match sender.clone() {
         Ok(copy) => Ok(copy),
         Err(_) => Err(Memory),

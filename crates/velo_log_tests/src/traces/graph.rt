@@ -77,7 +77,11 @@ fn has_cycle(alloc: Global, edges: &[Edge], last: usize) -> Result<bool, AllocEr
 }
 
 /// The first position up to which the events have a cycle.
-pub fn first_closing(alloc: Global, edges: &[Edge], len: usize) -> Result<Option<usize>, AllocError> {
+pub fn first_closing(
+    alloc: Global,
+    edges: &[Edge],
+    len: usize,
+) -> Result<Option<usize>, AllocError> {
     for last in 0..len {
         if has_cycle(alloc, edges, last)? {
             return Ok(Some(last));

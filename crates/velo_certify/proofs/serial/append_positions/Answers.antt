@@ -31,6 +31,6 @@ returns-clause-ok c =
     let trace = c.args.events.now in let a = c.args.a in let n = c.loop-at.at in
     c.loop-at.invariant.items ∙ ap (λ xs. c.args.order.now.items ++ xs) (below-end trace a n n c.requires.transaction c.loop-at.invariant.follows (λ l own.
     elim c.loop-at-test.branch [
-      then-loop-at-test+else-owner_of-a w ↦ w.if-owner_of-a.false (w.owner_of.ensures.owner ∙ own)
+      | then-loop-at-test+else-owner_of-a w ↦ w.if-owner_of-a.false (w.owner_of.ensures.owner ∙ own)
       | else-loop-at-test w ↦ omega (arith, l, w.loop-at-test.false)
     ]))

@@ -8,4 +8,4 @@ unreachable-requires c =
 
 pub returns-in-Ok : goal.returns-in-Ok
 returns-in-Ok c =
-    explained c.args.log.now.events c.args.alarm.now c.requires.alarm c.as_slice.result.now c.as_slice.ensures c.in-Ok.evidence c.in-Ok.ensures.evidence c.in-Ok.ensures.reasons c.explain-page.result c.explain-page.ensures
+    explained c.args.names.now c.args.log.now.events c.args.alarm.now c.requires.alarm c.as_slice.result.now c.as_slice.ensures c.in-Ok.evidence c.in-Ok.ensures.evidence c.in-Ok.ensures.reasons c.explain_named-page.result c.explain_named-page.ensures

@@ -1,11 +1,11 @@
 use Rattle.std.proofs.Common.{ℕ, List, inl, subst}
-use Rattle.velo_ffi.specs.Texts.{IsReportOf, TellsAll}
+use Rattle.velo_ffi.specs.Texts.{IsReportBy, TellsAll}
 use Rattle.velo_ffi.specs.Watch.{WatchState}
 use Rattle.velo_ffi.proofs.texts.put_report.Goals as goal
 
 pub returns-in-Ok-clause-told : goal.returns-in-Ok-clause-told
 returns-in-Ok-clause-told c = inl (
   c.in-Ok.text.bytes,
-  subst (λ (w : WatchState). IsReportOf w.world c.in-Ok.text.bytes) c.watch.view_is c.in-Ok.ensures,
+  subst (λ (w : WatchState). IsReportBy c.args.file.now w.world c.in-Ok.text.bytes) c.watch.view_is c.in-Ok.ensures.report,
   subst (λ (text : List ℕ). TellsAll text c.put_whole.result c.put_whole.new.buffer c.put_whole.new.count) c.as_slice.ensures c.put_whole.ensures.told,
 )

@@ -1,5 +1,6 @@
 use Rattle.std.proofs.Common.{◌≡◌, Some, None, [], List, ℕ, inl, inr, ap, sym, subst, ◌∙◌, rules}
-use Rattle.velo_logtext.specs.Front.{Window, is_whole}
+use Rattle.velo_logtext.specs.Front.{is_whole}
+use Rattle.velo_logtext.specs.Window.{Window}
 use Rattle.velo_logtext.specs.Reader.{HasGiven}
 use Rattle.velo_logtext.specs.Reading.{header_at}
 use Rattle.velo_logtext.specs.Text.{Head}

@@ -1,6 +1,7 @@
 use Rattle.std.proofs.Common.{◌≡◌, ℕ, ◌+◌, ◌<◌, ◌∷◌, ◌++◌, [], List, Some, None, ap, sym, subst, ◌∙◌, refl, arith}
 use Rattle.velo_events.specs.declared.limits.TheConstants.{MOST_EVENTS}
-use Rattle.velo_logtext.specs.Front.{Window, Takes, Finds, judged_front}
+use Rattle.velo_logtext.specs.Front.{Takes, Finds, judged_front}
+use Rattle.velo_logtext.specs.Window.{Window}
 use Rattle.velo_logtext.specs.Reader.{ReaderState, HasGiven}
 use Rattle.velo_logtext.specs.Reading.{event_in}
 use Rattle.velo_logtext.proofs.OnStreams.{takes_one}

@@ -10,6 +10,7 @@ use Rattle.velo_clocks.specs.Noted.{IsOfThreads}
 use Rattle.velo_races.specs.Sweep.{KnowsWrite, KnowsReads, IsJudged}
 use Rattle.velo_races.proofs.OnSwept.{swept-count, kinds_left, block_kinds, of_threads, swept-read, swept-write, swept-block, swept-synchronizing}
 use Rattle.velo_races.proofs.sweep.Sweep.take_in.Goals as goal
+use Rattle.velo_races.proofs.sweep.Sweep.take_in.Goals.{in-Read, in-Write, in-Begin, in_default+in_ok-synchronize-in_default}
 
 -- what the operation names is there
 inside : (bounds : Bounds) (log : List Event) (n : ℕ) → n < length log → IsWellFormed bounds log → (k : Kind) → (get_or log n past).kind ≡ k → NamesKnown bounds k
@@ -76,45 +77,34 @@ synchronize-requires c =
       threads = subst (λ k. IsOfThreads k e) (sym c.requires.swept.threads) (of_threads c.args.self.now.bounds log n e (c.requires.well.each n e (slice_get-get_or log n past within)));
     }
 
-pub returns-in-Read-clause-swept : goal.returns-in-Read-clause-swept
-returns-in-Read-clause-swept c =
+pub returns-clause-swept : goal.returns-clause-swept
+returns-clause-swept c =
     let log = c.args.events.now in
     let n = c.args.position in
     let e = get_or log n past in
-    let here = slice_get-get_or log n past c.requires.within ∙ ap (λ k. Some (record { thread = e.thread; kind = k })) c.in-Read.is in
-    let w = c.read.ensures in
-    swept-read log n c.in-Read.x.0 _ e.thread here c.args.self.now c.read.new.self c.requires.well c.requires.swept w.bounds w.clocks w.count w.writes
-    (subst (λ k. c.read.new.self.reads.items ≡ slice_set c.args.self.now.reads.items (k * 64 + e.thread.0) (c.args.self.now.count + 1)) c.from.ensures w.reads)
-    (subst (λ k. IsJudged c.args.self.now.ordered.items c.read.new.self.ordered.items k (KnowsWrite c.args.self.now e.thread.0 k)) c.from.ensures w.ordered)
-
-pub returns-in-Write-clause-swept : goal.returns-in-Write-clause-swept
-returns-in-Write-clause-swept c =
-    let log = c.args.events.now in
-    let n = c.args.position in
-    let e = get_or log n past in
-    let here = slice_get-get_or log n past c.requires.within ∙ ap (λ k. Some (record { thread = e.thread; kind = k })) c.in-Write.is in
-    let w = c.write.ensures in
-    swept-write log n c.in-Write.x.0 _ e.thread here c.args.self.now c.write.new.self c.requires.well c.requires.swept w.bounds w.clocks w.count
-    (subst (λ k. c.write.new.self.writes.items ≡ slice_set c.args.self.now.writes.items k (record { by = e.thread; stamp = c.args.self.now.count + 1 })) c.from-in-Write.ensures w.writes)
-    w.reads
-    (subst (λ k. IsJudged c.args.self.now.ordered.items c.write.new.self.ordered.items k (KnowsWrite c.args.self.now e.thread.0 k × KnowsReads c.args.self.now e.thread.0 k)) c.from-in-Write.ensures w.ordered)
-
-pub returns-in-Begin-clause-swept : goal.returns-in-Begin-clause-swept
-returns-in-Begin-clause-swept c =
-    let log = c.args.events.now in
-    let n = c.args.position in
-    let e = get_or log n past in
-    let k = block_kinds e.kind c.in-Begin.is in
-    swept-block log n e (slice_get-get_or log n past c.requires.within) k.0 k.1 c.args.self.now c.requires.swept
-
-pub returns-in_ok-synchronize-in_default : goal.returns-in_ok-synchronize-in_default
-returns-in_ok-synchronize-in_default c =
-    let log = c.args.events.now in
-    let n = c.args.position in
-    let e = get_or log n past in
-    let w = c.in_ok-synchronize-in_default.ensures in
-    let k = kinds_left e.kind c.in_default.not-Read c.in_default.not-Write c.in_default.not-Begin c.in_default.not-End in
-    record {
-      bounds = w.bounds;
-      swept = swept-synchronizing log n e (slice_get-get_or log n past c.requires.within) k.0 k.1 c.args.self.now c.synchronize.new.self c.requires.well c.requires.swept w.bounds w.noted w.count w.writes w.reads w.ordered;
-    }
+    let there = slice_get-get_or log n past c.requires.within in
+    let old = c.args.self.now in
+    elim c.match-event.branch [
+      | in-Read w ↦
+          let here = there ∙ ap (λ k. Some (record { thread = e.thread; kind = k })) w.in-Read.is in
+          let new = w.read.new.self in
+          let done = w.read.ensures in
+          rw w.self-is (swept-read log n w.in-Read.x.0 _ e.thread here old new c.requires.well c.requires.swept done.bounds done.clocks done.count done.writes
+          (subst (λ k. new.reads.items ≡ slice_set old.reads.items (k * 64 + e.thread.0) (old.count + 1)) w.from.ensures done.reads)
+          (subst (λ k. IsJudged old.ordered.items new.ordered.items k (KnowsWrite old e.thread.0 k)) w.from.ensures done.ordered))
+      | in-Write w ↦
+          let here = there ∙ ap (λ k. Some (record { thread = e.thread; kind = k })) w.in-Write.is in
+          let new = w.write.new.self in
+          let done = w.write.ensures in
+          rw w.self-is (swept-write log n w.in-Write.x.0 _ e.thread here old new c.requires.well c.requires.swept done.bounds done.clocks done.count
+          (subst (λ k. new.writes.items ≡ slice_set old.writes.items k (record { by = e.thread; stamp = old.count + 1 })) w.from-in-Write.ensures done.writes)
+          done.reads
+          (subst (λ k. IsJudged old.ordered.items new.ordered.items k (KnowsWrite old e.thread.0 k × KnowsReads old e.thread.0 k)) w.from-in-Write.ensures done.ordered))
+      | in-Begin w ↦
+          let k = block_kinds e.kind w.in-Begin.is in
+          rw w.self-is (swept-block log n e there k.0 k.1 old c.requires.swept)
+      | in_default+in_ok-synchronize-in_default w ↦
+          let done = w.in_ok-synchronize-in_default.ensures in
+          let k = kinds_left e.kind w.in_default.not-Read w.in_default.not-Write w.in_default.not-Begin w.in_default.not-End in
+          rw w.self-is (swept-synchronizing log n e there k.0 k.1 old w.synchronize.new.self c.requires.well c.requires.swept done.bounds done.noted done.count done.writes done.reads done.ordered)
+    ]
