@@ -1,11 +1,11 @@
-use Rattle.std.proofs.Common.{◌∙◌, inl, inr, refl}
+use Rattle.std.proofs.Common.{◌∙◌, inl, inr, refl, rules}
 use Rattle.velo_thin.specs.Tables.{left_of}
 use Rattle.velo_program.specs.Writing.{writing}
 use Rattle.velo_program.proofs.OnAuditing.{told_put}
 use Rattle.velo_program.proofs.auditing.tell_rounds.Goals as goal
 
 pub returns-in-Err : goal.returns-in-Err
-returns-in-Err g c = inr (c.in-Err.ensures.memory, refl, (refl, refl))
+returns-in-Err g c = inr (search rules, refl, (refl, refl))
 
 pub returns-in-Ok-audit_text : goal.returns-in-Ok-audit_text
 returns-in-Ok-audit_text g c =

@@ -1,4 +1,4 @@
-use Rattle.std.proofs.Common.{◌∙◌, None, Some, inl, inr, refl, true}
+use Rattle.std.proofs.Common.{◌∙◌, None, Some, inl, inr, refl, true, rules}
 use Rattle.velo_explain.specs.Picture.{named_picture_text}
 use Rattle.velo_explain.specs.Text.{named_explanation_text}
 use Rattle.velo_worker.specs.declared.ending.Ending.TheVariants.{Done}
@@ -9,7 +9,7 @@ use Rattle.velo_program.proofs.OnExplaining.{saved_text, undrawn, words_put}
 use Rattle.velo_program.proofs.explaining.explain_by.Goals as goal
 
 pub returns-in-Err : goal.returns-in-Err
-returns-in-Err g c = inr (c.in-Err.ensures.memory, refl, refl, (refl, refl))
+returns-in-Err g c = inr (search rules, refl, refl, (refl, refl))
 
 pub returns-in_default : goal.returns-in_default
 returns-in_default g c =
@@ -20,7 +20,7 @@ returns-in_default g c =
     (Some (named_picture_text c.args.names.now log evidence)) c.as_slice.result.now (named_explanation_text c.args.names.now log c.args.position evidence) true (c.as_slice.ensures ∙ c.in-Ok.ensures) refl c.print.result c.print.ensures))
 
 pub returns-in-Err-picture_named : goal.returns-in-Err-picture_named
-returns-in-Err-picture_named g c = inr (c.in-Err-picture_named.ensures.memory, refl, refl, (refl, refl))
+returns-in-Err-picture_named g c = inr (search rules, refl, refl, (refl, refl))
 
 pub returns-in-Ok-save : goal.returns-in-Ok-save
 returns-in-Ok-save g c =

@@ -1,4 +1,4 @@
-use Rattle.std.proofs.Common.{◌∙◌, List, inl, inr, refl, subst}
+use Rattle.std.proofs.Common.{◌∙◌, List, inl, inr, refl, subst, rules}
 use Rattle.std.specs.Prelude.{ℕ, false}
 use Rattle.velo_worker.specs.declared.ending.Ending.TheVariants.{Done}
 use Rattle.velo_program.specs.declared.fate.Fate.TheVariants.{Finished}
@@ -12,4 +12,4 @@ returns-in-Ok g c =
     (c.as_slice.ensures ∙ c.in-Ok.ensures) c.print.ensures)
 
 pub returns-in-Err : goal.returns-in-Err
-returns-in-Err g c = inr (c.in-Err.ensures.memory, refl, (refl, refl))
+returns-in-Err g c = inr (search rules, refl, (refl, refl))

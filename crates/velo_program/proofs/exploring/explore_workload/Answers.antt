@@ -1,4 +1,4 @@
-use Rattle.std.proofs.Common.{inr, refl, subst}
+use Rattle.std.proofs.Common.{inr, refl, subst, rules}
 use Rattle.velo_program.specs.declared.fate.Fate.TheVariants.{Memory}
 use Rattle.velo_program.specs.declared.request.RunOptions.{RunOptions}
 use Rattle.velo_program.specs.Delivery.{silent}
@@ -9,4 +9,4 @@ pub show_told-requires-clause-configured : goal.show_told-requires-clause-config
 show_told-requires-clause-configured g c = subst (λ (o : RunOptions). IsConfigOf c.args.workload.now o c.config_of_run-config.result) c.run_of.ensures c.config_of_run-config.ensures
 
 pub returns-in-Err : goal.returns-in-Err
-returns-in-Err g c = (silent Memory, inr (c.in-Err.ensures.memory, refl), (refl, refl, (refl, refl)))
+returns-in-Err g c = (silent Memory, inr (search rules, refl), (refl, refl, (refl, refl)))

@@ -1,4 +1,4 @@
-use Rattle.std.proofs.Common.{inr, refl}
+use Rattle.std.proofs.Common.{inr, refl, rules}
 use Rattle.velo_program.proofs.OnSaving.{names_lent}
 use Rattle.velo_program.proofs.exploring.report.Goals as goal
 
@@ -6,4 +6,4 @@ pub show_replay-told-requires-clause-names : goal.show_replay-told-requires-clau
 show_replay-told-requires-clause-names g c = names_lent c.args.options.now.names_target c.args.workload.now _ _ c.deref.ensures.value c.in-Ok.ensures
 
 pub returns-in-Err : goal.returns-in-Err
-returns-in-Err g c = inr (c.in-Err.ensures.memory, refl, (refl, refl))
+returns-in-Err g c = inr (search rules, refl, (refl, refl))

@@ -1,4 +1,4 @@
-use Rattle.std.proofs.Common.{true, false, inr, refl}
+use Rattle.std.proofs.Common.{true, false, inr, refl, rules}
 use Rattle.velo_program.specs.Disk.{store}
 use Rattle.velo_program.specs.Writing.{writing}
 use Rattle.velo_program.proofs.OnFindings.{reported_by}
@@ -15,4 +15,4 @@ returns-in-Ok g c =
     (writing g.O.Sink.contents g.O.Sink.failures c.args.out.now c.report_by-in-Ok.new.out) c.report_by-in-Ok.result c.report_by-in-Ok.ensures c.if-not-certificate.false
 
 pub returns-in-Err : goal.returns-in-Err
-returns-in-Err g c = inr (c.in-Err.ensures.memory, refl, (refl, refl))
+returns-in-Err g c = inr (search rules, refl, (refl, refl))

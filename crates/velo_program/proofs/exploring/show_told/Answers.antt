@@ -1,4 +1,4 @@
-use Rattle.std.proofs.Common.{inr, refl}
+use Rattle.std.proofs.Common.{inr, refl, rules}
 use Rattle.velo_program.specs.declared.fate.Fate.TheVariants.{Memory}
 use Rattle.velo_program.specs.Delivery.{silent}
 use Rattle.velo_program.specs.Disk.{store}
@@ -20,4 +20,4 @@ returns-in-Ok g c =
     (still_told c.args.workload.now c.args.config c.args.options.now c.args.told told refl c.in-Ok.ensures.told refl c.requires.told) c.in-Ok.ensures.run c.tell_findings-fate.ensures
 
 pub returns-in-Err : goal.returns-in-Err
-returns-in-Err g c = (silent Memory, inr (c.in-Err.ensures.memory, refl), (refl, refl, (refl, refl)))
+returns-in-Err g c = (silent Memory, inr (search rules, refl), (refl, refl, (refl, refl)))

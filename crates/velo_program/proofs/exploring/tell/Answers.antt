@@ -1,4 +1,4 @@
-use Rattle.std.proofs.Common.{◌∙◌, ℕ, List, inr, refl, subst}
+use Rattle.std.proofs.Common.{◌∙◌, ℕ, List, inr, refl, subst, rules}
 use Rattle.velo_program.specs.Disk.{store}
 use Rattle.velo_program.specs.Findings.{ReportsOrLacks}
 use Rattle.velo_program.specs.Writing.{writing}
@@ -18,7 +18,7 @@ returns-in-Ok g c =
     (c.deref.ensures.value ∙ c.in-Ok.ensures) c.report.ensures)
 
 pub returns-in-Err : goal.returns-in-Err
-returns-in-Err g c = rw c.in-Some.is (inr (c.in-Err.ensures.memory, refl, (refl, refl)))
+returns-in-Err g c = rw c.in-Some.is (inr (search rules, refl, (refl, refl)))
 
 pub returns-in-Ok-write_all : goal.returns-in-Ok-write_all
 returns-in-Ok-write_all g c = rw c.in-None.is (refl, (c.in-Ok-write_all.ensures.ok, c.in-Ok-write_all.ensures.no_failure))

@@ -1,4 +1,4 @@
-use Rattle.std.proofs.Common.{inl, inr, refl, ⊎_elim}
+use Rattle.std.proofs.Common.{inl, inr, refl, ⊎_elim, rules}
 use Rattle.velo_program.specs.declared.fate.Fate.TheVariants.{Memory}
 use Rattle.velo_program.specs.Delivery.{silent}
 use Rattle.velo_program.proofs.replaying.replay_workload.Goals as goal
@@ -20,4 +20,4 @@ returns-in-Ok g c =
     )
 
 pub returns-in-Err : goal.returns-in-Err
-returns-in-Err g c = (silent Memory, inr (inr (c.in-Err.ensures.memory, refl)), (refl, refl, (refl, refl)))
+returns-in-Err g c = (silent Memory, inr (inr (search rules, refl)), (refl, refl, (refl, refl)))

@@ -1,4 +1,4 @@
-use Rattle.std.proofs.Common.{◌∙◌, false, inl, inr, refl, sym}
+use Rattle.std.proofs.Common.{◌∙◌, false, inl, inr, refl, sym, rules}
 use Rattle.velo_program.specs.declared.fate.Fate.TheVariants.{Finished, Memory}
 use Rattle.velo_program.specs.Delivery.{silent}
 use Rattle.velo_program.proofs.OnSaving.{names_lent}
@@ -18,4 +18,4 @@ pub show_with-fate-requires-clause-names : goal.show_with-fate-requires-clause-n
 show_with-fate-requires-clause-names g c = names_lent c.args.options.now.names_target c.args.workload.now _ _ c.deref.ensures.value c.in-Ok.ensures
 
 pub returns-in-Err : goal.returns-in-Err
-returns-in-Err g c = (silent Memory, inr (c.in-Err.ensures.memory, refl), (refl, refl, (refl, refl)))
+returns-in-Err g c = (silent Memory, inr (search rules, refl), (refl, refl, (refl, refl)))

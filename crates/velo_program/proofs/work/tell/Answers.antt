@@ -1,4 +1,4 @@
-use Rattle.std.proofs.Common.{Bool, inr, refl, subst, sym}
+use Rattle.std.proofs.Common.{Bool, inr, refl, subst, sym, rules}
 use Rattle.velo_program.specs.declared.fate.Fate.TheVariants.{Memory}
 use Rattle.velo_program.specs.Delivery.{silent}
 use Rattle.velo_program.specs.Disk.{store}
@@ -17,4 +17,4 @@ returns-in-Ok g c =
     (sym c.if-not-certificate.false) c.report_by-fate.ensures
 
 pub returns-in-Err : goal.returns-in-Err
-returns-in-Err g c = (silent Memory, inr (c.in-Err.ensures.memory, refl), (refl, refl, (refl, refl)))
+returns-in-Err g c = (silent Memory, inr (search rules, refl), (refl, refl, (refl, refl)))
