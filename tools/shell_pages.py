@@ -59,7 +59,9 @@ def command_of(program, name):
             flags = [flag_of(*entry) for entry in entries_of(part[1:])]
         elif part:
             rest.append(part)
-    return Command(name, lines[0], usage[len("Usage: ") :], arguments, flags, rest)
+    # the first word is the name that PROGRAM was called by
+    words = " ".join([NAME, *usage[len("Usage: ") :].split()[1:]])
+    return Command(name, lines[0], words, arguments, flags, rest)
 
 
 def commands_of(program):
