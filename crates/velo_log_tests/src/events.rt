@@ -1,6 +1,6 @@
 use std::mem::size_of;
 use std::test::Fail;
-use velo_events::{BadConfig, Bounds, Config, Event, Kind, MOST_OPEN_BLOCKS, Memory, Refusal};
+use velo_events::{BadConfig, Bounds, Config, Event, Kind, MOST_OPEN_BLOCKS, Refusal};
 
 const REFUSALS: [(Refusal, u8, &str); 22] = [
     (Refusal::Halted, 1, "halted"),
@@ -33,10 +33,6 @@ fn refusals_have_their_numbers_and_texts(rt: HostRuntime) -> Result<(), Fail> {
         assert_eq!(rt; refusal as u8, number);
         assert_eq!(rt; format!(in rt.alloc(); "{refusal}")?.as_str(), text);
     }
-    assert_eq!(rt;
-        format!(in rt.alloc(); "{Memory}")?.as_str(),
-        "out of memory"
-    );
     Ok(())
 }
 
