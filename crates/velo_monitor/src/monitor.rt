@@ -5,9 +5,9 @@ ghost use Rattle.velo_events.specs.declared.event.Event.{Event as EventOf};
 ghost use Rattle.velo_events.specs.Event.{thread_of};
 ghost use Rattle.velo_events.specs.Heap.{depth_in};
 ghost use Rattle.velo_events.specs.WellFormed.{MayFollow};
-ghost use Rattle.velo_events.specs.Merge.{GetsNew};
+ghost use Rattle.velo_merge.specs.Merge.{GetsNew};
 ghost use Rattle.velo_events.specs.Block.{IsTransaction};
-ghost use Rattle.velo_events.specs.Collection.{HasManyLive, IsAccountedFor, IsGivenUp, IsHarmless};
+ghost use Rattle.velo_monitor.specs.Collection.{HasManyLive, IsAccountedFor, IsGivenUp, IsHarmless};
 ghost use Rattle.velo_arena.specs.declared.step.Step.{Step as StepOf};
 ghost use Rattle.velo_arena.specs.Slots.{used_in, limit_of};
 ghost use Rattle.velo_arena.specs.Stamps.{stamps_in};
@@ -188,7 +188,7 @@ impl Monitor {
 /// Where an event outside blocks goes by the merge rule: the step that stands for it, if any does.
 fn place_operation(graph: &mut Graph<BitRow>, steps: &[Step], position: u32) -> Option<Step>
     requires stamp { ForSome graph.old.slots.newest (λ newest. newest < position) }
-    requires slot { GetsNew (HasFinished graph.old) (IsAncestor graph.old) (live_stamps graph.old steps.now) → used_in graph.old.slots < limit_of graph.old.slots }
+    requires slot { GetsNew graph.old (live_stamps graph.old steps.now) → used_in graph.old.slots < limit_of graph.old.slots }
     ensures placed { IsPlaced graph.old steps.now position result graph.new }
     ensures limit { limit_of graph.new.slots ≡ limit_of graph.old.slots }
 {
@@ -211,7 +211,7 @@ fn place_after_both(
     position: u32,
 ) -> Option<Step>
     requires stamp { ForSome graph.old.slots.newest (λ newest. newest < position) }
-    requires slot { GetsNew (HasFinished graph.old) (IsAncestor graph.old) (live_stamps graph.old (option_to_list own ++ option_to_list beside)) → used_in graph.old.slots < limit_of graph.old.slots }
+    requires slot { GetsNew graph.old (live_stamps graph.old (option_to_list own ++ option_to_list beside)) → used_in graph.old.slots < limit_of graph.old.slots }
     ensures placed { IsPlaced graph.old (option_to_list own ++ option_to_list beside) position result graph.new }
     ensures limit { limit_of graph.new.slots ≡ limit_of graph.old.slots }
 {

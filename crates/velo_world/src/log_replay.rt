@@ -1,7 +1,6 @@
 //! A recorded log, whose events come about again one after another.
 ghost use Rattle.std.specs.Prelude.{◌≡◌, ◌<◌, ◌+◌, [], ◌∷◌, ◌++◌, List, None, Some, false, length, take, slice_get, IfOk, OnOk, IfErr};
 ghost use Rattle.velo_events.specs.declared.event.Event.{Event as EventOf};
-ghost use Rattle.velo_events.specs.Meaning.{is_unborn};
 ghost use Rattle.velo_heap.specs.Contents.{bounds_of, IsHeapOf};
 ghost use Rattle.velo_traces.specs.Flaws.{flaw_of};
 ghost use Rattle.velo_world.specs.World.{CompletesShares, HoldsLiveShares};
@@ -14,7 +13,7 @@ use crate::logged_run::LoggedRun;
 use crate::world::World;
 use std::alloc::Global;
 use thiserror::Error;
-use velo_events::{Config, Event, Memory, Refusal, Status, ThreadId};
+use velo_events::{Config, Event, Memory, Refusal, ThreadId};
 use velo_heap::Heap;
 use velo_ledger::{Book, Shares};
 use velo_traces::{Flaw, Trace};
@@ -212,7 +211,7 @@ impl LogReplay {
         ensures { (trace : List EventOf) → IsLogReplayOf config.now self.old trace thread.0
             → IsLogReplayOf config.now self.new trace (thread.0 + 1) }
     {
-        if is_unborn(self.analysis.heap.status(thread)) {
+        if self.analysis.heap.status(thread).is_unborn() {
             return;
         }
         let Some(mut share) = self.kept.take(thread) else {
@@ -253,13 +252,6 @@ impl LogReplay {
             shares,
         )
     }
-}
-
-/// Whether a thread of the status is not born yet.
-fn is_unborn(status: Status) -> bool
-    ensures { result ≡ is_unborn status }
-{
-    matches!(status, Status::Unborn)
 }
 
 /// Why the event can't come next, by the heap.

@@ -1,13 +1,13 @@
 //! A run on its way: its log, and what follows from it.
 ghost use Rattle.std.specs.Prelude.{◌≡◌, ◌<◌, ◌++◌, ◌∷◌, ◌&&◌, [], length, OnOk, IfErr};
 ghost use Rattle.velo_events.specs.WellFormed.{MayFollow};
-ghost use Rattle.velo_world.specs.World.{meaning, value_read, Replies};
+ghost use Rattle.velo_world.specs.World.{meaning, Replies};
 ghost use Rattle.velo_world.specs.LoggedRun.{logged_state, FollowsFromItsLog, FindsNoRoom, Performs};
 ghost use Rattle.velo_world.specs.Analysis.{HasRoomForNext};
 
 use crate::analysis::{Analysis, Reply};
 use velo_arena::GraphFull;
-use velo_events::{Action, Config, Event, Kind, Memory, Refusal, ThreadId};
+use velo_events::{Action, Config, Event, Memory, Refusal, ThreadId};
 use velo_traces::Trace;
 
 /// A log within its limit, and what follows from it.
@@ -105,19 +105,8 @@ impl LoggedRun {
         self.halted = self.config.stop && alarmed;
         Reply {
             position,
-            value: value_read(event.kind),
+            value: event.kind.value_read(),
             alarmed,
         }
-    }
-}
-
-/// The value that a read read.
-#[inline]
-fn value_read(kind: Kind) -> Option<u64>
-    ensures { result ≡ value_read kind }
-{
-    match kind {
-        Kind::Read(_, value) => Some(value),
-        _ => None,
     }
 }

@@ -1,7 +1,6 @@
 -- Live, covered and harmless transactions: what stays so in every longer trace, and what is given up without loss.
 use Rattle.std.proofs.Common.{◌≡◌, ◌≢◌, ℕ, suc, ◌+◌, ◌<◌, Bool, false, cond, List, [], ◌∷◌, ◌++◌, length, refl, sym, ap, ◌∙◌, subst, arith, append_assoc, ⊎_elim, inl}
 use Rattle.std.specs.Prelude.{◌||◌, ◌==◌, sum_by, count_by, filter, IsTrue, IsFalse, AllPairs, Contains}
-use Rattle.std.proofs.lemmas.List.{append-nil}
 use Rattle.std.proofs.lemmas.List.Sums.{sum_by-cons, length-filter}
 use Rattle.std.proofs.lemmas.List.Kept.{IsStrictlyIncreasing-filter}
 use Rattle.std.proofs.lemmas.Bool.{cases_Bool, or_cases, eqb-true, lt-ltb, false≢true, false_from_ne_true}
@@ -10,16 +9,12 @@ use Rattle.velo_events.specs.declared.event.Event.{Event}
 use Rattle.velo_events.specs.WellFormed.{IsWellFormed}
 use Rattle.velo_events.specs.Block.{positions, IsTransaction, IsUnfinished, IsFinished}
 use Rattle.velo_events.specs.Graph.{Reaches, IsCycle, Edge, HasCycle}
-use Rattle.velo_events.specs.Collection.{IsHarmless, IsLive, IsCovered, IsAccountedFor, IsGivenUp, HasManyLive}
+use Rattle.velo_monitor.specs.Collection.{IsHarmless, IsLive, IsCovered, IsAccountedFor, IsGivenUp, HasManyLive}
 use Rattle.velo_events.proofs.OnGraphs.{Reaches-trans, newest}
+use Rattle.velo_events.proofs.OnTraces.{append-induct}
 use Rattle.velo_events.proofs.OnPositions.{count_positions, positions-increase, Contains-filter}
 use Rattle.velo_events.proofs.OnUnfinished.{IsTransaction-append, IsUnfinished-before, IsFinished-append, newest-unfinished, cases_unfinished, unfinished-not_finished}
 use Rattle.velo_events.proofs.OnReaching.{IsCycle-by, IsOnCycle, IsOnCycle-from_cycle, HasCycle-from_on, Reaches-to_transaction, Reaches-from_transaction, ReachesBy, Reaches-push, Reaches-old, Reaches-by}
-
--- what holds of a trace, and with one more event where it did without, holds of each longer trace
-pub append-induct : (P : List Event → Type 0) → ((trace : List Event) (event : Event) → P trace → P (trace ++ event ∷ [])) → (trace more : List Event) → P trace → P (trace ++ more)
-append-induct P step trace [] h = subst P (sym (append-nil trace)) h
-append-induct P step trace (e ∷ more) h = subst P (append_assoc trace (e ∷ []) more) (append-induct P step (trace ++ e ∷ []) more (step trace e h))
 
 -- ---- live
 
