@@ -1,9 +1,11 @@
-"""Writes the second part of docs/DEFINITIONS.md from the specs of the crates, in an order for reading.
+"""Writes the definitions of the crates' specs.
 
-    python3 tools/definitions.py            writes it
-    python3 tools/definitions.py --check    fails where the page is stale
+    python3 tools/definitions.py            writes out/definitions.md, which is not committed, and brings the quotations in
+                                            docs/DEFINITIONS.md up to date
+    python3 tools/definitions.py --check    writes nothing; fails where a quotation is stale, or a listed file is gone
 
-What stands above the mark in the page, the glossary, is written by hand.
+out/definitions.md has all definitions that public contracts cite, in an order for reading. docs/DEFINITIONS.md is written by
+hand, but for its blocks "```antt CRATE FILE NAME..": each has these definitions as they stand in that file of the specs.
 """
 import os
 import re
@@ -11,7 +13,8 @@ import sys
 
 ROOT = os.path.dirname(os.path.dirname(os.path.abspath(__file__)))
 PAGE = os.path.join(ROOT, "docs", "DEFINITIONS.md")
-MARK = "<!-- What follows is written by tools/definitions.py. -->\n"
+WHOLE = os.path.join(ROOT, "out", "definitions.md")
+QUOTED = re.compile(r"^```antt (\w+) (\w+) ([^\n]+)\n.*?^```$", re.M | re.S)
 
 # The parts of the page, each with the files of its crates' specs: whole where a star stands behind the name, else what the
 # comments say of each definition. What only private contracts cite is left to its files.
@@ -83,24 +86,43 @@ def rows(lines):
     return found
 
 
+def lines_of(crate, name):
+    with open(os.path.join(ROOT, "crates", crate, "specs", f"{name}.antt"), encoding="utf-8") as file:
+        return file.read().splitlines()
+
+
 def chapter(crate, name):
     """A file by its first comment, and its definitions."""
-    with open(os.path.join(ROOT, "crates", crate, "specs", f"{name.rstrip('*')}.antt"), encoding="utf-8") as file:
-        lines = file.read().splitlines()
-    head = []
+    lines, head = lines_of(crate, name.rstrip("*")), []
     while lines and lines[0].startswith("--") and not lines[0].startswith("-- ----"):
         head.append(lines.pop(0))
     body = whole(lines) if name.endswith("*") else rows(lines)
     return "\n".join([f"### `{crate}`: {name.rstrip('*')}\n", f"{sentence(head)}\n", *body, ""])
 
 
-def written():
-    """The generated part of the page."""
-    parts = []
+def all_definitions():
+    parts = ["# All definitions\n\nWritten by tools/definitions.py.\n"]
     for title, crates in PARTS:
         parts.append(f"## {title}\n")
         parts += [chapter(crate, name) for crate, names in crates.items() for name in names.split()]
     return "\n".join(parts)
+
+
+def definition(lines, name):
+    """The lines of one definition: from its declaration to an empty line or a comment."""
+    found = [at for at, line in enumerate(lines) if (item := ITEM.match(line)) and item[1] == name]
+    if not found:
+        sys.exit(f"no definition {name} where docs/DEFINITIONS.md quotes it")
+    body = lines[found[0] :]
+    end = next((at for at, line in enumerate(body) if not line.strip() or line.startswith("--")), len(body))
+    return "\n".join(body[:end])
+
+
+def quotation(found):
+    crate, name, wanted = found.groups()
+    lines = lines_of(crate, name)
+    body = "\n\n".join(definition(lines, it) for it in wanted.split())
+    return f"```antt {crate} {name} {wanted}\n{body}\n```"
 
 
 def main(words):
@@ -108,16 +130,15 @@ def main(words):
         sys.exit(__doc__)
     with open(PAGE, encoding="utf-8") as file:
         old = file.read()
-    above, mark, _ = old.partition(MARK)
-    if not mark:
-        sys.exit(f"{PAGE} has no mark: {MARK}")
-    new = above + MARK + "\n" + written()
+    new, every = QUOTED.sub(quotation, old), all_definitions()
     if words:
         if new != old:
             sys.exit("docs/DEFINITIONS.md is stale: run tools/definitions.py")
         return
-    with open(PAGE, "w", encoding="utf-8") as file:
-        file.write(new)
+    os.makedirs(os.path.dirname(WHOLE), exist_ok=True)
+    for path, text in ((WHOLE, every), (PAGE, new)):
+        with open(path, "w", encoding="utf-8") as file:
+            file.write(text)
 
 
 main(sys.argv[1:])
