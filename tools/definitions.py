@@ -1,18 +1,19 @@
 """Writes the definitions of the crates' specs.
 
-    python3 tools/definitions.py            writes out/definitions.md, which is not committed, and brings the quotations in
-                                            docs/DEFINITIONS.md up to date
-    python3 tools/definitions.py --check    writes nothing; fails where a quotation is stale, or a listed file is gone
+    python3 tools/definitions.py            writes out/definitions.md, which is not committed, and
+                                            refreshes the quotations in docs/internals/DEFINITIONS.md
+    python3 tools/definitions.py --check    writes nothing; fails where a quotation is stale
 
-out/definitions.md has all definitions that public contracts cite, in an order for reading. docs/DEFINITIONS.md is written by
-hand, but for its blocks "```antt CRATE FILE NAME..": each has these definitions as they stand in that file of the specs.
+out/definitions.md has all definitions that public contracts cite, in an order for reading.
+docs/internals/DEFINITIONS.md is written by hand, but for its blocks "```antt CRATE FILE NAME..":
+each quotes these definitions from that file of the specs.
 """
 import os
 import re
 import sys
 
 ROOT = os.path.dirname(os.path.dirname(os.path.abspath(__file__)))
-PAGE = os.path.join(ROOT, "docs", "DEFINITIONS.md")
+PAGE = os.path.join(ROOT, "docs", "internals", "DEFINITIONS.md")
 WHOLE = os.path.join(ROOT, "out", "definitions.md")
 QUOTED = re.compile(r"^```antt (\w+) (\w+) ([^\n]+)\n.*?^```$", re.M | re.S)
 
@@ -112,7 +113,7 @@ def definition(lines, name):
     """The lines of one definition: from its declaration to an empty line or a comment."""
     found = [at for at, line in enumerate(lines) if (item := ITEM.match(line)) and item[1] == name]
     if not found:
-        sys.exit(f"no definition {name} where docs/DEFINITIONS.md quotes it")
+        sys.exit(f"no definition {name} where docs/internals/DEFINITIONS.md quotes it")
     body = lines[found[0] :]
     end = next((at for at, line in enumerate(body) if not line.strip() or line.startswith("--")), len(body))
     return "\n".join(body[:end])
@@ -133,7 +134,7 @@ def main(words):
     new, every = QUOTED.sub(quotation, old), all_definitions()
     if words:
         if new != old:
-            sys.exit("docs/DEFINITIONS.md is stale: run tools/definitions.py")
+            sys.exit("docs/internals/DEFINITIONS.md is stale: run tools/definitions.py")
         return
     os.makedirs(os.path.dirname(WHOLE), exist_ok=True)
     for path, text in ((WHOLE, every), (PAGE, new)):

@@ -5,14 +5,17 @@
 PROGRAM is the built `velodrome`; without pages, README.md and all pages below docs/ are read. Of each page's fenced blocks
 
 - one that begins with "```KIND NAME", where NAME has a dot, is the file NAME;
-- one that begins with "```console" is a session: a line `$ COMMAND` is run by a shell, and the lines up to the next one are
-  what it prints, on both outputs; after the command `# status N` says how it ends, if not by 0;
-- one that begins with "```console recorder" is a session that compiles: it is run where recorder/out/bin is built;
+- one that begins with "```console" is a session: a line `$ COMMAND` is run by a shell, and the
+  lines up to the next one are what it prints, on both outputs; after the command `# status N` says
+  how it ends, if not by 0;
+- one that begins with "```console recorder" is a session that compiles, with the recorder: it is
+  run where recorder/out/bin is built;
 - "```sh" is left out, as it wants the toolchain, a compiler, other machines or an hour.
 
-The sessions of a page run in its order, in one new folder, `work`, that is empty but for the files of the page, as a reader has it. The
-program is on the path, and TOP is the folder of this repository. Then each inline command of the page, `velodrome ..`, is
-run there too, if it has no placeholder in capitals and no `..`: it must not end in an error of usage or in status 5.
+The sessions of a page run in its order, in one new folder, `work`, which has the files of the page
+alone, as a reader has it. The program is on the path, and TOP is the folder of this repository.
+Then each inline command of the page, `velodrome ..`, is run there too, if it has no placeholder in
+capitals and no `..`: it must not end in an error of usage or in status 5.
 
 The last line is `N passed, N failed`; the status is 0 where none failed.
 """
