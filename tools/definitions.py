@@ -5,8 +5,8 @@
     python3 tools/definitions.py --check    writes nothing; fails where a quotation is stale
 
 out/definitions.md has all definitions that public contracts cite, in an order for reading.
-docs/internals/DEFINITIONS.md is written by hand, but for its blocks "```antt CRATE FILE NAME..":
-each quotes these definitions from that file of the specs.
+docs/internals/DEFINITIONS.md is written by hand, but for its blocks "```antt NAME..": each quotes
+these definitions, from the first listed file that has one of the name.
 """
 import os
 import re
@@ -15,7 +15,7 @@ import sys
 ROOT = os.path.dirname(os.path.dirname(os.path.abspath(__file__)))
 PAGE = os.path.join(ROOT, "docs", "internals", "DEFINITIONS.md")
 WHOLE = os.path.join(ROOT, "out", "definitions.md")
-QUOTED = re.compile(r"^```antt (\w+) (\w+) ([^\n]+)\n.*?^```$", re.M | re.S)
+QUOTED = re.compile(r"^```antt ([^\n]+)\n.*?^```$", re.M | re.S)
 
 # The parts of the page, each with the files of its crates' specs: whole where a star stands behind the name, else what the
 # comments say of each definition. What only private contracts cite is left to its files.
@@ -109,21 +109,23 @@ def all_definitions():
     return "\n".join(parts)
 
 
-def definition(lines, name):
+def files():
+    return [(crate, name.rstrip("*")) for _, crates in PARTS for crate, names in crates.items() for name in names.split()]
+
+
+def definition(name):
     """The lines of one definition: from its declaration to an empty line or a comment."""
-    found = [at for at, line in enumerate(lines) if (item := ITEM.match(line)) and item[1] == name]
-    if not found:
-        sys.exit(f"no definition {name} where docs/internals/DEFINITIONS.md quotes it")
-    body = lines[found[0] :]
-    end = next((at for at, line in enumerate(body) if not line.strip() or line.startswith("--")), len(body))
-    return "\n".join(body[:end])
+    for lines in (lines_of(*file) for file in files()):
+        for at, line in enumerate(lines):
+            if (item := ITEM.match(line)) and item[1] == name:
+                ends = (n for n, it in enumerate(lines[at:]) if not it.strip() or it.startswith("--"))
+                return "\n".join(lines[at : at + next(ends, len(lines))])
+    sys.exit(f"docs/internals/DEFINITIONS.md quotes {name}, of which there is no definition")
 
 
 def quotation(found):
-    crate, name, wanted = found.groups()
-    lines = lines_of(crate, name)
-    body = "\n\n".join(definition(lines, it) for it in wanted.split())
-    return f"```antt {crate} {name} {wanted}\n{body}\n```"
+    body = "\n\n".join(map(definition, found[1].split()))
+    return f"```antt {found[1]}\n{body}\n```"
 
 
 def main(words):
