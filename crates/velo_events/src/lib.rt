@@ -11,6 +11,7 @@ pub mod growth;
 mod limits;
 mod memory;
 mod refusal;
+mod resolved;
 
 pub use config::{BadConfig, Bounds, Config};
 pub use event::{
@@ -19,3 +20,4 @@ pub use event::{
 pub use limits::{MOST_EVENTS, MOST_LOCKS, MOST_NODES, MOST_OPEN_BLOCKS, MOST_THREADS};
 pub use memory::Memory;
 pub use refusal::Refusal;
+pub use resolved::Resolved;
