@@ -10,8 +10,8 @@ pub returns-then-is_some-clause-watched : goal.returns-then-is_some-clause-watch
 returns-then-is_some-clause-watched c =
     IsWatched-stays c.args.self.now _ _ c.args.event.now (sym c.is_some.ensures ∙ c.if-is_some.true) c.requires.next.stands.watched
 
-pub observe-requires : goal.observe-requires
-observe-requires c =
+pub observe_resolved-requires : goal.observe_resolved-requires
+observe_resolved-requires c =
     let quiet = sym c.is_some.ensures ∙ c.if-is_some.false in
     let none = alarm-none c.args.self.now.alarm quiet in
     let here = length-before c.args.events.now c.args.position c.args.event.now c.requires.here in
@@ -32,8 +32,8 @@ returns-in-Quiet-clause-watched c =
     let watched = c.requires.next.stands.watched in
     let here = length-before c.args.events.now c.args.position c.args.event.now c.requires.here in
     let seen = c.in-Quiet.ensures.seen _ _ (monitor-quiet c.args.self.now _ _ quiet watched) (sym here) c.requires.next.follows in
-    let noted = c.note.ensures.next 0 _ (clocks-quiet c.args.self.now _ _ quiet watched) here (well-next c.args.self.now _ c.args.event.now c.requires.next) in
-    IsWatched-quiet _ _ _ quiet seen.0 seen.1 noted (c.note.ensures.bounds ∙ watched.bounds_are)
+    let noted = c.note_resolved.ensures.next 0 _ (clocks-quiet c.args.self.now _ _ quiet watched) here (well-next c.args.self.now _ c.args.event.now c.requires.next) in
+    IsWatched-quiet _ _ _ quiet seen.0 seen.1 noted (c.note_resolved.ensures.bounds ∙ watched.bounds_are)
 
 pub raise_alarm-requires-clause-clocks : goal.raise_alarm-requires-clause-clocks
 raise_alarm-requires-clause-clocks c = clocks-quiet c.args.self.now _ _ (sym c.is_some.ensures ∙ c.if-is_some.false) c.requires.next.stands.watched
@@ -63,8 +63,8 @@ returns-in-Closes-clause-watched c =
     let raised = c.raise_alarm.ensures in
     rw raised.same (IsWatched-raised _ _ _ c.args.event.now raised.alarm refl (raised.here ∙ sym here) raised.is seen.2 (clocks-quiet c.args.self.now _ _ quiet watched) watched.bounds_are)
 
-pub note-requires-clause-room : goal.note-requires-clause-room
-note-requires-clause-room c = grind (arith, elements)
+pub note_resolved-requires-clause-room : goal.note_resolved-requires-clause-room
+note_resolved-requires-clause-room c = grind (arith, elements)
 
-pub note-requires-clause-fits : goal.note-requires-clause-fits
-note-requires-clause-fits c = grind (arith, elements)
+pub note_resolved-requires-clause-fits : goal.note_resolved-requires-clause-fits
+note_resolved-requires-clause-fits c = grind (arith, elements)
