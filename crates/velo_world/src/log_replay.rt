@@ -148,7 +148,8 @@ impl LogReplay {
         ensures room { OnOk result (HasRoomForNext self.new.analysis (take position events.now) event.now) }
         ensures fault { IfErr result (λ fault. IsFaultAtEvent config.now (take position events.now) event.now fault) }
     {
-        match flaw_in(&self.analysis.heap, event.event()) {
+        let recorded = event.event();
+        match flaw_in(&self.analysis.heap, recorded) {
             Some(Flaw::Refused(refusal)) => return Err(LogReplayFault::Refused {
                 position,
                 refusal,
@@ -164,7 +165,7 @@ impl LogReplay {
         }
         if self
             .analysis
-            .make_node_room(&events[..position], event.event(), config)
+            .make_node_room(&events[..position], recorded, config)
             .is_err()
         {
             return Err(LogReplayFault::Refused {
@@ -180,13 +181,7 @@ impl LogReplay {
 
     /// Takes in the event at the position, for which there is room.
     #[inline(always)]
-    fn take_in(
-        &mut self,
-        config: &Config,
-        events: &[Event],
-        position: usize,
-        event: &Resolved<'_>,
-    )
+    fn take_in(&mut self, config: &Config, events: &[Event], position: usize, event: &Resolved<'_>)
         requires goes_on { config.now.stop ≡ false }
         requires here { slice_get events.now position ≡ Some event.now }
         requires stands { IsLogReplayOf config.now self.old (take position events.now) 0 }

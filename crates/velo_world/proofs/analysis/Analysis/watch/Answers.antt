@@ -1,6 +1,7 @@
-use Rattle.std.proofs.Common.{[], ◌∷◌, ◌++◌, take, sym, ap, ◌∙◌, refl, arith}
+use Rattle.std.proofs.Common.{[], ◌∷◌, ◌++◌, take, sym, ap, ◌∙◌, refl, subst, arith}
 use Rattle.velo_events.specs.Block.{owner}
 use Rattle.velo_heap.specs.Contents.{bounds_of}
+use Rattle.velo_world.specs.Analysis.{Raises}
 use Rattle.velo_world.proofs.OnAlarms.{length-before}
 use Rattle.velo_world.proofs.OnAnalyses.{alarm-none, IsWatched-stays, IsWatched-quiet, IsWatched-raised, monitor-quiet, clocks-quiet, well-next}
 use Rattle.std.proofs.lemmas.Grind.{elements}
@@ -39,20 +40,20 @@ pub raise_alarm-requires-clause-clocks : goal.raise_alarm-requires-clause-clocks
 raise_alarm-requires-clause-clocks c = clocks-quiet c.args.self.now _ _ (sym c.is_some.ensures ∙ c.if-is_some.false) c.requires.next.stands.watched
 
 pub raise_alarm-requires-clause-well_formed : goal.raise_alarm-requires-clause-well_formed
-raise_alarm-requires-clause-well_formed c = well-next c.args.self.now _ c.args.event.now c.requires.next
+raise_alarm-requires-clause-well_formed c = rw c.event.ensures (well-next c.args.self.now _ c.args.event.now c.requires.next)
 
 pub raise_alarm-requires-clause-closes : goal.raise_alarm-requires-clause-closes
 raise_alarm-requires-clause-closes c =
     let quiet = sym c.is_some.ensures ∙ c.if-is_some.false in
     let here = length-before c.args.events.now c.args.position c.args.event.now c.requires.here in
-    (c.in-Closes.ensures.seen _ _ (monitor-quiet c.args.self.now _ _ quiet c.requires.next.stands.watched) (sym here) c.requires.next.follows).0
+    rw c.event.ensures ((c.in-Closes.ensures.seen _ _ (monitor-quiet c.args.self.now _ _ quiet c.requires.next.stands.watched) (sym here) c.requires.next.follows).0)
 
 pub raise_alarm-requires-clause-transaction : goal.raise_alarm-requires-clause-transaction
 raise_alarm-requires-clause-transaction c =
     let quiet = sym c.is_some.ensures ∙ c.if-is_some.false in
     let here = length-before c.args.events.now c.args.position c.args.event.now c.requires.here in
     let seen = c.in-Closes.ensures.seen _ _ (monitor-quiet c.args.self.now _ _ quiet c.requires.next.stands.watched) (sym here) c.requires.next.follows in
-    seen.1 ∙ ap (owner (take c.args.position c.args.events.now ++ c.args.event.now ∷ [])) here
+    rw c.event.ensures (seen.1 ∙ ap (owner (take c.args.position c.args.events.now ++ c.args.event.now ∷ [])) here)
 
 pub returns-in-Closes-clause-watched : goal.returns-in-Closes-clause-watched
 returns-in-Closes-clause-watched c =
@@ -60,7 +61,7 @@ returns-in-Closes-clause-watched c =
     let watched = c.requires.next.stands.watched in
     let here = length-before c.args.events.now c.args.position c.args.event.now c.requires.here in
     let seen = c.in-Closes.ensures.seen _ _ (monitor-quiet c.args.self.now _ _ quiet watched) (sym here) c.requires.next.follows in
-    let raised = c.raise_alarm.ensures in
+    let raised = subst (λ e. Raises c.args.self.now (take c.args.position c.args.events.now ++ e ∷ []) c.args.position c.raise_alarm.new.self) c.event.ensures c.raise_alarm.ensures in
     rw raised.same (IsWatched-raised _ _ _ c.args.event.now raised.alarm refl (raised.here ∙ sym here) raised.is seen.2 (clocks-quiet c.args.self.now _ _ quiet watched) watched.bounds_are)
 
 pub note_resolved-requires-clause-room : goal.note_resolved-requires-clause-room
