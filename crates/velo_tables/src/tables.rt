@@ -180,6 +180,7 @@ impl Tables {
     }
 
     /// As `record`, of an event that is resolved.
+    #[inline(always)]
     #[tactic(auto, unfolding(crate::specs::Recorded::kept_after))]
     pub fn record_resolved(&mut self, event: &Resolved<'_>, step: Option<Step>)
         requires { HasRoomFor self.old event.now }
@@ -189,6 +190,7 @@ impl Tables {
         self.record_in_place(event, step);
     }
 
+    #[inline(always)]
     #[tactic(auto, unfolding(crate::specs::Recorded::kept_after))]
     fn record_in_place(&mut self, event: &Resolved<'_>, step: Option<Step>)
         requires { HasRoomFor self.old event.now }
@@ -200,6 +202,7 @@ impl Tables {
 
     /// Keeps the step as that of the last event at each place that the event records, where it is that of the thread's
     /// last event already. There has to be room for it too.
+    #[inline(always)]
     pub fn record_inside(&mut self, event: &Resolved<'_>, step: Step)
         requires room { HasRoomFor self.old event.now }
         requires current { entry self.old (LastOf (thread_of event.now)) ≡ Some step }
@@ -254,6 +257,7 @@ impl Tables {
 
     /// Puts the steps that the event looks up into the list, in place of what it had: first that of the thread's last
     /// event, and a write's reads in the order of their threads.
+    #[inline(always)]
     #[tactic(auto, unfolding(crate::specs::LastAccesses::steps_looked_up))]
     pub fn predecessors_into(
         &self,
@@ -273,6 +277,7 @@ impl Tables {
     }
 
     /// The one step that an event but a write looks up beside that of its thread's last event, if there is one.
+    #[inline(always)]
     #[tactic(auto, unfolding(crate::specs::LastAccesses::steps_looked_up))]
     pub fn step_beside(&self, event: &Resolved<'_>) -> Option<Step>
         requires { IsFalse (is_exclusive (access_of event.now.kind)) }
