@@ -61,7 +61,7 @@ returns-in-Closes-clause-watched c =
     let watched = c.requires.next.stands.watched in
     let here = length-before c.args.events.now c.args.position c.args.event.now c.requires.here in
     let seen = c.in-Closes.ensures.seen _ _ (monitor-quiet c.args.self.now _ _ quiet watched) (sym here) c.requires.next.follows in
-    let raised = subst (λ e. Raises c.args.self.now (take c.args.position c.args.events.now ++ e ∷ []) c.args.position c.raise_alarm.new.self) c.event.ensures c.raise_alarm.ensures in
+    let raised = subst (λ e. Raises (record c.args.self.now { monitor = c.observe_resolved.new.self }) (take c.args.position c.args.events.now ++ e ∷ []) c.args.position c.raise_alarm.new.self) c.event.ensures c.raise_alarm.ensures in
     rw raised.same (IsWatched-raised _ _ _ c.args.event.now raised.alarm refl (raised.here ∙ sym here) raised.is seen.2 (clocks-quiet c.args.self.now _ _ quiet watched) watched.bounds_are)
 
 pub note_resolved-requires-clause-room : goal.note_resolved-requires-clause-room
