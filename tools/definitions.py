@@ -21,7 +21,9 @@ QUOTED = re.compile(r"^```antt ([^\n]+)\n.*?^```$", re.M | re.S)
 # comments say of each definition. What only private contracts cite is left to its files.
 PARTS = [
     ("Traces, and what is meant by atomic", {
-        "velo_events": "Event Conflict* Heap Meaning* WellFormed* Block* Graph* Reordering* Certificate* Collection* Refusals*"}),
+        "velo_events": "Event Conflict* Heap Meaning* WellFormed* Block* Graph* Reordering* Certificate* Refusals*",
+        "velo_certify": "Shortest*",
+        "velo_monitor": "Collection*"}),
     ("Texts", {
         "velo_bytes": "Device Parsing",
         "velo_logtext": "Text* Finding",
