@@ -13,7 +13,7 @@ use crate::logged_run::LoggedRun;
 use crate::world::World;
 use std::alloc::Global;
 use thiserror::Error;
-use velo_events::{Config, Event, Memory, Refusal, ThreadId};
+use velo_events::{Config, Event, Memory, Refusal, Resolved, ThreadId};
 use velo_heap::Heap;
 use velo_ledger::{Book, Shares};
 use velo_traces::{Flaw, Trace};
@@ -119,10 +119,10 @@ impl LogReplay {
         ensures ok { OnOk result (IsLogReplayOf config.now self.new (take (position + 1) events.now) 0) }
         ensures fault { IfErr result (λ fault. IsFaultOfLog config.now events.now fault) }
     {
-        let event = &events[position];
-        match self.make_room(config, events, position, event) {
+        let event = Resolved::of(&events[position]);
+        match self.make_room(config, events, position, &event) {
             Ok(()) => {
-                self.take_in(config, events, position, event);
+                self.take_in(config, events, position, &event);
                 Ok(())
             }
             Err(fault) => Err(fault),
@@ -136,7 +136,7 @@ impl LogReplay {
         config: &Config,
         events: &[Event],
         position: usize,
-        event: &Event,
+        event: &Resolved<'_>,
     ) -> Result<(), LogReplayFault>
         requires here { slice_get events.now position ≡ Some event.now }
         requires stands { IsLogReplayOf config.now self.old (take position events.now) 0 }
@@ -147,7 +147,8 @@ impl LogReplay {
         ensures room { OnOk result (HasRoomForNext self.new.analysis (take position events.now) event.now) }
         ensures fault { IfErr result (λ fault. IsFaultAtEvent config.now (take position events.now) event.now fault) }
     {
-        match flaw_in(&self.analysis.heap, event) {
+        let recorded = event.event();
+        match flaw_in(&self.analysis.heap, recorded) {
             Some(Flaw::Refused(refusal)) => return Err(LogReplayFault::Refused {
                 position,
                 refusal,
@@ -163,7 +164,7 @@ impl LogReplay {
         }
         if self
             .analysis
-            .make_node_room(&events[..position], event, config)
+            .make_node_room(&events[..position], recorded, config)
             .is_err()
         {
             return Err(LogReplayFault::Refused {
@@ -179,7 +180,7 @@ impl LogReplay {
 
     /// Takes in the event at the position, for which there is room.
     #[inline(always)]
-    fn take_in(&mut self, config: &Config, events: &[Event], position: usize, event: &Event)
+    fn take_in(&mut self, config: &Config, events: &[Event], position: usize, event: &Resolved<'_>)
         requires goes_on { config.now.stop ≡ false }
         requires here { slice_get events.now position ≡ Some event.now }
         requires stands { IsLogReplayOf config.now self.old (take position events.now) 0 }
@@ -190,7 +191,7 @@ impl LogReplay {
         ensures { IsLogReplayOf config.now self.new (take position events.now ++ event.now ∷ []) 0 }
     {
         self.analysis.take_in(events, position, event);
-        self.book.count(position, event);
+        self.book.count(position, event.event());
     }
 
     /// Hands out the share of each thread that was born, and lets it say what its row does.

@@ -7,7 +7,7 @@ ghost use Rattle.velo_world.specs.Analysis.{HasRoomForNext};
 
 use crate::analysis::{Analysis, Reply};
 use velo_arena::GraphFull;
-use velo_events::{Action, Config, Event, Memory, Refusal, ThreadId};
+use velo_events::{Action, Config, Event, Memory, Refusal, Resolved, ThreadId};
 use velo_traces::Trace;
 
 /// A log within its limit, and what follows from it.
@@ -78,7 +78,7 @@ impl LoggedRun {
         if self.log.reserve_one().is_err() {
             return Err(Refusal::Memory);
         }
-        match self.analysis.reserve_for(event) {
+        match self.analysis.reserve_for(&Resolved::of(event)) {
             Ok(()) => Ok(()),
             Err(Memory) => Err(Refusal::Memory),
         }
@@ -100,7 +100,8 @@ impl LoggedRun {
     {
         let position = self.log.len();
         self.log.push_reserved(event);
-        self.analysis.take_in(self.log.as_slice(), position, &event);
+        self.analysis
+            .take_in(self.log.as_slice(), position, &Resolved::of(&event));
         let alarmed = self.analysis.alarm.is_some();
         self.halted = self.config.stop && alarmed;
         Reply {

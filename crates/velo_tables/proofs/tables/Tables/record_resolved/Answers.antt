@@ -1,7 +1,7 @@
 use Rattle.std.proofs.Common.{sym, subst}
 use Rattle.velo_tables.specs.LastAccesses.{IsRecorded}
 use Rattle.velo_tables.proofs.OnLastAccesses.{IsRecorded-kept_after}
-use Rattle.velo_tables.proofs.tables.Tables.record.Goals as goal
+use Rattle.velo_tables.proofs.tables.Tables.record_resolved.Goals as goal
 
 pub returns-clause-recorded : goal.returns-clause-recorded
 returns-clause-recorded c =

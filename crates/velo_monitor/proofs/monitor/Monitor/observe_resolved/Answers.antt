@@ -1,5 +1,5 @@
 use Rattle.velo_monitor.proofs.OnForgetting.{stands-forgotten, next-forgotten, seen-forgotten}
-use Rattle.velo_monitor.proofs.monitor.Monitor.observe.Goals as goal
+use Rattle.velo_monitor.proofs.monitor.Monitor.observe_resolved.Goals as goal
 
 pub take_in-requires : goal.take_in-requires
 take_in-requires c =
