@@ -27,8 +27,7 @@ pub fn read_log<S: Source>(alloc: Global, source: &mut S) -> Result<(Bounds, Tra
     ensures found { IfSome (S.remaining source.old) (λ bytes. ReadsAs MOST_EVENTS bytes (finding_of result)) }
 
     // What stands in the bytes is answered, unless the source failed or a growth was refused.
-    ensures only { IfSome (S.remaining source.old) (λ bytes. (f : Finding) →
-        Stands MOST_EVENTS bytes f → IsFindingOrFailure f (finding_of result)) }
+    ensures only { IfSome (S.remaining source.old) (λ bytes. (f : Finding) → Stands MOST_EVENTS bytes f → IsFindingOrFailure f (finding_of result)) }
 
     ensures within { IfOk result (λ log.
         AreBounds log.0 × AreEvents log.1.events × (length log.1.events ≤ MOST_EVENTS)) }

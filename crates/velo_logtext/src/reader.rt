@@ -121,13 +121,7 @@ impl Model for LogReader {
 
     ghost Value = { ReaderState };
 
-    ghost view = { λ r. record {
-      shares = r.shares;
-      bounds = r.bounds;
-      given = r.given;
-      held = r.window.bytes;
-      ended = r.window.ended;
-    } };
+    ghost view = { λ r. record { shares = r.shares; bounds = r.bounds; given = r.given; held = r.window.bytes; ended = r.window.ended } };
 
     ghost invariant = { λ r. r.given ≤ MOST_EVENTS };
 }

@@ -43,18 +43,9 @@ impl Model for Workload {
 
     ghost Value = { Program };
 
-    ghost view = { λ w. record {
-      bounds = w.bounds;
-      thread_names = map string_bytes w.threads.items;
-      variable_names = map string_bytes w.variables.items;
-      lock_names = map string_bytes w.locks.items;
-      label_names = map string_bytes w.labels.items;
-      bodies = map (λ body. body.items) w.bodies.items;
-    } };
+    ghost view = { λ w. record { bounds = w.bounds; thread_names = map string_bytes w.threads.items; variable_names = map string_bytes w.variables.items; lock_names = map string_bytes w.locks.items; label_names = map string_bytes w.labels.items; bodies = map (λ body. body.items) w.bodies.items } };
 
-    ghost invariant = { λ w. (length w.bodies.items ≡ w.bounds.threads)
-        × AreBodies (map (λ body. body.items) w.bodies.items)
-        × AreInRange w.bounds };
+    ghost invariant = { λ w. (length w.bodies.items ≡ w.bounds.threads) × AreBodies (map (λ body. body.items) w.bodies.items) × AreInRange w.bounds };
 }
 
 impl Workload {
