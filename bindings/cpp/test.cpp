@@ -127,8 +127,10 @@ TEST(threads_of_two_sessions_have_their_own_numbers) {
 }
 TEST(a_thread_that_opens_a_session_stays_who_it_is) {
     session s;
+    velodrome::mutex m;
     var<int> x;
     velodrome::thread([&] {
+        std::lock_guard hold(m);
         x = 1;
         {
             session mine;
