@@ -1,8 +1,8 @@
 """plants.py [WORD..]: puts the faults of README.md back, one at a time, in a copy: each test that is named must fail then.
 
-It needs what `tools/bindings.sh` built last (bindings/out), and does nothing to it. With words it takes the faults that have one of
-them in their name. A test that does not end in a minute has failed: it hangs. The last line is `N refused, N passed`; the status is
-1 where a test passed, or an edit does not fit.
+It builds over the library that `tools/bindings.sh` takes with --built. With words (such as `rust`, or `fork`) it takes the faults and
+tests that have one of them. A test that does not end in a minute has failed: it hangs. The last line is `N refused, N passed`; the
+status is 1 where a test passed, or an edit does not fit.
 """
 from __future__ import annotations
 
@@ -252,9 +252,6 @@ class Copy:
         built('gcc', '-std=gnu11', '-O1', *self.includes, '-pthread', '-o', program, self.top / source, self.archive)
         return program
 
-    def passes(self, language: str, test: str) -> bool:
-        return getattr(self, language)(test)
-
     def session(self, test: str) -> bool:
         """Whether the test says nothing: all are run, one after another."""
         try:
@@ -288,7 +285,8 @@ class Copy:
                     VELODROME_LIB_DIR=str(self.top), CARGO_TARGET_DIR=str(scratch / 'cargo'))
 
     def rust(self, test: str) -> bool:
-        self.cargo('--no-run', '--test', 'host', '--test', 'verdict')  # a minute more
+        if not any(self.cargo('--no-run', '--test', 'host', '--test', 'verdict') for _ in range(3)):
+            raise SystemExit('the crates do not build')
         return self.cargo('--test', 'host', '--test', 'verdict', test, '--', '--exact')
 
     def rustdoc(self, words: str) -> bool:
@@ -315,22 +313,24 @@ def libc() -> str:
     return str(kit / 'c/liblibc_c.a')
 
 
-def tried(plant: Plant, number: int) -> tuple[int, int]:
-    refused = 0
-    copy = Copy(scratch / str(number), plant)
-    for language, tests in plant.tests.items():
-        for test in tests:
-            passes = copy.passes(language, test)
-            refused += not passes
-            print('PASSED ' if passes else 'refused', f'{plant.fault}: {language} {test}'.rstrip(), flush=True)
-    shutil.rmtree(copy.top)
-    return refused, sum(map(len, plant.tests.values())) - refused
+def chosen(words: list[str]) -> typing.Iterator[tuple[Plant, list[tuple[str, str]]]]:
+    """The faults with those of their tests that have one of the words; without words all."""
+    for plant in PLANTS:
+        tests = [(language, test) for language, names in plant.tests.items() for test in names]
+        wanted = [t for t in tests if not words or any(re.search(w, f'{plant.fault}: {" ".join(t)}') for w in words)]
+        if wanted:
+            yield plant, wanted
 
 
 def main(words: list[str]) -> int:
-    chosen = [p for p in PLANTS if not words or any(re.search(w, p.fault) for w in words)]
-    counts = [tried(p, i) for i, p in enumerate(chosen)]
-    refused, passed = sum(c[0] for c in counts), sum(c[1] for c in counts)
+    refused = passed = 0
+    for number, (plant, tests) in enumerate(chosen(words)):
+        copy = Copy(scratch / str(number), plant)
+        for language, test in tests:
+            passes = getattr(copy, language)(test)
+            refused, passed = refused + (not passes), passed + passes
+            print('PASSED ' if passes else 'refused', f'{plant.fault}: {language} {test}'.rstrip(), flush=True)
+        shutil.rmtree(copy.top)
     print(f'{refused} refused, {passed} passed')
     return 1 if passed or not refused else 0
 

@@ -169,7 +169,12 @@ class Verdicts(Case):
             x.set(1)
             self.watch('clean', lambda: Var(0).get())
             x.set(2)
-        self.watch('clean', outer)
+            y = Var(0)  # which the session has not met
+            with atomic('outer'):
+                before = y.get()
+                elsewhere(lambda: y.set(1))
+                y.set(before)
+        self.watch('alarm', outer)
 
 
 class Tasks(Case):
