@@ -229,6 +229,11 @@ fi
 
 # ---- small projects with tests of their own, over what an install has
 
+# block N: the Nth block of code of EMBEDDING.md
+block() {
+    awk -v wanted="$1" '/^    / {if (!inside) n++; inside = 1} /^[^ ]/ {inside = 0} inside && n == wanted {sub("^    ", ""); print}' "$top/docs/EMBEDDING.md"
+}
+
 if wants examples && have cmake cmake; then
     rm -rf "$prefix" "$out"/build_*
     step "install: configures" cmake -S "$top/bindings" -B "$out/build_install" -DVELODROME_LIBRARIES="$out"
@@ -245,6 +250,16 @@ if wants examples && have cmake cmake; then
         step "examples: $language, incomplete: a warning" warns 'too many events while a block was open' "${incomplete[@]}"
         step "examples: $language, incomplete, with VELODROME_INCOMPLETE=fail" says 'too many events while a block was open' env VELODROME_INCOMPLETE=fail "${incomplete[@]}"
     done
+    if [ -x "$out/build_cpp/bank_test" ]; then
+        rm -rf "$out/embedding"
+        mkdir "$out/embedding"
+        block 2 >"$out/embedding/CMakeLists.txt"
+        block 3 >"$out/embedding/bank_test.cpp"
+        step "EMBEDDING: its project configures" cmake -S "$out/embedding" -B "$out/embedding/build" -DCMAKE_PREFIX_PATH="$prefix"
+        step "EMBEDDING: its project builds" cmake --build "$out/embedding/build"
+        step "EMBEDDING: its project, repeated until it fails" says 'not atomic: deposit (bank_test.cpp:6)' in_time env VELODROME_NOISE=4 \
+            ctest --test-dir "$out/embedding/build" --repeat until-fail:1000 --output-on-failure
+    fi
     if [ -x "$out/build_cpp/lost_update" ]; then
         step "examples: cpp, the first program" status 3 "$out/build_cpp/lost_update"
         step "examples: cpp with WATCH=OFF configures" cmake -S "$top/bindings/examples/cpp" -B "$out/build_off" -DCMAKE_PREFIX_PATH="$prefix" -DWATCH=OFF
