@@ -93,7 +93,7 @@ PLANTS = [
     Plant('a thread that is met in a block is its child', SESSION,
           [('return number ? number : enrol(s, 0, who, NULL);',
             'return number ? number : enrol(s, s->threads > 1 ? 1 : 0, who, NULL);')],
-          {'session': ['a_thread_met_in_a_block_is_no_child_of_it'], 'cpp': ['a_thread_met_in_a_block_is_no_child_of_it'], 'rust': ['threads_of_other_libraries'], 'python': ['test_a_thread_met_in_a_block_is_no_child_of_it']}),
+          {'session': ['a_thread_met_in_a_block_is_no_child_of_it'], 'cpp': ['a_thread_met_in_a_block_is_no_child_of_it'], 'rust': ['a_thread_met_in_a_block_is_no_child_of_it'], 'python': ['test_a_thread_met_in_a_block_is_no_child_of_it']}),
     Plant('a refused write is written, and told as not', SESSION,
           [('        stop(s, "%s", reason(status));\n        return false;',
             '        return false;')],

@@ -123,6 +123,7 @@ impl Account {
 fn two_objects_of_a_name_are_two() {
     let (a, b) = (Account::new(), Account::new());
     let outcome = watch(|| {
+        b.balance.set(0); // so the run knows it
         let _block = block!("move");
         let _both = (a.lock.lock().unwrap(), b.lock.lock().unwrap());
         let before = a.balance.get();
