@@ -172,6 +172,10 @@ PLANTS = [
     Plant("the body's exception is replaced", 'rust/velodrome/src/lib.rs',
           [('                note(&end);\n                resume_unwind(payload)',
             '                drop(payload);\n                panic!("{}", end.report)')],
+          {'rust': ['the_bodys_panic_goes_on']}),
+    Plant("the body's exception is replaced", 'rust/velodrome/src/lib.rs',
+          [('        let value = body();',
+            '        let value = catch_unwind(AssertUnwindSafe(body)).unwrap_or_else(|_| panic!("refused"));')],
           {'rust': ['a_panic_is_the_programs_own']}),
     Plant('what nobody closes stays for ever', PYTHON,
           [('    def __del__(self) -> None:\n        self.close()\n',
@@ -285,9 +289,10 @@ class Copy:
                     VELODROME_LIB_DIR=str(self.top), CARGO_TARGET_DIR=str(scratch / 'cargo'))
 
     def rust(self, test: str) -> bool:
-        if not any(self.cargo('--no-run', '--test', 'host', '--test', 'verdict') for _ in range(3)):
+        programs = [word for name in ('host', 'verdict', 'attributes') for word in ('--test', name)]
+        if not any(self.cargo('--no-run', *programs) for _ in range(3)):
             raise SystemExit('the crates do not build')
-        return self.cargo('--test', 'host', '--test', 'verdict', test, '--', '--exact')
+        return self.cargo(*programs, test, '--', '--exact')
 
     def rustdoc(self, words: str) -> bool:
         return self.cargo('--doc', words)
