@@ -66,9 +66,10 @@ there() {
     $test >/dev/null 2>&1
 }
 
-# have COMMAND PACKAGE..: whether the command is there, which these packages have
+# have COMMAND [PACKAGE]: whether the command is there, which the package has, or that of its own name; '': none has it
 have() {
-    there "command -v $1" "${@:2}" || { echo "left out: no $1"; return 1; }
+    # shellcheck disable=SC2086
+    there "command -v $1" ${2-$1} || { echo "left out: no $1"; return 1; }
 }
 
 python_with_pytest() {
@@ -92,7 +93,7 @@ wants() {
 compilers=()
 mkdir -p "$out"
 for compiler in gcc clang; do
-    have $compiler $compiler && compilers+=("$compiler")
+    have $compiler && compilers+=("$compiler")
 done
 [ ${#compilers[@]} -gt 0 ] || { echo "bindings: no C compiler" >&2; exit 1; }
 
@@ -175,7 +176,7 @@ if wants session; then
         step "session: tests build for ThreadSanitizer ($compiler)" build "$compiler" "$out/session_tsan" "$session/test.c" "$session/session.c" -fsanitize=thread -O1
         step "session: ThreadSanitizer is silent ($compiler)" in_time "$out/session_tsan"
     done
-    if have valgrind valgrind; then
+    if have valgrind; then
         valgrinds "session: tests" "$out/session_test"
         valgrinds "session: fuzz" "$out/session_fuzz" 300
     fi
@@ -197,7 +198,7 @@ if wants c; then
         step "c: pthreads with VELODROME_OFF ($compiler)" "$compiler" -std=gnu11 -DVELODROME_OFF "${warnings[@]}" "${includes[@]}" -pthread -o "$out/pthreads_off" "$top/bindings/c/pthreads.c"
         step "c: pthreads with VELODROME_OFF: tests ($compiler)" in_time "$out/pthreads_off"
     done
-    if have valgrind valgrind; then
+    if have valgrind; then
         for program in "test $top/bindings/c/data" memory threads cost pthreads; do
             valgrinds "c: ${program%% *}" $out/$program
         done
@@ -222,7 +223,7 @@ if wants cpp; then
         step "cpp: tests build for ThreadSanitizer ($compiler)" tsan_tests $compiler
         step "cpp: ThreadSanitizer is silent ($compiler)" in_time env -C "$out" TSAN_OPTIONS=die_after_fork=0 "$out/cpp_tsan" -timed_mutexes
     done
-    if [ -x "$out/cpp_test" ] && have valgrind valgrind; then
+    if [ -x "$out/cpp_test" ] && have valgrind; then
         valgrinds "cpp: tests" env -C "$out" "$out/cpp_test" -noise_finds_what_is_rare -more_objects_than_numbers -many_labels -thousands_of_sessions
     fi
 fi
@@ -234,7 +235,7 @@ block() {
     awk -v wanted="$1" '/^    / {if (!inside) n++; inside = 1} /^[^ ]/ {inside = 0} inside && n == wanted {sub("^    ", ""); print}' "$top/docs/EMBEDDING.md"
 }
 
-if wants examples && have cmake cmake; then
+if wants examples && have cmake; then
     rm -rf "$prefix" "$out"/build_*
     step "install: configures" cmake -S "$top/bindings" -B "$out/build_install" -DVELODROME_LIBRARIES="$out"
     step "install" cmake --install "$out/build_install" --prefix "$prefix"
@@ -275,7 +276,7 @@ fi
 
 # ---- Rust
 
-if wants rust && have cargo; then
+if wants rust && have cargo ''; then
     rust=$top/bindings/rust/Cargo.toml
     bank=$top/bindings/examples/rust/Cargo.toml
     export VELODROME_LIB_DIR=$out CARGO_TARGET_DIR=$out/cargo VELODROME_LOGS=$out/logs
