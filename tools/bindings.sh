@@ -54,6 +54,11 @@ warns() {
     "$@" >"$out/said.log" 2>&1 && grep -q -- "$text" "$out/said.log" || { cat "$out/said.log"; return 1; }
 }
 
+# kept LOG: an alarm's log and names are there
+kept() {
+    [ -s "$1" ] && [ -s "$1.names" ]
+}
+
 # there TEST PACKAGE..: whether the test command passes, if need be once Debian's packages are installed
 there() {
     local test=$1
@@ -247,6 +252,7 @@ if wants examples && have cmake; then
         step "examples: $language builds" cmake --build "$build_folder"
         step "examples: $language, careful: a hundred times without an alarm" in_time ctest --test-dir "$build_folder" --output-on-failure --repeat until-fail:100 -R '[Cc]areful'
         step "examples: $language, careless: repeated until it fails" says 'not atomic: deposit_carelessly' in_time "${repeated[@]}" -R '[Cc]areless'
+        step "examples: $language, its log is kept" kept "$build_folder"/*[Cc]areless.vlog
         incomplete=(env VELODROME_EVENTS=2 ctest --test-dir "$build_folder" --verbose -R '[Cc]areful')
         step "examples: $language, incomplete: a warning" warns 'too many events while a block was open' "${incomplete[@]}"
         step "examples: $language, incomplete, with VELODROME_INCOMPLETE=fail" says 'too many events while a block was open' env VELODROME_INCOMPLETE=fail "${incomplete[@]}"
@@ -296,7 +302,7 @@ if wants rust && have cargo ''; then
     incomplete=(env VELODROME_EVENTS=2 cargo test --offline --quiet --manifest-path "$bank" --features watch careful -- --nocapture)
     step "examples: rust, incomplete: a warning" warns 'too many events while a block was open' in_time "${incomplete[@]}"
     step "examples: rust, incomplete, with VELODROME_INCOMPLETE=fail" says 'too many events while a block was open' in_time env VELODROME_INCOMPLETE=fail "${incomplete[@]}"
-    step "examples: rust, its log is kept" test -s "$out/logs/bank.careless.vlog" -a -s "$out/logs/bank.careless.vlog.names"
+    step "examples: rust, its log is kept" kept "$out/logs/bank.careless.vlog"
     unset VELODROME_LIB_DIR CARGO_TARGET_DIR VELODROME_LOGS
 fi
 
@@ -310,7 +316,7 @@ if wants python && have python3; then
     done
     [ -n "$with_pytest" ] || ! there python_with_pytest python3-pytest python3-venv || with_pytest=/usr/bin/python3
     export PYTHONDONTWRITEBYTECODE=1 VELODROME_LOGS=$out/logs
-    rm -f "$out"/velodrome-*.whl
+    rm -rf "$out"/velodrome-*.whl "$out/logs"
     step "python: wheel of manylinux_2_17" python3 "$python/make_wheel.py" "$out/libvelodrome.a" "$out"
     step "python: the same by pip" env VELODROME_LIB_DIR="$out" python3 -m pip wheel --quiet --no-index --no-deps --disable-pip-version-check --wheel-dir "$out/pip" "$python"
     fresh=$(mktemp -d) # outside, as it has links
@@ -324,6 +330,7 @@ if wants python && have python3; then
         step "python: tests of the pytest plugin" "${pytest[@]}" "$python/tests/test_pytest_plugin.py"
         step "examples: python, careful: a hundred times without an alarm" "${pytest[@]}" --velodrome-noise 4 "$bank" -k careful
         step "examples: python, careless: repeated until it fails" says 'not atomic: Account.deposit_carelessly (bank.py:' "${pytest[@]}" --velodrome-noise 4 "$bank" -k careless
+        step "examples: python, its log is kept" kept "$out"/logs/*test_careless.vlog
         incomplete=(in_time env VELODROME_EVENTS=2 "${pytest[@]:1}" "$bank" -k careful)
         step "examples: python, incomplete: a warning" warns 'too many events while a block was open' "${incomplete[@]}"
         step "examples: python, incomplete, with --velodrome-incomplete fail" says 'too many events while a block was open' "${incomplete[@]}" --velodrome-incomplete fail
