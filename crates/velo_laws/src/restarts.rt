@@ -27,6 +27,12 @@ pub fn prologue()
         → NoBlockOpen prologue × IsQuiet prologue × (¬ HasCycle prologue) }
 {}
 
+/// Each log that can come about has a prologue that stands for it.
+pub fn has_prologue()
+    ensures { (bounds : Bounds) (before : List Event) → IsWellFormed bounds before
+        → (prologue : List Event) × IsPrologueOf bounds before prologue }
+{}
+
 /// With a prologue that stands for what was before, a run goes on after a cut as a log of its own.
 pub fn afresh()
     ensures { (bounds : Bounds) (before prologue after : List Event)

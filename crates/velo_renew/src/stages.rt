@@ -2,7 +2,7 @@
 ghost use Rattle.std.specs.Prelude.{◌≡◌, ◌+◌, ◌<◌, [], IfOk, OnOk};
 ghost use Rattle.velo_heap.specs.Contents.{bounds_of, ForItsTraces};
 ghost use Rattle.velo_laws.specs.Restart.{IsPrologueOf};
-ghost use Rattle.velo_renew.specs.Stages.{is_there, is_exited, HasForked, HasWritten, HasAcquired, HasShared, HasExited};
+ghost use Rattle.velo_laws.specs.Stages.{is_there, is_exited, HasForked, HasWritten, HasAcquired, HasShared, HasExited};
 
 use std::alloc::Global;
 use velo_events::{Bounds, Event, Kind, LockId, Memory, Status, ThreadId, VarId};

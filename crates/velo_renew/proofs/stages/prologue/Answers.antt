@@ -1,7 +1,7 @@
 use Rattle.std.proofs.Common.{subst}
 use Rattle.velo_events.specs.declared.config.Bounds.{Bounds}
 use Rattle.velo_events.specs.WellFormed.{IsWellFormed}
-use Rattle.velo_renew.proofs.OnPrologues.{is_prologue}
+use Rattle.velo_laws.proofs.OnPrologues.{is_prologue}
 use Rattle.velo_renew.proofs.stages.prologue.Goals as goal
 
 pub returns : goal.returns

@@ -13,7 +13,7 @@ use Rattle.velo_events.proofs.OnTraces.{value_in-push, happened-push, passes_at-
 use Rattle.velo_events.proofs.OnOwners.{passes_at-within}
 use Rattle.velo_events.proofs.OnWellFormed.{IsWellFormed-nil, IsWellFormed-push, holder_in-push, shares_in-push}
 use Rattle.velo_laws.specs.Restart.{HasNoBegin}
-use Rattle.velo_renew.specs.Stages.{Leaves, nobody, no_holder, no_sharer, no_value, upto}
+use Rattle.velo_laws.specs.Stages.{Leaves, nobody, no_holder, no_sharer, no_value, upto}
 
 -- ---- a function at the numbers below k, and elsewhere z
 

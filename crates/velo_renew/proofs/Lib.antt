@@ -1,2 +1,0 @@
-pub mod OnStages
-pub mod OnPrologues
