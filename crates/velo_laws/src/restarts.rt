@@ -5,7 +5,7 @@ ghost use Rattle.velo_events.specs.declared.event.Event.{Event};
 ghost use Rattle.velo_events.specs.WellFormed.{IsWellFormed};
 ghost use Rattle.velo_events.specs.Graph.{HasCycle};
 ghost use Rattle.velo_laws.specs.Cut.{NoBlockOpen, IsQuiet};
-ghost use Rattle.velo_laws.specs.Restart.{HasNoBegin, IsPrologueOf, StandsFor, IsJudgedTheSame, GoesOnAfresh};
+ghost use Rattle.velo_laws.specs.Restart.{HasNoBegin, IsPrologueOf, StandsFor, IsAboutNoJoined, IsJudgedTheSame, GoesOnAfresh};
 
 /// After two cuts with no cycle before them a run is judged the same, whatever was before.
 pub fn restart()
@@ -19,6 +19,15 @@ pub fn goes_on()
         → IsWellFormed bounds before → IsWellFormed bounds prologue
         → NoBlockOpen before → NoBlockOpen prologue → StandsFor prologue before
         → IsWellFormed bounds (before ++ after) → IsWellFormed bounds (prologue ++ after) }
+{}
+
+/// And back, where nothing in it is about a thread that was joined before.
+pub fn goes_back()
+    ensures { (bounds : Bounds) (before prologue after : List Event)
+        → IsWellFormed bounds before → IsWellFormed bounds prologue
+        → NoBlockOpen before → NoBlockOpen prologue → StandsFor prologue before
+        → IsAboutNoJoined before after
+        → IsWellFormed bounds (prologue ++ after) → IsWellFormed bounds (before ++ after) }
 {}
 
 /// A log in which no block begins has no open block and no cycle.
