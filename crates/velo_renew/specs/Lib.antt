@@ -1,0 +1,2 @@
+pub mod Renewal
+pub mod Opening
