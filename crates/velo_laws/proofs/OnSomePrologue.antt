@@ -1,14 +1,13 @@
 -- Each log that can come about has a prologue: stage by stage, at each number an event or none.
-use Rattle.std.proofs.Common.{◌≡◌, ◌≢◌, ℕ, zero, suc, ◌+◌, ◌<◌, ◌≤◌, Bool, List, [], ◌∷◌, ◌++◌, Option, Some, None, refl, subst, arith, ⊎_elim}
-use Rattle.std.specs.Prelude.{◌⊎◌, IsTrue, IsFalse}
+use Rattle.std.proofs.Common.{◌≡◌, ℕ, zero, suc, ◌+◌, ◌<◌, ◌≤◌, List, [], refl, subst, arith, ⊎_elim}
 use Rattle.std.proofs.lemmas.Bool.{cases_Bool, cases_eq}
 use Rattle.velo_events.specs.declared.config.Bounds.{Bounds}
 use Rattle.velo_events.specs.declared.event.Event.{Event}
-use Rattle.velo_events.specs.declared.event.Kind.TheVariants.{Write, Acquire, AcquireShared, Fork, Exit}
 use Rattle.velo_events.specs.Heap.{value_in, holder_in, shares_in}
 use Rattle.velo_events.specs.WellFormed.{IsWellFormed}
 use Rattle.velo_laws.specs.Restart.{IsPrologueOf}
-use Rattle.velo_laws.specs.Stages.{forks, exits, HasForked, HasWritten, HasAcquired, HasShared, HasExited}
+use Rattle.velo_laws.specs.Length.{forks, exits}
+use Rattle.velo_laws.specs.Stages.{HasForked, HasWritten, HasAcquired, HasShared, HasExited}
 use Rattle.velo_laws.proofs.OnPrologues.{cases_Option, forked-start, forked-none, forked-one, written-start, written-none, written-one, acquired-start, acquired-none, acquired-one, shared-start, shared-next, shared-none, shared-one, exited-start, exited-none, exited-one, is_prologue}
 
 -- some events have come so far

@@ -20,6 +20,7 @@ use Rattle.velo_events.proofs.OnWellFormed.{IsWellFormed-induct}
 use Rattle.velo_traces.specs.declared.judge.Flaw.{Flaw}
 use Rattle.velo_traces.specs.Flaws.{IsFirstFlaw}
 use Rattle.velo_laws.specs.Cut.{NoBlockOpen}
+use Rattle.velo_laws.specs.Length.{events_to_leave}
 use Rattle.velo_laws.specs.Restart.{HasNoBegin, IsPrologueOf}
 use Rattle.velo_laws.proofs.OnFresh.{fresh_law}
 use Rattle.velo_laws.proofs.OnRestart.{prologue_law}
@@ -105,7 +106,7 @@ pub if_err : {T E : Type 0} {P Q : E → Type 0} (r : Result T E) → ((x : E) �
 if_err (Ok x) f h = tt
 if_err (Err e) f h = f e h
 
-module _ (w : WorldState) (made : List Event) (well : IsWellFormed w.config.bounds w.log) (ended : NoBlockOpen w.log) (none : ¬ HasCycle w.log) (stands : IsPrologueOf w.config.bounds w.log made) where
+module _ (w : WorldState) (made : List Event) (well : IsWellFormed w.config.bounds w.log) (ended : NoBlockOpen w.log) (none : ¬ HasCycle w.log) (stands : IsPrologueOf w.config.bounds w.log made) (as_many : length made ≡ events_to_leave w.config.bounds w.log) where
   pub renews : (w' : WorldState) → w' ≡ world_of w.config made → Renews w w'
   renews w' is = subst (Renews w) (sym is) (record {
     config = refl;
@@ -117,7 +118,7 @@ module _ (w : WorldState) (made : List Event) (well : IsWellFormed w.config.boun
   })
 
   pub reason_against : (reason : NotRenewed) → IsReasonToRefuse w.config made reason → IsReasonAgainst w reason
-  reason_against LogFull long = (none, ended, record { prologue = made; is = stands; long = long })
+  reason_against LogFull long = (none, ended, subst (λ n. w.config.events < n) as_many long)
   reason_against Memory refused = refused
   reason_against Alarm never = absurd never
   reason_against (BlockOpen thread) never = absurd never

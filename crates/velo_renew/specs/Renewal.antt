@@ -1,11 +1,12 @@
 -- The world in which a run goes on after a cut, and why there is none.
-use Rattle.std.specs.Prelude.{◌≡◌, ◌≢◌, ℕ, ◌<◌, List, length, false}
+use Rattle.std.specs.Prelude.{◌≡◌, ◌≢◌, ℕ, ◌<◌, List, false}
 use Rattle.velo_events.specs.declared.event.Event.{Event}
 use Rattle.velo_events.specs.declared.event.ThreadId.{ThreadId}
 use Rattle.velo_events.specs.Graph.{HasCycle}
 use Rattle.velo_events.specs.Heap.{depth_in}
 use Rattle.velo_events.specs.Refusals.{GrowthRefused}
 use Rattle.velo_laws.specs.Cut.{NoBlockOpen}
+use Rattle.velo_laws.specs.Length.{events_to_leave}
 use Rattle.velo_laws.specs.Restart.{IsPrologueOf, GoesOnAfresh}
 use Rattle.velo_world.specs.World.{WorldState}
 use Rattle.velo_renew.specs.declared.renewal.NotRenewed.{NotRenewed}
@@ -26,15 +27,10 @@ pub record Renews (w w' : WorldState) : Type 0 where
   pub prologue : IsPrologueOf w.config.bounds w.log w'.log
   pub goes_on : (after : List Event) → GoesOnAfresh w.config.bounds w.log w'.log after
 
--- a prologue that stands for the log is longer than a log may be
-pub record IsTooLong (w : WorldState) : Type 0 where
-  pub prologue : List Event
-  pub is : IsPrologueOf w.config.bounds w.log prologue
-  pub long : w.config.events < length prologue
-
 -- why there is no such world
 abbrev pub IsReasonAgainst : WorldState → NotRenewed → Type 0
 IsReasonAgainst w Alarm = HasCycle w.log
 IsReasonAgainst w (BlockOpen thread) = (¬ HasCycle w.log) × IsFirstOpen w.log thread
-IsReasonAgainst w LogFull = (¬ HasCycle w.log) × NoBlockOpen w.log × IsTooLong w
+IsReasonAgainst w LogFull =
+    (¬ HasCycle w.log) × NoBlockOpen w.log × (w.config.events < events_to_leave w.config.bounds w.log)
 IsReasonAgainst w Memory = GrowthRefused
