@@ -1,8 +1,9 @@
 //! How long prologues are, and what stands in the way of one.
 use crate::{NotRenewed, renew};
 use std::alloc::Global;
-use std::test::Fail;
+use std::process::Abort;
 use velo_events::{Bounds, Config, Event, Kind, Label, LockId, ThreadId, VarId};
+use velo_ledger::Shares;
 use velo_traces::Trace;
 use velo_world::World;
 
@@ -20,27 +21,36 @@ fn by(thread: u8, kind: Kind) -> Event {
 }
 
 /// How long the log is with which a run of these events goes on.
-fn length_after(alloc: Global, events: &[Event]) -> Result<usize, NotRenewed> {
+fn length_after(
+    rt: &impl Abort,
+    alloc: Global,
+    most: u32,
+    events: &[Event],
+) -> Result<usize, NotRenewed> {
+    let config = Config::new(1, BOUNDS, most, 10, false).expect(rt, "a configuration");
     let mut log = Trace::new(alloc);
     for event in events {
-        if log.push(*event).is_err() {
-            return Err(NotRenewed::LogFull);
-        }
+        log.push(*event).expect(rt, "memory");
     }
-    let Ok(config) = Config::new(1, BOUNDS, 100, 10, false) else {
-        return Err(NotRenewed::LogFull);
-    };
-    match World::from_log(alloc, config, log) {
-        Ok((world, _)) => {
-            let (renewed, _) = renew(alloc, &world)?;
-            Ok(renewed.log().len())
+    let (world, shares) = World::from_log(alloc, config, log).expect(rt, "a world");
+    let renewed = renew(alloc, &world);
+    drop((world, shares));
+    length_of(renewed)
+}
+
+fn length_of(renewed: Result<(World, Shares), NotRenewed>) -> Result<usize, NotRenewed> {
+    match renewed {
+        Ok(renewed) => {
+            let length = renewed.0.log().len();
+            drop(renewed);
+            Ok(length)
         }
-        Err(_) => Err(NotRenewed::LogFull),
+        Err(reason) => Err(reason),
     }
 }
 
 #[test]
-fn a_prologue_has_what_is_left(rt: HostRuntime) -> Result<(), Fail> {
+fn a_prologue_has_what_is_left(rt: HostRuntime) {
     let nothing_left = [
         by(0, Kind::Fork(ThreadId(1))),
         by(0, Kind::Begin(Label(7))),
@@ -52,7 +62,7 @@ fn a_prologue_has_what_is_left(rt: HostRuntime) -> Result<(), Fail> {
         by(1, Kind::Exit),
         by(0, Kind::Join(ThreadId(1))),
     ];
-    assert_eq!(rt; length_after(rt.alloc(), &nothing_left), Ok(0));
+    assert_eq!(rt; length_after(&rt, rt.alloc(), 100, &nothing_left), Ok(0));
     // two forks, a write, an acquisition, two shares, an exit
     let all_left = [
         by(0, Kind::Fork(ThreadId(1))),
@@ -63,19 +73,18 @@ fn a_prologue_has_what_is_left(rt: HostRuntime) -> Result<(), Fail> {
         by(2, Kind::AcquireShared(LockId(0))),
         by(0, Kind::AcquireShared(LockId(0))),
     ];
-    assert_eq!(rt; length_after(rt.alloc(), &all_left), Ok(7));
-    Ok(())
+    assert_eq!(rt; length_after(&rt, rt.alloc(), 100, &all_left), Ok(7));
 }
 
 #[test]
-fn an_open_block_and_an_alarm_are_in_the_way(rt: HostRuntime) -> Result<(), Fail> {
+fn an_open_block_and_an_alarm_are_in_the_way(rt: HostRuntime) {
     let open = [
         by(0, Kind::Fork(ThreadId(1))),
         by(1, Kind::Begin(Label(7))),
         by(0, Kind::Write(VarId(0), 5)),
     ];
     let reason = Err(NotRenewed::BlockOpen(ThreadId(1)));
-    assert_eq!(rt; length_after(rt.alloc(), &open), reason);
+    assert_eq!(rt; length_after(&rt, rt.alloc(), 100, &open), reason);
     let lost_update = [
         by(0, Kind::Fork(ThreadId(1))),
         by(0, Kind::Begin(Label(7))),
@@ -85,8 +94,16 @@ fn an_open_block_and_an_alarm_are_in_the_way(rt: HostRuntime) -> Result<(), Fail
         by(0, Kind::End),
     ];
     assert_eq!(rt;
-        length_after(rt.alloc(), &lost_update),
+        length_after(&rt, rt.alloc(), 100, &lost_update),
         Err(NotRenewed::Alarm)
     );
-    Ok(())
+}
+
+#[test]
+fn what_is_left_has_to_fit(rt: HostRuntime) {
+    let two_left = [
+        by(0, Kind::Write(VarId(0), 5)),
+        by(0, Kind::Write(VarId(1), 6)),
+    ];
+    assert_eq!(rt; length_after(&rt, rt.alloc(), 2, &two_left), Ok(2));
 }
