@@ -13,7 +13,7 @@ use Rattle.velo_events.specs.Heap.{times, depth_in}
 use Rattle.velo_events.specs.WellFormed.{MayFollow, IsWellFormed}
 use Rattle.velo_events.specs.Graph.{HasCycle}
 use Rattle.velo_events.specs.Block.{passes_at, is_open_at, is_open, IsUnfinished}
-use Rattle.velo_events.specs.Collection.{HasManyLive}
+use Rattle.velo_monitor.specs.Collection.{HasManyLive}
 use Rattle.velo_events.proofs.OnTraces.{times-nil, times-no, passes_at-append}
 use Rattle.velo_events.proofs.OnOwners.{passes_at-within}
 use Rattle.velo_events.proofs.OnWellFormed.{IsWellFormed-induct}
