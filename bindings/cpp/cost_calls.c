@@ -9,7 +9,7 @@ static velodrome *monitor;
 
 void calls_open(int threads) {
     velodrome_answer a;
-    velodrome_limits limits = {8, 8, 8, 1 << 20, 64};
+    velodrome_limits limits = {64, 64, 64, 1 << 20, 4096}; /* as a session's */
     velodrome_open(&monitor, &limits);
     for (int i = 1; i < threads; i++) velodrome_fork(monitor, 0, (uint32_t)i, &a);
 }
