@@ -57,22 +57,20 @@ module _ (log trace : List Event) (e : Event) (course : Course) (stands : IsCour
   sure_is_not : IsFalse course.is_unsure → IsUnsure log trace (thread_of e) → ⊥
   sure_is_not sure unsure = ⊎_elim (λ turned. not_turned log trace (thread_of e) (own (thread_of e) (drop course.place log)) (stands.along sure) turned) (λ behind. stands.not_behind sure behind) unsure
 
+  -- a thread of whose events none is left has done what it did in the log
+  pub nothing_next : (at : ℕ) → IsFalse course.is_unsure → own (thread_of e) (drop course.place log) ≡ own (thread_of e) (drop at log) → length log ≤ at → own (thread_of e) log ≡ own (thread_of e) trace ++ []
+  nothing_next at sure passed over = stands.along sure ∙ ap (λ es. own (thread_of e) trace ++ es) (passed ∙ ap (own (thread_of e)) (drop_all log at over))
+    where
+      drop_all : (xs : List Event) (n : ℕ) → length xs ≤ n → drop n xs ≡ []
+      drop_all [] zero l = refl
+      drop_all [] (suc n) l = refl
+      drop_all (x ∷ xs) zero l = absurd (omega (arith, l))
+      drop_all (x ∷ xs) (suc n) l = drop_all xs n (omega (arith, l))
+
   -- nothing is foretold where the log has no more
   pub none_foretold : (at : ℕ) → IsFalse course.is_unsure → own (thread_of e) (drop course.place log) ≡ own (thread_of e) (drop at log) → length log ≤ at → ¬ IsForetold log trace e
-  none_foretold at sure passed over foretold = by_case foretold
-    where
-      nothing : own (thread_of e) log ≡ own (thread_of e) trace ++ []
-      nothing = stands.along sure ∙ ap (λ es. own (thread_of e) trace ++ es) (passed ∙ ap (own (thread_of e)) (drop_all log at over))
-        where
-          drop_all : (xs : List Event) (n : ℕ) → length xs ≤ n → drop n xs ≡ []
-          drop_all [] zero l = refl
-          drop_all [] (suc n) l = refl
-          drop_all (x ∷ xs) zero l = absurd (omega (arith, l))
-          drop_all (x ∷ xs) (suc n) l = drop_all xs n (omega (arith, l))
-
-      by_case : IsForetold log trace e → ⊥
-      by_case (Known next n same) = no_next (own (thread_of e) trace) next n.rest (sym nothing ∙ n.along)
-      by_case (Unknown unsure release) = sure_is_not sure unsure
+  none_foretold at sure passed over (Known next n same) = no_next (own (thread_of e) trace) next n.rest (sym (nothing_next at sure passed over) ∙ n.along)
+  none_foretold at sure passed over (Unknown unsure release) = sure_is_not sure unsure
 
   -- another action than the next is not foretold
   pub other_foretold : (next : Event) → IsFalse course.is_unsure → IsNextOf log trace (thread_of e) next → (action_of e.kind ≡ action_of next.kind → ⊥) → ¬ IsForetold log trace e

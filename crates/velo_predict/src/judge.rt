@@ -162,6 +162,29 @@ impl Judged {
     }
 }
 
+/// How the threads stand after the trace, if the log foretells it.
+///
+/// # Errors
+/// `Memory` where a growth was refused.
+fn judge_trace(
+    alloc: Global,
+    config: &Config,
+    log: &Trace,
+    trace: &Trace,
+) -> Result<Option<Judged>, Memory>
+    ensures foretold { IfOk result (λ judged. IfSome judged (λ judged. IsJudged config.now.bounds log.now.events trace.now.events judged)) }
+    ensures not_foretold { IfOk result (λ judged. IfNone judged (¬ IsPrediction config.now.bounds log.now.events trace.now.events)) }
+{
+    let mut judged = Judged::new(alloc, config)?;
+    let events = trace.as_slice();
+    for position in 0..events.len() {
+        if !judged.take_in(log.as_slice(), events, position) {
+            return Ok(None);
+        }
+    }
+    Ok(Some(judged))
+}
+
 /// Whether the log foretells the trace, within the bounds of the configuration: each thread does what it did in the log while
 /// it reads what it read there, and behind a read of another value it only gives up locks.
 ///
@@ -177,12 +200,8 @@ pub fn is_prediction(
 ) -> Result<bool, Memory>
     ensures { IfOk result (λ foretold. IsTrue foretold ↔ IsPrediction config.now.bounds log.now.events trace.now.events) }
 {
-    let mut judged = Judged::new(alloc, config)?;
-    let events = trace.as_slice();
-    for position in 0..events.len() {
-        if !judged.take_in(log.as_slice(), events, position) {
-            return Ok(false);
-        }
+    match judge_trace(alloc, config, log, trace)? {
+        Some(_judged) => Ok(true),
+        None => Ok(false),
     }
-    Ok(true)
 }
