@@ -4,8 +4,9 @@
 #     tools/bindings.sh [--built] [session|c|cpp|examples|rust|python ..]
 #
 # With --built it takes the library of crates/velo_ffi as it was built last; with words, only these parts are run. All that is made
-# lies in bindings/out, and what an install would have in bindings/out/prefix. The last line is `N passed, N failed`, and the status
-# is 1 where one failed, or nothing ran.
+# lies in bindings/out, and what an install would have in bindings/out/prefix. What the tests need of Debian's packages is installed
+# where it runs as root there; else they are left out, with a word. The last line is `N passed, N failed`, and the status is 1 where
+# one failed, or nothing ran.
 set -uo pipefail
 top=$(cd "$(dirname "$0")/.." && pwd)
 out=$top/bindings/out
@@ -46,8 +47,38 @@ says() {
     ! "$@" >"$out/said.log" 2>&1 && grep -q -- "$text" "$out/said.log" || { cat "$out/said.log"; return 1; }
 }
 
+# warns TEXT COMMAND..: passes where the command passes and its output has the text
+warns() {
+    local text=$1
+    shift
+    "$@" >"$out/said.log" 2>&1 && grep -q -- "$text" "$out/said.log" || { cat "$out/said.log"; return 1; }
+}
+
+# kept LOG: an alarm's log and names are there
+kept() {
+    [ -s "$1" ] && [ -s "$1.names" ]
+}
+
+# there TEST PACKAGE..: whether the test command passes, if need be once Debian's packages are installed
+there() {
+    local test=$1
+    shift
+    $test >/dev/null 2>&1 && return
+    [ $# -gt 0 ] && [ "$(id -u)" -eq 0 ] && command -v apt-get >/dev/null || return 1
+    echo "installs: $*"
+    apt-get -qq update >/dev/null 2>&1
+    DEBIAN_FRONTEND=noninteractive apt-get -qq --no-install-recommends install "$@" >/dev/null 2>&1
+    $test >/dev/null 2>&1
+}
+
+# have COMMAND [PACKAGE]: whether the command is there, which the package has, or that of its own name; '': none has it
 have() {
-    command -v "$1" >/dev/null || { echo "left out: no $1"; return 1; }
+    # shellcheck disable=SC2086
+    there "command -v $1" ${2-$1} || { echo "left out: no $1"; return 1; }
+}
+
+python_with_pytest() {
+    /usr/bin/python3 -c 'import pytest, ensurepip'
 }
 
 in_time() {
@@ -65,6 +96,7 @@ wants() {
 }
 
 compilers=()
+mkdir -p "$out"
 for compiler in gcc clang; do
     have $compiler && compilers+=("$compiler")
 done
@@ -76,7 +108,6 @@ done
 $built || (cd "$top/crates/velo_ffi" && rt lib) || exit 1
 made=${VELODROME_CALLS:-$top/crates/velo_ffi/out/libvelo_ffi.a} # another one: to try the bindings before its proof
 [ -f "$made" ] || { echo "bindings: $made is not there: run this without --built" >&2; exit 1; }
-mkdir -p "$out"
 for source in c/velodrome.c session/session.c; do
     "${compilers[0]}" -std=gnu11 -O2 -fPIC -Wshadow "${warnings[@]}" "${includes[@]}" -c "$top/bindings/$source" -o "$out/$(basename "$source" .c).o" || exit 1
 done
@@ -183,7 +214,7 @@ fi
 
 if wants cpp; then
     for compiler in g++ clang++; do
-        have $compiler || continue
+        have $compiler "${compiler/clang++/clang}" || continue
         flags=(-O2 -gdwarf-4 -Wpedantic "${warnings[@]}" "${includes[@]}" -pthread)
         for standard in 17 20; do
             step "cpp: tests build (C++$standard, $compiler)" $compiler -std=c++$standard "${flags[@]}" -o "$out/cpp_test" "$top/bindings/cpp/test.cpp" "$out/libvelodrome.a"
@@ -204,26 +235,45 @@ fi
 
 # ---- small projects with tests of their own, over what an install has
 
+# block N: the Nth block of code of EMBEDDING.md
+block() {
+    awk -v wanted="$1" '/^    / {if (!inside) n++; inside = 1} /^[^ ]/ {inside = 0} inside && n == wanted {sub("^    ", ""); print}' "$top/docs/EMBEDDING.md"
+}
+
 if wants examples && have cmake; then
     rm -rf "$prefix" "$out"/build_*
     step "install: configures" cmake -S "$top/bindings" -B "$out/build_install" -DVELODROME_LIBRARIES="$out"
     step "install" cmake --install "$out/build_install" --prefix "$prefix"
     for language in c cpp; do
-        [ $language = c ] || [ -e /usr/include/gtest/gtest.h ] || { echo "left out: no GoogleTest"; continue; }
+        [ $language = c ] || there "test -e /usr/include/gtest/gtest.h" libgtest-dev || { echo "left out: no GoogleTest"; continue; }
         build_folder=$out/build_$language
         repeated=(ctest --test-dir "$build_folder" --output-on-failure --repeat until-fail:1000)
         step "examples: $language configures" cmake -S "$top/bindings/examples/$language" -B "$build_folder" -DCMAKE_PREFIX_PATH="$prefix" -DCMAKE_BUILD_TYPE=Release
         step "examples: $language builds" cmake --build "$build_folder"
         step "examples: $language, careful: a hundred times without an alarm" in_time ctest --test-dir "$build_folder" --output-on-failure --repeat until-fail:100 -R '[Cc]areful'
         step "examples: $language, careless: repeated until it fails" says 'not atomic: deposit_carelessly' in_time "${repeated[@]}" -R '[Cc]areless'
+        step "examples: $language, its log is kept" kept "$build_folder"/*[Cc]areless.vlog
+        incomplete=(env VELODROME_EVENTS=2 ctest --test-dir "$build_folder" --verbose -R '[Cc]areful')
+        step "examples: $language, incomplete: a warning" warns 'too many events while a block was open' "${incomplete[@]}"
+        step "examples: $language, incomplete, with VELODROME_INCOMPLETE=fail" says 'too many events while a block was open' env VELODROME_INCOMPLETE=fail "${incomplete[@]}"
     done
+    if [ -x "$out/build_cpp/bank_test" ]; then
+        rm -rf "$out/embedding"
+        mkdir "$out/embedding"
+        block 2 >"$out/embedding/CMakeLists.txt"
+        block 3 >"$out/embedding/bank_test.cpp"
+        step "EMBEDDING: its project configures" cmake -S "$out/embedding" -B "$out/embedding/build" -DCMAKE_PREFIX_PATH="$prefix"
+        step "EMBEDDING: its project builds" cmake --build "$out/embedding/build"
+        step "EMBEDDING: its project, repeated until it fails" says 'not atomic: deposit (bank_test.cpp:6)' in_time env VELODROME_NOISE=4 \
+            ctest --test-dir "$out/embedding/build" --repeat until-fail:1000 --output-on-failure
+    fi
     if [ -x "$out/build_cpp/lost_update" ]; then
         step "examples: cpp, the first program" status 3 "$out/build_cpp/lost_update"
         step "examples: cpp with WATCH=OFF configures" cmake -S "$top/bindings/examples/cpp" -B "$out/build_off" -DCMAKE_PREFIX_PATH="$prefix" -DWATCH=OFF
         step "examples: cpp with WATCH=OFF builds" cmake --build "$out/build_off"
         step "examples: cpp with WATCH=OFF" ctest --test-dir "$out/build_off" --output-on-failure
     fi
-    if have pkg-config; then
+    if have pkg-config pkgconf; then
         flags=$(PKG_CONFIG_PATH=$prefix/lib/pkgconfig pkg-config --cflags --libs velodrome)
         step "install: pkg-config" sh -c "g++ -std=c++17 -o '$out/by_pkg_config' '$top/bindings/examples/cpp/lost_update.cpp' $flags -Wl,-rpath,'$prefix/lib'"
         step "install: linked with libvelodrome.so.0" status 3 "$out/by_pkg_config"
@@ -232,7 +282,7 @@ fi
 
 # ---- Rust
 
-if wants rust && have cargo; then
+if wants rust && have cargo ''; then
     rust=$top/bindings/rust/Cargo.toml
     bank=$top/bindings/examples/rust/Cargo.toml
     export VELODROME_LIB_DIR=$out CARGO_TARGET_DIR=$out/cargo VELODROME_LOGS=$out/logs
@@ -249,7 +299,10 @@ if wants rust && have cargo; then
     step "examples: rust without velodrome" cargo test --offline --quiet --manifest-path "$bank"
     step "examples: rust, careful: a hundred times without an alarm" in_time env VELODROME_NOISE=4 cargo test --offline --quiet --manifest-path "$bank" --features watch careful
     step "examples: rust, careless: repeated until it fails" says 'not atomic: bank::deposit_carelessly (lib.rs:' in_time env VELODROME_NOISE=4 cargo test --offline --quiet --manifest-path "$bank" --features watch careless
-    step "examples: rust, its log is kept" test -s "$out/logs/bank.careless.vlog" -a -s "$out/logs/bank.careless.vlog.names"
+    incomplete=(env VELODROME_EVENTS=2 cargo test --offline --quiet --manifest-path "$bank" --features watch careful -- --nocapture)
+    step "examples: rust, incomplete: a warning" warns 'too many events while a block was open' in_time "${incomplete[@]}"
+    step "examples: rust, incomplete, with VELODROME_INCOMPLETE=fail" says 'too many events while a block was open' in_time env VELODROME_INCOMPLETE=fail "${incomplete[@]}"
+    step "examples: rust, its log is kept" kept "$out/logs/bank.careless.vlog"
     unset VELODROME_LIB_DIR CARGO_TARGET_DIR VELODROME_LOGS
 fi
 
@@ -259,10 +312,11 @@ if wants python && have python3; then
     python=$top/bindings/python
     with_pytest= # python3-pytest is Debian's package, for its own python3
     for candidate in python3 /usr/bin/python3; do
-        [ -z "$with_pytest" ] && command -v $candidate >/dev/null && $candidate -c 'import pytest' 2>/dev/null && with_pytest=$candidate
+        [ -n "$with_pytest" ] || ! $candidate -c 'import pytest, ensurepip' 2>/dev/null || with_pytest=$candidate
     done
+    [ -n "$with_pytest" ] || ! there python_with_pytest python3-pytest python3-venv || with_pytest=/usr/bin/python3
     export PYTHONDONTWRITEBYTECODE=1 VELODROME_LOGS=$out/logs
-    rm -f "$out"/velodrome-*.whl
+    rm -rf "$out"/velodrome-*.whl "$out/logs"
     step "python: wheel of manylinux_2_17" python3 "$python/make_wheel.py" "$out/libvelodrome.a" "$out"
     step "python: the same by pip" env VELODROME_LIB_DIR="$out" python3 -m pip wheel --quiet --no-index --no-deps --disable-pip-version-check --wheel-dir "$out/pip" "$python"
     fresh=$(mktemp -d) # outside, as it has links
@@ -276,6 +330,10 @@ if wants python && have python3; then
         step "python: tests of the pytest plugin" "${pytest[@]}" "$python/tests/test_pytest_plugin.py"
         step "examples: python, careful: a hundred times without an alarm" "${pytest[@]}" --velodrome-noise 4 "$bank" -k careful
         step "examples: python, careless: repeated until it fails" says 'not atomic: Account.deposit_carelessly (bank.py:' "${pytest[@]}" --velodrome-noise 4 "$bank" -k careless
+        step "examples: python, its log is kept" kept "$out"/logs/*test_careless.vlog
+        incomplete=(in_time env VELODROME_EVENTS=2 "${pytest[@]:1}" "$bank" -k careful)
+        step "examples: python, incomplete: a warning" warns 'too many events while a block was open' "${incomplete[@]}"
+        step "examples: python, incomplete, with --velodrome-incomplete fail" says 'too many events while a block was open' "${incomplete[@]}" --velodrome-incomplete fail
     else
         echo "left out: no pytest"
     fi

@@ -79,8 +79,20 @@ static void bad_numbers(void) {
     expect_bad((velodrome_limits){.nodes = 65537});
     velodrome *m = opened((velodrome_limits){.threads = 3, .variables = 2, .locks = 2});
     velodrome_answer a = {77, 78, true};
-    expect("thread 256", velodrome_write(m, 256, 0, 1, &a), VELODROME_BAD_NUMBER);
-    expect("thread -1", velodrome_end(m, (uint32_t)-1, &a), VELODROME_BAD_NUMBER);
+    const uint32_t cut[] = {256, (uint32_t)-1}; /* 0 and 255, cut to a byte */
+    for (int i = 0; i < 2; i++) {
+        expect("read", velodrome_read(m, cut[i], 0, &a), VELODROME_BAD_NUMBER);
+        expect("write", velodrome_write(m, cut[i], 0, 1, &a), VELODROME_BAD_NUMBER);
+        expect("acquire", velodrome_acquire(m, cut[i], 0, &a), VELODROME_BAD_NUMBER);
+        expect("release", velodrome_release(m, cut[i], 0, &a), VELODROME_BAD_NUMBER);
+        expect("acquire shared", velodrome_acquire_shared(m, cut[i], 0, &a), VELODROME_BAD_NUMBER);
+        expect("release shared", velodrome_release_shared(m, cut[i], 0, &a), VELODROME_BAD_NUMBER);
+        expect("begin", velodrome_begin(m, cut[i], 0, &a), VELODROME_BAD_NUMBER);
+        expect("end", velodrome_end(m, cut[i], &a), VELODROME_BAD_NUMBER);
+        expect("fork", velodrome_fork(m, cut[i], 1, &a), VELODROME_BAD_NUMBER);
+        expect("join", velodrome_join(m, cut[i], 1, &a), VELODROME_BAD_NUMBER);
+        expect("exit", velodrome_exit(m, cut[i], &a), VELODROME_BAD_NUMBER);
+    }
     expect("variable 65536", velodrome_read(m, 0, 65536, &a), VELODROME_BAD_NUMBER);
     expect("variable 65536", velodrome_write(m, 0, 65536, 1, &a), VELODROME_BAD_NUMBER);
     expect("lock 65536", velodrome_acquire(m, 0, 65536, &a), VELODROME_BAD_NUMBER);

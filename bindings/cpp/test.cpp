@@ -127,8 +127,10 @@ TEST(threads_of_two_sessions_have_their_own_numbers) {
 }
 TEST(a_thread_that_opens_a_session_stays_who_it_is) {
     session s;
+    velodrome::mutex m;
     var<int> x;
     velodrome::thread([&] {
+        std::lock_guard hold(m);
         x = 1;
         {
             session mine;
@@ -771,6 +773,33 @@ TEST(atomics) {
     p = two;
     EXPECT(++p == two + 1);
     EXPECT(clean(s));
+}
+#ifdef __cpp_lib_atomic_wait
+TEST(atomics_that_are_waited_for) { // the wait is a read: between it and the write of the same block another thread writes
+    session s;
+    velodrome::atomic<int> x(0);
+    velodrome::thread t([&] {
+        x = 1;
+        x.notify_all();
+    });
+    {
+        VELODROME_ATOMIC("waits");
+        x.wait(0);
+        apart([&] { x = 2; });
+        x = 3;
+    }
+    t.join();
+    EXPECT(x == 3 && s.close().what == verdict::alarm);
+    x.notify_one();
+}
+#endif
+TEST(native_handles) {
+    velodrome::mutex m;
+    velodrome::recursive_mutex r;
+    velodrome::timed_mutex t;
+    velodrome::shared_mutex u;
+    velodrome::condition_variable c;
+    EXPECT(m.native_handle() && r.native_handle() && t.native_handle() && u.native_handle() && c.native_handle());
 }
 TEST(a_compare_exchange_that_fails_reads) {
     for (int value : {0, 1}) {

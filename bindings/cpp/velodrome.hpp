@@ -131,6 +131,7 @@ public:
         tell(object_, VS_RELEASE);
         inner_.unlock();
     }
+    template <class U = M> typename U::native_handle_type native_handle() { return inner_.native_handle(); }
 
 protected:
     bool taken(bool got, vs_kind kind = VS_ACQUIRE) noexcept {
@@ -171,7 +172,6 @@ public:
     constexpr mutex(place at = place::here()) noexcept : lockable(at) {}
     constexpr mutex(named n) noexcept : lockable(n) {}
     using native_handle_type = std::mutex::native_handle_type;
-    native_handle_type native_handle() { return inner_.native_handle(); }
 
 private:
     friend class condition_variable;
@@ -182,6 +182,7 @@ class recursive_mutex : public detail::lockable<std::recursive_mutex> {
 public:
     constexpr recursive_mutex(place at = place::here()) noexcept : lockable(at) {}
     constexpr recursive_mutex(named n) noexcept : lockable(n) {}
+    using native_handle_type = std::recursive_mutex::native_handle_type;
 };
 
 class timed_mutex : public detail::timed<std::timed_mutex> {
@@ -200,6 +201,7 @@ class shared_mutex : public detail::shared<detail::lockable<std::shared_mutex>> 
 public:
     constexpr shared_mutex(place at = place::here()) noexcept : shared(at) {}
     constexpr shared_mutex(named n) noexcept : shared(n) {}
+    using native_handle_type = std::shared_mutex::native_handle_type;
 };
 
 class shared_timed_mutex : public detail::shared<detail::timed<std::shared_timed_mutex>> {
@@ -215,6 +217,8 @@ public:
 class condition_variable {
 public:
     condition_variable() = default;
+    using native_handle_type = std::condition_variable::native_handle_type;
+    native_handle_type native_handle() { return inner_.native_handle(); }
     condition_variable(const condition_variable &) = delete;
     condition_variable &operator=(const condition_variable &) = delete;
     void notify_one() noexcept { inner_.notify_one(); }
@@ -369,6 +373,14 @@ public:
         store(value);
         return value;
     }
+#ifdef __cpp_lib_atomic_wait
+    void wait(T old, std::memory_order order = strongest, place at = place::here()) const noexcept { // a read, once it is another value
+        value_.wait(old, order);
+        (void)load(order, at);
+    }
+    void notify_one() noexcept { value_.notify_one(); }
+    void notify_all() noexcept { value_.notify_all(); }
+#endif
 
 #define VELODROME_UPDATE_(name) \
     template <class D, class A = std::atomic<T>> auto name(D d, std::memory_order order = strongest, place at = place::here()) noexcept->decltype(std::declval<A &>().name(d, order)) { \

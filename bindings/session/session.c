@@ -3,14 +3,12 @@
 #include "velodrome_session.h"
 #include "velodrome.h"
 #include <errno.h>
-#include <linux/futex.h>
 #include <pthread.h>
 #include <stdarg.h>
 #include <stdatomic.h>
 #include <stdio.h>
 #include <stdlib.h>
 #include <string.h>
-#include <sys/syscall.h>
 #include <time.h>
 #include <unistd.h>
 #define SLOTS 256            /* sessions at a time */
@@ -20,6 +18,9 @@
 #define NAME_BYTES 150       /* with a kind, a line and an ordinal it fits a names file */
 #define NUMBER_BITS 20       /* of a tag; the rest is the epoch */
 #define NOT_TOLD UINT32_MAX
+#define SPINS 20             /* looks at a lock that another thread has, before sleeping */
+#define FIRST_SLEEP 50000    /* nanoseconds; each is twice as long as the one before, up to the longest */
+#define LONGEST_SLEEP 400000
 #define HOT static inline __attribute__((always_inline)) /* what every event passes */
 #define COLD static __attribute__((noinline))
 
@@ -71,11 +72,11 @@ typedef struct finding {
 } finding;
 
 typedef struct slot {
-    _Atomic uint32_t order;    /* its lock. 0: free, 1: held, 2: held and waited for */
+    _Atomic bool taken;        /* its lock */
     uint32_t held;             /* how often, by its keeper */
     _Atomic uint64_t id;       /* while it is open; else 0 */
     _Atomic uint64_t last;     /* the epoch: of the numbers in tags since the last cut, from id on */
-    _Atomic uintptr_t keeper;  /* the thread that holds `order` */
+    _Atomic uintptr_t keeper;  /* the thread that has it */
     _Atomic bool recording;
     _Atomic bool slow;         /* noise is wanted, or it is crowded: events may have to wait */
     _Atomic bool crowded;      /* it can only be cut once the open blocks have ended */
@@ -170,36 +171,45 @@ static void end_recording(slot *s) {
 
 HOT bool is_keeper(slot *s) { return atomic_load_explicit(&s->keeper, memory_order_relaxed) == (uintptr_t)&mine; }
 
-/* A lock of its own, as every event pays for it: half as dear as pthread's where nobody waits. */
+/* A lock of its own, as every event pays for it. Who waits for it is not woken, but looks again from time to time: so a release is
+ * one store, and the thread that has the lock goes on at full speed where others want it too. */
 HOT bool try_lock(slot *s) {
-    uint32_t nobody = 0;
-    return atomic_compare_exchange_strong_explicit(&s->order, &nobody, 1, memory_order_acquire, memory_order_relaxed);
+    bool taken = false;
+    return atomic_compare_exchange_strong_explicit(&s->taken, &taken, true, memory_order_acquire, memory_order_relaxed);
 }
 
-/* False where it was not to be had in time; NULL: it waits for it. */
-COLD bool lock_slowly(slot *s, const struct timespec *most) {
-    for (int i = 0; i < 100; i++) {
-        if (!atomic_load_explicit(&s->order, memory_order_relaxed) && try_lock(s)) return true;
+HOT void unlock(slot *s) { atomic_store_explicit(&s->taken, false, memory_order_release); }
+
+/* For about as long as an event takes. */
+static bool lock_soon(slot *s) {
+    for (int i = 0; i < SPINS; i++) {
+        if (!atomic_load_explicit(&s->taken, memory_order_relaxed) && try_lock(s)) return true;
 #ifdef __x86_64__
         __builtin_ia32_pause();
 #endif
     }
-    while (atomic_exchange_explicit(&s->order, 2, memory_order_acquire)) {
-        if (syscall(SYS_futex, &s->order, FUTEX_WAIT_PRIVATE, 2, most, NULL, 0) && errno == ETIMEDOUT) return false;
-    }
-    return true;
+    return false;
 }
 
-HOT void unlock(slot *s) {
-    if (atomic_exchange_explicit(&s->order, 0, memory_order_release) == 2) syscall(SYS_futex, &s->order, FUTEX_WAKE_PRIVATE, 1, NULL, NULL, 0);
+/* False where it was not to be had in so many nanoseconds; 0: it waits for it. */
+COLD bool lock_slowly(slot *s, uint64_t most) {
+    struct timespec sleep = {0, FIRST_SLEEP};
+    uint64_t slept = 0;
+    int errno_before = errno;
+    bool had;
+    while (!(had = lock_soon(s)) && (!most || slept < most)) {
+        if (nanosleep(&sleep, NULL) == 0) slept += (uint64_t)sleep.tv_nsec;
+        if (sleep.tv_nsec < LONGEST_SLEEP) sleep.tv_nsec *= 2;
+    }
+    errno = errno_before;
+    return had;
 }
 
 /* Takes the slot's lock, again where this thread has it: the program's code may come back here in an access. Two threads may each
  * take the lock of a second session in an access of a first, crosswise; so nobody waits there for longer than a second. */
 HOT bool keep(slot *s) {
-    static const struct timespec second = {1, 0};
     if (!is_keeper(s)) {
-        if (!try_lock(s) && !lock_slowly(s, mine.slots ? &second : NULL)) return false;
+        if (!try_lock(s) && !lock_slowly(s, mine.slots ? 1000000000 : 0)) return false;
         mine.slots++;
         atomic_store_explicit(&s->keeper, (uintptr_t)&mine, memory_order_relaxed);
     }

@@ -169,7 +169,12 @@ class Verdicts(Case):
             x.set(1)
             self.watch('clean', lambda: Var(0).get())
             x.set(2)
-        self.watch('clean', outer)
+            y = Var(0)  # which the session has not met
+            with atomic('outer'):
+                before = y.get()
+                elsewhere(lambda: y.set(1))
+                y.set(before)
+        self.watch('alarm', outer)
 
 
 class Tasks(Case):
@@ -372,6 +377,25 @@ class Host(Case):
                 collections.deque((f.result() for f in [pool.submit(increment) for _ in range(200)]), 0)
         self.watch('clean', body)
         self.assertEqual((x.get(), lock.locked()), (200, False))
+
+    def test_a_thread_met_in_a_block_is_no_child_of_it(self):
+        x, y, start, done = Var(0), Var(0), threading.Event(), threading.Event()
+
+        def work():
+            start.wait()
+            y.set(1)
+            done.set()
+
+        def body():
+            with atomic('block'):
+                x.set(1)
+                start.set()
+                done.wait()
+                y.get()
+        thread = threading.Thread(target=work)  # older than the session, as one of a pool is
+        thread.start()
+        self.watch('clean', body)
+        thread.join()
 
     def test_a_session_that_ends_in_a_block(self):
         lock, x, go = Lock(), Var(0), threading.Event()

@@ -8,7 +8,7 @@ use Rattle.std.proofs.lemmas.List.{length-map, map_push}
 use Rattle.std.proofs.lemmas.Bool.{cases_Bool, false≢true}
 use Rattle.std.proofs.lemmas.List.Elements.{All-head, All-push, All-tail}
 use Rattle.std.proofs.lemmas.List.Folds.{find-append}
-use Rattle.std.proofs.lemmas.List.Sorted.{All-permutation, list_any-IsPermutation}
+use Rattle.std.proofs.lemmas.List.Sorted.{All-permutation, list_any-IsPermutation, sum_by-IsPermutation}
 use Rattle.std.proofs.lemmas.Option.{none-some, same_Some}
 use Rattle.velo_events.specs.declared.config.Config.{Config}
 use Rattle.velo_events.specs.declared.event.Event.{Event}
@@ -106,6 +106,9 @@ AreCounts-permutation : (count : ℕ → ℕ) (before after : List Blamed) → I
 AreCounts-permutation count before after moved counts = record {
   each = All-permutation (λ b. b.alarms ≡ count b.label.0) before after moved counts.each;
   some = All-permutation (λ b. 1 ≤ b.alarms) before after moved counts.some;
+  once = λ label.
+      subst (λ n. n ≤ 1) (sym (sum_by-IsPermutation (λ b. cond (b.label.0 == label) 1 0) before after moved))
+      (counts.once label);
   others = λ label none. counts.others label (list_any-IsPermutation (λ b. b.label.0 == label) before after moved ∙ none);
 }
 

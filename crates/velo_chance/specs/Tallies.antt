@@ -35,10 +35,11 @@ is_listed label blamed = list_any (λ b. b.label.0 == label) blamed
 abbrev pub rank : Blamed → ℕ
 rank b = (2 ^ 64 - 1 - b.alarms) * 2 ^ 32 + b.label.0
 
--- each label that is listed has so many alarms, one at least, and the others have none
+-- each label that is listed is listed once and has so many alarms, one at least; the others have none
 pub record AreCounts (count : ℕ → ℕ) (blamed : List Blamed) : Type 0 where
   pub each : All (λ b. b.alarms ≡ count b.label.0) blamed
   pub some : All (λ b. 1 ≤ b.alarms) blamed
+  pub once : (label : ℕ) → count_by (λ b. b.label.0 == label) blamed ≤ 1
   pub others : (label : ℕ) → IsFalse (is_listed label blamed) → count label ≡ 0
 
 -- what the runs come to: the first that show something, and how many have an alarm, and blame a label

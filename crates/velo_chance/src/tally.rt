@@ -14,7 +14,7 @@ pub struct Tally {
     pub refused: Option<RefusedRun>,
     /// How many runs have an alarm.
     pub alarms: u64,
-    /// The labels that alarms of these runs blame, those of most alarms first.
+    /// The labels that alarms of these runs blame, each once, those of most alarms first.
     pub blamed: Vec<Blamed>,
 }
 

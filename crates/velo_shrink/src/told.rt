@@ -87,8 +87,8 @@ fn shrink_refusal(
     }
 }
 
-/// Makes each schedule simple that an exploration shows: see [`shrink`]. The configuration has to be that of the
-/// exploration.
+/// Makes each schedule simple that an exploration shows: see [`shrink`]. The rest stays as it was. The configuration has to be
+/// that of the exploration.
 ///
 /// # Errors
 /// `Memory` where a growth was refused.
@@ -113,6 +113,7 @@ pub fn shrink_told(
         SimplifiesFinding workload.now config Stuck told.stuck x.stuck) }
     ensures simple_refused { IfOk result (λ x.
         SimplifiesRefusal workload.now config told.refused x.refused) }
+    ensures alarms { IfOk result (λ x. x.alarms ≡ told.alarms) }
 {
     let Exploration {
         events,

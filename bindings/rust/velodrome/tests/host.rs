@@ -127,6 +127,19 @@ fn threads_of_other_libraries() {
 }
 
 #[test]
+fn a_thread_met_in_a_block_is_no_child_of_it() {
+    let (x, y) = (Var::new(0), Var::new(0));
+    let outcome = watch(|| {
+        y.set(0); // so the run knows it
+        let _block = block!("block");
+        x.set(1);
+        elsewhere(|| y.set(1));
+        assert_eq!(y.get(), 1);
+    });
+    assert_eq!(outcome, Outcome::Clean);
+}
+
+#[test]
 fn a_second_run_while_a_guard_is_open() {
     let lock = Mutex::new(0);
     let outcome = watch(|| {

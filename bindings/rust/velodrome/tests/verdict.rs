@@ -123,6 +123,7 @@ impl Account {
 fn two_objects_of_a_name_are_two() {
     let (a, b) = (Account::new(), Account::new());
     let outcome = watch(|| {
+        b.balance.set(0); // so the run knows it
         let _block = block!("move");
         let _both = (a.lock.lock().unwrap(), b.lock.lock().unwrap());
         let before = a.balance.get();
@@ -165,11 +166,17 @@ fn two_runs_of_one_thread() {
     let (x, m) = (Var::new(0), Mutex::new(0));
     let outcome = watch(|| {
         x.set(1);
-        let _held = m.lock().unwrap();
+        let held = m.lock().unwrap();
         assert_eq!(watch(|| assert_eq!(Var::new(1).get(), 1)), Outcome::Clean);
         x.set(2);
+        drop(held);
+        let y = Var::new(0); // which the run has not met
+        let _block = block!("outer");
+        let before = y.get();
+        stranger(|| y.set(1));
+        y.set(before);
     });
-    assert_eq!(outcome, Outcome::Clean);
+    assert!(report(&outcome).contains("not atomic: outer"));
     assert!(m.try_lock().is_ok());
 }
 
