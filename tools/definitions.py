@@ -48,6 +48,8 @@ PARTS = [
         "velo_audit": "Audit* Rounds* Tells Witness",
         "velo_audit_text": "Text",
         "velo_list": "Line* Known* List"}),
+    ("What one log says of other schedules", {
+        "velo_predict": "Predictions* Deadlocks* Feasible*"}),
     ("Laws of logs", {
         "velo_laws": "Cut* Restart* Renumber Ordered* Repeats*",
         "velo_renew": "Renewal*",
