@@ -7,7 +7,6 @@ mod OnFates
 mod OnFindings
 mod OnPlaying
 mod OnWatching
-mod OnReading
 mod OnSaving
 mod OnNaming
 mod OnAuditing

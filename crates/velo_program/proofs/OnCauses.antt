@@ -51,7 +51,8 @@ use Rattle.velo_program.specs.Auditing.{IsAuditAnswer}
 use Rattle.velo_program.specs.Carrying.{IsCarryAnswer, IsPut}
 use Rattle.velo_program.specs.Check.{IsCheckAnswer, IsFaultOfInput}
 use Rattle.velo_program.specs.Delivery.{Answer, DeliversBy, FailsSaving, IsDelivered, IsDeliveredInTurn, IsPrinted, LacksMemory, silent}
-use Rattle.velo_program.specs.Disk.{Disk, IsBarred, IsBarredRun, Store, behind}
+use Rattle.velo_delivery.specs.Disk.{Disk, Store, behind}
+use Rattle.velo_program.specs.Barred.{IsBarred, IsBarredRun}
 use Rattle.velo_program.specs.Explaining.{IsExplanation}
 use Rattle.velo_program.specs.Exploring.{IsExploreAnswer}
 use Rattle.velo_program.specs.Ignoring.{AsksInVain, MeanNothing}
@@ -62,7 +63,7 @@ use Rattle.velo_program.specs.Program.{Does, DoesPlay}
 use Rattle.velo_turns.specs.Schedule.{IsFaultOfSchedule, IsFaultOfTurns}
 use Rattle.velo_program.specs.Scheduling.{HaveFaultOfSchedule, LacksSchedule, SayNoSchedule}
 use Rattle.velo_program.specs.Watching.{EndsBehind, IsFaultOfHeader, IsWatchAnswer, Watches}
-use Rattle.velo_program.specs.Writing.{Writing}
+use Rattle.velo_delivery.specs.Writing.{Writing}
 use Rattle.velo_program.proofs.OnFindings.{caused}
 
 -- ---- by what it means no event is refused for want of memory

@@ -8,11 +8,11 @@ use Rattle.velo_names.specs.declared.limits.TheConstants.{MOST_NAMES_BYTES}
 use Rattle.velo_names.specs.Names.{NameLists}
 use Rattle.velo_program.specs.declared.fate.Fate.{Fate}
 use Rattle.velo_program.specs.declared.fate.Fate.TheVariants as fate
-use Rattle.velo_program.specs.Disk.{Disk}
+use Rattle.velo_delivery.specs.Disk.{Disk}
 use Rattle.velo_program.specs.Listing.{AreNoList, HaveFaultOfList, LacksLabelsAt, MeansLabels, ReadsLabels, SayLabels, SayNoLabels}
 use Rattle.velo_program.specs.Naming.{IsFailure, IsFileRead, IsFileUnread}
-use Rattle.velo_program.specs.Reading.{failures_told}
-use Rattle.velo_program.specs.Steps.{IsReadOf}
+use Rattle.velo_program.specs.Failures.{failures_told}
+use Rattle.velo_delivery.specs.Reading.{IsReadOf}
 use Rattle.velo_program.proofs.OnPlaying.{longer, whole}
 
 -- ---- from the bytes that were read to those of the file

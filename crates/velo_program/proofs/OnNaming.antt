@@ -8,10 +8,11 @@ use Rattle.velo_names.specs.declared.limits.TheConstants.{MOST_NAMES_BYTES}
 use Rattle.velo_names.specs.Names.{NameLists, ReadsAs, Stands}
 use Rattle.velo_program.specs.declared.fate.Fate.{Fate}
 use Rattle.velo_program.specs.declared.fate.Fate.TheVariants as fate
-use Rattle.velo_program.specs.Disk.{Disk}
+use Rattle.velo_delivery.specs.Disk.{Disk}
 use Rattle.velo_program.specs.Naming.{AreBytesOf, AreNamesIn, AreNamesOf, AreNoBytesOf, AreNoNamesIn, HaveFaultOfNames, IsFailure, IsFileRead, IsFileUnread, LacksNames, SayNames, SayNoNames}
-use Rattle.velo_program.specs.Reading.{FailuresAsTold, Reading}
-use Rattle.velo_program.specs.Steps.{IsReadOf}
+use Rattle.velo_program.specs.Failures.{FailuresAsTold}
+use Rattle.velo_delivery.specs.Reading.{Reading}
+use Rattle.velo_delivery.specs.Reading.{IsReadOf}
 use Rattle.velo_program.proofs.OnPlaying.{longer, whole}
 
 -- ---- a file that is read whole

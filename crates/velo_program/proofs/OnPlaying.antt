@@ -13,11 +13,13 @@ use Rattle.velo_program.specs.declared.fate.Fate.{Fate}
 use Rattle.velo_program.specs.declared.fate.Fate.TheVariants as fate
 use Rattle.velo_program.specs.declared.request.RunOptions.{RunOptions}
 use Rattle.velo_program.specs.Delivery.{Answer, IsDelivered, IsDeliveredInTurn, silent}
-use Rattle.velo_program.specs.Disk.{Disk, Store}
+use Rattle.velo_delivery.specs.Disk.{Disk, Store}
 use Rattle.velo_program.specs.Playing.{ByThreads, ByTurns, IsFaultOfText, IsFaultOfWork, IsRunAnswer, IsSaidOfRun, IsTextOf, IsUnread, Play}
-use Rattle.velo_program.specs.Reading.{FailuresAsTold, Reading, failures_told}
-use Rattle.velo_program.specs.Writing.{Writing, WritesNothing}
-use Rattle.velo_program.specs.Steps.{IsReadOf, OpensNoProgram, OpensProgram}
+use Rattle.velo_program.specs.Failures.{FailuresAsTold, failures_told}
+use Rattle.velo_delivery.specs.Reading.{Reading}
+use Rattle.velo_delivery.specs.Writing.{Writing, WritesNothing}
+use Rattle.velo_delivery.specs.Reading.{IsReadOf}
+use Rattle.velo_program.specs.Steps.{OpensNoProgram, OpensProgram}
 use Rattle.velo_program.proofs.OnDelivery.{in_turn_reads, same_fate}
 
 -- ---- from the bytes that were read to those of the file

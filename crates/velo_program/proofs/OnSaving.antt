@@ -22,7 +22,7 @@ use Rattle.velo_workload.specs.Words.{Word, is_name, is_name_byte}
 use Rattle.velo_workload.proofs.OnNaming.{meant_names}
 use Rattle.velo_workload.proofs.OnPhrases.{name_text}
 use Rattle.velo_program.specs.declared.fate.Fate.{Fate}
-use Rattle.velo_program.specs.Disk.{Store}
+use Rattle.velo_delivery.specs.Disk.{Store}
 use Rattle.velo_program.specs.Playing.{FitsNames, listed, text_of_names}
 use Rattle.velo_program.specs.Steps.{AreNamesFor, IsSaved, IsSavedInTurn}
 

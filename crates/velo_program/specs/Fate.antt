@@ -18,7 +18,7 @@ use Rattle.velo_worker.specs.declared.ending.Ending.{Ending}
 use Rattle.velo_worker.specs.declared.ending.Ending.TheVariants as ending
 use Rattle.velo_workload.specs.declared.fault.WorkFault.{WorkFault}
 use Rattle.velo_workload.specs.declared.fault.WorkFault.TheVariants as work_fault
-use Rattle.velo_program.specs.Writing.{BreaksOff, Writing, Writes}
+use Rattle.velo_delivery.specs.Writing.{BreaksOff, Writing, Writes}
 use Rattle.velo_turns.specs.declared.schedule.ScheduleFault.{ScheduleFault}
 use Rattle.velo_turns.specs.declared.schedule.ScheduleFault.TheVariants as schedule_fault
 use Rattle.velo_program.specs.declared.check.Verdict.{Verdict}

@@ -1,13 +1,14 @@
 pub mod Auditing
+pub mod Barred
 pub mod ByChance
 pub mod Carrying
 pub mod Causes
 pub mod Check
 pub mod Delivery
-pub mod Disk
 pub mod Explaining
 pub mod Exploring
 pub mod Fate
+pub mod Failures
 pub mod Faults
 pub mod Findings
 pub mod Ignoring
@@ -15,8 +16,6 @@ pub mod Listing
 pub mod Naming
 pub mod Playing
 pub mod Program
-pub mod Reading
 pub mod Scheduling
 pub mod Steps
 pub mod Watching
-pub mod Writing

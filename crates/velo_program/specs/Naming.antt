@@ -9,9 +9,10 @@ use Rattle.velo_report.specs.declared.names.Names.{Names}
 use Rattle.velo_report.specs.declared.names.Names.TheVariants.{Listed, Numbers}
 use Rattle.velo_program.specs.declared.fate.Fate.{Fate}
 use Rattle.velo_program.specs.declared.fate.Fate.TheVariants as fate
-use Rattle.velo_program.specs.Disk.{Disk, FailsToOpen}
-use Rattle.velo_program.specs.Reading.{FailuresAsTold, Reading}
-use Rattle.velo_program.specs.Steps.{IsReadOf}
+use Rattle.velo_delivery.specs.Disk.{Disk, FailsToOpen}
+use Rattle.velo_program.specs.Failures.{FailuresAsTold}
+use Rattle.velo_delivery.specs.Reading.{Reading}
+use Rattle.velo_delivery.specs.Reading.{IsReadOf}
 
 -- ---- by the bytes of the file
 

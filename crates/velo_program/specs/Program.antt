@@ -28,17 +28,19 @@ use Rattle.velo_program.specs.Auditing.{IsAuditAnswer}
 use Rattle.velo_program.specs.Carrying.{IsCarryAnswer, IsPut}
 use Rattle.velo_program.specs.Check.{IsCheckAnswer}
 use Rattle.velo_program.specs.Delivery.{Answer, IsDelivered, IsDeliveredInTurn}
-use Rattle.velo_program.specs.Disk.{IsBarred, IsBarredRun, IsWritten, Store}
+use Rattle.velo_program.specs.Barred.{IsBarred, IsBarredRun}
+use Rattle.velo_delivery.specs.Disk.{IsWritten, Store}
 use Rattle.velo_program.specs.Explaining.{IsExplanation}
 use Rattle.velo_program.specs.Exploring.{IsExploreAnswer}
 use Rattle.velo_program.specs.Ignoring.{AsksInVain, IsAsked}
 use Rattle.velo_program.specs.Listing.{AreLabelsOf, LacksLabels}
 use Rattle.velo_program.specs.Naming.{AreNamesOf, AreShown, LacksNames}
 use Rattle.velo_program.specs.Playing.{ByThreads, ByTurns, IsPlayAnswer, Play}
-use Rattle.velo_program.specs.Reading.{FailuresAsTold, Reading}
+use Rattle.velo_program.specs.Failures.{FailuresAsTold}
+use Rattle.velo_delivery.specs.Reading.{Reading}
 use Rattle.velo_program.specs.Scheduling.{IsScheduleOf, LacksSchedule}
 use Rattle.velo_program.specs.Watching.{Watches}
-use Rattle.velo_program.specs.Writing.{Writing, WritesNothing}
+use Rattle.velo_delivery.specs.Writing.{Writing, WritesNothing}
 
 -- ---- what they share
 

@@ -10,8 +10,9 @@ use Rattle.velo_program.specs.declared.fate.Fate.{Fate}
 use Rattle.velo_program.specs.declared.fate.Fate.TheVariants as fate
 use Rattle.velo_program.specs.declared.request.ScheduleSource.{ScheduleSource}
 use Rattle.velo_program.specs.declared.request.ScheduleSource.TheVariants as source
-use Rattle.velo_program.specs.Disk.{Disk, FailsToOpen}
-use Rattle.velo_program.specs.Reading.{FailuresAsTold, Reading}
+use Rattle.velo_delivery.specs.Disk.{Disk, FailsToOpen}
+use Rattle.velo_program.specs.Failures.{FailuresAsTold}
+use Rattle.velo_delivery.specs.Reading.{Reading}
 
 -- ---- by the bytes of the file
 

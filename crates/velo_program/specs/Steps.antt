@@ -17,41 +17,20 @@ use Rattle.velo_program.specs.declared.check.CheckFault.TheVariants as check_fau
 use Rattle.velo_program.specs.declared.check.Verdict.{Verdict}
 use Rattle.velo_program.specs.declared.fate.Fate.{Fate}
 use Rattle.velo_program.specs.declared.fate.Fate.TheVariants.{CannotOpen, Memory}
-use Rattle.velo_program.specs.declared.reading.ReadFault.{ReadFault}
-use Rattle.velo_program.specs.declared.reading.ReadFault.TheVariants as read_fault
+use Rattle.velo_delivery.specs.declared.reading.ReadFault.{ReadFault}
+use Rattle.velo_delivery.specs.declared.reading.ReadFault.TheVariants as read_fault
 use Rattle.velo_program.specs.declared.request.RunOptions.{RunOptions}
 use Rattle.velo_program.specs.declared.saving.Saving.{Saving}
 use Rattle.velo_program.specs.Carrying.{Carries}
 use Rattle.velo_program.specs.Check.{IsOutputOf, IsVerdict}
 use Rattle.velo_program.specs.Delivery.{Answer, FailsSaving, IsDelivered, IsDeliveredInTurn, IsPrinted, LacksMemory, Saves}
-use Rattle.velo_program.specs.Disk.{Disk, IsBarredRun, IsWritten, Store, behind, up_to}
+use Rattle.velo_delivery.specs.Disk.{Disk, IsWritten, Store, behind, up_to}
+use Rattle.velo_program.specs.Barred.{IsBarredRun}
 use Rattle.velo_program.specs.Explaining.{ExplainsVerdict, IsExplanation}
 use Rattle.velo_program.specs.Playing.{IsReported, IsRunAnswer, IsSaidOfRun, IsTextOf, IsUnread, Play, text_of_names}
-use Rattle.velo_program.specs.Reading.{FailuresAsTold, Reading}
-use Rattle.velo_program.specs.Writing.{BreaksOff, Writes, WritesNothing, Writing}
-
--- ---- reading a whole source
-
--- the bytes are all that the source gives, where they are known; or they are more than the most
--- that are wanted, and a beginning
-abbrev pub IsReadOf : ℕ → Option (List ℕ) → List ℕ → Type 0
-IsReadOf most None bytes = ⊤
-IsReadOf most (Some all) bytes =
-    (rest : List ℕ) × (all ≡ bytes ++ rest) × (length bytes ≤ most → rest ≡ [])
-
--- the bytes grew by a piece of what the source gives, of so many bytes, and of none only at its end
-pub record GrowsByPiece (before after : Option (List ℕ)) (old new : List ℕ) (count : ℕ)
-    : Type 0 where
-  pub piece : List ℕ
-  pub grown : new ≡ old ++ piece
-  pub given : Consumes before after piece
-  pub last : count ≡ 0 → IsAtEnd after
-
--- the count of failures of the source behind a read
-abbrev pub failures_by : {X : Type 0} → Result X ReadFault → ℕ → ℕ
-failures_by (Ok x) failures = failures
-failures_by (Err read_fault.Failed) failures = with_failure failures
-failures_by (Err read_fault.Memory) failures = failures
+use Rattle.velo_program.specs.Failures.{FailuresAsTold}
+use Rattle.velo_delivery.specs.Reading.{Reading}
+use Rattle.velo_delivery.specs.Writing.{BreaksOff, Writes, WritesNothing, Writing}
 
 -- ---- a check
 

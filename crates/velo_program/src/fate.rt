@@ -2,7 +2,7 @@
 ghost use Rattle.std.specs.Prelude.{◌≡◌, ◌≢◌, ◌≤◌, ◌++◌, [], codes, decimal, length, take, IfOk, OnOk, OnErr};
 ghost use Rattle.velo_list.specs.Fault.{fault_line as line_of_list_fault, fault_number as number_of_list_fault};
 ghost use Rattle.velo_names.specs.Fault.{fault_line, fault_number};
-ghost use Rattle.velo_program.specs.Writing.{BreaksOff, Writes, writing};
+ghost use Rattle.velo_delivery.specs.Writing.{BreaksOff, Writes, writing};
 ghost use Rattle.velo_program.specs.Fate.{Ends, number_of, status_of, status_of_check, status_of_list, status_of_log, status_of_refused, status_of_ending, status_of_names, status_of_schedule, status_of_work, place_of_work, line_of, line_of_check, line_of_log, line_of_ending, line_of_ignored, line_of_list, line_of_names, line_of_one_file, line_of_refused, line_of_schedule, line_of_work};
 
 use crate::check::CheckFault;

@@ -4,9 +4,9 @@ ghost use Rattle.velo_list.specs.Answers.{numbers};
 ghost use Rattle.velo_program.specs.Listing.{AreLabelsOf, AreNoList, LacksLabels, LacksLabelsAt, MeansLabels, ReadsLabels};
 
 use crate::fate::Fate;
-use crate::files::Files;
 use crate::naming::read_file;
 use std::alloc::Global;
+use velo_delivery::Files;
 use velo_events::{Label, Memory};
 use velo_list::{known_labels, parse_list};
 use velo_names::{MOST_NAMES_BYTES, Names};

@@ -2,14 +2,13 @@
 ghost use Rattle.std.specs.Prelude.{◌≡◌, IfErr, IfOk, OnOk};
 ghost use Rattle.velo_names.specs.declared.limits.TheConstants.{MOST_NAMES_BYTES};
 ghost use Rattle.velo_program.specs.Naming.{AreBytesOf, AreNamesIn, AreNoBytesOf, AreNoNamesIn, AreShown, IsFailure, IsFileRead, IsFileUnread};
-ghost use Rattle.velo_program.specs.Reading.{failures_told};
-ghost use Rattle.velo_program.specs.Steps.{IsReadOf};
+ghost use Rattle.velo_program.specs.Failures.{failures_told};
+ghost use Rattle.velo_delivery.specs.Reading.{IsReadOf};
 
 use crate::fate::Fate;
-use crate::files::{Files, is_standard_input};
-use crate::reading::{ReadFault, read_whole};
 use std::alloc::Global;
 use velo_bytes::Source;
+use velo_delivery::{Files, ReadFault, is_standard_input, read_whole};
 use velo_names::Names;
 use velo_report::Names as ReportNames;
 

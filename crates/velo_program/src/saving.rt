@@ -1,14 +1,14 @@
 //! What is saved of a run of a workload: its log, and behind it the names of the workload.
 ghost use Rattle.std.specs.Prelude.{◌≡◌, IfOk};
-ghost use Rattle.velo_program.specs.Disk.{store};
+ghost use Rattle.velo_delivery.specs.Disk.{store};
 ghost use Rattle.velo_program.specs.Playing.{text_of_log, text_of_names};
 ghost use Rattle.velo_program.specs.Steps.{AreNamesFor, IsSavedInTurn};
 
 use crate::explaining::save;
 use crate::fate::Fate;
-use crate::files::Files;
 use crate::work::save_log;
 use std::alloc::Global;
+use velo_delivery::Files;
 use velo_events::Memory;
 use velo_names::{NameKind, append_names};
 use velo_workload::Workload;

@@ -4,10 +4,10 @@ ghost use Rattle.velo_turns.specs.File.{IsScheduleIn};
 ghost use Rattle.velo_program.specs.Scheduling.{IsNoScheduleIn, IsScheduleOf, LacksSchedule, LacksScheduleAt, ReadsSchedule};
 
 use crate::fate::Fate;
-use crate::files::Files;
 use crate::naming::read_file;
 use crate::request::ScheduleSource;
 use std::alloc::Global;
+use velo_delivery::Files;
 use velo_events::ThreadId;
 use velo_turns::{MOST_SCHEDULE_BYTES, schedule_in, schedule_of, turns_of};
 

@@ -1,20 +1,20 @@
 //! Workloads that run: where they are read, and what their runs show.
 ghost use Rattle.std.specs.Prelude.{◌≡◌, false, Some, IfOk, IfErr, IfSome, OnOk, is_some};
 ghost use Rattle.velo_program.specs.Check.{IsOrderOrCycle};
-ghost use Rattle.velo_program.specs.Reading.{failures_told};
+ghost use Rattle.velo_program.specs.Failures.{failures_told};
 ghost use Rattle.velo_program.specs.Playing.{IsConfigOf, IsFaultOfWork, IsTextOf, IsUnread, is_unreported, text_of_log};
-ghost use Rattle.velo_program.specs.Disk.{store};
-ghost use Rattle.velo_program.specs.Writing.{writing};
+ghost use Rattle.velo_delivery.specs.Disk.{store};
+ghost use Rattle.velo_delivery.specs.Writing.{writing};
 ghost use Rattle.velo_program.specs.Steps.{AreNamesFor, IsSaved, OpensNoProgram, OpensProgram, Reports, TellsEnd};
 
 use crate::check::{is_alarm, order_or_cycle_of, verdict_of, write_output};
 use crate::fate::Fate;
-use crate::files::{Files, are_one_target, is_standard_input, open_to_run};
-use crate::reading::{ReadFault, read_whole};
+use crate::files::{are_one_target, open_to_run};
 use crate::request::RunOptions;
 use crate::saving::{Saving, names_for, save_run};
 use std::alloc::Global;
 use velo_bytes::{Sink, Source, WriteFault};
+use velo_delivery::{Files, ReadFault, is_standard_input, read_whole};
 use velo_events::{Config, Memory, Refusal};
 use velo_logtext::write_log;
 use velo_report::Names;

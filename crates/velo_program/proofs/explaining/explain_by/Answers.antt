@@ -3,8 +3,8 @@ use Rattle.velo_explain.specs.Picture.{named_picture_text}
 use Rattle.velo_explain.specs.Text.{named_explanation_text}
 use Rattle.velo_worker.specs.declared.ending.Ending.TheVariants.{Done}
 use Rattle.velo_program.specs.declared.fate.Fate.TheVariants.{Finished}
-use Rattle.velo_program.specs.Disk.{store}
-use Rattle.velo_program.specs.Writing.{writing}
+use Rattle.velo_delivery.specs.Disk.{store}
+use Rattle.velo_delivery.specs.Writing.{writing}
 use Rattle.velo_program.proofs.OnExplaining.{saved_text, undrawn, words_put}
 use Rattle.velo_program.proofs.explaining.explain_by.Goals as goal
 

@@ -1,4 +1,4 @@
-use Rattle.velo_program.specs.Writing.{writing}
+use Rattle.velo_delivery.specs.Writing.{writing}
 use Rattle.velo_program.proofs.explaining.save.Goals as goal
 
 pub returns-in-Ok : goal.returns-in-Ok

@@ -1,10 +1,10 @@
 use Rattle.std.proofs.Common.{◌∙◌, [], inl, inr, refl, subst, sym, ⊎_elim}
 use Rattle.velo_program.specs.declared.request.RunOptions.{RunOptions}
 use Rattle.velo_program.specs.Delivery.{silent}
-use Rattle.velo_program.specs.Disk.{store}
+use Rattle.velo_delivery.specs.Disk.{store}
 use Rattle.velo_program.specs.Playing.{text_of_names}
 use Rattle.velo_program.specs.Steps.{OpensNoProgram, OpensProgram}
-use Rattle.velo_program.specs.Writing.{writing}
+use Rattle.velo_delivery.specs.Writing.{writing}
 use Rattle.velo_program.proofs.OnFindings.{explores_reads}
 use Rattle.velo_program.proofs.OnPlaying.{unread_put}
 use Rattle.velo_program.proofs.exploring.explore_file.Goals as goal

@@ -1,8 +1,8 @@
 use Rattle.std.proofs.Common.{◌∙◌, [], inl, inr, refl, sym, ⊎_elim}
 use Rattle.velo_program.specs.Delivery.{silent}
 use Rattle.velo_program.specs.Playing.{ByTurns, text_of_names}
-use Rattle.velo_program.specs.Disk.{store}
-use Rattle.velo_program.specs.Writing.{writing}
+use Rattle.velo_delivery.specs.Disk.{store}
+use Rattle.velo_delivery.specs.Writing.{writing}
 use Rattle.velo_program.proofs.OnPlaying.{plays_reads, unread_put}
 use Rattle.velo_program.proofs.replaying.replay_by.Goals as goal
 

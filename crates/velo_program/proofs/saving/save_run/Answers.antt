@@ -1,5 +1,5 @@
 use Rattle.std.proofs.Common.{inr}
-use Rattle.velo_program.specs.Disk.{store}
+use Rattle.velo_delivery.specs.Disk.{store}
 use Rattle.velo_program.specs.Playing.{text_of_log}
 use Rattle.velo_program.proofs.OnSaving.{lost_in_turn}
 use Rattle.velo_program.proofs.saving.save_run.Goals as goal

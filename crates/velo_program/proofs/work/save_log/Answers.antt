@@ -4,7 +4,7 @@ use Rattle.std.specs.Io.KnownBytes.{Appends}
 use Rattle.velo_bytes.specs.Device.{AppendsBeginning}
 use Rattle.velo_logtext.specs.Text.{log_text}
 use Rattle.velo_program.specs.Playing.{text_of_log}
-use Rattle.velo_program.specs.Writing.{writing}
+use Rattle.velo_delivery.specs.Writing.{writing}
 use Rattle.velo_program.proofs.work.save_log.Goals as goal
 
 pub returns-in-Ok : goal.returns-in-Ok

@@ -1,0 +1,3 @@
+pub mod Disk
+pub mod Reading
+pub mod Writing
