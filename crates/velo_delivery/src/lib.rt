@@ -1,8 +1,12 @@
-//! The files that a command finds: how they are read whole, and what is said of them.
+//! The files that a command finds and leaves, and how what it has to say goes out.
 #![tactic(auto)]
 
+mod answer;
+mod failure;
 mod files;
 mod reading;
 
+pub use answer::{Answer, Save, Text, deliver};
+pub use failure::{Failure, Operand};
 pub use files::{Files, is_standard_input};
 pub use reading::{ReadFault, read_whole};
