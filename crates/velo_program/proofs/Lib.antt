@@ -4,6 +4,7 @@ mod OnDelivery
 mod OnEndings
 mod OnExplaining
 mod OnFates
+mod OnFormats
 mod OnFindings
 mod OnPlaying
 mod OnWatching

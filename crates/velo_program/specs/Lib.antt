@@ -11,6 +11,7 @@ pub mod Fate
 pub mod Failures
 pub mod Faults
 pub mod Findings
+pub mod Format
 pub mod Ignoring
 pub mod Listing
 pub mod Naming

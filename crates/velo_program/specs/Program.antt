@@ -218,7 +218,7 @@ AuditsKnown names known options store stdout f =
 -- else none is.
 abbrev pub AuditsNamed : NameLists → AuditOptions → Store → Writing → Fate → Type 0
 AuditsNamed names options store stdout f =
-    (LacksLabels store.disk options.known f × WritesNowhere store stdout)
+    (LacksLabels names store.disk options.known f × WritesNowhere store stdout)
     ⊎ ((known : List ℕ) × AreLabelsOf names store.disk options.known known
     × AuditsKnown names known options store stdout f)
 

@@ -1,11 +1,9 @@
 -- Words of the contracts within the crate: how far each step has come. What the program does is
 -- said without them.
 use Rattle.std.specs.Borrow.{Bor}
-use Rattle.std.specs.Io.KnownBytes.{Consumes, IsAtEnd}
-use Rattle.std.specs.Prelude.{◌≡◌, ◌≤◌, ◌⊎◌, ◌++◌, [], ⊤, ℕ, Bool, List, length, Option, Some, None, Result, Ok, Err}
+use Rattle.std.specs.Prelude.{◌≡◌, ◌⊎◌, ⊤, ℕ, Bool, List, Option, Some, None, Result, Ok, Err}
 use Rattle.velo_events.specs.Refusals.{GrowthRefused}
 use Rattle.velo_events.specs.declared.event.Event.{Event}
-use Rattle.velo_bytes.specs.Device.{with_failure}
 use Rattle.velo_names.specs.Names.{NameLists}
 use Rattle.velo_report.specs.declared.names.Names.{Names}
 use Rattle.velo_worker.specs.declared.ending.Ending.{Ending}
@@ -17,8 +15,6 @@ use Rattle.velo_program.specs.declared.check.CheckFault.TheVariants as check_fau
 use Rattle.velo_program.specs.declared.check.Verdict.{Verdict}
 use Rattle.velo_program.specs.declared.fate.Fate.{Fate}
 use Rattle.velo_program.specs.declared.fate.Fate.TheVariants.{CannotOpen, Memory}
-use Rattle.velo_delivery.specs.declared.reading.ReadFault.{ReadFault}
-use Rattle.velo_delivery.specs.declared.reading.ReadFault.TheVariants as read_fault
 use Rattle.velo_program.specs.declared.request.RunOptions.{RunOptions}
 use Rattle.velo_program.specs.declared.saving.Saving.{Saving}
 use Rattle.velo_program.specs.Carrying.{Carries}
@@ -27,8 +23,9 @@ use Rattle.velo_program.specs.Delivery.{Answer, FailsSaving, IsDelivered, IsDeli
 use Rattle.velo_delivery.specs.Disk.{Disk, IsWritten, Store, behind, up_to}
 use Rattle.velo_program.specs.Barred.{IsBarredRun}
 use Rattle.velo_program.specs.Explaining.{ExplainsVerdict, IsExplanation}
-use Rattle.velo_program.specs.Playing.{IsReported, IsRunAnswer, IsSaidOfRun, IsTextOf, IsUnread, Play, text_of_names}
+use Rattle.velo_program.specs.Playing.{IsReported, IsRunAnswer, IsSaidOfRun, Play, text_of_names, workload_file}
 use Rattle.velo_program.specs.Failures.{FailuresAsTold}
+use Rattle.velo_program.specs.Format.{ReadsNone}
 use Rattle.velo_delivery.specs.Reading.{Reading}
 use Rattle.velo_delivery.specs.Writing.{BreaksOff, Writes, WritesNothing, Writing}
 
@@ -138,21 +135,8 @@ CarriesTo store target read f =
 
 -- ---- a workload
 
--- the workload that was opened at the path
-pub record OpensProgram (disk : Disk) (path : List ℕ) (program : Program) : Type 0 where
-  pub read : Reading
-  pub given : disk.gives path read
-  pub is_text : IsTextOf read.bytes program
-  pub no_failure : read.failures_after ≡ read.failures_before
-
--- why there is none
-pub record IsNoWorkload (disk : Disk) (path : List ℕ) (fate : Fate) : Type 0 where
-  pub read : Reading
-  pub given : disk.gives path read
-  pub unread : IsUnread read.bytes fate
-  pub failures : FailuresAsTold read fate
-
+-- the workload that was asked for is not read, or two of the files are one
 abbrev pub OpensNoProgram : Disk → RunOptions → Fate → Type 0
 OpensNoProgram disk options f =
-    IsNoWorkload disk options.input.now f
+    ReadsNone workload_file disk options.input.now f
     ⊎ IsBarredRun disk options.input.now options.target options.names_target f

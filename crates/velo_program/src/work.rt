@@ -2,10 +2,11 @@
 ghost use Rattle.std.specs.Prelude.{◌≡◌, false, Some, IfOk, IfErr, IfSome, OnOk, is_some};
 ghost use Rattle.velo_program.specs.Check.{IsOrderOrCycle};
 ghost use Rattle.velo_program.specs.Failures.{failures_told};
-ghost use Rattle.velo_program.specs.Playing.{IsConfigOf, IsFaultOfWork, IsTextOf, IsUnread, is_unreported, text_of_log};
+ghost use Rattle.velo_program.specs.Format.{Reads};
+ghost use Rattle.velo_program.specs.Playing.{IsConfigOf, IsFaultOfWork, IsTextOf, IsUnread, is_unreported, text_of_log, workload_file};
 ghost use Rattle.velo_delivery.specs.Disk.{store};
 ghost use Rattle.velo_delivery.specs.Writing.{writing};
-ghost use Rattle.velo_program.specs.Steps.{AreNamesFor, IsSaved, OpensNoProgram, OpensProgram, Reports, TellsEnd};
+ghost use Rattle.velo_program.specs.Steps.{AreNamesFor, IsSaved, OpensNoProgram, Reports, TellsEnd};
 
 use crate::check::{is_alarm, order_or_cycle_of, verdict_of, write_output};
 use crate::fate::Fate;
@@ -61,7 +62,7 @@ pub fn open_workload<F: Files>(
     options: &RunOptions,
     files: &F,
 ) -> Result<Workload, Fate>
-    ensures some { IfOk result (OpensProgram (F.disk files.now) options.now.input.now) }
+    ensures some { IfOk result (Reads workload_file (F.disk files.now) options.now.input.now) }
     ensures none { IfErr result (OpensNoProgram (F.disk files.now) options.now) }
 {
     if are_one_target(files, options.target, options.names_target) {
