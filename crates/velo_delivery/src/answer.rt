@@ -1,6 +1,7 @@
 //! What a command has to say, and how it goes out.
 ghost use Rattle.std.specs.Prelude.{List, ℕ};
-ghost use Rattle.velo_delivery.specs.Answers.{AreSaved, IsAnswered, IsSaved, PrintsText, WritesText};
+ghost use Rattle.velo_delivery.specs.Answers.{AreSaved, IsAnswered, IsSaved, PrintsText};
+ghost use Rattle.velo_delivery.specs.Answers.{WritesText};
 ghost use Rattle.velo_delivery.specs.Disk.{store};
 ghost use Rattle.velo_delivery.specs.Writing.{writing};
 
@@ -86,11 +87,12 @@ fn print<P: Text, O: Sink>(text: &Option<P>, out: &mut O) -> Result<(), Failure>
     }
 }
 
-/// Saves what is to be saved, and then prints what is to be printed. Where one of them fails nothing behind it goes out.
+/// Saves what is to be saved, and then prints what is to be printed. Where one of them fails nothing
+/// behind it goes out.
 ///
 /// # Errors
-/// `CannotOpen` where a file does not open; `WriteFailed` where one failed, and `PrintFailed` where the sink failed: a beginning
-/// of the text was written.
+/// `CannotOpen` where a file does not open; `WriteFailed` where one failed, and `PrintFailed` where
+/// the sink failed: a beginning of the text was written.
 pub fn deliver<T: Text, P: Text, E: Copy, F: Files, O: Sink>(
     answer: &Answer<T, P, E>,
     files: &mut F,
