@@ -30,8 +30,8 @@ use Rattle.velo_program.specs.declared.request.AuditOptions.{AuditOptions}
 use Rattle.velo_program.specs.declared.request.ExploreOptions.{ExploreOptions}
 use Rattle.velo_program.specs.declared.request.Ignorable.{Ignorable}
 use Rattle.velo_program.specs.declared.request.Ignorable.TheVariants.{Lock, Variable}
-use Rattle.velo_program.specs.declared.request.Operand.{Operand}
-use Rattle.velo_program.specs.declared.request.Operand.TheVariants.{File, Log}
+use Rattle.velo_delivery.specs.declared.failure.Operand.{Operand}
+use Rattle.velo_delivery.specs.declared.failure.Operand.TheVariants.{File, Log}
 use Rattle.velo_program.specs.declared.request.RunOptions.{RunOptions}
 use Rattle.velo_program.specs.declared.request.Request.{Request}
 use Rattle.velo_program.specs.declared.request.WatchOptions.{WatchOptions}

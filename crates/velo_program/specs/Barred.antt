@@ -5,8 +5,8 @@ use Rattle.velo_delivery.specs.Disk.{AreOneTarget, Disk, FailsToOpen, IsTarget}
 use Rattle.velo_delivery.specs.Reading.{Reading}
 use Rattle.velo_program.specs.declared.fate.Fate.{Fate}
 use Rattle.velo_program.specs.declared.fate.Fate.TheVariants.{CannotOpen, NamesAtInput, NamesAtTarget, OneFile}
-use Rattle.velo_program.specs.declared.request.Operand.{Operand}
-use Rattle.velo_program.specs.declared.request.Operand.TheVariants.{File}
+use Rattle.velo_delivery.specs.declared.failure.Operand.{Operand}
+use Rattle.velo_delivery.specs.declared.failure.Operand.TheVariants.{File}
 
 -- Why the input of this operand is not read: it does not open; or it opens, and is the target, of
 -- which nothing but this is asked.

@@ -30,8 +30,8 @@ use Rattle.velo_program.specs.declared.fate.Fate.TheVariants.{Finished, Schedule
 use Rattle.velo_program.specs.declared.fate.Fate.TheVariants as fate
 use Rattle.velo_program.specs.declared.request.Ignorable.{Ignorable}
 use Rattle.velo_program.specs.declared.request.Ignorable.TheVariants as ignorable
-use Rattle.velo_program.specs.declared.request.Operand.{Operand}
-use Rattle.velo_program.specs.declared.request.Operand.TheVariants as operand
+use Rattle.velo_delivery.specs.declared.failure.Operand.{Operand}
+use Rattle.velo_delivery.specs.declared.failure.Operand.TheVariants as operand
 
 -- the numbers of refusals
 abbrev pub number_of : Refusal → ℕ
@@ -187,9 +187,18 @@ abbrev pub line_of_ignored : Ignorable → List ℕ
 line_of_ignored ignorable.Lock = codes "ignored fault 1\n"
 line_of_ignored ignorable.Variable = codes "ignored fault 2\n"
 
+-- the word of the command line
+abbrev pub word_of : Operand → List ℕ
+word_of operand.Log = codes "LOG"
+word_of operand.File = codes "FILE"
+word_of operand.Names = codes "NAMES"
+word_of operand.List = codes "LIST"
+word_of operand.Turns = codes "TURNS"
+word_of operand.Out = codes "OUT"
+word_of operand.NamesOut = codes "NAMES"
+
 abbrev pub line_of_one_file : Operand → List ℕ
-line_of_one_file operand.Log = codes "error: LOG and OUT are one file\n"
-line_of_one_file operand.File = codes "error: FILE and OUT are one file\n"
+line_of_one_file named = codes "error: " ++ word_of named ++ codes " and OUT are one file\n"
 
 abbrev pub line_of : Fate → List ℕ
 line_of (Finished how alarm) = line_of_ending how

@@ -11,11 +11,11 @@ ghost use Rattle.velo_program.specs.Steps.{CarriesTo};
 use crate::check::CheckFault;
 use crate::fate::Fate;
 use crate::files::open_input;
-use crate::request::{CarryOptions, Operand};
+use crate::request::CarryOptions;
 use std::alloc::Global;
 use thiserror::Error;
 use velo_bytes::{Sink, Source, WriteFault};
-use velo_delivery::{Files, is_standard_input};
+use velo_delivery::{Files, Operand, is_standard_input};
 use velo_logtext::{LogFault, read_log, write_log};
 use velo_worker::Ending;
 

@@ -4,8 +4,7 @@ ghost use Rattle.velo_delivery.specs.Disk.{AreOneTarget, IsOpened};
 ghost use Rattle.velo_program.specs.Barred.{IsBarred, IsBarredRun};
 
 use crate::fate::Fate;
-use crate::request::Operand;
-use velo_delivery::Files;
+use velo_delivery::{Files, Operand};
 
 /// Opens the file of a command's input. It may not be the command's target, which is to be emptied, if there is one.
 ///

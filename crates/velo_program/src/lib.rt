@@ -38,9 +38,9 @@ pub use laws::names_read_back;
 pub use progress::ExploreProgress;
 pub use request::{
     AuditOptions, CarryOptions, CheckOptions, DEFAULT_SEED, ExplainOptions, ExploreOptions,
-    Ignorable, Limits, MOST_RUNS, MOST_STATES, Operand, RandomRuns, ReplayOptions, Request,
-    RunOptions, ScheduleSource, WatchOptions,
+    Ignorable, Limits, MOST_RUNS, MOST_STATES, RandomRuns, ReplayOptions, Request, RunOptions,
+    ScheduleSource, WatchOptions,
 };
-pub use velo_delivery::Files;
+pub use velo_delivery::{Files, Operand};
 pub use velo_schedules::{Progress, Quiet};
 pub use velo_turns::{MOST_SCHEDULE_BYTES, MOST_TURNS, ScheduleFault, schedule_of, turns_of};
