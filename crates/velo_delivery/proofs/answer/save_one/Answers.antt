@@ -1,5 +1,5 @@
 use Rattle.std.proofs.Common.{refl}
-use Rattle.velo_delivery.specs.Writing.{Writing, writing}
+use Rattle.velo_delivery.specs.Writing.{writing}
 use Rattle.velo_delivery.proofs.answer.save_one.Goals as goal
 
 pub returns-in-Ok : goal.returns-in-Ok
