@@ -63,8 +63,12 @@ fn save_one<T: Text, F: Files>(save: &Save<T>, files: &mut F) -> Result<(), Fail
     }
 }
 
-/// Saves the texts, one after another.
-fn save_all<T: Text, F: Files>(saves: &[Save<T>], files: &mut F) -> Result<(), Failure>
+/// Saves the texts, one after another. Where one fails nothing behind it is done.
+///
+/// # Errors
+/// `CannotOpen` where a file does not open; `WriteFailed` where one failed: a beginning of the text was
+/// written.
+pub fn save_all<T: Text, F: Files>(saves: &[Save<T>], files: &mut F) -> Result<(), Failure>
     ensures { AreSaved T.is_text (store F.disk files.old files.new) saves.now result }
 {
     for one in saves {

@@ -6,7 +6,7 @@ mod failure;
 mod files;
 mod reading;
 
-pub use answer::{Answer, Save, Text, deliver};
+pub use answer::{Answer, Save, Text, deliver, save_all};
 pub use failure::{Failure, Operand};
 pub use files::{Files, is_standard_input};
 pub use reading::{ReadFault, read_whole};

@@ -30,6 +30,8 @@ use Rattle.velo_program.specs.declared.fate.Fate.TheVariants.{Finished, Schedule
 use Rattle.velo_program.specs.declared.fate.Fate.TheVariants as fate
 use Rattle.velo_program.specs.declared.request.Ignorable.{Ignorable}
 use Rattle.velo_program.specs.declared.request.Ignorable.TheVariants as ignorable
+use Rattle.velo_delivery.specs.declared.failure.Failure.{Failure}
+use Rattle.velo_delivery.specs.declared.failure.Failure.TheVariants as failure
 use Rattle.velo_delivery.specs.declared.failure.Operand.{Operand}
 use Rattle.velo_delivery.specs.declared.failure.Operand.TheVariants as operand
 
@@ -230,6 +232,14 @@ abbrev pub fate_of : Result Verdict CheckFault → Fate
 fate_of (Ok answer) = Finished ending.Done (is_alarm answer)
 fate_of (Err Write) = WriteFailed
 fate_of (Err fault) = Check fault
+
+-- what a failure comes to, without the file that it is about
+abbrev pub fate_of_failure : Failure → Fate
+fate_of_failure (failure.CannotOpen which) = CannotOpen
+fate_of_failure (failure.ReadFailed which) = ReadFailed
+fate_of_failure (failure.WriteFailed which) = WriteFailed
+fate_of_failure failure.PrintFailed = WriteFailed
+fate_of_failure (failure.Memory refused) = fate.Memory
 
 -- the line went out, and this is the status; or it broke off, and the status is 5
 abbrev pub Closes : ℕ → List ℕ → Writing → ℕ → Type 0

@@ -16,6 +16,8 @@ use Rattle.velo_program.specs.declared.check.Verdict.{Verdict}
 use Rattle.velo_program.specs.declared.fate.Fate.{Fate}
 use Rattle.velo_program.specs.declared.fate.Fate.TheVariants.{CannotOpen, Memory}
 use Rattle.velo_program.specs.declared.request.RunOptions.{RunOptions}
+use Rattle.velo_program.specs.declared.saving.Saved.{Saved}
+use Rattle.velo_program.specs.declared.saving.Saved.TheVariants as saved
 use Rattle.velo_program.specs.declared.saving.Saving.{Saving}
 use Rattle.velo_program.specs.Carrying.{Carries}
 use Rattle.velo_program.specs.Check.{IsOutputOf, IsVerdict}
@@ -23,7 +25,7 @@ use Rattle.velo_program.specs.Delivery.{Answer, FailsSaving, IsDelivered, IsDeli
 use Rattle.velo_delivery.specs.Disk.{Disk, IsWritten, Store, behind, up_to}
 use Rattle.velo_program.specs.Barred.{IsBarredRun}
 use Rattle.velo_program.specs.Explaining.{ExplainsVerdict, IsExplanation}
-use Rattle.velo_program.specs.Playing.{IsReported, IsRunAnswer, IsSaidOfRun, Play, text_of_names, workload_file}
+use Rattle.velo_program.specs.Playing.{IsReported, IsRunAnswer, IsSaidOfRun, Play, text_of_log, text_of_names, workload_file}
 use Rattle.velo_program.specs.Failures.{FailuresAsTold}
 use Rattle.velo_program.specs.Format.{ReadsNone}
 use Rattle.velo_delivery.specs.Reading.{Reading}
@@ -74,6 +76,11 @@ ExplainsInput names target store read stdout f =
     × IsDelivered store target stdout answer f)
 
 -- ---- the target
+
+-- the bytes of a text that is saved
+abbrev pub is_text_saved : Saved → List ℕ → Type 0
+is_text_saved (saved.Log closed) text = text ≡ text_of_log closed.now
+is_text_saved (saved.Bytes bytes) text = text ≡ bytes.now
 
 -- what writing the file came to
 abbrev pub IsSaved : {X : Type 0} → Store → Option (Bor (List ℕ)) → List ℕ → Result X Fate

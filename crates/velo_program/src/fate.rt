@@ -3,13 +3,13 @@ ghost use Rattle.std.specs.Prelude.{◌≡◌, ◌≢◌, ◌≤◌, ◌+◌, �
 ghost use Rattle.velo_list.specs.Fault.{fault_line as line_of_list_fault, fault_number as number_of_list_fault};
 ghost use Rattle.velo_names.specs.Fault.{fault_line, fault_number};
 ghost use Rattle.velo_delivery.specs.Writing.{BreaksOff, Writes, writing};
-ghost use Rattle.velo_program.specs.Fate.{Ends, number_of, status_of, status_of_check, status_of_list, status_of_log, status_of_refused, status_of_ending, status_of_names, status_of_schedule, status_of_work, place_of_work, line_of, line_of_check, line_of_log, line_of_ending, line_of_ignored, line_of_list, line_of_names, line_of_one_file, line_of_refused, line_of_schedule, line_of_work, word_of};
+ghost use Rattle.velo_program.specs.Fate.{Ends, fate_of_failure, number_of, status_of, status_of_check, status_of_list, status_of_log, status_of_refused, status_of_ending, status_of_names, status_of_schedule, status_of_work, place_of_work, line_of, line_of_check, line_of_log, line_of_ending, line_of_ignored, line_of_list, line_of_names, line_of_one_file, line_of_refused, line_of_schedule, line_of_work, word_of};
 
 use crate::check::CheckFault;
 use crate::request::Ignorable;
 use crate::status::{ALARM, BAD_INPUT, DONE, FAILED, INCOMPLETE};
 use velo_bytes::{Sink, WriteFault, put_bytes, put_number, write_all};
-use velo_delivery::Operand;
+use velo_delivery::{Failure, Operand};
 use velo_events::{Refusal, ThreadId};
 use velo_list::ListFault;
 use velo_logtext::LogFault;
@@ -56,6 +56,18 @@ pub enum Fate {
     Lost,
     /// Not every schedule was tried, and nothing was found.
     Open,
+}
+
+/// What a failure comes to.
+pub(crate) fn fate_of_failure(failure: Failure) -> Fate
+    ensures { result ≡ fate_of_failure failure }
+{
+    match failure {
+        Failure::CannotOpen(_) => Fate::CannotOpen,
+        Failure::ReadFailed(_) => Fate::ReadFailed,
+        Failure::WriteFailed(_) | Failure::PrintFailed => Fate::WriteFailed,
+        Failure::Memory(_) => Fate::Memory,
+    }
 }
 
 /// The number of a refusal.

@@ -3,10 +3,10 @@ ghost use Rattle.std.specs.Prelude.{◌≡◌, false, Some, IfOk, IfErr, IfSome,
 ghost use Rattle.velo_program.specs.Check.{IsOrderOrCycle};
 ghost use Rattle.velo_program.specs.Failures.{failures_told};
 ghost use Rattle.velo_program.specs.Format.{Reads};
-ghost use Rattle.velo_program.specs.Playing.{IsConfigOf, IsFaultOfWork, IsTextOf, IsUnread, is_unreported, text_of_log, workload_file};
+ghost use Rattle.velo_program.specs.Playing.{IsConfigOf, IsFaultOfWork, IsTextOf, IsUnread, is_unreported, workload_file};
 ghost use Rattle.velo_delivery.specs.Disk.{store};
 ghost use Rattle.velo_delivery.specs.Writing.{writing};
-ghost use Rattle.velo_program.specs.Steps.{AreNamesFor, IsSaved, OpensNoProgram, Reports, TellsEnd};
+ghost use Rattle.velo_program.specs.Steps.{AreNamesFor, OpensNoProgram, Reports, TellsEnd};
 
 use crate::check::{is_alarm, order_or_cycle_of, verdict_of, write_output};
 use crate::fate::Fate;
@@ -17,7 +17,6 @@ use std::alloc::Global;
 use velo_bytes::{Sink, Source, WriteFault};
 use velo_delivery::{Files, ReadFault, is_standard_input, read_whole};
 use velo_events::{Config, Memory, Refusal};
-use velo_logtext::write_log;
 use velo_report::Names;
 use velo_worker::Ending;
 use velo_workload::{MOST_WORKLOAD_BYTES, WorkFault, Workload, parse, text_of};
@@ -102,25 +101,6 @@ pub fn is_unreported(ending: Ending) -> bool
         ending,
         Ending::Refused(_, Refusal::Memory | Refusal::RuntimeMemory)
     )
-}
-
-/// Saves the log of a run at the target, if there is one.
-pub fn save_log<F: Files>(closed: &Closed, target: Option<&str>, files: &mut F) -> Result<(), Fate>
-    ensures { IsSaved (store F.disk files.old files.new) target.entry
-        (text_of_log closed.now) result }
-{
-    let Some(path) = target else {
-        return Ok(());
-    };
-    let Some(mut file) = files.create(path) else {
-        return Err(Fate::CannotOpen);
-    };
-    let written = write_log(closed.bounds(), closed.log(), &mut file);
-    files.close(path, file);
-    match written {
-        Ok(()) => Ok(()),
-        Err(WriteFault) => Err(Fate::WriteFailed),
-    }
 }
 
 /// Saves the log of a run and the names, where there are paths for them, then writes the report, and then the certificate, if
