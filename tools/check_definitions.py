@@ -1,8 +1,9 @@
-"""Checks that each name in docs/DEFINITIONS.md and docs/ARCHITECTURE.md stands in the specs or the sources of the crates.
+"""Checks the names in DEFINITIONS.md and ARCHITECTURE.md, of docs/internals: each is in the specs
+or the sources of the crates.
 
     python3 tools/check_definitions.py
 
-It fails where one stands nowhere, since it was renamed or removed.
+It fails where one is nowhere, since it was renamed or removed.
 """
 import glob
 import os
@@ -27,14 +28,14 @@ def main():
     files = {os.path.splitext(os.path.basename(path))[0] for path in sources}
     faults = 0
     for page in ("DEFINITIONS.md", "ARCHITECTURE.md"):
-        with open(os.path.join(ROOT, "docs", page), encoding="utf-8") as file:
+        with open(os.path.join(ROOT, "docs", "internals", page), encoding="utf-8") as file:
             lines = file.read().splitlines()
         for number, line in enumerate(lines, 1):
             for name in re.findall(r"(?<!`)`([^`]+)`(?!`)", line):
                 missing = [word for word in WORD.findall(name) if word not in known | files and not word.startswith("velo_")]
                 if missing and not re.search(r"/|\.txt", name):
                     faults += 1
-                    print(f"docs/{page}:{number}: {', '.join(missing)} of `{name}` stands nowhere")
+                    print(f"docs/internals/{page}:{number}: {', '.join(missing)} of `{name}` is nowhere")
     return 1 if faults else 0
 
 

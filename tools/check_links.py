@@ -1,4 +1,4 @@
-"""Checks that each relative link of README.md, docs and the crates' READMEs leads to a file, and each anchor to a heading.
+"""Checks that each relative link of the documents leads to a file, and each anchor to a heading.
 
     python3 tools/check_links.py
 
@@ -10,6 +10,7 @@ import re
 import sys
 
 ROOT = os.path.dirname(os.path.dirname(os.path.abspath(__file__)))
+PAGES = ("README.md", "docs/**/*.md", "crates/*/README.md", "recorder/*.md", "bindings/README.md", "bindings/*/README.md")
 LINK = re.compile(r"\]\(([^)\s]+)\)")
 CODE = re.compile(r"^```.*?^```|`[^`\n]*`", re.MULTILINE | re.DOTALL)
 
@@ -39,7 +40,7 @@ def fault_of(page, link):
 def main():
     if sys.argv[1:]:
         sys.exit(__doc__)
-    pages = [page for pattern in ("README.md", "docs/*.md", "crates/*/README.md") for page in glob.glob(os.path.join(ROOT, pattern))]
+    pages = [page for pattern in PAGES for page in glob.glob(os.path.join(ROOT, pattern), recursive=True)]
     faults = 0
     for page in sorted(pages):
         for link in LINK.findall(CODE.sub("", text_of(page))):

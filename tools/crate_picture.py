@@ -1,4 +1,4 @@
-"""Draws the crates of crates.txt in docs/ARCHITECTURE.md, between the two comments that mark the picture.
+"""Draws the crates of crates.txt in docs/internals/ARCHITECTURE.md, between the two comments that mark the picture.
 
     python3 tools/crate_picture.py            draws
     python3 tools/crate_picture.py --check    fails where the picture is stale, or a crate has not exactly one row in the table
@@ -10,7 +10,7 @@ import re
 import sys
 
 ROOT = os.path.dirname(os.path.dirname(os.path.abspath(__file__)))
-PAGE = os.path.join(ROOT, "docs", "ARCHITECTURE.md")
+PAGE = os.path.join(ROOT, "docs", "internals", "ARCHITECTURE.md")
 BEGIN, END = "<!-- crates.txt, drawn by tools/crate_picture.py -->\n", "<!-- end of the picture -->\n"
 
 
@@ -52,9 +52,9 @@ def main():
     rows = re.findall(r"^\| \[?`(\w+)`", tail, re.MULTILINE)
     wrong = [crate for crate in crates if rows.count(crate) != 1]
     if old != new:
-        print("docs/ARCHITECTURE.md: the picture is stale; run python3 tools/crate_picture.py")
+        print("docs/internals/ARCHITECTURE.md: the picture is stale; run python3 tools/crate_picture.py")
     for crate in wrong:
-        print(f"docs/ARCHITECTURE.md: {crate} has {rows.count(crate)} rows in the table")
+        print(f"docs/internals/ARCHITECTURE.md: {crate} has {rows.count(crate)} rows in the table")
     return 1 if wrong or old != new else 0
 
 

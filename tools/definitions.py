@@ -1,23 +1,29 @@
-"""Writes the second part of docs/DEFINITIONS.md from the specs of the crates, in an order for reading.
+"""Writes the definitions of the crates' specs.
 
-    python3 tools/definitions.py            writes it
-    python3 tools/definitions.py --check    fails where the page is stale
+    python3 tools/definitions.py            writes out/definitions.md, which is not committed, and
+                                            refreshes the quotations in docs/internals/DEFINITIONS.md
+    python3 tools/definitions.py --check    writes nothing; fails where a quotation is stale
 
-What stands above the mark in the page, the glossary, is written by hand.
+out/definitions.md has all definitions that public contracts cite, in an order for reading.
+docs/internals/DEFINITIONS.md is written by hand, but for its blocks "```antt NAME..": each quotes
+these definitions, from the first listed file that has one of the name.
 """
 import os
 import re
 import sys
 
 ROOT = os.path.dirname(os.path.dirname(os.path.abspath(__file__)))
-PAGE = os.path.join(ROOT, "docs", "DEFINITIONS.md")
-MARK = "<!-- What follows is written by tools/definitions.py. -->\n"
+PAGE = os.path.join(ROOT, "docs", "internals", "DEFINITIONS.md")
+WHOLE = os.path.join(ROOT, "out", "definitions.md")
+QUOTED = re.compile(r"^```antt ([^\n]+)\n.*?^```$", re.M | re.S)
 
 # The parts of the page, each with the files of its crates' specs: whole where a star stands behind the name, else what the
 # comments say of each definition. What only private contracts cite is left to its files.
 PARTS = [
     ("Traces, and what is meant by atomic", {
-        "velo_events": "Event Conflict* Heap Meaning* WellFormed* Block* Graph* Reordering* Certificate* Collection* Refusals*"}),
+        "velo_events": "Event Conflict* Heap Meaning* WellFormed* Block* Graph* Reordering* Certificate* Refusals*",
+        "velo_certify": "Shortest*",
+        "velo_monitor": "Collection*"}),
     ("Texts", {
         "velo_bytes": "Device Parsing",
         "velo_logtext": "Text* Finding",
@@ -84,24 +90,45 @@ def rows(lines):
     return found
 
 
+def lines_of(crate, name):
+    with open(os.path.join(ROOT, "crates", crate, "specs", f"{name}.antt"), encoding="utf-8") as file:
+        return file.read().splitlines()
+
+
 def chapter(crate, name):
     """A file by its first comment, and its definitions."""
-    with open(os.path.join(ROOT, "crates", crate, "specs", f"{name.rstrip('*')}.antt"), encoding="utf-8") as file:
-        lines = file.read().splitlines()
-    head = []
+    lines, head = lines_of(crate, name.rstrip("*")), []
     while lines and lines[0].startswith("--") and not lines[0].startswith("-- ----"):
         head.append(lines.pop(0))
     body = whole(lines) if name.endswith("*") else rows(lines)
     return "\n".join([f"### `{crate}`: {name.rstrip('*')}\n", f"{sentence(head)}\n", *body, ""])
 
 
-def written():
-    """The generated part of the page."""
-    parts = []
+def all_definitions():
+    parts = ["# All definitions\n\nWritten by tools/definitions.py.\n"]
     for title, crates in PARTS:
         parts.append(f"## {title}\n")
         parts += [chapter(crate, name) for crate, names in crates.items() for name in names.split()]
     return "\n".join(parts)
+
+
+def files():
+    return [(crate, name.rstrip("*")) for _, crates in PARTS for crate, names in crates.items() for name in names.split()]
+
+
+def definition(name):
+    """The lines of one definition: from its declaration to an empty line or a comment."""
+    for lines in (lines_of(*file) for file in files()):
+        for at, line in enumerate(lines):
+            if (item := ITEM.match(line)) and item[1] == name:
+                ends = (n for n, it in enumerate(lines[at:]) if not it.strip() or it.startswith("--"))
+                return "\n".join(lines[at : at + next(ends, len(lines))])
+    sys.exit(f"docs/internals/DEFINITIONS.md quotes {name}, of which there is no definition")
+
+
+def quotation(found):
+    body = "\n\n".join(map(definition, found[1].split()))
+    return f"```antt {found[1]}\n{body}\n```"
 
 
 def main(words):
@@ -109,16 +136,15 @@ def main(words):
         sys.exit(__doc__)
     with open(PAGE, encoding="utf-8") as file:
         old = file.read()
-    above, mark, _ = old.partition(MARK)
-    if not mark:
-        sys.exit(f"{PAGE} has no mark: {MARK}")
-    new = above + MARK + "\n" + written()
+    new, every = QUOTED.sub(quotation, old), all_definitions()
     if words:
         if new != old:
-            sys.exit("docs/DEFINITIONS.md is stale: run tools/definitions.py")
+            sys.exit("docs/internals/DEFINITIONS.md is stale: run tools/definitions.py")
         return
-    with open(PAGE, "w", encoding="utf-8") as file:
-        file.write(new)
+    os.makedirs(os.path.dirname(WHOLE), exist_ok=True)
+    for path, text in ((WHOLE, every), (PAGE, new)):
+        with open(path, "w", encoding="utf-8") as file:
+            file.write(text)
 
 
 main(sys.argv[1:])

@@ -29,7 +29,7 @@ pub struct Heir {
 }
 
 impl Step {
-    /// The step by its heir, where its node has one in the list, which is by slot.
+    /// This step, redirected to its node's heir, if `heirs[slot]` has one.
     pub fn renamed(self, heirs: &[Option<Heir>]) -> Step
         ensures { result ≡ renamed heirs.now self }
     {

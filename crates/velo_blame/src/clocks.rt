@@ -14,7 +14,7 @@ use smallvec::SmallVec;
 use std::alloc::Global;
 use std::marker::Model;
 use velo_clocks::ClockTables;
-use velo_events::{Bounds, Config, Event, MOST_OPEN_BLOCKS, Memory};
+use velo_events::{Bounds, Config, Event, MOST_OPEN_BLOCKS, Memory, Resolved};
 use velo_traces::Block;
 
 /// Which open blocks are to blame where an event closes the first cycle, without a look at the events before it. They were
@@ -85,7 +85,7 @@ impl Clocks {
 
     /// Whether there is room for what the event notes, where its threads are the run's.
     #[inline(always)]
-    pub fn has_room_for(&self, event: &Event) -> bool
+    pub fn has_room_for(&self, event: &Resolved<'_>) -> bool
         ensures { IsTrue result → IsOfThreads self.now.bounds.threads event.now → HasRoomToNote self.now.bounds.threads self.now.state event.now }
     {
         self.tables.has_room_for(event)
@@ -101,7 +101,19 @@ impl Clocks {
         ensures next { (first : ℕ) (trace : List Event) → AreClocksSince first self.old.state trace → length trace ≡ position
             → IsWellFormed self.old.bounds (trace ++ event.now ∷ []) → AreClocksSince first self.new.state (trace ++ event.now ∷ []) }
     {
-        self.tables.note(position as u32, event);
+        self.note_resolved(position, &Resolved::of(event));
+    }
+
+    /// As `note`, of an event that is resolved.
+    #[inline(always)]
+    pub fn note_resolved(&mut self, position: usize, event: &Resolved<'_>)
+        requires room { HasRoomToNote self.old.bounds.threads self.old.state event.now }
+        requires fits { position + 1 < 2 ^ 32 }
+        ensures bounds { self.new.bounds ≡ self.old.bounds }
+        ensures next { (first : ℕ) (trace : List Event) → AreClocksSince first self.old.state trace → length trace ≡ position
+            → IsWellFormed self.old.bounds (trace ++ event.now ∷ []) → AreClocksSince first self.new.state (trace ++ event.now ∷ []) }
+    {
+        self.tables.note_resolved(position as u32, event);
     }
 
     /// Those of the open blocks of the event's thread that are to blame where the event, at this position, closes the first

@@ -6,7 +6,7 @@ use Rattle.std.proofs.lemmas.List.{length_push, get_or_append_left, get_or_push,
 use Rattle.velo_events.specs.declared.event.Event.{Event}
 use Rattle.velo_events.specs.Block.{owner}
 use Rattle.velo_events.specs.Graph.{Path, IsCycle, Edge}
-use Rattle.velo_events.specs.Certificate.{IsCycleAt, IsShortestCycleAt}
+use Rattle.velo_certify.specs.Shortest.{IsCycleAt, IsShortestCycleAt}
 use Rattle.velo_events.proofs.OnBlocks.{owner-append}
 use Rattle.velo_events.proofs.OnGraphs.{Path-append}
 use Rattle.velo_events.proofs.OnReaching.{IsCycle-next}
@@ -14,11 +14,18 @@ use Rattle.velo_certify.specs.declared.fault.CertFault.{CertFault}
 use Rattle.velo_certify.specs.declared.fault.CertFault.TheVariants.{HasCycle, NoCycle, NotThere, Memory}
 use Rattle.velo_certify.specs.Distances.{AreDistances, AreTowards}
 use Rattle.velo_certify.specs.Nearest.{IsNearest}
-use Rattle.velo_certify.specs.Cycle.{IsCycleFault, IsLastFault, IsOnNone, IsCycleFrom, IsShortestFrom, WalksBack, IsLinked, next_in}
+use Rattle.velo_certify.specs.Cycle.{IsCycleFault, IsLastFault, IsOnNone, IsCycleFrom, IsShortestFrom, IsLinked, next_in}
 use Rattle.velo_certify.proofs.OnDistances.{AreDistances-path}
 
--- ---- the walk
+-- the walk has come from the start, by the list, to the present transaction, and with the way back it is as long as it can be
+pub record WalksBack (trace : List Event) (distance : List ℕ) (start second : ℕ) (cycle : List ℕ) (present : ℕ) : Type 0 where
+  pub between : List ℕ
+  pub items : cycle ≡ start ∷ between
+  pub path : Path (Edge trace) start between present
+  pub steps : length between + slice_index distance present ≡ slice_index distance second
+  pub reached : 0 < slice_index distance present
 
+-- ---- the walk
 module _ (trace : List Event) (distance : List ℕ) (start second : ℕ) (w : AreDistances trace start distance) where
   pub WalksBack-start : IsNearest trace distance start second → WalksBack trace distance start second (start ∷ []) second
   WalksBack-start n = record { between = []; items = refl; path = n.edge; steps = omega arith; reached = n.reached }

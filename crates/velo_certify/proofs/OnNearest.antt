@@ -9,7 +9,7 @@ use Rattle.velo_events.specs.Graph.{Edge}
 use Rattle.velo_events.proofs.OnReorderings.{conflict_at-within}
 use Rattle.velo_conflicts.specs.Numbers.{HasNumbers, AreBlank}
 use Rattle.velo_certify.specs.Table.{IsGreatestBefore, numbers_before}
-use Rattle.velo_certify.specs.Nearest.{own_positions, LeadsInto, IsNearest, IsNearestBelow, IsNearestSoFar, IsWithNext}
+use Rattle.velo_certify.specs.Nearest.{own_positions, LeadsInto, IsNearest, IsNearestBelow, IsNoneBelow, IsWithNext}
 
 pub own_positions-yes : (trace : List Event) (a i : ℕ) → owner trace i ≡ a → own_positions trace a i ≡ 1
 unfolding own_positions
@@ -58,8 +58,11 @@ Edge-leads trace a b e = record {
   differ = λ same. e.differ (same ∙ e.of_to);
 }
 
--- ---- the nearest
+-- a nearest one of the events before position n, or none of them leads there
+abbrev pub IsNearestSoFar : List Event → List ℕ → ℕ → ℕ → Option ℕ → Type 0
+IsNearestSoFar trace distance a n nearest = MatchOption nearest (IsNoneBelow trace distance a n) (IsNearestBelow trace distance a n)
 
+-- ---- the nearest
 module _ (trace : List Event) (distance : List ℕ) (a n : ℕ) where
   pub IsNearestSoFar-none : (nearest : Option ℕ) → ¬ LeadsInto trace a n → IsNearestSoFar trace distance a n nearest → IsNearestSoFar trace distance a (n + 1) nearest
   IsNearestSoFar-none None none w = record { none = λ i l h. ⊎_elim (λ g. w.none i g h) (λ g. absurd (none (subst (LeadsInto trace a) (let same : i ≡ n = omega (arith, g, l) in same) h))) (cases_lt i n) }

@@ -2,7 +2,7 @@
 use Rattle.std.specs.Prelude.{◌≡◌, ℕ, ◌+◌, ◌<◌, ◌≤◌, nat_lt, if◌then◌else◌, List, ◌∷◌, take, length, slice_index, Contains}
 use Rattle.velo_events.specs.declared.event.Event.{Event}
 use Rattle.velo_events.specs.Block.{owner}
-use Rattle.velo_events.specs.Graph.{Path, Edge, IsCycle}
+use Rattle.velo_events.specs.Graph.{Edge, IsCycle}
 use Rattle.velo_events.specs.Refusals.{GrowthRefused}
 use Rattle.velo_certify.specs.declared.fault.CertFault.{CertFault}
 use Rattle.velo_certify.specs.declared.fault.CertFault.TheVariants.{HasCycle, NoCycle, NotThere, Memory}
@@ -38,14 +38,6 @@ IsLastFault trace start HasCycle = ⊥
 IsLastFault trace start NoCycle = IsOnNone trace start
 IsLastFault trace start NotThere = ⊥
 IsLastFault trace start Memory = GrowthRefused
-
--- the walk has come from the start, by the list, to the present transaction, and with the way back it is as long as it can be
-pub record WalksBack (trace : List Event) (distance : List ℕ) (start second : ℕ) (cycle : List ℕ) (present : ℕ) : Type 0 where
-  pub between : List ℕ
-  pub items : cycle ≡ start ∷ between
-  pub path : Path (Edge trace) start between present
-  pub steps : length between + slice_index distance present ≡ slice_index distance second
-  pub reached : 0 < slice_index distance present
 
 -- what comes next in a list, where its first comes after its last
 abbrev pub next_in : List ℕ → ℕ → ℕ

@@ -1,3 +1,4 @@
+pub mod Shortest
 pub mod Table
 pub mod Owners
 pub mod Order

@@ -1,5 +1,5 @@
 -- The edges out of one transaction, and the nearest one that they lead to. Private contracts cite these words.
-use Rattle.std.specs.Prelude.{◌≡◌, ◌≢◌, ℕ, ◌<◌, ◌≤◌, ◌==◌, ◌⊎◌, cond, List, slice_index, Option, Some, MatchOption, IfSome, IsTrue}
+use Rattle.std.specs.Prelude.{◌≡◌, ◌≢◌, ℕ, ◌<◌, ◌≤◌, ◌==◌, ◌⊎◌, cond, List, slice_index, Option, Some, IfSome, IsTrue}
 use Rattle.velo_events.specs.declared.event.Event.{Event}
 use Rattle.velo_events.specs.Block.{owner}
 use Rattle.velo_events.specs.Graph.{conflict_at, Edge}
@@ -30,9 +30,6 @@ pub record IsNearestBelow (trace : List Event) (distance : List ℕ) (a n b : �
 
 pub record IsNoneBelow (trace : List Event) (distance : List ℕ) (a n : ℕ) : Type 0 where
   pub none : (i : ℕ) → i < n → LeadsInto trace a i → slice_index distance (owner trace i) ≡ 0
-
-abbrev pub IsNearestSoFar : List Event → List ℕ → ℕ → ℕ → Option ℕ → Type 0
-IsNearestSoFar trace distance a n nearest = MatchOption nearest (IsNoneBelow trace distance a n) (IsNearestBelow trace distance a n)
 
 -- a transaction without a distance changes nothing; otherwise the answer is as near as both
 pub record IsWithNext (distance : List ℕ) (nearest : Option ℕ) (next : ℕ) (result : Option ℕ) : Type 0 where

@@ -48,8 +48,11 @@ impl Links {
     /// `Memory` where a growth was refused.
     pub fn add(&mut self, before: usize, to: usize) -> Result<(), Memory>
         requires { to < length self.old.heads.items }
-        ensures links { OnOk result (self.new.links.items ≡ self.old.links.items ++ record { before = before; next = slice_index self.old.heads.items to } ∷ []) }
-        ensures heads { OnOk result (self.new.heads.items ≡ slice_set self.old.heads.items to (length self.old.links.items + 1)) }
+        ensures links { OnOk result
+            (self.new.links.items
+            ≡ self.old.links.items ++ record { before = before; next = slice_index self.old.heads.items to } ∷ []) }
+        ensures heads { OnOk result
+            (self.new.heads.items ≡ slice_set self.old.heads.items to (length self.old.links.items + 1)) }
     {
         reserve(&mut self.links, 1)?;
         let next = self.heads[to];

@@ -1,7 +1,7 @@
 //! A shortest cycle through the transaction of a position, and whether a list is one.
 ghost use Rattle.std.specs.Prelude.{◌≡◌, ◌-◌, ◌<◌, ◌↔◌, List, length, slice_index, IfOk, IfErr, IsTrue};
 ghost use Rattle.velo_events.specs.Block.{owner};
-ghost use Rattle.velo_events.specs.Certificate.{IsShortestCycleAt};
+ghost use Rattle.velo_certify.specs.Shortest.{IsShortestCycleAt};
 ghost use Rattle.velo_events.specs.declared.event.Event.{Event};
 ghost use Rattle.velo_certify.specs.Owners.{AreOwners};
 ghost use Rattle.velo_conflicts.specs.Places.{AllHavePlaces, sizes};
@@ -30,7 +30,10 @@ fn cycle_through(
 ) -> Result<Vec<usize>, Memory>
     requires nearer { AreNearer start reached.now.distance.items reached.now.next.items }
     requires second { 0 < slice_index reached.now.distance.items second }
-    ensures { IfOk result (λ cycle. (trace : List Event) → AreDistances trace start reached.now.distance.items → AreTowards trace start reached.now.distance.items reached.now.next.items → IsNearest trace reached.now.distance.items start second → IsShortestFrom trace start cycle.items) }
+    ensures { IfOk result (λ cycle.
+        (trace : List Event) → AreDistances trace start reached.now.distance.items →
+        AreTowards trace start reached.now.distance.items reached.now.next.items →
+        IsNearest trace reached.now.distance.items start second → IsShortestFrom trace start cycle.items) }
 {
     let mut cycle = Vec::new(alloc);
     reserve(&mut cycle, 1)?;
@@ -47,7 +50,8 @@ fn cycle_through(
 /// A shortest cycle that begins with the transaction of the last of the events.
 fn last_cycle(alloc: Global, events: &[Event]) -> Result<Vec<usize>, CertFault>
     requires { 0 < length events.now }
-    ensures cycle { IfOk result (λ cycle. IsShortestFrom events.now (owner events.now (length events.now - 1)) cycle.items) }
+    ensures cycle { IfOk result (λ cycle.
+        IsShortestFrom events.now (owner events.now (length events.now - 1)) cycle.items) }
     ensures fault { IfErr result (IsLastFault events.now (owner events.now (length events.now - 1))) }
 {
     let owners = owners_of(alloc, events)?;
@@ -110,7 +114,8 @@ fn is_linked(events: &[Event], owners: &[usize], table: &mut ConflictTable, cycl
 /// Whether the list is a cycle that begins with the transaction of the last of the events.
 fn is_last_cycle(alloc: Global, events: &[Event], cycle: &[usize]) -> Result<bool, Memory>
     requires { 0 < length events.now }
-    ensures { IfOk result (λ yes. IsTrue yes ↔ IsCycleFrom events.now (owner events.now (length events.now - 1)) cycle.now) }
+    ensures { IfOk result (λ yes.
+        IsTrue yes ↔ IsCycleFrom events.now (owner events.now (length events.now - 1)) cycle.now) }
 {
     if cycle.len() < 2 {
         return Ok(false);

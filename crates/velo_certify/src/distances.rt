@@ -44,7 +44,8 @@ fn expand_level(
     requires begin { begin < length reached.old.found.items }
     requires level { AreOnLevel reached.old begin }
     ensures lists { AreVisited events.now lists.new reached.new }
-    ensures searched { (target : ℕ) → IsSearched events.now target begin reached.old → IsSearched events.now target (length reached.old.found.items) reached.new }
+    ensures searched { (target : ℕ) → IsSearched events.now target begin reached.old →
+        IsSearched events.now target (length reached.old.found.items) reached.new }
     ensures level { AreOnLevel reached.new (length reached.old.found.items) }
 {
     let end = reached.found.len();

@@ -1,7 +1,7 @@
 //! The pairs of events behind the edges of a cycle.
 ghost use Rattle.std.specs.Prelude.{◌≡◌, ◌≢◌, ◌<◌, ◌+◌, ◌-◌, length, take, slice_index, IfOk, MatchOption};
 ghost use Rattle.velo_events.specs.Block.{owner};
-ghost use Rattle.velo_events.specs.Certificate.{IsCycleAt};
+ghost use Rattle.velo_certify.specs.Shortest.{IsCycleAt};
 ghost use Rattle.velo_events.specs.Graph.{Edge};
 ghost use Rattle.velo_certify.specs.Cycle.{next_in, IsLinked};
 ghost use Rattle.velo_certify.specs.Edges.{ShowsEdge, ShowEdges, own_places};
@@ -45,7 +45,8 @@ fn place_before(
     ensures names { sizes table.new ≡ sizes table.old }
     ensures numbers { HasNumbers events.now (numbers_before (own_places events.now from) (at + 1)) table.new }
     ensures some { LeadsInto events.now from at → 0 < result }
-    ensures edge { 0 < result → owner events.now at ≢ from → ShowsEdge events.now from (owner events.now at) (record { from = result - 1; to = at }) }
+    ensures edge { 0 < result → owner events.now at ≢ from →
+        ShowsEdge events.now from (owner events.now at) (record { from = result - 1; to = at }) }
 {
     let transaction = owner_of(events, owners, at);
     let number = if transaction == from { at + 1 } else { 0 };

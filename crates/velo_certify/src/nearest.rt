@@ -102,7 +102,8 @@ pub(crate) fn nearest_next(
     requires names { AllHavePlaces (sizes table.old) events.now (length events.now) }
     requires count { length distance.now ≡ length events.now }
     ensures names { sizes table.new ≡ sizes table.old }
-    ensures nearest { MatchOption result ((b : ℕ) → Edge events.now from b → slice_index distance.now b ≡ 0) (IsNearest events.now distance.now from) }
+    ensures nearest { MatchOption result
+        ((b : ℕ) → Edge events.now from b → slice_index distance.now b ≡ 0) (IsNearest events.now distance.now from) }
 {
     table.clear();
     let mut nearest = None;

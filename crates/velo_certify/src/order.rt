@@ -137,7 +137,8 @@ fn is_serial(
 /// # Errors
 /// `Memory` where a growth was refused.
 pub fn check_order(alloc: Global, trace: &Trace, order: &[usize]) -> Result<bool, Memory>
-    ensures { IfOk result (λ yes. IsTrue yes ↔ (IsReordering trace.now.events order.now × IsSerial trace.now.events order.now)) }
+    ensures { IfOk result (λ yes.
+        IsTrue yes ↔ (IsReordering trace.now.events order.now × IsSerial trace.now.events order.now)) }
 {
     let events = trace.as_slice();
     match places_of(alloc, events.len(), order)? {

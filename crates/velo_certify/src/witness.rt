@@ -79,7 +79,8 @@ fn first_witness(events: &[Event], marks: &[usize], begin: usize, position: usiz
     requires within { position < length events.now }
     requires marks { AreMarks events.now begin marks.now }
     requires count { length marks.now ≡ position }
-    ensures { MatchOption result ((w : ℕ) → ¬ IsWitness events.now begin position w) (IsWitness events.now begin position) }
+    ensures { MatchOption result
+        ((w : ℕ) → ¬ IsWitness events.now begin position w) (IsWitness events.now begin position) }
 {
     for at in 0..position {
         if is_witness(events, marks, begin, position, at) {
@@ -104,7 +105,9 @@ pub fn witness_of(
     position: usize,
 ) -> Result<Option<usize>, Memory>
     requires { position < length trace.now.events }
-    ensures { IfOk result (λ found. MatchOption found ((w : ℕ) → ¬ IsWitness trace.now.events begin position w) (IsWitness trace.now.events begin position)) }
+    ensures { IfOk result (λ found.
+        MatchOption found ((w : ℕ) → ¬ IsWitness trace.now.events begin position w)
+        (IsWitness trace.now.events begin position)) }
 {
     let events = trace.as_slice();
     let marks = marks_before(alloc, events, begin, position)?;

@@ -12,7 +12,7 @@ use crate::read_clocks::ReadClocks;
 use crate::shared_rows::SharedRows;
 use std::alloc::Global;
 use velo_events::growth::{fill_up_to, filled};
-use velo_events::{Access, Event, Memory, ThreadId};
+use velo_events::{Access, Event, Memory, Resolved, ThreadId};
 
 /// What is known at the places of a run, by number: by the last event of each thread and the last write of each cell, and by
 /// the reads since then. A variable is written and read; a lock is written by who takes or leaves it alone, and read by who
@@ -53,7 +53,7 @@ impl PlaceClocks {
 
     /// Whether there is room for what the event notes already.
     #[inline(always)]
-    pub fn has_room_for(&self, event: &Event) -> bool
+    pub fn has_room_for(&self, event: &Resolved<'_>) -> bool
         ensures { (threads : ℕ) → ArePlaces threads self.now → IsTrue result → IsOfThreads threads event.now → HasRoomToNote threads (state_of self.now) event.now }
     {
         self.rows.has_spare() && self.reads.has_lists() && self.has_room_beside(event)
@@ -61,10 +61,10 @@ impl PlaceClocks {
 
     /// Whether there is at the places beside the last of the event's thread.
     #[inline(always)]
-    fn has_room_beside(&self, event: &Event) -> bool
+    fn has_room_beside(&self, event: &Resolved<'_>) -> bool
         ensures { (threads : ℕ) → ArePlaces threads self.now → IsTrue result → IsOfThreads threads event.now → HasRoomToNoteBeside threads (state_of self.now) (access_of event.now.kind) }
     {
-        match event.kind.access() {
+        match event.access() {
             Access::Shared(c) => (c.0 as usize) < self.reads.count(),
             Access::Exclusive(c) => (c.0 as usize) < self.writes.len(),
             _ => true,
@@ -76,7 +76,7 @@ impl PlaceClocks {
     /// # Errors
     /// `Memory` where there was too little room and a growth was refused. What is known is as before then.
     #[inline]
-    pub fn reserve_for(&mut self, event: &Event, threads: usize) -> Result<(), Memory>
+    pub fn reserve_for(&mut self, event: &Resolved<'_>, threads: usize) -> Result<(), Memory>
         requires { ArePlaces threads self.old }
         ensures places { ArePlaces threads self.new }
         ensures unchanged { KnowsTheSame (state_of self.old) (state_of self.new) }
@@ -90,7 +90,7 @@ impl PlaceClocks {
     }
 
     /// Makes room at the places beside the last of the event's thread.
-    fn reserve_beside(&mut self, event: &Event, threads: usize) -> Result<(), Memory>
+    fn reserve_beside(&mut self, event: &Resolved<'_>, threads: usize) -> Result<(), Memory>
         requires { ArePlaces threads self.old }
         ensures places { ArePlaces threads self.new }
         ensures unchanged { KnowsTheSame (state_of self.old) (state_of self.new) }
@@ -100,7 +100,7 @@ impl PlaceClocks {
         ensures ok { OnOk result (IsOfThreads threads event.now → HasRoomToNoteBeside threads (state_of self.new) (access_of event.now.kind)) }
         ensures err { OnErr result (0 < threads → ¬ HasRoomToNoteBeside threads (state_of self.old) (access_of event.now.kind)) }
     {
-        match event.kind.access() {
+        match event.access() {
             Access::Shared(c) => self.reads.reserve(c.0 as usize),
             Access::Exclusive(c) => fill_up_to(&mut self.writes, c.0 as usize, Epoch::blank()),
             _ => Ok(()),
@@ -191,14 +191,20 @@ impl PlaceClocks {
     /// Whether the places were in order and the event at the position keeps them so: it is later than all, and no thread is
     /// forked after its first event.
     #[inline]
-    pub fn stay_in_order(&self, in_order: bool, latest: u32, position: u32, event: &Event) -> bool
+    pub fn stay_in_order(
+        &self,
+        in_order: bool,
+        latest: u32,
+        position: u32,
+        event: &Resolved<'_>,
+    ) -> bool
         ensures were { IsTrue result → IsTrue in_order }
         ensures keeps { IsTrue result → KeepsOrder (state_of self.now) latest position event.now }
     {
         if !in_order || position < latest {
             return false;
         }
-        match event.kind.access() {
+        match event.access() {
             Access::Fork(u) => self.rows.known(Epoch::at(&self.threads, u.0 as usize), u) == 0,
             _ => true,
         }
@@ -207,7 +213,7 @@ impl PlaceClocks {
     /// Notes the event at the position if it learns nothing, so that it shares the row of its thread's last event. Where it may
     /// learn something, and where it forks or joins, nothing is noted.
     #[inline(always)]
-    pub fn share(&mut self, position: u32, event: &Event, threads: usize) -> bool
+    pub fn share(&mut self, position: u32, event: &Resolved<'_>, threads: usize) -> bool
         requires places { ArePlaces threads self.old }
         requires room { HasRoomToNote threads (state_of self.old) event.now }
         requires fits { position + 1 < 2 ^ 32 }
@@ -218,9 +224,10 @@ impl PlaceClocks {
         ensures same { IsFalse result → self.new ≡ self.old }
         ensures few { HasFewRows self.old → HasFewRows self.new }
     {
-        let t = event.thread.0 as usize;
+        let thread = event.thread();
+        let t = thread.0 as usize;
         let own = self.threads[t];
-        if own.by.0 != event.thread.0 {
+        if own.by.0 != thread.0 {
             return false;
         }
         if !self.share_beside(event, own, position + 1, threads) {
@@ -232,7 +239,13 @@ impl PlaceClocks {
 
     /// The places beside know what the event does, which shares the row of the last of its thread, if it learns nothing there.
     #[inline(always)]
-    fn share_beside(&mut self, event: &Event, own: Epoch, number: u32, threads: usize) -> bool
+    fn share_beside(
+        &mut self,
+        event: &Resolved<'_>,
+        own: Epoch,
+        number: u32,
+        threads: usize,
+    ) -> bool
         requires places { ArePlaces threads self.old }
         requires beside { HasRoomToNoteBeside threads (state_of self.old) (access_of event.now.kind) }
         requires by { own.by.0 < threads }
@@ -255,7 +268,7 @@ impl PlaceClocks {
             number,
             row: own.row,
         };
-        match event.kind.access() {
+        match event.access() {
             Access::Shared(c) => {
                 let x = c.0 as usize;
                 if x < self.writes.len() && !self.rows.knows(own, self.writes[x]) {
@@ -282,7 +295,7 @@ impl PlaceClocks {
 
     /// Notes the event at the position. The list is for what it needs to write down.
     #[inline]
-    pub fn note(&mut self, clock: &mut [u32], position: u32, event: &Event, in_order: bool)
+    pub fn note(&mut self, clock: &mut [u32], position: u32, event: &Resolved<'_>, in_order: bool)
         requires places { ArePlaces (length clock.old) self.old }
         requires room { HasRoomToNote (length clock.old) (state_of self.old) event.now }
         requires fits { position + 1 < 2 ^ 32 }
@@ -293,16 +306,16 @@ impl PlaceClocks {
     {
         let row = self.row_of(clock, event);
         let epoch = Epoch {
-            by: event.thread,
+            by: event.thread(),
             number: position + 1,
             row,
         };
-        self.threads[event.thread.0 as usize] = epoch;
+        self.threads[epoch.by.0 as usize] = epoch;
         self.spread(event, epoch, clock.len(), in_order);
     }
 
     /// The row of what the event knows of other threads.
-    fn row_of(&mut self, clock: &mut [u32], event: &Event) -> usize
+    fn row_of(&mut self, clock: &mut [u32], event: &Resolved<'_>) -> usize
         requires places { ArePlaces (length clock.old) self.old }
         requires room { HasRoomToNote (length clock.old) (state_of self.old) event.now }
         ensures places { ArePlaces (length clock.old) self.new }
@@ -312,19 +325,19 @@ impl PlaceClocks {
         ensures row { (x : ℕ) → slice_set (slice_index_or self.new.rows.rows result []) (thread_of event.now) x
             ≡ slice_set (clock_beside (state_of self.old) (access_of event.now.kind) (clock_at (state_of self.old) (OfLast (thread_of event.now))).known) (thread_of event.now) x }
     {
-        let own = self.threads[event.thread.0 as usize];
+        let own = self.threads[event.thread().0 as usize];
         self.learn_beside(clock, own, event);
         self.rows.store(clock)
     }
 
     /// Writes down what is known by an event and by those at the places beside.
-    fn learn_beside(&self, clock: &mut [u32], own: Epoch, event: &Event)
+    fn learn_beside(&self, clock: &mut [u32], own: Epoch, event: &Resolved<'_>)
         requires places { ArePlaces (length clock.old) self.now }
         requires in_use { IsInUse self.now.rows own.row }
         ensures { clock.new ≡ clock_beside (state_of self.now) (access_of event.now.kind) (clock_in self.now.rows.rows own) }
     {
         self.rows.copy_clock(own, clock);
-        match event.kind.access() {
+        match event.access() {
             Access::Shared(c) => self
                 .rows
                 .raise_clock(Epoch::at(&self.writes, c.0 as usize), clock),
@@ -342,7 +355,7 @@ impl PlaceClocks {
 
     /// The places beside know what the event does.
     #[inline]
-    fn spread(&mut self, event: &Event, epoch: Epoch, threads: usize, in_order: bool)
+    fn spread(&mut self, event: &Resolved<'_>, epoch: Epoch, threads: usize, in_order: bool)
         requires places { ArePlaces threads self.old }
         requires beside { HasRoomToNoteBeside threads (state_of self.old) (access_of event.now.kind) }
         requires by { epoch.by.0 < threads }
@@ -354,7 +367,7 @@ impl PlaceClocks {
         ensures noted { state_of self.new ≡ with_spare (is_ready self.new) (state_after_beside (state_of self.old) epoch.by.0 (access_of event.now.kind) (clock_in self.old.rows.rows epoch)) }
         ensures few { HasFewRows self.old → HasFewRows self.new }
     {
-        match event.kind.access() {
+        match event.access() {
             Access::Shared(c) => self
                 .reads
                 .add(&self.rows, c.0 as usize, epoch, threads, in_order),

@@ -6,7 +6,7 @@ use crate::clock_places::PlaceClocks;
 use std::alloc::Global;
 use std::marker::Model;
 use velo_events::growth::filled;
-use velo_events::{Config, Event, Memory, ThreadId};
+use velo_events::{Config, Event, Memory, Resolved, ThreadId};
 
 /// How far the events at each place know each thread: the last event of each thread, the last write of each variable or lock,
 /// and its reads since then. To take or leave a lock alone is to write it, to do so beside others to read it.
@@ -56,7 +56,7 @@ impl ClockTables {
 
     /// Whether there is room for what the event notes already.
     #[inline(always)]
-    pub fn has_room_for(&self, event: &Event) -> bool
+    pub fn has_room_for(&self, event: &Resolved<'_>) -> bool
         ensures { IsTrue result → IsOfThreads (length self.now.threads) event.now → HasRoomToNote (length self.now.threads) self.now event.now }
     {
         self.places.has_room_for(event)
@@ -73,7 +73,7 @@ impl ClockTables {
         ensures err { OnErr result (¬ HasRoomToNote (length self.old.threads) self.old event.now) }
     {
         let threads = self.clock.len();
-        self.places.reserve_for(event, threads)
+        self.places.reserve_for(&Resolved::of(event), threads)
     }
 
     /// Notes the event at the position, which has to be below 2^32 - 1. There has to be room for it, as after
@@ -85,14 +85,25 @@ impl ClockTables {
         ensures noted { IsNoted self.old position event.now self.new }
         ensures threads { length self.new.threads ≡ length self.old.threads }
     {
+        self.note_resolved(position, &Resolved::of(event));
+    }
+
+    /// As `note`, of an event that is resolved.
+    #[inline(always)]
+    pub fn note_resolved(&mut self, position: u32, event: &Resolved<'_>)
+        requires room { HasRoomToNote (length self.old.threads) self.old event.now }
+        requires fits { position + 1 < 2 ^ 32 }
+        ensures noted { IsNoted self.old position event.now self.new }
+        ensures threads { length self.new.threads ≡ length self.old.threads }
+    {
         if !self.note_shared(position, event) {
-            self.note_in_full(position, event);
+            self.note_in_full(position, event.event());
         }
     }
 
     /// Notes the event if it comes in order and learns nothing, as most do.
     #[inline(always)]
-    fn note_shared(&mut self, position: u32, event: &Event) -> bool
+    fn note_shared(&mut self, position: u32, event: &Resolved<'_>) -> bool
         requires room { HasRoomToNote (length self.old.threads) self.old event.now }
         requires fits { position + 1 < 2 ^ 32 }
         ensures noted { IsTrue result → IsNoted self.old position event.now self.new }
@@ -109,7 +120,8 @@ impl ClockTables {
         true
     }
 
-    /// Notes the event, whatever it learns.
+    /// Notes the event, whatever it learns. It resolves the event for itself: lent to a call out of line, a resolved one would
+    /// have to stand in memory for all events.
     #[inline(never)]
     fn note_in_full(&mut self, position: u32, event: &Event)
         requires room { HasRoomToNote (length self.old.threads) self.old event.now }
@@ -117,10 +129,12 @@ impl ClockTables {
         ensures noted { IsNoted self.old position event.now self.new }
         ensures threads { length self.new.threads ≡ length self.old.threads }
     {
+        let event = Resolved::of(event);
         let in_order = self
             .places
-            .stay_in_order(self.in_order, self.latest, position, event);
-        self.places.note(&mut self.clock, position, event, in_order);
+            .stay_in_order(self.in_order, self.latest, position, &event);
+        self.places
+            .note(&mut self.clock, position, &event, in_order);
         self.in_order = in_order;
         self.latest = position + 1;
     }

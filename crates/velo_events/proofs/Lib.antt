@@ -2,6 +2,7 @@ pub mod OnLists
 pub mod OnResults
 pub mod OnTests
 pub mod OnFilling
+pub mod OnThreadSets
 pub mod OnTraces
 pub mod OnBlocks
 pub mod OnScans
@@ -21,7 +22,6 @@ pub mod OnHappening
 pub mod OnOwners
 pub mod OnUnfinished
 pub mod OnReaching
-pub mod OnCollection
 pub mod OnBlame
 pub mod OnSerializing
 pub mod OnLast

@@ -1,5 +1,6 @@
 ghost use Rattle.std.specs.Prelude.{◌≡◌, ◌+◌};
-ghost use Rattle.velo_events.specs.Event.{access_of};
+ghost use Rattle.velo_events.specs.Event.{access_of, value_read};
+ghost use Rattle.velo_events.specs.Meaning.{action_of, is_live, is_unborn};
 ghost use Rattle.velo_events.specs.Conflict.{conflict};
 
 /// The number of a thread. A run has at most [`MOST_THREADS`](crate::MOST_THREADS); thread 0 is there from the start.
@@ -137,6 +138,37 @@ impl Kind {
             Kind::Begin(_) | Kind::End | Kind::Exit => Access::Nothing,
         }
     }
+
+    /// The action that asks for the operation.
+    #[inline]
+    pub fn action(self) -> Action
+        ensures { result ≡ action_of self }
+    {
+        match self {
+            Kind::Read(x, _) => Action::Read(x),
+            Kind::Write(x, value) => Action::Write(x, value),
+            Kind::Acquire(m) => Action::Acquire(m),
+            Kind::Release(m) => Action::Release(m),
+            Kind::AcquireShared(m) => Action::AcquireShared(m),
+            Kind::ReleaseShared(m) => Action::ReleaseShared(m),
+            Kind::Begin(label) => Action::Begin(label),
+            Kind::End => Action::End,
+            Kind::Fork(u) => Action::Fork(u),
+            Kind::Join(u) => Action::Join(u),
+            Kind::Exit => Action::Exit,
+        }
+    }
+
+    /// The value that a read returned, and `None` for any other operation.
+    #[inline]
+    pub fn value_read(self) -> Option<u64>
+        ensures { result ≡ value_read self }
+    {
+        match self {
+            Kind::Read(_, value) => Some(value),
+            _ => None,
+        }
+    }
 }
 
 /// Whether two events of one trace conflict, so that no equivalent trace exchanges them.
@@ -171,4 +203,22 @@ pub enum Status {
     Exited,
     /// It has exited and was joined.
     Joined,
+}
+
+impl Status {
+    /// Whether the thread may act.
+    #[inline]
+    pub fn is_live(self) -> bool
+        ensures { result ≡ is_live self }
+    {
+        matches!(self, Status::Live)
+    }
+
+    /// Whether nobody has forked the thread, which is not thread 0.
+    #[inline]
+    pub fn is_unborn(self) -> bool
+        ensures { result ≡ is_unborn self }
+    {
+        matches!(self, Status::Unborn)
+    }
 }

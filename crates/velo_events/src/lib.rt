@@ -11,6 +11,8 @@ pub mod growth;
 mod limits;
 mod memory;
 mod refusal;
+mod resolved;
+mod thread_set;
 
 pub use config::{BadConfig, Bounds, Config};
 pub use event::{
@@ -19,3 +21,5 @@ pub use event::{
 pub use limits::{MOST_EVENTS, MOST_LOCKS, MOST_NODES, MOST_OPEN_BLOCKS, MOST_THREADS};
 pub use memory::Memory;
 pub use refusal::Refusal;
+pub use resolved::Resolved;
+pub use thread_set::ThreadSet;

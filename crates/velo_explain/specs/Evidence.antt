@@ -2,7 +2,7 @@
 use Rattle.std.specs.Prelude.{◌≡◌, ℕ, ◌+◌, ◌<◌, ◌≤◌, List, length, take, slice_index_or, Contains}
 use Rattle.velo_events.specs.declared.event.Event.{Event}
 use Rattle.velo_events.specs.Block.{open_blocks}
-use Rattle.velo_events.specs.Certificate.{IsShortestCycleAt}
+use Rattle.velo_certify.specs.Shortest.{IsShortestCycleAt}
 use Rattle.velo_events.specs.Reordering.{IsSelfSerializable}
 use Rattle.velo_traces.specs.declared.block.Block.{Block}
 use Rattle.velo_certify.specs.declared.edges.EdgeEvents.{EdgeEvents}

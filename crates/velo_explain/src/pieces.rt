@@ -11,7 +11,7 @@ use std::alloc::Global;
 use std::marker::Model;
 use velo_bytes::{append, append_number};
 use velo_events::{Event, Kind, Memory, ThreadId};
-use velo_logtext::put_kind;
+use velo_logtext::{KIND_ROOM, put_kind};
 use velo_names::{NameKind, Names};
 
 /// A piece of text.
@@ -130,7 +130,7 @@ impl Page {
     fn add_operation(&mut self, kind: Kind) -> Result<(), Memory>
         ensures { OnOk result (self.new ≡ self.old ++ kind_text kind) }
     {
-        let mut buffer = [0u8; 60];
+        let mut buffer = [0u8; KIND_ROOM];
         let end = put_kind(&mut buffer, 0, kind);
         self.add_bytes(&buffer[..end])
     }

@@ -1,7 +1,7 @@
 //! Where the transactions of a cycle stand.
 ghost use Rattle.std.specs.Prelude.{◌≡◌, ◌<◌, ◌+◌, length, take, IfOk};
 ghost use Rattle.velo_events.specs.Block.{IsTransaction};
-ghost use Rattle.velo_events.specs.Certificate.{IsCycleAt};
+ghost use Rattle.velo_certify.specs.Shortest.{IsCycleAt};
 ghost use Rattle.velo_certify.specs.Owners.{AreOwners};
 ghost use Rattle.velo_explain.specs.Spans.{IsSpan, AreSpans, AreTransactions};
 

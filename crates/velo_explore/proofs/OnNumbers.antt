@@ -6,7 +6,7 @@ use Rattle.velo_events.specs.declared.config.Bounds.{Bounds}
 use Rattle.velo_explore.specs.declared.group.Group.{Group}
 use Rattle.velo_explore.specs.declared.group.Group.TheVariants.{OfThread, WritesOf, ReadsOf}
 use Rattle.velo_explore.specs.declared.mark.Mark.{Mark}
-use Rattle.velo_explore.specs.ThreadSets.{has_thread}
+use Rattle.velo_events.specs.ThreadSets.{has_thread}
 use Rattle.velo_explore.specs.Marks.{blank_mark, is_cell, cell_number, cell_count, is_known, number_of, mark_of, same_group}
 
 -- ---- cells

@@ -14,11 +14,11 @@ use Rattle.velo_events.specs.WellFormed.{IsWellFormed, MayFollow, NamesKnown}
 use Rattle.velo_events.specs.Graph.{HasCycle}
 use Rattle.velo_explore.specs.declared.group.Group.{Group}
 use Rattle.velo_explore.specs.declared.group.Group.TheVariants.{OfThread, WritesOf, ReadsOf}
-use Rattle.velo_explore.specs.declared.thread_set.ThreadSet.{ThreadSet}
+use Rattle.velo_events.specs.declared.thread_set.ThreadSet.{ThreadSet}
 use Rattle.velo_explore.specs.declared.mark.Mark.{Mark}
 use Rattle.velo_explore.specs.Groups.{is_in}
 use Rattle.velo_explore.specs.Summary.{Summary, IsSummaryOf, alarm, is_inside, closes_cycle, is_behind, reached_after, beyond_after}
-use Rattle.velo_explore.specs.ThreadSets.{has_thread}
+use Rattle.velo_events.specs.ThreadSets.{has_thread}
 use Rattle.velo_explore.specs.Marks.{blank_mark, group_count, is_cell, is_known, number_of, mark_of, summary_by, AccessKnown, IsMarkAfter}
 use Rattle.velo_explore.proofs.OnNumbers.{variable-cell, lock-cell, cell_number-within}
 use Rattle.velo_explore.proofs.OnSummaries.{IsSummaryOf-step}

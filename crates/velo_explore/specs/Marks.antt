@@ -5,9 +5,9 @@ use Rattle.velo_events.specs.declared.event.Access.{Access}
 use Rattle.velo_events.specs.declared.event.Access.TheVariants.{Shared, Exclusive}
 use Rattle.velo_explore.specs.declared.group.Group.{Group}
 use Rattle.velo_explore.specs.declared.group.Group.TheVariants.{OfThread, WritesOf, ReadsOf}
-use Rattle.velo_explore.specs.declared.thread_set.ThreadSet.{ThreadSet}
+use Rattle.velo_events.specs.declared.thread_set.ThreadSet.{ThreadSet}
 use Rattle.velo_explore.specs.declared.mark.Mark.{Mark}
-use Rattle.velo_explore.specs.ThreadSets.{has_thread, no_threads}
+use Rattle.velo_events.specs.ThreadSets.{has_thread, no_threads}
 use Rattle.velo_explore.specs.Summary.{Summary}
 
 -- ---- one mark

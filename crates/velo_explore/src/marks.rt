@@ -7,17 +7,16 @@ ghost use Rattle.velo_explore.specs.declared.group.Group.{Group};
 ghost use Rattle.velo_explore.specs.declared.group.Group.TheVariants.{OfThread};
 ghost use Rattle.velo_explore.specs.Groups.{also_looks_at, is_member};
 ghost use Rattle.velo_explore.specs.Summary.{IsSummaryOf, is_inside};
-ghost use Rattle.velo_explore.specs.ThreadSets.{has_thread};
+ghost use Rattle.velo_events.specs.ThreadSets.{has_thread};
 ghost use Rattle.velo_explore.specs.Marks.{blank_mark, group_count, is_cell, cell_count, cell_number, is_known, number_of, mark_of, same_group, AccessKnown, IsMarkAfter};
 
 use crate::copied::copied;
 use crate::group::Group;
 use crate::key::mixed;
 use crate::mark::Mark;
-use crate::thread_set::ThreadSet;
 use std::alloc::Global;
 use velo_events::growth::filled;
-use velo_events::{Access, Bounds, Cell, Event, Memory, ThreadId};
+use velo_events::{Access, Bounds, Cell, Event, Memory, ThreadId, ThreadSet};
 
 /// Which threads' unfinished transactions reach which groups of the events of a log, and whether the log has a cycle.
 ///

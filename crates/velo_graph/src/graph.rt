@@ -105,7 +105,8 @@ impl<A: Ancestors> Graph<A> {
     /// Marks the node of a step as finished. The step has to name a node in use.
     pub fn finish(&mut self, step: Step)
         requires { IsTrue (bears self.old.slots step.slot step.stamp) }
-        ensures finished { self.new.slots ≡ with_node self.old.slots step.slot (Some (record { stamp = step.stamp; finished = true })) }
+        ensures finished { self.new.slots
+            ≡ with_node self.old.slots step.slot (Some (record { stamp = step.stamp; finished = true })) }
         ensures ancestors { self.new.ancestors ≡ self.old.ancestors }
         ensures sound { IsSound self.new }
     {
@@ -154,7 +155,8 @@ impl<A: Ancestors> Graph<A> {
     /// Frees exactly the nodes with an heir in the list, which is by slot. They have to be finished.
     pub fn leave_out(&mut self, heirs: &[Option<Heir>])
         requires heirs { length heirs.now ≡ limit_of self.old.slots }
-        requires finished { (k : ℕ) → IsTrue (is_some (heir_in heirs.now k)) → IsTrue (is_finished_in self.old.slots k) }
+        requires finished { (k : ℕ) → IsTrue (is_some (heir_in heirs.now k)) →
+            IsTrue (is_finished_in self.old.slots k) }
         ensures leaves { LeavesOut self.old self.new heirs.now }
         ensures sound { IsSound self.new }
     {
@@ -288,7 +290,8 @@ impl<A: Ancestors> Graph<A> {
         ensures same { (result ≡ Edge.Same) ↔ (from ≡ to) }
         ensures known { (result ≡ Edge.Known) ↔ ((from ≢ to) × IsTrue (reaches self.now from to)) }
         ensures closes { (result ≡ Edge.Closes) ↔ ((from ≢ to) × IsTrue (reaches self.now to from)) }
-        ensures added { result ≡ Edge.Added → (from ≢ to) × (reaches self.now from to ≡ false) × (reaches self.now to from ≡ false) }
+        ensures added { result ≡ Edge.Added →
+            (from ≢ to) × (reaches self.now from to ≡ false) × (reaches self.now to from ≡ false) }
         ensures sound { IsSound self.now }
     {
         let known = self.reaches(from, to);

@@ -43,7 +43,8 @@ fn widen_first<A: Ancestors>(rows: &mut [A], count: u16, slot: u16, more: &A)
     requires slot { slot < length rows.old }
     requires capacities { map A.capacity rows.old ≡ replicate (length rows.old) (length rows.old) }
     requires more { A.capacity more.now ≡ length rows.old }
-    ensures members { ChangesFirst (λ _. with_carried slot (A.members more.now)) (map A.members rows.old) (map A.members rows.new) count }
+    ensures members { ChangesFirst (λ _. with_carried slot (A.members more.now))
+        (map A.members rows.old) (map A.members rows.new) count }
     ensures capacities { map A.capacity rows.new ≡ map A.capacity rows.old }
 {
     for n in 0..count {
@@ -56,7 +57,8 @@ pub fn take_out<A: Ancestors>(rows: &mut [A], count: u16, slot: u16)
     requires count { count ≤ length rows.old }
     requires slot { slot < length rows.old }
     requires capacities { map A.capacity rows.old ≡ replicate (length rows.old) (length rows.old) }
-    ensures members { ChangesFirst (λ _ row. set.remove row slot) (map A.members rows.old) (map A.members rows.new) count }
+    ensures members { ChangesFirst (λ _ row. set.remove row slot)
+        (map A.members rows.old) (map A.members rows.new) count }
     ensures capacities { map A.capacity rows.new ≡ map A.capacity rows.old }
 {
     for n in 0..count {
@@ -121,7 +123,8 @@ pub fn take_away_first<A: Ancestors>(rows: &mut [A], count: u16, roots: Roots, g
     requires roots { IsBelow roots (length rows.old) }
     requires meets { MeetBelow roots (map A.members rows.old) (A.members gone.now) }
     requires gone { A.capacity gone.now ≡ length rows.old }
-    ensures members { ChangesFirst (λ _ row. set.difference row (A.members gone.now)) (map A.members rows.old) (map A.members rows.new) count }
+    ensures members { ChangesFirst (λ _ row. set.difference row (A.members gone.now))
+        (map A.members rows.old) (map A.members rows.new) count }
     ensures capacities { map A.capacity rows.new ≡ map A.capacity rows.old }
 {
     for n in 0..count {
@@ -147,7 +150,8 @@ pub fn leave_out_first<A: Ancestors>(rows: &mut [A], count: u16, gone: &A)
     requires count { count ≤ length rows.old }
     requires capacities { map A.capacity rows.old ≡ replicate (length rows.old) (length rows.old) }
     requires gone { A.capacity gone.now ≡ length rows.old }
-    ensures members { ChangesFirst (λ k. without (set.contains (A.members gone.now) k) (A.members gone.now)) (map A.members rows.old) (map A.members rows.new) count }
+    ensures members { ChangesFirst (λ k. without (set.contains (A.members gone.now) k) (A.members gone.now))
+        (map A.members rows.old) (map A.members rows.new) count }
     ensures capacities { map A.capacity rows.new ≡ map A.capacity rows.old }
 {
     for n in 0..count {

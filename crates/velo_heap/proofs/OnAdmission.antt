@@ -17,6 +17,7 @@ use Rattle.velo_events.specs.declared.event.Status.TheVariants.{Unborn, Live, Ex
 use Rattle.velo_events.specs.declared.refusal.Refusal.{Refusal}
 use Rattle.velo_events.specs.declared.refusal.Refusal.TheVariants.{NotLive, NoSuchVariable, NoSuchLock, NoSuchThread, Busy, AlreadyHeld, NotHolder, NoOpenBlock, TooDeep, AlreadyForked, NotForked, NotExited, AlreadyJoined, BlockOpen, LockHeld}
 use Rattle.velo_events.specs.Event.{are_same}
+use Rattle.velo_events.specs.ThreadSets.{has_none}
 use Rattle.velo_events.specs.Heap.{value_in, holder_in, shares_in, status_in, depth_in}
 use Rattle.velo_events.specs.WellFormed.{MayFollow, IsWellFormed}
 use Rattle.velo_events.specs.Block.{any_below}
@@ -121,9 +122,9 @@ module _ (heap : Contents) (trace : List Event) (stands : IsHeapOf heap trace) w
   at_acquire : (t : ThreadId) (m : LockId) → acquire_in t m (lock_in (length heap.threads) trace m.0) ≡ kind_or (kind.Acquire m) (if is_busy (bounds_of heap) trace t.0 (kind.Acquire m) then Some Busy else (if holds trace t.0 m.0 then Some AlreadyHeld else None))
   at_acquire t m =
       let lock = lock_in (length heap.threads) trace m.0 in
-      ap (λ b. if b then Err AlreadyHeld else (if is_some lock.holder || not (lock.sharers == 0) then Err Busy else Ok (kind.Acquire m))) (is_held_by-in (bounds_of heap) trace facts t m.0)
-      ∙ acquired (holds trace t.0 m.0) (is_some lock.holder || not (lock.sharers == 0)) _ (kind.Acquire m)
-      (λ free. ap (λ b. b || not (lock.sharers == 0)) (is_taken-in (bounds_of heap) trace facts t m.0 free) ∙ ap (λ b. is_another (holder_in trace m.0) t.0 || b) (is_shared-in (bounds_of heap) trace facts t m.0 free))
+      ap (λ b. if b then Err AlreadyHeld else (if is_some lock.holder || not (has_none lock.sharers) then Err Busy else Ok (kind.Acquire m))) (is_held_by-in (bounds_of heap) trace facts t m.0)
+      ∙ acquired (holds trace t.0 m.0) (is_some lock.holder || not (has_none lock.sharers)) _ (kind.Acquire m)
+      (λ free. ap (λ b. b || not (has_none lock.sharers)) (is_taken-in (bounds_of heap) trace facts t m.0 free) ∙ ap (λ b. is_another (holder_in trace m.0) t.0 || b) (is_shared-in (bounds_of heap) trace facts t m.0 free))
 
   at_acquire_shared : (t : ThreadId) (m : LockId) → acquire_shared_in t m (lock_in (length heap.threads) trace m.0) ≡ kind_or (kind.AcquireShared m) (if is_busy (bounds_of heap) trace t.0 (kind.AcquireShared m) then Some Busy else (if holds trace t.0 m.0 then Some AlreadyHeld else None))
   at_acquire_shared t m =

@@ -2,7 +2,6 @@
 use Rattle.std.proofs.Common.{◌≡◌, ℕ, ◌+◌, ◌<◌, ◌≤◌, Bool, true, false, not, cond, List, [], ◌∷◌, ◌++◌, Option, Some, None, refl, sym, ap, ◌∙◌, subst, arith, ⊎_elim}
 use Rattle.std.specs.Prelude.{◌==◌, ◌&&◌, ◌||◌, if◌then◌else◌, is_some, option_map, IsTrue, IsFalse}
 use Rattle.std.proofs.lemmas.Bool.{cases_Bool, cases_eq, eq-eqb, ne_eqb, and_left, and_right, and_from, or_parts, or_from, false≢true}
-use Rattle.std.specs.Int.{bit_at}
 use Rattle.velo_events.specs.declared.config.Bounds.{Bounds}
 use Rattle.velo_events.specs.declared.event.ThreadId.{ThreadId}
 use Rattle.velo_events.specs.declared.event.LockId.{LockId}
@@ -12,17 +11,18 @@ use Rattle.velo_events.specs.declared.event.Kind.TheVariants.{Acquire, Release, 
 use Rattle.velo_events.specs.Event.{are_same, locked_by, shared_by, is_on_lock, is_on_share, is_acquire}
 use Rattle.velo_events.specs.Heap.{holder_in, shares_in}
 use Rattle.velo_events.specs.Block.{any_below}
+use Rattle.velo_events.specs.ThreadSets.{has_thread, has_none}
 use Rattle.velo_events.specs.Meaning.{holds, is_another, is_shared_beside}
 use Rattle.velo_events.proofs.OnBlocks.{any_below-same}
 use Rattle.velo_events.proofs.OnWellFormed.{Facts, holder_in-push, shares_in-kept, shares_in-set}
 use Rattle.velo_heap.specs.declared.lock.Lock.{Lock}
-use Rattle.velo_heap.specs.Contents.{lock_in, mask_below, thread_named}
+use Rattle.velo_heap.specs.Contents.{lock_in, thread_named}
 use Rattle.velo_heap.specs.Steps.{is_holder, is_held_by, with_holder, with_sharer, without_sharer}
 use Rattle.velo_heap.proofs.OnMasks.{mask_below-same, mask_below-set, mask_below-cleared, mask_below-some, is_in-mask_below}
 
 -- ---- what the lock says of a thread
 
-pub same_lock : (h h' : Option ThreadId) (s s' : ℕ) → h ≡ h' → s ≡ s' → ◌≡◌ {A = Lock} (record { holder = h; sharers = s }) (record { holder = h'; sharers = s' })
+pub same_lock : (h h' : Option ThreadId) (s s' : ℕ) → h ≡ h' → s ≡ s' → ◌≡◌ {A = Lock} (record { holder = h; sharers = record { 0 = s } }) (record { holder = h'; sharers = record { 0 = s' } })
 same_lock h h' s s' hh hs = rw (hh, hs) refl
 
 named_again : (o : Option ℕ) (t : ℕ) → are_same (option_map (λ (h : ThreadId). h.0) (option_map thread_named o)) (Some t) ≡ are_same o (Some t)
@@ -36,11 +36,11 @@ module _ (bounds : Bounds) (trace : List Event) (facts : Facts bounds trace) (t 
   pub is_holder-in : is_holder lock t ≡ are_same (holder_in trace m) (Some t.0)
   is_holder-in = named_again (holder_in trace m) t.0
 
-  pub is_sharer-in : (bit_at lock.sharers t.0 == 1) ≡ shares_in trace m t.0
+  pub is_sharer-in : has_thread lock.sharers t.0 ≡ shares_in trace m t.0
   is_sharer-in = is_in-mask_below bounds.threads (shares_in trace m) t.0 (facts.sharer m t.0)
 
   pub is_held_by-in : is_held_by lock t ≡ holds trace t.0 m
-  is_held_by-in = ap (λ b. b || (bit_at lock.sharers t.0 == 1)) is_holder-in ∙ ap (λ b. are_same (holder_in trace m) (Some t.0) || b) is_sharer-in
+  is_held_by-in = ap (λ b. b || has_thread lock.sharers t.0) is_holder-in ∙ ap (λ b. are_same (holder_in trace m) (Some t.0) || b) is_sharer-in
 
   -- of a lock that the thread does not hold
   others-hold : (o : Option ℕ) → IsFalse (are_same o (Some t.0)) → is_some (option_map thread_named o) ≡ is_another o t.0
@@ -50,7 +50,7 @@ module _ (bounds : Bounds) (trace : List Event) (facts : Facts bounds trace) (t 
   pub is_taken-in : IsFalse (holds trace t.0 m) → is_some lock.holder ≡ is_another (holder_in trace m) t.0
   is_taken-in free = others-hold (holder_in trace m) (or_parts _ _ free).0
 
-  pub is_shared-in : IsFalse (holds trace t.0 m) → not (lock.sharers == 0) ≡ is_shared_beside bounds trace t.0 m
+  pub is_shared-in : IsFalse (holds trace t.0 m) → not (has_none lock.sharers) ≡ is_shared_beside bounds trace t.0 m
   unfolding is_shared_beside
   is_shared-in free =
       mask_below-some bounds.threads (shares_in trace m)

@@ -9,6 +9,7 @@ use Rattle.velo_events.specs.Event.{is_acquire_by, is_release_by, is_acquire_sha
 use Rattle.velo_events.specs.Heap.{times, value_in, holder_in, shares_in, status_in, depth_in}
 use Rattle.velo_events.specs.WellFormed.{MayFollow, IsWellFormed}
 use Rattle.velo_events.specs.Meaning.{refusal_of, kind_for, event_for}
+use Rattle.velo_events.specs.declared.thread_set.ThreadSet.{ThreadSet}
 use Rattle.velo_heap.specs.declared.lock.Lock.{Lock}
 use Rattle.velo_heap.specs.declared.standing.Standing.{Standing}
 
@@ -36,9 +37,13 @@ unfoldable pub mask_below : ℕ → (ℕ → Bool) → ℕ
 mask_below zero test = 0
 mask_below (suc n) test = (if test n then 1 else 0) * 2 ^ n + mask_below n test
 
+-- the threads below n that pass the test
+abbrev pub set_below : ℕ → (ℕ → Bool) → ThreadSet
+set_below n test = record { 0 = mask_below n test }
+
 -- who holds the lock: the thread that does so alone, and which of the n threads share it
 abbrev pub lock_in : ℕ → List Event → ℕ → Lock
-lock_in n trace m = record { holder = option_map thread_named (holder_in trace m); sharers = mask_below n (shares_in trace m) }
+lock_in n trace m = record { holder = option_map thread_named (holder_in trace m); sharers = set_below n (shares_in trace m) }
 
 -- how many locks the thread holds, alone or with others: its acquires of both kinds minus its releases
 abbrev pub locks_in : List Event → ℕ → ℕ

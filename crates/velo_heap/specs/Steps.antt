@@ -1,5 +1,5 @@
 -- Which operations a heap's contents admit, and how these change. Words of private contracts.
-use Rattle.std.specs.Prelude.{ℕ, ◌+◌, ◌-◌, ◌*◌, ◌%◌, ◌^◌, ◌<◌, Bool, ◌||◌, ◌==◌, nat_le, not, is_some, option_map, if◌then◌else◌, List, length, get_or, slice_get, slice_set, Option, Some, None, Result, Ok, Err, ⊤}
+use Rattle.std.specs.Prelude.{ℕ, ◌+◌, ◌-◌, ◌<◌, Bool, ◌||◌, ◌==◌, nat_le, not, is_some, option_map, if◌then◌else◌, List, length, get_or, slice_get, slice_set, Option, Some, None, Result, Ok, Err, ⊤}
 use Rattle.velo_events.specs.declared.event.ThreadId.{ThreadId}
 use Rattle.velo_events.specs.declared.event.VarId.{VarId}
 use Rattle.velo_events.specs.declared.event.LockId.{LockId}
@@ -12,12 +12,9 @@ use Rattle.velo_events.specs.declared.event.Status.{Status}
 use Rattle.velo_events.specs.declared.event.Status.TheVariants.{Unborn, Live, Exited, Joined}
 use Rattle.velo_events.specs.declared.refusal.Refusal.{Refusal}
 use Rattle.velo_events.specs.declared.refusal.Refusal.TheVariants.{NotLive, NoSuchVariable, NoSuchLock, NoSuchThread, Busy, AlreadyHeld, NotHolder, NoOpenBlock, TooDeep, AlreadyForked, NotForked, NotExited, AlreadyJoined, BlockOpen, LockHeld}
-use Rattle.std.specs.Int.{bit_at, bit_not}
-use Rattle.std.specs.Int.RustNames.{bit_or}
-use Rattle.std.specs.Int.Bits.{bit_and}
-use mir.Syntax.{w64}
 use Rattle.velo_events.specs.Event.{are_same}
 use Rattle.velo_events.specs.Meaning.{is_live}
+use Rattle.velo_events.specs.ThreadSets.{has_thread, has_none, no_threads, with_thread, without_thread}
 use Rattle.velo_events.specs.declared.limits.TheConstants.{MOST_OPEN_BLOCKS}
 use Rattle.velo_events.specs.WellFormed.{NamesKnown}
 use Rattle.velo_heap.specs.declared.lock.Lock.{Lock}
@@ -39,10 +36,10 @@ abbrev pub is_holder : Lock → ThreadId → Bool
 is_holder lock t = are_same (option_map (λ h. h.0) lock.holder) (Some t.0)
 
 abbrev pub is_held_by : Lock → ThreadId → Bool
-is_held_by lock t = is_holder lock t || (bit_at lock.sharers t.0 == 1)
+is_held_by lock t = is_holder lock t || has_thread lock.sharers t.0
 
 abbrev pub acquire_in : ThreadId → LockId → Lock → Result Kind Refusal
-acquire_in t m lock = if is_held_by lock t then Err AlreadyHeld else (if is_some lock.holder || not (lock.sharers == 0) then Err Busy else Ok (Acquire m))
+acquire_in t m lock = if is_held_by lock t then Err AlreadyHeld else (if is_some lock.holder || not (has_none lock.sharers) then Err Busy else Ok (Acquire m))
 
 abbrev pub acquire_shared_in : ThreadId → LockId → Lock → Result Kind Refusal
 acquire_shared_in t m lock = if is_held_by lock t then Err AlreadyHeld else (if is_some lock.holder then Err Busy else Ok (AcquireShared m))
@@ -51,7 +48,7 @@ abbrev pub release_in : ThreadId → LockId → Lock → Result Kind Refusal
 release_in t m lock = if is_holder lock t then Ok (Release m) else Err NotHolder
 
 abbrev pub release_shared_in : ThreadId → LockId → Lock → Result Kind Refusal
-release_shared_in t m lock = if bit_at lock.sharers t.0 == 1 then Ok (ReleaseShared m) else Err NotHolder
+release_shared_in t m lock = if has_thread lock.sharers t.0 then Ok (ReleaseShared m) else Err NotHolder
 
 abbrev pub acquire_at : ThreadId → LockId → Option Lock → Result Kind Refusal
 acquire_at t m (Some lock) = acquire_in t m lock
@@ -153,17 +150,17 @@ abbrev pub standing_at : List Standing → ℕ → Standing
 standing_at threads t = get_or threads t unborn
 
 abbrev pub free : Lock
-free = record { holder = None; sharers = 0 }
+free = record { holder = None; sharers = no_threads }
 
 abbrev pub with_holder : Option ThreadId → Lock → Lock
 with_holder holder lock = record lock { holder = holder }
 
--- the lock with the thread's bit, or without it
+-- the lock with the thread among its sharers, or without it
 abbrev pub with_sharer : ThreadId → Lock → Lock
-with_sharer t lock = record lock { sharers = bit_or lock.sharers (1 * 2 ^ t.0 % 2 ^ 64) }
+with_sharer t lock = record lock { sharers = with_thread t lock.sharers }
 
 abbrev pub without_sharer : ThreadId → Lock → Lock
-without_sharer t lock = record lock { sharers = bit_and lock.sharers (bit_not w64 (1 * 2 ^ t.0 % 2 ^ 64)) }
+without_sharer t lock = record lock { sharers = without_thread t lock.sharers }
 
 abbrev pub with_lock : List Lock → ℕ → (Lock → Lock) → List Lock
 with_lock locks m change = slice_set locks m (change (get_or locks m free))

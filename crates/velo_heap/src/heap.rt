@@ -2,7 +2,7 @@ ghost use Rattle.std.specs.Prelude.{◌≡◌, ◌<◌, ◌≤◌, [], ◌∷◌
 ghost use Rattle.velo_events.specs.declared.event.Event.{Event};
 ghost use Rattle.velo_events.specs.Heap.{value_in, holder_in, shares_in, status_in, depth_in};
 ghost use Rattle.velo_events.specs.declared.limits.TheConstants.{MOST_THREADS};
-ghost use Rattle.velo_heap.specs.Contents.{bounds_of, mask_below, IsHeapOf, ForItsTraces, admission, IsAdmitted};
+ghost use Rattle.velo_heap.specs.Contents.{bounds_of, set_below, IsHeapOf, ForItsTraces, admission, IsAdmitted};
 ghost use Rattle.velo_events.specs.Meaning.{refusal_of, action_of, has_its_value};
 ghost use Rattle.velo_events.specs.WellFormed.{NamesKnown};
 ghost use Rattle.velo_heap.specs.Steps.{refusal_in, read_at, write_at, acquire_at, acquire_shared_at, release_at, release_shared_at, fork_at, join_at, kind_in, live_kind, contents_after, CanChange};
@@ -12,7 +12,9 @@ use crate::standing::Standing;
 use std::alloc::Global;
 use std::marker::Model;
 use velo_events::growth::{filled, with_capacity};
-use velo_events::{Action, Config, Event, Kind, LockId, Memory, Refusal, Status, ThreadId, VarId};
+use velo_events::{
+    Action, Config, Event, Kind, LockId, Memory, Refusal, Status, ThreadId, ThreadSet, VarId,
+};
 
 /// The variables, locks and threads of a run as they stand.
 ///
@@ -132,7 +134,7 @@ impl Heap {
     }
 
     /// Why the event's thread may not do its operation now: the first refusal that applies, from `NotLive` (2) to
-    /// `LockHeld` (16). What a read read plays no part.
+    /// `LockHeld` (16). The value that a read returned is not checked here.
     #[inline(always)]
     pub fn refusal(&self, event: &Event) -> Option<Refusal>
         ensures { (trace : List Event) → IsHeapOf self.now trace →
@@ -182,11 +184,11 @@ impl Heap {
         self.locks[at].holder
     }
 
-    /// A bit for each thread that shares a lock.
-    pub fn sharers(&self, m: LockId) -> u64
+    /// The threads that share a lock.
+    pub fn sharers(&self, m: LockId) -> ThreadSet
         requires { m.0 < (bounds_of self.now).locks }
         ensures { ForItsTraces self.now (λ trace.
-            result ≡ mask_below (bounds_of self.now).threads (shares_in trace m.0)) }
+            result ≡ set_below (bounds_of self.now).threads (shares_in trace m.0)) }
     {
         let at = usize::from(m.0);
         self.locks[at].sharers
@@ -226,7 +228,7 @@ impl Heap {
         let Some(own) = self.threads.get(usize::from(thread.0)).copied() else {
             return Err(Refusal::NotLive);
         };
-        if own.is_live() {
+        if own.status.is_live() {
             self.live_kind(own, thread, action)
         } else {
             Err(Refusal::NotLive)
@@ -261,7 +263,7 @@ impl Heap {
         let Some(own) = self.threads.get(usize::from(event.thread.0)).copied() else {
             return Some(Refusal::NotLive);
         };
-        if own.is_live() {
+        if own.status.is_live() {
             self.live_reason(own, event)
         } else {
             Some(Refusal::NotLive)

@@ -1,24 +1,17 @@
-ghost use Rattle.std.specs.Prelude.{◌≡◌, ◌<◌, ◌==◌};
-ghost use Rattle.std.specs.Int.{bit_at};
+ghost use Rattle.std.specs.Prelude.{◌≡◌, ◌<◌};
 ghost use Rattle.velo_events.specs.declared.limits.TheConstants.{MOST_THREADS};
+ghost use Rattle.velo_events.specs.ThreadSets.{has_thread};
 ghost use Rattle.velo_heap.specs.Steps.{acquire_in, acquire_shared_in, release_in, release_shared_in, free, is_held_by, is_holder, with_holder, with_sharer, without_sharer};
 
-use velo_events::{Kind, LockId, MOST_THREADS, Refusal, ThreadId};
+use velo_events::{Kind, LockId, Refusal, ThreadId, ThreadSet};
 
 /// Who holds one lock.
 #[derive(Clone, Copy, Debug, PartialEq, Eq)]
 pub struct Lock {
     /// The thread that holds it alone.
     pub holder: Option<ThreadId>,
-    /// A bit for each thread that shares it.
-    pub sharers: u64,
-}
-
-/// Whether the thread's bit is set.
-fn has_bit(bits: u64, t: ThreadId) -> bool
-    ensures { result ≡ (bit_at bits t.0 == 1) }
-{
-    t.0 < MOST_THREADS && (bits >> t.0) & 1 == 1
+    /// The threads that share it.
+    pub sharers: ThreadSet,
 }
 
 impl Lock {
@@ -28,7 +21,7 @@ impl Lock {
     {
         Lock {
             holder: None,
-            sharers: 0,
+            sharers: ThreadSet::none(),
         }
     }
 
@@ -44,9 +37,9 @@ impl Lock {
 
     /// Whether the thread shares it.
     pub fn is_shared_by(self, t: ThreadId) -> bool
-        ensures { result ≡ (bit_at self.sharers t.0 == 1) }
+        ensures { result ≡ has_thread self.sharers t.0 }
     {
-        has_bit(self.sharers, t)
+        self.sharers.has(t)
     }
 
     /// Whether the thread holds it, alone or with others.
@@ -65,7 +58,7 @@ impl Lock {
     {
         if self.is_held_by(t) {
             Err(Refusal::AlreadyHeld)
-        } else if self.holder.is_some() || self.sharers != 0 {
+        } else if self.holder.is_some() || !self.sharers.is_empty() {
             Err(Refusal::Busy)
         } else {
             Ok(Kind::Acquire(m))
@@ -129,18 +122,18 @@ impl Lock {
         ensures { result ≡ with_sharer t self }
     {
         Lock {
-            sharers: self.sharers | 1 << t.0,
+            sharers: self.sharers.with(t),
             ..self
         }
     }
 
-    /// It, not shared by the thread.
+    /// This lock without `t` among its sharers.
     pub fn without_sharer(self, t: ThreadId) -> Lock
         requires { t.0 < MOST_THREADS }
         ensures { result ≡ without_sharer t self }
     {
         Lock {
-            sharers: self.sharers & !(1 << t.0),
+            sharers: self.sharers.without(t),
             ..self
         }
     }

@@ -1,5 +1,4 @@
 ghost use Rattle.std.specs.Prelude.{◌≡◌};
-ghost use Rattle.velo_events.specs.Meaning.{is_live};
 ghost use Rattle.velo_heap.specs.Steps.{begin_in, end_in, exit_in, fork_by, join_by, unborn};
 
 use velo_events::{Kind, Label, MOST_OPEN_BLOCKS, Refusal, Status, ThreadId};
@@ -25,13 +24,6 @@ impl Standing {
             depth: 0,
             locks: 0,
         }
-    }
-
-    /// Whether it may act.
-    pub fn is_live(self) -> bool
-        ensures { result ≡ is_live self.status }
-    {
-        matches!(self.status, Status::Live)
     }
 
     /// The begin of a block by this thread.

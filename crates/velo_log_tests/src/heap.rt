@@ -5,7 +5,7 @@ ghost use Rattle.velo_heap.specs.Contents.{bounds_of, IsHeapOf};
 use std::alloc::Global;
 use std::process::Abort;
 use velo_events::{
-    Action, Bounds, Config, Event, Kind, Label, LockId, Refusal, Status, ThreadId, VarId,
+    Action, Bounds, Config, Event, Kind, Label, LockId, Refusal, Status, ThreadId, ThreadSet, VarId,
 };
 use velo_heap::Heap;
 
@@ -187,7 +187,7 @@ fn sharers_of_a_lock(rt: HostRuntime) {
     let mut heap = heap_of_three_threads(&rt, rt.alloc());
     assert_eq!(rt; first_surprise(&mut heap, &SHARING_STEPS), None);
     assert_eq!(rt; heap.holder(LockId(0)), None);
-    assert_eq!(rt; heap.sharers(LockId(0)), 0b101);
+    assert_eq!(rt; heap.sharers(LockId(0)), ThreadSet(0b101));
     for (thread, shares) in [(0, true), (1, false), (2, true)] {
         assert_eq!(rt; heap.shares(LockId(0), ThreadId(thread)), shares);
     }

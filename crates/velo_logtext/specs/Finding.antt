@@ -7,6 +7,7 @@ use Rattle.velo_traces.specs.declared.trace.Trace.{Trace}
 use Rattle.velo_logtext.specs.declared.fault.LogFault.{LogFault}
 use Rattle.velo_logtext.specs.declared.fault.LogFault.TheVariants.{BadHeader, BadLine, Truncated, TooLong, Read, Memory}
 use Rattle.velo_bytes.specs.Device.{with_failure}
+use Rattle.velo_logtext.specs.declared.window.TheConstants.{LONGEST_LINE}
 use Rattle.velo_logtext.specs.Text.{AreBounds, IsEventIn, Head, header_line, event_line, Begins, IsLogText}
 
 -- no header with its newline stands at the front
@@ -17,15 +18,15 @@ pub record HasNoHeader (bytes : List ℕ) : Type 0 where
 pub record HasNoEvent (shares : Bool) (bytes : List ℕ) : Type 0 where
   pub none : (e : Event) (rest : List ℕ) → IsEventIn shares e → ¬ (bytes ≡ event_line e ++ rest)
 
--- no event's line, though a newline or more than 64 bytes are there
+-- no event's line, though a newline stands there, or more bytes than a line may have
 pub record IsBadLine (shares : Bool) (bytes : List ℕ) : Type 0 where
   pub no_event : HasNoEvent shares bytes
-  pub ended : Contains bytes 10 ⊎ (64 < length bytes)
+  pub ended : Contains bytes 10 ⊎ (LONGEST_LINE < length bytes)
 
--- 1 to 64 bytes, and then the end with no newline
+-- some bytes, no more than a line may have, and then the end with no newline
 pub record IsCutLine (bytes : List ℕ) : Type 0 where
   pub some : 0 < length bytes
-  pub few : length bytes ≤ 64
+  pub few : length bytes ≤ LONGEST_LINE
   pub no_newline : ¬ Contains bytes 10
 
 -- the header and the lines before line n are right, and fewer than limit; line n is wrong in this way

@@ -7,12 +7,13 @@ use Rattle.velo_logtext.specs.declared.fault.LogFault.{LogFault}
 use Rattle.velo_logtext.specs.declared.fault.LogFault.TheVariants.{BadLine, Truncated, TooLong, Read, Memory}
 use Rattle.velo_logtext.specs.declared.reader.Front.{Front}
 use Rattle.velo_logtext.specs.declared.reader.Front.TheVariants.{Line, Open, End}
+use Rattle.velo_logtext.specs.declared.window.TheConstants.{LONGEST_LINE}
 use Rattle.velo_logtext.specs.Finding.{Stands}
 use Rattle.velo_logtext.specs.Reader.{ReaderState, HasGiven, IsMetBehind}
 
 -- a newline stands there, or more bytes than a line may have
 abbrev pub is_whole : List ℕ → Bool
-is_whole bytes = nat_lt 64 (length bytes) || list_any (λ b. b == 10) bytes
+is_whole bytes = nat_lt LONGEST_LINE (length bytes) || list_any (λ b. b == 10) bytes
 
 -- bytes in which no line stands: a wrong line with this number, or the beginning of one, or nothing
 abbrev pub judged_front : List ℕ → Bool → ℕ → Result Front LogFault

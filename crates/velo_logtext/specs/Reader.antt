@@ -5,6 +5,7 @@ use Rattle.velo_events.specs.declared.config.Bounds.{Bounds}
 use Rattle.velo_events.specs.declared.event.Event.{Event}
 use Rattle.velo_events.specs.declared.limits.TheConstants.{MOST_EVENTS}
 use Rattle.velo_events.specs.Refusals.{GrowthRefused}
+use Rattle.velo_logtext.specs.declared.window.TheConstants.{LONGEST_LINE}
 use Rattle.velo_logtext.specs.declared.fault.LogFault.{LogFault}
 use Rattle.velo_logtext.specs.declared.fault.LogFault.TheVariants.{BadHeader, BadLine, Truncated, TooLong, Read, Memory}
 use Rattle.velo_logtext.specs.Text.{AreBounds, AreEventsIn, text_in}
@@ -40,7 +41,7 @@ Gives bytes events (Err fault) reader remaining = IfSome bytes (λ all. ReadsAs 
 
 -- a newline stands in the bytes, or they are more than a line may have
 abbrev pub HasWholeLine : List ℕ → Type 0
-HasWholeLine held = Contains held 10 ⊎ (64 < length held)
+HasWholeLine held = Contains held 10 ⊎ (LONGEST_LINE < length held)
 
 -- where a fault is met: in the header
 abbrev pub IsMetInHeader : LogFault → Type 0

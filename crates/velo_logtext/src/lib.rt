@@ -14,4 +14,4 @@ pub use laws::{one_finding, one_text};
 pub use read::read_log;
 pub use reader::LogReader;
 pub use velo_bytes::{Failed, ReaderSource, Sink, Source, WriteFault, WriterSink};
-pub use write::{put_kind, write_log};
+pub use write::{KIND_ROOM, put_kind, write_log};

@@ -12,7 +12,7 @@ use velo_events::{Bounds, Event, Kind, Label, LockId, MOST_LOCKS, MOST_THREADS, 
 fn access(bytes: &[u8]) -> Option<(VarId, u64, &[u8])>
     ensures { option_map (λ r. ((r.0.0, r.1), r.2.now)) result ≡ access_at bytes.now }
 {
-    let (x, rest) = number(bytes, 65_535)?;
+    let (x, rest) = number(bytes, u64::from(u16::MAX))?;
     let rest = after(rest, b" ")?;
     let (value, rest) = number(rest, u64::MAX)?;
     Some((VarId(x as u16), value, rest))
@@ -25,11 +25,11 @@ fn thread_kind(bytes: &[u8]) -> Option<(Kind, &[u8])>
     ensures { option_map (λ r. (r.0, r.1.now)) result ≡ thread_kind_at bytes.now }
 {
     if let Some(rest) = after(bytes, b"fork ") {
-        let (u, rest) = number(rest, 255)?;
+        let (u, rest) = number(rest, u64::from(u8::MAX))?;
         return Some((Kind::Fork(ThreadId(u as u8)), rest));
     }
     if let Some(rest) = after(bytes, b"join ") {
-        let (u, rest) = number(rest, 255)?;
+        let (u, rest) = number(rest, u64::from(u8::MAX))?;
         return Some((Kind::Join(ThreadId(u as u8)), rest));
     }
     let rest = after(bytes, b"exit")?;
@@ -43,7 +43,7 @@ fn block_kind(bytes: &[u8]) -> Option<(Kind, &[u8])>
     ensures { option_map (λ r. (r.0, r.1.now)) result ≡ block_kind_at bytes.now }
 {
     if let Some(rest) = after(bytes, b"begin ") {
-        let (label, rest) = number(rest, 4_294_967_295)?;
+        let (label, rest) = number(rest, u64::from(u32::MAX))?;
         return Some((Kind::Begin(Label(label as u32)), rest));
     }
     if let Some(rest) = after(bytes, b"end") {
@@ -59,11 +59,11 @@ fn share_kind(bytes: &[u8]) -> Option<(Kind, &[u8])>
     ensures { option_map (λ r. (r.0, r.1.now)) result ≡ share_kind_at bytes.now }
 {
     if let Some(rest) = after(bytes, b"acqs ") {
-        let (m, rest) = number(rest, 65_535)?;
+        let (m, rest) = number(rest, u64::from(u16::MAX))?;
         return Some((Kind::AcquireShared(LockId(m as u16)), rest));
     }
     if let Some(rest) = after(bytes, b"rels ") {
-        let (m, rest) = number(rest, 65_535)?;
+        let (m, rest) = number(rest, u64::from(u16::MAX))?;
         return Some((Kind::ReleaseShared(LockId(m as u16)), rest));
     }
     block_kind(bytes)
@@ -76,11 +76,11 @@ fn lock_kind(bytes: &[u8]) -> Option<(Kind, &[u8])>
     ensures { option_map (λ r. (r.0, r.1.now)) result ≡ lock_kind_at bytes.now }
 {
     if let Some(rest) = after(bytes, b"acq ") {
-        let (m, rest) = number(rest, 65_535)?;
+        let (m, rest) = number(rest, u64::from(u16::MAX))?;
         return Some((Kind::Acquire(LockId(m as u16)), rest));
     }
     if let Some(rest) = after(bytes, b"rel ") {
-        let (m, rest) = number(rest, 65_535)?;
+        let (m, rest) = number(rest, u64::from(u16::MAX))?;
         return Some((Kind::Release(LockId(m as u16)), rest));
     }
     share_kind(bytes)
@@ -109,7 +109,7 @@ fn kind(bytes: &[u8]) -> Option<(Kind, &[u8])>
 fn any_event(bytes: &[u8]) -> Option<(Event, &[u8])>
     ensures { option_map (λ r. (r.0, r.1.now)) result ≡ event_at bytes.now }
 {
-    let (t, rest) = number(bytes, 255)?;
+    let (t, rest) = number(bytes, u64::from(u8::MAX))?;
     let rest = after(rest, b" ")?;
     let (kind, rest) = kind(rest)?;
     let next = after(rest, b"\n")?;
@@ -143,7 +143,7 @@ fn bounds(bytes: &[u8], shares: bool) -> Option<(bool, Bounds, &[u8])>
     ensures { option_map (λ r. ((r.0, r.1), r.2.now)) result ≡ bounds_at shares bytes.now }
 {
     let (threads, rest) = spaced_number(bytes, u64::from(MOST_THREADS))?;
-    let (variables, rest) = spaced_number(rest, 65_535)?;
+    let (variables, rest) = spaced_number(rest, u64::from(u16::MAX))?;
     let (locks, rest) = number(rest, u64::from(MOST_LOCKS))?;
     let rest = after(rest, b"\n")?;
     if threads == 0 {

@@ -29,7 +29,8 @@ pub fn read_log<S: Source>(alloc: Global, source: &mut S) -> Result<(Bounds, Tra
     // What stands in the bytes is answered, unless the source failed or a growth was refused.
     ensures only { IfSome (S.remaining source.old) (λ bytes. (f : Finding) → Stands MOST_EVENTS bytes f → IsFindingOrFailure f (finding_of result)) }
 
-    ensures within { IfOk result (λ log. AreBounds log.0 × AreEvents log.1.events × (length log.1.events ≤ MOST_EVENTS)) }
+    ensures within { IfOk result (λ log.
+        AreBounds log.0 × AreEvents log.1.events × (length log.1.events ≤ MOST_EVENTS)) }
     ensures end { OnOk result (IsAtEnd (S.remaining source.new)) }
 
     // One failure more after `Read`, and none after any other answer.

@@ -134,7 +134,8 @@ impl LogReader {
     /// where a growth was refused.
     pub fn open<S: Source>(alloc: Global, source: &mut S) -> Result<LogReader, LogFault>
         ensures ok { IfOk result (λ reader. HasGiven (S.remaining source.old) [] reader (S.remaining source.new)) }
-        ensures fault { IfErr result (λ fault. IfSome (S.remaining source.old) (λ bytes. ReadsAs MOST_EVENTS bytes (Err fault))) }
+        ensures fault { IfErr result (λ fault.
+            IfSome (S.remaining source.old) (λ bytes. ReadsAs MOST_EVENTS bytes (Err fault))) }
         ensures failures { S.failures source.new ≡ failures_after result (S.failures source.old) }
         ensures memory { result ≡ Err log_fault.Memory → GrowthRefused }
         ensures place { IfErr result IsMetInHeader }
@@ -171,7 +172,9 @@ impl LogReader {
     /// `BadLine`, `Truncated` or `TooLong` for the first line that is wrong, which is the next one; `Read` only where the source
     /// failed in this call.
     pub fn next<S: Source>(&mut self, source: &mut S) -> Result<Option<Event>, LogFault>
-        ensures gives { (bytes : Option (List ℕ)) (events : List EventOf) → HasGiven bytes events self.old (S.remaining source.old) → Gives bytes events result self.new (S.remaining source.new) }
+        ensures gives { (bytes : Option (List ℕ)) (events : List EventOf) →
+            HasGiven bytes events self.old (S.remaining source.old) →
+            Gives bytes events result self.new (S.remaining source.new) }
         ensures end { (bytes : Option (List ℕ)) (events : List EventOf)
             → HasGiven bytes events self.old (S.remaining source.old)
             → result ≡ Ok None
@@ -209,7 +212,8 @@ impl LogReader {
     /// Takes the event whose line stands at the front, or says what stands there.
     fn take_front(&mut self) -> Result<Front, LogFault>
         ensures takes { Takes self.old result self.new }
-        ensures finds { (bytes remaining : Option (List ℕ)) (events : List EventOf) → HasGiven bytes events self.old remaining → Finds bytes events result self.new remaining }
+        ensures finds { (bytes remaining : Option (List ℕ)) (events : List EventOf) →
+            HasGiven bytes events self.old remaining → Finds bytes events result self.new remaining }
     {
         let held = self.window.bytes();
         if self.given == MOST_EVENTS as usize {

@@ -2,6 +2,7 @@
 ghost use Rattle.std.specs.Prelude.{◌≡◌, ◌≤◌, ◌<◌, ◌⊎◌, ◌+◌, ◌-◌, [], true, false, length, take, drop, IfOk, OnOk, OnErr, IsTrue};
 ghost use Rattle.std.specs.Io.KnownBytes.{IsAtEnd, Keeps, prepend_known};
 ghost use Rattle.velo_bytes.specs.Device.{with_failure};
+ghost use Rattle.velo_logtext.specs.declared.window.TheConstants.{LONGEST_LINE};
 
 use std::alloc::Global;
 use std::marker::Model;
@@ -26,12 +27,13 @@ pub struct Window {
 impl Model for Window {
     ghost use Rattle.std.specs.Prelude.{◌≤◌, ◌<◌, ◌-◌, length, take, drop};
     ghost use Rattle.velo_logtext.specs.Window.{Window};
+    ghost use Rattle.velo_logtext.specs.declared.window.TheConstants.{LONGEST_LINE};
 
     ghost Value = { Window };
 
     ghost view = { λ w. record { bytes = drop w.start (take w.end w.buffer.items); ended = w.ended } };
 
-    ghost invariant = { λ w. (w.start ≤ w.end) × (w.end ≤ length w.buffer.items) × (64 < length w.buffer.items) };
+    ghost invariant = { λ w. (w.start ≤ w.end) × (w.end ≤ length w.buffer.items) × (LONGEST_LINE < length w.buffer.items) };
 }
 
 impl Window {
@@ -73,10 +75,14 @@ impl Window {
 
     /// Reads once.
     pub fn read_once<S: Source>(&mut self, source: &mut S) -> Result<(), Failed>
-        requires { length self.old.bytes ≤ 64 }
-        ensures bytes { OnOk result (Keeps (prepend_known self.old.bytes (S.remaining source.old)) (prepend_known self.new.bytes (S.remaining source.new))) }
+        requires { length self.old.bytes ≤ LONGEST_LINE }
+        ensures bytes { OnOk result
+            (Keeps (prepend_known self.old.bytes (S.remaining source.old))
+            (prepend_known self.new.bytes (S.remaining source.new))) }
         ensures known_end { OnOk result (IsTrue self.new.ended → IsAtEnd (S.remaining source.new)) }
-        ensures progress { OnOk result ((length self.old.bytes < length self.new.bytes) ⊎ ((self.new.ended ≡ true) × (length self.old.bytes ≤ length self.new.bytes))) }
+        ensures progress { OnOk result
+            ((length self.old.bytes < length self.new.bytes) ⊎ ((self.new.ended ≡ true)
+            × (length self.old.bytes ≤ length self.new.bytes))) }
         ensures ok { OnOk result (S.failures source.new ≡ S.failures source.old) }
         ensures err { OnErr result (S.failures source.new ≡ with_failure (S.failures source.old)) }
     {
@@ -99,7 +105,9 @@ fn read_behind<S: Source>(
     requires within { end ≤ length buffer.old }
     requires few { left ≤ end }
     requires room { left < length buffer.old }
-    ensures bytes { IfOk result (λ count. Keeps (prepend_known (drop (end - left) (take end buffer.old)) (S.remaining source.old)) (prepend_known (take (left + count) buffer.new) (S.remaining source.new))) }
+    ensures bytes { IfOk result (λ count.
+        Keeps (prepend_known (drop (end - left) (take end buffer.old)) (S.remaining source.old))
+        (prepend_known (take (left + count) buffer.new) (S.remaining source.new))) }
     ensures within { IfOk result (λ count. left + count ≤ length buffer.new) }
     ensures known_end { IfOk result (λ count. count ≡ 0 → IsAtEnd (S.remaining source.new)) }
     ensures ok { OnOk result (S.failures source.new ≡ S.failures source.old) }

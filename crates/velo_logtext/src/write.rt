@@ -3,6 +3,7 @@ ghost use Rattle.std.specs.Prelude.{◌≡◌, ◌≤◌, ◌+◌, ◌++◌, tru
 ghost use Rattle.std.specs.Io.KnownBytes.{Appends};
 ghost use Rattle.velo_events.specs.declared.limits.TheConstants.{MOST_EVENTS};
 ghost use Rattle.velo_bytes.specs.Device.{with_failure, AppendsBeginning};
+ghost use Rattle.velo_logtext.specs.declared.write.TheConstants.{LINE_ROOM, KIND_ROOM};
 ghost use Rattle.velo_logtext.specs.Text.{AreBounds, IsEvent, IsLogText, kind_text, event_line, header_line, log_text};
 
 use velo_bytes::{Sink, WriteFault, put_bytes, put_number, write_all};
@@ -15,6 +16,9 @@ const ROOM: usize = 8_192;
 /// Room that is enough for a line.
 const LINE_ROOM: usize = 90;
 
+/// Room that is enough for an operation.
+pub const KIND_ROOM: usize = 60;
+
 /// Puts a word of at most 6 bytes and a number.
 fn put_word(buffer: &mut [u8], at: usize, word: &[u8], number: u64) -> usize
     requires short { length word.now ≤ 6 }
@@ -26,11 +30,11 @@ fn put_word(buffer: &mut [u8], at: usize, word: &[u8], number: u64) -> usize
     put_number(buffer, at, number)
 }
 
-/// Puts the words of an operation, of at most 60 bytes, at a place of a buffer, and answers the place behind them.
+/// Puts the words of an operation, of at most [`KIND_ROOM`] bytes, at a place of a buffer, and returns the place behind them.
 pub fn put_kind(buffer: &mut [u8], at: usize, kind: Kind) -> usize
-    requires { at + 60 ≤ length buffer.old }
+    requires { at + KIND_ROOM ≤ length buffer.old }
     ensures text { take result buffer.new ≡ take at buffer.old ++ kind_text kind }
-    ensures end { result ≤ at + 60 }
+    ensures end { result ≤ at + KIND_ROOM }
 {
     match kind {
         Kind::Read(x, value) => {
@@ -53,12 +57,12 @@ pub fn put_kind(buffer: &mut [u8], at: usize, kind: Kind) -> usize
     }
 }
 
-/// Puts the line of an event, of at most 90 bytes.
+/// Puts the line of an event.
 #[tactic(auto, unfolding(crate::specs::Text::event_line))]
 fn put_event(buffer: &mut [u8], at: usize, event: Event) -> usize
-    requires { at + 90 ≤ length buffer.old }
+    requires { at + LINE_ROOM ≤ length buffer.old }
     ensures text { take result buffer.new ≡ take at buffer.old ++ event_line event }
-    ensures end { result ≤ at + 90 }
+    ensures end { result ≤ at + LINE_ROOM }
     ensures fits { IsEvent event }
 {
     let at = put_number(buffer, at, u64::from(event.thread.0));
@@ -70,9 +74,9 @@ fn put_event(buffer: &mut [u8], at: usize, event: Event) -> usize
 /// Puts the header at the front.
 #[tactic(auto, unfolding(crate::specs::Text::header_line))]
 fn put_header(buffer: &mut [u8], bounds: Bounds) -> usize
-    requires { 90 ≤ length buffer.old }
+    requires { LINE_ROOM ≤ length buffer.old }
     ensures text { take result buffer.new ≡ header_line (true, bounds) }
-    ensures end { result ≤ 90 }
+    ensures end { result ≤ LINE_ROOM }
 {
     let at = put_bytes(buffer, 0, b"vlog 2 ");
     let at = put_number(buffer, at, u64::from(bounds.threads));
@@ -92,7 +96,8 @@ pub fn write_log<S: Sink>(bounds: Bounds, trace: &Trace, sink: &mut S) -> Result
     ensures ok { OnOk result (Appends (S.contents sink.old) (S.contents sink.new) (log_text bounds trace.now.events)) }
 
     // After a fault a beginning of the text went out, and the sink has failed once more.
-    ensures err { OnErr result (AppendsBeginning (S.contents sink.old) (S.contents sink.new) (log_text bounds trace.now.events)) }
+    ensures err { OnErr result
+        (AppendsBeginning (S.contents sink.old) (S.contents sink.new) (log_text bounds trace.now.events)) }
     ensures no_failure { OnOk result (S.failures sink.new ≡ S.failures sink.old) }
     ensures failure { OnErr result (S.failures sink.new ≡ with_failure (S.failures sink.old)) }
 

@@ -1,3 +1,4 @@
+pub mod OnCollection
 pub mod OnNodes
 pub mod OnLooks
 pub mod OnClosing

@@ -9,7 +9,7 @@ use Rattle.velo_events.specs.declared.event.Event.{Event}
 use Rattle.velo_events.specs.WellFormed.{IsWellFormed}
 use Rattle.velo_events.specs.Block.{owner, is_open, IsTransaction}
 use Rattle.velo_events.specs.Graph.{HasCycle}
-use Rattle.velo_events.proofs.OnCollection.{not_live-covered}
+use Rattle.velo_monitor.proofs.OnCollection.{not_live-covered}
 use Rattle.velo_arena.specs.declared.step.Node.{Node}
 use Rattle.velo_arena.specs.Slots.{node_in, has_stamp, has_finished, is_used, limit_of, is_finished_in}
 use Rattle.velo_graph.specs.Nodes.{Nodes, is_ancestor, IsSound}

@@ -4,8 +4,8 @@ use Rattle.std.specs.Prelude.{◌⊎◌}
 use Rattle.std.proofs.lemmas.Bool.{cases_Bool, cases_eq, both_ways, not_from_true, false≢true}
 use Rattle.velo_events.specs.declared.event.Event.{Event}
 use Rattle.velo_events.specs.Block.{is_open}
-use Rattle.velo_events.specs.Collection.{IsLive, IsCovered}
-use Rattle.velo_events.proofs.OnCollection.{not_live-covered}
+use Rattle.velo_monitor.specs.Collection.{IsLive, IsCovered}
+use Rattle.velo_monitor.proofs.OnCollection.{not_live-covered}
 use Rattle.velo_arena.specs.declared.step.Step.{Step}
 use Rattle.velo_arena.specs.Slots.{node_in, has_stamp, bears, is_finished_in}
 use Rattle.velo_graph.specs.Nodes.{Nodes, IsSound}

@@ -6,12 +6,12 @@ use Rattle.velo_events.specs.declared.config.Bounds.{Bounds}
 use Rattle.velo_events.specs.declared.event.Event.{Event}
 use Rattle.velo_events.specs.Block.{owner, is_open, IsFinished}
 use Rattle.velo_events.specs.Graph.{Edge}
-use Rattle.velo_events.specs.Collection.{IsLive, IsCovered}
+use Rattle.velo_monitor.specs.Collection.{IsLive, IsCovered}
 use Rattle.velo_events.specs.Place.{Place}
 use Rattle.velo_events.proofs.OnGraphs.{Reaches-trans}
 use Rattle.velo_events.proofs.OnHappening.{Reaches-same_thread}
 use Rattle.velo_events.proofs.OnUnfinished.{unfinished-not_finished}
-use Rattle.velo_events.proofs.OnCollection.{IsCovered-trans}
+use Rattle.velo_monitor.proofs.OnCollection.{IsCovered-trans}
 use Rattle.velo_arena.specs.declared.step.Step.{Step}
 use Rattle.velo_arena.specs.declared.step.Heir.{Heir}
 use Rattle.velo_arena.specs.declared.step.Node.{Node}

@@ -11,11 +11,11 @@ use Rattle.velo_events.specs.Event.{thread_of}
 use Rattle.velo_events.specs.Heap.{depth_in}
 use Rattle.velo_events.specs.WellFormed.{IsWellFormed, MayFollow}
 use Rattle.velo_events.specs.Block.{owner, IsFinished}
-use Rattle.velo_events.specs.Collection.{IsLive, IsCovered}
+use Rattle.velo_monitor.specs.Collection.{IsLive, IsCovered}
 use Rattle.velo_events.proofs.OnGraphs.{newest}
 use Rattle.velo_events.proofs.OnOwners.{newest-le, newest-alone, newest-not_alone}
 use Rattle.velo_events.proofs.OnUnfinished.{newest-unfinished, depth_in-none, depth_in-some, unfinished-not_finished}
-use Rattle.velo_events.proofs.OnCollection.{IsLive-unfinished, IsCovered-finished}
+use Rattle.velo_monitor.proofs.OnCollection.{IsLive-unfinished, IsCovered-finished}
 use Rattle.velo_arena.specs.declared.step.Step.{Step}
 use Rattle.velo_arena.specs.declared.step.Node.{Node}
 use Rattle.velo_arena.specs.Slots.{node_in, has_stamp, Opens, bears}

@@ -15,7 +15,7 @@ use Rattle.velo_events.specs.Graph.{HasCycle}
 use Rattle.velo_events.proofs.OnWellFormed.{IsWellFormed-push}
 use Rattle.velo_events.proofs.OnGraphs.{newest}
 use Rattle.velo_events.proofs.OnUnfinished.{IsTransaction-append, IsTransaction-before, IsFinished-append, IsUnfinished-push, IsUnfinished-push_cases, cases_unfinished, unfinished-not_finished}
-use Rattle.velo_events.proofs.OnCollection.{not_live-append, IsCovered-push}
+use Rattle.velo_monitor.proofs.OnCollection.{not_live-append, IsCovered-push}
 use Rattle.velo_arena.specs.declared.step.Step.{Step}
 use Rattle.velo_arena.specs.Slots.{Slots, node_in, has_stamp, has_finished, bears, is_finished_in, with_node}
 use Rattle.velo_arena.proofs.OnSlots.{node_of_stamp, in_range}

@@ -7,7 +7,7 @@ use Rattle.velo_monitor.specs.declared.monitor.Seen.TheVariants.{Quiet, Closes}
 use Rattle.velo_events.specs.declared.config.Bounds.{Bounds}
 use Rattle.velo_events.specs.declared.event.Event.{Event}
 use Rattle.velo_events.specs.Block.{owner}
-use Rattle.velo_events.specs.Merge.{GetsNew}
+use Rattle.velo_merge.specs.Merge.{GetsNew}
 use Rattle.velo_arena.specs.declared.step.Step.{Step}
 use Rattle.velo_arena.specs.Slots.{used_in, limit_of}
 use Rattle.velo_graph.specs.Nodes.{Nodes}
@@ -101,7 +101,7 @@ module _ (w new : Watched) (forgets : ForgetsDead w.nodes w.kept new.kept) (node
   needed-before trace e needs =
       ⊎_elim (λ (begins : BeginsOutermost trace e). inl begins)
       (λ (outside : ComesOutside trace e × GetsNewNode beside e).
-      inr (outside.0, subst (λ stamps. GetsNew (HasFinished w.nodes) (IsAncestor w.nodes) stamps) (stamps-forgotten w.nodes w.kept new.kept forgets e) outside.1)) needs
+      inr (outside.0, subst (λ stamps. GetsNew w.nodes stamps) (stamps-forgotten w.nodes w.kept new.kept forgets e) outside.1)) needs
 
   pub next-forgotten : (position : ℕ) (e : Event) → IsNext w position e → IsNext new position e
   next-forgotten position e next = record {

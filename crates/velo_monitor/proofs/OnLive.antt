@@ -6,8 +6,8 @@ use Rattle.std.proofs.lemmas.List.Kept.{AllPairs-from_increasing}
 use Rattle.velo_events.specs.declared.config.Bounds.{Bounds}
 use Rattle.velo_events.specs.declared.event.Event.{Event}
 use Rattle.velo_events.specs.Block.{is_open, IsTransaction, IsUnfinished}
-use Rattle.velo_events.specs.Collection.{IsLive, IsCovered, IsAccountedFor, IsGivenUp, IsHarmless, HasManyLive}
-use Rattle.velo_events.proofs.OnCollection.{IsLive-unfinished, HasManyLive-by, IsGivenUp-harmless}
+use Rattle.velo_monitor.specs.Collection.{IsLive, IsCovered, IsAccountedFor, IsGivenUp, IsHarmless, HasManyLive}
+use Rattle.velo_monitor.proofs.OnCollection.{IsLive-unfinished, HasManyLive-by, IsGivenUp-harmless}
 use Rattle.velo_arena.specs.declared.step.Node.{Node}
 use Rattle.velo_arena.specs.Slots.{Slots, node_in, has_stamp, is_finished_in, used_in}
 use Rattle.velo_arena.specs.Stamps.{stamps_in}

@@ -6,10 +6,10 @@ use Rattle.velo_events.specs.declared.config.Bounds.{Bounds}
 use Rattle.velo_events.specs.declared.event.Event.{Event}
 use Rattle.velo_events.specs.Block.{owner, IsUnfinished}
 use Rattle.velo_events.specs.Graph.{Edge, Reaches, HasCycle}
-use Rattle.velo_events.specs.Collection.{IsLive, IsCovered}
+use Rattle.velo_monitor.specs.Collection.{IsLive, IsCovered}
 use Rattle.velo_events.proofs.OnGraphs.{newest}
 use Rattle.velo_events.proofs.OnUnfinished.{newest-not_finished}
-use Rattle.velo_events.proofs.OnCollection.{IsCovered-finished}
+use Rattle.velo_monitor.proofs.OnCollection.{IsCovered-finished}
 use Rattle.velo_arena.specs.declared.step.Step.{Step}
 use Rattle.velo_arena.specs.Slots.{bears}
 use Rattle.velo_graph.specs.Nodes.{Nodes, reaches}

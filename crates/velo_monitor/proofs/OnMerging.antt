@@ -8,7 +8,7 @@ use Rattle.velo_events.specs.Event.{is_begin}
 use Rattle.velo_events.specs.WellFormed.{MayFollow}
 use Rattle.velo_events.specs.Block.{owner, is_open, IsUnfinished}
 use Rattle.velo_events.specs.Graph.{Edge, Reaches}
-use Rattle.velo_events.specs.Collection.{IsLive, IsCovered}
+use Rattle.velo_monitor.specs.Collection.{IsLive, IsCovered}
 use Rattle.velo_events.proofs.OnGraphs.{newest, Reaches-trans}
 use Rattle.velo_events.proofs.OnReaching.{Reaches-old, Reaches-to_transaction, IsPredecessor-edge}
 use Rattle.velo_events.proofs.OnUnfinished.{IsUnfinished-push_cases, IsFinished-append}

@@ -13,7 +13,7 @@ use Rattle.velo_events.proofs.OnWellFormed.{IsWellFormed-push}
 use Rattle.velo_events.proofs.OnGraphs.{newest}
 use Rattle.velo_events.proofs.OnReaching.{Reaches-old, Reaches-push_alone, HasCycle-push_alone}
 use Rattle.velo_events.proofs.OnUnfinished.{IsTransaction-append, IsTransaction-before, IsFinished-append, IsUnfinished-push, IsUnfinished-push_cases, cases_unfinished}
-use Rattle.velo_events.proofs.OnCollection.{not_live-append, IsCovered-push}
+use Rattle.velo_monitor.proofs.OnCollection.{not_live-append, IsCovered-push}
 use Rattle.velo_arena.specs.declared.step.Step.{Step}
 use Rattle.velo_graph.specs.Nodes.{Nodes}
 use Rattle.velo_tables.specs.LastAccesses.{IsRecorded}

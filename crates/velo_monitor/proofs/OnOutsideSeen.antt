@@ -11,8 +11,8 @@ use Rattle.velo_events.specs.Event.{thread_of, is_begin, is_end}
 use Rattle.velo_events.specs.Heap.{depth_in}
 use Rattle.velo_events.specs.WellFormed.{MayFollow}
 use Rattle.velo_events.specs.Graph.{HasCycle}
-use Rattle.velo_events.specs.Collection.{IsLive, IsCovered}
-use Rattle.velo_events.specs.Merge.{GetsNone}
+use Rattle.velo_monitor.specs.Collection.{IsLive, IsCovered}
+use Rattle.velo_merge.specs.Merge.{GetsNone}
 use Rattle.velo_events.proofs.OnGraphs.{newest}
 use Rattle.velo_events.proofs.OnReaching.{HasCycle-push_alone}
 use Rattle.velo_arena.specs.declared.step.Step.{Step}

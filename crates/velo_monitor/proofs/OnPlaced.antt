@@ -12,7 +12,7 @@ use Rattle.velo_events.proofs.OnWellFormed.{IsWellFormed-push}
 use Rattle.velo_events.proofs.OnGraphs.{newest}
 use Rattle.velo_events.proofs.OnReaching.{HasCycle-push_alone}
 use Rattle.velo_events.proofs.OnUnfinished.{IsTransaction-append, IsTransaction-before, IsTransaction-newest, IsFinished-append, IsUnfinished-push, IsUnfinished-push_cases, cases_unfinished, newest-outside, IsOutside-finished}
-use Rattle.velo_events.proofs.OnCollection.{not_live-append, IsCovered-push}
+use Rattle.velo_monitor.proofs.OnCollection.{not_live-append, IsCovered-push}
 use Rattle.velo_arena.specs.declared.step.Step.{Step}
 use Rattle.velo_arena.specs.Slots.{Slots, bears, is_finished_in}
 use Rattle.velo_graph.specs.Nodes.{Nodes, is_ancestor, reaches, leads_on, IsSound, AddsEdges}

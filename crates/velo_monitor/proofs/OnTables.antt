@@ -4,11 +4,11 @@ use Rattle.std.specs.Prelude.{IsSomeAnd, if◌then◌else◌}
 use Rattle.std.proofs.lemmas.Bool.{both_ways, false_from_ne_true}
 use Rattle.velo_events.specs.declared.event.Event.{Event}
 use Rattle.velo_events.specs.Block.{owner, IsTransaction}
-use Rattle.velo_events.specs.Collection.{IsCovered}
+use Rattle.velo_monitor.specs.Collection.{IsCovered}
 use Rattle.velo_events.proofs.OnBlocks.{owner-append}
 use Rattle.velo_events.proofs.OnGraphs.{newest}
 use Rattle.velo_events.proofs.OnUnfinished.{IsTransaction-owner}
-use Rattle.velo_events.proofs.OnCollection.{not_live-append, IsCovered-push}
+use Rattle.velo_monitor.proofs.OnCollection.{not_live-append, IsCovered-push}
 use Rattle.velo_arena.specs.declared.step.Step.{Step}
 use Rattle.velo_arena.specs.Slots.{bears}
 use Rattle.velo_graph.specs.Nodes.{Nodes}

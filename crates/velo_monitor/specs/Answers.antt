@@ -10,7 +10,7 @@ use Rattle.velo_events.specs.Heap.{depth_in}
 use Rattle.velo_events.specs.WellFormed.{MayFollow}
 use Rattle.velo_events.specs.Block.{owner}
 use Rattle.velo_events.specs.Graph.{HasCycle}
-use Rattle.velo_events.specs.Merge.{GetsNew}
+use Rattle.velo_merge.specs.Merge.{GetsNew}
 use Rattle.velo_arena.specs.Slots.{used_in, limit_of}
 use Rattle.velo_tables.specs.LastAccesses.{steps_looked_up, HasRoomFor}
 use Rattle.velo_merge.specs.Named.{live_stamps, HasFinished, IsAncestor}
@@ -26,7 +26,7 @@ ComesOutside trace e = IsFalse (is_begin e.kind) × (depth_in trace (thread_of e
 
 -- the nodes of the event's live predecessors are such that the merge rule gives a new one
 abbrev pub GetsNewNode : Watched → Event → Type 0
-GetsNewNode monitor e = GetsNew (HasFinished monitor.nodes) (IsAncestor monitor.nodes) (live_stamps monitor.nodes (steps_looked_up monitor.kept e))
+GetsNewNode monitor e = GetsNew monitor.nodes (live_stamps monitor.nodes (steps_looked_up monitor.kept e))
 
 -- the event gets a node of its own: it begins an outermost block, or is outside blocks and the merge rule gives a new node
 abbrev pub NeedsNode : Watched → List Event → Event → Type 0

@@ -6,7 +6,7 @@ use Rattle.velo_events.specs.declared.event.Event.{Event}
 use Rattle.velo_events.specs.declared.event.Kind.{Kind}
 use Rattle.velo_events.specs.declared.event.Kind.TheVariants.{Begin, End}
 use Rattle.velo_events.specs.Event.{thread_of}
-use Rattle.velo_events.specs.Merge.{GetsNone, GoesInto, GetsNew}
+use Rattle.velo_merge.specs.Merge.{GetsNone, GoesInto, GetsNew}
 use Rattle.velo_arena.specs.declared.step.Step.{Step}
 use Rattle.velo_arena.specs.Slots.{bears, Opens, with_node}
 use Rattle.velo_graph.specs.Nodes.{Nodes, IsRoot, IsAlone, IsSound, AddsEdges}
@@ -107,13 +107,13 @@ pub record GoesIntoNode (old : Nodes) (steps : List Step) (step : Option Step) (
   pub into : Step
   pub is : step ≡ Some into
   pub borne : Bears old into.slot into.stamp
-  pub goes : GoesInto (HasFinished old) (IsAncestor old) (live_stamps old steps) into.stamp
+  pub goes : GoesInto old (live_stamps old steps) into.stamp
   pub same : new ≡ old
 
 pub record GetsOwnNode (old : Nodes) (steps : List Step) (position : ℕ) (step : Option Step) (new : Nodes) : Type 0 where
   pub own : Step
   pub is : step ≡ Some own
-  pub gets : GetsNew (HasFinished old) (IsAncestor old) (live_stamps old steps)
+  pub gets : GetsNew old (live_stamps old steps)
   pub placed : PlacesNew old steps position own new
 
 abbrev pub IsPlaced : Nodes → List Step → ℕ → Option Step → Nodes → Type 0

@@ -1,3 +1,4 @@
+pub mod Collection
 pub mod Watched
 pub mod Codes
 pub mod Steps

@@ -5,9 +5,9 @@ ghost use Rattle.velo_events.specs.declared.event.Event.{Event as EventOf};
 ghost use Rattle.velo_events.specs.Event.{thread_of};
 ghost use Rattle.velo_events.specs.Heap.{depth_in};
 ghost use Rattle.velo_events.specs.WellFormed.{MayFollow};
-ghost use Rattle.velo_events.specs.Merge.{GetsNew};
+ghost use Rattle.velo_merge.specs.Merge.{GetsNew};
 ghost use Rattle.velo_events.specs.Block.{IsTransaction};
-ghost use Rattle.velo_events.specs.Collection.{HasManyLive, IsAccountedFor, IsGivenUp, IsHarmless};
+ghost use Rattle.velo_monitor.specs.Collection.{HasManyLive, IsAccountedFor, IsGivenUp, IsHarmless};
 ghost use Rattle.velo_arena.specs.declared.step.Step.{Step as StepOf};
 ghost use Rattle.velo_arena.specs.Slots.{used_in, limit_of};
 ghost use Rattle.velo_arena.specs.Stamps.{stamps_in};
@@ -30,7 +30,7 @@ use std::marker::Model;
 use velo_arena::Step;
 use velo_collect::{Freed, collect};
 use velo_events::growth::filled;
-use velo_events::{Access, Cell, Config, Event, Kind, Memory, ThreadId};
+use velo_events::{Access, Cell, Config, Event, Kind, Memory, Resolved, ThreadId};
 use velo_graph::Graph;
 use velo_merge::{Placed, place};
 use velo_rows::BitRow;
@@ -118,7 +118,7 @@ impl Monitor {
 
     /// Whether there is room for what the next event leaves.
     #[inline(always)]
-    pub fn has_room_for(&self, event: &Event) -> bool
+    pub fn has_room_for(&self, event: &Resolved<'_>) -> bool
         ensures { (bounds : BoundsOf) (trace : List EventOf) → IsMonitorOf bounds self.now trace → MayFollow bounds trace event.now → IsTrue result ↔ HasRoomFor self.now.kept event.now }
     {
         self.tables.has_room_for(event)
@@ -148,6 +148,17 @@ impl Monitor {
     /// `needs_node` says so.
     #[inline(always)]
     pub fn observe(&mut self, position: usize, event: &Event) -> Seen
+        requires { IsNext self.old position event.now }
+        ensures limit { limit_of self.new.nodes.slots ≡ limit_of self.old.nodes.slots }
+        ensures seen { (bounds : BoundsOf) (trace : List EventOf) → IsMonitorOf bounds self.old trace → position ≡ length trace → MayFollow bounds trace event.now → IsSeen bounds self.old trace event.now result self.new }
+        ensures nothing_left { HasNothingLeft self.new.nodes }
+    {
+        self.observe_resolved(position, &Resolved::of(event))
+    }
+
+    /// As `observe`, of an event that is resolved.
+    #[inline(always)]
+    pub fn observe_resolved(&mut self, position: usize, event: &Resolved<'_>) -> Seen
         requires { IsNext self.old position event.now }
         ensures limit { limit_of self.new.nodes.slots ≡ limit_of self.old.nodes.slots }
         ensures seen { (bounds : BoundsOf) (trace : List EventOf) → IsMonitorOf bounds self.old trace → position ≡ length trace → MayFollow bounds trace event.now → IsSeen bounds self.old trace event.now result self.new }
@@ -188,7 +199,7 @@ impl Monitor {
 /// Where an event outside blocks goes by the merge rule: the step that stands for it, if any does.
 fn place_operation(graph: &mut Graph<BitRow>, steps: &[Step], position: u32) -> Option<Step>
     requires stamp { ForSome graph.old.slots.newest (λ newest. newest < position) }
-    requires slot { GetsNew (HasFinished graph.old) (IsAncestor graph.old) (live_stamps graph.old steps.now) → used_in graph.old.slots < limit_of graph.old.slots }
+    requires slot { GetsNew graph.old (live_stamps graph.old steps.now) → used_in graph.old.slots < limit_of graph.old.slots }
     ensures placed { IsPlaced graph.old steps.now position result graph.new }
     ensures limit { limit_of graph.new.slots ≡ limit_of graph.old.slots }
 {
@@ -211,7 +222,7 @@ fn place_after_both(
     position: u32,
 ) -> Option<Step>
     requires stamp { ForSome graph.old.slots.newest (λ newest. newest < position) }
-    requires slot { GetsNew (HasFinished graph.old) (IsAncestor graph.old) (live_stamps graph.old (option_to_list own ++ option_to_list beside)) → used_in graph.old.slots < limit_of graph.old.slots }
+    requires slot { GetsNew graph.old (live_stamps graph.old (option_to_list own ++ option_to_list beside)) → used_in graph.old.slots < limit_of graph.old.slots }
     ensures placed { IsPlaced graph.old (option_to_list own ++ option_to_list beside) position result graph.new }
     ensures limit { limit_of graph.new.slots ≡ limit_of graph.old.slots }
 {
@@ -235,12 +246,12 @@ impl Monitor {
 
     /// Forgets what a write need not look up: the last reads of its cell whose nodes are gone.
     #[inline(always)]
-    fn forget_dead(&mut self, event: &Event)
+    fn forget_dead(&mut self, event: &Resolved<'_>)
         ensures forgets { ForgetsDead self.old.nodes self.old.kept self.new.kept }
         ensures nodes { self.new.nodes ≡ self.old.nodes }
         ensures depths { self.new.depths ≡ self.old.depths }
     {
-        if let Access::Exclusive(cell) = event.kind.access() {
+        if let Access::Exclusive(cell) = event.access() {
             self.forget_dead_reads(cell);
         }
     }
@@ -273,15 +284,16 @@ impl Monitor {
 
     /// Takes in the next event, unless it closes a cycle.
     #[inline(always)]
-    fn take_in(&mut self, position: usize, event: &Event) -> Seen
+    fn take_in(&mut self, position: usize, event: &Resolved<'_>) -> Seen
         requires { IsNext self.old position event.now }
         ensures limit { limit_of self.new.nodes.slots ≡ limit_of self.old.nodes.slots }
         ensures seen { (bounds : BoundsOf) (trace : List EventOf) → IsMonitorOf bounds self.old trace → position ≡ length trace → MayFollow bounds trace event.now → IsSeen bounds self.old trace event.now result self.new }
         ensures nothing_left { HasNothingLeft self.new.nodes }
     {
-        if self.depth(event.thread) > 0 {
+        if self.depth(event.thread()) > 0 {
             return self.observe_inside(event);
         }
+        let event = event.event();
         match event.kind {
             Kind::Begin(_) => self.begin_block(position as u32, event),
             _ => self.observe_outside(position as u32, event),
@@ -291,7 +303,7 @@ impl Monitor {
 
     /// Takes in an event of a thread that has blocks open, unless it closes a cycle.
     #[inline(always)]
-    fn observe_inside(&mut self, event: &Event) -> Seen
+    fn observe_inside(&mut self, event: &Resolved<'_>) -> Seen
         requires room { HasRoomFor self.old.kept event.now }
         requires sound { IsSound self.old.nodes }
         requires nothing { HasNothingLeft self.old.nodes }
@@ -300,7 +312,7 @@ impl Monitor {
         ensures inside { AfterInside self.old event.now result self.new }
         ensures limit { limit_of self.new.nodes.slots ≡ limit_of self.old.nodes.slots }
     {
-        let Some(own) = self.tables.last_of(event.thread) else {
+        let Some(own) = self.tables.last_of(event.thread()) else {
             unreachable!()
         };
         if self.closes_or_extends(event, own) {
@@ -315,7 +327,7 @@ impl Monitor {
 
     /// Adds the event's edges into the node of the step, unless one of them closes a cycle.
     #[inline(always)]
-    fn closes_or_extends(&mut self, event: &Event, own: Step) -> bool
+    fn closes_or_extends(&mut self, event: &Resolved<'_>, own: Step) -> bool
         requires current { entry self.old.kept (LastOf (thread_of event.now)) ≡ Some own }
         requires borne { Bears self.old.nodes own.slot own.stamp }
         requires sound { IsSound self.old.nodes }
@@ -326,7 +338,7 @@ impl Monitor {
         ensures depths { self.new.depths ≡ self.old.depths }
         ensures sound { IsSound self.new.nodes }
     {
-        match event.kind.access() {
+        match event.access() {
             Access::Exclusive(cell) => self.closes_or_follows(cell, own),
             _ => match self.tables.step_beside(event) {
                 Some(step) => closes_or_adds(&mut self.graph, step, own.slot),
@@ -362,7 +374,7 @@ impl Monitor {
 
     /// Counts a begin or an end inside a block. The end of the outermost one finishes its node.
     #[inline(always)]
-    fn count_blocks(&mut self, event: &Event, own: Step)
+    fn count_blocks(&mut self, event: &Resolved<'_>, own: Step)
         requires borne { Bears self.old.nodes own.slot own.stamp }
         requires nothing { HasNothingLeft self.old.nodes }
         requires depth { CanCount self.old (thread_of event.now) event.now.kind }
@@ -370,8 +382,8 @@ impl Monitor {
         ensures kept { self.new.kept ≡ self.old.kept }
         ensures limit { limit_of self.new.nodes.slots ≡ limit_of self.old.nodes.slots }
     {
-        let t = event.thread.0 as usize;
-        match event.kind {
+        let t = event.thread().0 as usize;
+        match event.kind() {
             Kind::Begin(_) => self.depths[t] += 1,
             Kind::End => {
                 self.depths[t] -= 1;
@@ -406,7 +418,8 @@ impl Monitor {
         }
     }
 
-    /// Takes in an outermost begin.
+    /// Takes in an outermost begin. As all that is called out of line, it resolves the event for itself: a resolved one that is
+    /// lent would have to stand in memory for all events.
     fn begin_block(&mut self, position: u32, event: &Event)
         requires room { HasRoomFor self.old.kept event.now }
         requires stamp { ForSome self.old.nodes.slots.newest (λ newest. newest < position) }
@@ -415,9 +428,10 @@ impl Monitor {
         ensures begins { BeginsBlock self.old position event.now self.new }
         ensures limit { limit_of self.new.nodes.slots ≡ limit_of self.old.nodes.slots }
     {
-        self.tables.predecessors_into(event, &mut self.steps);
+        let resolved = Resolved::of(event);
+        self.tables.predecessors_into(&resolved, &mut self.steps);
         let own = open_after(&mut self.graph, &self.steps, position);
-        self.tables.record(event, Some(own));
+        self.tables.record_resolved(&resolved, Some(own));
         self.depths[event.thread.0 as usize] += 1;
     }
 
@@ -429,15 +443,17 @@ impl Monitor {
         ensures outside { AfterOutside self.old position event.now self.new }
         ensures limit { limit_of self.new.nodes.slots ≡ limit_of self.old.nodes.slots }
     {
-        let step = if let Access::Exclusive(_) = event.kind.access() {
-            self.tables.predecessors_into(event, &mut self.steps);
+        let resolved = Resolved::of(event);
+        let step = if let Access::Exclusive(_) = resolved.access() {
+            self.tables
+                .predecessors_into(&resolved, &mut self.steps);
             place_operation(&mut self.graph, &self.steps, position)
         } else {
             let own = self.tables.last_of(event.thread);
-            let beside = self.tables.step_beside(event);
+            let beside = self.tables.step_beside(&resolved);
             place_after_both(&mut self.graph, own, beside, position)
         };
-        self.tables.record(event, step);
+        self.tables.record_resolved(&resolved, step);
     }
 }
 

@@ -6,7 +6,8 @@ use Rattle.velo_events.specs.declared.limits.TheConstants.{MOST_EVENTS}
 use Rattle.velo_events.specs.declared.refusal.Refusal.{Refusal}
 use Rattle.velo_events.specs.Refusals.{GrowthRefused}
 use Rattle.velo_events.specs.Reordering.{IsSerializable}
-use Rattle.velo_events.specs.Certificate.{IsSerialOrder, IsShortestCycleAt}
+use Rattle.velo_events.specs.Certificate.{IsSerialOrder}
+use Rattle.velo_certify.specs.Shortest.{IsShortestCycleAt}
 use Rattle.velo_events.specs.Graph.{HasCycle, IsClosing}
 use Rattle.velo_events.specs.WellFormed.{IsWellFormed}
 use Rattle.velo_logtext.specs.declared.fault.LogFault.{LogFault}

@@ -1,6 +1,7 @@
 //! `velodrome check`, and what all commands ask of a recorded log.
 ghost use Rattle.std.specs.Prelude.{◌≡◌, ◌≤◌, false, IfOk, IfErr, IfSome, OnOk, is_some, length};
-ghost use Rattle.velo_events.specs.Certificate.{IsSerialOrder, IsShortestCycleAt};
+ghost use Rattle.velo_events.specs.Certificate.{IsSerialOrder};
+ghost use Rattle.velo_certify.specs.Shortest.{IsShortestCycleAt};
 ghost use Rattle.velo_events.specs.Graph.{HasCycle, IsClosing};
 ghost use Rattle.velo_events.specs.WellFormed.{IsWellFormed};
 ghost use Rattle.velo_events.specs.declared.limits.TheConstants.{MOST_EVENTS, MOST_NODES};

@@ -10,7 +10,7 @@ use Rattle.velo_events.specs.declared.event.Kind.TheVariants.{Read, Write, Acqui
 use Rattle.velo_events.specs.Event.{are_same, thread_of, locked_by, shared_by, forked_by, joined_by, is_acquire, is_release, is_acquire_shared, is_release_shared, is_begin, is_end, is_exit, is_by, is_on_lock, is_on_share, is_exit_by, is_fork_of, is_join_of}
 use Rattle.velo_events.specs.Heap.{latest, happened, times, holder_in, shares_in}
 use Rattle.velo_events.specs.WellFormed.{IsInTurn, MayFollow, IsWellFormed}
-use Rattle.velo_events.proofs.OnCollection.{append-induct}
+use Rattle.velo_events.proofs.OnTraces.{append-induct}
 use Rattle.velo_events.proofs.OnTraces.{latest-push, happened-push, happened-no, times-push, times-no, times-nil}
 use Rattle.velo_events.proofs.OnWellFormed.{IsWellFormed-nil, IsWellFormed-push, IsWellFormed-induct}
 use Rattle.velo_races.specs.Races.{is_synchronizing, synchronizes}

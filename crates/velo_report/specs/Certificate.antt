@@ -4,7 +4,8 @@ use Rattle.std.specs.List.{flat_map}
 use Rattle.std.specs.Io.KnownBytes.{Appends}
 use Rattle.velo_events.specs.declared.event.Event.{Event}
 use Rattle.velo_events.specs.Block.{owner}
-use Rattle.velo_events.specs.Certificate.{positions_of, IsCycleAt}
+use Rattle.velo_events.specs.Certificate.{positions_of}
+use Rattle.velo_certify.specs.Shortest.{IsCycleAt}
 use Rattle.velo_events.specs.Graph.{HasCycle, IsClosing}
 use Rattle.velo_events.specs.Reordering.{IsReordering, IsSerial}
 use Rattle.velo_bytes.specs.Device.{AppendsBeginning}

@@ -12,8 +12,12 @@ use velo_world::Alarm;
 
 /// Adds words, each behind a space.
 fn add_words<S: Sink>(lines: &mut Lines, sink: &mut S, words: &[Word]) -> Result<(), WriteFault>
-    ensures ok { OnOk result (Buffers (S.contents sink.old) (S.contents sink.new) lines.old lines.new (spaced_words (words_text words.now))) }
-    ensures err { OnErr result (AppendsBeginning (S.contents sink.old) (S.contents sink.new) (lines.old ++ spaced_words (words_text words.now))) }
+    ensures ok { OnOk result
+        (Buffers (S.contents sink.old) (S.contents sink.new) lines.old lines.new
+        (spaced_words (words_text words.now))) }
+    ensures err { OnErr result
+        (AppendsBeginning (S.contents sink.old) (S.contents sink.new)
+        (lines.old ++ spaced_words (words_text words.now))) }
     ensures no_failure { OnOk result (S.failures sink.new ≡ S.failures sink.old) }
     ensures failure { OnErr result (S.failures sink.new ≡ with_failure (S.failures sink.old)) }
 {
@@ -25,8 +29,10 @@ fn add_words<S: Sink>(lines: &mut Lines, sink: &mut S, words: &[Word]) -> Result
 
 /// Adds a blamed block.
 fn add_blamed<S: Sink>(lines: &mut Lines, sink: &mut S, block: Block) -> Result<(), WriteFault>
-    ensures ok { OnOk result (Buffers (S.contents sink.old) (S.contents sink.new) lines.old lines.new (blame_text block)) }
-    ensures err { OnErr result (AppendsBeginning (S.contents sink.old) (S.contents sink.new) (lines.old ++ blame_text block)) }
+    ensures ok { OnOk result
+        (Buffers (S.contents sink.old) (S.contents sink.new) lines.old lines.new (blame_text block)) }
+    ensures err { OnErr result
+        (AppendsBeginning (S.contents sink.old) (S.contents sink.new) (lines.old ++ blame_text block)) }
     ensures no_failure { OnOk result (S.failures sink.new ≡ S.failures sink.old) }
     ensures failure { OnErr result (S.failures sink.new ≡ with_failure (S.failures sink.old)) }
 {
@@ -41,8 +47,10 @@ fn add_all_blamed<S: Sink>(
     sink: &mut S,
     blamed: &[Block],
 ) -> Result<(), WriteFault>
-    ensures ok { OnOk result (Buffers (S.contents sink.old) (S.contents sink.new) lines.old lines.new (blame_texts blamed.now)) }
-    ensures err { OnErr result (AppendsBeginning (S.contents sink.old) (S.contents sink.new) (lines.old ++ blame_texts blamed.now)) }
+    ensures ok { OnOk result
+        (Buffers (S.contents sink.old) (S.contents sink.new) lines.old lines.new (blame_texts blamed.now)) }
+    ensures err { OnErr result
+        (AppendsBeginning (S.contents sink.old) (S.contents sink.new) (lines.old ++ blame_texts blamed.now)) }
     ensures no_failure { OnOk result (S.failures sink.new ≡ S.failures sink.old) }
     ensures failure { OnErr result (S.failures sink.new ≡ with_failure (S.failures sink.old)) }
 {

@@ -64,8 +64,12 @@ fn add_order<S: Sink>(
     requires reorders { IsReordering events.now order.now }
     requires serial { IsSerial events.now order.now }
     requires inside { AreInside events.now order.now }
-    ensures ok { OnOk result (Buffers (S.contents sink.old) (S.contents sink.new) lines.old lines.new (serial_lines events.now order.now)) }
-    ensures err { OnErr result (AppendsBeginning (S.contents sink.old) (S.contents sink.new) (lines.old ++ serial_lines events.now order.now)) }
+    ensures ok { OnOk result
+        (Buffers (S.contents sink.old) (S.contents sink.new) lines.old lines.new
+        (serial_lines events.now order.now)) }
+    ensures err { OnErr result
+        (AppendsBeginning (S.contents sink.old) (S.contents sink.new)
+        (lines.old ++ serial_lines events.now order.now)) }
     ensures no_failure { OnOk result (S.failures sink.new ≡ S.failures sink.old) }
     ensures failure { OnErr result (S.failures sink.new ≡ with_failure (S.failures sink.old)) }
 {
@@ -86,8 +90,10 @@ fn add_certificate<S: Sink>(
     list: &[usize],
 ) -> Result<(), WriteFault>
     requires { Certifies closed.now.log list.now }
-    ensures ok { OnOk result (BuffersCertificate (S.contents sink.old) (S.contents sink.new) lines.old lines.new closed.now.log list.now) }
-    ensures err { OnErr result (FailsInCertificate (S.contents sink.old) (S.contents sink.new) lines.old closed.now.log list.now) }
+    ensures ok { OnOk result
+        (BuffersCertificate (S.contents sink.old) (S.contents sink.new) lines.old lines.new closed.now.log list.now) }
+    ensures err { OnErr result
+        (FailsInCertificate (S.contents sink.old) (S.contents sink.new) lines.old closed.now.log list.now) }
     ensures no_failure { OnOk result (S.failures sink.new ≡ S.failures sink.old) }
     ensures failure { OnErr result (S.failures sink.new ≡ with_failure (S.failures sink.old)) }
 {
@@ -109,7 +115,8 @@ pub fn certificate_lines<S: Sink>(
 ) -> Result<(), WriteFault>
     requires { Certifies closed.now.log list.now }
     ensures ok { OnOk result (AppendsCertificate (S.contents sink.old) (S.contents sink.new) closed.now.log list.now) }
-    ensures err { OnErr result (AppendsPartOfCertificate (S.contents sink.old) (S.contents sink.new) closed.now.log list.now) }
+    ensures err { OnErr result
+        (AppendsPartOfCertificate (S.contents sink.old) (S.contents sink.new) closed.now.log list.now) }
     ensures no_failure { OnOk result (S.failures sink.new ≡ S.failures sink.old) }
     ensures failure { OnErr result (S.failures sink.new ≡ with_failure (S.failures sink.old)) }
 {

@@ -75,8 +75,10 @@ fn add_block<S: Sink>(
     names: &Names,
     block: Block,
 ) -> Result<(), WriteFault>
-    ensures ok { OnOk result (Buffers (S.contents sink.old) (S.contents sink.new) lines.old lines.new (blame_line names.now block)) }
-    ensures err { OnErr result (AppendsBeginning (S.contents sink.old) (S.contents sink.new) (lines.old ++ blame_line names.now block)) }
+    ensures ok { OnOk result
+        (Buffers (S.contents sink.old) (S.contents sink.new) lines.old lines.new (blame_line names.now block)) }
+    ensures err { OnErr result
+        (AppendsBeginning (S.contents sink.old) (S.contents sink.new) (lines.old ++ blame_line names.now block)) }
     ensures no_failure { OnOk result (S.failures sink.new ≡ S.failures sink.old) }
     ensures failure { OnErr result (S.failures sink.new ≡ with_failure (S.failures sink.old)) }
 {
@@ -107,8 +109,11 @@ fn add_blame<S: Sink>(
     names: &Names,
     blamed: &[Block],
 ) -> Result<(), WriteFault>
-    ensures ok { OnOk result (Buffers (S.contents sink.old) (S.contents sink.new) lines.old lines.new (blame_lines names.now blamed.now)) }
-    ensures err { OnErr result (AppendsBeginning (S.contents sink.old) (S.contents sink.new) (lines.old ++ blame_lines names.now blamed.now)) }
+    ensures ok { OnOk result
+        (Buffers (S.contents sink.old) (S.contents sink.new) lines.old lines.new (blame_lines names.now blamed.now)) }
+    ensures err { OnErr result
+        (AppendsBeginning (S.contents sink.old) (S.contents sink.new)
+        (lines.old ++ blame_lines names.now blamed.now)) }
     ensures no_failure { OnOk result (S.failures sink.new ≡ S.failures sink.old) }
     ensures failure { OnErr result (S.failures sink.new ≡ with_failure (S.failures sink.old)) }
 {
@@ -128,7 +133,9 @@ fn add_alarm<S: Sink>(
     names: &Names,
     alarm: &Alarm,
 ) -> Result<(), WriteFault>
-    ensures ok { OnOk result (Buffers (S.contents sink.old) (S.contents sink.new) lines.old lines.new (verdict_lines names.now (Some alarm.now))) }
+    ensures ok { OnOk result
+        (Buffers (S.contents sink.old) (S.contents sink.new) lines.old lines.new
+        (verdict_lines names.now (Some alarm.now))) }
     ensures err { OnErr result (AppendsBeginning (S.contents sink.old) (S.contents sink.new)
         (lines.old ++ verdict_lines names.now (Some alarm.now))) }
     ensures no_failure { OnOk result (S.failures sink.new ≡ S.failures sink.old) }
@@ -167,7 +174,9 @@ fn add_verdict<S: Sink>(
 /// # Errors
 /// `WriteFault` where the sink failed. A beginning of the report was written then.
 pub fn report<S: Sink>(closed: &Closed, names: &Names, sink: &mut S) -> Result<(), WriteFault>
-    ensures ok { OnOk result (AppendsReport (S.contents sink.old) (S.contents sink.new) names.now closed.now.config.bounds.threads closed.now.log) }
+    ensures ok { OnOk result
+        (AppendsReport (S.contents sink.old)
+        (S.contents sink.new) names.now closed.now.config.bounds.threads closed.now.log) }
     ensures err { OnErr result (AppendsPartOfReport (S.contents sink.old) (S.contents sink.new)
         names.now closed.now.config.bounds.threads closed.now.log) }
     ensures no_failure { OnOk result (S.failures sink.new ≡ S.failures sink.old) }
@@ -181,7 +190,9 @@ pub fn report<S: Sink>(closed: &Closed, names: &Names, sink: &mut S) -> Result<(
 /// # Errors
 /// `WriteFault` where the sink failed. A beginning of the report was written then.
 pub fn report_so_far<S: Sink>(world: &World, names: &Names, sink: &mut S) -> Result<(), WriteFault>
-    ensures ok { OnOk result (AppendsReport (S.contents sink.old) (S.contents sink.new) names.now world.now.config.bounds.threads world.now.log) }
+    ensures ok { OnOk result
+        (AppendsReport (S.contents sink.old)
+        (S.contents sink.new) names.now world.now.config.bounds.threads world.now.log) }
     ensures err { OnErr result (AppendsPartOfReport (S.contents sink.old) (S.contents sink.new)
         names.now world.now.config.bounds.threads world.now.log) }
     ensures no_failure { OnOk result (S.failures sink.new ≡ S.failures sink.old) }

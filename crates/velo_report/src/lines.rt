@@ -94,7 +94,8 @@ impl Lines {
     /// Adds bytes: they are gathered, and what is too long for that is written.
     pub fn add<S: Sink>(&mut self, sink: &mut S, piece: &[u8]) -> Result<(), WriteFault>
         ensures ok { OnOk result (Buffers (S.contents sink.old) (S.contents sink.new) self.old self.new piece.now) }
-        ensures err { OnErr result (AppendsBeginning (S.contents sink.old) (S.contents sink.new) (self.old ++ piece.now)) }
+        ensures err { OnErr result
+            (AppendsBeginning (S.contents sink.old) (S.contents sink.new) (self.old ++ piece.now)) }
         ensures no_failure { OnOk result (S.failures sink.new ≡ S.failures sink.old) }
         ensures failure { OnErr result (S.failures sink.new ≡ with_failure (S.failures sink.old)) }
     {
@@ -112,8 +113,10 @@ impl Lines {
 
     /// Adds a word.
     pub fn add_word<S: Sink>(&mut self, sink: &mut S, word: Word) -> Result<(), WriteFault>
-        ensures ok { OnOk result (Buffers (S.contents sink.old) (S.contents sink.new) self.old self.new (word_text word.entry)) }
-        ensures err { OnErr result (AppendsBeginning (S.contents sink.old) (S.contents sink.new) (self.old ++ word_text word.entry)) }
+        ensures ok { OnOk result
+            (Buffers (S.contents sink.old) (S.contents sink.new) self.old self.new (word_text word.entry)) }
+        ensures err { OnErr result
+            (AppendsBeginning (S.contents sink.old) (S.contents sink.new) (self.old ++ word_text word.entry)) }
         ensures no_failure { OnOk result (S.failures sink.new ≡ S.failures sink.old) }
         ensures failure { OnErr result (S.failures sink.new ≡ with_failure (S.failures sink.old)) }
     {
@@ -129,8 +132,11 @@ impl Lines {
 
     /// Adds a space and a word.
     pub fn add_spaced<S: Sink>(&mut self, sink: &mut S, word: Word) -> Result<(), WriteFault>
-        ensures ok { OnOk result (Buffers (S.contents sink.old) (S.contents sink.new) self.old self.new (spaced (word_text word.entry))) }
-        ensures err { OnErr result (AppendsBeginning (S.contents sink.old) (S.contents sink.new) (self.old ++ spaced (word_text word.entry))) }
+        ensures ok { OnOk result
+            (Buffers (S.contents sink.old) (S.contents sink.new) self.old self.new (spaced (word_text word.entry))) }
+        ensures err { OnErr result
+            (AppendsBeginning (S.contents sink.old) (S.contents sink.new)
+            (self.old ++ spaced (word_text word.entry))) }
         ensures no_failure { OnOk result (S.failures sink.new ≡ S.failures sink.old) }
         ensures failure { OnErr result (S.failures sink.new ≡ with_failure (S.failures sink.old)) }
     {
@@ -140,8 +146,10 @@ impl Lines {
 
     /// Adds a space and a number.
     fn add_number<S: Sink>(&mut self, sink: &mut S, number: u64) -> Result<(), WriteFault>
-        ensures ok { OnOk result (Buffers (S.contents sink.old) (S.contents sink.new) self.old self.new (spaced (decimal number))) }
-        ensures err { OnErr result (AppendsBeginning (S.contents sink.old) (S.contents sink.new) (self.old ++ spaced (decimal number))) }
+        ensures ok { OnOk result
+            (Buffers (S.contents sink.old) (S.contents sink.new) self.old self.new (spaced (decimal number))) }
+        ensures err { OnErr result
+            (AppendsBeginning (S.contents sink.old) (S.contents sink.new) (self.old ++ spaced (decimal number))) }
         ensures no_failure { OnOk result (S.failures sink.new ≡ S.failures sink.old) }
         ensures failure { OnErr result (S.failures sink.new ≡ with_failure (S.failures sink.old)) }
     {
@@ -160,8 +168,12 @@ impl Lines {
         first: &str,
         others: &[Word],
     ) -> Result<(), WriteFault>
-        ensures ok { OnOk result (Buffers (S.contents sink.old) (S.contents sink.new) self.old self.new (line_of first.now (words_text others.now))) }
-        ensures err { OnErr result (AppendsBeginning (S.contents sink.old) (S.contents sink.new) (self.old ++ line_of first.now (words_text others.now))) }
+        ensures ok { OnOk result
+            (Buffers (S.contents sink.old) (S.contents sink.new) self.old self.new
+            (line_of first.now (words_text others.now))) }
+        ensures err { OnErr result
+            (AppendsBeginning (S.contents sink.old) (S.contents sink.new)
+            (self.old ++ line_of first.now (words_text others.now))) }
         ensures no_failure { OnOk result (S.failures sink.new ≡ S.failures sink.old) }
         ensures failure { OnErr result (S.failures sink.new ≡ with_failure (S.failures sink.old)) }
     {
@@ -182,8 +194,12 @@ impl Lines {
         first: &str,
         numbers: &[usize],
     ) -> Result<(), WriteFault>
-        ensures ok { OnOk result (Buffers (S.contents sink.old) (S.contents sink.new) self.old self.new (numbers_line first.now numbers.now)) }
-        ensures err { OnErr result (AppendsBeginning (S.contents sink.old) (S.contents sink.new) (self.old ++ numbers_line first.now numbers.now)) }
+        ensures ok { OnOk result
+            (Buffers (S.contents sink.old) (S.contents sink.new) self.old self.new
+            (numbers_line first.now numbers.now)) }
+        ensures err { OnErr result
+            (AppendsBeginning (S.contents sink.old) (S.contents sink.new)
+            (self.old ++ numbers_line first.now numbers.now)) }
         ensures no_failure { OnOk result (S.failures sink.new ≡ S.failures sink.old) }
         ensures failure { OnErr result (S.failures sink.new ≡ with_failure (S.failures sink.old)) }
     {

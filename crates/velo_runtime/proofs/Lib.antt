@@ -1,4 +1,4 @@
-pub mod OnMasks
+pub mod OnLeads
 pub mod Chains
 pub mod OnConfigs
 pub mod OnRefusals

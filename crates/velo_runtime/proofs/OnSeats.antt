@@ -7,7 +7,7 @@ use Rattle.velo_events.specs.declared.event.Kind.{Kind}
 use Rattle.velo_events.specs.declared.refusal.Refusal.{Refusal}
 use Rattle.velo_events.specs.Meaning.{kind_for}
 use Rattle.velo_ledger.specs.Views.{Holding}
-use Rattle.velo_world.specs.World.{value_read}
+use Rattle.velo_events.specs.Event.{value_read}
 use Rattle.velo_world.specs.declared.analysis.Reply.{Reply}
 use Rattle.velo_runtime.specs.Seats.{GainsEventAt, GainsEventOf, GainsEventBy}
 

@@ -1,7 +1,7 @@
 pub mod Rooms
 pub mod Steps
 pub mod Waits
-pub mod Masks
+pub mod Leads
 pub mod Turns
 pub mod Seats
 pub mod Places

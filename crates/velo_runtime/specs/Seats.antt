@@ -12,7 +12,7 @@ use Rattle.velo_ledger.specs.Tally.{with_event}
 use Rattle.velo_ledger.specs.Book.{with_tally}
 use Rattle.velo_world.specs.World.{WorldState}
 use Rattle.velo_world.specs.World.{FitsLog}
-use Rattle.velo_world.specs.World.{value_read}
+use Rattle.velo_events.specs.Event.{value_read}
 use Rattle.velo_world.specs.declared.analysis.Reply.{Reply}
 use Rattle.velo_runtime.specs.declared.wait.Turn.TheVariants.{Refused}
 use Rattle.velo_runtime.specs.Rooms.{RoomState}

@@ -1,15 +1,28 @@
 -- Whom a wanted thing leads to, and when a chain of waits comes back.
-use Rattle.std.specs.Prelude.{◌≡◌, ◌⊎◌, ℕ, Bool, true, false, List, Option, Some, None, IsTrue, IsFalse, slice_get}
+use Rattle.std.specs.Prelude.{◌≡◌, ◌⊎◌, ℕ, Bool, true, false, List, [], ◌∷◌, Option, Some, None, IsTrue, IsFalse, slice_get}
 use Rattle.velo_events.specs.declared.event.Event.{Event}
 use Rattle.velo_events.specs.declared.event.ThreadId.{ThreadId}
 use Rattle.velo_events.specs.declared.event.Status.{Status}
 use Rattle.velo_events.specs.declared.event.Status.TheVariants.{Unborn, Live, Exited, Joined}
 use Rattle.velo_events.specs.Heap.{holder_in, shares_in, status_in}
-use Rattle.velo_events.specs.Waits.{ComesBack}
 use Rattle.velo_runtime.specs.declared.wait.Wanted.{Wanted}
 use Rattle.velo_runtime.specs.declared.wait.Wanted.TheVariants.{Lock, LockShared, Thread}
 use Rattle.velo_runtime.specs.Rooms.{RoomState}
 
+-- From what is wanted, a chain leads to the caller: the wanted thing leads to a thread, this waits for a thing, and so on.
+-- `leads w t`: what is wanted, w, is given up by thread t, perhaps among others. `waits t`: what t waits for, if it waits.
+abbrev pub ChainToCaller : {W : Type 0} → (W → ℕ → Type 0) → (ℕ → Option W) → ℕ → W → List ℕ → Type 0
+ChainToCaller leads waits caller wanted [] = leads wanted caller
+ChainToCaller {W} leads waits caller wanted (t ∷ ts) =
+    leads wanted t × ((next : W) × (waits t ≡ Some next) × ChainToCaller leads waits caller next ts)
+
+-- Some chain does. Who cites this says what a wanted thing leads to: a lock to each thread that keeps it from being had so,
+-- and a thread to itself unless it has exited
+pub record ComesBack {W : Type 0} (leads : W → ℕ → Type 0) (waits : ℕ → Option W) (caller : ℕ) (wanted : W) : Type 0 where
+  pub threads : List ℕ
+  pub chain : ChainToCaller leads waits caller wanted threads
+
+-- it acts no more
 abbrev pub has_exited : Status → Bool
 has_exited Unborn = false
 has_exited Live = false

@@ -2,7 +2,6 @@
 #![tactic(auto)]
 
 mod error;
-mod masks;
 mod room;
 mod seat;
 mod shared;

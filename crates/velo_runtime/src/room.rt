@@ -1,6 +1,7 @@
 ghost use Rattle.velo_events.specs.Refusals.{GrowthRefused};
-ghost use Rattle.std.specs.Prelude.{◌≡◌, ◌≢◌, ◌+◌, ◌⊎◌, ◌↔◌, None, Err, IfOk, IfErr, IfSome, IfNone, IsFalse, IsTrue, sum_by, length, replicate};
+ghost use Rattle.std.specs.Prelude.{◌≡◌, ◌≢◌, ◌<◌, ◌+◌, ◌⊎◌, ◌↔◌, None, Err, IfOk, IfErr, IfSome, IfNone, IsFalse, IsTrue, sum_by, length, replicate};
 ghost use Rattle.velo_events.specs.declared.refusal.Refusal.TheVariants as refusal;
+ghost use Rattle.velo_events.specs.declared.limits.TheConstants.{MOST_THREADS};
 ghost use Rattle.velo_events.specs.Graph.{HasCycle};
 ghost use Rattle.velo_events.specs.Reordering.{IsSerializable};
 ghost use Rattle.velo_ledger.specs.Shares.{events_in_all, opening_share};
@@ -13,11 +14,10 @@ ghost use Rattle.velo_runtime.specs.Rooms.{IsThere, opening_room};
 ghost use Rattle.velo_runtime.specs.Steps.{ActsIn, ForksIn, StepsIn, StepsForking};
 ghost use Rattle.velo_runtime.specs.Turns.{TakesTurn, IsTurnAfter, TurnsIn, wanted_by};
 ghost use Rattle.velo_runtime.specs.Waits.{ComesBackIn, wait_of};
-ghost use Rattle.velo_runtime.specs.Masks.{AreLeads, AreNextLeads};
+ghost use Rattle.velo_runtime.specs.Leads.{set_of, AreLeads, AreNextLeads};
 ghost use Rattle.velo_runtime.specs.Seats.{AreSeatsOf};
 ghost use Rattle.velo_runtime.specs.Places.{AreTogether, events_of_all};
 
-use crate::masks::{bit_of, has_bit};
 use crate::seat::Seat;
 use crate::wait::{Turn, Wanted};
 use std::alloc::Global;
@@ -25,7 +25,7 @@ use std::fmt;
 use std::fmt::{Debug, Formatter, Write};
 use std::marker::Model;
 use velo_events::growth::filled;
-use velo_events::{Action, Bounds, Config, Memory, Refusal, Status, ThreadId};
+use velo_events::{Action, Bounds, Config, Memory, Refusal, Status, ThreadId, ThreadSet};
 use velo_ledger::Shares;
 use velo_world::{Alarm, Closed, Reply, World};
 
@@ -242,29 +242,29 @@ impl Room {
         (Turn::Wait, Some(wanted))
     }
 
-    /// A bit for each thread that a wanted thing leads to.
-    fn leads(&self, wanted: Wanted) -> u64
+    /// The threads that a wanted thing leads to.
+    fn leads(&self, wanted: Wanted) -> ThreadSet
         requires { IsThere self.now.world.config.bounds wanted }
         ensures { AreLeads self.now.world.log wanted result }
     {
         let heap = self.world.heap();
         match wanted {
-            Wanted::Lock(m) => bit_of(heap.holder(m)) | heap.sharers(m),
-            Wanted::LockShared(m) => bit_of(heap.holder(m)),
+            Wanted::Lock(m) => heap.sharers(m).union(set_of(heap.holder(m))),
+            Wanted::LockShared(m) => set_of(heap.holder(m)),
             Wanted::Thread(u) => match heap.status(u) {
-                Status::Unborn | Status::Live => bit_of(Some(u)),
-                Status::Exited | Status::Joined => 0,
+                Status::Unborn | Status::Live => set_of(Some(u)),
+                Status::Exited | Status::Joined => ThreadSet::none(),
             },
         }
     }
 
-    /// A bit for each thread that what a thread waits for leads to, if it waits.
-    fn next_leads(&self, thread: ThreadId) -> u64
+    /// The threads that what a thread waits for leads to, if it waits.
+    fn next_leads(&self, thread: ThreadId) -> ThreadSet
         ensures { AreNextLeads self.now.world.log (wait_of self.now.waits thread.0) result }
     {
         match self.wait_of(thread) {
             Some(wanted) => self.leads(wanted),
-            None => 0,
+            None => ThreadSet::none(),
         }
     }
 
@@ -376,15 +376,25 @@ pub fn comes_back(room: &Room, caller: ThreadId, wanted: Wanted) -> bool
     requires { IsThere room.now.world.config.bounds wanted }
     ensures { IsTrue result ↔ ComesBackIn room.now caller wanted }
 {
-    // A bit for each thread that a chain is known to lead to, and one for each of these whose wait was followed.
+    // The threads that a chain is known to lead to, and those of them whose wait was followed.
     let mut reached = room.leads(wanted);
-    let mut done: u64 = 0;
-    while reached & !done != 0 {
-        let thread = ThreadId((reached & !done).trailing_zeros() as u8);
-        done |= 1 << thread.0;
-        reached |= room.next_leads(thread);
+    let mut done = ThreadSet::none();
+    while let Some(thread) = reached.difference(done).first() {
+        done = done.with(thread);
+        reached = reached.union(room.next_leads(thread));
     }
-    has_bit(reached, caller)
+    reached.has(caller)
+}
+
+/// The thread, if there is one.
+fn set_of(thread: Option<ThreadId>) -> ThreadSet
+    requires { IfSome thread (λ t. t.0 < MOST_THREADS) }
+    ensures { result ≡ set_of thread }
+{
+    match thread {
+        Some(t) => ThreadSet::none().with(t),
+        None => ThreadSet::none(),
+    }
 }
 
 /// What the action waits for, where the refusal may pass.

@@ -11,7 +11,7 @@ use Rattle.velo_events.specs.Meaning.{action_of}
 use Rattle.velo_workload.specs.declared.statement.Statement.{Statement}
 use Rattle.velo_workload.specs.declared.statement.Statement.TheVariants.{Read, Write, Set, Add, Acquire, Release, Share, Unshare, Begin, End, Fork, Join, Repeat, Done}
 use Rattle.velo_workload.specs.Program.{Program}
-use Rattle.velo_world.specs.World.{value_read}
+use Rattle.velo_events.specs.Event.{value_read}
 use Rattle.velo_worker.specs.declared.progress.Progress.{Progress}
 use Rattle.velo_worker.specs.Counts.{has_event}
 use Rattle.velo_worker.specs.Progress.{is_quiet, register_after, settled_on, settled, start_of, action_for, wanted, after_event}

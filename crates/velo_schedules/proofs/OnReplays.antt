@@ -17,7 +17,8 @@ use Rattle.velo_events.proofs.OnSerializing.{serializable_law-none}
 use Rattle.velo_events.proofs.OnWellFormed.{IsWellFormed-nil, IsWellFormed-push}
 use Rattle.velo_workload.specs.declared.statement.Statement.{Statement}
 use Rattle.velo_workload.specs.Program.{Program}
-use Rattle.velo_world.specs.World.{WorldState, value_read}
+use Rattle.velo_events.specs.Event.{value_read}
+use Rattle.velo_world.specs.World.{WorldState}
 use Rattle.velo_world.proofs.OnAnswers.{MayFollow-meaning, event-meaning, action_of-kind_for}
 use Rattle.velo_worker.specs.declared.ending.Ending.{Ending}
 use Rattle.velo_worker.specs.declared.ending.Ending.TheVariants.{Done, Stuck, Halted, Refused, Gated}

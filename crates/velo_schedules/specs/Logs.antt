@@ -9,7 +9,8 @@ use Rattle.velo_events.specs.declared.refusal.Refusal.TheVariants.{GraphFull, Lo
 use Rattle.velo_events.specs.Reordering.{IsSerializable}
 use Rattle.velo_workload.specs.declared.statement.Statement.{Statement}
 use Rattle.velo_workload.specs.Program.{Program}
-use Rattle.velo_world.specs.World.{WorldState, value_read}
+use Rattle.velo_events.specs.Event.{value_read}
+use Rattle.velo_world.specs.World.{WorldState}
 use Rattle.velo_worker.specs.declared.ending.Ending.{Ending}
 use Rattle.velo_worker.specs.declared.ending.Ending.TheVariants.{Stuck, Refused}
 use Rattle.velo_worker.specs.declared.progress.Progress.{Progress}

@@ -17,7 +17,7 @@ use std::alloc::Global;
 use std::marker::Model;
 use velo_arena::{Heir, Step};
 use velo_events::growth::resize;
-use velo_events::{Access, Cell, Config, Event, MOST_THREADS, Memory, ThreadId};
+use velo_events::{Access, Cell, Config, Event, MOST_THREADS, Memory, Resolved, ThreadId};
 
 /// The most steps that an event looks up: of its thread, of the last write, and of a read by each thread.
 pub const MOST_PREDECESSORS: usize = MOST_THREADS as usize + 2;
@@ -113,20 +113,21 @@ impl Tables {
         ensures ok { OnOk result (HasItsThreads self.old event.now → HasRoomFor self.new event.now) }
         ensures err { OnErr result (¬ HasRoomFor self.old event.now) }
     {
-        if self.has_room_for(event) {
+        let event = Resolved::of(event);
+        if self.has_room_for(&event) {
             Ok(())
         } else {
-            self.grow_for(event)
+            self.grow_for(&event)
         }
     }
 
     /// Whether there is room for what the event records. For the last event of a thread of the tables there always is.
     #[inline(always)]
-    pub fn has_room_for(&self, event: &Event) -> bool
+    pub fn has_room_for(&self, event: &Resolved<'_>) -> bool
         ensures { IsTrue result ↔ HasRoomBeside self.now (thread_of event.now) (access_of event.now.kind) }
     {
-        match event.kind.access() {
-            Access::Shared(c) => self.cells.has_room_to_read(c, event.thread),
+        match event.access() {
+            Access::Shared(c) => self.cells.has_room_to_read(c, event.thread()),
             Access::Exclusive(c) => self.cells.has_room_to_write(c),
             Access::Fork(u) => (u.0 as usize) < self.threads.len(),
             _ => true,
@@ -135,13 +136,13 @@ impl Tables {
 
     /// Makes room for what the event records, where there was none.
     #[inline(never)]
-    fn grow_for(&mut self, event: &Event) -> Result<(), Memory>
+    fn grow_for(&mut self, event: &Resolved<'_>) -> Result<(), Memory>
         requires { ¬ HasRoomBeside self.old (thread_of event.now) (access_of event.now.kind) }
         ensures unchanged { IsUnchanged self.old self.new }
         ensures threads { length self.new.threads ≡ length self.old.threads }
         ensures ok { OnOk result (HasItsThreads self.old event.now → HasRoomFor self.new event.now) }
     {
-        match event.kind.access() {
+        match event.access() {
             Access::Shared(c) => self.reserve_reads(c),
             Access::Exclusive(c) => self.reserve_cell(c),
             _ => Ok(()),
@@ -170,8 +171,18 @@ impl Tables {
 
     /// Keeps the step, or none, as that of the last event at each place that the event records. There has to be room
     /// for it, as after `reserve_for`.
-    #[tactic(auto, unfolding(crate::specs::Recorded::kept_after))]
     pub fn record(&mut self, event: &Event, step: Option<Step>)
+        requires { HasRoomFor self.old event.now }
+        ensures recorded { IsRecorded self.old event.now step self.new }
+        ensures threads { length self.new.threads ≡ length self.old.threads }
+    {
+        self.record_resolved(&Resolved::of(event), step);
+    }
+
+    /// As `record`, of an event that is resolved.
+    #[inline(always)]
+    #[tactic(auto, unfolding(crate::specs::Recorded::kept_after))]
+    pub fn record_resolved(&mut self, event: &Resolved<'_>, step: Option<Step>)
         requires { HasRoomFor self.old event.now }
         ensures recorded { IsRecorded self.old event.now step self.new }
         ensures threads { length self.new.threads ≡ length self.old.threads }
@@ -179,18 +190,20 @@ impl Tables {
         self.record_in_place(event, step);
     }
 
+    #[inline(always)]
     #[tactic(auto, unfolding(crate::specs::Recorded::kept_after))]
-    fn record_in_place(&mut self, event: &Event, step: Option<Step>)
+    fn record_in_place(&mut self, event: &Resolved<'_>, step: Option<Step>)
         requires { HasRoomFor self.old event.now }
         ensures { self.new ≡ kept_after self.old event.now step }
     {
-        put_entry(&mut self.threads, event.thread.0 as usize, step);
+        put_entry(&mut self.threads, event.thread().0 as usize, step);
         self.record_beside(event, step);
     }
 
     /// Keeps the step as that of the last event at each place that the event records, where it is that of the thread's
     /// last event already. There has to be room for it too.
-    pub fn record_inside(&mut self, event: &Event, step: Step)
+    #[inline(always)]
+    pub fn record_inside(&mut self, event: &Resolved<'_>, step: Step)
         requires room { HasRoomFor self.old event.now }
         requires current { entry self.old (LastOf (thread_of event.now)) ≡ Some step }
         ensures recorded { IsRecorded self.old event.now (Some step) self.new }
@@ -201,12 +214,12 @@ impl Tables {
 
     /// Keeps the step at the places that the event records beside the last event of its thread.
     #[inline(always)]
-    fn record_beside(&mut self, event: &Event, step: Option<Step>)
+    fn record_beside(&mut self, event: &Resolved<'_>, step: Option<Step>)
         requires { HasRoomBeside self.old (thread_of event.now) (access_of event.now.kind) }
         ensures { self.new ≡ kept_after_beside self.old (thread_of event.now) (access_of event.now.kind) step }
     {
-        match event.kind.access() {
-            Access::Shared(c) => self.cells.record_read(c, event.thread, step),
+        match event.access() {
+            Access::Shared(c) => self.cells.record_read(c, event.thread(), step),
             Access::Exclusive(c) => self.cells.record_write(c, step),
             Access::Fork(u) => put_entry(&mut self.threads, u.0 as usize, step),
             _ => {}
@@ -244,27 +257,33 @@ impl Tables {
 
     /// Puts the steps that the event looks up into the list, in place of what it had: first that of the thread's last
     /// event, and a write's reads in the order of their threads.
+    #[inline(always)]
     #[tactic(auto, unfolding(crate::specs::LastAccesses::steps_looked_up))]
-    pub fn predecessors_into(&self, event: &Event, list: &mut SmallVec<Step, MOST_PREDECESSORS>)
+    pub fn predecessors_into(
+        &self,
+        event: &Resolved<'_>,
+        list: &mut SmallVec<Step, MOST_PREDECESSORS>,
+    )
         requires { MOST_PREDECESSORS ≤ list.old.capacity }
         ensures items { list.new.items ≡ steps_looked_up self.now event.now }
         ensures capacity { list.new.capacity ≡ list.old.capacity }
     {
         list.clear();
-        push_step(list, self.last_of(event.thread));
-        match event.kind.access() {
+        push_step(list, self.last_of(event.thread()));
+        match event.access() {
             Access::Exclusive(c) => self.push_accesses(c, None, list),
             _ => push_step(list, self.step_beside(event)),
         }
     }
 
     /// The one step that an event but a write looks up beside that of its thread's last event, if there is one.
+    #[inline(always)]
     #[tactic(auto, unfolding(crate::specs::LastAccesses::steps_looked_up))]
-    pub fn step_beside(&self, event: &Event) -> Option<Step>
+    pub fn step_beside(&self, event: &Resolved<'_>) -> Option<Step>
         requires { IsFalse (is_exclusive (access_of event.now.kind)) }
         ensures { steps_looked_up self.now event.now ≡ option_to_list (entry self.now (LastOf (thread_of event.now))) ++ option_to_list result }
     {
-        match event.kind.access() {
+        match event.access() {
             Access::Shared(c) => self.last_write(c),
             Access::Join(u) => self.last_of(u),
             _ => None,
@@ -322,7 +341,7 @@ impl Tables {
         ensures { result.items ≡ steps_looked_up self.now event.now }
     {
         let mut list = SmallVec::new(*self.threads.allocator());
-        self.predecessors_into(event, &mut list);
+        self.predecessors_into(&Resolved::of(event), &mut list);
         list
     }
 }

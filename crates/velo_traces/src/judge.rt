@@ -43,7 +43,9 @@ fn value_in(events: &[Event], x: VarId) -> u64
 
 /// The lock's holder after one more event.
 fn holder_after(event: Event, m: LockId, before: Option<ThreadId>) -> Option<ThreadId>
-    ensures { option_map (λ t. t.0) result ≡ (if is_on_lock m.0 event then (if is_acquire event.kind then Some (thread_of event) else None) else option_map (λ t. t.0) before) }
+    ensures { option_map (λ t. t.0) result
+        ≡ (if is_on_lock m.0 event then
+        (if is_acquire event.kind then Some (thread_of event) else None) else option_map (λ t. t.0) before) }
 {
     match event.kind {
         Kind::Acquire(n) if n == m => Some(event.thread),
@@ -233,7 +235,8 @@ fn is_another(holder: Option<ThreadId>, t: ThreadId) -> bool
 
 /// Why the thread may not acquire the lock, which may be shared or not.
 fn acquire_refusal(holds: bool, held: bool) -> Option<Refusal>
-    ensures { result ≡ (if not holds && held then Some Refusal.Busy else (if holds then Some Refusal.AlreadyHeld else None)) }
+    ensures { result
+        ≡ (if not holds && held then Some Refusal.Busy else (if holds then Some Refusal.AlreadyHeld else None)) }
 {
     if holds {
         Some(Refusal::AlreadyHeld)
@@ -244,7 +247,10 @@ fn acquire_refusal(holds: bool, held: bool) -> Option<Refusal>
 
 /// Why a thread of the status can't be joined.
 fn join_refusal(status: Status) -> Option<Refusal>
-    ensures { result ≡ (if is_unborn status then Some Refusal.NotForked else (if is_live status then Some Refusal.NotExited else (if is_joined status then Some Refusal.AlreadyJoined else None))) }
+    ensures { result
+        ≡ (if is_unborn status then Some Refusal.NotForked else
+        (if is_live status then Some Refusal.NotExited else
+        (if is_joined status then Some Refusal.AlreadyJoined else None))) }
 {
     match status {
         Status::Unborn => Some(Refusal::NotForked),
@@ -254,26 +260,12 @@ fn join_refusal(status: Status) -> Option<Refusal>
     }
 }
 
-/// Whether a thread of the status may act.
-fn is_live(status: Status) -> bool
-    ensures { result ≡ is_live status }
-{
-    matches!(status, Status::Live)
-}
-
-/// Whether a thread of the status may be forked.
-fn is_unborn(status: Status) -> bool
-    ensures { result ≡ is_unborn status }
-{
-    matches!(status, Status::Unborn)
-}
-
 /// Why the thread may not do the operation after the events: the first reason that applies.
 #[tactic(auto, unfolding(velo_events::specs::Meaning::refusal_of))]
 fn refusal(events: &[Event], bounds: Bounds, t: ThreadId, kind: Kind) -> Option<Refusal>
     ensures { result ≡ refusal_of bounds events.now t.0 kind }
 {
-    if t.0 >= bounds.threads || !is_live(status_in(events, t)) {
+    if t.0 >= bounds.threads || !status_in(events, t).is_live() {
         return Some(Refusal::NotLive);
     }
     match kind {
@@ -313,7 +305,7 @@ fn refusal(events: &[Event], bounds: Bounds, t: ThreadId, kind: Kind) -> Option<
             if u.0 >= bounds.threads {
                 return Some(Refusal::NoSuchThread);
             }
-            (!is_unborn(status_in(events, u))).then_some(Refusal::AlreadyForked)
+            (!status_in(events, u).is_unborn()).then_some(Refusal::AlreadyForked)
         }
         Kind::Join(u) => {
             if u.0 >= bounds.threads {

@@ -6,7 +6,7 @@ ghost use Rattle.velo_events.specs.Meaning.{is_live};
 ghost use Rattle.velo_waits.specs.Waits.{next_of};
 
 use std::alloc::Global;
-use velo_events::{LockId, Memory, Status, ThreadId};
+use velo_events::{LockId, Memory, ThreadId};
 use velo_worker::event_at;
 use velo_workload::{Statement, Workload};
 use velo_world::Closed;
@@ -16,7 +16,7 @@ pub fn is_live(closed: &Closed, thread: ThreadId) -> bool
     requires { thread.0 < closed.now.config.bounds.threads }
     ensures { result ≡ is_live (status_in closed.now.log thread.0) }
 {
-    matches!(closed.heap().status(thread), Status::Live)
+    closed.heap().status(thread).is_live()
 }
 
 /// Whether a thread holds a lock alone.

@@ -13,7 +13,7 @@ use Rattle.velo_events.specs.Meaning.{action_of}
 use Rattle.velo_events.proofs.OnLists.{slice_get-set_same, slice_get-set_other}
 use Rattle.velo_events.proofs.OnScans.{take-next}
 use Rattle.velo_events.proofs.OnTraces.{slice_get-append, slice_get-push}
-use Rattle.velo_world.specs.World.{value_read}
+use Rattle.velo_events.specs.Event.{value_read}
 use Rattle.velo_worker.specs.declared.progress.Progress.{Progress}
 use Rattle.velo_worker.specs.Progress.{settled, after_event}
 use Rattle.velo_worker.specs.Logs.{own, progress_after, tried, tried_after, Follows, AllFollow}

@@ -8,7 +8,8 @@ use Rattle.velo_events.specs.declared.event.ThreadId.{ThreadId}
 use Rattle.velo_events.specs.Graph.{HasCycle}
 use Rattle.velo_events.specs.Meaning.{event_for}
 use Rattle.velo_ledger.specs.Views.{Holding}
-use Rattle.velo_world.specs.World.{WorldState, meaning, value_read, ActsAt}
+use Rattle.velo_events.specs.Event.{value_read}
+use Rattle.velo_world.specs.World.{WorldState, meaning, ActsAt}
 use Rattle.velo_world.specs.declared.analysis.Reply.{Reply}
 use Rattle.velo_worker.specs.declared.ending.Ending.{Ending}
 use Rattle.velo_worker.specs.declared.ending.Ending.TheVariants.{Done, Stuck, Halted, Refused, Gated}

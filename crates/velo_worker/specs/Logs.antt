@@ -6,7 +6,7 @@ use Rattle.velo_events.specs.Event.{is_by}
 use Rattle.velo_events.specs.Meaning.{action_of}
 use Rattle.velo_events.specs.WellFormed.{IsWellFormed}
 use Rattle.velo_workload.specs.Program.{Program}
-use Rattle.velo_world.specs.World.{value_read}
+use Rattle.velo_events.specs.Event.{value_read}
 use Rattle.velo_worker.specs.declared.progress.Progress.{Progress}
 use Rattle.velo_worker.specs.Progress.{start_of, settled, wanted, after_event}
 

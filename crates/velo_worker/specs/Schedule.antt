@@ -12,7 +12,8 @@ use Rattle.velo_events.specs.Graph.{HasCycle}
 use Rattle.velo_events.specs.Heap.{status_in}
 use Rattle.velo_events.specs.Refusals.{GrowthRefused}
 use Rattle.velo_workload.specs.Program.{Program}
-use Rattle.velo_world.specs.World.{WorldState, meaning, opening, value_read, FillsGraph}
+use Rattle.velo_events.specs.Event.{value_read}
+use Rattle.velo_world.specs.World.{WorldState, meaning, opening, FillsGraph}
 use Rattle.velo_worker.specs.declared.ending.Ending.{Ending}
 use Rattle.velo_worker.specs.declared.ending.Ending.TheVariants.{Done, Stuck, Halted, Refused}
 use Rattle.velo_worker.specs.declared.progress.Progress.{Progress}

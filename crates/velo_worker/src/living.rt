@@ -208,7 +208,8 @@ fn finish(
 /// The seats of the workers, in the room that was made for them. None where a worker says that it is done, and its seat does not.
 fn seats_of(workload: &Workload, mut ended: Vec<Ended>, mut seats: Vec<Seat>) -> Option<Vec<Seat>>
     requires { seats.items ≡ [] }
-    ensures { IfSome result (λ seats. All (λ worker. worker.outcome ≡ outcome.Done) ended.items → All (HasDone workload.now) seats.items) }
+    ensures { IfSome result (λ seats.
+        All (λ worker. worker.outcome ≡ outcome.Done) ended.items → All (HasDone workload.now) seats.items) }
 {
     while let Some(worker) = ended.pop() {
         if !is_whole(workload, &worker) {

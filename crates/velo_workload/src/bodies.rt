@@ -41,7 +41,13 @@ impl<'a> Bodies<'a> {
     /// # Errors
     /// `Memory` where a growth was refused.
     pub fn finish(&mut self) -> Result<(), Memory>
-        ensures { OnOk result (sketches_of self.new ≡ record { whole = (sketches_of self.old).whole ++ (sketches_of self.old).current ∷ []; current = record { statements = []; later = [] } }) }
+        ensures { OnOk result
+            (sketches_of self.new
+            ≡ record {
+              whole = (sketches_of self.old).whole ++ (sketches_of self.old).current
+                  ∷ [];
+              current = record { statements = []; later = [] };
+            }) }
     {
         reserve(&mut self.whole, 1)?;
         let whole = replace(&mut self.current, Draft::new(self.alloc));
@@ -55,7 +61,9 @@ impl<'a> Bodies<'a> {
     /// `Memory` where a growth was refused.
     pub fn take(&mut self, outline: &Outline, phrase: Phrase<'a>, line: usize) -> Result<(), Memory>
         requires { AreFew (known_of outline.now) }
-        ensures { OnOk result (sketches_of self.new ≡ with_phrase (names_in (known_of outline.now)) (sketches_of self.old) (said phrase.entry) line) }
+        ensures { OnOk result
+            (sketches_of self.new
+            ≡ with_phrase (names_in (known_of outline.now)) (sketches_of self.old) (said phrase.entry) line) }
     {
         match phrase {
             Phrase::Thread(_) => self.finish(),
@@ -76,7 +84,9 @@ pub fn complete_bodies(
 ) -> Result<Vec<Vec<Statement>>, WorkFault>
     requires { AreFew (known_of outline.now) }
     ensures judged { Judges (unknown_in_sketches (names_in (known_of outline.now)) (map sketch_of drafts.entry.items)) result }
-    ensures bodies { IfOk result (λ found. map (λ body. body.items) found.items ≡ bodies_completed (names_in (known_of outline.now)) (map sketch_of drafts.entry.items)) }
+    ensures bodies { IfOk result (λ found.
+        map (λ body. body.items) found.items
+        ≡ bodies_completed (names_in (known_of outline.now)) (map sketch_of drafts.entry.items)) }
 {
     let mut bodies = Vec::new(alloc);
     for place in drafts.iter_mut() {

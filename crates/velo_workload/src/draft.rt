@@ -58,8 +58,12 @@ impl<'a> Draft<'a> {
 
     /// The next statement, which is not known yet.
     fn put_later(&mut self, said: Spoken<'a>, line: usize) -> Result<(), Memory>
-        ensures statements { OnOk result (self.new.statements.items ≡ self.old.statements.items ++ of_statement.Done ∷ []) }
-        ensures later { OnOk result (self.new.later.items ≡ self.old.later.items ++ record { said = said.entry; line = line; place = length self.old.statements.items } ∷ []) }
+        ensures statements { OnOk result
+            (self.new.statements.items ≡ self.old.statements.items ++ of_statement.Done ∷ []) }
+        ensures later { OnOk result
+            (self.new.later.items
+            ≡ self.old.later.items
+            ++ record { said = said.entry; line = line; place = length self.old.statements.items } ∷ []) }
     {
         let place = self.statements.len();
         reserve(&mut self.statements, 1)?;
@@ -75,7 +79,9 @@ impl<'a> Draft<'a> {
     /// `Memory` where a growth was refused.
     pub fn take(&mut self, outline: &Outline, said: Spoken<'a>, line: usize) -> Result<(), Memory>
         requires { AreFew (known_of outline.now) }
-        ensures { OnOk result (sketch_of self.new ≡ with_statement (names_in (known_of outline.now)) (sketch_of self.old) (spoken said.entry) line) }
+        ensures { OnOk result
+            (sketch_of self.new
+            ≡ with_statement (names_in (known_of outline.now)) (sketch_of self.old) (spoken said.entry) line) }
     {
         match statement(outline, said) {
             Some(statement) => self.put(statement),
@@ -100,7 +106,10 @@ fn set(statements: &mut Vec<Statement>, place: usize, statement: Statement)
 pub fn complete_body(outline: &Outline, draft: Draft) -> Result<Vec<Statement>, WorkFault>
     requires { AreFew (known_of outline.now) }
     ensures judged { Judges (unknown_later (names_in (known_of outline.now)) (sketch_of draft.entry).later) result }
-    ensures body { IfOk result (λ body. body.items ≡ completed (names_in (known_of outline.now)) (sketch_of draft.entry).statements (sketch_of draft.entry).later) }
+    ensures body { IfOk result (λ body.
+        body.items
+        ≡ completed (names_in (known_of outline.now)) (sketch_of draft.entry).statements
+        (sketch_of draft.entry).later) }
 {
     let Draft {
         mut statements,

@@ -88,9 +88,17 @@ impl Nesting {
     /// `Memory` where a growth was refused.
     pub fn open_repeat(&mut self, times: u64, line: usize) -> Result<(), Memory>
         ensures thread_line { OnOk result ((nesting_of self.new).thread_line ≡ (nesting_of self.old).thread_line) }
-        ensures open { OnOk result ((nesting_of self.new).open_repeats ≡ (nesting_of self.old).open_repeats ++ record { line = line; outside = (nesting_of self.old).rounds } ∷ []) }
-        ensures rounds { OnOk result ((nesting_of self.new).rounds ≡ min ((nesting_of self.old).rounds * times) most_kept) }
-        ensures cost { OnOk result ((nesting_of self.new).cost ≡ min ((nesting_of self.old).cost + ((nesting_of self.old).rounds + min ((nesting_of self.old).rounds * times) most_kept)) most_kept) }
+        ensures open { OnOk result
+            ((nesting_of self.new).open_repeats
+            ≡ (nesting_of self.old).open_repeats ++ record { line = line; outside = (nesting_of self.old).rounds }
+            ∷ []) }
+        ensures rounds { OnOk result
+            ((nesting_of self.new).rounds ≡ min ((nesting_of self.old).rounds * times) most_kept) }
+        ensures cost { OnOk result
+            ((nesting_of self.new).cost
+            ≡ min
+            ((nesting_of self.old).cost +
+            ((nesting_of self.old).rounds + min ((nesting_of self.old).rounds * times) most_kept)) most_kept) }
     {
         reserve(&mut self.open, 1)?;
         let open = Open {
@@ -107,8 +115,10 @@ impl Nesting {
     /// Closes the last open repeat.
     pub fn close_repeat(&mut self)
         ensures thread_line { (nesting_of self.new).thread_line ≡ (nesting_of self.old).thread_line }
-        ensures open { (nesting_of self.new).open_repeats ≡ take (length (nesting_of self.old).open_repeats - 1) (nesting_of self.old).open_repeats }
-        ensures rounds { (nesting_of self.new).rounds ≡ option_map_or (λ o. o.outside) (last_open (nesting_of self.old).open_repeats) 1 }
+        ensures open { (nesting_of self.new).open_repeats
+            ≡ take (length (nesting_of self.old).open_repeats - 1) (nesting_of self.old).open_repeats }
+        ensures rounds { (nesting_of self.new).rounds
+            ≡ option_map_or (λ o. o.outside) (last_open (nesting_of self.old).open_repeats) 1 }
         ensures cost { (nesting_of self.new).cost ≡ (nesting_of self.old).cost }
     {
         self.rounds = match self.open.last() {
@@ -123,7 +133,8 @@ impl Nesting {
         ensures thread_line { (nesting_of self.new).thread_line ≡ (nesting_of self.old).thread_line }
         ensures open { (nesting_of self.new).open_repeats ≡ (nesting_of self.old).open_repeats }
         ensures rounds { (nesting_of self.new).rounds ≡ (nesting_of self.old).rounds }
-        ensures cost { (nesting_of self.new).cost ≡ min ((nesting_of self.old).cost + (nesting_of self.old).rounds) most_kept }
+        ensures cost { (nesting_of self.new).cost
+            ≡ min ((nesting_of self.old).cost + (nesting_of self.old).rounds) most_kept }
     {
         self.cost = kept_sum(self.cost, self.rounds);
     }

@@ -82,7 +82,8 @@ impl<'a> Outline<'a> {
     /// Takes in a statement of a body.
     fn take_statement(&mut self, statement: Spoken<'a>, line: usize) -> Result<(), WorkFault>
         ensures judged { Judges (fault_of_line (known_of self.old) (Body (spoken statement.entry)) line) result }
-        ensures kept { OnOk result (kept_of self.new ≡ with_line (kept_of self.old) (Body (spoken statement.entry)) line) }
+        ensures kept { OnOk result
+            (kept_of self.new ≡ with_line (kept_of self.old) (Body (spoken statement.entry)) line) }
     {
         if count(&self.threads) == 0 {
             return Err(WorkFault::BadLine(line));
@@ -163,11 +164,13 @@ impl<'a> Outline<'a> {
     /// The first fault of the first pass; `Memory` where a growth was refused.
     pub fn read(&mut self, text: &'a [u8], bodies: &mut Bodies<'a>) -> Result<(), WorkFault>
         requires first { kept_of self.old ≡ whole [] }
-        requires none { sketches_of bodies.old ≡ record { whole = []; current = record { statements = []; later = [] } } }
+        requires none { sketches_of bodies.old
+            ≡ record { whole = []; current = record { statements = []; later = [] } } }
         ensures judged { Judges (first_fault (phrases text.now)) result }
         ensures names { OnOk result (names_in (known_of self.new) ≡ names_in (known (phrases text.now))) }
         ensures few { OnOk result (AreFew (known_of self.new)) }
-        ensures bodies { OnOk result (AreSketches (names_in (known (phrases text.now))) (phrases text.now) (sketches_of bodies.new)) }
+        ensures bodies { OnOk result
+            (AreSketches (names_in (known (phrases text.now))) (phrases text.now) (sketches_of bodies.new)) }
     {
         let mut rest = Some(text);
         let mut number = 0;

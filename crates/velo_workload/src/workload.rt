@@ -122,7 +122,8 @@ fn assemble(
     requires some_thread { 1 ≤ length (known_of outline.now).threads }
     requires each { length bodies.items ≡ length (known_of outline.now).threads }
     requires nested { AreBodies (map (λ body. body.items) bodies.items) }
-    ensures { IfOk result (λ w. w ≡ program_of (names_in (known_of outline.now)) (map (λ body. body.items) bodies.items)) }
+    ensures { IfOk result (λ w.
+        w ≡ program_of (names_in (known_of outline.now)) (map (λ body. body.items) bodies.items)) }
 {
     let threads = copies(alloc, outline.threads.as_slice())?;
     let variables = copies(alloc, outline.variables.as_slice())?;
@@ -151,7 +152,9 @@ fn bodies_of(
 ) -> Result<Vec<Vec<Statement>>, WorkFault>
     requires { AreFew (known_of outline.now) }
     ensures judged { Judges (unknown_in_sketches (names_in (known_of outline.now)) (drafted (sketches_of bodies.old))) result }
-    ensures bodies { IfOk result (λ found. map (λ body. body.items) found.items ≡ drop 1 (bodies_completed (names_in (known_of outline.now)) (drafted (sketches_of bodies.old)))) }
+    ensures bodies { IfOk result (λ found.
+        map (λ body. body.items) found.items
+        ≡ drop 1 (bodies_completed (names_in (known_of outline.now)) (drafted (sketches_of bodies.old)))) }
 {
     bodies.finish()?;
     let drafts = replace(&mut bodies.whole, Vec::new(alloc));
@@ -208,7 +211,8 @@ pub fn text_of(bytes: &[u8]) -> Result<&str, WorkFault>
     ensures text { IfOk result (λ text. text.now ≡ bytes.now) }
     ensures few { OnOk result (length bytes.now ≤ MOST_WORKLOAD_BYTES) }
     ensures too_many { (MOST_WORKLOAD_BYTES < length bytes.now) ↔ (result ≡ Err (WorkFault.TooMany 0)) }
-    ensures no_text { OnErr result (length bytes.now ≤ MOST_WORKLOAD_BYTES → (result ≡ Err (WorkFault.BadLine 0)) × (¬ IsUtf8 bytes.now)) }
+    ensures no_text { OnErr result
+        (length bytes.now ≤ MOST_WORKLOAD_BYTES → (result ≡ Err (WorkFault.BadLine 0)) × (¬ IsUtf8 bytes.now)) }
 {
     if bytes.len() > MOST_WORKLOAD_BYTES {
         return Err(WorkFault::TooMany(0));

@@ -6,10 +6,10 @@ use Rattle.std.proofs.lemmas.List.{take-append-le}
 use Rattle.std.proofs.lemmas.List.Sums.{count_by-le-length}
 use Rattle.velo_events.specs.declared.config.Bounds.{Bounds}
 use Rattle.velo_events.specs.declared.event.Event.{Event}
-use Rattle.velo_events.specs.Collection.{HasManyLive}
+use Rattle.velo_monitor.specs.Collection.{HasManyLive}
 use Rattle.velo_events.specs.Graph.{HasCycle}
 use Rattle.velo_events.proofs.OnGraphs.{IsClosing-unique, HasCycle-from_closing}
-use Rattle.velo_events.specs.Merge.{GetsNew}
+use Rattle.velo_merge.specs.Merge.{GetsNew}
 use Rattle.velo_arena.specs.Slots.{Slots, used_in, limit_of}
 use Rattle.velo_clocks.specs.Clocks.{AreClocksOf, AreClocksSince}
 use Rattle.velo_clocks.specs.Noted.{HasRoomToNote, IsOfThreads}
@@ -78,8 +78,8 @@ pub NeedsNode-reserved : (old new : Watched) (trace : List Event) (e : Event) �
 NeedsNode-reserved old new trace e nodes same needs =
     ⊎_elim inl (λ outside. inr (
       outside.0,
-      subst (λ (n : Nodes). GetsNew (HasFinished n) (IsAncestor n) (live_stamps n (steps_looked_up old.kept e))) nodes
-          (subst (λ steps. GetsNew (HasFinished new.nodes) (IsAncestor new.nodes) (live_stamps new.nodes steps)) (steps-reserved old.kept new.kept e same) outside.1),
+      subst (λ (n : Nodes). GetsNew n (live_stamps n (steps_looked_up old.kept e))) nodes
+          (subst (λ steps. GetsNew new.nodes (live_stamps new.nodes steps)) (steps-reserved old.kept new.kept e same) outside.1),
     )) needs
 
 pub OnOk-then : {T E : Type 0} (result : Result T E) (P Q : Type 0) → OnOk result P → (P → Q) → OnOk result Q

@@ -23,7 +23,8 @@ use Rattle.velo_world.specs.declared.log_replay.LogReplayFault.{LogReplayFault}
 use Rattle.velo_world.specs.declared.log_replay.LogReplayFault.TheVariants.{Refused, WrongValue, Memory}
 use Rattle.velo_world.specs.declared.analysis.Alarm.{Alarm}
 use Rattle.velo_world.specs.declared.analysis.Reply.{Reply}
-use Rattle.velo_world.specs.World.{meaning, value_read, AlarmOf}
+use Rattle.velo_events.specs.Event.{value_read}
+use Rattle.velo_world.specs.World.{meaning, AlarmOf}
 use Rattle.velo_world.specs.LoggedRun.{AddsToLog}
 use Rattle.velo_world.specs.Faults.{world_of, IsLimit, IsFaultAtEvent, FindsNoNodeAt, IsFaultOfLog}
 use Rattle.velo_world.proofs.OnAlarms.{AlarmOf-alarmed, length-before}

@@ -4,15 +4,12 @@ use Rattle.velo_events.specs.declared.config.Config.{Config}
 use Rattle.velo_events.specs.declared.event.Action.{Action}
 use Rattle.velo_events.specs.declared.event.Action.TheVariants.{Fork}
 use Rattle.velo_events.specs.declared.event.Event.{Event}
-use Rattle.velo_events.specs.declared.event.Kind.{Kind}
-use Rattle.velo_events.specs.declared.event.Kind.TheVariants.{Read}
 use Rattle.velo_events.specs.declared.event.Status.TheVariants.{Unborn, Live}
 use Rattle.velo_events.specs.declared.event.ThreadId.{ThreadId}
 use Rattle.velo_events.specs.declared.refusal.Refusal.{Refusal}
 use Rattle.velo_events.specs.declared.refusal.Refusal.TheVariants.{GraphFull, Memory}
 use Rattle.velo_events.specs.Block.{owner}
-use Rattle.velo_events.specs.Collection.{HasManyLive}
-use Rattle.velo_events.specs.Event.{thread_of}
+use Rattle.velo_events.specs.Event.{thread_of, value_read}
 use Rattle.velo_events.specs.Graph.{HasCycle, IsClosing}
 use Rattle.velo_events.specs.Heap.{depth_in, status_in}
 use Rattle.velo_events.specs.Meaning.{answer_to, event_for}
@@ -22,6 +19,7 @@ use Rattle.velo_ledger.specs.Logs.{tally_of, AreTalliesOf}
 use Rattle.velo_ledger.specs.Shares.{opening_share}
 use Rattle.velo_ledger.specs.Tally.{with_event}
 use Rattle.velo_ledger.specs.Views.{Accounts, Holding}
+use Rattle.velo_monitor.specs.Collection.{HasManyLive}
 use Rattle.velo_traces.specs.Blocks.{block_at}
 use Rattle.velo_blame.specs.Blamed.{AreBlamedAt, begins_of}
 use Rattle.velo_world.specs.declared.analysis.Alarm.{Alarm}
@@ -120,11 +118,6 @@ pub record CompletesShares (w : WorldState) (given : List (Option Holding)) : Ty
 abbrev pub IsNoFork : Action → Type 0
 IsNoFork (Fork u) = ⊥
 IsNoFork _ = ⊤
-
--- the value that a read read
-abbrev pub value_read : Kind → Option ℕ
-value_read (Read x v) = Some v
-value_read _ = None
 
 -- the reply to an event after the log
 pub record Replies (log : List Event) (e : Event) (reply : Reply) : Type 0 where

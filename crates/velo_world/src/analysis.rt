@@ -2,7 +2,7 @@
 ghost use Rattle.std.specs.Prelude.{◌≡◌, [], ◌∷◌, ◌++◌, List, Some, None, take, slice_get, IsTrue, IfOk, OnOk, OnErr};
 ghost use Rattle.velo_events.specs.declared.event.Event.{Event as EventOf};
 ghost use Rattle.velo_events.specs.Block.{owner};
-ghost use Rattle.velo_events.specs.Collection.{HasManyLive};
+ghost use Rattle.velo_monitor.specs.Collection.{HasManyLive};
 ghost use Rattle.velo_events.specs.Graph.{HasCycle};
 ghost use Rattle.velo_events.specs.WellFormed.{IsWellFormed, MayFollow};
 ghost use Rattle.velo_arena.specs.Slots.{limit_of};
@@ -15,7 +15,7 @@ use smallvec::SmallVec;
 use std::alloc::Global;
 use velo_arena::GraphFull;
 use velo_blame::Clocks;
-use velo_events::{Config, Event, MOST_OPEN_BLOCKS, Memory};
+use velo_events::{Config, Event, MOST_OPEN_BLOCKS, Memory, Resolved};
 use velo_heap::Heap;
 use velo_monitor::{Monitor, Seen};
 use velo_traces::{Block, open_blocks_since};
@@ -149,7 +149,7 @@ impl Analysis {
     /// # Errors
     /// `Memory` where a growth was refused. What follows from the events is as before then.
     #[inline(always)]
-    pub fn reserve_for(&mut self, event: &Event) -> Result<(), Memory>
+    pub fn reserve_for(&mut self, event: &Resolved<'_>) -> Result<(), Memory>
         ensures heap { self.new.heap ≡ self.old.heap }
         ensures nodes { self.new.monitor.nodes ≡ self.old.monitor.nodes }
         ensures follows { (trace : List EventOf) → IsAnalysisOf self.old trace → IsAnalysisOf self.new trace }
@@ -161,13 +161,13 @@ impl Analysis {
         if self.has_room_for(event) {
             return Ok(());
         }
-        self.grow_for(event)
+        self.grow_for(event.event())
     }
 
     /// Whether monitor and clocks have room for the next event. It makes no call, so that an event that finds room, as most
     /// do, pays for a few comparisons alone.
     #[inline(always)]
-    fn has_room_for(&self, event: &Event) -> bool
+    fn has_room_for(&self, event: &Resolved<'_>) -> bool
         ensures { IsTrue result → (trace : List EventOf) → IsAnalysisOf self.now trace → MayFollow (bounds_of self.now.heap) trace event.now → HasSlotFor self.now trace event.now → HasRoomForNext self.now trace event.now }
     {
         self.clocks.has_room_for(event) && self.monitor.has_room_for(event)
@@ -187,7 +187,7 @@ impl Analysis {
 
     /// Takes in the event at the position, which may follow those before it and for which there is room.
     #[inline(always)]
-    pub fn take_in(&mut self, events: &[Event], position: usize, event: &Event)
+    pub fn take_in(&mut self, events: &[Event], position: usize, event: &Resolved<'_>)
         requires here { slice_get events.now position ≡ Some event.now }
         requires next { ComesNext self.old (take position events.now) event.now }
         requires room { HasRoomForNext self.old (take position events.now) event.now }
@@ -196,12 +196,12 @@ impl Analysis {
         ensures follows { IsAnalysisOf self.new (take position events.now ++ event.now ∷ []) }
     {
         self.watch(events, position, event);
-        self.heap.apply(event);
+        self.heap.apply(event.event());
     }
 
     /// Lets monitor and clocks see the event, unless an alarm is kept already, and raises the alarm if it closes a cycle.
     #[inline(always)]
-    fn watch(&mut self, events: &[Event], position: usize, event: &Event)
+    fn watch(&mut self, events: &[Event], position: usize, event: &Resolved<'_>)
         requires here { slice_get events.now position ≡ Some event.now }
         requires next { ComesNext self.old (take position events.now) event.now }
         requires room { HasRoomForNext self.old (take position events.now) event.now }
@@ -212,9 +212,11 @@ impl Analysis {
         if self.alarm.is_some() {
             return;
         }
-        match self.monitor.observe(position, event) {
-            Seen::Quiet => self.clocks.note(position, event),
-            Seen::Closes { transaction } => self.raise_alarm(events, position, event, transaction),
+        match self.monitor.observe_resolved(position, event) {
+            Seen::Quiet => self.clocks.note_resolved(position, event),
+            Seen::Closes { transaction } => {
+                self.raise_alarm(events, position, event.event(), transaction);
+            }
         }
     }
 

@@ -1,7 +1,6 @@
 //! A recorded log, whose events come about again one after another.
 ghost use Rattle.std.specs.Prelude.{◌≡◌, ◌<◌, ◌+◌, [], ◌∷◌, ◌++◌, List, None, Some, false, length, take, slice_get, IfOk, OnOk, IfErr};
 ghost use Rattle.velo_events.specs.declared.event.Event.{Event as EventOf};
-ghost use Rattle.velo_events.specs.Meaning.{is_unborn};
 ghost use Rattle.velo_heap.specs.Contents.{bounds_of, IsHeapOf};
 ghost use Rattle.velo_traces.specs.Flaws.{flaw_of};
 ghost use Rattle.velo_world.specs.World.{CompletesShares, HoldsLiveShares};
@@ -14,7 +13,7 @@ use crate::logged_run::LoggedRun;
 use crate::world::World;
 use std::alloc::Global;
 use thiserror::Error;
-use velo_events::{Config, Event, Memory, Refusal, Status, ThreadId};
+use velo_events::{Config, Event, Memory, Refusal, Resolved, ThreadId};
 use velo_heap::Heap;
 use velo_ledger::{Book, Shares};
 use velo_traces::{Flaw, Trace};
@@ -120,10 +119,10 @@ impl LogReplay {
         ensures ok { OnOk result (IsLogReplayOf config.now self.new (take (position + 1) events.now) 0) }
         ensures fault { IfErr result (λ fault. IsFaultOfLog config.now events.now fault) }
     {
-        let event = &events[position];
-        match self.make_room(config, events, position, event) {
+        let event = Resolved::of(&events[position]);
+        match self.make_room(config, events, position, &event) {
             Ok(()) => {
-                self.take_in(config, events, position, event);
+                self.take_in(config, events, position, &event);
                 Ok(())
             }
             Err(fault) => Err(fault),
@@ -137,7 +136,7 @@ impl LogReplay {
         config: &Config,
         events: &[Event],
         position: usize,
-        event: &Event,
+        event: &Resolved<'_>,
     ) -> Result<(), LogReplayFault>
         requires here { slice_get events.now position ≡ Some event.now }
         requires stands { IsLogReplayOf config.now self.old (take position events.now) 0 }
@@ -148,7 +147,8 @@ impl LogReplay {
         ensures room { OnOk result (HasRoomForNext self.new.analysis (take position events.now) event.now) }
         ensures fault { IfErr result (λ fault. IsFaultAtEvent config.now (take position events.now) event.now fault) }
     {
-        match flaw_in(&self.analysis.heap, event) {
+        let recorded = event.event();
+        match flaw_in(&self.analysis.heap, recorded) {
             Some(Flaw::Refused(refusal)) => return Err(LogReplayFault::Refused {
                 position,
                 refusal,
@@ -164,7 +164,7 @@ impl LogReplay {
         }
         if self
             .analysis
-            .make_node_room(&events[..position], event, config)
+            .make_node_room(&events[..position], recorded, config)
             .is_err()
         {
             return Err(LogReplayFault::Refused {
@@ -180,7 +180,7 @@ impl LogReplay {
 
     /// Takes in the event at the position, for which there is room.
     #[inline(always)]
-    fn take_in(&mut self, config: &Config, events: &[Event], position: usize, event: &Event)
+    fn take_in(&mut self, config: &Config, events: &[Event], position: usize, event: &Resolved<'_>)
         requires goes_on { config.now.stop ≡ false }
         requires here { slice_get events.now position ≡ Some event.now }
         requires stands { IsLogReplayOf config.now self.old (take position events.now) 0 }
@@ -191,7 +191,7 @@ impl LogReplay {
         ensures { IsLogReplayOf config.now self.new (take position events.now ++ event.now ∷ []) 0 }
     {
         self.analysis.take_in(events, position, event);
-        self.book.count(position, event);
+        self.book.count(position, event.event());
     }
 
     /// Hands out the share of each thread that was born, and lets it say what its row does.
@@ -212,7 +212,7 @@ impl LogReplay {
         ensures { (trace : List EventOf) → IsLogReplayOf config.now self.old trace thread.0
             → IsLogReplayOf config.now self.new trace (thread.0 + 1) }
     {
-        if is_unborn(self.analysis.heap.status(thread)) {
+        if self.analysis.heap.status(thread).is_unborn() {
             return;
         }
         let Some(mut share) = self.kept.take(thread) else {
@@ -253,13 +253,6 @@ impl LogReplay {
             shares,
         )
     }
-}
-
-/// Whether a thread of the status is not born yet.
-fn is_unborn(status: Status) -> bool
-    ensures { result ≡ is_unborn status }
-{
-    matches!(status, Status::Unborn)
 }
 
 /// Why the event can't come next, by the heap.

@@ -1,13 +1,13 @@
 //! A run on its way: its log, and what follows from it.
 ghost use Rattle.std.specs.Prelude.{◌≡◌, ◌<◌, ◌++◌, ◌∷◌, ◌&&◌, [], length, OnOk, IfErr};
 ghost use Rattle.velo_events.specs.WellFormed.{MayFollow};
-ghost use Rattle.velo_world.specs.World.{meaning, value_read, Replies};
+ghost use Rattle.velo_world.specs.World.{meaning, Replies};
 ghost use Rattle.velo_world.specs.LoggedRun.{logged_state, FollowsFromItsLog, FindsNoRoom, Performs};
 ghost use Rattle.velo_world.specs.Analysis.{HasRoomForNext};
 
 use crate::analysis::{Analysis, Reply};
 use velo_arena::GraphFull;
-use velo_events::{Action, Config, Event, Kind, Memory, Refusal, ThreadId};
+use velo_events::{Action, Config, Event, Memory, Refusal, Resolved, ThreadId};
 use velo_traces::Trace;
 
 /// A log within its limit, and what follows from it.
@@ -78,7 +78,7 @@ impl LoggedRun {
         if self.log.reserve_one().is_err() {
             return Err(Refusal::Memory);
         }
-        match self.analysis.reserve_for(event) {
+        match self.analysis.reserve_for(&Resolved::of(event)) {
             Ok(()) => Ok(()),
             Err(Memory) => Err(Refusal::Memory),
         }
@@ -100,24 +100,14 @@ impl LoggedRun {
     {
         let position = self.log.len();
         self.log.push_reserved(event);
-        self.analysis.take_in(self.log.as_slice(), position, &event);
+        self.analysis
+            .take_in(self.log.as_slice(), position, &Resolved::of(&event));
         let alarmed = self.analysis.alarm.is_some();
         self.halted = self.config.stop && alarmed;
         Reply {
             position,
-            value: value_read(event.kind),
+            value: event.kind.value_read(),
             alarmed,
         }
-    }
-}
-
-/// The value that a read read.
-#[inline]
-fn value_read(kind: Kind) -> Option<u64>
-    ensures { result ≡ value_read kind }
-{
-    match kind {
-        Kind::Read(_, value) => Some(value),
-        _ => None,
     }
 }

@@ -3,7 +3,7 @@ ghost use Rattle.velo_events.specs.declared.event.Action.TheVariants.{Fork};
 ghost use Rattle.velo_events.specs.declared.limits.TheConstants.{MOST_EVENTS};
 ghost use Rattle.velo_events.specs.Block.{IsTransaction};
 ghost use Rattle.velo_events.specs.Meaning.{action_of};
-ghost use Rattle.velo_events.specs.Collection.{IsAccountedFor, IsGivenUp, IsHarmless};
+ghost use Rattle.velo_monitor.specs.Collection.{IsAccountedFor, IsGivenUp, IsHarmless};
 ghost use Rattle.velo_events.specs.Graph.{HasCycle};
 ghost use Rattle.velo_events.specs.Reordering.{IsSerializable};
 ghost use Rattle.velo_events.specs.WellFormed.{IsWellFormed, MayFollow};

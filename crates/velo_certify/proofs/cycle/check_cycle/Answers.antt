@@ -1,7 +1,7 @@
 use Rattle.std.proofs.Common.{◌≡◌, ◌+◌, ◌-◌, length, take, subst, arith}
 use Rattle.std.specs.Prelude.{IfOk, IsTrue, ◌↔◌}
 use Rattle.velo_events.specs.Block.{owner}
-use Rattle.velo_events.specs.Certificate.{IsShortestCycleAt}
+use Rattle.velo_certify.specs.Shortest.{IsShortestCycleAt}
 use Rattle.velo_certify.specs.Cycle.{IsCycleFrom}
 use Rattle.velo_certify.proofs.OnOrders.{IfOk-map}
 use Rattle.velo_certify.proofs.OnCycles.{shortest-answer}

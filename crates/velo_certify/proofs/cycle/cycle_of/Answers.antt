@@ -1,7 +1,7 @@
 use Rattle.std.proofs.Common.{◌<◌, ◌+◌, ◌-◌, length, take, ap, subst, arith}
 use Rattle.std.specs.Prelude.{IfOk, IfErr}
 use Rattle.velo_events.specs.Block.{owner}
-use Rattle.velo_events.specs.Certificate.{IsShortestCycleAt}
+use Rattle.velo_certify.specs.Shortest.{IsShortestCycleAt}
 use Rattle.velo_certify.specs.Cycle.{IsShortestFrom, IsLastFault, IsCycleFault}
 use Rattle.velo_certify.proofs.OnOrders.{IfOk-map, IfErr-map}
 use Rattle.velo_certify.proofs.OnCycles.{IsShortestCycleAt-from, IsCycleFault-from}

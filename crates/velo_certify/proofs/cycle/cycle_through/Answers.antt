@@ -1,8 +1,7 @@
 use Rattle.std.proofs.Common.{◌≡◌, ◌<◌, ◌++◌, ◌∷◌, [], length, sym, ap, subst, ◌∙◌, arith}
 use Rattle.std.specs.Prelude.{slice_index}
 use Rattle.std.proofs.lemmas.List.{get_or_default}
-use Rattle.velo_certify.specs.Cycle.{WalksBack}
-use Rattle.velo_certify.proofs.OnCycles.{WalksBack-next, IsShortestFrom-end}
+use Rattle.velo_certify.proofs.OnCycles.{WalksBack, WalksBack-next, IsShortestFrom-end}
 use Rattle.velo_certify.proofs.OnSearch.{reached-within}
 use Rattle.velo_certify.proofs.cycle.cycle_through.Goals as goal
 

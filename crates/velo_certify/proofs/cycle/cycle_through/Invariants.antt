@@ -1,9 +1,9 @@
 use Rattle.std.proofs.Common.{List, ◌<◌}
 use Rattle.std.specs.Prelude.{slice_index}
 use Rattle.velo_events.specs.declared.event.Event.{Event}
-use Rattle.velo_certify.specs.Cycle.{WalksBack}
 use Rattle.velo_certify.specs.Distances.{AreDistances, AreTowards}
 use Rattle.velo_certify.specs.Nearest.{IsNearest}
+use Rattle.velo_certify.proofs.OnCycles.{WalksBack}
 use Rattle.velo_certify.proofs.cycle.cycle_through.Given as goal
 
 abbrev pub invariant-loop-present : goal.invariant-loop-present

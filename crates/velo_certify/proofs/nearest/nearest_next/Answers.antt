@@ -1,7 +1,7 @@
 use Rattle.std.proofs.Common.{◌+◌, sym, subst, ◌∙◌}
 use Rattle.std.proofs.lemmas.Bool.{both_ways}
-use Rattle.velo_certify.specs.Nearest.{IsNearestSoFar, IsWithNext}
-use Rattle.velo_certify.proofs.OnNearest.{IsNearestSoFar-none, IsNearestSoFar-next}
+use Rattle.velo_certify.specs.Nearest.{IsWithNext}
+use Rattle.velo_certify.proofs.OnNearest.{IsNearestSoFar, IsNearestSoFar-none, IsNearestSoFar-next}
 use Rattle.velo_certify.proofs.nearest.nearest_next.Goals as goal
 use Rattle.velo_certify.proofs.nearest.nearest_next.Goals.{then-makes_edge, else-makes_edge}
 

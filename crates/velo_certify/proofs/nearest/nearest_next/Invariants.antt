@@ -2,7 +2,8 @@ use Rattle.std.proofs.Common.{◌≡◌}
 use Rattle.velo_conflicts.specs.Numbers.{HasNumbers}
 use Rattle.velo_conflicts.specs.Places.{sizes}
 use Rattle.velo_certify.specs.Table.{numbers_before}
-use Rattle.velo_certify.specs.Nearest.{own_positions, IsNearestSoFar}
+use Rattle.velo_certify.specs.Nearest.{own_positions}
+use Rattle.velo_certify.proofs.OnNearest.{IsNearestSoFar}
 use Rattle.velo_certify.proofs.nearest.nearest_next.Given as goal
 
 abbrev pub invariant-loop-at : goal.invariant-loop-at

@@ -13,14 +13,14 @@ same_lock : Tells (of_lock.eq-value).it
 same_lock a b h =
     let parts = and_parts _ _ h in
     let holder = Tells-options (of_thread.eq-value).it same_thread a.holder b.holder parts.0 in
-    let sharers = eqb-true a.sharers b.sharers parts.1 in
+    let sharers = ap (λ bits. record { 0 = bits }) (eqb-true a.sharers.0 b.sharers.0 parts.1) in
     λ i. record { holder = holder i; sharers = sharers i }
 
 own_thread : TellsOwn (of_thread.eq-value).it
 own_thread a = eq-eqb a.0 a.0 refl
 
 own_lock : TellsOwn (of_lock.eq-value).it
-own_lock a = and_from _ _ (own-options (of_thread.eq-value).it own_thread a.holder) (eq-eqb a.sharers a.sharers refl)
+own_lock a = and_from _ _ (own-options (of_thread.eq-value).it own_thread a.holder) (eq-eqb a.sharers.0 a.sharers.0 refl)
 
 pub returns : goal.returns
 returns c = (

@@ -1,6 +1,6 @@
 use Rattle.std.proofs.Common.{List, subst, inr}
 use Rattle.velo_events.specs.declared.event.Event.{Event}
-use Rattle.velo_events.specs.Certificate.{IsShortestCycleAt}
+use Rattle.velo_certify.specs.Shortest.{IsShortestCycleAt}
 use Rattle.velo_certify.proofs.OnOrders.{IfOk-map}
 use Rattle.velo_program.specs.Check.{IsOrderOrCycle}
 use Rattle.velo_program.proofs.check.order_or_cycle_of.Goals as goal

@@ -6,7 +6,7 @@ use Rattle.velo_events.specs.Event.{thread_of}
 use Rattle.velo_explore.specs.declared.group.Group.{Group}
 use Rattle.velo_explore.specs.declared.group.Group.TheVariants.{OfThread}
 use Rattle.velo_explore.specs.Groups.{is_in, is_member, also_looks_at}
-use Rattle.velo_explore.specs.ThreadSets.{has_thread}
+use Rattle.velo_events.specs.ThreadSets.{has_thread}
 use Rattle.velo_explore.specs.Summary.{is_behind, is_beyond, closes_cycle, reached_after, beyond_after}
 use Rattle.velo_explore.specs.Marks.{blank_mark, group_count, mark_of, IsMarkAfter}
 use Rattle.velo_explore.specs.Kept.{summary_of}

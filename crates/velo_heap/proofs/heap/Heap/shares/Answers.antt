@@ -1,6 +1,5 @@
 use Rattle.std.proofs.Common.{◌≡◌, ◌<◌, length, get_or, sym, ap, ◌∙◌, subst}
-use Rattle.std.specs.Prelude.{◌==◌}
-use Rattle.std.specs.Int.{bit_at}
+use Rattle.velo_events.specs.ThreadSets.{has_thread}
 use Rattle.velo_events.proofs.OnWellFormed.{Facts-from}
 use Rattle.velo_heap.specs.declared.lock.Lock.{Lock}
 use Rattle.velo_heap.specs.Contents.{Contents, bounds_of, lock_in, IsHeapOf}
@@ -18,5 +17,5 @@ returns c = λ trace stands.
     ∙ (ap (λ i. get_or inside.locks.items i c.index.result.now) c.from-at.ensures
     ∙ get_or-tabulated inside.locks.items (lock_in (length inside.threads.items) trace) c.index.result.now m same.locks within) in
     c.is_shared_by.ensures
-    ∙ (ap (λ (lock : Lock). bit_at lock.sharers c.args.t.0 == 1) at
+    ∙ (ap (λ (lock : Lock). has_thread lock.sharers c.args.t.0) at
     ∙ is_sharer-in (record { threads = length inside.threads.items; variables = length inside.values.items; locks = length inside.locks.items }) trace (Facts-from _ trace same.well_formed) c.args.t m)

@@ -1,6 +1,6 @@
 use Rattle.std.proofs.Common.{sym, ap, ◌∙◌, subst}
 use Rattle.velo_arena.specs.Slots.{used_in}
-use Rattle.velo_events.specs.Collection.{HasManyLive}
+use Rattle.velo_monitor.specs.Collection.{HasManyLive}
 use Rattle.velo_monitor.proofs.OnLive.{used-live, accounted-by_stamps, given_up-harmless}
 use Rattle.velo_monitor.proofs.monitor.Monitor.used.Goals as goal
 

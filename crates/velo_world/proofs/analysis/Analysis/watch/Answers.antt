@@ -1,6 +1,7 @@
-use Rattle.std.proofs.Common.{[], ◌∷◌, ◌++◌, take, sym, ap, ◌∙◌, refl, arith}
+use Rattle.std.proofs.Common.{[], ◌∷◌, ◌++◌, take, sym, ap, ◌∙◌, refl, subst, arith}
 use Rattle.velo_events.specs.Block.{owner}
 use Rattle.velo_heap.specs.Contents.{bounds_of}
+use Rattle.velo_world.specs.Analysis.{Raises}
 use Rattle.velo_world.proofs.OnAlarms.{length-before}
 use Rattle.velo_world.proofs.OnAnalyses.{alarm-none, IsWatched-stays, IsWatched-quiet, IsWatched-raised, monitor-quiet, clocks-quiet, well-next}
 use Rattle.std.proofs.lemmas.Grind.{elements}
@@ -10,8 +11,8 @@ pub returns-then-is_some-clause-watched : goal.returns-then-is_some-clause-watch
 returns-then-is_some-clause-watched c =
     IsWatched-stays c.args.self.now _ _ c.args.event.now (sym c.is_some.ensures ∙ c.if-is_some.true) c.requires.next.stands.watched
 
-pub observe-requires : goal.observe-requires
-observe-requires c =
+pub observe_resolved-requires : goal.observe_resolved-requires
+observe_resolved-requires c =
     let quiet = sym c.is_some.ensures ∙ c.if-is_some.false in
     let none = alarm-none c.args.self.now.alarm quiet in
     let here = length-before c.args.events.now c.args.position c.args.event.now c.requires.here in
@@ -32,27 +33,27 @@ returns-in-Quiet-clause-watched c =
     let watched = c.requires.next.stands.watched in
     let here = length-before c.args.events.now c.args.position c.args.event.now c.requires.here in
     let seen = c.in-Quiet.ensures.seen _ _ (monitor-quiet c.args.self.now _ _ quiet watched) (sym here) c.requires.next.follows in
-    let noted = c.note.ensures.next 0 _ (clocks-quiet c.args.self.now _ _ quiet watched) here (well-next c.args.self.now _ c.args.event.now c.requires.next) in
-    IsWatched-quiet _ _ _ quiet seen.0 seen.1 noted (c.note.ensures.bounds ∙ watched.bounds_are)
+    let noted = c.note_resolved.ensures.next 0 _ (clocks-quiet c.args.self.now _ _ quiet watched) here (well-next c.args.self.now _ c.args.event.now c.requires.next) in
+    IsWatched-quiet _ _ _ quiet seen.0 seen.1 noted (c.note_resolved.ensures.bounds ∙ watched.bounds_are)
 
 pub raise_alarm-requires-clause-clocks : goal.raise_alarm-requires-clause-clocks
 raise_alarm-requires-clause-clocks c = clocks-quiet c.args.self.now _ _ (sym c.is_some.ensures ∙ c.if-is_some.false) c.requires.next.stands.watched
 
 pub raise_alarm-requires-clause-well_formed : goal.raise_alarm-requires-clause-well_formed
-raise_alarm-requires-clause-well_formed c = well-next c.args.self.now _ c.args.event.now c.requires.next
+raise_alarm-requires-clause-well_formed c = rw c.event.ensures (well-next c.args.self.now _ c.args.event.now c.requires.next)
 
 pub raise_alarm-requires-clause-closes : goal.raise_alarm-requires-clause-closes
 raise_alarm-requires-clause-closes c =
     let quiet = sym c.is_some.ensures ∙ c.if-is_some.false in
     let here = length-before c.args.events.now c.args.position c.args.event.now c.requires.here in
-    (c.in-Closes.ensures.seen _ _ (monitor-quiet c.args.self.now _ _ quiet c.requires.next.stands.watched) (sym here) c.requires.next.follows).0
+    rw c.event.ensures ((c.in-Closes.ensures.seen _ _ (monitor-quiet c.args.self.now _ _ quiet c.requires.next.stands.watched) (sym here) c.requires.next.follows).0)
 
 pub raise_alarm-requires-clause-transaction : goal.raise_alarm-requires-clause-transaction
 raise_alarm-requires-clause-transaction c =
     let quiet = sym c.is_some.ensures ∙ c.if-is_some.false in
     let here = length-before c.args.events.now c.args.position c.args.event.now c.requires.here in
     let seen = c.in-Closes.ensures.seen _ _ (monitor-quiet c.args.self.now _ _ quiet c.requires.next.stands.watched) (sym here) c.requires.next.follows in
-    seen.1 ∙ ap (owner (take c.args.position c.args.events.now ++ c.args.event.now ∷ [])) here
+    rw c.event.ensures (seen.1 ∙ ap (owner (take c.args.position c.args.events.now ++ c.args.event.now ∷ [])) here)
 
 pub returns-in-Closes-clause-watched : goal.returns-in-Closes-clause-watched
 returns-in-Closes-clause-watched c =
@@ -60,11 +61,11 @@ returns-in-Closes-clause-watched c =
     let watched = c.requires.next.stands.watched in
     let here = length-before c.args.events.now c.args.position c.args.event.now c.requires.here in
     let seen = c.in-Closes.ensures.seen _ _ (monitor-quiet c.args.self.now _ _ quiet watched) (sym here) c.requires.next.follows in
-    let raised = c.raise_alarm.ensures in
+    let raised = subst (λ e. Raises (record c.args.self.now { monitor = c.observe_resolved.new.self }) (take c.args.position c.args.events.now ++ e ∷ []) c.args.position c.raise_alarm.new.self) c.event.ensures c.raise_alarm.ensures in
     rw raised.same (IsWatched-raised _ _ _ c.args.event.now raised.alarm refl (raised.here ∙ sym here) raised.is seen.2 (clocks-quiet c.args.self.now _ _ quiet watched) watched.bounds_are)
 
-pub note-requires-clause-room : goal.note-requires-clause-room
-note-requires-clause-room c = grind (arith, elements)
+pub note_resolved-requires-clause-room : goal.note_resolved-requires-clause-room
+note_resolved-requires-clause-room c = grind (arith, elements)
 
-pub note-requires-clause-fits : goal.note-requires-clause-fits
-note-requires-clause-fits c = grind (arith, elements)
+pub note_resolved-requires-clause-fits : goal.note_resolved-requires-clause-fits
+note_resolved-requires-clause-fits c = grind (arith, elements)

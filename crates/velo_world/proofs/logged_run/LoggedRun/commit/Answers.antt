@@ -1,4 +1,4 @@
-use Rattle.std.proofs.Common.{[], ◌∷◌, ◌++◌, subst, sym, ◌∙◌, arith}
+use Rattle.std.proofs.Common.{take, [], ◌∷◌, ◌++◌, subst, sym, ◌∙◌, arith}
 use Rattle.std.specs.Prelude.{IsTrue, ◌↔◌}
 use Rattle.velo_events.specs.Graph.{HasCycle}
 use Rattle.velo_world.specs.World.{AlarmOf}
@@ -15,7 +15,7 @@ returns-clause-replies c =
       position = c.len-position.ensures;
       value = c.value_read.ensures;
       alarmed = subst (λ b. IsTrue b ↔ HasCycle (log ++ c.args.event ∷ [])) (sym c.is_some-alarmed.ensures)
-          (AlarmOf-alarmed _ c.take_in.new.self.alarm (subst (λ past. AlarmOf (past ++ c.args.event ∷ []) c.take_in.new.self.alarm) part c.take_in.ensures.follows.watched.alarm));
+          (AlarmOf-alarmed _ c.take_in.new.self.alarm (subst (λ past. AlarmOf (past ++ c.args.event ∷ []) c.take_in.new.self.alarm) part (subst (λ e. AlarmOf (take c.len-position.result c.as_slice.result.now ++ e ∷ []) c.take_in.new.self.alarm) c.of.ensures c.take_in.ensures.follows.watched.alarm)));
     }
 
 pub take_in-requires-clause-here : goal.take_in-requires-clause-here
