@@ -55,7 +55,8 @@ PARTS = [
         "velo_renew": "Renewal*",
         "velo_races": "Races*"}),
     ("What the program does", {
-        "velo_program": "Program* Check Explaining Carrying Scheduling Playing ByChance Exploring* Delivery Disk Writing Reading Fate Causes",
+        "velo_program": "Program* Check Explaining Carrying Format Scheduling Playing ByChance Exploring* Delivery Barred Fate Failures Causes",
+        "velo_delivery": "Disk Reading Writing Answers",
         "velo_command": "CommandLine Asked Together Running Usage"}),
     ("The library for other languages", {
         "velo_ffi": "Answers Numbers Texts* Pieces* Renewal* Words"}),

@@ -13,11 +13,14 @@ use Rattle.velo_program.specs.declared.fate.Fate.{Fate}
 use Rattle.velo_program.specs.declared.fate.Fate.TheVariants as fate
 use Rattle.velo_program.specs.declared.request.RunOptions.{RunOptions}
 use Rattle.velo_program.specs.Delivery.{Answer, IsDelivered, IsDeliveredInTurn, silent}
-use Rattle.velo_program.specs.Disk.{Disk, Store}
-use Rattle.velo_program.specs.Playing.{ByThreads, ByTurns, IsFaultOfText, IsFaultOfWork, IsRunAnswer, IsSaidOfRun, IsTextOf, IsUnread, Play}
-use Rattle.velo_program.specs.Reading.{FailuresAsTold, Reading, failures_told}
-use Rattle.velo_program.specs.Writing.{Writing, WritesNothing}
-use Rattle.velo_program.specs.Steps.{IsReadOf, OpensNoProgram, OpensProgram}
+use Rattle.velo_delivery.specs.Disk.{Disk, Store}
+use Rattle.velo_program.specs.Playing.{ByThreads, ByTurns, IsFaultOfText, IsFaultOfWork, IsRunAnswer, IsSaidOfRun, IsTextOf, IsUnread, Play, workload_file}
+use Rattle.velo_program.specs.Failures.{FailuresAsTold, failures_told}
+use Rattle.velo_delivery.specs.Reading.{Reading}
+use Rattle.velo_delivery.specs.Writing.{Writing, WritesNothing}
+use Rattle.velo_delivery.specs.Reading.{IsReadOf}
+use Rattle.velo_program.specs.Format.{Reads}
+use Rattle.velo_program.specs.Steps.{OpensNoProgram}
 use Rattle.velo_program.proofs.OnDelivery.{in_turn_reads, same_fate}
 
 -- ---- from the bytes that were read to those of the file
@@ -78,11 +81,11 @@ unread_put read f unread store kept path out nothing = (refl, kept, nothing)
 
 -- a program that was read was opened; else there is none
 pub opened : (disk : Disk) (path : List ℕ) (read : Reading) → disk.gives path read → (result : Result Program Fate) → IfOk result (IsTextOf read.bytes)
-    → OnOk result (read.failures_after ≡ read.failures_before) → IfOk result (OpensProgram disk path)
-opened disk path read given (Ok program) text kept = record { read = read; given = given; is_text = text; no_failure = kept }
+    → OnOk result (read.failures_after ≡ read.failures_before) → IfOk result (Reads workload_file disk path)
+opened disk path read given (Ok program) text kept = record { read = read; given = given; said = text; no_failure = kept }
 opened disk path read given (Err f) text kept = tt
 
 pub not_opened : (disk : Disk) (options : RunOptions) (read : Reading) → disk.gives options.input.now read → (result : Result Program Fate) → IfErr result (IsUnread read.bytes)
     → IfErr result (FailuresAsTold read) → IfErr result (OpensNoProgram disk options)
 not_opened disk options read given (Ok program) unread failures = tt
-not_opened disk options read given (Err f) unread failures = inl (record { read = read; given = given; unread = unread; failures = failures })
+not_opened disk options read given (Err f) unread failures = inl (record { read = read; given = given; unsaid = unread; failures = failures })

@@ -28,7 +28,7 @@ use Rattle.velo_program.specs.declared.fate.Fate.{Fate}
 use Rattle.velo_program.specs.declared.fate.Fate.TheVariants.{Check, Finished}
 use Rattle.velo_program.specs.Delivery.{Answer, IsPrinted, printing, silent}
 use Rattle.velo_program.specs.Fate.{is_alarm}
-use Rattle.velo_program.specs.Writing.{Writing, Delivers}
+use Rattle.velo_delivery.specs.Writing.{Writing, Delivers}
 
 -- ---- the log of an input
 

@@ -23,11 +23,12 @@ use Rattle.velo_workload.specs.Program.{Program, ParsesAs, meaning_of}
 use Rattle.velo_world.specs.World.{WorldState}
 use Rattle.velo_program.specs.declared.check.Verdict.{Verdict}
 use Rattle.velo_program.specs.declared.fate.Fate.{Fate}
-use Rattle.velo_program.specs.declared.fate.Fate.TheVariants.{Finished, Lost, Memory, ReadFailed, Work}
+use Rattle.velo_program.specs.declared.fate.Fate.TheVariants.{Finished, Lost, Work}
 use Rattle.velo_program.specs.declared.request.RunOptions.{RunOptions}
 use Rattle.velo_program.specs.Check.{IsOutput, IsVerdict}
 use Rattle.velo_program.specs.Delivery.{Answer, LacksMemory, silent}
 use Rattle.velo_program.specs.Fate.{is_alarm}
+use Rattle.velo_program.specs.Format.{Format, SaysNone}
 
 -- ---- the workload of an input
 
@@ -55,13 +56,18 @@ abbrev pub IsFaultOfWork : Option (List ℕ) → WorkFault → Type 0
 IsFaultOfWork read work_fault.Memory = GrowthRefused
 IsFaultOfWork read fault = IfSome read (λ bytes. IsFaultOfText bytes fault)
 
--- Why there is no workload: the bytes are the text of none, or the source failed, or a growth was
--- refused. That the source failed stands in `FailuresAsTold`.
+-- what comes of bytes that are the text of none
+abbrev pub HaveNoWorkload : Option (List ℕ) → Fate → Type 0
+HaveNoWorkload read (Work fault) = IsFaultOfWork read fault
+HaveNoWorkload read f = ⊥
+
+-- a file of a workload
+abbrev pub workload_file : Format Program
+workload_file = record { says = IsTextOf; lacks = HaveNoWorkload }
+
+-- why there is no workload
 abbrev pub IsUnread : Option (List ℕ) → Fate → Type 0
-IsUnread read (Work fault) = IsFaultOfWork read fault
-IsUnread read ReadFailed = ⊤
-IsUnread read Memory = GrowthRefused
-IsUnread read f = ⊥
+IsUnread read f = SaysNone workload_file read f
 
 -- ---- its runs
 

@@ -7,20 +7,22 @@ ghost use Rattle.velo_worker.specs.declared.ending.Ending.TheVariants.{Done};
 ghost use Rattle.velo_program.specs.Delivery.{IsPrinted, printing};
 ghost use Rattle.velo_program.specs.Explaining.{counted, explained};
 ghost use Rattle.velo_program.specs.Program.{DoesExplain, ExplainsLog};
-ghost use Rattle.velo_program.specs.Reading.{reading};
-ghost use Rattle.velo_program.specs.Disk.{store};
-ghost use Rattle.velo_program.specs.Writing.{writing};
+ghost use Rattle.velo_delivery.specs.Reading.{reading};
+ghost use Rattle.velo_delivery.specs.Disk.{store};
+ghost use Rattle.velo_delivery.specs.Writing.{writing};
 ghost use Rattle.velo_program.specs.declared.fate.Fate.TheVariants.{Finished};
 ghost use Rattle.velo_program.specs.Steps.{DeliversOrLacks, Explains, ExplainsInput, IsSaved, PrintsOrLacks};
 
 use crate::check::do_input;
-use crate::fate::Fate;
-use crate::files::{Files, is_standard_input, open_input};
+use crate::fate::{Fate, fate_of_failure};
+use crate::files::open_input;
 use crate::naming::{names_in, read_given};
-use crate::request::{ExplainOptions, Operand};
+use crate::request::ExplainOptions;
+use crate::saving::Saved;
 use std::alloc::Global;
 use velo_bytes::{Sink, Source, WriteFault, write_all};
 use velo_certify::CertFault;
+use velo_delivery::{Files, Operand, Save, is_standard_input, save_all};
 use velo_events::{MOST_EVENTS, MOST_NODES, Memory};
 use velo_explain::{Evidence, evidence_of, explain_clean, explain_named, picture_named};
 use velo_names::{MOST_NAMES_BYTES, Names};
@@ -32,17 +34,17 @@ use velo_world::Closed;
 ///
 /// # Errors
 /// `CannotOpen` where no file opens there; `WriteFailed` where it failed, behind a beginning.
-pub fn save<F: Files>(text: &[u8], path: &str, files: &mut F) -> Result<(), Fate>
+fn save_text<F: Files>(text: &[u8], path: &str, files: &mut F) -> Result<(), Fate>
     ensures { IsSaved (store F.disk files.old files.new) (Some path.entry) text.now result }
 {
-    let Some(mut file) = files.create(path) else {
-        return Err(Fate::CannotOpen);
-    };
-    let written = write_all(&mut file, text);
-    files.close(path, file);
-    match written {
+    let saves = [Save {
+        operand: Operand::Out,
+        path: Some(path),
+        text: Saved::Bytes(text),
+    }];
+    match save_all(&saves, files) {
         Ok(()) => Ok(()),
-        Err(WriteFault) => Err(Fate::WriteFailed),
+        Err(failure) => Err(fate_of_failure(failure)),
     }
 }
 
@@ -89,7 +91,7 @@ fn explain_by<F: Files, O: Sink>(
         Ok(drawing) => drawing,
         Err(Memory) => return Fate::Memory,
     };
-    match save(drawing.as_slice(), path, files) {
+    match save_text(drawing.as_slice(), path, files) {
         Ok(()) => print(words.as_slice(), true, out),
         Err(fate) => fate,
     }

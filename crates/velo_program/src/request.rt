@@ -165,15 +165,6 @@ pub struct AuditOptions<'a> {
     pub limits: Limits,
 }
 
-/// The word of the command line that names an input.
-#[derive(Clone, Copy, Debug, PartialEq, Eq)]
-pub enum Operand {
-    /// `LOG`, a recorded log.
-    Log,
-    /// `FILE`, a workload.
-    File,
-}
-
 /// What events can be ignored by.
 #[derive(Clone, Copy, Debug, PartialEq, Eq)]
 pub enum Ignorable {

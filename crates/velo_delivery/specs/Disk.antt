@@ -1,12 +1,8 @@
--- What is said of the files that a program finds.
-use Rattle.std.specs.Prelude.{◌≡◌, ◌≢◌, ◌⊎◌, ⊤, ℕ, List, Option, Some, None, codes}
+-- What is said of the files that a command finds.
+use Rattle.std.specs.Prelude.{◌≡◌, ◌≢◌, ⊤, ℕ, List, Option, Some, None, codes}
 use Rattle.std.specs.Borrow.{Bor}
-use Rattle.velo_program.specs.declared.fate.Fate.{Fate}
-use Rattle.velo_program.specs.declared.fate.Fate.TheVariants.{CannotOpen, NamesAtInput, NamesAtTarget, OneFile}
-use Rattle.velo_program.specs.declared.request.Operand.{Operand}
-use Rattle.velo_program.specs.declared.request.Operand.TheVariants.{File}
-use Rattle.velo_program.specs.Reading.{Reading, reading}
-use Rattle.velo_program.specs.Writing.{Writing}
+use Rattle.velo_delivery.specs.Reading.{Reading, reading}
+use Rattle.velo_delivery.specs.Writing.{Writing}
 
 -- What is said of a path at one time. The path `-` is that of standard input.
 pub record Disk : Type 1 where
@@ -84,34 +80,11 @@ abbrev pub IsTarget : Disk → List ℕ → Option (Bor (List ℕ)) → Type 0
 IsTarget disk input None = ⊥
 IsTarget disk input (Some target) = disk.one input target.now
 
--- Why the input of this operand is not read: it does not open; or it opens, and is the target, of
--- which nothing but this is asked.
-abbrev pub IsBarred : Disk → Operand → List ℕ → Option (Bor (List ℕ)) → Fate → Type 0
-IsBarred disk operand input target f =
-    ((f ≡ CannotOpen) × FailsToOpen disk input)
-    ⊎ ((f ≡ OneFile operand) × IsTarget disk input target
-    × ((read : Reading) × disk.gives input read))
-
 -- the two files to be written are one
 abbrev pub AreOneTarget : Disk → Option (Bor (List ℕ)) → Option (Bor (List ℕ)) → Type 0
 AreOneTarget disk None names = ⊥
 AreOneTarget disk (Some target) None = ⊥
 AreOneTarget disk (Some target) (Some names) = disk.one target.now names.now
-
--- Why names are not to be saved at their path: the file there is the target; or it is the input,
--- which opens.
-abbrev pub IsBarredByNames : Disk → List ℕ → Option (Bor (List ℕ)) → Option (Bor (List ℕ))
-    → Fate → Type 0
-IsBarredByNames disk input target names f =
-    ((f ≡ NamesAtTarget) × AreOneTarget disk target names)
-    ⊎ ((f ≡ NamesAtInput) × IsTarget disk input names
-    × ((read : Reading) × disk.gives input read))
-
--- why a workload is not read whose run is to be saved at the target, and its names at theirs
-abbrev pub IsBarredRun : Disk → List ℕ → Option (Bor (List ℕ)) → Option (Bor (List ℕ))
-    → Fate → Type 0
-IsBarredRun disk input target names f =
-    IsBarred disk File input target f ⊎ IsBarredByNames disk input target names f
 
 -- ---- a file that is written
 

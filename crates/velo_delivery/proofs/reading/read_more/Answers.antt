@@ -1,7 +1,7 @@
 use Rattle.std.proofs.Common.{◌≡◌, ◌∙◌, ◌+◌, ◌-◌, ◌≤◌, ◌++◌, ℕ, List, ap, sym, arith, take, drop, length}
 use Rattle.std.proofs.lemmas.List.{length-take, length-drop}
-use Rattle.velo_program.proofs.OnReading.{grown, kept}
-use Rattle.velo_program.proofs.reading.read_more.Goals as goal
+use Rattle.velo_delivery.proofs.OnReading.{grown, kept}
+use Rattle.velo_delivery.proofs.reading.read_more.Goals as goal
 
 pub returns-in-Ok-read-clause-bytes : goal.returns-in-Ok-read-clause-bytes
 returns-in-Ok-read-clause-bytes g c =

@@ -1,6 +1,6 @@
 use Rattle.std.proofs.Common.{◌≡◌, ◌+◌, ◌-◌}
 use Rattle.std.specs.Io.KnownBytes.{Consumes}
-use Rattle.velo_program.proofs.reading.read_whole.Given as goal
+use Rattle.velo_delivery.proofs.reading.read_whole.Given as goal
 
 abbrev pub invariant-loop-source : goal.invariant-loop-source
 invariant-loop-source g l = Consumes (g.I.Source.remaining l.fn.source) (g.I.Source.remaining l.source) l.bytes.items

@@ -1,24 +1,11 @@
--- What a command does to the source of its input, and what reading all of it gives.
-use Rattle.std.specs.Prelude.{◌≡◌, ℕ, List, Option}
+-- How often a source has failed, by what a command comes to.
+use Rattle.std.specs.Prelude.{◌≡◌, ℕ}
 use Rattle.velo_bytes.specs.Device.{with_failure}
+use Rattle.velo_delivery.specs.Reading.{Reading}
 use Rattle.velo_logtext.specs.declared.fault.LogFault.TheVariants.{Read}
 use Rattle.velo_program.specs.declared.check.CheckFault.TheVariants.{Log}
 use Rattle.velo_program.specs.declared.fate.Fate.{Fate}
 use Rattle.velo_program.specs.declared.fate.Fate.TheVariants.{Check, ReadFailed}
-
--- the bytes that a source still gives, where they are known, and how often it has failed
-pub record Reading : Type 0 where
-  pub bytes : Option (List ℕ)
-  pub failures_before : ℕ
-  pub failures_after : ℕ
-
-abbrev pub reading : {S : Type 0} → (S → Option (List ℕ)) → (S → ℕ) → S → S → Reading
-reading remaining failures old new =
-    record {
-      bytes = remaining old;
-      failures_before = failures old;
-      failures_after = failures new;
-    }
 
 -- the count of failures of a source behind this fate: once more where it is a failed read, and only
 -- there

@@ -1,7 +1,7 @@
 use Rattle.std.proofs.Common.{List, ℕ, arith, sym, subst}
 use Rattle.std.specs.Io.KnownBytes.{Consumes}
-use Rattle.velo_program.proofs.OnReading.{gave_all, gave_more, gave_then}
-use Rattle.velo_program.proofs.reading.read_whole.Goals as goal
+use Rattle.velo_delivery.proofs.OnReading.{gave_all, gave_more, gave_then}
+use Rattle.velo_delivery.proofs.reading.read_whole.Goals as goal
 
 pub returns-then-branch-eq0-clause-bytes : goal.returns-then-branch-eq0-clause-bytes
 returns-then-branch-eq0-clause-bytes g c =

@@ -1,8 +1,8 @@
 //! Reading a whole file.
 ghost use Rattle.std.specs.Prelude.{◌≡◌, ◌+◌, Err, IfOk, vec_len};
 ghost use Rattle.velo_events.specs.Refusals.{GrowthRefused};
-ghost use Rattle.velo_program.specs.declared.reading.ReadFault.TheVariants as read_fault;
-ghost use Rattle.velo_program.specs.Steps.{GrowsByPiece, IsReadOf, failures_by};
+ghost use Rattle.velo_delivery.specs.declared.reading.ReadFault.TheVariants as read_fault;
+ghost use Rattle.velo_delivery.specs.Reading.{GrowsByPiece, IsReadOf, failures_by};
 
 use std::alloc::Global;
 use velo_bytes::Source;

@@ -4,7 +4,7 @@ use Rattle.std.proofs.lemmas.List.{append_assoc, length-append, length-take, tak
 use Rattle.std.proofs.Math.Seq.{take-append-add}
 use Rattle.std.specs.Prelude.{Option, Some, None}
 use Rattle.std.specs.Io.KnownBytes.{Consumes, IsAtEnd}
-use Rattle.velo_program.specs.Steps.{IsReadOf}
+use Rattle.velo_delivery.specs.Reading.{IsReadOf}
 
 -- ---- a piece behind what is there, in a list that is longer by it
 
