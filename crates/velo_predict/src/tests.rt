@@ -12,7 +12,9 @@ const BOUNDS: Bounds = Bounds {
 };
 
 const X: VarId = VarId(0);
+
 const Y: VarId = VarId(1);
+
 const M: LockId = LockId(0);
 
 fn by(thread: u8, kind: Kind) -> Event {
@@ -84,14 +86,21 @@ fn thread_that_turned_gives_up_its_lock(rt: HostRuntime) {
     for (event, expected) in ends {
         let mut events = trace_of(&rt, rt.alloc(), &turned);
         events.push(event).expect(&rt, "memory");
-        assert_eq!(rt; foretells(&rt, rt.alloc(), &added(), events.as_slice()), expected);
+        assert_eq!(rt;
+            foretells(&rt, rt.alloc(), &added(), events.as_slice()),
+            expected
+        );
     }
 }
 
 /// Behind the release of a thread that has turned a read is the last that is known of its thread.
 #[test]
 fn read_behind_such_a_release_is_the_last(rt: HostRuntime) {
-    let mut events = trace_of(&rt, rt.alloc(), &[fork(1), fork(2), by(1, Kind::Acquire(M))]);
+    let mut events = trace_of(
+        &rt,
+        rt.alloc(),
+        &[fork(1), fork(2), by(1, Kind::Acquire(M))],
+    );
     for event in [
         by(1, Kind::Read(X, 0)),
         by(1, Kind::Release(M)),

@@ -10,7 +10,7 @@ use Rattle.std.specs.List.{list_any}
 use Rattle.std.specs.List.Sorted.{IsNonDecreasingBy}
 use Rattle.velo_events.specs.declared.config.Config.{Config}
 use Rattle.velo_events.specs.declared.event.ThreadId.{ThreadId}
-use Rattle.velo_events.specs.declared.limits.TheConstants.{MOST_THREADS}
+use Rattle.velo_events.specs.declared.limits.TheConstants.{MAX_THREADS}
 use Rattle.velo_bytes.proofs.OnDevices.{appends_nothing, appends_then, beginning_then}
 use Rattle.velo_bytes.specs.Device.{AppendsBeginning, with_failure}
 use Rattle.velo_report.specs.declared.names.Names.{Names}
@@ -41,7 +41,7 @@ use Rattle.velo_program.specs.declared.fate.Fate.{Fate}
 use Rattle.velo_program.specs.declared.fate.Fate.TheVariants as fate
 use Rattle.velo_program.specs.declared.request.ExploreOptions.{ExploreOptions}
 use Rattle.velo_program.specs.declared.saving.Saving.{Saving}
-use Rattle.velo_turns.specs.declared.limits.TheConstants.{MOST_TURNS}
+use Rattle.velo_turns.specs.declared.limits.TheConstants.{MAX_TURNS}
 use Rattle.velo_program.specs.Causes.{ComesByRefusal, Growths}
 use Rattle.velo_program.specs.Check.{IsOrderOrCycle, IsOutputOf, IsVerdict}
 use Rattle.velo_program.specs.Delivery.{Answer, FailsSaving, IsDelivered, IsDeliveredInTurn, LacksMemory, printing, silent}
@@ -80,10 +80,10 @@ on_ok (Err e) f h = tt
 
 -- ---- what can be told
 
-pub sayable_by : (schedule : List ThreadId) → length schedule ≤ MOST_TURNS → All (λ t. t.0 < MOST_THREADS) schedule → IsSayable schedule
+pub sayable_by : (schedule : List ThreadId) → length schedule ≤ MAX_TURNS → All (λ t. t.0 < MAX_THREADS) schedule → IsSayable schedule
 sayable_by schedule few threads = short_reads_back schedule threads few
 
-pub threads_of_sayable : (schedule : List ThreadId) → IsSayable schedule → All (λ t. t.0 < MOST_THREADS) schedule
+pub threads_of_sayable : (schedule : List ThreadId) → IsSayable schedule → All (λ t. t.0 < MAX_THREADS) schedule
 threads_of_sayable schedule h = threads_of_schedule (short_text schedule) schedule h
 
 pub not_sayable : (result : Bool) (schedule lent : List ThreadId) → IsTrue result ↔ IsSayable lent → lent ≡ schedule → result ≡ false → ¬ IsSayable schedule

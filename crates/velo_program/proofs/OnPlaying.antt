@@ -6,7 +6,7 @@ use Rattle.std.specs.Borrow.{Bor}
 use Rattle.velo_worker.specs.declared.ending.Ending.{Ending}
 use Rattle.velo_workload.specs.declared.fault.WorkFault.{WorkFault}
 use Rattle.velo_workload.specs.declared.fault.WorkFault.TheVariants as work_fault
-use Rattle.velo_workload.specs.declared.limits.TheConstants.{MOST_WORKLOAD_BYTES}
+use Rattle.velo_workload.specs.declared.limits.TheConstants.{MAX_WORKLOAD_BYTES}
 use Rattle.velo_workload.specs.Program.{Program, meaning_of}
 use Rattle.velo_world.specs.World.{WorldState}
 use Rattle.velo_program.specs.declared.fate.Fate.{Fate}
@@ -31,16 +31,16 @@ whole all bytes rest is none = sym (is ∙ ap (λ r. bytes ++ r) none ∙ append
 pub longer : (all bytes rest : List ℕ) → all ≡ bytes ++ rest → length bytes ≤ length all
 longer all bytes rest is = let n = ap length is in omega (arith, n, length-append bytes rest)
 
-pub text_read : (read : Option (List ℕ)) (bytes : List ℕ) (program : Program) → IsReadOf MOST_WORKLOAD_BYTES read bytes → IsTextOf (Some bytes) program → IsTextOf read program
+pub text_read : (read : Option (List ℕ)) (bytes : List ℕ) (program : Program) → IsReadOf MAX_WORKLOAD_BYTES read bytes → IsTextOf (Some bytes) program → IsTextOf read program
 text_read None bytes program is text = tt
 text_read (Some all) bytes program is text =
-    subst (λ (b : List ℕ). (length b ≤ MOST_WORKLOAD_BYTES) × (meaning_of b ≡ Ok program)) (whole all bytes is.0 is.1 (is.2 text.0)) text
+    subst (λ (b : List ℕ). (length b ≤ MAX_WORKLOAD_BYTES) × (meaning_of b ≡ Ok program)) (whole all bytes is.0 is.1 (is.2 text.0)) text
 
-fault_of_text : (all bytes : List ℕ) (fault : WorkFault) → IsReadOf MOST_WORKLOAD_BYTES (Some all) bytes → IsFaultOfText bytes fault → IsFaultOfText all fault
+fault_of_text : (all bytes : List ℕ) (fault : WorkFault) → IsReadOf MAX_WORKLOAD_BYTES (Some all) bytes → IsFaultOfText bytes fault → IsFaultOfText all fault
 fault_of_text all bytes fault is (inl many) = inl (let n = longer all bytes is.0 is.1 in let m = many.0 in omega (arith, n, m), many.1)
 fault_of_text all bytes fault is (inr few) = subst (λ (b : List ℕ). IsFaultOfText b fault) (whole all bytes is.0 is.1 (is.2 few.0)) (inr few)
 
-pub fault_read : (read : Option (List ℕ)) (bytes : List ℕ) (f : WorkFault) → IsReadOf MOST_WORKLOAD_BYTES read bytes → IsFaultOfWork (Some bytes) f → IsFaultOfWork read f
+pub fault_read : (read : Option (List ℕ)) (bytes : List ℕ) (f : WorkFault) → IsReadOf MAX_WORKLOAD_BYTES read bytes → IsFaultOfWork (Some bytes) f → IsFaultOfWork read f
 fault_read read bytes work_fault.Memory is h = h
 fault_read None bytes (work_fault.BadLine n) is h = tt
 fault_read None bytes (work_fault.Unknown n) is h = tt

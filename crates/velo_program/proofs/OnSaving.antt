@@ -10,7 +10,7 @@ use Rattle.std.proofs.lemmas.List.FromFn.{length-enumerate_from}
 use Rattle.std.proofs.lemmas.Str.{IsUtf8-append, IsUtf8-from_ascii, IsUtf8-nil}
 use Rattle.std.proofs.lemmas.Str.Ascii.{IsAscii-cons, IsAscii-nil}
 use Rattle.std.proofs.lemmas.Bool.Decides.{nat_tests}
-use Rattle.velo_names.specs.declared.limits.TheConstants.{MOST_NAME_BYTES}
+use Rattle.velo_names.specs.declared.limits.TheConstants.{MAX_NAME_BYTES}
 use Rattle.velo_names.specs.declared.kind.NameKind.{NameKind}
 use Rattle.velo_names.specs.declared.kind.NameKind.TheVariants.{Thread, Variable, Lock, Label}
 use Rattle.velo_names.specs.Line as line
@@ -128,7 +128,7 @@ plain before (b ∷ bs) e =
 some_bytes : (c : ℕ) (cs : List ℕ) → nat_lt 0 (length (c ∷ cs)) ≡ true
 some_bytes c cs = grind (arith, nat_tests)
 
-few_bytes : (w : Word) → nat_le (length w) 32 ≡ true → nat_le (length w) MOST_NAME_BYTES ≡ true
+few_bytes : (w : Word) → nat_le (length w) 32 ≡ true → nat_le (length w) MAX_NAME_BYTES ≡ true
 few_bytes w e = grind (arith, nat_tests)
 
 good : (w : Word) → IsTrue (is_name w) → IsTrue (line.is_name w)

@@ -10,7 +10,7 @@ use std::alloc::Global;
 use velo_delivery::Files;
 use velo_events::{Label, Memory};
 use velo_list::{known_labels, parse_list};
-use velo_names::{MOST_NAMES_BYTES, Names};
+use velo_names::{MAX_NAMES_BYTES, Names};
 
 /// The labels that the bytes of a list mean by these names.
 ///
@@ -41,7 +41,7 @@ fn labels_at<F: Files>(
         (numbers labels.items)) }
     ensures none { IfErr result (LacksAt (list_file names.now) (F.disk files.now) path.now) }
 {
-    let bytes = match read_file(alloc, path, MOST_NAMES_BYTES, files) {
+    let bytes = match read_file(alloc, path, MAX_NAMES_BYTES, files) {
         Ok(bytes) => bytes,
         Err(fate) => return Err(fate),
     };

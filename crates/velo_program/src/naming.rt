@@ -1,6 +1,6 @@
 //! Files of names, and other files that are read whole beside a command's input.
 ghost use Rattle.std.specs.Prelude.{◌≡◌, IfErr, IfOk, OnOk};
-ghost use Rattle.velo_names.specs.declared.limits.TheConstants.{MOST_NAMES_BYTES};
+ghost use Rattle.velo_names.specs.declared.limits.TheConstants.{MAX_NAMES_BYTES};
 ghost use Rattle.velo_program.specs.Format.{LacksAt, LacksGiven, Reads, SaysNone, bytes_up_to};
 ghost use Rattle.velo_program.specs.Naming.{AreBytesOf, AreNamesIn, AreNoNamesIn, AreShown};
 ghost use Rattle.velo_program.specs.Failures.{failures_told};

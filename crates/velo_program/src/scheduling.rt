@@ -10,7 +10,7 @@ use crate::request::ScheduleSource;
 use std::alloc::Global;
 use velo_delivery::Files;
 use velo_events::ThreadId;
-use velo_turns::{MOST_SCHEDULE_BYTES, schedule_in, schedule_of, turns_of};
+use velo_turns::{MAX_SCHEDULE_BYTES, schedule_in, schedule_of, turns_of};
 
 /// The schedule that the bytes of a file say.
 ///
@@ -29,7 +29,7 @@ fn schedule_at<F: Files>(alloc: Global, path: &str, files: &F) -> Result<Vec<Thr
         schedule.items) }
     ensures none { IfErr result (LacksAt turns_file (F.disk files.now) path.now) }
 {
-    let bytes = match read_file(alloc, path, MOST_SCHEDULE_BYTES, files) {
+    let bytes = match read_file(alloc, path, MAX_SCHEDULE_BYTES, files) {
         Ok(bytes) => bytes,
         Err(fate) => return Err(fate),
     };

@@ -17,7 +17,7 @@ use crate::request::WatchOptions;
 use std::alloc::Global;
 use velo_bytes::{Sink, Source};
 use velo_delivery::{Files, Operand, is_standard_input};
-use velo_names::MOST_NAMES_BYTES;
+use velo_names::MAX_NAMES_BYTES;
 use velo_report::Names;
 use velo_watch::{Watch, WatchFault};
 use velo_world::Closed;
@@ -151,7 +151,7 @@ pub fn watch_file<F: Files, O: Sink>(
     ensures { DoesWatch options.now (store F.disk files.old files.new)
         (writing O.contents O.failures out.old out.new) result }
 {
-    let bytes = match read_given(alloc, options.names, MOST_NAMES_BYTES, files) {
+    let bytes = match read_given(alloc, options.names, MAX_NAMES_BYTES, files) {
         Ok(bytes) => bytes,
         Err(fate) => return fate,
     };

@@ -19,7 +19,7 @@ use velo_delivery::{Files, ReadFault, is_standard_input, read_whole};
 use velo_events::{Config, Memory, Refusal};
 use velo_report::Names;
 use velo_worker::Ending;
-use velo_workload::{MOST_WORKLOAD_BYTES, WorkFault, Workload, parse, text_of};
+use velo_workload::{MAX_WORKLOAD_BYTES, WorkFault, Workload, parse, text_of};
 use velo_world::Closed;
 
 /// Reads a workload from a source.
@@ -30,7 +30,7 @@ fn read_workload<I: Source>(alloc: Global, source: &mut I) -> Result<Workload, F
     ensures failure { IfErr result (λ fate. I.failures source.new ≡ failures_told fate
         (I.failures source.old)) }
 {
-    match read_whole(alloc, source, MOST_WORKLOAD_BYTES) {
+    match read_whole(alloc, source, MAX_WORKLOAD_BYTES) {
         Ok(bytes) => {
             let workload = workload_of(alloc, &bytes);
             drop(bytes);
