@@ -191,12 +191,13 @@ fi
 
 if wants c; then
     for compiler in "${compilers[@]}"; do
-        rm -f "$out"/{lost_update,cost,test,threads,memory}
+        rm -f "$out"/{lost_update,cost,test,threads,memory,renew}
         step "c: make with $compiler" make -s -C "$top/bindings/c" CC="$compiler" LIBRARY="$out"
         step "c: example ($compiler)" "$out/lost_update"
         step "c: tests ($compiler)" "$out/test" "$top/bindings/c/data"
         step "c: each growth refused in turn ($compiler)" "$out/memory"
         step "c: 64 threads behind a lock ($compiler)" "$out/threads"
+        step "c: renewed runs against whole ones ($compiler)" "$out/renew"
         step "c: a million events ($compiler)" "$out/cost"
         step "c: pthreads, watched ($compiler)" build "$compiler" "$out/pthreads" "$top/bindings/c/pthreads.c"
         step "c: pthreads, watched: tests ($compiler)" in_time "$out/pthreads"
@@ -204,7 +205,7 @@ if wants c; then
         step "c: pthreads with VELODROME_OFF: tests ($compiler)" in_time "$out/pthreads_off"
     done
     if have valgrind; then
-        for program in "test $top/bindings/c/data" memory threads cost pthreads; do
+        for program in "test $top/bindings/c/data" memory threads cost pthreads "renew 300"; do
             valgrinds "c: ${program%% *}" $out/$program
         done
     fi

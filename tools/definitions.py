@@ -50,12 +50,13 @@ PARTS = [
         "velo_list": "Line* Known* List"}),
     ("Laws of logs", {
         "velo_laws": "Cut* Restart* Renumber Ordered* Repeats*",
+        "velo_renew": "Renewal*",
         "velo_races": "Races*"}),
     ("What the program does", {
         "velo_program": "Program* Check Explaining Carrying Scheduling Playing ByChance Exploring* Delivery Disk Writing Reading Fate Causes",
         "velo_command": "CommandLine Asked Together Running Usage"}),
     ("The library for other languages", {
-        "velo_ffi": "Answers Numbers Texts* Pieces*"}),
+        "velo_ffi": "Answers Numbers Texts* Pieces* Renewal* Words"}),
 ]
 
 ITEM = re.compile(r"(?:abbrev |unfoldable |opaque )*pub (?:abbrev |unfoldable |opaque )*(?:record |data )?(\S+)")

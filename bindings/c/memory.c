@@ -68,6 +68,28 @@ static bool short_of(velodrome *m, velodrome_status (*call)(velodrome *, char *,
     return refused;
 }
 
+/* A run goes on in a new log, each growth of that call refused in turn: nothing has changed then. How many growths there are. */
+static long renewed(void) {
+    for (long growth = 0;; growth++) {
+        velodrome *m;
+        velodrome_summary s;
+        expect("open", velodrome_open(&m, &limits), VELODROME_DONE);
+        expect("fork", velodrome_fork(m, 0, 1, NULL), VELODROME_DONE);
+        expect("write", velodrome_write(m, 1, 0, 5, NULL), VELODROME_DONE);
+        expect("write", velodrome_write(m, 1, 0, 6, NULL), VELODROME_DONE);
+        until_refusal = growth;
+        refused = false;
+        velodrome_status status = velodrome_renew(m);
+        until_refusal = -1;
+        expect("renew", status, refused ? VELODROME_NO_MEMORY : VELODROME_DONE);
+        expect("verdict", velodrome_verdict(m, &s), VELODROME_DONE);
+        expect("events", s.events, refused ? 3 : 2);
+        expect("goes on", velodrome_write(m, 1, 0, 7, NULL), VELODROME_DONE);
+        velodrome_close(m);
+        if (!refused || failed) return growth;
+    }
+}
+
 int main(void) {
     const char *report = "events 6\nthread 0 5\nthread 1 1\nverdict alarm 4\ntransaction 1\nblame 1 7\n";
     char words[1024];
@@ -96,6 +118,7 @@ int main(void) {
         for (told = 0; short_of(m, velodrome_explanation, told, words); told++) {}
         velodrome_close(m);
     }
-    printf("%s: %ld growths to open, %ld to explain\n", failed ? "failed" : "passed", opened - 1, told);
+    long renewing = renewed();
+    printf("%s: %ld growths to open, %ld to renew, %ld to explain\n", failed ? "failed" : "passed", opened - 1, renewing, told);
     return failed;
 }

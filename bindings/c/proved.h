@@ -22,10 +22,12 @@ uint32_t velo_end(velodrome *monitor, uint32_t thread, velodrome_answer *answer)
 uint32_t velo_fork(velodrome *monitor, uint32_t thread, uint32_t child, velodrome_answer *answer);
 uint32_t velo_join(velodrome *monitor, uint32_t thread, uint32_t child, velodrome_answer *answer);
 uint32_t velo_exit(velodrome *monitor, uint32_t thread, velodrome_answer *answer);
+uint32_t velo_renew(velodrome *monitor);
 uint32_t velo_verdict(velodrome *monitor, velodrome_summary *summary);
 uint32_t velo_blamed(velodrome *monitor, velodrome_block *buffer, size_t room, size_t *count);
 uint32_t velo_log(velodrome *monitor, size_t from, char *buffer, size_t room, size_t *count, size_t *next);
 uint32_t velo_report(velodrome *monitor, const char *names, size_t bytes, char *buffer, size_t room, size_t *count);
 uint32_t velo_explanation(velodrome *monitor, const char *names, size_t bytes, char *buffer, size_t room, size_t *count);
+uint32_t velo_words(uint32_t status, char *buffer, size_t room, size_t *count);
 
 #endif

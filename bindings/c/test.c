@@ -58,6 +58,7 @@ static void null_handle(void) {
     velodrome_close(NULL);
     expect("null read", velodrome_read(NULL, 0, 0, &a), VELODROME_CLOSED);
     expect("null verdict", velodrome_verdict(NULL, &s), VELODROME_CLOSED);
+    expect("null renew", velodrome_renew(NULL), VELODROME_CLOSED);
     expect("null report", velodrome_report(NULL, NULL, 0, &untold), VELODROME_CLOSED);
     expect("null explanation", velodrome_explanation(NULL, NULL, 0, &untold), VELODROME_CLOSED);
     expect("null log", velodrome_log(NULL, 0, NULL, 0, &untold, &unmoved), VELODROME_CLOSED);
@@ -254,6 +255,7 @@ static void words(void) {
     expect_words(velodrome_strerror(VELODROME_BUSY), "lock busy");
     expect_words(velodrome_strerror(VELODROME_EVENT_MEMORY), "out of memory");
     expect_words(velodrome_strerror(VELODROME_BAD_NUMBER), "a number is out of its range");
+    expect_words(velodrome_strerror(VELODROME_ALARMED), "there is an alarm");
     expect_words(velodrome_strerror((velodrome_status)50), "unknown status");
     expect_words(velodrome_strerror((velodrome_status)101), "unknown status");
     expect_words(velodrome_strerror((velodrome_status)4000000000u), "unknown status");
@@ -302,6 +304,71 @@ static void names(const char *data) {
     velodrome_close(m);
 }
 
+/* The log of a run, which is short. */
+static void expect_log(velodrome *m, const char *text) {
+    char buffer[1024];
+    size_t count = 0;
+    expect("log", velodrome_log(m, 0, buffer, sizeof buffer - 1, &count, NULL), 0);
+    buffer[count] = 0;
+    expect_words(buffer, text);
+}
+
+/* A run goes on in a new log: threads, values, holders and sharers stay, and joined threads are forgotten. */
+static void renewed_run(void) {
+    velodrome *m = opened((velodrome_limits){.threads = 6, .variables = 3, .locks = 3, .events = 40});
+    velodrome_answer a;
+    velodrome_summary s;
+    for (uint32_t child = 1; child < 5; child++) expect("fork", velodrome_fork(m, 0, child, NULL), 0);
+    velodrome_write(m, 1, 2, 7, NULL);
+    velodrome_acquire(m, 1, 0, NULL);
+    velodrome_acquire_shared(m, 2, 1, NULL);
+    velodrome_acquire_shared(m, 1, 1, NULL);
+    velodrome_exit(m, 3, NULL);
+    velodrome_exit(m, 4, NULL);
+    velodrome_join(m, 0, 4, NULL);
+    velodrome_begin(m, 2, 9, NULL);
+    expect("in a block", velodrome_renew(m), VELODROME_IN_BLOCK);
+    velodrome_end(m, 2, &a);
+    expect("as it was", a.position, 12);
+    expect("renew", velodrome_renew(m), 0);
+    expect_log(m, "vlog 2 6 3 3\n0 fork 1\n0 fork 2\n0 fork 3\n0 wr 2 7\n1 acq 0\n1 acqs 1\n2 acqs 1\n3 exit\n");
+    expect("read", velodrome_read(m, 2, 2, &a), 0);
+    expect("value", a.value, 7);
+    expect("position", a.position, 8);
+    expect("held", velodrome_acquire(m, 2, 0, NULL), VELODROME_BUSY);
+    expect("shared", velodrome_acquire(m, 0, 1, NULL), VELODROME_BUSY);
+    expect("is not there again", velodrome_fork(m, 0, 2, NULL), VELODROME_ALREADY_FORKED);
+    expect("may be joined", velodrome_join(m, 0, 3, NULL), 0);
+    expect("may come again", velodrome_fork(m, 0, 4, NULL), 0);
+    expect("release", velodrome_release(m, 1, 0, NULL), 0);
+    expect("release shared", velodrome_release_shared(m, 2, 1, NULL), 0);
+    velodrome_begin(m, 0, 5, NULL);
+    velodrome_read(m, 0, 0, NULL);
+    velodrome_write(m, 4, 0, 1, NULL);
+    velodrome_write(m, 0, 0, 1, &a);
+    expect("alarm", a.alarmed, true);
+    velodrome_end(m, 0, NULL);
+    expect("alarm", velodrome_renew(m), VELODROME_ALARMED);
+    expect("verdict", velodrome_verdict(m, &s), 0);
+    expect("alarm's position", s.position, a.position);
+    velodrome_close(m);
+    m = opened((velodrome_limits){.threads = 4, .events = 2});
+    velodrome_fork(m, 0, 1, NULL);
+    velodrome_write(m, 0, 0, 1, NULL);
+    expect("as long as may be", velodrome_renew(m), 0);
+    velodrome_close(m);
+}
+
+/* A thousand times as many events as a log takes. */
+static void endless_run(void) {
+    velodrome *m = opened((velodrome_limits){.threads = 2, .variables = 1, .locks = 1, .events = 100});
+    for (uint32_t i = 0; i < 100000; i++) {
+        if (i % 50 == 0) expect("renew", velodrome_renew(m), 0);
+        expect("write", velodrome_write(m, 0, 0, i, NULL), 0);
+    }
+    velodrome_close(m);
+}
+
 /* Opened and closed again and again: a checker of leaks sees what is left. */
 static void again_and_again(void) {
     for (uint32_t i = 0; i < 1000; i++) {
@@ -322,6 +389,8 @@ int main(int argc, char **argv) {
     clean_run();
     alarm_is_told();
     words();
+    renewed_run();
+    endless_run();
     names(argc > 1 ? argv[1] : "data");
     again_and_again();
     puts(failed ? "failed" : "passed");

@@ -1,39 +1,25 @@
 /* velodrome.c: the shell round the proved calls. It keeps the handle's memory, puts something of its own in the place of null
- * pointers, and has the words of the statuses. */
+ * pointers, and hands on the words of the statuses. */
 #include "proved.h"
 #include <stdlib.h>
 
 const char *velodrome_version(void) { return VELODROME_VERSION; }
 
+/* The words of each status, and at the end those of any other number, as the proved call gives them. They are written when the
+ * library is loaded, before any thread may read them. */
+enum { STATUSES = VELODROME_ALARMED + 1, WORDS_ROOM = 31 };
+static char words[STATUSES + 1][WORDS_ROOM + 1];
+
+__attribute__((constructor)) static void write_words(void) {
+    for (uint32_t status = 0; status <= STATUSES; status++) {
+        size_t count;
+        velo_words(status, words[status], WORDS_ROOM, &count);
+    }
+}
+
 const char *velodrome_strerror(velodrome_status status) {
-    static const char *const words[] = {
-        [VELODROME_DONE] = "done",
-        [VELODROME_HALTED] = "halted",
-        [VELODROME_NOT_LIVE] = "thread not live",
-        [VELODROME_NO_SUCH_VARIABLE] = "no such variable",
-        [VELODROME_NO_SUCH_LOCK] = "no such lock",
-        [VELODROME_NO_SUCH_THREAD] = "no such thread",
-        [VELODROME_BUSY] = "lock busy",
-        [VELODROME_ALREADY_HELD] = "lock already held",
-        [VELODROME_NOT_HOLDER] = "not the holder",
-        [VELODROME_NO_OPEN_BLOCK] = "no open block",
-        [VELODROME_TOO_DEEP] = "blocks too deep",
-        [VELODROME_ALREADY_FORKED] = "thread already forked",
-        [VELODROME_NOT_FORKED] = "thread not forked",
-        [VELODROME_NOT_EXITED] = "thread not exited",
-        [VELODROME_ALREADY_JOINED] = "thread already joined",
-        [VELODROME_BLOCK_OPEN] = "block open",
-        [VELODROME_LOCK_HELD] = "lock held",
-        [VELODROME_LOG_FULL] = "log full",
-        [VELODROME_GRAPH_FULL] = "graph full",
-        [VELODROME_EVENT_MEMORY] = "out of memory",
-        [VELODROME_CLOSED] = "the handle is null",
-        [VELODROME_BAD_NUMBER] = "a number is out of its range",
-        [VELODROME_NO_MEMORY] = "out of memory",
-        [VELODROME_TOO_SHORT] = "the buffer is too short",
-        [VELODROME_BAD_NAMES] = "the names have a fault"};
     unsigned at = (unsigned)status;
-    return at < sizeof words / sizeof *words && words[at] ? words[at] : "unknown status";
+    return words[at < STATUSES ? at : STATUSES];
 }
 
 static uint32_t or_default(uint32_t asked, uint32_t otherwise) { return asked ? asked : otherwise; }
@@ -106,6 +92,8 @@ velodrome_status velodrome_join(velodrome *monitor, uint32_t thread, uint32_t ch
 velodrome_status velodrome_exit(velodrome *monitor, uint32_t thread, velodrome_answer *answer) {
     return CALL(velo_exit(monitor, thread, TOLD));
 }
+
+velodrome_status velodrome_renew(velodrome *monitor) { return CALL(velo_renew(monitor)); }
 
 /* ---- what is told of them */
 

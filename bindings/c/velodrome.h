@@ -1,7 +1,7 @@
 /* velodrome.h: a proved checker of atomic blocks, in process.
  *
- * What each call does is proved, but for a shell in C (velodrome.c) that keeps the handle's memory, takes null pointers and has the
- * words of the statuses. What you owe is not checked by anything:
+ * What each call does is proved, but for a shell in C (velodrome.c) that keeps the handle's memory, takes null pointers and hands
+ * on the words of the statuses. What you owe is not checked by anything:
  *
  *  - One call at a time has a handle. Hold a lock of your own round each call.
  *  - The access that a call reports stands in the same hold of that lock: lock, access, report, unlock.
@@ -65,7 +65,9 @@ typedef enum velodrome_status {
     VELODROME_BAD_NUMBER = 102, /* a number is out of its range */
     VELODROME_NO_MEMORY = 103,
     VELODROME_TOO_SHORT = 104,  /* *count says how much room it takes; the buffer is as it was */
-    VELODROME_BAD_NAMES = 105   /* *count says which line of the names is wrong; 0: they are too many, or no UTF-8 */
+    VELODROME_BAD_NAMES = 105,  /* *count says which line of the names is wrong; 0: they are too many, or no UTF-8 */
+    VELODROME_IN_BLOCK = 106,   /* a thread has a block open */
+    VELODROME_ALARMED = 107     /* there is an alarm */
 } velodrome_status;
 
 /* The words of a status, such as "lock busy". */
@@ -127,10 +129,19 @@ velodrome_status velodrome_begin(velodrome *monitor, uint32_t thread, uint32_t l
 velodrome_status velodrome_end(velodrome *monitor, uint32_t thread, velodrome_answer *answer);
 
 /* Report a fork before the thread is started, its exit as its last event, and a join after it was joined. The number of a
- * thread is never used again. */
+ * thread is never used again, but for that of a joined one after velodrome_renew. */
 velodrome_status velodrome_fork(velodrome *monitor, uint32_t thread, uint32_t child, velodrome_answer *answer);
 velodrome_status velodrome_join(velodrome *monitor, uint32_t thread, uint32_t child, velodrome_answer *answer);
 velodrome_status velodrome_exit(velodrome *monitor, uint32_t thread, velodrome_answer *answer);
+
+/* Goes on in a new log, with the same threads, values, holders and sharers of locks, so that the limits count anew: whatever comes
+ * after is judged as by the whole run, the closing event and the blame included. The new log begins with as many events as it takes
+ * to say all that. Threads that were joined are forgotten, and their numbers may be used again.
+ * An alarm's position, and those of the blocks to blame, count from the new log's first event.
+ *
+ * VELODROME_IN_BLOCK where a thread has a block open; VELODROME_ALARMED where there is an alarm; VELODROME_LOG_FULL where the new log
+ * would be full already. */
+velodrome_status velodrome_renew(velodrome *monitor);
 
 /* The verdict of the events so far: an alarm exactly where no serial order of the transactions explains them. */
 velodrome_status velodrome_verdict(velodrome *monitor, velodrome_summary *summary);

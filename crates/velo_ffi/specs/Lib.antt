@@ -6,3 +6,5 @@ pub mod Texts
 pub mod Numbers
 pub mod Answers
 pub mod Pieces
+pub mod Renewal
+pub mod Words

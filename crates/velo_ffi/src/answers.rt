@@ -55,3 +55,9 @@ pub const TOO_SHORT: u32 = 104;
 
 /// A line of the names says no name, or a name for a second time, or they are too many or no UTF-8.
 pub const BAD_NAMES: u32 = 105;
+
+/// A block is open.
+pub const IN_BLOCK: u32 = 106;
+
+/// There is an alarm.
+pub const ALARMED: u32 = 107;

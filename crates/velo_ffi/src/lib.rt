@@ -13,8 +13,10 @@ mod live;
 mod logs;
 mod monitor;
 mod numbers;
+mod renewal;
 mod texts;
 mod verdicts;
 mod watch;
+mod words;
 
 pub use laws::pieces_make_the_log;

@@ -70,7 +70,7 @@ pub extern "C" fn velo_close(alloc: Global, monitor: &mut Monitor) -> u32
 }
 
 /// The number by which a refusal is answered.
-fn number_of(refusal: Refusal) -> u32
+pub fn number_of(refusal: Refusal) -> u32
     ensures { result ≡ number_of refusal }
 {
     match refusal {

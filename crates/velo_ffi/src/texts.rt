@@ -20,7 +20,7 @@ use velo_traces::Trace;
 use velo_world::{Alarm, World};
 
 /// Puts a whole text at the front of a buffer, if there is room for it, and tells how many bytes it is.
-fn put_whole(text: &[u8], buffer: &mut [u8], count: &mut usize) -> u32
+pub fn put_whole(text: &[u8], buffer: &mut [u8], count: &mut usize) -> u32
     ensures told { TellsAll text.now result buffer.new count.new }
     ensures same { result ≢ DONE → buffer.new ≡ buffer.old }
     ensures status { result ≢ DONE → result ≡ TOO_SHORT }

@@ -1,11 +1,13 @@
 //! A world with the shares of its threads.
-ghost use Rattle.std.specs.Prelude.{◌≡◌, false, IfOk};
+ghost use Rattle.std.specs.Prelude.{◌≡◌, false, IfOk, IfErr, OnOk, OnErr};
+ghost use Rattle.velo_renew.specs.Renewal.{IsReasonAgainst, Renews};
 ghost use Rattle.velo_world.specs.World.{StepsTo, opening};
 
 use std::alloc::Global;
 use std::marker::Model;
 use velo_events::{Action, Config, Memory, Refusal, ThreadId};
 use velo_ledger::Shares;
+use velo_renew::{NotRenewed, renew};
 use velo_traces::Trace;
 use velo_world::{LogReplayFault, Reply, World};
 
@@ -53,5 +55,19 @@ impl Watch {
         ensures { StepsTo self.old.world self.old.shares thread action result self.new.world self.new.shares }
     {
         self.world.act_as(&mut self.shares, thread, action)
+    }
+
+    /// Goes on in a new log.
+    ///
+    /// # Errors
+    /// The first reason that applies. Nothing changes then.
+    pub fn renew(&mut self, alloc: Global) -> Result<(), NotRenewed>
+        ensures renews { OnOk result (Renews self.old.world self.new.world) }
+        ensures reason { IfErr result (IsReasonAgainst self.old.world) }
+        ensures same { OnErr result (self.new ≡ self.old) }
+    {
+        let (world, shares) = renew(alloc, &self.world)?;
+        *self = Watch { world, shares };
+        Ok(())
     }
 }

@@ -5,6 +5,9 @@ pub mod OnCut
 pub mod OnSameHeap
 pub mod OnRestart
 pub mod OnKnown
+pub mod OnStages
+pub mod OnPrologues
+pub mod OnSomePrologue
 pub mod OnFresh
 pub mod OnRenumbered
 pub mod OnRenumberedRuns

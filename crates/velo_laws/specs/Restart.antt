@@ -1,9 +1,9 @@
 -- A run that goes on behind a cut as a log of its own: a prologue stands for all that was before.
-use Rattle.std.specs.Prelude.{◌≡◌, ℕ, ◌+◌, ◌*◌, ◌≤◌, List, ◌++◌, length, take, IsTrue, IsFalse, ◌↔◌}
+use Rattle.std.specs.Prelude.{◌≡◌, ◌||◌, ℕ, ◌+◌, ◌*◌, ◌≤◌, Bool, List, ◌++◌, length, take, IsTrue, IsFalse, ◌↔◌}
 use Rattle.velo_events.specs.declared.config.Bounds.{Bounds}
 use Rattle.velo_events.specs.declared.event.Event.{Event}
 use Rattle.velo_events.specs.WellFormed.{IsWellFormed}
-use Rattle.velo_events.specs.Event.{is_by}
+use Rattle.velo_events.specs.Event.{is_by, is_fork_of, is_join_of}
 use Rattle.velo_events.specs.Heap.{value_in, holder_in, shares_in, status_in}
 use Rattle.velo_events.specs.Meaning.{is_joined}
 use Rattle.velo_events.specs.Block.{is_begin_at, passes_at}
@@ -24,6 +24,15 @@ pub record StandsFor (prologue before : List Event) : Type 0 where
   pub threads : (t : ℕ) → IsFalse (is_joined (status_in before t))
       → status_in prologue t ≡ status_in before t
 
+-- the event is of the thread, or forks or joins it
+abbrev pub is_about : ℕ → Event → Bool
+is_about t e = is_by t e || (is_fork_of t e || is_join_of t e)
+
+-- no event after is about a thread that was joined before
+abbrev pub IsAboutNoJoined : List Event → List Event → Type 0
+IsAboutNoJoined before after =
+    (t i : ℕ) → IsTrue (passes_at after (is_about t) i) → IsFalse (is_joined (status_in before t))
+
 -- What comes after is judged the same after both; positions are counted from where it begins
 pub record IsJudgedTheSame (before prologue after : List Event) : Type 0 where
   pub cycles : HasCycle (before ++ after) ↔ HasCycle (prologue ++ after)
@@ -41,7 +50,9 @@ pub record IsPrologueOf (bounds : Bounds) (before prologue : List Event) : Type 
   pub short : length prologue
       ≤ bounds.threads + bounds.variables + bounds.locks + bounds.locks * bounds.threads + bounds.threads
 
--- whatever came after all that was before may come after the prologue, and is judged the same
+-- Whatever may come after all that was before may come after the prologue, and is judged the same. Nothing else may come after
+-- it, but for what is about threads that were joined
 pub record GoesOnAfresh (bounds : Bounds) (before prologue after : List Event) : Type 0 where
   pub well_formed : IsWellFormed bounds (before ++ after) → IsWellFormed bounds (prologue ++ after)
+  pub only : IsAboutNoJoined before after → IsWellFormed bounds (prologue ++ after) → IsWellFormed bounds (before ++ after)
   pub judged : IsJudgedTheSame before prologue after

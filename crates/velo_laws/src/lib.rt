@@ -18,4 +18,4 @@ pub use repeats::{
     same_blame_without_repeats, same_closing_without_repeats, same_cycles_without_repeats,
     well_formed_without_repeats,
 };
-pub use restarts::{afresh, goes_on, prologue, restart};
+pub use restarts::{afresh, goes_back, goes_on, has_prologue, prologue, restart};

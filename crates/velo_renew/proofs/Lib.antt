@@ -1,2 +1,1 @@
-pub mod OnStages
-pub mod OnPrologues
+pub mod OnRenewals

@@ -1,6 +1,10 @@
-//! A log that leaves what a heap has: with it a run goes on after a cut.
+//! A run that goes on after a cut: behind a log that leaves what it has, in a world of its own.
 #![tactic(auto)]
 
+mod renewal;
 mod stages;
+#[cfg(test)]
+mod tests;
 
+pub use renewal::{NotRenewed, renew};
 pub use stages::prologue;

@@ -1,8 +1,9 @@
 //! A log that leaves what a heap has.
-ghost use Rattle.std.specs.Prelude.{◌≡◌, ◌+◌, ◌<◌, [], IfOk, OnOk};
+ghost use Rattle.std.specs.Prelude.{◌≡◌, ◌+◌, ◌<◌, [], length, IfOk, OnOk};
 ghost use Rattle.velo_heap.specs.Contents.{bounds_of, ForItsTraces};
+ghost use Rattle.velo_laws.specs.Length.{events_to_leave};
 ghost use Rattle.velo_laws.specs.Restart.{IsPrologueOf};
-ghost use Rattle.velo_renew.specs.Stages.{is_there, is_exited, HasForked, HasWritten, HasAcquired, HasShared, HasExited};
+ghost use Rattle.velo_laws.specs.Stages.{is_there, is_exited, HasForked, HasWritten, HasAcquired, HasShared, HasExited};
 
 use std::alloc::Global;
 use velo_events::{Bounds, Event, Kind, LockId, Memory, Status, ThreadId, VarId};
@@ -18,8 +19,10 @@ use velo_traces::Trace;
 /// `Memory` where a growth was refused.
 pub fn prologue(alloc: Global, bounds: Bounds, heap: &Heap) -> Result<Trace, Memory>
     requires { bounds_of heap.now ≡ bounds }
-    ensures { IfOk result (λ made. ForItsTraces heap.now (λ log.
+    ensures stands { IfOk result (λ made. ForItsTraces heap.now (λ log.
         IsPrologueOf bounds log made.events)) }
+    ensures length { IfOk result (λ made. ForItsTraces heap.now (λ log.
+        length made.events ≡ events_to_leave bounds log)) }
 {
     let mut made = Trace::new(alloc);
     fork_threads(&mut made, bounds, heap)?;

@@ -49,6 +49,11 @@ pub record HasRoomForNext (analysis : Analysis) (trace : List Event) (e : Event)
   pub slot : HasSlotFor analysis trace e
   pub clocks : analysis.alarm ≡ None → HasRoomToNote analysis.clocks.bounds.threads analysis.clocks.state e
 
+-- after the change there is room for the event, where it may come next and finds a slot
+abbrev pub FindsRoom : Analysis → Analysis → Event → Type 0
+FindsRoom old new e = (trace : List Event) → IsAnalysisOf old trace → MayFollow (bounds_of old.heap) trace e → HasSlotFor old trace e
+    → HasRoomForNext new trace e
+
 -- the event may follow those of the run
 pub record ComesNext (analysis : Analysis) (trace : List Event) (e : Event) : Type 0 where
   pub stands : IsAnalysisOf analysis trace

@@ -9,7 +9,7 @@ ghost use Rattle.velo_arena.specs.Slots.{limit_of};
 ghost use Rattle.velo_heap.specs.Contents.{bounds_of};
 ghost use Rattle.velo_clocks.specs.Clocks.{AreClocksOf};
 ghost use Rattle.velo_world.specs.World.{FindsNoNode, IsAlarm};
-ghost use Rattle.velo_world.specs.Analysis.{ComesNext, HasRoomForNext, HasSlotFor, IsAnalysisOf, IsWatched, Raises};
+ghost use Rattle.velo_world.specs.Analysis.{ComesNext, HasRoomForNext, FindsRoom, HasSlotFor, IsAnalysisOf, IsWatched, Raises};
 
 use smallvec::SmallVec;
 use std::alloc::Global;
@@ -153,7 +153,7 @@ impl Analysis {
         ensures heap { self.new.heap ≡ self.old.heap }
         ensures nodes { self.new.monitor.nodes ≡ self.old.monitor.nodes }
         ensures follows { (trace : List EventOf) → IsAnalysisOf self.old trace → IsAnalysisOf self.new trace }
-        ensures room { OnOk result ((trace : List EventOf) → IsAnalysisOf self.old trace → MayFollow (bounds_of self.old.heap) trace event.now → HasSlotFor self.old trace event.now → HasRoomForNext self.new trace event.now) }
+        ensures room { OnOk result (FindsRoom self.old self.new event.now) }
     {
         if self.alarm.is_some() {
             return Ok(());
@@ -168,7 +168,7 @@ impl Analysis {
     /// do, pays for a few comparisons alone.
     #[inline(always)]
     fn has_room_for(&self, event: &Resolved<'_>) -> bool
-        ensures { IsTrue result → (trace : List EventOf) → IsAnalysisOf self.now trace → MayFollow (bounds_of self.now.heap) trace event.now → HasSlotFor self.now trace event.now → HasRoomForNext self.now trace event.now }
+        ensures { IsTrue result → FindsRoom self.now self.now event.now }
     {
         self.clocks.has_room_for(event) && self.monitor.has_room_for(event)
     }
@@ -179,7 +179,7 @@ impl Analysis {
         ensures heap { self.new.heap ≡ self.old.heap }
         ensures nodes { self.new.monitor.nodes ≡ self.old.monitor.nodes }
         ensures follows { (trace : List EventOf) → IsAnalysisOf self.old trace → IsAnalysisOf self.new trace }
-        ensures room { OnOk result ((trace : List EventOf) → IsAnalysisOf self.old trace → MayFollow (bounds_of self.old.heap) trace event.now → HasSlotFor self.old trace event.now → HasRoomForNext self.new trace event.now) }
+        ensures room { OnOk result (FindsRoom self.old self.new event.now) }
     {
         self.clocks.reserve_for(event)?;
         self.monitor.reserve(event)

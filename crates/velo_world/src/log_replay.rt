@@ -1,7 +1,7 @@
 //! A recorded log, whose events come about again one after another.
 ghost use Rattle.std.specs.Prelude.{◌≡◌, ◌<◌, ◌+◌, [], ◌∷◌, ◌++◌, List, None, Some, false, length, take, slice_get, IfOk, OnOk, IfErr};
 ghost use Rattle.velo_events.specs.declared.event.Event.{Event as EventOf};
-ghost use Rattle.velo_heap.specs.Contents.{bounds_of, IsHeapOf};
+ghost use Rattle.velo_heap.specs.Contents.{bounds_of, ForItsTraces, IsHeapOf};
 ghost use Rattle.velo_traces.specs.Flaws.{flaw_of};
 ghost use Rattle.velo_world.specs.World.{CompletesShares, HoldsLiveShares};
 ghost use Rattle.velo_world.specs.Faults.{world_of, IsFaultAtEvent, IsFaultOfLog};
@@ -148,20 +148,7 @@ impl LogReplay {
         ensures fault { IfErr result (λ fault. IsFaultAtEvent config.now (take position events.now) event.now fault) }
     {
         let recorded = event.event();
-        match flaw_in(&self.analysis.heap, recorded) {
-            Some(Flaw::Refused(refusal)) => return Err(LogReplayFault::Refused {
-                position,
-                refusal,
-            }),
-            Some(Flaw::WrongValue) => return Err(LogReplayFault::WrongValue { position }),
-            None => {}
-        }
-        if position >= config.events as usize {
-            return Err(LogReplayFault::Refused {
-                position,
-                refusal: Refusal::LogFull,
-            });
-        }
+        judge(&self.analysis.heap, config, position, recorded)?;
         if self
             .analysis
             .make_node_room(&events[..position], recorded, config)
@@ -255,9 +242,38 @@ impl LogReplay {
     }
 }
 
+/// Whether the event may come next at the position, by the heap and the limit of events.
+#[inline(always)]
+pub fn judge(
+    heap: &Heap,
+    config: &Config,
+    position: usize,
+    event: &Event,
+) -> Result<(), LogReplayFault>
+    requires { bounds_of heap.now ≡ config.now.bounds }
+    ensures flawless { OnOk result (ForItsTraces heap.now (λ trace.
+        flaw_of (bounds_of heap.now) trace event.now ≡ None)) }
+    ensures short { OnOk result (position < config.now.events) }
+    ensures fault { IfErr result (λ fault. ForItsTraces heap.now (λ trace.
+        position ≡ length trace → IsFaultAtEvent config.now trace event.now fault)) }
+{
+    match flaw_in(heap, event) {
+        Some(Flaw::Refused(refusal)) => return Err(LogReplayFault::Refused { position, refusal }),
+        Some(Flaw::WrongValue) => return Err(LogReplayFault::WrongValue { position }),
+        None => {}
+    }
+    if position >= config.events as usize {
+        return Err(LogReplayFault::Refused {
+            position,
+            refusal: Refusal::LogFull,
+        });
+    }
+    Ok(())
+}
+
 /// Why the event can't come next, by the heap.
 #[inline(always)]
-pub fn flaw_in(heap: &Heap, event: &Event) -> Option<Flaw>
+fn flaw_in(heap: &Heap, event: &Event) -> Option<Flaw>
     ensures { (trace : List EventOf) → IsHeapOf heap.now trace → result ≡ flaw_of (bounds_of heap.now) trace event.now }
 {
     match heap.refusal(event) {

@@ -2,19 +2,17 @@
 ghost use Rattle.std.specs.Prelude.{◌≡◌, ◌<◌, ◌∷◌, ◌++◌, ℕ, false, [], length, None, IfOk, IfErr, OnOk, OnErr};
 ghost use Rattle.velo_events.specs.Meaning.{action_of};
 ghost use Rattle.velo_ledger.specs.Book.{IsFilled};
-ghost use Rattle.velo_traces.specs.Flaws.{flaw_of};
 ghost use Rattle.velo_world.specs.World.{CompletesShares, HoldsLiveShares};
 ghost use Rattle.velo_world.specs.Faults.{IsFaultAtEvent};
 ghost use Rattle.velo_world.specs.LoggedRun.{logged_state, AddsToLog, FollowsFromItsLog};
 ghost use Rattle.velo_world.specs.Recorded.{Replays};
 
 use crate::analysis::Reply;
-use crate::log_replay::{LogReplayFault, flaw_in};
+use crate::log_replay::{LogReplayFault, judge};
 use crate::logged_run::LoggedRun;
 use crate::world::{World, hand_over};
 use velo_events::{Event, Refusal};
 use velo_ledger::Shares;
-use velo_traces::Flaw;
 
 impl World {
     /// Lets a recorded event come about after the log, by the share at its thread's place. The world must not be halted.
@@ -47,11 +45,12 @@ impl LoggedRun {
         requires live { self.old.halted ≡ false }
         requires stands { FollowsFromItsLog self.old }
         ensures stands { FollowsFromItsLog self.new }
-        ensures adds { IfOk result (λ reply. AddsToLog (logged_state self.old) event.now.thread (action_of event.now.kind) event.now reply (logged_state self.new)) }
+        ensures adds { IfOk result (λ reply. AddsToLog (logged_state self.old)
+            event.now.thread (action_of event.now.kind) event.now reply (logged_state self.new)) }
         ensures same { OnErr result (logged_state self.new ≡ logged_state self.old) }
         ensures fault { IfErr result (λ fault. IsFaultAtEvent self.old.config self.old.log.events event.now fault) }
     {
-        self.judge(event)?;
+        judge(&self.analysis.heap, &self.config, self.log.len(), event)?;
         match self.make_room(event) {
             Ok(()) => Ok(self.commit(*event)),
             Err(Refusal::Memory) => Err(LogReplayFault::Memory),
@@ -60,30 +59,5 @@ impl LoggedRun {
                 refusal,
             }),
         }
-    }
-
-    /// Whether the event may come next, by the heap and the limit of events.
-    fn judge(&self, event: &Event) -> Result<(), LogReplayFault>
-        requires { FollowsFromItsLog self.now }
-        ensures flawless { OnOk result (flaw_of self.now.config.bounds self.now.log.events event.now ≡ None) }
-        ensures short { OnOk result (length self.now.log.events < self.now.config.events) }
-        ensures fault { IfErr result (λ fault. IsFaultAtEvent self.now.config self.now.log.events event.now fault) }
-    {
-        let position = self.log.len();
-        match flaw_in(&self.analysis.heap, event) {
-            Some(Flaw::Refused(refusal)) => return Err(LogReplayFault::Refused {
-                position,
-                refusal,
-            }),
-            Some(Flaw::WrongValue) => return Err(LogReplayFault::WrongValue { position }),
-            None => {}
-        }
-        if position >= self.config.events as usize {
-            return Err(LogReplayFault::Refused {
-                position,
-                refusal: Refusal::LogFull,
-            });
-        }
-        Ok(())
     }
 }

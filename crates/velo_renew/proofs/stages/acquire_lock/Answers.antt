@@ -4,8 +4,8 @@ use Rattle.velo_events.specs.declared.config.Bounds.{Bounds}
 use Rattle.velo_events.specs.WellFormed.{IsWellFormed}
 use Rattle.velo_events.specs.Heap.{holder_in}
 use Rattle.velo_events.proofs.OnResults.{OnOk-weaker}
-use Rattle.velo_renew.specs.Stages.{HasAcquired}
-use Rattle.velo_renew.proofs.OnPrologues.{acquired-none, acquired-one}
+use Rattle.velo_laws.specs.Stages.{HasAcquired}
+use Rattle.velo_laws.proofs.OnPrologues.{acquired-none, acquired-one}
 use Rattle.velo_renew.proofs.stages.acquire_lock.Goals as goal
 
 pub returns-in_default : goal.returns-in_default

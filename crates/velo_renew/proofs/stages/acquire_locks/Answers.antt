@@ -1,8 +1,8 @@
 use Rattle.std.proofs.Common.{◌≡◌, ℕ, subst, arith}
 use Rattle.velo_events.specs.declared.config.Bounds.{Bounds}
 use Rattle.velo_events.specs.WellFormed.{IsWellFormed}
-use Rattle.velo_renew.specs.Stages.{HasAcquired}
-use Rattle.velo_renew.proofs.OnPrologues.{acquired-start}
+use Rattle.velo_laws.specs.Stages.{HasAcquired}
+use Rattle.velo_laws.proofs.OnPrologues.{acquired-start}
 use Rattle.velo_renew.proofs.stages.acquire_locks.Goals as goal
 
 pub loop-lock-init : goal.loop-lock-init

@@ -1,7 +1,7 @@
 use Rattle.std.proofs.Common.{List}
 use Rattle.velo_events.specs.declared.event.Event.{Event}
 use Rattle.velo_heap.specs.Contents.{IsHeapOf}
-use Rattle.velo_renew.specs.Stages.{HasWritten, HasAcquired}
+use Rattle.velo_laws.specs.Stages.{HasWritten, HasAcquired}
 use Rattle.velo_renew.proofs.stages.acquire_locks.Given as goal
 
 abbrev pub invariant-loop-lock : goal.invariant-loop-lock

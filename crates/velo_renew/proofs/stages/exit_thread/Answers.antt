@@ -3,8 +3,8 @@ use Rattle.velo_events.specs.declared.event.Event.{Event}
 use Rattle.velo_events.specs.declared.config.Bounds.{Bounds}
 use Rattle.velo_events.specs.WellFormed.{IsWellFormed}
 use Rattle.velo_events.proofs.OnResults.{OnOk-weaker}
-use Rattle.velo_renew.specs.Stages.{is_exited, HasExited}
-use Rattle.velo_renew.proofs.OnPrologues.{exits-is, exited-none, exited-one}
+use Rattle.velo_laws.specs.Stages.{is_exited, HasExited}
+use Rattle.velo_laws.proofs.OnPrologues.{exits-is, exited-none, exited-one}
 use Rattle.velo_renew.proofs.stages.exit_thread.Goals as goal
 
 pub returns-then-not-is_exited : goal.returns-then-not-is_exited

@@ -1,8 +1,8 @@
 use Rattle.std.proofs.Common.{◌≡◌, ℕ, subst, arith}
 use Rattle.velo_events.specs.declared.config.Bounds.{Bounds}
 use Rattle.velo_events.specs.WellFormed.{IsWellFormed}
-use Rattle.velo_renew.specs.Stages.{HasExited}
-use Rattle.velo_renew.proofs.OnPrologues.{exited-start}
+use Rattle.velo_laws.specs.Stages.{HasExited}
+use Rattle.velo_laws.proofs.OnPrologues.{exited-start}
 use Rattle.velo_renew.proofs.stages.exit_threads.Goals as goal
 
 pub loop-thread-init : goal.loop-thread-init

@@ -1,7 +1,7 @@
 use Rattle.std.proofs.Common.{List}
 use Rattle.velo_events.specs.declared.event.Event.{Event}
 use Rattle.velo_heap.specs.Contents.{IsHeapOf}
-use Rattle.velo_renew.specs.Stages.{HasShared, HasExited}
+use Rattle.velo_laws.specs.Stages.{HasShared, HasExited}
 use Rattle.velo_renew.proofs.stages.exit_threads.Given as goal
 
 abbrev pub invariant-loop-thread : goal.invariant-loop-thread

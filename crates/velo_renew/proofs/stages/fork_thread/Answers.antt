@@ -4,8 +4,9 @@ use Rattle.velo_events.specs.declared.event.Event.{Event}
 use Rattle.velo_events.specs.declared.config.Bounds.{Bounds}
 use Rattle.velo_events.specs.WellFormed.{IsWellFormed}
 use Rattle.velo_events.proofs.OnResults.{OnOk-weaker}
-use Rattle.velo_renew.specs.Stages.{forks, is_there, HasForked}
-use Rattle.velo_renew.proofs.OnPrologues.{forks-is, forks-first, forked-none, forked-one}
+use Rattle.velo_laws.specs.Length.{forks}
+use Rattle.velo_laws.specs.Stages.{is_there, HasForked}
+use Rattle.velo_laws.proofs.OnPrologues.{forks-is, forks-first, forked-none, forked-one}
 use Rattle.velo_renew.proofs.stages.fork_thread.Goals as goal
 
 pub returns-then-thread-eq0 : goal.returns-then-thread-eq0

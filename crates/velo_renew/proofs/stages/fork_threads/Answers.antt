@@ -1,8 +1,8 @@
 use Rattle.std.proofs.Common.{◌≡◌, ℕ, subst, arith}
 use Rattle.velo_events.specs.declared.config.Bounds.{Bounds}
 use Rattle.velo_events.specs.WellFormed.{IsWellFormed}
-use Rattle.velo_renew.specs.Stages.{HasForked}
-use Rattle.velo_renew.proofs.OnPrologues.{forked-start}
+use Rattle.velo_laws.specs.Stages.{HasForked}
+use Rattle.velo_laws.proofs.OnPrologues.{forked-start}
 use Rattle.velo_renew.proofs.stages.fork_threads.Goals as goal
 
 pub loop-thread-init : goal.loop-thread-init

@@ -1,8 +1,8 @@
 use Rattle.std.proofs.Common.{◌≡◌, ℕ, subst, arith}
 use Rattle.velo_events.specs.declared.config.Bounds.{Bounds}
 use Rattle.velo_events.specs.WellFormed.{IsWellFormed}
-use Rattle.velo_renew.specs.Stages.{HasShared}
-use Rattle.velo_renew.proofs.OnPrologues.{shared-start}
+use Rattle.velo_laws.specs.Stages.{HasShared}
+use Rattle.velo_laws.proofs.OnPrologues.{shared-start}
 use Rattle.velo_renew.proofs.stages.share_locks.Goals as goal
 
 pub loop-lock-init : goal.loop-lock-init

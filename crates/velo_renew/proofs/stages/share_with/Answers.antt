@@ -3,8 +3,8 @@ use Rattle.velo_events.specs.declared.event.Event.{Event}
 use Rattle.velo_events.specs.declared.config.Bounds.{Bounds}
 use Rattle.velo_events.specs.WellFormed.{IsWellFormed}
 use Rattle.velo_events.proofs.OnResults.{OnOk-weaker}
-use Rattle.velo_renew.specs.Stages.{HasShared}
-use Rattle.velo_renew.proofs.OnPrologues.{shared-none, shared-one}
+use Rattle.velo_laws.specs.Stages.{HasShared}
+use Rattle.velo_laws.proofs.OnPrologues.{shared-none, shared-one}
 use Rattle.velo_renew.proofs.stages.share_with.Goals as goal
 
 pub returns-then-not-shares : goal.returns-then-not-shares

@@ -4,8 +4,8 @@ use Rattle.velo_events.specs.declared.config.Bounds.{Bounds}
 use Rattle.velo_events.specs.WellFormed.{IsWellFormed}
 use Rattle.velo_events.specs.declared.event.Kind.TheVariants.{Write}
 use Rattle.velo_events.proofs.OnResults.{OnOk-weaker}
-use Rattle.velo_renew.specs.Stages.{HasWritten}
-use Rattle.velo_renew.proofs.OnPrologues.{written-none, written-one}
+use Rattle.velo_laws.specs.Stages.{HasWritten}
+use Rattle.velo_laws.proofs.OnPrologues.{written-none, written-one}
 use Rattle.velo_renew.proofs.stages.write_value.Goals as goal
 
 pub returns-then-value-eq0 : goal.returns-then-value-eq0

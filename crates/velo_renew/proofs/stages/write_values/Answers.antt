@@ -1,8 +1,8 @@
 use Rattle.std.proofs.Common.{◌≡◌, ℕ, subst, arith}
 use Rattle.velo_events.specs.declared.config.Bounds.{Bounds}
 use Rattle.velo_events.specs.WellFormed.{IsWellFormed}
-use Rattle.velo_renew.specs.Stages.{HasWritten}
-use Rattle.velo_renew.proofs.OnPrologues.{written-start}
+use Rattle.velo_laws.specs.Stages.{HasWritten}
+use Rattle.velo_laws.proofs.OnPrologues.{written-start}
 use Rattle.velo_renew.proofs.stages.write_values.Goals as goal
 
 pub loop-variable-init : goal.loop-variable-init

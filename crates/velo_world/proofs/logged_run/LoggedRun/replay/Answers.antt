@@ -1,15 +1,22 @@
 use Rattle.std.proofs.Common.{subst, sym}
+use Rattle.std.proofs.lemmas.Result.{err_from_is_err_and}
 use Rattle.velo_events.specs.WellFormed.{MayFollow}
 use Rattle.velo_traces.proofs.OnFlaws.{MayFollow-from_no_flaw}
 use Rattle.velo_world.specs.World.{WorldState}
 use Rattle.velo_world.proofs.OnLoggedRuns.{well_formed-logged}
+use Rattle.velo_world.proofs.OnLogReplays.{flaw-by}
 use Rattle.velo_world.proofs.logged_run.LoggedRun.replay.Goals as goal
 
 pub make_room-requires-clause-follows : goal.make_room-requires-clause-follows
 make_room-requires-clause-follows c =
-    MayFollow-from_no_flaw _ _ c.args.event.now (well_formed-logged _ c.requires.stands) c.in_ok-judge.ensures.flawless
+    MayFollow-from_no_flaw _ _ c.args.event.now (well_formed-logged _ c.requires.stands) (flaw-by _ _ _ c.args.event.now c.requires.stands.bounds (c.in_ok-judge.ensures.flawless _ c.requires.stands.analysis.heap))
 
 pub commit-requires-clause-follows : goal.commit-requires-clause-follows
 commit-requires-clause-follows c =
     subst (λ (w : WorldState). MayFollow w.config.bounds w.log c.args.event.now) (sym c.make_room.ensures.same)
-    (MayFollow-from_no_flaw _ _ c.args.event.now (well_formed-logged _ c.requires.stands) c.in_ok-judge.ensures.flawless)
+    (MayFollow-from_no_flaw _ _ c.args.event.now (well_formed-logged _ c.requires.stands) (flaw-by _ _ _ c.args.event.now c.requires.stands.bounds (c.in_ok-judge.ensures.flawless _ c.requires.stands.analysis.heap)))
+
+pub returns-in_err-judge-clause-fault : goal.returns-in_err-judge-clause-fault
+returns-in_err-judge-clause-fault c =
+    let failed = err_from_is_err_and c.from_residual.result c.from_residual.ensures.1 in
+    rw (failed.1, failed.2) (c.in_err-judge.ensures.fault _ c.requires.stands.analysis.heap c.len.ensures)

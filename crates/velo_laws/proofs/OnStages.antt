@@ -1,5 +1,5 @@
 -- What events leave, and after one event more.
-use Rattle.std.proofs.Common.{◌≡◌, ℕ, ◌+◌, ◌<◌, ◌≤◌, Bool, true, false, cond, List, [], ◌∷◌, ◌++◌, length, Option, Some, None, refl, sym, ap, ◌∙◌, arith, ⊎_elim}
+use Rattle.std.proofs.Common.{◌≡◌, ℕ, zero, suc, ◌+◌, ◌*◌, ◌<◌, ◌≤◌, Bool, true, false, cond, List, [], ◌∷◌, ◌++◌, length, Option, Some, None, refl, sym, ap, ◌∙◌, arith, ⊎_elim}
 use Rattle.std.specs.Prelude.{◌==◌, ◌&&◌, ◌||◌, IsTrue, IsFalse}
 use Rattle.std.proofs.lemmas.List.{length_push}
 use Rattle.std.proofs.lemmas.Bool.{cases_lt, cases_order, eq-eqb, ne_eqb, lt-ltb, le-ltb, both_ways, false_from_ne_true}
@@ -13,7 +13,8 @@ use Rattle.velo_events.proofs.OnTraces.{value_in-push, happened-push, passes_at-
 use Rattle.velo_events.proofs.OnOwners.{passes_at-within}
 use Rattle.velo_events.proofs.OnWellFormed.{IsWellFormed-nil, IsWellFormed-push, holder_in-push, shares_in-push}
 use Rattle.velo_laws.specs.Restart.{HasNoBegin}
-use Rattle.velo_renew.specs.Stages.{Leaves, nobody, no_holder, no_sharer, no_value, upto}
+use Rattle.velo_laws.specs.Length.{counted, summed}
+use Rattle.velo_laws.specs.Stages.{Leaves, nobody, no_holder, no_sharer, no_value, upto}
 
 -- ---- a function at the numbers below k, and elsewhere z
 
@@ -74,6 +75,50 @@ share_step false true x y w h = h
 share_step true false x y w h = refl
 share_step false false x y w h = refl
 
+-- ---- numbers that pass a test
+
+module _ (test : ℕ → Bool) where
+  pub counted-zero : counted 0 test ≡ 0
+  unfolding counted
+  counted-zero = refl
+
+  counted-next : (k : ℕ) → counted (k + 1) test ≡ counted k test + cond {A = ℕ} (test k) 1 0
+  unfolding counted
+  counted-next k = let next : k + 1 ≡ suc k = omega arith in ap (λ n. counted n test) next
+
+  pub counted-yes : (k : ℕ) → IsTrue (test k) → counted (k + 1) test ≡ counted k test + 1
+  counted-yes k h = counted-next k ∙ ap (λ b. counted k test + cond {A = ℕ} b 1 0) h
+
+  pub counted-no : (k : ℕ) → IsFalse (test k) → counted (k + 1) test ≡ counted k test
+  counted-no k h = let next = counted-next k ∙ ap (λ b. counted k test + cond {A = ℕ} b 1 0) h in omega (arith, next)
+
+  one_at_most : (b : Bool) → cond {A = ℕ} b 1 0 ≤ 1
+  one_at_most true = omega arith
+  one_at_most false = omega arith
+
+  pub counted-most : (n : ℕ) → counted n test ≤ n
+  unfolding counted
+  counted-most zero = omega arith
+  counted-most (suc n) = let rest = counted-most n in let one = one_at_most (test n) in omega (arith, rest, one)
+
+module _ (f : ℕ → ℕ) where
+  pub summed-zero : summed 0 f ≡ 0
+  unfolding summed
+  summed-zero = refl
+
+  pub summed-next : (k : ℕ) → summed (k + 1) f ≡ summed k f + f k
+  unfolding summed
+  summed-next k = let next : k + 1 ≡ suc k = omega arith in ap (λ n. summed n f) next
+
+  pub summed-most : (b n : ℕ) → ((k : ℕ) → f k ≤ b) → summed n f ≤ n * b
+  unfolding summed
+  summed-most b zero h = omega arith
+  summed-most b (suc n) h =
+      let rest = summed-most b n h in
+      let own = h n in
+      let split : suc n * b ≡ n * b + b = omega arith in
+      omega (arith, rest, own, split)
+
 -- ---- what events leave
 
 no_begin-push : (P : List Event) (e : Event) → HasNoBegin P → IsFalse (is_begin e.kind) → HasNoBegin (P ++ e ∷ [])
@@ -98,12 +143,12 @@ leaves-nothing bounds = record {
   held = λ m. refl;
   shared = λ m t. refl;
   values = λ x. refl;
-  short = omega arith;
+  counted_are = refl;
 }
 
 module _ (bounds : Bounds) (P : List Event) (F X : ℕ → Bool) (H : ℕ → Option ℕ) (S : ℕ → ℕ → Bool) (V : ℕ → ℕ) (F' X' : ℕ → Bool) (H' : ℕ → Option ℕ) (S' : ℕ → ℕ → Bool) (V' : ℕ → ℕ) (n n' : ℕ) where
   -- the same, said otherwise
-  pub leaves-same : ((t : ℕ) → F t ≡ F' t) → ((t : ℕ) → X t ≡ X' t) → ((m : ℕ) → H m ≡ H' m) → ((m t : ℕ) → S m t ≡ S' m t) → ((x : ℕ) → V x ≡ V' x) → n ≤ n' →
+  pub leaves-same : ((t : ℕ) → F t ≡ F' t) → ((t : ℕ) → X t ≡ X' t) → ((m : ℕ) → H m ≡ H' m) → ((m t : ℕ) → S m t ≡ S' m t) → ((x : ℕ) → V x ≡ V' x) → n ≡ n' →
       Leaves bounds P F X H S V n → Leaves bounds P F' X' H' S' V' n'
   leaves-same f x h s v l at = record {
     well = at.well;
@@ -114,7 +159,7 @@ module _ (bounds : Bounds) (P : List Event) (F X : ℕ → Bool) (H : ℕ → Op
     held = λ m. at.held m ∙ h m;
     shared = λ m t. at.shared m t ∙ s m t;
     values = λ y. at.values y ∙ v y;
-    short = omega (arith, at.short, l);
+    counted_are = at.counted_are ∙ l;
   }
 
   -- one event more
@@ -122,7 +167,7 @@ module _ (bounds : Bounds) (P : List Event) (F X : ℕ → Bool) (H : ℕ → Op
       ((t : ℕ) → (F t || is_fork_of t e) ≡ F' t) → ((t : ℕ) → (X t || is_exit_by t e) ≡ X' t) →
       ((m : ℕ) → cond {A = Option ℕ} (is_on_lock m e) (cond {A = Option ℕ} (is_acquire e.kind) (Some (thread_of e)) None) (H m) ≡ H' m) →
       ((m t : ℕ) → cond {A = Bool} (is_on_share m t e) (is_acquire_shared e.kind) (S m t) ≡ S' m t) →
-      ((x : ℕ) → cond {A = ℕ} (is_write_of x e) (value_of e.kind) (V x) ≡ V' x) → n + 1 ≤ n' →
+      ((x : ℕ) → cond {A = ℕ} (is_write_of x e) (value_of e.kind) (V x) ≡ V' x) → n + 1 ≡ n' →
       Leaves bounds P F X H S V n → Leaves bounds (P ++ e ∷ []) F' X' H' S' V' n'
   leaves-push e follows no_begin no_join f x h s v l at = record {
     well = IsWellFormed-push bounds P e at.well follows;
@@ -133,5 +178,5 @@ module _ (bounds : Bounds) (P : List Event) (F X : ℕ → Bool) (H : ℕ → Op
     held = λ m. holder_in-push P e m ∙ (ap (λ o. cond {A = Option ℕ} (is_on_lock m e) (cond {A = Option ℕ} (is_acquire e.kind) (Some (thread_of e)) None) o) (at.held m) ∙ h m);
     shared = λ m t. shares_in-push P e m t ∙ (ap (λ o. cond {A = Bool} (is_on_share m t e) (is_acquire_shared e.kind) o) (at.shared m t) ∙ s m t);
     values = λ y. value_in-push P e y ∙ (ap (λ o. cond {A = ℕ} (is_write_of y e) (value_of e.kind) o) (at.values y) ∙ v y);
-    short = omega (arith, at.short, length_push P e, l);
+    counted_are = omega (arith, at.counted_are, length_push P e, l);
   }

@@ -1,0 +1,36 @@
+-- The world in which a run goes on after a cut, and why there is none.
+use Rattle.std.specs.Prelude.{◌≡◌, ◌≢◌, ℕ, ◌<◌, List, false}
+use Rattle.velo_events.specs.declared.event.Event.{Event}
+use Rattle.velo_events.specs.declared.event.ThreadId.{ThreadId}
+use Rattle.velo_events.specs.Graph.{HasCycle}
+use Rattle.velo_events.specs.Heap.{depth_in}
+use Rattle.velo_events.specs.Refusals.{GrowthRefused}
+use Rattle.velo_laws.specs.Cut.{NoBlockOpen}
+use Rattle.velo_laws.specs.Length.{events_to_leave}
+use Rattle.velo_laws.specs.Restart.{IsPrologueOf, GoesOnAfresh}
+use Rattle.velo_world.specs.World.{WorldState}
+use Rattle.velo_renew.specs.declared.renewal.NotRenewed.{NotRenewed}
+use Rattle.velo_renew.specs.declared.renewal.NotRenewed.TheVariants.{Alarm, BlockOpen, LogFull, Memory}
+
+-- the thread has a block open, and those before it have none
+pub record IsFirstOpen (log : List Event) (thread : ThreadId) : Type 0 where
+  pub is_open : depth_in log thread.0 ≢ 0
+  pub none_before : (t : ℕ) → t < thread.0 → depth_in log t ≡ 0
+
+-- The log of the first world ended with no block open and no cycle, and that of the second is a prologue that stands for it:
+-- whatever may come after the one may come after the other, and is judged the same
+pub record Renews (w w' : WorldState) : Type 0 where
+  pub config : w'.config ≡ w.config
+  pub live : w'.halted ≡ false
+  pub ended : NoBlockOpen w.log
+  pub no_cycle : ¬ HasCycle w.log
+  pub prologue : IsPrologueOf w.config.bounds w.log w'.log
+  pub goes_on : (after : List Event) → GoesOnAfresh w.config.bounds w.log w'.log after
+
+-- why there is no such world
+abbrev pub IsReasonAgainst : WorldState → NotRenewed → Type 0
+IsReasonAgainst w Alarm = HasCycle w.log
+IsReasonAgainst w (BlockOpen thread) = (¬ HasCycle w.log) × IsFirstOpen w.log thread
+IsReasonAgainst w LogFull =
+    (¬ HasCycle w.log) × NoBlockOpen w.log × (w.config.events < events_to_leave w.config.bounds w.log)
+IsReasonAgainst w Memory = GrowthRefused
