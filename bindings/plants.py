@@ -60,8 +60,8 @@ PLANTS = [
          'if (me->seat[i].in == slot_of(id)) return'),
     ], {'rust': ['who_opened_an_earlier_session_is_another_thread']}),
     Plant('numbers are cut: limits', 'c/velodrome.c', [
-        ('or_default(asked->variables, VELODROME_MOST_VARIABLES)',
-         '(uint16_t)or_default(asked->variables, VELODROME_MOST_VARIABLES)'),
+        ('or_default(asked->variables, VELODROME_MAX_VARIABLES)',
+         '(uint16_t)or_default(asked->variables, VELODROME_MAX_VARIABLES)'),
     ], {'calls': ['']}),
     Plant('numbers are cut: threads', 'c/velodrome.c', [
         ('velo_read(monitor, thread, variable, TOLD)',

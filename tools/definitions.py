@@ -48,12 +48,15 @@ PARTS = [
         "velo_audit": "Audit* Rounds* Tells Witness",
         "velo_audit_text": "Text",
         "velo_list": "Line* Known* List"}),
+    ("What one log says of other schedules", {
+        "velo_predict": "Predictions* Deadlocks* Feasible*"}),
     ("Laws of logs", {
         "velo_laws": "Cut* Restart* Renumber Ordered* Repeats*",
         "velo_renew": "Renewal*",
         "velo_races": "Races*"}),
     ("What the program does", {
-        "velo_program": "Program* Check Explaining Carrying Scheduling Playing ByChance Exploring* Delivery Disk Writing Reading Fate Causes",
+        "velo_program": "Program* Check Explaining Carrying Format Scheduling Playing ByChance Exploring* Delivery Barred Fate Failures Causes",
+        "velo_delivery": "Disk Reading Writing Answers",
         "velo_command": "CommandLine Asked Together Running Usage"}),
     ("The library for other languages", {
         "velo_ffi": "Answers Numbers Texts* Pieces* Renewal* Words"}),

@@ -10,7 +10,7 @@ import os
 import sys
 
 TOP = os.path.dirname(os.path.dirname(os.path.abspath(__file__)))
-MOST_OF_A_CRATE = 16
+MAX_OF_A_CRATE = 16
 MOST = 100
 
 
@@ -52,7 +52,7 @@ def main():
         if why:
             told.append(f"{os.path.relpath(edit, TOP)}: {why}")
     counts = {crate: len(glob.glob(f"{crate}/must-fail/*.edit")) for crate in sorted(glob.glob(f"{TOP}/crates/*"))}
-    told += [f"{os.path.relpath(crate, TOP)}/must-fail: {count} edits, of at most {MOST_OF_A_CRATE}" for crate, count in counts.items() if count > MOST_OF_A_CRATE]
+    told += [f"{os.path.relpath(crate, TOP)}/must-fail: {count} edits, of at most {MAX_OF_A_CRATE}" for crate, count in counts.items() if count > MAX_OF_A_CRATE]
     if sum(counts.values()) > MOST:
         told.append(f"{sum(counts.values())} edits in the first line, of at most {MOST}")
     print("\n".join(told or [f"{sum(counts.values())} edits in the first line, all can be applied"]))

@@ -16,7 +16,7 @@ import subprocess
 import sys
 import tempfile
 
-MOST_INTERLEAVINGS = 500
+MAX_INTERLEAVINGS = 500
 
 
 def body(chance, room):
@@ -58,7 +58,7 @@ def workload(chance):
         ways = math.factorial(sum(counts))
         for count in counts:
             ways //= math.factorial(count)
-        if ways <= MOST_INTERLEAVINGS:
+        if ways <= MAX_INTERLEAVINGS:
             break
     text = "var x\nvar y\nlock m\nlock n\n"
     for name, thread in zip(["main"] + names, threads):

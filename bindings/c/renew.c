@@ -38,10 +38,10 @@ static velodrome_status tell(velodrome *m, event e, velodrome_answer *a) {
 
 /* The same blocks are to blame; each begins as much earlier as the logs differ. */
 static bool blame_alike(velodrome *whole, velodrome *cut, uint64_t later) {
-    velodrome_block a[VELODROME_MOST_BLAMED], b[VELODROME_MOST_BLAMED];
+    velodrome_block a[VELODROME_MAX_BLAMED], b[VELODROME_MAX_BLAMED];
     size_t n, m;
-    velodrome_blamed(whole, a, VELODROME_MOST_BLAMED, &n);
-    velodrome_blamed(cut, b, VELODROME_MOST_BLAMED, &m);
+    velodrome_blamed(whole, a, VELODROME_MAX_BLAMED, &n);
+    velodrome_blamed(cut, b, VELODROME_MAX_BLAMED, &m);
     if (n != m) return false;
     for (size_t i = 0; i < n; i++)
         if (a[i].label != b[i].label || a[i].first != b[i].first + later) return false;

@@ -211,7 +211,7 @@ static velodrome *alarmed_run(void) {
 static void alarm_is_told(void) {
     velodrome *m = alarmed_run();
     velodrome_summary s;
-    velodrome_block blocks[VELODROME_MOST_BLAMED];
+    velodrome_block blocks[VELODROME_MAX_BLAMED];
     size_t count = 0;
     velodrome_verdict(m, &s);
     expect("alarmed", s.alarmed, 1);

@@ -27,13 +27,13 @@ static uint32_t or_default(uint32_t asked, uint32_t otherwise) { return asked ? 
 velodrome_status velodrome_open(velodrome **monitor, const velodrome_limits *limits) {
     static const velodrome_limits none;
     const velodrome_limits *asked = limits ? limits : &none;
-    uint32_t threads = or_default(asked->threads, VELODROME_MOST_THREADS);
-    uint32_t nodes = threads < VELODROME_MOST_THREADS ? threads * threads : VELODROME_MOST_NODES;
+    uint32_t threads = or_default(asked->threads, VELODROME_MAX_THREADS);
+    uint32_t nodes = threads < VELODROME_MAX_THREADS ? threads * threads : VELODROME_MAX_NODES;
     *monitor = NULL;
     velodrome *fresh = malloc(sizeof *fresh);
     if (!fresh) return VELODROME_NO_MEMORY;
-    uint32_t status = velo_open(fresh, threads, or_default(asked->variables, VELODROME_MOST_VARIABLES),
-        or_default(asked->locks, VELODROME_MOST_LOCKS), or_default(asked->events, 1u << 20), or_default(asked->nodes, nodes));
+    uint32_t status = velo_open(fresh, threads, or_default(asked->variables, VELODROME_MAX_VARIABLES),
+        or_default(asked->locks, VELODROME_MAX_LOCKS), or_default(asked->events, 1u << 20), or_default(asked->nodes, nodes));
     if (status) free(fresh);
     else *monitor = fresh;
     return (velodrome_status)status;

@@ -30,12 +30,12 @@ const char *velodrome_version(void);
 typedef struct velodrome velodrome;
 
 /* Limits of a run, and what is told of it. */
-#define VELODROME_MOST_THREADS 64
-#define VELODROME_MOST_VARIABLES 65535
-#define VELODROME_MOST_LOCKS 4096
-#define VELODROME_MOST_EVENTS 16777216
-#define VELODROME_MOST_NODES 4096
-#define VELODROME_MOST_BLAMED 32
+#define VELODROME_MAX_THREADS 64
+#define VELODROME_MAX_VARIABLES 65535
+#define VELODROME_MAX_LOCKS 4096
+#define VELODROME_MAX_EVENTS 16777216
+#define VELODROME_MAX_NODES 4096
+#define VELODROME_MAX_BLAMED 32
 #define VELODROME_REPORT_ROOM 4096 /* bytes, always enough for a report without names */
 
 /* 1 to 19: the event is refused. Where a status is not VELODROME_DONE nothing has changed, and nothing is told, but for what

@@ -14,7 +14,7 @@
 #define SLOTS 256            /* sessions at a time */
 #define SEATS 4              /* sessions that one thread acts in at a time */
 #define DEPTH 32             /* blocks that are told; the outermost decide */
-#define THREADS VELODROME_MOST_THREADS
+#define THREADS VELODROME_MAX_THREADS
 #define NAME_BYTES 150       /* with a kind, a line and an ordinal it fits a names file */
 #define NUMBER_BITS 20       /* of a tag; the rest is the epoch */
 #define NOT_TOLD UINT32_MAX
@@ -491,9 +491,9 @@ static char *explanation(slot *s) {
 }
 
 static void put_blamed(FILE *f, slot *s) {
-    velodrome_block blocks[VELODROME_MOST_BLAMED];
+    velodrome_block blocks[VELODROME_MAX_BLAMED];
     size_t count = 0;
-    velodrome_blamed(s->handle, blocks, VELODROME_MOST_BLAMED, &count);
+    velodrome_blamed(s->handle, blocks, VELODROME_MAX_BLAMED, &count);
     for (size_t i = 0; i < count; i++) {
         fputs("not atomic: ", f);
         put_name(f, s, &s->label, blocks[i].label);
@@ -660,7 +660,7 @@ static void next_piece(slot *s) {
 }
 
 static velodrome_status open_handle(slot *s) {
-    uint32_t nodes = s->most < VELODROME_MOST_NODES ? s->most : VELODROME_MOST_NODES; /* no more transactions than events */
+    uint32_t nodes = s->most < VELODROME_MAX_NODES ? s->most : VELODROME_MAX_NODES; /* no more transactions than events */
     velodrome_limits limits = {THREADS, s->variables, s->locks, s->most, nodes};
     return velodrome_open(&s->handle, &limits);
 }
@@ -1231,10 +1231,10 @@ static void child_of_fork(void) {
 static void set_options(slot *s, const vs_options *o) {
     struct timespec now;
     clock_gettime(CLOCK_MONOTONIC, &now);
-    s->most = !o->events ? 1u << 20 : o->events > VELODROME_MOST_EVENTS ? VELODROME_MOST_EVENTS : o->events;
+    s->most = !o->events ? 1u << 20 : o->events > VELODROME_MAX_EVENTS ? VELODROME_MAX_EVENTS : o->events;
     s->near = s->most - s->most / 4;
-    s->variables = o->variables ? o->variables : VELODROME_MOST_VARIABLES;
-    s->locks = !o->locks ? VELODROME_MOST_LOCKS : o->locks > VELODROME_MOST_LOCKS ? VELODROME_MOST_LOCKS : o->locks;
+    s->variables = o->variables ? o->variables : VELODROME_MAX_VARIABLES;
+    s->locks = !o->locks ? VELODROME_MAX_LOCKS : o->locks > VELODROME_MAX_LOCKS ? VELODROME_MAX_LOCKS : o->locks;
     s->noise = o->noise;
     s->seed = o->seed ? o->seed : mixed((uint64_t)now.tv_sec << 32 ^ (uint64_t)now.tv_nsec);
     s->hook = o->alarm;

@@ -2,11 +2,11 @@
 
 using namespace std;
 
-static const u32 MOST_VARIABLES = 65535, MOST_LOCKS = 4096, MOST_THREADS = 64, MOST_OPEN = 32;
+static const u32 MAX_VARIABLES = 65535, MAX_LOCKS = 4096, MAX_THREADS = 64, MAX_OPEN = 32;
 
 Events::Events(Trace &trace, Shared &shared, Blocks &blocks, const Options &options)
-    : shared_(shared), blocks_(blocks), options_(options), threads_(trace.threads()), holder_(MOST_THREADS, -1) {
-    many_ = threads_.size() > MOST_THREADS;
+    : shared_(shared), blocks_(blocks), options_(options), threads_(trace.threads()), holder_(MAX_THREADS, -1) {
+    many_ = threads_.size() > MAX_THREADS;
     if (threads_.empty()) return;
     number_variables();
     threads_[0].state = LIVE, threads_[0].carrier = 0, holder_[0] = 0;
@@ -23,7 +23,7 @@ Events::Events(Trace &trace, Shared &shared, Blocks &blocks, const Options &opti
 // A variable whose accesses are all ordered by what else is in the log adds no edge.
 void Events::number_variables() {
     size_t sync = count_if(shared_.objects.begin(), shared_.objects.end(), [](auto &o) { return o.second.many; });
-    u32 room = MOST_VARIABLES - (many_ ? 2 * MOST_THREADS : 0);
+    u32 room = MAX_VARIABLES - (many_ ? 2 * MAX_THREADS : 0);
     for (u32 x : shared_.order) {
         Variable &v = shared_.variables[x];
         if (!v.many || !v.written) continue;
@@ -37,7 +37,7 @@ void Events::number_variables() {
     for (auto &o : by_address)
         if (variables.size() + objects.size() < room) objects.push_back(o.first), o.second->number = variables.size() + objects.size();
     numbers_of_threads = variables.size() + objects.size();
-    last_by_.assign(numbers_of_threads + 2 * MOST_THREADS, ~0u);
+    last_by_.assign(numbers_of_threads + 2 * MAX_THREADS, ~0u);
 }
 
 // ---- what is kept
@@ -116,7 +116,7 @@ void Events::begin(const Event &e) {
     Function *f = blocks_.of(e);
     bool library = f && f->library;
     if (f && !f->block) f = nullptr;
-    if (f && t.depth >= int(MOST_OPEN)) f = nullptr, deep++;
+    if (f && t.depth >= int(MAX_OPEN)) f = nullptr, deep++;
     t.open.push_back({kept.size(), f, library, e.at});
     if (!f) return;
     t.depth++, t.version++;
@@ -160,7 +160,7 @@ bool Events::locks_again(Lock &l, const Event &e) { // or it cannot be
 void Events::lock(const Event &e) {
     Lock &l = locks_[e.at];
     if (locks_again(l, e) || options_.data) return;
-    if (!l.number && locks.size() < MOST_LOCKS) locks.push_back(e.at), l.number = locks.size();
+    if (!l.number && locks.size() < MAX_LOCKS) locks.push_back(e.at), l.number = locks.size();
     if (!l.number) {
         dropped++;
         return;
@@ -171,11 +171,11 @@ void Events::lock(const Event &e) {
 
 // ---- threads. Over 64 of them, one number is given to several in turn; forks and joins are writes and reads then.
 int Events::carrier_for(u32 thread) {
-    for (u32 i = 0; i < MOST_THREADS; i++)
+    for (u32 i = 0; i < MAX_THREADS; i++)
         if (holder_[i] < 0) return i;
-    for (u32 i = 0; i < MOST_THREADS; i++) // of a thread whose end is known here: nothing is added
+    for (u32 i = 0; i < MAX_THREADS; i++) // of a thread whose end is known here: nothing is added
         if (threads_[holder_[i]].state >= ENDED && threads_[thread].knows.count(holder_[i])) return i;
-    for (u32 i = 0; i < MOST_THREADS; i++)
+    for (u32 i = 0; i < MAX_THREADS; i++)
         if (threads_[holder_[i]].state >= ENDED) return orders_added++, i;
     return -1;
 }

@@ -14,7 +14,7 @@ static double now(clockid_t clock) {
 int main(int argc, char **argv) {
     uint32_t events = argc > 1 ? (uint32_t)strtoul(argv[1], NULL, 10) : 1000000;
     uint32_t variables = argc > 2 ? (uint32_t)strtoul(argv[2], NULL, 10) : 1024;
-    velodrome_limits limits = {4, variables, 16, VELODROME_MOST_EVENTS, 1024};
+    velodrome_limits limits = {4, variables, 16, VELODROME_MAX_EVENTS, 1024};
     velodrome *m;
     velodrome_answer a;
     unsigned status = velodrome_open(&m, &limits);

@@ -16,7 +16,7 @@ PyAPI_FUNC(const char *) PyUnicode_AsUTF8AndSize(PyObject *text, Py_ssize_t *byt
 /* From Python 3.11 on; null before. */
 extern int PyFrame_GetLasti(PyFrameObject *frame) __attribute__((weak));
 
-#define MOST_CODES (1u << 16) /* code objects whose files are remembered; events of others have no place */
+#define MAX_CODES (1u << 16) /* code objects whose files are remembered; events of others have no place */
 #define CO_OF_TASK (0x80 | 0x200) /* the flags of a coroutine and of an asynchronous generator */
 
 /* ---- places */
@@ -42,7 +42,7 @@ static code *find_code(PyObject *c) {
 static bool grow_codes(void) {
     if (2 * code_count < code_room) return true;
     uint32_t was = code_room, room = was ? 2 * was : 256;
-    code *old = codes, *fresh = room > 2 * MOST_CODES ? NULL : PyMem_Calloc(room, sizeof *fresh);
+    code *old = codes, *fresh = room > 2 * MAX_CODES ? NULL : PyMem_Calloc(room, sizeof *fresh);
     if (!fresh) return false;
     codes = fresh;
     code_room = room;

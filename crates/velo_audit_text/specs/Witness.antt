@@ -2,7 +2,7 @@
 use Rattle.std.specs.Prelude.{ℕ, ◌+◌, ◌≤◌, List, [], ◌∷◌, ◌++◌, length, take, map, codes, decimal}
 use Rattle.std.specs.List.{flat_map}
 use Rattle.velo_events.specs.declared.event.Event.{Event}
-use Rattle.velo_events.specs.declared.limits.TheConstants.{MOST_OPEN_BLOCKS}
+use Rattle.velo_events.specs.declared.limits.TheConstants.{MAX_OPEN_BLOCKS}
 use Rattle.velo_events.specs.Block.{open_blocks}
 use Rattle.velo_traces.specs.declared.block.Block.{Block}
 use Rattle.velo_traces.specs.Blocks.{block_at}
@@ -55,4 +55,4 @@ witness_text names log p evidence =
 
 -- so few blocks are open before each position that they can be listed. Private contracts cite this word
 pub record FewAreOpen (log : List Event) : Type 0 where
-  pub each : (p t : ℕ) → p ≤ length log → length (open_blocks (take p log) t) ≤ MOST_OPEN_BLOCKS
+  pub each : (p t : ℕ) → p ≤ length log → length (open_blocks (take p log) t) ≤ MAX_OPEN_BLOCKS

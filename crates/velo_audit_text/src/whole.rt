@@ -1,7 +1,7 @@
 //! The whole text of an audit.
 ghost use Rattle.std.specs.Prelude.{◌≡◌, ◌≤◌, ◌++◌, length, map, All, IfOk, OnOk};
 ghost use Rattle.std.specs.List.{flat_map};
-ghost use Rattle.velo_events.specs.declared.limits.TheConstants.{MOST_EVENTS};
+ghost use Rattle.velo_events.specs.declared.limits.TheConstants.{MAX_EVENTS};
 ghost use Rattle.velo_thin.specs.Left.{is_listed};
 ghost use Rattle.velo_thin.specs.Thinned.{CanComeAbout};
 ghost use Rattle.velo_audit.specs.Audit.{TellsTruly};
@@ -54,7 +54,7 @@ fn add_witness_if_any(
     witness: &Option<Evidence>,
 ) -> Result<(), Memory>
     requires within { IsWitnessWithin (length events.now) closing witness.now }
-    requires few { length events.now ≤ MOST_EVENTS }
+    requires few { length events.now ≤ MAX_EVENTS }
     requires open { FewAreOpen events.now }
     ensures { OnOk result (page.new ≡ page.old ++ optional_witness_text names.now events.now closing witness.now) }
 {
@@ -73,7 +73,7 @@ fn add_told(
     told: &Told,
 ) -> Result<(), Memory>
     requires within { IsWitnessWithin (length events.now) told.now.closing told.now.witness }
-    requires few { length events.now ≤ MOST_EVENTS }
+    requires few { length events.now ≤ MAX_EVENTS }
     requires open { FewAreOpen events.now }
     ensures { OnOk result (page.new ≡ page.old ++ told_text names.now events.now told.now) }
 {
@@ -91,7 +91,7 @@ fn add_rounds(
     rounds: &[Told],
 ) -> Result<(), Memory>
     requires truly { All (TellsTruly events.now) rounds.now }
-    requires few { length events.now ≤ MOST_EVENTS }
+    requires few { length events.now ≤ MAX_EVENTS }
     requires open { FewAreOpen events.now }
     ensures { OnOk result (page.new ≡ page.old ++ flat_map (told_text names.now events.now) rounds.now) }
 {
@@ -115,7 +115,7 @@ pub fn audit_text(
     rounds: &[Told],
     atomic: usize,
 ) -> Result<Page, Memory>
-    requires few { length log.now.events ≤ MOST_EVENTS }
+    requires few { length log.now.events ≤ MAX_EVENTS }
     requires can_come_about { CanComeAbout log.now.events }
     requires truly { All (TellsTruly log.now.events) rounds.now }
     ensures { IfOk result (λ page. page ≡ audit_text names.now log.now.events asked.now rounds.now atomic) }

@@ -1,14 +1,14 @@
 //! The witness of a round, in words.
 ghost use Rattle.std.specs.Prelude.{◌≡◌, ◌≤◌, ◌<◌, ◌++◌, length, OnOk};
 ghost use Rattle.std.specs.List.{flat_map};
-ghost use Rattle.velo_events.specs.declared.limits.TheConstants.{MOST_EVENTS};
+ghost use Rattle.velo_events.specs.declared.limits.TheConstants.{MAX_EVENTS};
 ghost use Rattle.velo_explain.specs.Evidence.{AreEdgesWithin, IsWithin};
 ghost use Rattle.velo_explain.specs.Text.{line_of, numbered, next_number};
 ghost use Rattle.velo_audit_text.specs.Witness.{closing_text, stack_at, in_block_text, event_line_text, event_in_blocks_text, order_text, edge_text, witness_text, FewAreOpen};
 
 use std::alloc::Global;
 use velo_certify::EdgeEvents;
-use velo_events::{Event, MOST_EVENTS, Memory};
+use velo_events::{Event, MAX_EVENTS, Memory};
 use velo_explain::{
     Evidence, Page, Piece, add_heading, add_members, add_reasons, line_of, next_number,
 };
@@ -24,7 +24,7 @@ fn add_closing(
     count: usize,
 ) -> Result<(), Memory>
     requires within { position < length events.now }
-    requires few { length events.now ≤ MOST_EVENTS }
+    requires few { length events.now ≤ MAX_EVENTS }
     ensures { OnOk result (page.new ≡ page.old ++ closing_text names.now events.now position count) }
 {
     page.add(&[Piece::Text("  ")])?;
@@ -79,7 +79,7 @@ fn add_event_line(
     position: usize,
 ) -> Result<(), Memory>
     requires within { position < length events.now }
-    requires few { length events.now ≤ MOST_EVENTS }
+    requires few { length events.now ≤ MAX_EVENTS }
     ensures { OnOk result (page.new ≡ page.old ++ event_line_text names.now events.now position) }
 {
     page.add(&[
@@ -102,7 +102,7 @@ fn add_event(
     position: usize,
 ) -> Result<(), Memory>
     requires within { position < length events.now }
-    requires few { length events.now ≤ MOST_EVENTS }
+    requires few { length events.now ≤ MAX_EVENTS }
     requires open { FewAreOpen events.now }
     ensures { OnOk result (page.new ≡ page.old ++ event_in_blocks_text names.now events.now position) }
 {
@@ -137,7 +137,7 @@ fn add_edge(
 ) -> Result<(), Memory>
     requires from { edge.from < length events.now }
     requires to { edge.to < length events.now }
-    requires few { length events.now ≤ MOST_EVENTS }
+    requires few { length events.now ≤ MAX_EVENTS }
     requires open { FewAreOpen events.now }
     requires place { k < count }
     ensures { OnOk result (page.new ≡ page.old ++ edge_text names.now events.now count k edge) }
@@ -156,7 +156,7 @@ fn add_edges(
     edges: &[EdgeEvents],
 ) -> Result<(), Memory>
     requires within { AreEdgesWithin (length events.now) edges.now }
-    requires few { length events.now ≤ MOST_EVENTS }
+    requires few { length events.now ≤ MAX_EVENTS }
     requires open { FewAreOpen events.now }
     ensures { OnOk result (page.new ≡ page.old ++ numbered (edge_text names.now events.now (length edges.now)) 0 edges.now) }
 {
@@ -176,7 +176,7 @@ pub(crate) fn add_witness(
     evidence: &Evidence,
 ) -> Result<(), Memory>
     requires within { IsWithin (length events.now) position evidence.now }
-    requires few { length events.now ≤ MOST_EVENTS }
+    requires few { length events.now ≤ MAX_EVENTS }
     requires open { FewAreOpen events.now }
     ensures { OnOk result (page.new ≡ page.old ++ witness_text names.now events.now position evidence.now) }
 {

@@ -14,7 +14,7 @@ use smallvec::SmallVec;
 use std::alloc::Global;
 use std::marker::Model;
 use velo_clocks::ClockTables;
-use velo_events::{Bounds, Config, Event, MOST_OPEN_BLOCKS, Memory, Resolved};
+use velo_events::{Bounds, Config, Event, MAX_OPEN_BLOCKS, Memory, Resolved};
 use velo_traces::Block;
 
 /// Which open blocks are to blame where an event closes the first cycle, without a look at the events before it. They were
@@ -28,19 +28,19 @@ pub struct Clocks {
 
 impl Model for Clocks {
     ghost use Rattle.std.specs.Prelude.{◌≡◌, ◌≤◌, length};
-    ghost use Rattle.velo_events.specs.declared.limits.TheConstants.{MOST_THREADS};
+    ghost use Rattle.velo_events.specs.declared.limits.TheConstants.{MAX_THREADS};
     ghost use Rattle.velo_blame.specs.Clocks.{RunClocks};
 
     ghost Value = { RunClocks };
 
     ghost view = { λ c. record { state = c.tables; bounds = c.bounds } };
 
-    ghost invariant = { λ c. (length c.tables.threads ≡ c.bounds.threads) × (c.bounds.threads ≤ MOST_THREADS) };
+    ghost invariant = { λ c. (length c.tables.threads ≡ c.bounds.threads) × (c.bounds.threads ≤ MAX_THREADS) };
 }
 
 /// The blocks that begin below the bound.
-fn blocks_below(alloc: Global, blocks: &[Block], bound: usize) -> SmallVec<Block, MOST_OPEN_BLOCKS>
-    requires { length blocks.now ≤ MOST_OPEN_BLOCKS }
+fn blocks_below(alloc: Global, blocks: &[Block], bound: usize) -> SmallVec<Block, MAX_OPEN_BLOCKS>
+    requires { length blocks.now ≤ MAX_OPEN_BLOCKS }
     ensures { result.items ≡ filter (λ block. nat_lt block.first bound) blocks.now }
 {
     let mut below = SmallVec::new(alloc);
@@ -125,8 +125,8 @@ impl Clocks {
         blocks: &[Block],
         position: usize,
         event: &Event,
-    ) -> SmallVec<Block, MOST_OPEN_BLOCKS>
-        requires few { length blocks.now ≤ MOST_OPEN_BLOCKS }
+    ) -> SmallVec<Block, MAX_OPEN_BLOCKS>
+        requires few { length blocks.now ≤ MAX_OPEN_BLOCKS }
         ensures blamed { (first : ℕ) (trace : List Event) → AreClocksSince first self.now.state trace → length trace ≡ position
             → IsWellFormed self.now.bounds (trace ++ event.now ∷ []) → ¬ HasCycle trace
             → ((b : ℕ) → b < first → IsFalse (is_open_at (trace ++ event.now ∷ []) (thread_of event.now) b (length (trace ++ event.now ∷ []))))

@@ -115,7 +115,7 @@ listings-none label (b ∷ blamed) none =
 listings-added : (label : ℕ) (b : Blamed) (blamed : List Blamed) → IsFalse (is_listed b.label.0 blamed) → listings label blamed ≤ 1 → listings label (blamed ++ b ∷ []) ≤ 1
 listings-added label b blamed none few = subst (λ n. n ≤ 1) (sym (sum_by_push (listing label) blamed b)) (⊎_elim
     (λ same. subst (λ t. listings label blamed + cond t 1 0 ≤ 1) (sym same)
-        (let absent = listings-none label blamed (subst (λ l. IsFalse (is_listed l blamed)) (eqb-true b.label.0 label same) none) in omega (arith, absent)))
+    (let absent = listings-none label blamed (subst (λ l. IsFalse (is_listed l blamed)) (eqb-true b.label.0 label same) none) in omega (arith, absent)))
     (λ other. subst (λ t. listings label blamed + cond t 1 0 ≤ 1) (sym other) (omega (arith, few)))
     (cases_Bool (b.label.0 == label)))
 

@@ -5,7 +5,7 @@ use Rattle.rand_core.specs.Steps.{stream_of, steps_u64_high}
 use Rattle.rand_xoshiro.specs.SplitMix64.{splitmix_seed}
 use Rattle.rand_xoshiro.specs.Xoshiro256.{of_seed, plus_plus}
 use Rattle.velo_events.specs.declared.event.ThreadId.{ThreadId}
-use Rattle.velo_turns.specs.declared.limits.TheConstants.{MOST_TURNS}
+use Rattle.velo_turns.specs.declared.limits.TheConstants.{MAX_TURNS}
 use Rattle.velo_workload.specs.Program.{Program}
 use Rattle.velo_worker.specs.Counts.{body_events}
 
@@ -47,7 +47,7 @@ all_drawn (suc runs) threads n s = all_drawn runs threads n s ++ drawn threads n
 
 -- as many turns as the bodies have events, times the threads, and no more than a schedule may have
 abbrev pub turns_for : Program → ℕ
-turns_for program = min (min (sum_by body_events program.bodies) (2 ^ 64 - 1) * program.bounds.threads) MOST_TURNS
+turns_for program = min (min (sum_by body_events program.bodies) (2 ^ 64 - 1) * program.bounds.threads) MAX_TURNS
 
 -- the schedules that the seed draws for so many runs of the program
 abbrev pub schedules_of_seed : Program → ℕ → ℕ → List (List ThreadId)

@@ -9,7 +9,7 @@ use std::alloc::Global;
 use velo_events::growth::reserve;
 use velo_events::{Memory, ThreadId};
 use velo_schedules::count_all;
-use velo_turns::MOST_TURNS;
+use velo_turns::MAX_TURNS;
 use velo_workload::Workload;
 
 /// How many turns are drawn for a run: so many that each event has a turn on the average, even if all threads but one have to
@@ -20,7 +20,7 @@ pub(crate) fn turns_for(workload: &Workload) -> usize
     let threads = u64::from(workload.bounds().threads);
     count_all(workload)
         .saturating_mul(threads)
-        .min(MOST_TURNS as u64) as usize
+        .min(MAX_TURNS as u64) as usize
 }
 
 /// A thread, each as likely as any other; none for the few numbers that would favour some.

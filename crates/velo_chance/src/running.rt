@@ -84,7 +84,7 @@ pub fn try_all(
 ///
 /// Each turn of a schedule is any thread's, all alike. A thread that can't act in its turn passes, so among those that can
 /// act each is as likely as any other. A schedule has as many turns as the bodies have events, times the threads, and at
-/// most [`MOST_TURNS`](velo_turns::MOST_TURNS). The schedules are those that xoshiro256++ draws from the seed.
+/// most [`MAX_TURNS`](velo_turns::MAX_TURNS). The schedules are those that xoshiro256++ draws from the seed.
 ///
 /// What is shown was replayed, and each count is of runs that were replayed. Where nothing is shown, none of these runs shows
 /// it: of other schedules nothing is said.

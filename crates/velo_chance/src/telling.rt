@@ -11,7 +11,7 @@ use crate::tally::Tally;
 use std::alloc::Global;
 use velo_events::{Config, Memory, ThreadId};
 use velo_schedules::RefusedRun;
-use velo_shrink::{Goal, MOST_TRIES, shrink};
+use velo_shrink::{Goal, MAX_TRIES, shrink};
 use velo_workload::Workload;
 
 /// A simple schedule that shows the same, if there is one.
@@ -32,7 +32,7 @@ fn simple_schedule(
 {
     match found {
         Some(schedule) => {
-            let simple = shrink(alloc, workload, goal, schedule, MOST_TRIES, config)?;
+            let simple = shrink(alloc, workload, goal, schedule, MAX_TRIES, config)?;
             Ok(Some(simple))
         }
         None => Ok(None),
@@ -62,7 +62,7 @@ fn simple_refusal(
                 refusal,
             } = run;
             let goal = Goal::Refused(thread, refusal);
-            let schedule = shrink(alloc, workload, goal, schedule, MOST_TRIES, config)?;
+            let schedule = shrink(alloc, workload, goal, schedule, MAX_TRIES, config)?;
             Ok(Some(RefusedRun {
                 schedule,
                 thread,

@@ -13,8 +13,8 @@ use Rattle.clap.specs.Kinds.{values_kinds}
 use Rattle.clap.specs.Values.{reading_of}
 use Rattle.clap.specs.Faults.{built_fault, defaults_fault, entered_fault, fault_of, level_fault, settle_fault, values_fault, walk_fault}
 use Rattle.clap.specs.declared.parser.matches.ValueSource.{ValueSource}
-use Rattle.velo_events.specs.declared.limits.TheConstants.{MOST_EVENTS, MOST_NODES}
-use Rattle.velo_program.specs.declared.request.TheConstants.{MOST_RUNS, MOST_STATES}
+use Rattle.velo_events.specs.declared.limits.TheConstants.{MAX_EVENTS, MAX_NODES}
+use Rattle.velo_program.specs.declared.request.TheConstants.{MAX_RUNS, MAX_STATES}
 use Rattle.velo_command.specs.CommandLine.{audit, carry, check, command_line, events, explain, explore, flag, needed, nodes, random, repeated, replay, run, seed, states, valued, watch, word}
 use Rattle.velo_command.proofs.OnWalk.{Each, found_has, level_keeps, neither}
 use Rattle.velo_command.proofs.OnStop.{StopsNotAtHelp, walk_stops}
@@ -118,24 +118,24 @@ limits = filled (events (codes "1048576")) ∷ filled (nodes (codes "1024")) ∷
 
 -- those of a graph are read
 abbrev pub HasLimits : List Row → Type 0
-HasLimits rows = HasLimit (codes "events") MOST_EVENTS rows × HasLimit (codes "nodes") MOST_NODES rows
+HasLimits rows = HasLimit (codes "events") MAX_EVENTS rows × HasLimit (codes "nodes") MAX_NODES rows
 
 word_there : (id : Text) (rows : List Row) → Each (Passes limits) rows → is_given id rows ≡ true → HasWord id rows
 word_there id rows passes given = word_read (Passes limits) id rows (λ r holds. holds.0) (row_given (Passes limits) id rows passes given)
 
 limits_there : (rows : List Row) → Each (Passes limits) rows → has_row (codes "events") rows ≡ true → has_row (codes "nodes") rows ≡ true → HasLimits rows
 limits_there rows passes events_there nodes_there = (
-  limit_read (Passes limits) (filled (events (codes "1048576"))) MOST_EVENTS rows (λ r holds. (holds.0, holds.1.0)) refl (row_there (Passes limits) (codes "events") rows passes events_there),
-  limit_read (Passes limits) (filled (nodes (codes "1024"))) MOST_NODES rows (λ r holds. (holds.0, holds.1.1.0)) refl (row_there (Passes limits) (codes "nodes") rows passes nodes_there),
+  limit_read (Passes limits) (filled (events (codes "1048576"))) MAX_EVENTS rows (λ r holds. (holds.0, holds.1.0)) refl (row_there (Passes limits) (codes "events") rows passes events_there),
+  limit_read (Passes limits) (filled (nodes (codes "1024"))) MAX_NODES rows (λ r holds. (holds.0, holds.1.1.0)) refl (row_there (Passes limits) (codes "nodes") rows passes nodes_there),
 )
 
-states_there : (rows : List Row) → Each (Passes limits) rows → has_row (codes "states") rows ≡ true → HasLimit (codes "states") MOST_STATES rows
+states_there : (rows : List Row) → Each (Passes limits) rows → has_row (codes "states") rows ≡ true → HasLimit (codes "states") MAX_STATES rows
 states_there rows passes there =
-    limit_read (Passes limits) (filled states) MOST_STATES rows (λ r holds. (holds.0, holds.1.1.1.0)) refl (row_there (Passes limits) (codes "states") rows passes there)
+    limit_read (Passes limits) (filled states) MAX_STATES rows (λ r holds. (holds.0, holds.1.1.1.0)) refl (row_there (Passes limits) (codes "states") rows passes there)
 
 -- so many runs may be asked for, and a seed given
-runs_there : (rows : List Row) → Each (Passes limits) rows → MayHave (codes "random") rows (HasLimit (codes "random") MOST_RUNS rows)
-runs_there rows passes = may_have (Passes limits) (codes "random") rows _ passes (limit_read (Passes limits) (filled random) MOST_RUNS rows (λ r holds. (holds.0, holds.1.1.1.1.0)) refl)
+runs_there : (rows : List Row) → Each (Passes limits) rows → MayHave (codes "random") rows (HasLimit (codes "random") MAX_RUNS rows)
+runs_there rows passes = may_have (Passes limits) (codes "random") rows _ passes (limit_read (Passes limits) (filled random) MAX_RUNS rows (λ r holds. (holds.0, holds.1.1.1.1.0)) refl)
 
 seed_there : (rows : List Row) → Each (Passes limits) rows → MayHave (codes "seed") rows (HasWide (codes "seed") rows)
 seed_there rows passes = may_have (Passes limits) (codes "seed") rows _ passes (wide_read (Passes limits) (filled seed) rows (λ r holds. (holds.0, holds.1.1.1.1.1.0)) refl)
@@ -233,8 +233,8 @@ carry_right words e =
 -- what an exploration has besides its word
 abbrev pub HasSearch : List Row → Type 0
 HasSearch rows =
-    HasLimit (codes "states") MOST_STATES rows × HasLimits rows
-    × MayHave (codes "random") rows (HasLimit (codes "random") MOST_RUNS rows) × MayHave (codes "seed") rows (HasWide (codes "seed") rows)
+    HasLimit (codes "states") MAX_STATES rows × HasLimits rows
+    × MayHave (codes "random") rows (HasLimit (codes "random") MAX_RUNS rows) × MayHave (codes "seed") rows (HasWide (codes "seed") rows)
 
 explore_right : (words : List Text) → level_fault (leaf explore) [] nothing_held words false [] ≡ []
     → HasWord (codes "FILE") (rows_of_leaf explore words) × HasSearch (rows_of_leaf explore words)

@@ -4,7 +4,7 @@ use Rattle.clap.specs.Words.{App, HasMatchesOf, IsAmong, Text, fault_of, is_simp
 use Rattle.clap.specs.declared.error.kind.ErrorKind.{ErrorKind}
 use Rattle.clap.specs.declared.error.kind.ErrorKind.TheVariants.{OutOfMemory}
 use Rattle.clap.specs.declared.parser.matches.ArgMatches.{ArgMatches}
-use Rattle.velo_program.specs.Disk.{Store}
+use Rattle.velo_delivery.specs.Disk.{Store}
 use Rattle.velo_command.specs.Asked.{Asked, AsksForNothing}
 use Rattle.velo_command.specs.CommandLine.{asked_by, command_line, faults_of}
 use Rattle.velo_command.specs.Running.{Answers, Runs}

@@ -7,8 +7,8 @@ use Rattle.clap.specs.declared.builder.arg.Arg.{Arg}
 use Rattle.clap.specs.declared.builder.command.Command.{Command}
 use Rattle.clap.specs.declared.builder.command.Command.TheViews.{out-Command}
 use Rattle.clap.specs.declared.builder.value_parser.ValueParser.TheVariants.{Signed, Unsigned}
-use Rattle.velo_events.specs.declared.limits.TheConstants.{MOST_EVENTS, MOST_NODES}
-use Rattle.velo_program.specs.declared.request.TheConstants.{MOST_RUNS, MOST_STATES}
+use Rattle.velo_events.specs.declared.limits.TheConstants.{MAX_EVENTS, MAX_NODES}
+use Rattle.velo_program.specs.declared.request.TheConstants.{MAX_RUNS, MAX_STATES}
 
 -- ---- the arguments
 
@@ -35,27 +35,27 @@ flag name = record (new_rule name) { long = Some name; action = Some SetTrue }
 -- the most events of a log, so many by default
 abbrev pub events : Text → Rule
 events default = record (valued (codes "events")) {
-  parser = Some (Signed (pos 1) (pos MOST_EVENTS));
+  parser = Some (Signed (pos 1) (pos MAX_EVENTS));
   defaults = default ∷ [];
 }
 
 -- the most nodes of a graph, so many by default
 abbrev pub nodes : Text → Rule
 nodes default = record (valued (codes "nodes")) {
-  parser = Some (Signed (pos 1) (pos MOST_NODES));
+  parser = Some (Signed (pos 1) (pos MAX_NODES));
   defaults = default ∷ [];
 }
 
 -- the most states of a search
 abbrev pub states : Rule
 states = record (valued (codes "states")) {
-  parser = Some (Signed (pos 1) (pos MOST_STATES));
+  parser = Some (Signed (pos 1) (pos MAX_STATES));
   defaults = codes "2097152" ∷ [];
 }
 
 -- how many runs by chance, where they are asked for
 abbrev pub random : Rule
-random = record (valued (codes "random")) { parser = Some (Signed (pos 1) (pos MOST_RUNS)) }
+random = record (valued (codes "random")) { parser = Some (Signed (pos 1) (pos MAX_RUNS)) }
 
 -- the seed of runs by chance, which 64 bits hold
 abbrev pub seed : Rule

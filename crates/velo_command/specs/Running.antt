@@ -3,7 +3,7 @@ use Rattle.std.specs.Prelude.{◌≡◌, ◌⊎◌, ℕ, List, [], Some, None}
 use Rattle.clap.specs.Words.{IsAmong, Text}
 use Rattle.clap.specs.declared.error.kind.ErrorKind.{ErrorKind}
 use Rattle.velo_program.specs.Causes.{AnswersWithCause}
-use Rattle.velo_program.specs.Disk.{Store}
+use Rattle.velo_delivery.specs.Disk.{Store}
 use Rattle.velo_program.specs.Fate.{Closes, Ends}
 use Rattle.velo_program.specs.Program.{Does}
 use Rattle.velo_program.specs.declared.fate.Fate.{Fate}

@@ -5,7 +5,7 @@ use Rattle.clap.specs.declared.error.kind.ErrorKind.TheVariants.{DisplayHelp, Di
 use Rattle.velo_events.specs.Refusals.{GrowthRefused}
 use Rattle.velo_program.specs.Fate.{Closes, Ends}
 use Rattle.velo_program.specs.declared.fate.Fate.TheVariants.{Memory, WriteFailed}
-use Rattle.velo_program.specs.Writing.{BreaksOff, Writes, Writing}
+use Rattle.velo_delivery.specs.Writing.{BreaksOff, Writes, Writing}
 
 -- the status where the words are at fault
 abbrev pub bad_usage : ℕ

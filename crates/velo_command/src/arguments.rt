@@ -7,14 +7,14 @@ use crate::growth::{with_argument, with_subcommand};
 use crate::help;
 use clap::{Arg, ArgAction, Command, value_parser};
 use std::alloc::Global;
-use velo_events::{MOST_EVENTS, MOST_NODES, Memory};
-use velo_program::{MOST_RUNS, MOST_STATES};
+use velo_events::{MAX_EVENTS, MAX_NODES, Memory};
+use velo_program::{MAX_RUNS, MAX_STATES};
 
 /// The command line of the program, as [`run`](crate::run) reads its words: the subcommands `check`, `replay`, `run`,
 /// `explain`, `carry`, `explore`, `watch` and `audit`, each with its operand and its options. A word of no subcommand, or a
-/// limit out of its range, is a fault of usage: `--events` is 1 to [`MOST_EVENTS`], and 1,048,576 where it is not given;
-/// `--nodes` is 1 to [`MOST_NODES`], and 1,024; for `audit` both are the greatest where they are not given. `--states` is 1 to
-/// [`MOST_STATES`], and 2,097,152. `--random` is 1 to [`MOST_RUNS`], and `--seed` is what 64 bits hold.
+/// limit out of its range, is a fault of usage: `--events` is 1 to [`MAX_EVENTS`], and 1,048,576 where it is not given;
+/// `--nodes` is 1 to [`MAX_NODES`], and 1,024; for `audit` both are the greatest where they are not given. `--states` is 1 to
+/// [`MAX_STATES`], and 2,097,152. `--random` is 1 to [`MAX_RUNS`], and `--seed` is what 64 bits hold.
 ///
 /// # Errors
 /// `Memory` where a growth was refused.
@@ -268,7 +268,7 @@ fn random<'a>(alloc: Global) -> Arg<'a>
         .long("random")
         .value_name("N")
         .help("Make so many runs by chance in place of the search, 1 to 1000000")
-        .value_parser(value_parser!(u32).range(1..=i64::from(MOST_RUNS)))
+        .value_parser(value_parser!(u32).range(1..=i64::from(MAX_RUNS)))
 }
 
 /// The seed of the runs by chance.
@@ -411,7 +411,7 @@ fn events_argument<'a>(alloc: Global, default: &'a str) -> Arg<'a>
         .long("events")
         .value_name("N")
         .help("The most events that the log may have, 1 to 16777216")
-        .value_parser(value_parser!(u32).range(1..=i64::from(MOST_EVENTS)))
+        .value_parser(value_parser!(u32).range(1..=i64::from(MAX_EVENTS)))
         .default_value(default)
 }
 
@@ -423,7 +423,7 @@ fn nodes_argument<'a>(alloc: Global, default: &'a str) -> Arg<'a>
         .long("nodes")
         .value_name("N")
         .help("The most nodes that the graph may have at one time, 1 to 4096")
-        .value_parser(value_parser!(u16).range(1..=i64::from(MOST_NODES)))
+        .value_parser(value_parser!(u16).range(1..=i64::from(MAX_NODES)))
         .default_value(default)
 }
 
@@ -435,6 +435,6 @@ fn states_argument<'a>(alloc: Global) -> Arg<'a>
         .long("states")
         .value_name("N")
         .help("The most states that the search may look at, 1 to 16777216")
-        .value_parser(value_parser!(u32).range(1..=i64::from(MOST_STATES)))
+        .value_parser(value_parser!(u32).range(1..=i64::from(MAX_STATES)))
         .default_value("2097152")
 }

@@ -2,9 +2,9 @@
 ghost use Rattle.std.specs.Prelude.{◌≡◌, map};
 ghost use Rattle.std.specs.declared.io.ErrorKind.TheVariants.{InvalidData};
 ghost use Rattle.clap.specs.Words.{subcommand_rows_of};
-ghost use Rattle.velo_program.specs.Disk.{store};
+ghost use Rattle.velo_delivery.specs.Disk.{store};
 ghost use Rattle.velo_program.specs.Fate.{Closes, Ends};
-ghost use Rattle.velo_program.specs.Writing.{writing};
+ghost use Rattle.velo_delivery.specs.Writing.{writing};
 ghost use Rattle.velo_program.specs.declared.fate.Fate.TheVariants as fate;
 ghost use Rattle.velo_command.specs.Asked.{AsksForNothing};
 ghost use Rattle.velo_command.specs.Running.{Answers, Runs};

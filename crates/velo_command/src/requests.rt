@@ -10,15 +10,15 @@ ghost use Rattle.velo_program.specs.declared.request.ExploreOptions.{ExploreOpti
 ghost use Rattle.velo_program.specs.declared.request.RandomRuns.{RandomRuns};
 ghost use Rattle.velo_program.specs.declared.request.ReplayOptions.{ReplayOptions};
 ghost use Rattle.velo_program.specs.declared.request.RunOptions.{RunOptions};
-ghost use Rattle.velo_program.specs.declared.request.TheConstants.{MOST_STATES};
+ghost use Rattle.velo_program.specs.declared.request.TheConstants.{MAX_STATES};
 ghost use Rattle.velo_program.specs.declared.request.WatchOptions.{WatchOptions};
 ghost use Rattle.velo_command.specs.Asked.{AreLimits, AreRandomRuns, AreTurns, AsksFor, AsksForNothing, IsAudit, IsCarrying, IsCheck, IsExplanation, IsExploring, IsReplay, IsRun, IsSchedule, IsSeed, IsWatch, WritesNumber};
 
 use clap::ArgMatches;
-use velo_events::{MOST_EVENTS, MOST_NODES};
+use velo_events::{MAX_EVENTS, MAX_NODES};
 use velo_program::{
     AuditOptions, CarryOptions, CheckOptions, DEFAULT_SEED, ExplainOptions, ExploreOptions, Limits,
-    MOST_RUNS, MOST_STATES, RandomRuns, ReplayOptions, Request, RunOptions, ScheduleSource,
+    MAX_RUNS, MAX_STATES, RandomRuns, ReplayOptions, Request, RunOptions, ScheduleSource,
     WatchOptions,
 };
 
@@ -30,7 +30,7 @@ fn limits_of<'a>(found: &ArgMatches<'a>) -> Option<Limits>
 {
     let events = found.get_one::<u32>("events")?;
     let nodes = found.get_one::<u16>("nodes")?;
-    if events < 1 || events > MOST_EVENTS || nodes < 1 || nodes > MOST_NODES {
+    if events < 1 || events > MAX_EVENTS || nodes < 1 || nodes > MAX_NODES {
         return None;
     }
     Some(Limits { events, nodes })
@@ -121,13 +121,13 @@ fn carry_options<'a>(found: &ArgMatches<'a>) -> Option<CarryOptions<'a>>
 
 /// Reads the most states of a search; none where it is out of its range.
 fn states_of(found: &ArgMatches) -> Option<u32>
-    ensures some { IfSome result (λ states. (1 ≤ states) × (states ≤ MOST_STATES)
+    ensures some { IfSome result (λ states. (1 ≤ states) × (states ≤ MAX_STATES)
         × WritesNumber 32 (one_of (codes "states") (rows_of (found_of found.now))) states) }
-    ensures none { IfNone result ((states : ℕ) → 1 ≤ states → states ≤ MOST_STATES
+    ensures none { IfNone result ((states : ℕ) → 1 ≤ states → states ≤ MAX_STATES
         → ¬ WritesNumber 32 (one_of (codes "states") (rows_of (found_of found.now))) states) }
 {
     let states = found.get_one::<u32>("states")?;
-    if states < 1 || states > MOST_STATES {
+    if states < 1 || states > MAX_STATES {
         return None;
     }
     Some(states)
@@ -153,7 +153,7 @@ fn random_of(found: &ArgMatches) -> Option<RandomRuns>
 {
     let runs = found.get_one::<u32>("random")?;
     let seed = seed_of(found)?;
-    if runs < 1 || runs > MOST_RUNS {
+    if runs < 1 || runs > MAX_RUNS {
         return None;
     }
     Some(RandomRuns { runs, seed })

@@ -5,7 +5,7 @@ ghost use Rattle.std.specs.Str.{bytes_eq};
 ghost use Rattle.clap.specs.Takes.{is_given};
 ghost use Rattle.clap.specs.Words.{found_of, rows_of, subcommand_rows_of};
 ghost use Rattle.velo_program.specs.Fate.{Closes};
-ghost use Rattle.velo_program.specs.Writing.{writing};
+ghost use Rattle.velo_delivery.specs.Writing.{writing};
 ghost use Rattle.velo_command.specs.Together.{clash_of, clash_of_chance, clash_of_inputs, clash_of_replay, clash_of_schedule, clash_of_search, clash_of_targets, given_by, line_of_clash, path_if, schedule_path_if};
 ghost use Rattle.velo_command.specs.Usage.{bad_usage};
 

@@ -2,7 +2,7 @@
 use Rattle.std.specs.Prelude.{ℕ, suc, Bool, ◌&&◌, ◌||◌, ◌==◌, List, [], ◌∷◌, Option, Some, None, map, option_map, if◌then◌else◌}
 use Rattle.std.specs.List.{range_with_len}
 use Rattle.std.specs.Option.{option_or}
-use Rattle.velo_events.specs.declared.limits.TheConstants.{MOST_THREADS}
+use Rattle.velo_events.specs.declared.limits.TheConstants.{MAX_THREADS}
 use Rattle.velo_events.specs.declared.event.Event.{Event}
 use Rattle.velo_events.specs.declared.event.Access.{Access}
 use Rattle.velo_events.specs.declared.event.Access.TheVariants.{Shared, Exclusive}
@@ -18,7 +18,7 @@ pub data Place : Type 0 where
 
 -- the numbers that threads can have
 unfoldable pub thread_numbers : List ℕ
-thread_numbers = range_with_len 0 MOST_THREADS
+thread_numbers = range_with_len 0 MAX_THREADS
 
 -- what is looked up beside the last event of the own thread
 abbrev pub also_looked_up : Access → List Place

@@ -3,7 +3,7 @@ ghost use Rattle.velo_events.specs.Event.{access_of, value_read};
 ghost use Rattle.velo_events.specs.Meaning.{action_of, is_live, is_unborn};
 ghost use Rattle.velo_events.specs.Conflict.{conflict};
 
-/// The number of a thread. A run has at most [`MOST_THREADS`](crate::MOST_THREADS); thread 0 is there from the start.
+/// The number of a thread. A run has at most [`MAX_THREADS`](crate::MAX_THREADS); thread 0 is there from the start.
 #[derive(Clone, Copy, Debug, PartialEq, Eq, PartialOrd, Ord, Hash)]
 pub struct ThreadId(pub u8);
 
@@ -11,7 +11,7 @@ pub struct ThreadId(pub u8);
 #[derive(Clone, Copy, Debug, PartialEq, Eq, PartialOrd, Ord, Hash)]
 pub struct VarId(pub u16);
 
-/// The number of a lock. A run has at most [`MOST_LOCKS`](crate::MOST_LOCKS); all are free at the start, and none is
+/// The number of a lock. A run has at most [`MAX_LOCKS`](crate::MAX_LOCKS); all are free at the start, and none is
 /// re-entrant.
 #[derive(Clone, Copy, Debug, PartialEq, Eq, PartialOrd, Ord, Hash)]
 pub struct LockId(pub u16);

@@ -18,7 +18,7 @@ pub use config::{BadConfig, Bounds, Config};
 pub use event::{
     Access, Action, Cell, Event, Kind, Label, LockId, Status, ThreadId, VarId, conflicts,
 };
-pub use limits::{MOST_EVENTS, MOST_LOCKS, MOST_NODES, MOST_OPEN_BLOCKS, MOST_THREADS};
+pub use limits::{MAX_EVENTS, MAX_LOCKS, MAX_NODES, MAX_OPEN_BLOCKS, MAX_THREADS};
 pub use memory::Memory;
 pub use refusal::Refusal;
 pub use resolved::Resolved;

@@ -33,7 +33,7 @@ pub enum Refusal {
     /// An end where the thread has no open block.
     #[error("no open block")]
     NoOpenBlock = 9,
-    /// A begin where the thread has [`MOST_OPEN_BLOCKS`](crate::MOST_OPEN_BLOCKS) open blocks.
+    /// A begin where the thread has [`MAX_OPEN_BLOCKS`](crate::MAX_OPEN_BLOCKS) open blocks.
     #[error("blocks too deep")]
     TooDeep = 10,
     /// A fork of thread 0, or of a thread that was forked before.

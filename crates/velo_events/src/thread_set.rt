@@ -1,9 +1,9 @@
 ghost use Rattle.std.specs.Prelude.{◌≡◌, ◌<◌, ◌==◌, ◌&&◌, ◌||◌, ℕ, not, IfNone, IfSome, IsTrue, IsFalse};
-ghost use Rattle.velo_events.specs.declared.limits.TheConstants.{MOST_THREADS};
+ghost use Rattle.velo_events.specs.declared.limits.TheConstants.{MAX_THREADS};
 ghost use Rattle.velo_events.specs.ThreadSets.{has_thread, has_none, no_threads, with_thread, without_thread};
 
 use crate::event::ThreadId;
-use crate::limits::MOST_THREADS;
+use crate::limits::MAX_THREADS;
 
 /// A set of threads, as one bit for each.
 #[derive(Clone, Copy, Debug, PartialEq, Eq, Hash)]
@@ -28,12 +28,12 @@ impl ThreadSet {
     pub fn has(self, thread: ThreadId) -> bool
         ensures { result ≡ has_thread self thread.0 }
     {
-        thread.0 < MOST_THREADS && (self.0 >> thread.0) & 1 == 1
+        thread.0 < MAX_THREADS && (self.0 >> thread.0) & 1 == 1
     }
 
     /// The set with the thread.
     pub fn with(self, thread: ThreadId) -> ThreadSet
-        requires { thread.0 < MOST_THREADS }
+        requires { thread.0 < MAX_THREADS }
         ensures set { result ≡ with_thread thread self }
         ensures members { (u : ℕ) → has_thread result u ≡ (thread.0 == u || has_thread self u) }
     {
@@ -42,7 +42,7 @@ impl ThreadSet {
 
     /// The set without the thread.
     pub fn without(self, thread: ThreadId) -> ThreadSet
-        requires { thread.0 < MOST_THREADS }
+        requires { thread.0 < MAX_THREADS }
         ensures set { result ≡ without_thread thread self }
         ensures members { (u : ℕ) →
             has_thread result u ≡ (not (thread.0 == u) && has_thread self u) }
@@ -67,7 +67,7 @@ impl ThreadSet {
     /// The least member.
     pub fn first(self) -> Option<ThreadId>
         ensures none { IfNone result ((u : ℕ) → IsFalse (has_thread self u)) }
-        ensures few { IfSome result (λ t. t.0 < MOST_THREADS) }
+        ensures few { IfSome result (λ t. t.0 < MAX_THREADS) }
         ensures member { IfSome result (λ t. IsTrue (has_thread self t.0)) }
         ensures least { IfSome result (λ t. (u : ℕ) → u < t.0 → IsFalse (has_thread self u)) }
     {

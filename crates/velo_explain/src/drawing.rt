@@ -1,6 +1,6 @@
 //! A cycle as a picture for Graphviz.
 ghost use Rattle.std.specs.Prelude.{◌≡◌, ◌≤◌, ◌<◌, ◌++◌, length, IfOk, OnOk};
-ghost use Rattle.velo_events.specs.declared.limits.TheConstants.{MOST_EVENTS};
+ghost use Rattle.velo_events.specs.declared.limits.TheConstants.{MAX_EVENTS};
 ghost use Rattle.velo_explain.specs.Evidence.{AreSpansWithin, AreEdgesWithin, IsWithin};
 ghost use Rattle.velo_explain.specs.Picture.{start_text, box_text, arrow_text, end_text, named_picture_text};
 ghost use Rattle.velo_explain.specs.Text.{numbered};
@@ -43,7 +43,7 @@ fn add_box(
 ) -> Result<(), Memory>
     requires first { span.first < length events.now }
     requires last { span.last < length events.now }
-    requires few { length events.now ≤ MOST_EVENTS }
+    requires few { length events.now ≤ MAX_EVENTS }
     requires place { k < usize.MAX }
     ensures { OnOk result (page.new ≡ page.old ++ box_text names.now events.now k span) }
 {
@@ -73,7 +73,7 @@ fn add_box(
 /// Adds the boxes of the transactions.
 fn add_boxes(page: &mut Page, names: &Names, events: &[Event], spans: &[Span]) -> Result<(), Memory>
     requires within { AreSpansWithin (length events.now) spans.now }
-    requires few { length events.now ≤ MOST_EVENTS }
+    requires few { length events.now ≤ MAX_EVENTS }
     ensures { OnOk result (page.new ≡ page.old ++ numbered (box_text names.now events.now) 0 spans.now) }
 {
     for k in 0..spans.len() {
@@ -94,7 +94,7 @@ fn add_arrow(
 ) -> Result<(), Memory>
     requires from { edge.from < length events.now }
     requires to { edge.to < length events.now }
-    requires few { length events.now ≤ MOST_EVENTS }
+    requires few { length events.now ≤ MAX_EVENTS }
     requires place { k < count }
     ensures { OnOk result (page.new ≡ page.old ++ arrow_text names.now events.now count k edge) }
 {
@@ -126,7 +126,7 @@ fn add_arrows(
     edges: &[EdgeEvents],
 ) -> Result<(), Memory>
     requires within { AreEdgesWithin (length events.now) edges.now }
-    requires few { length events.now ≤ MOST_EVENTS }
+    requires few { length events.now ≤ MAX_EVENTS }
     ensures { OnOk result (page.new ≡ page.old ++ numbered (arrow_text names.now events.now (length edges.now)) 0 edges.now) }
 {
     for k in 0..edges.len() {
@@ -147,7 +147,7 @@ pub(crate) fn picture_of(
     evidence: &Evidence,
 ) -> Result<Page, Memory>
     requires within { IsWithin (length events.now) position evidence.now }
-    requires few { length events.now ≤ MOST_EVENTS }
+    requires few { length events.now ≤ MAX_EVENTS }
     ensures { IfOk result (λ page. page ≡ named_picture_text names.now events.now evidence.now) }
 {
     let mut page = Page::new(alloc);

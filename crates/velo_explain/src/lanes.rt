@@ -1,6 +1,6 @@
 //! A cycle as a picture in text: a lane for each thread, a row for each event that is shown.
 ghost use Rattle.std.specs.Prelude.{◌≡◌, ◌≤◌, ◌<◌, ◌++◌, length, map, get_or, IfOk, OnOk};
-ghost use Rattle.velo_events.specs.declared.limits.TheConstants.{MOST_EVENTS};
+ghost use Rattle.velo_events.specs.declared.limits.TheConstants.{MAX_EVENTS};
 ghost use Rattle.velo_explain.specs.Lanes.{lanes_of, lane_text, left_text, heading_cell, lanes_heading, actor_at, indent, row_text, lines_before, between_text, step_text, rows_text, shown_text, marked_text, AreBelow};
 ghost use Rattle.velo_explain.specs.Pieces.{numbered};
 
@@ -142,7 +142,7 @@ fn add_row(
     position: usize,
 ) -> Result<(), Memory>
     requires within { position < length events.now }
-    requires few { length events.now ≤ MOST_EVENTS }
+    requires few { length events.now ≤ MAX_EVENTS }
     ensures { OnOk result (page.new ≡ page.old ++ row_text names.now events.now lanes.now position) }
 {
     let event = events[position];
@@ -161,7 +161,7 @@ fn add_row(
 /// How many lines lie between a position and the one before it.
 fn lines_before(shown: &[usize], k: usize) -> usize
     requires place { k < length shown.now }
-    requires few { AreBelow MOST_EVENTS shown.now }
+    requires few { AreBelow MAX_EVENTS shown.now }
     ensures { result ≡ lines_before shown.now k }
 {
     if k == 0 {
@@ -200,7 +200,7 @@ fn add_step(
 ) -> Result<(), Memory>
     requires place { k < length shown.now }
     requires within { AreBelow (length events.now) shown.now }
-    requires few { length events.now ≤ MOST_EVENTS }
+    requires few { length events.now ≤ MAX_EVENTS }
     ensures { OnOk result (page.new ≡ page.old ++ step_text names.now events.now lanes.now shown.now k (get_or shown.now k 0)) }
 {
     add_between(page, lines_before(shown, k))?;
@@ -217,7 +217,7 @@ fn add_steps(
     shown: &[usize],
 ) -> Result<(), Memory>
     requires within { AreBelow (length events.now) shown.now }
-    requires few { length events.now ≤ MOST_EVENTS }
+    requires few { length events.now ≤ MAX_EVENTS }
     ensures { OnOk result (page.new ≡ page.old ++ numbered (step_text names.now events.now lanes.now shown.now) 0 shown.now) }
 {
     for k in 0..shown.len() {
@@ -240,7 +240,7 @@ pub(crate) fn add_rows(
 ) -> Result<(), Memory>
     requires threads { AreBelow 256 lanes.now }
     requires within { AreBelow (length events.now) shown.now }
-    requires few { length events.now ≤ MOST_EVENTS }
+    requires few { length events.now ≤ MAX_EVENTS }
     ensures { OnOk result (page.new ≡ page.old ++ rows_text names.now events.now lanes.now shown.now) }
 {
     add_heading(page, alloc, names, lanes)?;

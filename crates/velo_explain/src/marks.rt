@@ -1,7 +1,7 @@
 //! Which events a picture in lanes shows.
 ghost use Rattle.std.specs.Prelude.{◌≡◌, ◌≤◌, ◌++◌, length, map, fold, IfOk, OnOk};
 ghost use Rattle.std.specs.List.{flat_map};
-ghost use Rattle.velo_events.specs.declared.limits.TheConstants.{MOST_EVENTS};
+ghost use Rattle.velo_events.specs.declared.limits.TheConstants.{MAX_EVENTS};
 ghost use Rattle.velo_explain.specs.declared.spans.Span.{Span};
 ghost use Rattle.velo_explain.specs.declared.evidence.Blame.{Blame};
 ghost use Rattle.velo_explain.specs.Lanes.{ends_of, cycle_marks, other_marks, fits, with_mark, marks_of, lanes_text, marked_text};
@@ -73,7 +73,7 @@ fn other_marks(alloc: Global, evidence: &Evidence) -> Result<Vec<usize>, Memory>
 /// Whether the picture of marked positions is at most a screen.
 #[tactic(auto, unfolding(crate::specs::Lanes::fits))]
 fn fits(alloc: Global, names: &Names, events: &[Event], marks: &[usize]) -> Result<bool, Memory>
-    requires few { length events.now ≤ MOST_EVENTS }
+    requires few { length events.now ≤ MAX_EVENTS }
     ensures { IfOk result (λ yes. yes ≡ fits names.now events.now marks.now) }
 {
     let shown = in_order(alloc, marks, events.len())?;
@@ -94,7 +94,7 @@ fn add_mark(
     marks: &mut Vec<usize>,
     position: usize,
 ) -> Result<(), Memory>
-    requires few { length events.now ≤ MOST_EVENTS }
+    requires few { length events.now ≤ MAX_EVENTS }
     ensures { OnOk result (marks.new.items ≡ with_mark names.now events.now marks.old.items position) }
 {
     let before = marks.len();
@@ -113,7 +113,7 @@ fn add_marks(
     marks: &mut Vec<usize>,
     positions: &[usize],
 ) -> Result<(), Memory>
-    requires few { length events.now ≤ MOST_EVENTS }
+    requires few { length events.now ≤ MAX_EVENTS }
     ensures { OnOk result (marks.new.items ≡ fold (with_mark names.now events.now) marks.old.items positions.now) }
 {
     for position in positions {
@@ -129,7 +129,7 @@ fn marks_of(
     events: &[Event],
     evidence: &Evidence,
 ) -> Result<Vec<usize>, Memory>
-    requires few { length events.now ≤ MOST_EVENTS }
+    requires few { length events.now ≤ MAX_EVENTS }
     ensures { IfOk result (λ marks. marks.items ≡ marks_of names.now events.now evidence.now) }
 {
     let mut marks = cycle_marks(alloc, &evidence.edges)?;
@@ -146,7 +146,7 @@ fn add_marked(
     events: &[Event],
     marks: &[usize],
 ) -> Result<(), Memory>
-    requires few { length events.now ≤ MOST_EVENTS }
+    requires few { length events.now ≤ MAX_EVENTS }
     ensures { OnOk result (page.new ≡ page.old ++ marked_text names.now events.now marks.now) }
 {
     let shown = in_order(alloc, marks, events.len())?;
@@ -165,7 +165,7 @@ pub(crate) fn add_lanes(
     events: &[Event],
     evidence: &Evidence,
 ) -> Result<(), Memory>
-    requires few { length events.now ≤ MOST_EVENTS }
+    requires few { length events.now ≤ MAX_EVENTS }
     ensures { OnOk result (page.new ≡ page.old ++ lanes_text names.now events.now evidence.now) }
 {
     let marks = marks_of(alloc, names, events, evidence)?;

@@ -1,6 +1,6 @@
 //! An explanation in words.
 ghost use Rattle.std.specs.Prelude.{◌≡◌, ◌≤◌, ◌<◌, ◌++◌, length, IfOk, OnOk};
-ghost use Rattle.velo_events.specs.declared.limits.TheConstants.{MOST_EVENTS};
+ghost use Rattle.velo_events.specs.declared.limits.TheConstants.{MAX_EVENTS};
 ghost use Rattle.velo_explain.specs.Evidence.{AreSpansWithin, AreEdgesWithin, AreBlamesWithin, IsWithin};
 ghost use Rattle.std.specs.List.{flat_map};
 ghost use Rattle.velo_explain.specs.Lanes.{lanes_text};
@@ -12,12 +12,12 @@ use crate::pieces::{Page, Piece};
 use crate::spans::Span;
 use std::alloc::Global;
 use velo_certify::EdgeEvents;
-use velo_events::{Event, MOST_EVENTS, Memory};
+use velo_events::{Event, MAX_EVENTS, Memory};
 use velo_names::{NameKind, Names};
 
 /// The number of the line on which a position stands, behind the header on line 1.
 pub fn line_of(position: usize) -> u64
-    requires { position < MOST_EVENTS }
+    requires { position < MAX_EVENTS }
     ensures { result ≡ line_of position }
 {
     position as u64 + 2
@@ -53,7 +53,7 @@ pub fn add_heading(
     count: usize,
 ) -> Result<(), Memory>
     requires within { position < length events.now }
-    requires few { length events.now ≤ MOST_EVENTS }
+    requires few { length events.now ≤ MAX_EVENTS }
     ensures { OnOk result (page.new ≡ page.old ++ heading_text names.now events.now position count) }
 {
     page.add(&[
@@ -80,7 +80,7 @@ fn add_member(
 ) -> Result<(), Memory>
     requires first { span.first < length events.now }
     requires last { span.last < length events.now }
-    requires few { length events.now ≤ MOST_EVENTS }
+    requires few { length events.now ≤ MAX_EVENTS }
     requires place { k < usize.MAX }
     ensures { OnOk result (page.new ≡ page.old ++ member_text names.now events.now k span) }
 {
@@ -111,7 +111,7 @@ pub fn add_members(
     spans: &[Span],
 ) -> Result<(), Memory>
     requires within { AreSpansWithin (length events.now) spans.now }
-    requires few { length events.now ≤ MOST_EVENTS }
+    requires few { length events.now ≤ MAX_EVENTS }
     ensures { OnOk result (page.new ≡ page.old ++ numbered (member_text names.now events.now) 0 spans.now) }
 {
     for k in 0..spans.len() {
@@ -132,7 +132,7 @@ fn add_edge(
 ) -> Result<(), Memory>
     requires from { edge.from < length events.now }
     requires to { edge.to < length events.now }
-    requires few { length events.now ≤ MOST_EVENTS }
+    requires few { length events.now ≤ MAX_EVENTS }
     requires place { k < count }
     ensures { OnOk result (page.new ≡ page.old ++ edge_text names.now events.now count k edge) }
 {
@@ -165,7 +165,7 @@ fn add_edges(
     edges: &[EdgeEvents],
 ) -> Result<(), Memory>
     requires within { AreEdgesWithin (length events.now) edges.now }
-    requires few { length events.now ≤ MOST_EVENTS }
+    requires few { length events.now ≤ MAX_EVENTS }
     ensures { OnOk result (page.new ≡ page.old ++ numbered (edge_text names.now events.now (length edges.now)) 0 edges.now) }
 {
     for k in 0..edges.len() {
@@ -186,7 +186,7 @@ fn add_blame(
     requires position { position < length events.now }
     requires first { blame.block.first < length events.now }
     requires witness { blame.witness < length events.now }
-    requires few { length events.now ≤ MOST_EVENTS }
+    requires few { length events.now ≤ MAX_EVENTS }
     ensures { OnOk result (page.new ≡ page.old ++ blame_text names.now events.now position blame) }
 {
     page.add(&[
@@ -259,7 +259,7 @@ pub fn add_reasons(
 ) -> Result<(), Memory>
     requires position { position < length events.now }
     requires within { AreBlamesWithin (length events.now) blames.now }
-    requires few { length events.now ≤ MOST_EVENTS }
+    requires few { length events.now ≤ MAX_EVENTS }
     ensures { OnOk result (page.new ≡ page.old ++ flat_map (blame_text names.now events.now position) blames.now) }
 {
     for k in 0..blames.len() {
@@ -278,7 +278,7 @@ fn add_blames(
 ) -> Result<(), Memory>
     requires position { position < length events.now }
     requires within { AreBlamesWithin (length events.now) blames.now }
-    requires few { length events.now ≤ MOST_EVENTS }
+    requires few { length events.now ≤ MAX_EVENTS }
     ensures { OnOk result (page.new ≡ page.old ++ blames_text names.now events.now position blames.now) }
 {
     if blames.is_empty() {
@@ -297,7 +297,7 @@ fn add_words(
     evidence: &Evidence,
 ) -> Result<(), Memory>
     requires within { IsWithin (length events.now) position evidence.now }
-    requires few { length events.now ≤ MOST_EVENTS }
+    requires few { length events.now ≤ MAX_EVENTS }
     ensures { OnOk result (page.new ≡ page.old ++ words_text names.now events.now position evidence.now) }
 {
     let spans = evidence.spans.as_slice();
@@ -321,7 +321,7 @@ pub(crate) fn explanation(
     evidence: &Evidence,
 ) -> Result<Page, Memory>
     requires within { IsWithin (length events.now) position evidence.now }
-    requires few { length events.now ≤ MOST_EVENTS }
+    requires few { length events.now ≤ MAX_EVENTS }
     ensures { IfOk result (λ page. page ≡ named_explanation_text names.now events.now position evidence.now) }
 {
     let mut page = Page::new(alloc);

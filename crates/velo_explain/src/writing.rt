@@ -1,7 +1,7 @@
 //! Explanations and pictures as whole texts, of a log's own trace.
 ghost use Rattle.std.specs.Prelude.{◌≡◌, ◌≤◌, length, IfOk};
 ghost use Rattle.velo_events.specs.Graph.{HasCycle};
-ghost use Rattle.velo_events.specs.declared.limits.TheConstants.{MOST_EVENTS};
+ghost use Rattle.velo_events.specs.declared.limits.TheConstants.{MAX_EVENTS};
 ghost use Rattle.velo_explain.specs.Count.{transactions_of};
 ghost use Rattle.velo_explain.specs.Evidence.{IsEvidenceAt};
 ghost use Rattle.velo_explain.specs.Picture.{picture_text, named_picture_text};
@@ -27,7 +27,7 @@ use velo_traces::Trace;
 /// transactions, and those of these blocks. A text that is too long for its lane ends in `..`.
 ///
 /// The evidence has to be as `evidence_of` gives it for the trace and the position, and the trace has at most
-/// [`MOST_EVENTS`](velo_events::MOST_EVENTS) events.
+/// [`MAX_EVENTS`](velo_events::MAX_EVENTS) events.
 ///
 /// # Errors
 /// `Memory` where a growth was refused.
@@ -37,7 +37,7 @@ pub fn explain(
     position: usize,
     evidence: &Evidence,
 ) -> Result<Page, Memory>
-    requires few { length trace.now.events ≤ MOST_EVENTS }
+    requires few { length trace.now.events ≤ MAX_EVENTS }
     requires evidence { IsEvidenceAt trace.now.events position evidence.now }
     ensures { IfOk result (λ page.
         page ≡ explanation_text trace.now.events position evidence.now) }
@@ -59,7 +59,7 @@ pub fn explain_named(
     evidence: &Evidence,
     names: &Names,
 ) -> Result<Page, Memory>
-    requires few { length trace.now.events ≤ MOST_EVENTS }
+    requires few { length trace.now.events ≤ MAX_EVENTS }
     requires evidence { IsEvidenceAt trace.now.events position evidence.now }
     ensures { IfOk result (λ page.
         page ≡ named_explanation_text names.now trace.now.events position evidence.now) }
@@ -78,7 +78,7 @@ pub fn picture(
     position: usize,
     evidence: &Evidence,
 ) -> Result<Page, Memory>
-    requires few { length trace.now.events ≤ MOST_EVENTS }
+    requires few { length trace.now.events ≤ MAX_EVENTS }
     requires evidence { IsEvidenceAt trace.now.events position evidence.now }
     ensures { IfOk result (λ page. page ≡ picture_text trace.now.events evidence.now) }
 {
@@ -99,7 +99,7 @@ pub fn picture_named(
     evidence: &Evidence,
     names: &Names,
 ) -> Result<Page, Memory>
-    requires few { length trace.now.events ≤ MOST_EVENTS }
+    requires few { length trace.now.events ≤ MAX_EVENTS }
     requires evidence { IsEvidenceAt trace.now.events position evidence.now }
     ensures { IfOk result (λ page.
         page ≡ named_picture_text names.now trace.now.events evidence.now) }

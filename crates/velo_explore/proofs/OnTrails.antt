@@ -12,7 +12,7 @@ use Rattle.velo_events.specs.declared.event.Event.{Event}
 use Rattle.velo_events.specs.declared.event.Kind.{Kind}
 use Rattle.velo_events.specs.declared.event.ThreadId.{ThreadId}
 use Rattle.velo_heap.specs.Contents.{bounds_of}
-use Rattle.velo_explore.specs.declared.schedules.TheConstants.{MOST_ALARMS}
+use Rattle.velo_explore.specs.declared.schedules.TheConstants.{MAX_ALARMS}
 use Rattle.velo_explore.specs.declared.state.State.{State}
 use Rattle.velo_explore.specs.declared.step.Step.{Step}
 use Rattle.velo_explore.specs.Runs.{IsRunOf, IsNext}
@@ -196,7 +196,7 @@ pub alarms-same : (bounds : Bounds) (scripts : List (List Kind)) (old now : Trai
 alarms-same bounds scripts old now same = record {
   lead = λ all. subst (All (LeadsTo bounds scripts Cycle)) (sym same) all;
   more = omega (arith, ap length same);
-  few = λ l. subst (λ xs. length xs ≤ MOST_ALARMS) (sym same) l;
+  few = λ l. subst (λ xs. length xs ≤ MAX_ALARMS) (sym same) l;
   none = λ first. same;
 }
 
@@ -298,7 +298,7 @@ module _ (bounds : Bounds) (scripts : List (List Kind)) where
         (cases_Bool (has_fault before fault));
     alarms = record {
       lead = subst (All (LeadsTo bounds scripts Cycle)) (sym notes.alarms) shown.alarms.lead;
-      few = subst (λ xs. length xs ≤ MOST_ALARMS) (sym notes.alarms) shown.alarms.few;
+      few = subst (λ xs. length xs ≤ MAX_ALARMS) (sym notes.alarms) shown.alarms.few;
       none = λ all. notes.alarms ∙ shown.alarms.none all;
       some = λ all there. subst (λ xs. 0 < length xs) (sym notes.alarms) (at_least_one all there (notes.turns Cycle));
     };

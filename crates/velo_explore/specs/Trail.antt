@@ -8,7 +8,7 @@ use Rattle.velo_events.specs.declared.event.ThreadId.{ThreadId}
 use Rattle.velo_heap.specs.Contents.{bounds_of}
 use Rattle.velo_explore.specs.declared.found.Found.{Found}
 use Rattle.velo_explore.specs.declared.schedules.Schedules.{Schedules}
-use Rattle.velo_explore.specs.declared.schedules.TheConstants.{MOST_ALARMS}
+use Rattle.velo_explore.specs.declared.schedules.TheConstants.{MAX_ALARMS}
 use Rattle.velo_explore.specs.declared.state.State.{State}
 use Rattle.velo_explore.specs.declared.step.Step.{Step}
 use Rattle.velo_explore.specs.declared.trail.Trail.{Trail}
@@ -50,7 +50,7 @@ alarms_of shown = map (λ v. v.items) shown.alarms.items
 -- By each of them some run comes to a cycle. With `first` there is none; else there is one where turns are kept for an alarm
 pub record LeadToCycles (bounds : Bounds) (scripts : List (List Kind)) (first : Bool) (shown : Schedules) : Type 0 where
   pub lead : All (LeadsTo bounds scripts Cycle) (alarms_of shown)
-  pub few : length (alarms_of shown) ≤ MOST_ALARMS
+  pub few : length (alarms_of shown) ≤ MAX_ALARMS
   pub none : first ≡ true → alarms_of shown ≡ []
   pub some : first ≡ false → IsTrue (is_some (turns_for shown Cycle)) → 0 < length (alarms_of shown)
 
@@ -65,7 +65,7 @@ pub record NotesAlarm (old : Trail) (place : ℕ) (now : Trail) : Type 0 where
   pub shown : (fault : Fault) → turns_for now.shown fault ≡ turns_for old.shown fault
   pub alarms : (alarms_of now.shown ≡ alarms_of old.shown)
       ⊎ ((turns : List ThreadId) × (alarms_of now.shown ≡ alarms_of old.shown ++ turns ∷ []) × IsWay old.steps.items place turns)
-  pub few : length (alarms_of old.shown) ≤ MOST_ALARMS → length (alarms_of now.shown) ≤ MOST_ALARMS
+  pub few : length (alarms_of old.shown) ≤ MAX_ALARMS → length (alarms_of now.shown) ≤ MAX_ALARMS
   pub none : old.first ≡ true → alarms_of now.shown ≡ alarms_of old.shown
   pub some : old.first ≡ false → 0 < length (alarms_of now.shown)
 
@@ -73,7 +73,7 @@ pub record NotesAlarm (old : Trail) (place : ℕ) (now : Trail) : Type 0 where
 pub record AlarmsGoOn (bounds : Bounds) (scripts : List (List Kind)) (old now : Trail) : Type 0 where
   pub lead : All (LeadsTo bounds scripts Cycle) (alarms_of old.shown) → All (LeadsTo bounds scripts Cycle) (alarms_of now.shown)
   pub more : length (alarms_of old.shown) ≤ length (alarms_of now.shown)
-  pub few : length (alarms_of old.shown) ≤ MOST_ALARMS → length (alarms_of now.shown) ≤ MOST_ALARMS
+  pub few : length (alarms_of old.shown) ≤ MAX_ALARMS → length (alarms_of now.shown) ≤ MAX_ALARMS
   pub none : old.first ≡ true → alarms_of now.shown ≡ alarms_of old.shown
 
 -- the trail shows the same, and is as long or longer

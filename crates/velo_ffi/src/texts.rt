@@ -1,6 +1,6 @@
 //! The report and the explanation of the events so far, whole or not at all.
 ghost use Rattle.std.specs.Prelude.{◌≡◌, ◌≢◌, ◌≤◌, ◌⊎◌, Ok, Err, List, None, ℕ, length, IfErr, IfOk, IfSome};
-ghost use Rattle.velo_events.specs.declared.limits.TheConstants.{MOST_EVENTS};
+ghost use Rattle.velo_events.specs.declared.limits.TheConstants.{MAX_EVENTS};
 ghost use Rattle.velo_names.specs.Names.{ReadsAs, Stands};
 ghost use Rattle.velo_world.specs.World.{IsAlarm};
 ghost use Rattle.velo_ffi.specs.Texts.{AreNamesBy, ExplainsAlarm, IsExplanation, IsExplanationBy, IsReportBy, TellsAll, TellsExplanation, TellsFault, TellsReport, WantsMemory};
@@ -148,7 +148,7 @@ pub extern "C" fn velo_report(
 /// # Errors
 /// `Memory` where a growth was refused.
 fn explain_alarm(alloc: Global, log: &Trace, alarm: &Alarm, names: &Names) -> Result<Page, Memory>
-    requires few { length log.now.events ≤ MOST_EVENTS }
+    requires few { length log.now.events ≤ MAX_EVENTS }
     requires alarm { IsAlarm log.now.events alarm.now }
     ensures { IfOk result (λ page. ExplainsAlarm names.now log.now.events page) }
 {

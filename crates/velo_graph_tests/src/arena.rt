@@ -2,7 +2,7 @@ use std::alloc::Global;
 use std::process::Abort;
 use std::test::Fail;
 use velo_arena::{Arena, GraphFull, Step};
-use velo_events::MOST_NODES;
+use velo_events::MAX_NODES;
 
 /// Opens a node with a stamp later than all others, where there is a free slot.
 fn open(rt: &impl Abort, arena: &mut Arena, stamp: u32) -> Step {
@@ -58,8 +58,8 @@ fn one_node_fills_one_slot(rt: HostRuntime) -> Result<(), Fail> {
 
 #[test]
 fn the_extent_stays_low(rt: HostRuntime) -> Result<(), Fail> {
-    let mut arena = Arena::new(rt.alloc(), MOST_NODES).expect(&rt, "memory");
-    assert_eq!(rt; (arena.limit(), arena.extent()), (MOST_NODES, 0));
+    let mut arena = Arena::new(rt.alloc(), MAX_NODES).expect(&rt, "memory");
+    assert_eq!(rt; (arena.limit(), arena.extent()), (MAX_NODES, 0));
     let step = open(&rt, &mut arena, 0);
     finish_and_free(&rt, &mut arena, step);
     assert_eq!(rt; arena.extent(), 1);

@@ -11,7 +11,7 @@ use std::alloc::Global;
 use std::process::Abort;
 use std::test::Fail;
 use velo_blame::{Clocks, Scan, blamed};
-use velo_events::{Bounds, Config, Event, Kind, Label, MOST_OPEN_BLOCKS, Memory};
+use velo_events::{Bounds, Config, Event, Kind, Label, MAX_OPEN_BLOCKS, Memory};
 use velo_traces::{Block, Trace, well_formed};
 
 /// Three threads, three variables, one lock.
@@ -97,7 +97,7 @@ fn clocks_of(rt: &impl Abort, alloc: Global, events: &[Event]) -> Result<Clocks,
 fn judge_clocks(rt: &impl Abort, alloc: Global, known: &Known) -> Result<(), Fail>
     requires { known.now.position < length known.now.events.now }
 {
-    assert!(rt; known.open.len() <= MOST_OPEN_BLOCKS);
+    assert!(rt; known.open.len() <= MAX_OPEN_BLOCKS);
     let clocks = clocks_of(rt, alloc, &known.events[..known.position])?;
     let event = known.events[known.position];
     let blocks = clocks.blamed(known.open, known.position, &event);

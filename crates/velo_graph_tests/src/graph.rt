@@ -4,7 +4,7 @@ use std::alloc::Global;
 use std::process::Abort;
 use std::test::Fail;
 use velo_arena::Step;
-use velo_events::MOST_NODES;
+use velo_events::MAX_NODES;
 use velo_graph::{Edge, Graph};
 use velo_rows::{Ancestors, BitRow, SetRow};
 
@@ -124,10 +124,10 @@ fn edges_over_bit_rows(rt: HostRuntime) -> Result<(), Fail> {
 
 #[test]
 fn the_most_nodes_find_room(rt: HostRuntime) -> Result<(), Fail> {
-    let graph = Graph::<BitRow>::new(rt.alloc(), MOST_NODES).expect(&rt, "memory");
+    let graph = Graph::<BitRow>::new(rt.alloc(), MAX_NODES).expect(&rt, "memory");
     assert_eq!(rt;
         (graph.limit(), graph.used(), graph.extent()),
-        (MOST_NODES, 0, 0)
+        (MAX_NODES, 0, 0)
     );
     Ok(())
 }

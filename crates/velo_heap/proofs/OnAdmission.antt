@@ -3,7 +3,7 @@ use Rattle.std.proofs.Common.{◌≡◌, ℕ, ◌<◌, Bool, true, false, not, L
 use Rattle.std.specs.Prelude.{◌&&◌, ◌||◌, is_some, ◌==◌, nat_lt, nat_le, if◌then◌else◌, IsTrue, IsFalse, Result, option_map, slice_get}
 use Rattle.std.proofs.lemmas.Bool.{or_parts, or_from, cases_Bool, cases_lt, lt-ltb, le-ltb, lt-leb, le-leb, eq-eqb, eqb-true, false_from_ne_true, false≢true}
 use Rattle.std.proofs.lemmas.Option.{slice_get_past, same_Some}
-use Rattle.velo_events.specs.declared.limits.TheConstants.{MOST_OPEN_BLOCKS}
+use Rattle.velo_events.specs.declared.limits.TheConstants.{MAX_OPEN_BLOCKS}
 use Rattle.velo_events.specs.declared.config.Bounds.{Bounds}
 use Rattle.velo_events.specs.declared.event.ThreadId.{ThreadId}
 use Rattle.velo_events.specs.declared.event.LockId.{LockId}
@@ -158,7 +158,7 @@ module _ (heap : Contents) (trace : List Event) (stands : IsHeapOf heap trace) w
   kind_in-refusal_of t (ReleaseShared m) = when_live t (ReleaseShared m) _ _
       (tabulated heap.locks (lock_in (length heap.threads) trace) m.0 (release_shared_at t m) (Err NoSuchLock) _ stands.locks refl (at_release_shared t m)
       ∙ sym (kind_or-if (nat_le (length heap.locks) m.0) NoSuchLock _ _))
-  kind_in-refusal_of t (Begin label) = when_live t (Begin label) _ _ (refused_if (nat_le MOST_OPEN_BLOCKS (depth_in trace t.0)) TooDeep (kind.Begin label))
+  kind_in-refusal_of t (Begin label) = when_live t (Begin label) _ _ (refused_if (nat_le MAX_OPEN_BLOCKS (depth_in trace t.0)) TooDeep (kind.Begin label))
   kind_in-refusal_of t End = when_live t End _ _ (refused_if (depth_in trace t.0 == 0) NoOpenBlock kind.End)
   kind_in-refusal_of t (Fork u) = when_live t (Fork u) _ _
       (tabulated heap.threads (standing_in trace) u.0 (fork_at u) (Err NoSuchThread) _ stands.threads refl (fork_of u (status_in trace u.0))

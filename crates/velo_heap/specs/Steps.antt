@@ -15,7 +15,7 @@ use Rattle.velo_events.specs.declared.refusal.Refusal.TheVariants.{NotLive, NoSu
 use Rattle.velo_events.specs.Event.{are_same}
 use Rattle.velo_events.specs.Meaning.{is_live}
 use Rattle.velo_events.specs.ThreadSets.{has_thread, has_none, no_threads, with_thread, without_thread}
-use Rattle.velo_events.specs.declared.limits.TheConstants.{MOST_OPEN_BLOCKS}
+use Rattle.velo_events.specs.declared.limits.TheConstants.{MAX_OPEN_BLOCKS}
 use Rattle.velo_events.specs.WellFormed.{NamesKnown}
 use Rattle.velo_heap.specs.declared.lock.Lock.{Lock}
 use Rattle.velo_heap.specs.declared.standing.Standing.{Standing}
@@ -85,7 +85,7 @@ join_at u (Some child) = join_by u child.status
 join_at u None = Err NoSuchThread
 
 abbrev pub begin_in : Standing → Label → Result Kind Refusal
-begin_in own label = if nat_le MOST_OPEN_BLOCKS own.depth then Err TooDeep else Ok (Begin label)
+begin_in own label = if nat_le MAX_OPEN_BLOCKS own.depth then Err TooDeep else Ok (Begin label)
 
 abbrev pub end_in : Standing → Result Kind Refusal
 end_in own = if own.depth == 0 then Err NoOpenBlock else Ok End
@@ -128,7 +128,7 @@ CountsFit most own (Acquire m) = own.locks < most + most
 CountsFit most own (Release m) = 0 < own.locks
 CountsFit most own (AcquireShared m) = own.locks < most + most
 CountsFit most own (ReleaseShared m) = 0 < own.locks
-CountsFit most own (Begin label) = own.depth < MOST_OPEN_BLOCKS
+CountsFit most own (Begin label) = own.depth < MAX_OPEN_BLOCKS
 CountsFit most own End = 0 < own.depth
 CountsFit most own _ = ⊤
 

@@ -1,7 +1,7 @@
 ghost use Rattle.std.specs.Prelude.{◌≡◌, ◌<◌, ◌≤◌, [], ◌∷◌, ◌++◌, ◌↔◌, List, IsTrue, IfOk, option_map, length, slice_get};
 ghost use Rattle.velo_events.specs.declared.event.Event.{Event};
 ghost use Rattle.velo_events.specs.Heap.{value_in, holder_in, shares_in, status_in, depth_in};
-ghost use Rattle.velo_events.specs.declared.limits.TheConstants.{MOST_THREADS};
+ghost use Rattle.velo_events.specs.declared.limits.TheConstants.{MAX_THREADS};
 ghost use Rattle.velo_heap.specs.Contents.{bounds_of, set_below, IsHeapOf, ForItsTraces, admission, IsAdmitted};
 ghost use Rattle.velo_events.specs.Meaning.{refusal_of, action_of, has_its_value};
 ghost use Rattle.velo_events.specs.WellFormed.{NamesKnown};
@@ -28,7 +28,7 @@ pub struct Heap {
 
 impl Model for Heap {
     ghost use Rattle.std.specs.Prelude.{◌≤◌, length};
-    ghost use Rattle.velo_events.specs.declared.limits.TheConstants.{MOST_LOCKS, MOST_THREADS};
+    ghost use Rattle.velo_events.specs.declared.limits.TheConstants.{MAX_LOCKS, MAX_THREADS};
     ghost use Rattle.velo_heap.specs.Contents.{Contents};
 
     ghost Value = { Contents };
@@ -36,7 +36,7 @@ impl Model for Heap {
     ghost view = { λ h. record { values = h.values.items; locks = h.locks.items; threads = h.threads.items } };
 
     // so few locks that the count of those that a thread holds never wraps, and a bit for each thread
-    ghost invariant = { λ h. (length h.locks.items ≤ MOST_LOCKS) × (length h.threads.items ≤ MOST_THREADS) };
+    ghost invariant = { λ h. (length h.locks.items ≤ MAX_LOCKS) × (length h.threads.items ≤ MAX_THREADS) };
 }
 
 /// The same items once more.
@@ -375,7 +375,7 @@ impl Heap {
     fn change(&mut self, event: &Event)
         requires { CanChange self.old event.now }
         ensures changed { self.new ≡ contents_after self.old event.now }
-        ensures few { length self.old.threads ≤ MOST_THREADS }
+        ensures few { length self.old.threads ≤ MAX_THREADS }
     {
         let own = usize::from(event.thread.0);
         match event.kind {

@@ -1,5 +1,5 @@
 ghost use Rattle.std.specs.Prelude.{◌≡◌, ◌<◌};
-ghost use Rattle.velo_events.specs.declared.limits.TheConstants.{MOST_THREADS};
+ghost use Rattle.velo_events.specs.declared.limits.TheConstants.{MAX_THREADS};
 ghost use Rattle.velo_events.specs.ThreadSets.{has_thread};
 ghost use Rattle.velo_heap.specs.Steps.{acquire_in, acquire_shared_in, release_in, release_shared_in, free, is_held_by, is_holder, with_holder, with_sharer, without_sharer};
 
@@ -118,7 +118,7 @@ impl Lock {
 
     /// This lock with `t` among its sharers.
     pub fn with_sharer(self, t: ThreadId) -> Lock
-        requires { t.0 < MOST_THREADS }
+        requires { t.0 < MAX_THREADS }
         ensures { result ≡ with_sharer t self }
     {
         Lock {
@@ -129,7 +129,7 @@ impl Lock {
 
     /// This lock without `t` among its sharers.
     pub fn without_sharer(self, t: ThreadId) -> Lock
-        requires { t.0 < MOST_THREADS }
+        requires { t.0 < MAX_THREADS }
         ensures { result ≡ without_sharer t self }
     {
         Lock {

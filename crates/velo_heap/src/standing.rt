@@ -1,7 +1,7 @@
 ghost use Rattle.std.specs.Prelude.{◌≡◌};
 ghost use Rattle.velo_heap.specs.Steps.{begin_in, end_in, exit_in, fork_by, join_by, unborn};
 
-use velo_events::{Kind, Label, MOST_OPEN_BLOCKS, Refusal, Status, ThreadId};
+use velo_events::{Kind, Label, MAX_OPEN_BLOCKS, Refusal, Status, ThreadId};
 
 /// How one thread stands.
 #[derive(Clone, Copy, Debug, PartialEq, Eq)]
@@ -33,7 +33,7 @@ impl Standing {
     pub fn admit_begin(self, label: Label) -> Result<Kind, Refusal>
         ensures { result ≡ begin_in self label }
     {
-        if usize::from(self.depth) >= MOST_OPEN_BLOCKS {
+        if usize::from(self.depth) >= MAX_OPEN_BLOCKS {
             Err(Refusal::TooDeep)
         } else {
             Ok(Kind::Begin(label))

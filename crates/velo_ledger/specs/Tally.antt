@@ -1,6 +1,6 @@
 -- What the events of a thread come to, one event after another.
 use Rattle.std.specs.Prelude.{ℕ, ◌+◌, ◌*◌, ◌≤◌, ◌^◌, Some, None}
-use Rattle.velo_events.specs.declared.limits.TheConstants.{MOST_EVENTS}
+use Rattle.velo_events.specs.declared.limits.TheConstants.{MAX_EVENTS}
 use Rattle.velo_events.specs.declared.event.Event.{Event}
 use Rattle.velo_events.specs.declared.event.Kind.{Kind}
 use Rattle.velo_events.specs.declared.event.Kind.TheVariants.{Read, Write}
@@ -32,6 +32,6 @@ with_event tally position e = record {
 -- no number of the tally overflows
 pub record IsSmall (tally : Tally) : Type 0 where
   pub events : tally.events ≤ tally.next
-  pub next : tally.next ≤ MOST_EVENTS
+  pub next : tally.next ≤ MAX_EVENTS
   pub read : tally.read_total ≤ tally.events * 2 ^ 64
   pub written : tally.written_total ≤ tally.events * 2 ^ 64

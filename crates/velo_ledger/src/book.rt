@@ -1,4 +1,4 @@
-ghost use Rattle.velo_events.specs.declared.limits.TheConstants.{MOST_EVENTS};
+ghost use Rattle.velo_events.specs.declared.limits.TheConstants.{MAX_EVENTS};
 ghost use Rattle.std.specs.Prelude.{◌≡◌, ◌<◌, ◌≤◌, ◌+◌, ◌↔◌, Some, IfOk, IfSome, IsTrue, length, slice_get, sum_by, option_copied};
 ghost use Rattle.std.specs.Option.{SomeIff};
 ghost use Rattle.velo_ledger.specs.Tally.{with_event};
@@ -79,13 +79,13 @@ impl Book {
 
     /// Adds an event to the row and to the share of its thread. The share has to fit and to be of the event's thread,
     /// and the position has to be behind that of the thread's last event and below
-    /// [`MOST_EVENTS`](velo_events::MOST_EVENTS).
+    /// [`MAX_EVENTS`](velo_events::MAX_EVENTS).
     #[inline]
     pub fn enter(&mut self, share: &mut Share, position: usize, event: &Event)
         requires fits { FitsBook self.old share.old }
         requires thread { event.now.thread ≡ share.old.thread }
         requires later { share.old.tally.next ≤ position }
-        requires room { position < MOST_EVENTS }
+        requires room { position < MAX_EVENTS }
         ensures book { self.new ≡ with_row self.old share.old.thread (with_event share.old.tally position event.now) }
         ensures share { share.new ≡ with_tally share.old (with_event share.old.tally position event.now) }
         ensures fit { FitsBook self.new share.new }
@@ -101,7 +101,7 @@ impl Book {
     #[inline]
     pub fn enter_at(&mut self, shares: &mut Shares, position: usize, event: &Event)
         requires there { CanEnterAt self.old shares.old position event.now }
-        requires room { position < MOST_EVENTS }
+        requires room { position < MAX_EVENTS }
         ensures entered { EntersAt self.old shares.old position event.now self.new shares.new }
     {
         let place = usize::from(event.thread.0);
@@ -113,11 +113,11 @@ impl Book {
 
     /// Adds an event to the row of its thread alone. The thread's share says what the row says only once it is settled
     /// again. The thread has to be one of the book's, and the position has to be behind that of its last event and below
-    /// [`MOST_EVENTS`](velo_events::MOST_EVENTS).
+    /// [`MAX_EVENTS`](velo_events::MAX_EVENTS).
     #[inline]
     pub fn count(&mut self, position: usize, event: &Event)
         requires there { CanCount self.old position event.now }
-        requires room { position < MOST_EVENTS }
+        requires room { position < MAX_EVENTS }
         ensures counted { CountsIn self.old position event.now self.new }
     {
         let row = &mut self.rows[usize::from(event.thread.0)];
@@ -139,7 +139,7 @@ impl Book {
     fn events_at(&self, place: usize, kept: Option<&Share>, given: Option<&Share>) -> Option<u64>
         ensures sum { SomeIff result (PlacesFit self.now place (option_copied kept.entry) (option_copied given.entry))
             (events_in (option_copied kept.entry) + events_in (option_copied given.entry)) }
-        ensures few { IfSome result (λ events. events ≤ MOST_EVENTS) }
+        ensures few { IfSome result (λ events. events ≤ MAX_EVENTS) }
     {
         match (kept, given) {
             (Some(share), None) | (None, Some(share)) if self.fits(share) => Some(

@@ -1,5 +1,5 @@
 ghost use Rattle.std.specs.Prelude.{◌≡◌, ◌<◌, ◌≤◌, ◌↔◌, IsTrue};
-ghost use Rattle.velo_events.specs.declared.limits.TheConstants.{MOST_EVENTS};
+ghost use Rattle.velo_events.specs.declared.limits.TheConstants.{MAX_EVENTS};
 
 use velo_events::{Event, Kind};
 
@@ -40,7 +40,7 @@ impl Tally {
     pub(crate) fn with(&self, position: u64, event: &Event) -> Tally
         requires small { IsSmall self.now }
         requires later { self.now.next ≤ position }
-        requires room { position < MOST_EVENTS }
+        requires room { position < MAX_EVENTS }
         ensures event { result ≡ with_event self.now position event.now }
         ensures small { IsSmall result }
     {

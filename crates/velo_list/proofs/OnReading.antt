@@ -3,7 +3,7 @@ use Rattle.std.proofs.Common.{◌≡◌, ℕ, ◌+◌, Bool, true, false, cond, 
 use Rattle.std.specs.Option.{option_map_or}
 use Rattle.std.proofs.lemmas.List.{map-append}
 use Rattle.velo_names.specs.Names.{IsText}
-use Rattle.velo_names.specs.declared.limits.TheConstants.{MOST_NAME_LINES}
+use Rattle.velo_names.specs.declared.limits.TheConstants.{MAX_NAME_LINES}
 use Rattle.velo_list.specs.declared.fault.ListFault.{ListFault}
 use Rattle.velo_list.specs.declared.fault.ListFault.TheVariants.{BadLine, TooManyLines, TooManyBytes, NotText, Memory}
 use Rattle.velo_list.specs.declared.line.Entry.{Entry as Found}
@@ -16,24 +16,24 @@ use Rattle.velo_list.specs.List.{HasFault, and_then, entries_after, entries_from
 abbrev by_tests : Bool → Option Entry → List Entry → ℕ → Result (List Entry) ListFault
 by_tests many said so_far n = cond many (Err TooManyLines) (option_map_or (λ e. Ok (so_far ++ e ∷ [])) said (Err (BadLine n)))
 
-after_is : (so_far : List Entry) (n : ℕ) (line : List ℕ) → entries_after so_far n line ≡ by_tests (nat_lt MOST_NAME_LINES n) (entry_of line) so_far n
+after_is : (so_far : List Entry) (n : ℕ) (line : List ℕ) → entries_after so_far n line ≡ by_tests (nat_lt MAX_NAME_LINES n) (entry_of line) so_far n
 unfolding entries_after
 after_is so_far n line = refl
 
-pub one_too_many : (so_far : List Entry) (n : ℕ) (line : List ℕ) → nat_lt MOST_NAME_LINES n ≡ true → entries_after so_far n line ≡ Err TooManyLines
+pub one_too_many : (so_far : List Entry) (n : ℕ) (line : List ℕ) → nat_lt MAX_NAME_LINES n ≡ true → entries_after so_far n line ≡ Err TooManyLines
 one_too_many so_far n line e = after_is so_far n line ∙ ap (λ (v : Bool). by_tests v (entry_of line) so_far n) e
 
-few : (so_far : List Entry) (n : ℕ) (line : List ℕ) → nat_lt MOST_NAME_LINES n ≡ false → entries_after so_far n line ≡ by_tests false (entry_of line) so_far n
+few : (so_far : List Entry) (n : ℕ) (line : List ℕ) → nat_lt MAX_NAME_LINES n ≡ false → entries_after so_far n line ≡ by_tests false (entry_of line) so_far n
 few so_far n line e = after_is so_far n line ∙ ap (λ (v : Bool). by_tests v (entry_of line) so_far n) e
 
-pub no_entry : (so_far : List Entry) (n : ℕ) (line : List ℕ) → nat_lt MOST_NAME_LINES n ≡ false → entry_of line ≡ None → entries_after so_far n line ≡ Err (BadLine n)
+pub no_entry : (so_far : List Entry) (n : ℕ) (line : List ℕ) → nat_lt MAX_NAME_LINES n ≡ false → entry_of line ≡ None → entries_after so_far n line ≡ Err (BadLine n)
 no_entry so_far n line e none = few so_far n line e ∙ ap (λ (o : Option Entry). by_tests false o so_far n) none
 
-pub one_entry : (so_far : List Entry) (n : ℕ) (line : List ℕ) (x : Entry) → nat_lt MOST_NAME_LINES n ≡ false → entry_of line ≡ Some x → entries_after so_far n line ≡ Ok (so_far ++ x ∷ [])
+pub one_entry : (so_far : List Entry) (n : ℕ) (line : List ℕ) (x : Entry) → nat_lt MAX_NAME_LINES n ≡ false → entry_of line ≡ Some x → entries_after so_far n line ≡ Ok (so_far ++ x ∷ [])
 one_entry so_far n line x e some = few so_far n line e ∙ ap (λ (o : Option Entry). by_tests false o so_far n) some
 
 -- one more entry is there
-pub taken : (found more : List Found) (x : Found) (n : ℕ) (line : List ℕ) → nat_lt MOST_NAME_LINES n ≡ false → entry_of line ≡ Some (entry x) → more ≡ found ++ x ∷ [] → entries_after (entries found) n line ≡ Ok (entries more)
+pub taken : (found more : List Found) (x : Found) (n : ℕ) (line : List ℕ) → nat_lt MAX_NAME_LINES n ≡ false → entry_of line ≡ Some (entry x) → more ≡ found ++ x ∷ [] → entries_after (entries found) n line ≡ Ok (entries more)
 taken found more x n line e some is = one_entry (entries found) n line (entry x) e some ∙ ap Ok (sym (ap entries is ∙ map-append entry found (x ∷ [])))
 
 -- ---- all lines

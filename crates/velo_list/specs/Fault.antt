@@ -1,7 +1,7 @@
 -- How a fault is told. The numbers are those of a file of names, of which a list has no second: a label
 -- may be said again.
 use Rattle.std.specs.Prelude.{ℕ, ◌+◌, Option, Some, None}
-use Rattle.velo_names.specs.declared.limits.TheConstants.{MOST_NAME_LINES}
+use Rattle.velo_names.specs.declared.limits.TheConstants.{MAX_NAME_LINES}
 use Rattle.velo_list.specs.declared.fault.ListFault.{ListFault}
 use Rattle.velo_list.specs.declared.fault.ListFault.TheVariants.{BadLine, TooManyLines, TooManyBytes, NotText, Memory}
 
@@ -16,7 +16,7 @@ fault_number Memory = None
 -- its line, or 0 where it is one of the whole file
 abbrev pub fault_line : ListFault → ℕ
 fault_line (BadLine n) = n
-fault_line TooManyLines = MOST_NAME_LINES + 1
+fault_line TooManyLines = MAX_NAME_LINES + 1
 fault_line TooManyBytes = 0
 fault_line NotText = 0
 fault_line Memory = 0

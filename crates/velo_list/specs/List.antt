@@ -5,7 +5,7 @@ use Rattle.std.specs.Str.{IsUtf8}
 use Rattle.velo_events.specs.Refusals.{GrowthRefused}
 use Rattle.velo_names.specs.Line.{lines}
 use Rattle.velo_names.specs.Names.{IsText}
-use Rattle.velo_names.specs.declared.limits.TheConstants.{MOST_NAME_LINES, MOST_NAMES_BYTES}
+use Rattle.velo_names.specs.declared.limits.TheConstants.{MAX_NAME_LINES, MAX_NAMES_BYTES}
 use Rattle.velo_list.specs.declared.fault.ListFault.{ListFault}
 use Rattle.velo_list.specs.declared.fault.ListFault.TheVariants.{BadLine, TooManyLines, TooManyBytes, NotText, Memory}
 use Rattle.velo_list.specs.Line.{Entry, entry_of}
@@ -15,7 +15,7 @@ use Rattle.velo_list.specs.Line.{Entry, entry_of}
 -- the entries after one more line, which has this number, or its fault
 unfoldable pub entries_after : List Entry → ℕ → List ℕ → Result (List Entry) ListFault
 entries_after entries n line =
-    if nat_lt MOST_NAME_LINES n then Err TooManyLines
+    if nat_lt MAX_NAME_LINES n then Err TooManyLines
     else option_map_or (λ e. Ok (entries ++ e ∷ [])) (entry_of line) (Err (BadLine n))
 
 abbrev pub and_then : Result (List Entry) ListFault → (List Entry → Result (List Entry) ListFault)
@@ -38,8 +38,8 @@ entries_in_text text = entries_from [] 0 (lines text)
 -- What is wrong with the whole file comes before what is wrong with a line. Want of memory stands in
 -- none.
 abbrev pub Stands : List ℕ → Result (List Entry) ListFault → Type 0
-Stands bytes (Err TooManyBytes) = MOST_NAMES_BYTES < length bytes
-Stands bytes (Err NotText) = (length bytes ≤ MOST_NAMES_BYTES) × (¬ IsUtf8 bytes)
+Stands bytes (Err TooManyBytes) = MAX_NAMES_BYTES < length bytes
+Stands bytes (Err NotText) = (length bytes ≤ MAX_NAMES_BYTES) × (¬ IsUtf8 bytes)
 Stands bytes (Err Memory) = ⊥
 Stands bytes (Err (BadLine n)) = IsText bytes × (entries_in_text bytes ≡ Err (BadLine n))
 Stands bytes (Err TooManyLines) = IsText bytes × (entries_in_text bytes ≡ Err TooManyLines)

@@ -4,7 +4,7 @@ ghost use Rattle.velo_list.specs.Fault.{fault_line, fault_number};
 
 use thiserror::Error;
 use velo_events::Memory;
-use velo_names::MOST_NAME_LINES;
+use velo_names::MAX_NAME_LINES;
 
 /// Why a file is no list of labels. Lines are counted from 1.
 #[derive(Clone, Copy, Debug, PartialEq, Eq, Error)]
@@ -13,10 +13,10 @@ pub enum ListFault {
     #[error("bad line {0}")]
     BadLine(usize),
     /// There is a line behind the last one that a file may have, the one with the number
-    /// [`MOST_NAME_LINES`](velo_names::MOST_NAME_LINES).
+    /// [`MAX_NAME_LINES`](velo_names::MAX_NAME_LINES).
     #[error("too many lines")]
     TooManyLines,
-    /// There are more bytes than [`MOST_NAMES_BYTES`](velo_names::MOST_NAMES_BYTES).
+    /// There are more bytes than [`MAX_NAMES_BYTES`](velo_names::MAX_NAMES_BYTES).
     #[error("too many bytes")]
     TooManyBytes,
     /// The bytes are not UTF-8.
@@ -46,7 +46,7 @@ impl ListFault {
     {
         match self {
             ListFault::BadLine(line) => *line,
-            ListFault::TooManyLines => MOST_NAME_LINES + 1,
+            ListFault::TooManyLines => MAX_NAME_LINES + 1,
             ListFault::TooManyBytes | ListFault::NotText | ListFault::Memory => 0,
         }
     }

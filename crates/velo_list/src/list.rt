@@ -8,7 +8,7 @@ use crate::fault::ListFault;
 use crate::line::{Entry, entry_of};
 use std::alloc::Global;
 use velo_events::growth::reserve;
-use velo_names::{MOST_NAME_LINES, MOST_NAMES_BYTES, split_line};
+use velo_names::{MAX_NAME_LINES, MAX_NAMES_BYTES, split_line};
 
 /// Adds what a line of this number says.
 #[tactic(auto, unfolding(crate::specs::List::entries_after))]
@@ -16,7 +16,7 @@ fn take<'a>(found: &mut Vec<Entry<'a>>, bytes: &'a [u8], line: usize) -> Result<
     ensures { AnswersAs (entries_after (entries found.old.items) line bytes.now)
         (entries found.new.items) result }
 {
-    if line > MOST_NAME_LINES {
+    if line > MAX_NAME_LINES {
         return Err(ListFault::TooManyLines);
     }
     match entry_of(bytes) {
@@ -53,7 +53,7 @@ pub fn parse_list(alloc: Global, bytes: &[u8]) -> Result<Vec<Entry<'_>>, ListFau
     ensures found { IfOk result (λ found. Stands bytes.now (Ok (entries found.items))) }
     ensures fault { IfErr result (HasFault bytes.now) }
 {
-    if bytes.len() > MOST_NAMES_BYTES {
+    if bytes.len() > MAX_NAMES_BYTES {
         return Err(ListFault::TooManyBytes);
     }
     if std::str::from_utf8(bytes).is_err() {

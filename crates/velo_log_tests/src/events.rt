@@ -1,6 +1,6 @@
 use std::mem::size_of;
 use std::test::Fail;
-use velo_events::{BadConfig, Bounds, Config, Event, Kind, MOST_OPEN_BLOCKS, Refusal};
+use velo_events::{BadConfig, Bounds, Config, Event, Kind, MAX_OPEN_BLOCKS, Refusal};
 
 const REFUSALS: [(Refusal, u8, &str); 22] = [
     (Refusal::Halted, 1, "halted"),
@@ -92,7 +92,7 @@ fn the_limits_may_be_reached(rt: HostRuntime) {
         let refused = Config::new(0, bounds, events, nodes, true).err();
         assert_eq!(rt; refused, bad, "{events} events, {nodes} nodes");
     }
-    assert_eq!(rt; MOST_OPEN_BLOCKS, 32);
+    assert_eq!(rt; MAX_OPEN_BLOCKS, 32);
 }
 
 #[test]

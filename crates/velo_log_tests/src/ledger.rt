@@ -1,7 +1,7 @@
 use std::alloc::Global;
 use std::process::Abort;
 use std::test::Fail;
-use velo_events::{Event, Kind, Label, MOST_EVENTS, ThreadId, VarId};
+use velo_events::{Event, Kind, Label, MAX_EVENTS, ThreadId, VarId};
 use velo_ledger::{Book, Shares, Tally, gather, gather_both};
 
 const X: VarId = VarId(0);
@@ -17,7 +17,7 @@ const fn by(thread: u8, kind: Kind) -> Event {
 fn enter(rt: &impl Abort, book: &mut Book, shares: &mut Shares, position: usize, event: &Event) {
     let mut share = shares.take(event.thread).expect(rt, "a share");
     assert!(rt; book.fits(&share));
-    assert!(rt; share.next() <= position as u64 && position < MOST_EVENTS as usize);
+    assert!(rt; share.next() <= position as u64 && position < MAX_EVENTS as usize);
     book.enter(&mut share, position, event);
     assert!(rt; shares.put(share).is_ok());
 }

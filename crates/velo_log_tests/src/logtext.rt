@@ -1,5 +1,5 @@
 ghost use Rattle.std.specs.Prelude.{◌≤◌, length};
-ghost use Rattle.velo_events.specs.declared.limits.TheConstants.{MOST_EVENTS};
+ghost use Rattle.velo_events.specs.declared.limits.TheConstants.{MAX_EVENTS};
 ghost use Rattle.velo_logtext.specs.Text.{AreBounds};
 
 mod growths;
@@ -9,7 +9,7 @@ use std::fmt::Display;
 use std::io::{Cursor, Error, ErrorKind, Read, Write};
 use std::test::Fail;
 use velo_bytes::{Bytes, Failed, ReaderSource, Source, Text, WriteFault, WriterSink, write_all};
-use velo_events::{Bounds, Event, Kind, MOST_EVENTS, ThreadId, VarId};
+use velo_events::{Bounds, Event, Kind, MAX_EVENTS, ThreadId, VarId};
 use velo_logtext::{LogFault, read_log, write_log};
 use velo_traces::Trace;
 
@@ -415,7 +415,7 @@ fn ten_thousand_events(alloc: Global) -> Result<Trace, Fail> {
 /// Writes a log, and tells how long its text is and what is read from that.
 fn read_back(alloc: Global, bounds: Bounds, trace: &Trace) -> Result<(usize, Bounds, Trace), Fail>
     requires bounds { AreBounds bounds }
-    requires few { length trace.now.events ≤ MOST_EVENTS }
+    requires few { length trace.now.events ≤ MAX_EVENTS }
 {
     let mut sink = Text::new(alloc);
     write_log(bounds, trace, &mut sink)?;

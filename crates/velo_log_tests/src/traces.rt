@@ -11,7 +11,7 @@ use std::alloc::Global;
 use std::mem::size_of;
 use std::process::Abort;
 use std::test::Fail;
-use velo_events::{Bounds, Event, Label, MOST_OPEN_BLOCKS, Memory, Refusal, ThreadId};
+use velo_events::{Bounds, Event, Label, MAX_OPEN_BLOCKS, Memory, Refusal, ThreadId};
 use velo_traces::{Block, Flaw, Trace, well_formed};
 
 /// Two threads, two variables, one lock.
@@ -37,7 +37,7 @@ struct Known<'a> {
 }
 
 /// The open blocks of a thread at the end of a trace, which is well-formed.
-fn open_at_end(rt: &impl Abort, trace: &Trace, t: ThreadId) -> SmallVec<Block, MOST_OPEN_BLOCKS> {
+fn open_at_end(rt: &impl Abort, trace: &Trace, t: ThreadId) -> SmallVec<Block, MAX_OPEN_BLOCKS> {
     match well_formed(trace, BOUNDS) {
         Ok(()) => trace.open_blocks(t),
         Err((position, _)) => panic!(rt; "not well-formed at {position}"),

@@ -5,7 +5,7 @@ use Rattle.std.proofs.lemmas.Fmt.{length-decimal-le}
 use Rattle.std.proofs.lemmas.Bool.Decides.{nat_tests}
 use Rattle.velo_events.specs.declared.config.Bounds.{Bounds}
 use Rattle.velo_events.specs.declared.event.Event.{Event}
-use Rattle.velo_events.specs.declared.limits.TheConstants.{MOST_LOCKS, MOST_THREADS}
+use Rattle.velo_events.specs.declared.limits.TheConstants.{MAX_LOCKS, MAX_THREADS}
 use Rattle.velo_events.specs.declared.event.Kind.{Kind}
 use Rattle.velo_events.specs.declared.event.Kind.TheVariants.{Read, Write, Acquire, Release, AcquireShared, ReleaseShared, Begin, End, Fork, Join, Exit}
 use Rattle.velo_logtext.specs.Text.{kind_text, event_line, Head, header_line, AreBounds, IsKind, has_kind, IsEvent, IsEventIn}
@@ -292,13 +292,13 @@ rest_taken : (shares : Bool) (words : List ℕ) (b : Head) (left : List ℕ) →
 unfolding bounds_at
 rest_taken shares words b left e =
     let made = λ (t v m : ℕ). let head : Head = (shares, bounds_of t v m) in head in
-    let t = bind_some (spaced_number_at MOST_THREADS words) (λ t. spaced_number_at 65535 t.1 >>= λ v. number_at MOST_LOCKS v.1 >>= λ m. after_word (codes "\n") m.1 >>= λ rest. cond (eqb t.0 0) None (Some (made t.0 v.0 m.0, rest))) (b, left) e in
-    let v = bind_some (spaced_number_at 65535 t.0.1) (λ v. number_at MOST_LOCKS v.1 >>= λ m. after_word (codes "\n") m.1 >>= λ rest. cond (eqb t.0.0 0) None (Some (made t.0.0 v.0 m.0, rest))) (b, left) t.2 in
-    let m = bind_some (number_at MOST_LOCKS v.0.1) (λ m. after_word (codes "\n") m.1 >>= λ rest. cond (eqb t.0.0 0) None (Some (made t.0.0 v.0.0 m.0, rest))) (b, left) v.2 in
+    let t = bind_some (spaced_number_at MAX_THREADS words) (λ t. spaced_number_at 65535 t.1 >>= λ v. number_at MAX_LOCKS v.1 >>= λ m. after_word (codes "\n") m.1 >>= λ rest. cond (eqb t.0 0) None (Some (made t.0 v.0 m.0, rest))) (b, left) e in
+    let v = bind_some (spaced_number_at 65535 t.0.1) (λ v. number_at MAX_LOCKS v.1 >>= λ m. after_word (codes "\n") m.1 >>= λ rest. cond (eqb t.0.0 0) None (Some (made t.0.0 v.0 m.0, rest))) (b, left) t.2 in
+    let m = bind_some (number_at MAX_LOCKS v.0.1) (λ m. after_word (codes "\n") m.1 >>= λ rest. cond (eqb t.0.0 0) None (Some (made t.0.0 v.0.0 m.0, rest))) (b, left) v.2 in
     let r = bind_some (after_word (codes "\n") m.0.1) (λ rest. cond (eqb t.0.0 0) None (Some (made t.0.0 v.0.0 m.0.0, rest))) (b, left) m.2 in
     let threads = spaced_taken 64 words t.0.0 t.0.1 (omega arith) (omega arith) t.1 in
     let variables = spaced_taken 65535 t.0.1 v.0.0 v.0.1 (omega arith) (omega arith) v.1 in
-    let locks = number_taken MOST_LOCKS v.0.1 m.0.0 m.0.1 (omega arith) (omega arith) m.1 in
+    let locks = number_taken MAX_LOCKS v.0.1 m.0.0 m.0.1 (omega arith) (omega arith) m.1 in
     let end = after_taken (codes "\n") m.0.1 r.0 r.1 in
     let text : words ≡ behind_version (bounds_of t.0.0 v.0.0 m.0.0) ++ r.0 =
     threads.0 ∙ ap (λ (x : List ℕ). decimal t.0.0 ++ (codes " " ++ x)) (variables.0 ∙ ap (λ (x : List ℕ). decimal v.0.0 ++ (codes " " ++ x)) (locks.0 ∙ ap (λ (x : List ℕ). decimal m.0.0 ++ x) end))
@@ -345,7 +345,7 @@ unfolding bounds_at
 rest_again shares b rest fits =
     let some : eqb b.threads 0 ≡ false = let h = fits.some_thread in grind (arith, nat_tests) in
     ap (bounds_at shares) (regroup_header (decimal b.threads) (decimal b.variables) (decimal b.locks) rest)
-    ∙ rw (spaced_again MOST_THREADS b.threads (decimal b.variables ++ 32 ∷ (decimal b.locks ++ 10 ∷ rest)) fits.few_threads (omega arith), spaced_again 65535 b.variables (decimal b.locks ++ 10 ∷ rest) fits.few_variables (omega arith), number_again MOST_LOCKS b.locks 10 rest fits.few_locks (omega arith) refl, some) refl
+    ∙ rw (spaced_again MAX_THREADS b.threads (decimal b.variables ++ 32 ∷ (decimal b.locks ++ 10 ∷ rest)) fits.few_threads (omega arith), spaced_again 65535 b.variables (decimal b.locks ++ 10 ∷ rest) fits.few_variables (omega arith), number_again MAX_LOCKS b.locks 10 rest fits.few_locks (omega arith) refl, some) refl
 
 pub header_again : (b : Head) (rest : List ℕ) → AreBounds b.1 → header_at (header_line b ++ rest) ≡ Some (b, rest)
 unfolding header_at header_line

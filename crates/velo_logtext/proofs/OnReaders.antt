@@ -4,7 +4,7 @@ use Rattle.std.specs.Prelude.{IfSome, IsTrue, ◌⊎◌}
 use Rattle.std.specs.Io.KnownBytes.{Keeps, prepend_known, IsAtEnd}
 use Rattle.std.proofs.lemmas.List.{append-nil}
 use Rattle.velo_events.specs.declared.event.Event.{Event}
-use Rattle.velo_events.specs.declared.limits.TheConstants.{MOST_EVENTS}
+use Rattle.velo_events.specs.declared.limits.TheConstants.{MAX_EVENTS}
 use Rattle.velo_logtext.specs.declared.fault.LogFault.{LogFault}
 use Rattle.velo_logtext.specs.declared.fault.LogFault.TheVariants.{BadHeader, BadLine, Truncated, TooLong, Read, Memory}
 use Rattle.velo_logtext.specs.declared.reader.Front.{Front}
@@ -36,7 +36,7 @@ given_read bytes events old new a b h shares bounds given kept end =
       end = end;
     }
 
-pub given_one : (bytes : Option (List ℕ)) (events : List Event) (old : ReaderState) (remaining : Option (List ℕ)) (e : Event) (rest : List ℕ) → HasGiven bytes events old remaining → Some (e, rest) ≡ event_in old.shares old.held → old.given < MOST_EVENTS → HasGiven bytes (events ++ e ∷ []) (record old { given = old.given + 1; held = rest }) remaining
+pub given_one : (bytes : Option (List ℕ)) (events : List Event) (old : ReaderState) (remaining : Option (List ℕ)) (e : Event) (rest : List ℕ) → HasGiven bytes events old remaining → Some (e, rest) ≡ event_in old.shares old.held → old.given < MAX_EVENTS → HasGiven bytes (events ++ e ∷ []) (record old { given = old.given + 1; held = rest }) remaining
 given_one bytes events old remaining e rest h is room =
     let one = takes_one old.shares old.held e rest is in
     let header = header_line (old.shares, old.bounds) in
@@ -54,7 +54,7 @@ given_one bytes events old remaining e rest h is room =
 
 -- and several events more
 pub given_lines : (bytes : Option (List ℕ)) (events more : List Event) (old : ReaderState) (remaining : Option (List ℕ)) (given : ℕ) (rest : List ℕ) → HasGiven bytes events old remaining → event_lines more ++ rest ≡ event_lines events ++ old.held
-    → (AreEventsIn old.shares events → AreEventsIn old.shares more) → given + length events ≡ old.given + length more → given ≤ MOST_EVENTS → HasGiven bytes more (record old { given = given; held = rest }) remaining
+    → (AreEventsIn old.shares events → AreEventsIn old.shares more) → given + length events ≡ old.given + length more → given ≤ MAX_EVENTS → HasGiven bytes more (record old { given = given; held = rest }) remaining
 given_lines bytes events more old remaining given rest h stream fit count few =
     let header = header_line (old.shares, old.bounds) in
     let same : text_in old.shares old.bounds events ++ old.held ≡ text_in old.shares old.bounds more ++ rest =
@@ -72,7 +72,7 @@ given_lines bytes events more old remaining given rest h stream fit count few =
 pub given_some : (bytes : Option (List ℕ)) (events : List Event) (next : Option Event) (e : Event) (r : ReaderState) (remaining : Option (List ℕ)) → Gives bytes events (Ok next) r remaining → next ≡ Some e → HasGiven bytes (events ++ e ∷ []) r remaining
 given_some bytes events next e r remaining h is = subst (λ (o : Option Event). Gives bytes events (Ok o) r remaining) is h
 
-pub given_all : (bytes : Option (List ℕ)) (events : List Event) (next : Option Event) (r : ReaderState) (remaining : Option (List ℕ)) → Gives bytes events (Ok next) r remaining → next ≡ None → IfSome bytes (λ all. Stands MOST_EVENTS all (Ok (r.bounds, events)))
+pub given_all : (bytes : Option (List ℕ)) (events : List Event) (next : Option Event) (r : ReaderState) (remaining : Option (List ℕ)) → Gives bytes events (Ok next) r remaining → next ≡ None → IfSome bytes (λ all. Stands MAX_EVENTS all (Ok (r.bounds, events)))
 given_all bytes events next r remaining h is = subst (λ (o : Option Event). Gives bytes events (Ok o) r remaining) is h
 
 -- what is left behind an event's line, and behind a header
@@ -91,7 +91,7 @@ begins_with : (all : List ℕ) (events : List Event) (r : ReaderState) (more : L
 begins_with all events r more h =
     record { bounds_fit = h.bounds_fit; events_fit = h.events_fit; text = sym h.text ∙ append_assoc (text_in r.shares r.bounds events) r.held more }
 
-end_stands : (bytes : Option (List ℕ)) (events : List Event) (r : ReaderState) (remaining : Option (List ℕ)) → HasGiven bytes events r remaining → r.held ≡ [] → r.ended ≡ true → IfSome bytes (λ all. Stands MOST_EVENTS all (Ok (r.bounds, events)))
+end_stands : (bytes : Option (List ℕ)) (events : List Event) (r : ReaderState) (remaining : Option (List ℕ)) → HasGiven bytes events r remaining → r.held ≡ [] → r.ended ≡ true → IfSome bytes (λ all. Stands MAX_EVENTS all (Ok (r.bounds, events)))
 end_stands None events r remaining h none ended = tt
 end_stands (Some all) events r None h none ended = absurd h.text
 end_stands (Some all) events r (Some more) h none ended =
@@ -100,13 +100,13 @@ end_stands (Some all) events r (Some more) h none ended =
     let text : all ≡ front = sym h.text ∙ ap (λ (t : List ℕ). (front ++ r.held) ++ t) nothing ∙ append-nil (front ++ r.held) ∙ ap (λ (t : List ℕ). front ++ t) none ∙ append-nil front in
     (record { shares = r.shares; is_text = record { bounds_fit = h.bounds_fit; events_fit = h.events_fit; text = text } }, h.few)
 
-too_long_stands : (bytes : Option (List ℕ)) (events : List Event) (r : ReaderState) (remaining : Option (List ℕ)) → HasGiven bytes events r remaining → 0 < length r.held → r.given ≡ MOST_EVENTS → IfSome bytes (λ all. Stands MOST_EVENTS all (Err TooLong))
+too_long_stands : (bytes : Option (List ℕ)) (events : List Event) (r : ReaderState) (remaining : Option (List ℕ)) → HasGiven bytes events r remaining → 0 < length r.held → r.given ≡ MAX_EVENTS → IfSome bytes (λ all. Stands MAX_EVENTS all (Err TooLong))
 too_long_stands None events r remaining h some full = tt
 too_long_stands (Some all) events r None h some full = absurd h.text
 too_long_stands (Some all) events r (Some more) h some full =
     record { shares = r.shares; bounds = r.bounds; events = events; rest = r.held ++ more; begins = begins_with all events r more h; full = sym h.count ∙ full; more = omega (arith, some, length-append r.held more) }
 
-bad_stands : (bytes : Option (List ℕ)) (events : List Event) (r : ReaderState) (remaining : Option (List ℕ)) → HasGiven bytes events r remaining → event_in r.shares r.held ≡ None → r.given < MOST_EVENTS → is_whole r.held ≡ true → IfSome bytes (λ all. Stands MOST_EVENTS all (Err (BadLine (r.given + 2))))
+bad_stands : (bytes : Option (List ℕ)) (events : List Event) (r : ReaderState) (remaining : Option (List ℕ)) → HasGiven bytes events r remaining → event_in r.shares r.held ≡ None → r.given < MAX_EVENTS → is_whole r.held ≡ true → IfSome bytes (λ all. Stands MAX_EVENTS all (Err (BadLine (r.given + 2))))
 bad_stands None events r remaining h none room whole = tt
 bad_stands (Some all) events r None h none room whole = absurd h.text
 bad_stands (Some all) events r (Some more) h none room whole =
@@ -127,7 +127,7 @@ bad_stands (Some all) events r (Some more) h none room whole =
       };
     }
 
-cut_stands : (bytes : Option (List ℕ)) (events : List Event) (r : ReaderState) (remaining : Option (List ℕ)) → HasGiven bytes events r remaining → r.given < MOST_EVENTS → 0 < length r.held → is_whole r.held ≡ false → r.ended ≡ true → IfSome bytes (λ all. Stands MOST_EVENTS all (Err (Truncated (r.given + 2))))
+cut_stands : (bytes : Option (List ℕ)) (events : List Event) (r : ReaderState) (remaining : Option (List ℕ)) → HasGiven bytes events r remaining → r.given < MAX_EVENTS → 0 < length r.held → is_whole r.held ≡ false → r.ended ≡ true → IfSome bytes (λ all. Stands MAX_EVENTS all (Err (Truncated (r.given + 2))))
 cut_stands None events r remaining h room some part ended = tt
 cut_stands (Some all) events r None h room some part ended = absurd h.text
 cut_stands (Some all) events r (Some more) h room some part ended =
@@ -157,7 +157,7 @@ unfolding judged
 judged_is [] ended line = refl
 judged_is (b ∷ bytes) ended line = refl
 
-front_finds : (bytes : Option (List ℕ)) (events : List Event) (r : ReaderState) (remaining : Option (List ℕ)) → HasGiven bytes events r remaining → event_in r.shares r.held ≡ None → r.given < MOST_EVENTS
+front_finds : (bytes : Option (List ℕ)) (events : List Event) (r : ReaderState) (remaining : Option (List ℕ)) → HasGiven bytes events r remaining → event_in r.shares r.held ≡ None → r.given < MAX_EVENTS
     → (held : List ℕ) (ended whole : Bool) → r.held ≡ held → r.ended ≡ ended → is_whole r.held ≡ whole → Finds bytes events (judged held ended whole (r.given + 2)) r remaining
 unfolding judged
 front_finds bytes events r remaining h none room [] true whole held-is ended-is whole-is = end_stands bytes events r remaining h held-is ended-is
@@ -174,32 +174,32 @@ front_takes r (b ∷ bs) ended true held-is ended-is whole-is = (refl, tt, refl)
 front_takes r (b ∷ bs) true false held-is ended-is whole-is = (refl, tt, refl)
 front_takes r (b ∷ bs) false false held-is ended-is whole-is = (refl, ended-is, whole-is)
 
-pub finds_front : (bytes : Option (List ℕ)) (events : List Event) (r : ReaderState) (remaining : Option (List ℕ)) → HasGiven bytes events r remaining → event_in r.shares r.held ≡ None → r.given < MOST_EVENTS → Finds bytes events (judged_front r.held r.ended (r.given + 2)) r remaining
+pub finds_front : (bytes : Option (List ℕ)) (events : List Event) (r : ReaderState) (remaining : Option (List ℕ)) → HasGiven bytes events r remaining → event_in r.shares r.held ≡ None → r.given < MAX_EVENTS → Finds bytes events (judged_front r.held r.ended (r.given + 2)) r remaining
 finds_front bytes events r remaining h none room =
     subst (λ (f : Result Front LogFault). Finds bytes events f r remaining) (judged_is r.held r.ended (r.given + 2)) (front_finds bytes events r remaining h none room r.held r.ended (is_whole r.held) refl refl refl)
 
 pub takes_front : (r : ReaderState) → Takes r (judged_front r.held r.ended (r.given + 2)) r
 takes_front r = subst (λ (f : Result Front LogFault). Takes r f r) (judged_is r.held r.ended (r.given + 2)) (front_takes r r.held r.ended (is_whole r.held) refl refl refl)
 
-full_finds : (bytes : Option (List ℕ)) (events : List Event) (r : ReaderState) (remaining : Option (List ℕ)) → HasGiven bytes events r remaining → r.given ≡ MOST_EVENTS → (held : List ℕ) (ended : Bool) → r.held ≡ held → r.ended ≡ ended → Finds bytes events (judged_full held ended) r remaining
+full_finds : (bytes : Option (List ℕ)) (events : List Event) (r : ReaderState) (remaining : Option (List ℕ)) → HasGiven bytes events r remaining → r.given ≡ MAX_EVENTS → (held : List ℕ) (ended : Bool) → r.held ≡ held → r.ended ≡ ended → Finds bytes events (judged_full held ended) r remaining
 full_finds bytes events r remaining h full [] true held-is ended-is = end_stands bytes events r remaining h held-is ended-is
 full_finds bytes events r remaining h full [] false held-is ended-is = tt
 full_finds bytes events r remaining h full (b ∷ bs) ended held-is ended-is = too_long_stands bytes events r remaining h (omega (arith, ap length held-is)) full
 
-full_takes : (r : ReaderState) (held : List ℕ) (ended : Bool) → r.given ≡ MOST_EVENTS → r.held ≡ held → r.ended ≡ ended → Takes r (judged_full held ended) r
+full_takes : (r : ReaderState) (held : List ℕ) (ended : Bool) → r.given ≡ MAX_EVENTS → r.held ≡ held → r.ended ≡ ended → Takes r (judged_full held ended) r
 full_takes r [] true full held-is ended-is = (refl, ended-is)
 full_takes r [] false full held-is ended-is = (refl, ended-is, ap is_whole held-is)
 full_takes r (b ∷ bs) ended full held-is ended-is = (refl, tt, full)
 
-pub finds_full : (bytes : Option (List ℕ)) (events : List Event) (r : ReaderState) (remaining : Option (List ℕ)) → HasGiven bytes events r remaining → r.given ≡ MOST_EVENTS → Finds bytes events (judged_full r.held r.ended) r remaining
+pub finds_full : (bytes : Option (List ℕ)) (events : List Event) (r : ReaderState) (remaining : Option (List ℕ)) → HasGiven bytes events r remaining → r.given ≡ MAX_EVENTS → Finds bytes events (judged_full r.held r.ended) r remaining
 finds_full bytes events r remaining h full = full_finds bytes events r remaining h full r.held r.ended refl refl
 
-pub takes_full : (r : ReaderState) → r.given ≡ MOST_EVENTS → Takes r (judged_full r.held r.ended) r
+pub takes_full : (r : ReaderState) → r.given ≡ MAX_EVENTS → Takes r (judged_full r.held r.ended) r
 takes_full r full = full_takes r r.held r.ended full refl refl
 
 -- ---- faults
 
-fault_read : (all : List ℕ) (fault : LogFault) → Stands MOST_EVENTS all (Err fault) → ReadsAs MOST_EVENTS all (Err fault)
+fault_read : (all : List ℕ) (fault : LogFault) → Stands MAX_EVENTS all (Err fault) → ReadsAs MAX_EVENTS all (Err fault)
 fault_read all BadHeader h = h
 fault_read all (BadLine n) h = h
 fault_read all (Truncated n) h = h
@@ -207,7 +207,7 @@ fault_read all TooLong h = h
 fault_read all Read h = tt
 fault_read all Memory h = absurd h
 
-pub stands_reads : (bytes : Option (List ℕ)) (fault : LogFault) → IfSome bytes (λ all. Stands MOST_EVENTS all (Err fault)) → IfSome bytes (λ all. ReadsAs MOST_EVENTS all (Err fault))
+pub stands_reads : (bytes : Option (List ℕ)) (fault : LogFault) → IfSome bytes (λ all. Stands MAX_EVENTS all (Err fault)) → IfSome bytes (λ all. ReadsAs MAX_EVENTS all (Err fault))
 stands_reads None fault h = tt
 stands_reads (Some all) fault h = fault_read all fault h
 
@@ -243,7 +243,7 @@ header_wrong : (held more : List ℕ) (ended : Bool) → header_at held ≡ None
 header_wrong held more ended none (inl whole) end = no_header_there held more none whole
 header_wrong held more ended none (inr last) end = no_header held more none (inr (end last))
 
-pub header_missing : (bytes remaining : Option (List ℕ)) (held : List ℕ) (ended : Bool) → Keeps bytes (prepend_known held remaining) → header_at held ≡ None → (is_whole held ≡ true) ⊎ (ended ≡ true) → (IsTrue ended → IsAtEnd remaining) → IfSome bytes (λ all. ReadsAs MOST_EVENTS all (Err BadHeader))
+pub header_missing : (bytes remaining : Option (List ℕ)) (held : List ℕ) (ended : Bool) → Keeps bytes (prepend_known held remaining) → header_at held ≡ None → (is_whole held ≡ true) ⊎ (ended ≡ true) → (IsTrue ended → IsAtEnd remaining) → IfSome bytes (λ all. ReadsAs MAX_EVENTS all (Err BadHeader))
 header_missing None remaining held ended kept none enough end = tt
 header_missing (Some all) None held ended kept none enough end = absurd kept
 header_missing (Some all) (Some more) held ended kept none enough end = subst HasNoHeader kept (header_wrong held more ended none enough end)

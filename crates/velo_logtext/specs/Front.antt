@@ -2,7 +2,7 @@
 use Rattle.std.specs.Prelude.{◌≡◌, ℕ, ◌||◌, ◌==◌, nat_lt, Bool, true, false, if◌then◌else◌, List, [], ◌∷◌, ◌++◌, length, IfSome, Option, Result, Ok, Err}
 use Rattle.std.specs.List.{list_any}
 use Rattle.velo_events.specs.declared.event.Event.{Event}
-use Rattle.velo_events.specs.declared.limits.TheConstants.{MOST_EVENTS}
+use Rattle.velo_events.specs.declared.limits.TheConstants.{MAX_EVENTS}
 use Rattle.velo_logtext.specs.declared.fault.LogFault.{LogFault}
 use Rattle.velo_logtext.specs.declared.fault.LogFault.TheVariants.{BadLine, Truncated, TooLong, Read, Memory}
 use Rattle.velo_logtext.specs.declared.reader.Front.{Front}
@@ -43,6 +43,6 @@ Takes old (Err fault) new = (new ≡ old) × IsOfText fault × IsMetBehind old.g
 -- and what it says of the bytes, of which these events were given
 abbrev pub Finds : Option (List ℕ) → List Event → Result Front LogFault → ReaderState → Option (List ℕ) → Type 0
 Finds bytes events (Ok (Line e)) reader remaining = HasGiven bytes (events ++ e ∷ []) reader remaining
-Finds bytes events (Ok End) reader remaining = IfSome bytes (λ all. Stands MOST_EVENTS all (Ok (reader.bounds, events)))
+Finds bytes events (Ok End) reader remaining = IfSome bytes (λ all. Stands MAX_EVENTS all (Ok (reader.bounds, events)))
 Finds bytes events (Ok Open) reader remaining = Unit {0}
-Finds bytes events (Err fault) reader remaining = IfSome bytes (λ all. Stands MOST_EVENTS all (Err fault))
+Finds bytes events (Err fault) reader remaining = IfSome bytes (λ all. Stands MAX_EVENTS all (Err fault))

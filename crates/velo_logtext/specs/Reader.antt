@@ -3,7 +3,7 @@ use Rattle.std.specs.Prelude.{◌≡◌, ℕ, ◌+◌, ◌≤◌, ◌<◌, ◌�
 use Rattle.std.specs.Io.KnownBytes.{Keeps, prepend_known, IsAtEnd}
 use Rattle.velo_events.specs.declared.config.Bounds.{Bounds}
 use Rattle.velo_events.specs.declared.event.Event.{Event}
-use Rattle.velo_events.specs.declared.limits.TheConstants.{MOST_EVENTS}
+use Rattle.velo_events.specs.declared.limits.TheConstants.{MAX_EVENTS}
 use Rattle.velo_events.specs.Refusals.{GrowthRefused}
 use Rattle.velo_logtext.specs.declared.window.TheConstants.{LONGEST_LINE}
 use Rattle.velo_logtext.specs.declared.fault.LogFault.{LogFault}
@@ -29,15 +29,15 @@ pub record HasGiven (bytes : Option (List ℕ)) (events : List Event) (reader : 
   pub events_fit : AreEventsIn reader.shares events
   pub text : Keeps bytes (prepend_known (text_in reader.shares reader.bounds events ++ reader.held) remaining)
   pub count : reader.given ≡ length events
-  pub few : length events ≤ MOST_EVENTS
+  pub few : length events ≤ MAX_EVENTS
   pub end : IsTrue reader.ended → IsAtEnd remaining
 
 -- What comes behind these events of the bytes: an event, whose line stands there; or the end, and the bytes are the text of
 -- these events; or what stands in the bytes is a first wrong line.
 abbrev pub Gives : Option (List ℕ) → List Event → Result (Option Event) LogFault → ReaderState → Option (List ℕ) → Type 0
 Gives bytes events (Ok (Some e)) reader remaining = HasGiven bytes (events ++ e ∷ []) reader remaining
-Gives bytes events (Ok None) reader remaining = IfSome bytes (λ all. Stands MOST_EVENTS all (Ok (reader.bounds, events)))
-Gives bytes events (Err fault) reader remaining = IfSome bytes (λ all. ReadsAs MOST_EVENTS all (Err fault))
+Gives bytes events (Ok None) reader remaining = IfSome bytes (λ all. Stands MAX_EVENTS all (Ok (reader.bounds, events)))
+Gives bytes events (Err fault) reader remaining = IfSome bytes (λ all. ReadsAs MAX_EVENTS all (Err fault))
 
 -- a newline stands in the bytes, or they are more than a line may have
 abbrev pub HasWholeLine : List ℕ → Type 0
@@ -54,6 +54,6 @@ IsMetInHeader _ = ⊥
 abbrev pub IsMetBehind : ℕ → LogFault → Type 0
 IsMetBehind given (BadLine n) = n ≡ given + 2
 IsMetBehind given (Truncated n) = n ≡ given + 2
-IsMetBehind given TooLong = given ≡ MOST_EVENTS
+IsMetBehind given TooLong = given ≡ MAX_EVENTS
 IsMetBehind given Read = Unit {0}
 IsMetBehind given _ = ⊥

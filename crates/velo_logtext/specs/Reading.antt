@@ -2,7 +2,7 @@
 use Rattle.std.specs.Prelude.{ℕ, Bool, true, false, ◌-◌, ◌^◌, ◌==◌, List, codes, Some, None, if◌then◌else◌}
 use Rattle.velo_bytes.specs.Parsing.{◌>>=◌, Taken, number_at, spaced_number_at, after_word, by_word, of_number}
 use Rattle.velo_events.specs.declared.event.Event.{Event}
-use Rattle.velo_events.specs.declared.limits.TheConstants.{MOST_LOCKS, MOST_THREADS}
+use Rattle.velo_events.specs.declared.limits.TheConstants.{MAX_LOCKS, MAX_THREADS}
 use Rattle.velo_events.specs.declared.event.Kind.{Kind}
 use Rattle.velo_logtext.specs.Text.{Head, has_kind}
 use Rattle.velo_events.specs.declared.event.Kind.TheVariants.{Read, Write, Acquire, Release, AcquireShared, ReleaseShared, Begin, End, Fork, Join, Exit}
@@ -67,9 +67,9 @@ event_in shares bytes = event_at bytes >>= λ e. if has_kind shares e.0.kind the
 -- the bounds and the newline
 unfoldable pub bounds_at : Bool → List ℕ → Taken Head
 bounds_at shares words = do
-  t ← spaced_number_at MOST_THREADS words
+  t ← spaced_number_at MAX_THREADS words
   v ← spaced_number_at 65535 t.1
-  m ← number_at MOST_LOCKS v.1
+  m ← number_at MAX_LOCKS v.1
   rest ← after_word (codes "\n") m.1
   if t.0 == 0 then None else Some ((shares, record { threads = t.0; variables = v.0; locks = m.0 }), rest)
 

@@ -3,7 +3,7 @@ use Rattle.std.specs.Prelude.{◌≡◌, ℕ, ◌^◌, ◌<◌, ◌≤◌, Bool,
 use Rattle.std.specs.List.{flat_map, AllByRecursion}
 use Rattle.velo_events.specs.declared.config.Bounds.{Bounds}
 use Rattle.velo_events.specs.declared.event.Event.{Event}
-use Rattle.velo_events.specs.declared.limits.TheConstants.{MOST_LOCKS, MOST_THREADS}
+use Rattle.velo_events.specs.declared.limits.TheConstants.{MAX_LOCKS, MAX_THREADS}
 use Rattle.velo_events.specs.declared.event.Kind.{Kind}
 use Rattle.velo_events.specs.Event.{shared_by}
 use Rattle.velo_events.specs.declared.event.Kind.TheVariants.{Read, Write, Acquire, Release, AcquireShared, ReleaseShared, Begin, End, Fork, Join, Exit}
@@ -49,9 +49,9 @@ log_text bounds events = text_in true bounds events
 
 pub record AreBounds (b : Bounds) : Type 0 where
   pub some_thread : 1 ≤ b.threads
-  pub few_threads : b.threads ≤ MOST_THREADS
+  pub few_threads : b.threads ≤ MAX_THREADS
   pub few_variables : b.variables ≤ 65535
-  pub few_locks : b.locks ≤ MOST_LOCKS
+  pub few_locks : b.locks ≤ MAX_LOCKS
 
 -- its numbers are in their ranges
 abbrev pub IsKind : Kind → Type 0

@@ -18,7 +18,7 @@ pub enum LogFault {
     #[error("line {0} is cut off")]
     Truncated(usize),
     /// A byte stands after the line of the last event that a log may have: the one with the number
-    /// [`MOST_EVENTS`](velo_events::MOST_EVENTS), counted from 1.
+    /// [`MAX_EVENTS`](velo_events::MAX_EVENTS), counted from 1.
     #[error("too many events")]
     TooLong,
     /// The source failed in this call.

@@ -4,7 +4,7 @@ ghost use Rattle.velo_logtext.specs.Text.{has_kind};
 ghost use Rattle.velo_logtext.specs.Reading.{access_at, thread_kind_at, block_kind_at, share_kind_at, lock_kind_at, kind_at, event_at, event_in, bounds_at, header_at};
 
 use velo_bytes::{after, number, spaced_number};
-use velo_events::{Bounds, Event, Kind, Label, LockId, MOST_LOCKS, MOST_THREADS, ThreadId, VarId};
+use velo_events::{Bounds, Event, Kind, Label, LockId, MAX_LOCKS, MAX_THREADS, ThreadId, VarId};
 
 /// A variable and a value.
 #[inline(always)]
@@ -142,9 +142,9 @@ pub fn event(bytes: &[u8], shares: bool) -> Option<(Event, &[u8])>
 fn bounds(bytes: &[u8], shares: bool) -> Option<(bool, Bounds, &[u8])>
     ensures { option_map (λ r. ((r.0, r.1), r.2.now)) result ≡ bounds_at shares bytes.now }
 {
-    let (threads, rest) = spaced_number(bytes, u64::from(MOST_THREADS))?;
+    let (threads, rest) = spaced_number(bytes, u64::from(MAX_THREADS))?;
     let (variables, rest) = spaced_number(rest, u64::from(u16::MAX))?;
-    let (locks, rest) = number(rest, u64::from(MOST_LOCKS))?;
+    let (locks, rest) = number(rest, u64::from(MAX_LOCKS))?;
     let rest = after(rest, b"\n")?;
     if threads == 0 {
         return None;

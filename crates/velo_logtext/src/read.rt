@@ -2,7 +2,7 @@
 ghost use Rattle.std.specs.Prelude.{◌≡◌, ◌≤◌, length, IfOk, OnOk, IfSome, Err};
 ghost use Rattle.std.specs.Io.KnownBytes.{IsAtEnd};
 ghost use Rattle.velo_events.specs.Refusals.{GrowthRefused};
-ghost use Rattle.velo_events.specs.declared.limits.TheConstants.{MOST_EVENTS};
+ghost use Rattle.velo_events.specs.declared.limits.TheConstants.{MAX_EVENTS};
 ghost use Rattle.velo_logtext.specs.declared.fault.LogFault.TheVariants as log_fault;
 ghost use Rattle.velo_logtext.specs.Text.{AreBounds, AreEvents};
 ghost use Rattle.velo_logtext.specs.Finding.{Finding, Stands, ReadsAs, IsFindingOrFailure, finding_of, failures_after};
@@ -24,13 +24,13 @@ use velo_traces::Trace;
 /// failed in this call, and `Memory` only where a growth was refused.
 pub fn read_log<S: Source>(alloc: Global, source: &mut S) -> Result<(Bounds, Trace), LogFault>
     // What is answered stands in the bytes.
-    ensures found { IfSome (S.remaining source.old) (λ bytes. ReadsAs MOST_EVENTS bytes (finding_of result)) }
+    ensures found { IfSome (S.remaining source.old) (λ bytes. ReadsAs MAX_EVENTS bytes (finding_of result)) }
 
     // What stands in the bytes is answered, unless the source failed or a growth was refused.
-    ensures only { IfSome (S.remaining source.old) (λ bytes. (f : Finding) → Stands MOST_EVENTS bytes f → IsFindingOrFailure f (finding_of result)) }
+    ensures only { IfSome (S.remaining source.old) (λ bytes. (f : Finding) → Stands MAX_EVENTS bytes f → IsFindingOrFailure f (finding_of result)) }
 
     ensures within { IfOk result (λ log.
-        AreBounds log.0 × AreEvents log.1.events × (length log.1.events ≤ MOST_EVENTS)) }
+        AreBounds log.0 × AreEvents log.1.events × (length log.1.events ≤ MAX_EVENTS)) }
     ensures end { OnOk result (IsAtEnd (S.remaining source.new)) }
 
     // One failure more after `Read`, and none after any other answer.

@@ -3,7 +3,7 @@ ghost use Rattle.std.specs.Prelude.{◌≡◌, ◌≤◌, ◌+◌, ◌++◌, Lis
 ghost use Rattle.std.specs.Io.KnownBytes.{IsAtEnd};
 ghost use Rattle.velo_events.specs.Refusals.{GrowthRefused};
 ghost use Rattle.velo_events.specs.declared.event.Event.{Event as EventOf};
-ghost use Rattle.velo_events.specs.declared.limits.TheConstants.{MOST_EVENTS};
+ghost use Rattle.velo_events.specs.declared.limits.TheConstants.{MAX_EVENTS};
 ghost use Rattle.velo_logtext.specs.declared.fault.LogFault.TheVariants as log_fault;
 ghost use Rattle.velo_logtext.specs.Text.{AreEventsIn, event_lines};
 ghost use Rattle.velo_logtext.specs.Finding.{ReadsAs, failures_after};
@@ -16,7 +16,7 @@ use crate::window::{LONGEST_LINE, Window};
 use std::alloc::Global;
 use std::marker::Model;
 use velo_bytes::Source;
-use velo_events::{Bounds, Event, MOST_EVENTS, Memory};
+use velo_events::{Bounds, Event, MAX_EVENTS, Memory};
 use velo_traces::Trace;
 
 /// What stands at the front of the bytes at hand.
@@ -80,20 +80,20 @@ fn append_lines<'a>(
     given: usize,
     trace: &mut Trace,
 ) -> Result<(usize, &'a [u8]), Memory>
-    requires { given ≤ MOST_EVENTS }
+    requires { given ≤ MAX_EVENTS }
     ensures stream { IfOk result (λ r.
         event_lines trace.new.events ++ r.1.now ≡ event_lines trace.old.events ++ bytes.now) }
     ensures fit { OnOk result
         (AreEventsIn shares trace.old.events → AreEventsIn shares trace.new.events) }
     ensures count { IfOk result (λ r.
         r.0 + length trace.old.events ≡ given + length trace.new.events) }
-    ensures few { IfOk result (λ r. r.0 ≤ MOST_EVENTS) }
+    ensures few { IfOk result (λ r. r.0 ≤ MAX_EVENTS) }
     ensures grows { OnOk result (length trace.old.events ≤ length trace.new.events) }
     ensures shorter { IfOk result (λ r. length r.1.now ≤ length bytes.now) }
 {
     let mut given = given;
     let mut rest = bytes;
-    while rest.len() > LONGEST_LINE && given < MOST_EVENTS as usize {
+    while rest.len() > LONGEST_LINE && given < MAX_EVENTS as usize {
         let Some((event, after)) = event(rest, shares) else {
             return Ok((given, rest));
         };
@@ -116,14 +116,14 @@ pub struct LogReader {
 
 impl Model for LogReader {
     ghost use Rattle.std.specs.Prelude.{◌≤◌};
-    ghost use Rattle.velo_events.specs.declared.limits.TheConstants.{MOST_EVENTS};
+    ghost use Rattle.velo_events.specs.declared.limits.TheConstants.{MAX_EVENTS};
     ghost use Rattle.velo_logtext.specs.Reader.{ReaderState};
 
     ghost Value = { ReaderState };
 
     ghost view = { λ r. record { shares = r.shares; bounds = r.bounds; given = r.given; held = r.window.bytes; ended = r.window.ended } };
 
-    ghost invariant = { λ r. r.given ≤ MOST_EVENTS };
+    ghost invariant = { λ r. r.given ≤ MAX_EVENTS };
 }
 
 impl LogReader {
@@ -135,7 +135,7 @@ impl LogReader {
     pub fn open<S: Source>(alloc: Global, source: &mut S) -> Result<LogReader, LogFault>
         ensures ok { IfOk result (λ reader. HasGiven (S.remaining source.old) [] reader (S.remaining source.new)) }
         ensures fault { IfErr result (λ fault.
-            IfSome (S.remaining source.old) (λ bytes. ReadsAs MOST_EVENTS bytes (Err fault))) }
+            IfSome (S.remaining source.old) (λ bytes. ReadsAs MAX_EVENTS bytes (Err fault))) }
         ensures failures { S.failures source.new ≡ failures_after result (S.failures source.old) }
         ensures memory { result ≡ Err log_fault.Memory → GrowthRefused }
         ensures place { IfErr result IsMetInHeader }
@@ -216,7 +216,7 @@ impl LogReader {
             HasGiven bytes events self.old remaining → Finds bytes events result self.new remaining }
     {
         let held = self.window.bytes();
-        if self.given == MOST_EVENTS as usize {
+        if self.given == MAX_EVENTS as usize {
             return judge_full(held, self.window.is_ended());
         }
         match event(held, self.shares) {

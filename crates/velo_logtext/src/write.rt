@@ -1,7 +1,7 @@
 //! Writing a log to a sink.
 ghost use Rattle.std.specs.Prelude.{◌≡◌, ◌≤◌, ◌+◌, ◌++◌, true, length, take, decimal, OnOk, OnErr};
 ghost use Rattle.std.specs.Io.KnownBytes.{Appends};
-ghost use Rattle.velo_events.specs.declared.limits.TheConstants.{MOST_EVENTS};
+ghost use Rattle.velo_events.specs.declared.limits.TheConstants.{MAX_EVENTS};
 ghost use Rattle.velo_bytes.specs.Device.{with_failure, AppendsBeginning};
 ghost use Rattle.velo_logtext.specs.declared.write.TheConstants.{LINE_ROOM, KIND_ROOM};
 ghost use Rattle.velo_logtext.specs.Text.{AreBounds, IsEvent, IsLogText, kind_text, event_line, header_line, log_text};
@@ -86,13 +86,13 @@ fn put_header(buffer: &mut [u8], bounds: Bounds) -> usize
 }
 
 /// Writes a log: the one text of its bounds and events. The bounds have to be in the ranges of a configuration, and the
-/// events at most [`MOST_EVENTS`](velo_events::MOST_EVENTS).
+/// events at most [`MAX_EVENTS`](velo_events::MAX_EVENTS).
 ///
 /// # Errors
 /// `WriteFault` where the sink failed. A beginning of the text was written then.
 pub fn write_log<S: Sink>(bounds: Bounds, trace: &Trace, sink: &mut S) -> Result<(), WriteFault>
     requires bounds { AreBounds bounds }
-    requires few { length trace.now.events ≤ MOST_EVENTS }
+    requires few { length trace.now.events ≤ MAX_EVENTS }
     ensures ok { OnOk result (Appends (S.contents sink.old) (S.contents sink.new) (log_text bounds trace.now.events)) }
 
     // After a fault a beginning of the text went out, and the sink has failed once more.

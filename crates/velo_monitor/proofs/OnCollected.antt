@@ -3,7 +3,7 @@ use Rattle.std.proofs.Common.{◌≡◌, ℕ, ◌<◌, ◌≤◌, true, false, n
 use Rattle.std.specs.Prelude.{IsTrue, IsSomeAnd, is_some}
 use Rattle.std.specs.Option.{ForSome}
 use Rattle.std.proofs.lemmas.Bool.{cases_Bool, both_ways, and_parts, and_from, not-true, not_from_true, not_from_false, false≢true}
-use Rattle.velo_events.specs.declared.limits.TheConstants.{MOST_THREADS}
+use Rattle.velo_events.specs.declared.limits.TheConstants.{MAX_THREADS}
 use Rattle.velo_events.specs.declared.config.Bounds.{Bounds}
 use Rattle.velo_events.specs.declared.event.Event.{Event}
 use Rattle.velo_events.specs.WellFormed.{IsWellFormed}
@@ -23,7 +23,7 @@ use Rattle.velo_monitor.proofs.OnCollecting.{unneeded-dead, collects-before, ent
 
 -- all that it is to stand for a trace, but that something may be left to collect
 pub record IsUncollected (bounds : Bounds) (w : Watched) (trace : List Event) : Type 0 where
-  pub few : bounds.threads ≤ MOST_THREADS
+  pub few : bounds.threads ≤ MAX_THREADS
   pub well_formed : IsWellFormed bounds trace
   pub acyclic : ¬ HasCycle trace
   pub earlier : ForSome w.nodes.slots.newest (λ newest. newest < length trace)

@@ -1,6 +1,6 @@
 -- What a compaction keeps, by what its three calls leave.
 use Rattle.std.proofs.Common.{◌≡◌, ℕ, ◌*◌, ◌<◌, ◌≤◌, List, length, Option, sym, subst, arith}
-use Rattle.velo_events.specs.declared.limits.TheConstants.{MOST_THREADS}
+use Rattle.velo_events.specs.declared.limits.TheConstants.{MAX_THREADS}
 use Rattle.velo_events.specs.declared.config.Bounds.{Bounds}
 use Rattle.velo_events.specs.declared.event.Event.{Event}
 use Rattle.velo_events.specs.Heap.{depth_in}
@@ -20,7 +20,7 @@ module _ (trace : List Event) (graph : Nodes) (tables : LastAccesses) (depths : 
   before : (bounds : Bounds) → IsMonitorOf bounds w trace → IsMonitorOf bounds (record { nodes = graph; kept = tables; depths = depths }) trace
   before bounds stands = subst (λ (m : Watched). IsMonitorOf bounds m trace) (sym view) stands
 
-  pub threads-few : (bounds : Bounds) × IsMonitorOf bounds w trace → length depths ≤ MOST_THREADS
+  pub threads-few : (bounds : Bounds) × IsMonitorOf bounds w trace → length depths ≤ MAX_THREADS
   threads-few some = let stands = before some.0 some.1 in omega (arith, stands.depths.0, stands.few)
 
   pub threads-known : (bounds : Bounds) × IsMonitorOf bounds w trace → HaveThreads graph trace (length depths)

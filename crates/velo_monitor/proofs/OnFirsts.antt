@@ -3,7 +3,7 @@ use Rattle.std.proofs.Common.{◌≡◌, ◌≢◌, ℕ, ◌+◌, ◌<◌, ◌�
 use Rattle.std.specs.Prelude.{nat_le, IsTrue, IsSomeAnd, is_some, if◌then◌else◌}
 use Rattle.std.proofs.lemmas.Bool.{cases_eq, cases_lt, both_ways, false≢true, leb-true, leb-false}
 use Rattle.std.proofs.lemmas.List.{get_or_past}
-use Rattle.velo_events.specs.declared.limits.TheConstants.{MOST_THREADS}
+use Rattle.velo_events.specs.declared.limits.TheConstants.{MAX_THREADS}
 use Rattle.velo_events.specs.declared.event.Event.{Event}
 use Rattle.velo_arena.specs.Slots.{is_used, is_finished_in, node_in, stamp_in, limit_of}
 use Rattle.velo_graph.specs.Nodes.{Nodes}
@@ -87,11 +87,11 @@ module _ (nodes : Nodes) (events : List Event) where
         by false is = let l : stamp n < stamp r = leb-false (stamp r) (stamp n) is in omega (arith, l, old)
 
     -- the threads of a number
-    pair-apart : (t s u v : ℕ) → s < MOST_THREADS → v < MOST_THREADS → pair_of t s ≡ pair_of u v → (t ≡ u) × (s ≡ v)
+    pair-apart : (t s u v : ℕ) → s < MAX_THREADS → v < MAX_THREADS → pair_of t s ≡ pair_of u v → (t ≡ u) × (s ≡ v)
     pair-apart t s u v l m same = (omega (arith, l, m, same), omega (arith, l, m, same))
 
     module _ (firsts : List (Option ℕ)) (n : ℕ) where
-      pub firsts-step : (s t : ℕ) → t ≡ thread n → t < MOST_THREADS → s < MOST_THREADS → pair_of t s < length firsts → IsTrue (is_finished_in nodes.slots n) → IsTrue (is_reached nodes (going_in going s) n) → AreFirsts nodes events going firsts n s → AreFirsts nodes events going (set firsts (pair_of t s) (Some (earlier_of nodes (first_in firsts t s) n))) n (s + 1)
+      pub firsts-step : (s t : ℕ) → t ≡ thread n → t < MAX_THREADS → s < MAX_THREADS → pair_of t s < length firsts → IsTrue (is_finished_in nodes.slots n) → IsTrue (is_reached nodes (going_in going s) n) → AreFirsts nodes events going firsts n s → AreFirsts nodes events going (set firsts (pair_of t s) (Some (earlier_of nodes (first_in firsts t s) n))) n (s + 1)
       firsts-step s t own few small inside done reached so_far = record {
         each = λ u v r l m there. ⊎_elim
             (λ (same : pair_of u v ≡ pair_of t s).
@@ -151,19 +151,19 @@ module _ (nodes : Nodes) (events : List Event) where
       }
 
       -- no thread past the last one has an unfinished node
-      pub firsts-rest : (m : ℕ) → length going ≤ m → AreFirsts nodes events going firsts n m → AreFirsts nodes events going firsts n MOST_THREADS
+      pub firsts-rest : (m : ℕ) → length going ≤ m → AreFirsts nodes events going firsts n m → AreFirsts nodes events going firsts n MAX_THREADS
       firsts-rest m past so_far = record {
         each = so_far.each;
         least = λ u v k seen l is. so_far.least u v k
             (⊎_elim (λ (before : k < n). inl before)
-            (λ (now : (k ≡ n) × (v < MOST_THREADS)).
+            (λ (now : (k ≡ n) × (v < MAX_THREADS)).
             ⊎_elim (λ (low : v < m). inr (now.0, low))
             (λ (high : m ≤ v). absurd (false≢true (sym (ap (λ o. is_reached nodes o k) (get_or_past going v None (omega (arith, past, high)))) ∙ is.reached)))
             (cases_lt v m))
             seen) l is;
       }
 
-      pub firsts-next : AreFirsts nodes events going firsts n MOST_THREADS → AreFirsts nodes events going firsts (n + 1) 0
+      pub firsts-next : AreFirsts nodes events going firsts n MAX_THREADS → AreFirsts nodes events going firsts (n + 1) 0
       firsts-next so_far = record {
         each = so_far.each;
         least = λ u v k seen m is. so_far.least u v k

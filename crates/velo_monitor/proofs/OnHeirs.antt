@@ -1,7 +1,7 @@
 -- What is found of a node that gives way: an earlier one of its thread, which stays, and which all reach that reach it.
 use Rattle.std.proofs.Common.{◌≡◌, ℕ, ◌<◌, ◌≤◌, false, List, Option, Some, None, refl, sym, ap, ◌∙◌, subst, inl, arith}
 use Rattle.std.specs.Prelude.{IsTrue, IsSomeAnd}
-use Rattle.velo_events.specs.declared.limits.TheConstants.{MOST_THREADS}
+use Rattle.velo_events.specs.declared.limits.TheConstants.{MAX_THREADS}
 use Rattle.velo_events.specs.declared.config.Bounds.{Bounds}
 use Rattle.velo_events.specs.declared.event.Event.{Event}
 use Rattle.velo_events.specs.Event.{is_by}
@@ -59,16 +59,16 @@ module _ (bounds : Bounds) (w : Watched) (trace : List Event) (stands : IsMonito
   pub finished-used : (k : ℕ) → IsTrue (is_finished_in w.nodes.slots k) → IsTrue (is_used w.nodes.slots k)
   finished-used k done = used_of_finished (node_in w.nodes.slots k) done
 
-  pub small : (k : ℕ) → IsTrue (is_used w.nodes.slots k) → thread k < MOST_THREADS
+  pub small : (k : ℕ) → IsTrue (is_used w.nodes.slots k) → thread k < MAX_THREADS
   small k used = omega (arith, thread-known bounds w trace stands k used, stands.few)
 
   -- of the nodes of a thread that an unfinished one reaches, the first is no later than each
-  pub first-of : (s k : ℕ) → s < MOST_THREADS → IsTrue (is_finished_in w.nodes.slots k) → IsTrue (is_reached w.nodes (going_in going s) k) → (r : ℕ) × (first_in firsts (thread k) s ≡ Some r) × (stamp r ≤ stamp k)
+  pub first-of : (s k : ℕ) → s < MAX_THREADS → IsTrue (is_finished_in w.nodes.slots k) → IsTrue (is_reached w.nodes (going_in going s) k) → (r : ℕ) × (first_in firsts (thread k) s ≡ Some r) × (stamp r ≤ stamp k)
   first-of s k l done reached =
       in_cell (first_in firsts (thread k) s) (λ r. stamp r ≤ stamp k) (are.are_firsts.least (thread k) s k (inl (used_in_range w.nodes.slots k (finished-used k done))) l (record { finished = done; thread = refl; reached = reached }))
 
   module _ (k : ℕ) (h : Heir) (gives : GivesWay w.nodes trace going firsts k h) where
-    pub among : (s : ℕ) × (s < MOST_THREADS) × IsTrue (is_reached w.nodes (going_in going s) k) × (first_in firsts (thread k) s ≡ Some h.step.slot)
+    pub among : (s : ℕ) × (s < MAX_THREADS) × IsTrue (is_reached w.nodes (going_in going s) k) × (first_in firsts (thread k) s ≡ Some h.step.slot)
     among = gives.latest.among h.step.slot refl
 
     pub is-first : IsReachedOf w.nodes trace (going_in going among.0) (thread k) h.step.slot

@@ -3,7 +3,7 @@ use Rattle.std.proofs.Common.{◌≡◌, ℕ, ◌+◌, ◌<◌, ◌≤◌, Bool,
 use Rattle.std.specs.Prelude.{◌⊎◌, nat_le, IsTrue, IsSomeAnd, if◌then◌else◌}
 use Rattle.std.proofs.lemmas.Bool.{cases_eq, cases_lt, both_ways, false≢true, leb-true, leb-false}
 use Rattle.std.proofs.lemmas.List.{get_or_past}
-use Rattle.velo_events.specs.declared.limits.TheConstants.{MOST_THREADS}
+use Rattle.velo_events.specs.declared.limits.TheConstants.{MAX_THREADS}
 use Rattle.velo_events.specs.declared.event.Event.{Event}
 use Rattle.velo_arena.specs.Slots.{node_in, stamp_in, limit_of}
 use Rattle.velo_graph.specs.Nodes.{Nodes}
@@ -52,7 +52,7 @@ module _ (nodes : Nodes) where
         no : (h : ℕ) → None ≡ Some h → ⊥
         no h is = cc
 
-    pub latest-step : (s : ℕ) (o : Option ℕ) → s < MOST_THREADS → IsTrue (is_reached nodes (going_in going s) k) → IsLatest nodes going firsts t k s o → IsLatest nodes going firsts t k (s + 1) (later_of nodes o (first_in firsts t s))
+    pub latest-step : (s : ℕ) (o : Option ℕ) → s < MAX_THREADS → IsTrue (is_reached nodes (going_in going s) k) → IsLatest nodes going firsts t k s o → IsLatest nodes going firsts t k (s + 1) (later_of nodes o (first_in firsts t s))
     latest-step s o small reached so_far = record {
       among = λ h is. ⊎_elim (λ (old : o ≡ Some h). so_far.among h old) (λ (new : first_in firsts t s ≡ Some h). (s, small, reached, new)) (later-among o (first_in firsts t s) h is);
       above = λ v r l is there. ⊎_elim
@@ -69,7 +69,7 @@ module _ (nodes : Nodes) where
     }
 
     -- no thread past the last one has an unfinished node
-    pub latest-rest : (m : ℕ) (o : Option ℕ) → length going ≤ m → IsLatest nodes going firsts t k m o → IsLatest nodes going firsts t k MOST_THREADS o
+    pub latest-rest : (m : ℕ) (o : Option ℕ) → length going ≤ m → IsLatest nodes going firsts t k m o → IsLatest nodes going firsts t k MAX_THREADS o
     latest-rest m o past so_far = record {
       among = so_far.among;
       above = λ v r l is there. ⊎_elim (λ (low : v < m). so_far.above v r low is there)

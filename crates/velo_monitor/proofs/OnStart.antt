@@ -3,7 +3,7 @@ use Rattle.std.proofs.Common.{◌≡◌, ℕ, ◌<◌, ◌≤◌, false, List, [
 use Rattle.std.specs.Prelude.{slice_index_or}
 use Rattle.std.proofs.lemmas.Bool.{cases_lt, false≢true}
 use Rattle.std.proofs.lemmas.List.{get_or-replicate, get_or_past, length-replicate}
-use Rattle.velo_events.specs.declared.limits.TheConstants.{MOST_THREADS}
+use Rattle.velo_events.specs.declared.limits.TheConstants.{MAX_THREADS}
 use Rattle.velo_events.specs.declared.config.Bounds.{Bounds}
 use Rattle.velo_events.specs.declared.event.Event.{Event}
 use Rattle.velo_events.specs.Heap.{times, depth_in}
@@ -50,7 +50,7 @@ zeros n t =
     ⊎_elim (λ (lt : t < n). get_or-replicate n t nought nought lt)
     (λ (past : n ≤ t). get_or_past (replicate n nought) t nought (omega (arith, length-replicate n nought))) (cases_lt t n)
 
-pub starts : (bounds : Bounds) (w : Watched) (limit : ℕ) → bounds.threads ≤ MOST_THREADS → w.nodes.slots.nodes ≡ replicate limit None → w.nodes.slots.newest ≡ None → ((m n : ℕ) → is_ancestor w.nodes m n ≡ false) → IsSound w.nodes → IsBlank w.kept → length w.kept.threads ≡ bounds.threads → w.depths ≡ replicate bounds.threads 0 → IsMonitorOf bounds w []
+pub starts : (bounds : Bounds) (w : Watched) (limit : ℕ) → bounds.threads ≤ MAX_THREADS → w.nodes.slots.nodes ≡ replicate limit None → w.nodes.slots.newest ≡ None → ((m n : ℕ) → is_ancestor w.nodes m n ≡ false) → IsSound w.nodes → IsBlank w.kept → length w.kept.threads ≡ bounds.threads → w.depths ≡ replicate bounds.threads 0 → IsMonitorOf bounds w []
 starts bounds w limit few none newest rows sound blank threads depths = record {
   few = few;
   well_formed = record { each = λ i e h. absurd (cc) };

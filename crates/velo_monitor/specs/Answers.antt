@@ -2,7 +2,7 @@
 use Rattle.std.specs.Prelude.{◌≡◌, ℕ, ◌<◌, ◌⊎◌, List, [], ◌∷◌, ◌++◌, length, IsTrue, IsFalse}
 use Rattle.velo_monitor.specs.declared.monitor.Seen.{Seen}
 use Rattle.velo_monitor.specs.declared.monitor.Seen.TheVariants.{Quiet, Closes}
-use Rattle.velo_events.specs.declared.limits.TheConstants.{MOST_EVENTS}
+use Rattle.velo_events.specs.declared.limits.TheConstants.{MAX_EVENTS}
 use Rattle.velo_events.specs.declared.config.Bounds.{Bounds}
 use Rattle.velo_events.specs.declared.event.Event.{Event}
 use Rattle.velo_events.specs.Event.{thread_of, is_begin}
@@ -39,7 +39,7 @@ pub record IsNext (monitor : Watched) (position : ℕ) (e : Event) : Type 0 wher
   pub trace : List Event
   pub stands : IsMonitorOf bounds monitor trace
   pub at_end : position ≡ length trace
-  pub within : position < MOST_EVENTS
+  pub within : position < MAX_EVENTS
   pub follows : MayFollow bounds trace e
   pub room : HasRoomFor monitor.kept e
   pub slot : NeedsNode monitor trace e → used_in monitor.nodes.slots < limit_of monitor.nodes.slots

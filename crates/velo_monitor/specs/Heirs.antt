@@ -1,7 +1,7 @@
 -- Finished nodes that give way to earlier ones of their thread. Words of private contracts.
 use Rattle.std.specs.Prelude.{◌≡◌, ◌≢◌, ℕ, ◌+◌, ◌*◌, ◌<◌, ◌≤◌, Bool, false, ◌⊎◌, nat_le, List, length, Option, Some, None, IsTrue, IsSomeAnd, is_some, slice_get, slice_index_or, if◌then◌else◌}
 use Rattle.std.specs.Option.{ForSome, option_map_or}
-use Rattle.velo_events.specs.declared.limits.TheConstants.{MOST_THREADS}
+use Rattle.velo_events.specs.declared.limits.TheConstants.{MAX_THREADS}
 use Rattle.velo_events.specs.declared.event.Event.{Event}
 use Rattle.velo_events.specs.Event.{thread_of}
 use Rattle.velo_arena.specs.declared.step.Heir.{Heir}
@@ -48,7 +48,7 @@ is_reached nodes (Some u) k = reaches nodes u k
 
 -- the number of two threads
 abbrev pub pair_of : ℕ → ℕ → ℕ
-pair_of t s = t * MOST_THREADS + s
+pair_of t s = t * MAX_THREADS + s
 
 abbrev pub first_in : List (Option ℕ) → ℕ → ℕ → Option ℕ
 first_in firsts t s = slice_index_or firsts (pair_of t s) None
@@ -67,8 +67,8 @@ pub record IsReachedOf (nodes : Nodes) (events : List Event) (going : Option ℕ
 -- for each two threads one of the finished nodes of the one that the unfinished node of the other reaches. Of those in the slots
 -- before n, and in slot n for the first m threads, it is the one with the least stamp, if there is one
 pub record AreFirsts (nodes : Nodes) (events : List Event) (going firsts : List (Option ℕ)) (n m : ℕ) : Type 0 where
-  pub each : (t s r : ℕ) → t < MOST_THREADS → s < MOST_THREADS → first_in firsts t s ≡ Some r → IsReachedOf nodes events (going_in going s) t r
-  pub least : (t s k : ℕ) → (k < n) ⊎ ((k ≡ n) × (s < m)) → s < MOST_THREADS → IsReachedOf nodes events (going_in going s) t k → IsSomeAnd (first_in firsts t s) (λ r. stamp_in nodes.slots r ≤ stamp_in nodes.slots k)
+  pub each : (t s r : ℕ) → t < MAX_THREADS → s < MAX_THREADS → first_in firsts t s ≡ Some r → IsReachedOf nodes events (going_in going s) t r
+  pub least : (t s k : ℕ) → (k < n) ⊎ ((k ≡ n) × (s < m)) → s < MAX_THREADS → IsReachedOf nodes events (going_in going s) t k → IsSomeAnd (first_in firsts t s) (λ r. stamp_in nodes.slots r ≤ stamp_in nodes.slots k)
 
 -- ---- the heir
 
@@ -81,13 +81,13 @@ later_of nodes (Some h) (Some r) = if nat_le (stamp_in nodes.slots h) (stamp_in 
 -- for the node in slot k of thread t: of the earliest of its thread that unfinished nodes of the first m threads reach, which reach
 -- this one too, the one with the greatest stamp, if there is one
 pub record IsLatest (nodes : Nodes) (going firsts : List (Option ℕ)) (t k m : ℕ) (latest : Option ℕ) : Type 0 where
-  pub among : (h : ℕ) → latest ≡ Some h → (s : ℕ) × (s < MOST_THREADS) × IsTrue (is_reached nodes (going_in going s) k) × (first_in firsts t s ≡ Some h)
+  pub among : (h : ℕ) → latest ≡ Some h → (s : ℕ) × (s < MAX_THREADS) × IsTrue (is_reached nodes (going_in going s) k) × (first_in firsts t s ≡ Some h)
   pub above : (s r : ℕ) → s < m → IsTrue (is_reached nodes (going_in going s) k) → first_in firsts t s ≡ Some r → IsSomeAnd latest (λ h. stamp_in nodes.slots r ≤ stamp_in nodes.slots h)
 
 -- the finished node in slot k gives way to the latest
 pub record GivesWay (nodes : Nodes) (events : List Event) (going firsts : List (Option ℕ)) (k : ℕ) (heir : Heir) : Type 0 where
   pub finished : IsTrue (is_finished_in nodes.slots k)
-  pub latest : IsLatest nodes going firsts (thread_in nodes events k) k MOST_THREADS (Some heir.step.slot)
+  pub latest : IsLatest nodes going firsts (thread_in nodes events k) k MAX_THREADS (Some heir.step.slot)
   pub other : heir.step.slot ≢ k
   pub of : heir.of ≡ stamp_in nodes.slots k
   pub stamp : heir.step.stamp ≡ stamp_in nodes.slots heir.step.slot
@@ -95,7 +95,7 @@ pub record GivesWay (nodes : Nodes) (events : List Event) (going firsts : List (
 -- if the node in slot k has finished, it is the latest itself, or there is none
 pub record Stays (nodes : Nodes) (events : List Event) (going firsts : List (Option ℕ)) (k : ℕ) : Type 0 where
   pub latest : Option ℕ
-  pub is : IsTrue (is_finished_in nodes.slots k) → IsLatest nodes going firsts (thread_in nodes events k) k MOST_THREADS latest
+  pub is : IsTrue (is_finished_in nodes.slots k) → IsLatest nodes going firsts (thread_in nodes events k) k MAX_THREADS latest
   pub itself : ForSome latest (λ h. h ≡ k)
 
 abbrev pub IsHeirOf : Nodes → List Event → List (Option ℕ) → List (Option ℕ) → ℕ → Option Heir → Type 0

@@ -1,7 +1,7 @@
 -- What callers see of a monitor, and the traces that it stands for.
 use Rattle.std.specs.Prelude.{◌≡◌, ◌≢◌, ℕ, ◌<◌, ◌≤◌, false, not, ◌⊎◌, List, length, Option, Some, None, IsTrue, IsSomeAnd, slice_index_or}
 use Rattle.std.specs.Option.{ForSome}
-use Rattle.velo_events.specs.declared.limits.TheConstants.{MOST_THREADS}
+use Rattle.velo_events.specs.declared.limits.TheConstants.{MAX_THREADS}
 use Rattle.velo_events.specs.declared.config.Bounds.{Bounds}
 use Rattle.velo_events.specs.declared.event.Event.{Event}
 use Rattle.velo_events.specs.Heap.{depth_in}
@@ -65,7 +65,7 @@ AreDepths bounds depths trace = (length depths ≡ bounds.threads) × ((t : ℕ)
 
 -- the monitor is that of the trace, which can come about within the bounds and has no cycle
 pub record IsMonitorOf (bounds : Bounds) (monitor : Watched) (trace : List Event) : Type 0 where
-  pub few : bounds.threads ≤ MOST_THREADS
+  pub few : bounds.threads ≤ MAX_THREADS
   pub well_formed : IsWellFormed bounds trace
   pub acyclic : ¬ HasCycle trace
   pub earlier : ForSome monitor.nodes.slots.newest (λ newest. newest < length trace)

@@ -1,7 +1,7 @@
 //! Which finished nodes give way to which: of those of one thread that the same unfinished nodes reach, to the earliest.
 ghost use Rattle.std.specs.Prelude.{◌≡◌, ◌*◌, ◌<◌, ◌≤◌, ℕ, Some, None, length, slice_index_or, IfOk, IsTrue};
 ghost use Rattle.std.specs.Option.{ForSome};
-ghost use Rattle.velo_events.specs.declared.limits.TheConstants.{MOST_THREADS};
+ghost use Rattle.velo_events.specs.declared.limits.TheConstants.{MAX_THREADS};
 ghost use Rattle.velo_arena.specs.Slots.{is_used, is_finished_in, stamp_in, limit_of};
 ghost use Rattle.velo_arena.specs.Heirs.{heir_in};
 ghost use Rattle.velo_monitor.specs.declared.heirs.TheConstants.{PAIRS};
@@ -11,12 +11,12 @@ use std::alloc::Global;
 use std::marker::Model;
 use velo_arena::{Heir, Step};
 use velo_events::growth::filled;
-use velo_events::{Event, MOST_THREADS, Memory};
+use velo_events::{Event, MAX_THREADS, Memory};
 use velo_graph::Graph;
 use velo_rows::BitRow;
 
 /// How many pairs of threads there are at most.
-const PAIRS: usize = MOST_THREADS as usize * MOST_THREADS as usize;
+const PAIRS: usize = MAX_THREADS as usize * MAX_THREADS as usize;
 
 /// The heir of each slot, as it was found last. Only `new` takes memory.
 #[derive(Drop)]
@@ -61,7 +61,7 @@ impl Heirs {
     /// Finds the heir of each slot of the graph, whose nodes are of so many threads.
     pub fn find(&mut self, graph: &Graph<BitRow>, events: &[Event], threads: usize)
         requires limit { length self.old ≡ limit_of graph.now.slots }
-        requires few { threads ≤ MOST_THREADS }
+        requires few { threads ≤ MAX_THREADS }
         requires threads { HaveThreads graph.now events.now threads }
         ensures heirs { AreHeirs graph.now events.now self.new }
         ensures limit { length self.new ≡ length self.old }
@@ -79,16 +79,16 @@ fn find_all(
     heirs: &mut [Option<Heir>],
 )
     requires limit { length heirs.old ≡ limit_of graph.now.slots }
-    requires few { threads ≤ MOST_THREADS }
+    requires few { threads ≤ MAX_THREADS }
     requires threads { HaveThreads graph.now events.now threads }
     requires pairs { length firsts.old ≡ PAIRS }
     ensures heirs { AreHeirs graph.now events.now heirs.new }
     ensures limit { length heirs.new ≡ length heirs.old }
     ensures pairs { length firsts.new ≡ length firsts.old }
 {
-    let mut all = [None; MOST_THREADS as usize];
+    let mut all = [None; MAX_THREADS as usize];
     let going = &mut all[..threads];
-    let firsts = &mut firsts[..threads * MOST_THREADS as usize];
+    let firsts = &mut firsts[..threads * MAX_THREADS as usize];
     find_going(graph, events, going);
     find_firsts(graph, events, going, firsts);
     find_heirs(graph, events, going, firsts, heirs);
@@ -143,11 +143,11 @@ fn is_reached(graph: &Graph<BitRow>, going: Option<u16>, slot: u16) -> bool
 
 /// The number of two threads.
 fn pair_of(t: usize, s: usize) -> usize
-    requires t { t < MOST_THREADS }
-    requires s { s < MOST_THREADS }
+    requires t { t < MAX_THREADS }
+    requires s { s < MAX_THREADS }
     ensures { result ≡ pair_of t s }
 {
-    t * MOST_THREADS as usize + s
+    t * MAX_THREADS as usize + s
 }
 
 /// The slot, if the other has a later stamp or there is none.
@@ -179,10 +179,10 @@ fn put_firsts(
     requires finished { IsTrue (is_finished_in graph.now.slots slot) }
     requires threads { HaveThreads graph.now events.now (length going.now) }
     requires going { (s u : ℕ) → going_in going.now s ≡ Some u → IsTrue (is_used graph.now.slots u) }
-    requires few { length going.now ≤ MOST_THREADS }
-    requires pairs { length firsts.old ≡ length going.now * MOST_THREADS }
+    requires few { length going.now ≤ MAX_THREADS }
+    requires pairs { length firsts.old ≡ length going.now * MAX_THREADS }
     requires firsts { AreFirsts graph.now events.now going.now firsts.old slot 0 }
-    ensures firsts { AreFirsts graph.now events.now going.now firsts.new slot MOST_THREADS }
+    ensures firsts { AreFirsts graph.now events.now going.now firsts.new slot MAX_THREADS }
     ensures pairs { length firsts.new ≡ length firsts.old }
 {
     let t = thread_of(graph, events, slot);
@@ -203,8 +203,8 @@ fn find_firsts(
 )
     requires threads { HaveThreads graph.now events.now (length going.now) }
     requires going { (s u : ℕ) → going_in going.now s ≡ Some u → IsTrue (is_used graph.now.slots u) }
-    requires few { length going.now ≤ MOST_THREADS }
-    requires pairs { length firsts.old ≡ length going.now * MOST_THREADS }
+    requires few { length going.now ≤ MAX_THREADS }
+    requires pairs { length firsts.old ≡ length going.now * MAX_THREADS }
     ensures firsts { AreFirsts graph.now events.now going.now firsts.new (limit_of graph.now.slots) 0 }
     ensures pairs { length firsts.new ≡ length firsts.old }
 {
@@ -246,10 +246,10 @@ fn latest_of(
     requires used { IsTrue (is_used graph.now.slots slot) }
     requires t { t < length going.now }
     requires going { (s u : ℕ) → going_in going.now s ≡ Some u → IsTrue (is_used graph.now.slots u) }
-    requires firsts { (s r : ℕ) → s < MOST_THREADS → first_in firsts.now t s ≡ Some r → IsTrue (is_used graph.now.slots r) }
-    requires few { length going.now ≤ MOST_THREADS }
-    requires pairs { length firsts.now ≡ length going.now * MOST_THREADS }
-    ensures { IsLatest graph.now going.now firsts.now t slot MOST_THREADS result }
+    requires firsts { (s r : ℕ) → s < MAX_THREADS → first_in firsts.now t s ≡ Some r → IsTrue (is_used graph.now.slots r) }
+    requires few { length going.now ≤ MAX_THREADS }
+    requires pairs { length firsts.now ≡ length going.now * MAX_THREADS }
+    ensures { IsLatest graph.now going.now firsts.now t slot MAX_THREADS result }
 {
     let mut latest = None;
     for s in 0..going.len() {
@@ -272,8 +272,8 @@ fn heir_of(
     requires threads { HaveThreads graph.now events.now (length going.now) }
     requires going { AreGoing graph.now events.now going.now (limit_of graph.now.slots) }
     requires firsts { AreFirsts graph.now events.now going.now firsts.now (limit_of graph.now.slots) 0 }
-    requires few { length going.now ≤ MOST_THREADS }
-    requires pairs { length firsts.now ≡ length going.now * MOST_THREADS }
+    requires few { length going.now ≤ MAX_THREADS }
+    requires pairs { length firsts.now ≡ length going.now * MAX_THREADS }
     ensures { IsHeirOf graph.now events.now going.now firsts.now slot result }
 {
     let t = thread_of(graph, events, slot);
@@ -300,8 +300,8 @@ fn find_heirs(
     requires threads { HaveThreads graph.now events.now (length going.now) }
     requires going { AreGoing graph.now events.now going.now (limit_of graph.now.slots) }
     requires firsts { AreFirsts graph.now events.now going.now firsts.now (limit_of graph.now.slots) 0 }
-    requires few { length going.now ≤ MOST_THREADS }
-    requires pairs { length firsts.now ≡ length going.now * MOST_THREADS }
+    requires few { length going.now ≤ MAX_THREADS }
+    requires pairs { length firsts.now ≡ length going.now * MAX_THREADS }
     requires limit { length heirs.old ≡ limit_of graph.now.slots }
     ensures heirs { (k : ℕ) → IsHeirOf graph.now events.now going.now firsts.now k (heir_in heirs.new k) }
     ensures limit { length heirs.new ≡ length heirs.old }

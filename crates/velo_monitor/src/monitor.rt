@@ -34,7 +34,7 @@ use velo_events::{Access, Cell, Config, Event, Kind, Memory, Resolved, ThreadId}
 use velo_graph::Graph;
 use velo_merge::{Placed, place};
 use velo_rows::BitRow;
-use velo_tables::{MOST_PREDECESSORS, Tables};
+use velo_tables::{MAX_PREDECESSORS, Tables};
 
 /// What one more event does to the graph.
 #[derive(Clone, Copy, Debug, PartialEq, Eq)]
@@ -55,7 +55,7 @@ pub struct Monitor {
     /// How many blocks each thread has open.
     depths: Vec<u8>,
     /// The steps that the present event looks up.
-    steps: SmallVec<Step, MOST_PREDECESSORS>,
+    steps: SmallVec<Step, MAX_PREDECESSORS>,
     freed: Freed,
     /// Which nodes give way to which, as found by the last compaction.
     heirs: Heirs,
@@ -64,7 +64,7 @@ pub struct Monitor {
 impl Model for Monitor {
     ghost use Rattle.std.specs.Prelude.{◌≡◌, ◌≤◌, length};
     ghost use Rattle.velo_arena.specs.Slots.{limit_of};
-    ghost use Rattle.velo_tables.specs.declared.tables.TheConstants.{MOST_PREDECESSORS};
+    ghost use Rattle.velo_tables.specs.declared.tables.TheConstants.{MAX_PREDECESSORS};
     ghost use Rattle.velo_monitor.specs.Watched.{Watched};
     ghost use Rattle.velo_monitor.specs.Codes.{watched_code};
 
@@ -74,7 +74,7 @@ impl Model for Monitor {
 
     ghost view = { λ m. record { nodes = m.graph; kept = m.tables; depths = m.depths.items } };
 
-    ghost invariant = { λ m. (MOST_PREDECESSORS ≤ m.steps.capacity) × (limit_of m.graph.slots ≤ m.freed.room) × (length m.heirs ≡ limit_of m.graph.slots) };
+    ghost invariant = { λ m. (MAX_PREDECESSORS ≤ m.steps.capacity) × (limit_of m.graph.slots ≤ m.freed.room) × (length m.heirs ≡ limit_of m.graph.slots) };
 }
 
 impl Monitor {
@@ -143,7 +143,7 @@ impl Monitor {
 
     /// Takes in the next event, unless it closes a cycle. Afterwards nothing is left that could be collected.
     ///
-    /// The position has to be the number of the events before it, below [`MOST_EVENTS`](velo_events::MOST_EVENTS), and
+    /// The position has to be the number of the events before it, below [`MAX_EVENTS`](velo_events::MAX_EVENTS), and
     /// the event one that may follow them. There has to be room for it, as after `reserve`, and a free slot where
     /// `needs_node` says so.
     #[inline(always)]
@@ -445,8 +445,7 @@ impl Monitor {
     {
         let resolved = Resolved::of(event);
         let step = if let Access::Exclusive(_) = resolved.access() {
-            self.tables
-                .predecessors_into(&resolved, &mut self.steps);
+            self.tables.predecessors_into(&resolved, &mut self.steps);
             place_operation(&mut self.graph, &self.steps, position)
         } else {
             let own = self.tables.last_of(event.thread);

@@ -3,7 +3,7 @@ use Rattle.std.proofs.Common.{◌≡◌, ◌≢◌, ℕ, Bool, true, false, cond
 use Rattle.std.specs.Prelude.{◌==◌, ◌&&◌, nat_le, nat_lt, if◌then◌else◌, IsTrue, IsFalse}
 use Rattle.std.proofs.lemmas.Bool.{cases_Bool, cases_eq, and_left, and_parts, and_from, or_left, or_right, or_cases, or_parts, not-true, not_from_true, not_from_false, eqb-true, eq-eqb, ne_eqb, false≢true, false_from_ne_true, both_ways}
 use Rattle.std.proofs.lemmas.Option.{none-some, same_Some}
-use Rattle.velo_events.specs.declared.limits.TheConstants.{MOST_OPEN_BLOCKS}
+use Rattle.velo_events.specs.declared.limits.TheConstants.{MAX_OPEN_BLOCKS}
 use Rattle.velo_events.specs.declared.config.Bounds.{Bounds}
 use Rattle.velo_events.specs.declared.event.Action.{Action}
 use Rattle.velo_events.specs.declared.event.Event.{Event}
@@ -140,7 +140,7 @@ module _ (bounds : Bounds) (wants : ℕ → List Event → Option Action) (log :
       lacks : IsTrue (not (are_same (holder_in log m.0) (Some u.0))) → IsTrue (not (are_same (holder_in after m.0) (Some u.0)))
       lacks w = not_from_false _ (false_from_ne_true _ (λ now.
           both_ways _ (not-true _ w) (ap (λ (o : Option ℕ). are_same o (Some u.0)) (holder_before m.0 (is_holder (holder_in after m.0) u.0 now)) ∙ eq-eqb u.0 u.0 refl)))
-  stays (Action.Begin l) single h = refuses-first _ _ _ _ _ refl not_live_stays (refuses-last _ _ _ refl (λ deep. ap (nat_le MOST_OPEN_BLOCKS) same_depth ∙ deep)) h
+  stays (Action.Begin l) single h = refuses-first _ _ _ _ _ refl not_live_stays (refuses-last _ _ _ refl (λ deep. ap (nat_le MAX_OPEN_BLOCKS) same_depth ∙ deep)) h
   stays Action.End single h = refuses-first _ _ _ _ _ refl not_live_stays (refuses-last _ _ _ refl (λ flat. ap (λ d. d == 0) same_depth ∙ flat)) h
   stays (Action.Fork v) single h = refuses-first _ _ _ _ _ refl not_live_stays (refuses-first _ _ _ _ _ refl (λ k. k)
       (refuses-last _ _ _ refl (λ forked. not_from_false _ (false_from_ne_true _ (λ now. both_ways _ (not-true _ forked) (unborn-before log e v.0 now).0))))) h

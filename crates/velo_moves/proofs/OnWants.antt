@@ -5,7 +5,7 @@ use Rattle.std.proofs.Math.Seq.{take-append_seam}
 use Rattle.std.proofs.lemmas.List.{take-append-le}
 use Rattle.std.proofs.lemmas.Option.{slice_get_within, same_Some}
 use Rattle.std.proofs.lemmas.Bool.{cases_lt}
-use Rattle.velo_events.specs.declared.limits.TheConstants.{MOST_OPEN_BLOCKS}
+use Rattle.velo_events.specs.declared.limits.TheConstants.{MAX_OPEN_BLOCKS}
 use Rattle.velo_events.specs.declared.config.Bounds.{Bounds}
 use Rattle.velo_events.specs.declared.event.Action.{Action}
 use Rattle.velo_events.specs.declared.event.Event.{Event}
@@ -125,7 +125,7 @@ module _ (bounds : Bounds) (old new : List Event) (heap : StandsAlike old new) w
       (reason_step _ _ AlreadyHeld _ _ (already-same t k)
       (reason_step _ _ NotHolder _ _ (unheld-same t k)
       (reason_step _ _ NoOpenBlock _ _ (ap (λ d. is_end k && (d == 0)) (heap.depths t))
-      (reason_step _ _ TooDeep _ _ (ap (λ d. is_begin k && nat_le MOST_OPEN_BLOCKS d) (heap.depths t))
+      (reason_step _ _ TooDeep _ _ (ap (λ d. is_begin k && nat_le MAX_OPEN_BLOCKS d) (heap.depths t))
       (reason_step _ _ AlreadyForked _ _ (status-same (forked_by k) (λ s. not (is_unborn s)))
       (reason_step _ _ NotForked _ _ (status-same (joined_by k) is_unborn)
       (reason_step _ _ NotExited _ _ (status-same (joined_by k) is_live)

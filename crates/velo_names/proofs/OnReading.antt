@@ -1,7 +1,7 @@
 -- The steps of the reader.
 use Rattle.std.proofs.Common.{◌≡◌, ℕ, ◌+◌, Bool, true, false, cond, nat_lt, List, [], ◌∷◌, Option, Some, None, Result, Ok, Err, refl, sym, ap, subst, ◌∙◌}
 use Rattle.std.specs.Option.{option_map_or}
-use Rattle.velo_names.specs.declared.limits.TheConstants.{MOST_NAME_LINES}
+use Rattle.velo_names.specs.declared.limits.TheConstants.{MAX_NAME_LINES}
 use Rattle.velo_names.specs.declared.fault.NamesFault.{NamesFault}
 use Rattle.velo_names.specs.declared.fault.NamesFault.TheVariants.{BadLine, NamedTwice, TooManyLines, TooManyBytes, NotText, Memory}
 use Rattle.velo_names.specs.Line.{Naming, naming_of, is_silent}
@@ -13,24 +13,24 @@ use Rattle.velo_names.specs.Answers.{AnswersAs}
 abbrev by_tests : Bool → Bool → Option Naming → NameLists → ℕ → Result NameLists NamesFault
 by_tests many silent said names n = cond many (Err TooManyLines) (cond silent (Ok names) (option_map_or (λ x. names_with names x n) said (Err (BadLine n))))
 
-after_is : (names : NameLists) (n : ℕ) (line : List ℕ) → names_after names n line ≡ by_tests (nat_lt MOST_NAME_LINES n) (is_silent line) (naming_of line) names n
+after_is : (names : NameLists) (n : ℕ) (line : List ℕ) → names_after names n line ≡ by_tests (nat_lt MAX_NAME_LINES n) (is_silent line) (naming_of line) names n
 unfolding names_after
 after_is names n line = refl
 
-pub one_too_many : (names : NameLists) (n : ℕ) (line : List ℕ) → nat_lt MOST_NAME_LINES n ≡ true → names_after names n line ≡ Err TooManyLines
+pub one_too_many : (names : NameLists) (n : ℕ) (line : List ℕ) → nat_lt MAX_NAME_LINES n ≡ true → names_after names n line ≡ Err TooManyLines
 one_too_many names n line e = after_is names n line ∙ ap (λ (v : Bool). by_tests v (is_silent line) (naming_of line) names n) e
 
-few : (names : NameLists) (n : ℕ) (line : List ℕ) → nat_lt MOST_NAME_LINES n ≡ false → names_after names n line ≡ by_tests false (is_silent line) (naming_of line) names n
+few : (names : NameLists) (n : ℕ) (line : List ℕ) → nat_lt MAX_NAME_LINES n ≡ false → names_after names n line ≡ by_tests false (is_silent line) (naming_of line) names n
 few names n line e = after_is names n line ∙ ap (λ (v : Bool). by_tests v (is_silent line) (naming_of line) names n) e
 
-pub nothing_said : (names : NameLists) (n : ℕ) (line : List ℕ) → nat_lt MOST_NAME_LINES n ≡ false → is_silent line ≡ true → names_after names n line ≡ Ok names
+pub nothing_said : (names : NameLists) (n : ℕ) (line : List ℕ) → nat_lt MAX_NAME_LINES n ≡ false → is_silent line ≡ true → names_after names n line ≡ Ok names
 nothing_said names n line e silent = few names n line e ∙ ap (λ (v : Bool). by_tests false v (naming_of line) names n) silent
 
-pub no_naming : (names : NameLists) (n : ℕ) (line : List ℕ) → nat_lt MOST_NAME_LINES n ≡ false → is_silent line ≡ false → naming_of line ≡ None → names_after names n line ≡ Err (BadLine n)
+pub no_naming : (names : NameLists) (n : ℕ) (line : List ℕ) → nat_lt MAX_NAME_LINES n ≡ false → is_silent line ≡ false → naming_of line ≡ None → names_after names n line ≡ Err (BadLine n)
 no_naming names n line e loud none =
     few names n line e ∙ ap (λ (v : Bool). by_tests false v (naming_of line) names n) loud ∙ ap (λ (o : Option Naming). by_tests false false o names n) none
 
-pub named : (names : NameLists) (n : ℕ) (line : List ℕ) (x : Naming) → nat_lt MOST_NAME_LINES n ≡ false → is_silent line ≡ false → naming_of line ≡ Some x → names_after names n line ≡ names_with names x n
+pub named : (names : NameLists) (n : ℕ) (line : List ℕ) (x : Naming) → nat_lt MAX_NAME_LINES n ≡ false → is_silent line ≡ false → naming_of line ≡ Some x → names_after names n line ≡ names_with names x n
 named names n line x e loud some =
     few names n line e ∙ ap (λ (v : Bool). by_tests false v (naming_of line) names n) loud ∙ ap (λ (o : Option Naming). by_tests false false o names n) some
 

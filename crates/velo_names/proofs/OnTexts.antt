@@ -5,7 +5,7 @@ use Rattle.std.specs.List.{AllByRecursion, onto_first, flat_map}
 use Rattle.std.proofs.lemmas.Fmt.{decimal_by_steps}
 use Rattle.std.proofs.lemmas.Bool.{and_parts}
 use Rattle.std.proofs.lemmas.Bool.Decides.{nat_tests}
-use Rattle.velo_names.specs.declared.limits.TheConstants.{MOST_NAME_BYTES, MOST_NAME_LINES}
+use Rattle.velo_names.specs.declared.limits.TheConstants.{MAX_NAME_BYTES, MAX_NAME_LINES}
 use Rattle.velo_names.specs.declared.fault.NamesFault.{NamesFault}
 use Rattle.velo_names.specs.declared.fault.NamesFault.TheVariants.{NamedTwice}
 use Rattle.velo_names.specs.declared.kind.NameKind.{NameKind}
@@ -98,7 +98,7 @@ loud Label rest = refl
 
 -- ---- one line
 
-not_more : (n : ℕ) → n ≤ MOST_NAME_LINES → nat_lt MOST_NAME_LINES n ≡ false
+not_more : (n : ℕ) → n ≤ MAX_NAME_LINES → nat_lt MAX_NAME_LINES n ≡ false
 not_more n le = grind (arith, nat_tests)
 
 list_is : (kind : NameKind) (list : NameList) (names : NameLists) → list_of kind (with_list kind list names) ≡ list
@@ -119,7 +119,7 @@ fresh_put list e n none = ap (λ (o : Option (List ℕ)). wrong_or (is_some o)) 
     wrong_or : Bool → Result NameList NamesFault
     wrong_or v = cond v (Err (NamedTwice n)) (Ok (list ++ (e.0, e.1) ∷ []))
 
-one_more : (kind : NameKind) (before : NameList) (names : NameLists) (e : ℕ × List ℕ) (n : ℕ) → FitsKind kind e → name_in before e.0 ≡ None → n ≤ MOST_NAME_LINES → names_after (with_list kind before names) n (naming_text (record { kind = kind; number = e.0; name = e.1 })) ≡ Ok (with_list kind (before ++ e ∷ []) names)
+one_more : (kind : NameKind) (before : NameList) (names : NameLists) (e : ℕ × List ℕ) (n : ℕ) → FitsKind kind e → name_in before e.0 ≡ None → n ≤ MAX_NAME_LINES → names_after (with_list kind before names) n (naming_text (record { kind = kind; number = e.0; name = e.1 })) ≡ Ok (with_list kind (before ++ e ∷ []) names)
 one_more kind before names e n fits none few =
     let x : Naming = record { kind = kind; number = e.0; name = e.1 } in
     named (with_list kind before names) n (naming_text x) x (not_more n few) (loud kind (codes " " ++ (decimal e.0 ++ (codes " " ++ e.1)))) (naming_again x fits)
@@ -129,7 +129,7 @@ one_more kind before names e n fits none few =
 
 -- ---- the lines of a kind
 
-list_read : (kind : NameKind) (before list : NameList) (names : NameLists) (n : ℕ) (tail : List ℕ) → AllByRecursion (FitsKind kind) list → AreFresh before list → n + length list ≤ MOST_NAME_LINES → names_from (with_list kind before names) n (lines (list_text kind list ++ tail)) ≡ names_from (with_list kind (before ++ list) names) (n + length list) (lines tail)
+list_read : (kind : NameKind) (before list : NameList) (names : NameLists) (n : ℕ) (tail : List ℕ) → AllByRecursion (FitsKind kind) list → AreFresh before list → n + length list ≤ MAX_NAME_LINES → names_from (with_list kind before names) n (lines (list_text kind list ++ tail)) ≡ names_from (with_list kind (before ++ list) names) (n + length list) (lines tail)
 list_read kind before [] names n tail fit fresh few =
     ap (λ (l : NameList). names_from (with_list kind l names) n (lines tail)) (sym (append-nil before))
     ∙ ap (λ (m : ℕ). names_from (with_list kind (before ++ []) names) m (lines tail)) (let e : n ≡ n + 0 = omega arith in e)

@@ -1,6 +1,6 @@
 -- How a fault is told.
 use Rattle.std.specs.Prelude.{ℕ, ◌+◌, Option, Some, None}
-use Rattle.velo_names.specs.declared.limits.TheConstants.{MOST_NAME_LINES}
+use Rattle.velo_names.specs.declared.limits.TheConstants.{MAX_NAME_LINES}
 use Rattle.velo_names.specs.declared.fault.NamesFault.{NamesFault}
 use Rattle.velo_names.specs.declared.fault.NamesFault.TheVariants.{BadLine, NamedTwice, TooManyLines, TooManyBytes, NotText, Memory}
 
@@ -17,7 +17,7 @@ fault_number Memory = None
 abbrev pub fault_line : NamesFault → ℕ
 fault_line (BadLine n) = n
 fault_line (NamedTwice n) = n
-fault_line TooManyLines = MOST_NAME_LINES + 1
+fault_line TooManyLines = MAX_NAME_LINES + 1
 fault_line TooManyBytes = 0
 fault_line NotText = 0
 fault_line Memory = 0

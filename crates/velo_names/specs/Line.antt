@@ -3,7 +3,7 @@ use Rattle.std.specs.Prelude.{◌≡◌, ℕ, ◌-◌, ◌^◌, ◌≤◌, ◌==
 use Rattle.std.specs.Char.{is_ascii_digit}
 use Rattle.std.specs.List.{onto_first, list_all}
 use Rattle.velo_bytes.specs.Parsing.{◌>>=◌, number_at, whole_number, after_word, by_word}
-use Rattle.velo_names.specs.declared.limits.TheConstants.{MOST_NAME_BYTES}
+use Rattle.velo_names.specs.declared.limits.TheConstants.{MAX_NAME_BYTES}
 use Rattle.velo_names.specs.declared.kind.NameKind.{NameKind}
 use Rattle.velo_names.specs.declared.kind.NameKind.TheVariants.{Thread, Variable, Lock, Label}
 
@@ -39,7 +39,7 @@ has_control before (b ∷ bs) = is_control before b || has_control b bs
 
 -- 1 to 200 bytes without a control character
 abbrev pub is_name : List ℕ → Bool
-is_name name = nat_lt 0 (length name) && (nat_le (length name) MOST_NAME_BYTES && not (has_control 0 name))
+is_name name = nat_lt 0 (length name) && (nat_le (length name) MAX_NAME_BYTES && not (has_control 0 name))
 
 -- what may be said
 pub record IsNaming (x : Naming) : Type 0 where

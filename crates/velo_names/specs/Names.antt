@@ -5,7 +5,7 @@ use Rattle.std.specs.Map.{lookup}
 use Rattle.std.specs.Option.{option_map_or, option_to_list}
 use Rattle.std.specs.Str.{IsUtf8, bytes_eq}
 use Rattle.velo_events.specs.Refusals.{GrowthRefused}
-use Rattle.velo_names.specs.declared.limits.TheConstants.{MOST_NAME_LINES, MOST_NAMES_BYTES}
+use Rattle.velo_names.specs.declared.limits.TheConstants.{MAX_NAME_LINES, MAX_NAMES_BYTES}
 use Rattle.velo_names.specs.declared.fault.NamesFault.{NamesFault}
 use Rattle.velo_names.specs.declared.fault.NamesFault.TheVariants.{BadLine, NamedTwice, TooManyLines, TooManyBytes, NotText, Memory}
 use Rattle.velo_names.specs.declared.kind.NameKind.{NameKind}
@@ -74,7 +74,7 @@ names_with names x n = put_list x.kind names (list_with (list_of x.kind names) x
 -- the names after one more line, which has this number, or its fault
 unfoldable pub names_after : NameLists → ℕ → List ℕ → Result NameLists NamesFault
 names_after names n line =
-    if nat_lt MOST_NAME_LINES n then Err TooManyLines
+    if nat_lt MAX_NAME_LINES n then Err TooManyLines
     else (if is_silent line then Ok names
     else option_map_or (λ x. names_with names x n) (naming_of line) (Err (BadLine n)))
 
@@ -95,13 +95,13 @@ names_in_text text = names_from no_names 0 (lines text)
 
 -- so few bytes, which are text
 pub record IsText (bytes : List ℕ) : Type 0 where
-  pub few : length bytes ≤ MOST_NAMES_BYTES
+  pub few : length bytes ≤ MAX_NAMES_BYTES
   pub utf8 : IsUtf8 bytes
 
 -- What is wrong with the whole file comes before what is wrong with a line. Want of memory stands in none.
 abbrev pub Stands : List ℕ → Result NameLists NamesFault → Type 0
-Stands bytes (Err TooManyBytes) = MOST_NAMES_BYTES < length bytes
-Stands bytes (Err NotText) = (length bytes ≤ MOST_NAMES_BYTES) × (¬ IsUtf8 bytes)
+Stands bytes (Err TooManyBytes) = MAX_NAMES_BYTES < length bytes
+Stands bytes (Err NotText) = (length bytes ≤ MAX_NAMES_BYTES) × (¬ IsUtf8 bytes)
 Stands bytes (Err Memory) = ⊥
 Stands bytes (Err (BadLine n)) = IsText bytes × (names_in_text bytes ≡ Err (BadLine n))
 Stands bytes (Err (NamedTwice n)) = IsText bytes × (names_in_text bytes ≡ Err (NamedTwice n))
@@ -150,4 +150,4 @@ pub record IsMapping (names : NameLists) : Type 0 where
   pub variables : AreNames Variable names.variables
   pub locks : AreNames Lock names.locks
   pub labels : AreNames Label names.labels
-  pub few : length names.threads + (length names.variables + (length names.locks + length names.labels)) ≤ MOST_NAME_LINES
+  pub few : length names.threads + (length names.variables + (length names.locks + length names.labels)) ≤ MAX_NAME_LINES

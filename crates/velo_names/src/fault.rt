@@ -15,10 +15,10 @@ pub enum NamesFault {
     #[error("named twice in line {0}")]
     NamedTwice(usize),
     /// There is a line behind the last one that a file may have, the one with the number
-    /// [`MOST_NAME_LINES`](crate::MOST_NAME_LINES).
+    /// [`MAX_NAME_LINES`](crate::MAX_NAME_LINES).
     #[error("too many lines")]
     TooManyLines,
-    /// There are more bytes than [`MOST_NAMES_BYTES`](crate::MOST_NAMES_BYTES).
+    /// There are more bytes than [`MAX_NAMES_BYTES`](crate::MAX_NAMES_BYTES).
     #[error("too many bytes")]
     TooManyBytes,
     /// The bytes are not UTF-8.
@@ -49,7 +49,7 @@ impl NamesFault {
     {
         match self {
             NamesFault::BadLine(line) | NamesFault::NamedTwice(line) => *line,
-            NamesFault::TooManyLines => crate::MOST_NAME_LINES + 1,
+            NamesFault::TooManyLines => crate::MAX_NAME_LINES + 1,
             NamesFault::TooManyBytes | NamesFault::NotText | NamesFault::Memory => 0,
         }
     }

@@ -13,7 +13,7 @@ mod write;
 pub use fault::NamesFault;
 pub use kind::NameKind;
 pub use laws::{one_line, read_back};
-pub use limits::{MOST_NAME_BYTES, MOST_NAME_LINES, MOST_NAMES_BYTES};
+pub use limits::{MAX_NAME_BYTES, MAX_NAME_LINES, MAX_NAMES_BYTES};
 pub use line::{is_name, is_number, number_of_kind, split_line};
 pub use names::Names;
 pub use write::append_names;

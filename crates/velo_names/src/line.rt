@@ -6,7 +6,7 @@ ghost use Rattle.velo_names.specs.Line.{is_number, number_of_kind, is_control, h
 ghost use Rattle.velo_names.specs.Said.{said};
 
 use crate::kind::NameKind;
-use crate::limits::MOST_NAME_BYTES;
+use crate::limits::MAX_NAME_BYTES;
 use velo_bytes::{after, number, whole_number};
 
 /// A number of a kind, and its name.
@@ -45,7 +45,7 @@ fn has_control(bytes: &[u8]) -> bool
 pub fn is_name(bytes: &[u8]) -> bool
     ensures { result ≡ is_name bytes.now }
 {
-    !bytes.is_empty() && bytes.len() <= MOST_NAME_BYTES && !has_control(bytes)
+    !bytes.is_empty() && bytes.len() <= MAX_NAME_BYTES && !has_control(bytes)
 }
 
 /// What a line says behind its kind.

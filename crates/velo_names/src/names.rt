@@ -9,7 +9,7 @@ ghost use Rattle.velo_names.specs.Names.{no_names, meant_by, name_in, numbers_in
 use crate::fault::NamesFault;
 use crate::growth::insert;
 use crate::kind::NameKind;
-use crate::limits::{MOST_NAME_LINES, MOST_NAMES_BYTES};
+use crate::limits::{MAX_NAME_LINES, MAX_NAMES_BYTES};
 use crate::line::{Said, is_number, is_silent, naming, number_of_kind, split_line};
 use indexmap::IndexMap;
 use std::alloc::Global;
@@ -109,7 +109,7 @@ impl<'a> Names<'a> {
     fn take(&mut self, bytes: &'a [u8], line: usize) -> Result<(), NamesFault>
         ensures { AnswersAs (names_after self.old line bytes.now) self.new result }
     {
-        if line > MOST_NAME_LINES {
+        if line > MAX_NAME_LINES {
             return Err(NamesFault::TooManyLines);
         }
         if is_silent(bytes) {
@@ -144,7 +144,7 @@ impl<'a> Names<'a> {
     pub fn parse(alloc: Global, bytes: &'a [u8]) -> Result<Names<'a>, NamesFault>
         ensures { ReadsAs bytes.now result }
     {
-        if bytes.len() > MOST_NAMES_BYTES {
+        if bytes.len() > MAX_NAMES_BYTES {
             return Err(NamesFault::TooManyBytes);
         }
         if std::str::from_utf8(bytes).is_err() {

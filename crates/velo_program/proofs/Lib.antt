@@ -4,10 +4,10 @@ mod OnDelivery
 mod OnEndings
 mod OnExplaining
 mod OnFates
+mod OnFormats
 mod OnFindings
 mod OnPlaying
 mod OnWatching
-mod OnReading
 mod OnSaving
 mod OnNaming
 mod OnAuditing

@@ -25,10 +25,10 @@ use Rattle.velo_program.specs.declared.fate.Fate.TheVariants as fate
 use Rattle.velo_program.specs.declared.request.AuditOptions.{AuditOptions}
 use Rattle.velo_program.specs.Auditing.{AreRoundsOf, Audits, AuditsEvents, HasFullGraph, IsAuditAnswer, audited, is_found, left_at_first, left_at_last, with_locks, with_variables}
 use Rattle.velo_program.specs.Delivery.{Answer, IsDelivered, IsPrinted, LacksMemory, printing, silent}
-use Rattle.velo_program.specs.Disk.{Store}
-use Rattle.velo_program.specs.Reading.{failures_told}
+use Rattle.velo_delivery.specs.Disk.{Store}
+use Rattle.velo_program.specs.Failures.{failures_told}
 use Rattle.velo_program.specs.Steps.{PrintsOrLacks}
-use Rattle.velo_program.specs.Writing.{Writing}
+use Rattle.velo_delivery.specs.Writing.{Writing}
 use Rattle.velo_program.proofs.OnDelivery.{put_of, same_fate}
 
 -- ---- locks and variables one after another

@@ -30,8 +30,8 @@ use Rattle.velo_program.specs.declared.request.AuditOptions.{AuditOptions}
 use Rattle.velo_program.specs.declared.request.ExploreOptions.{ExploreOptions}
 use Rattle.velo_program.specs.declared.request.Ignorable.{Ignorable}
 use Rattle.velo_program.specs.declared.request.Ignorable.TheVariants.{Lock, Variable}
-use Rattle.velo_program.specs.declared.request.Operand.{Operand}
-use Rattle.velo_program.specs.declared.request.Operand.TheVariants.{File, Log}
+use Rattle.velo_delivery.specs.declared.failure.Operand.{Operand}
+use Rattle.velo_delivery.specs.declared.failure.Operand.TheVariants.{File, Log}
 use Rattle.velo_program.specs.declared.request.RunOptions.{RunOptions}
 use Rattle.velo_program.specs.declared.request.Request.{Request}
 use Rattle.velo_program.specs.declared.request.WatchOptions.{WatchOptions}
@@ -51,18 +51,20 @@ use Rattle.velo_program.specs.Auditing.{IsAuditAnswer}
 use Rattle.velo_program.specs.Carrying.{IsCarryAnswer, IsPut}
 use Rattle.velo_program.specs.Check.{IsCheckAnswer, IsFaultOfInput}
 use Rattle.velo_program.specs.Delivery.{Answer, DeliversBy, FailsSaving, IsDelivered, IsDeliveredInTurn, IsPrinted, LacksMemory, silent}
-use Rattle.velo_program.specs.Disk.{Disk, IsBarred, IsBarredRun, Store, behind}
+use Rattle.velo_delivery.specs.Disk.{Disk, Store, behind}
+use Rattle.velo_program.specs.Barred.{IsBarred, IsBarredRun}
 use Rattle.velo_program.specs.Explaining.{IsExplanation}
 use Rattle.velo_program.specs.Exploring.{IsExploreAnswer}
 use Rattle.velo_program.specs.Ignoring.{AsksInVain, MeanNothing}
-use Rattle.velo_program.specs.Listing.{HaveFaultOfList, LacksLabels, SayNoLabels}
-use Rattle.velo_program.specs.Naming.{HaveFaultOfNames, LacksNames, SayNoNames}
+use Rattle.velo_program.specs.Format.{SaysNone}
+use Rattle.velo_program.specs.Listing.{HaveFaultOfList, LacksLabels, list_file}
+use Rattle.velo_program.specs.Naming.{HaveFaultOfNames, LacksNames, names_file}
 use Rattle.velo_program.specs.Playing.{ByThreads, ByTurns, IsPlayAnswer, IsRunOf, IsSaidOfRun, IsUnread, Play}
 use Rattle.velo_program.specs.Program.{Does, DoesPlay}
 use Rattle.velo_turns.specs.Schedule.{IsFaultOfSchedule, IsFaultOfTurns}
-use Rattle.velo_program.specs.Scheduling.{HaveFaultOfSchedule, LacksSchedule, SayNoSchedule}
+use Rattle.velo_program.specs.Scheduling.{HaveFaultOfSchedule, LacksSchedule, turns_file}
 use Rattle.velo_program.specs.Watching.{EndsBehind, IsFaultOfHeader, IsWatchAnswer, Watches}
-use Rattle.velo_program.specs.Writing.{Writing}
+use Rattle.velo_delivery.specs.Writing.{Writing}
 use Rattle.velo_program.proofs.OnFindings.{caused}
 
 -- ---- by what it means no event is refused for want of memory
@@ -204,7 +206,7 @@ of_schedule_read : (read : Option (List ℕ)) (fault : ScheduleFault) → HaveFa
 of_schedule_read read schedule_fault.Bad is = tt
 of_schedule_read read schedule_fault.Memory is = is
 
-unscheduled_by : (needs : Needs) (read : Option (List ℕ)) (f : Fate) → SayNoSchedule read f → ComesByRefusal needs f
+unscheduled_by : (needs : Needs) (read : Option (List ℕ)) (f : Fate) → SaysNone turns_file read f → ComesByRefusal needs f
 unscheduled_by needs read (fate.Schedule fault) is = of_schedule_read read fault is
 unscheduled_by needs read fate.ReadFailed is = tt
 unscheduled_by needs read fate.Memory is = is
@@ -236,7 +238,7 @@ of_names read names_fault.TooManyLines is = tt
 of_names read names_fault.TooManyBytes is = tt
 of_names read names_fault.NotText is = tt
 
-unsaid : (needs : Needs) (read : Option (List ℕ)) (f : Fate) → SayNoNames read f → ComesByRefusal needs f
+unsaid : (needs : Needs) (read : Option (List ℕ)) (f : Fate) → SaysNone names_file read f → ComesByRefusal needs f
 unsaid needs read (fate.Names fault) is = of_names read fault is
 unsaid needs read fate.ReadFailed is = tt
 unsaid needs read fate.Memory is = is
@@ -255,16 +257,16 @@ of_list read list_fault.TooManyLines is = tt
 of_list read list_fault.TooManyBytes is = tt
 of_list read list_fault.NotText is = tt
 
-unlisted_by : (needs : Needs) (read : Option (List ℕ)) (f : Fate) → SayNoLabels read f → ComesByRefusal needs f
-unlisted_by needs read (fate.List fault) is = of_list read fault is
-unlisted_by needs read fate.ReadFailed is = tt
-unlisted_by needs read fate.Memory is = is
-unlisted_by needs read f is = absurd is
+unlisted_by : (names : NameLists) (needs : Needs) (read : Option (List ℕ)) (f : Fate) → SaysNone (list_file names) read f → ComesByRefusal needs f
+unlisted_by names needs read (fate.List fault) is = of_list read fault is
+unlisted_by names needs read fate.ReadFailed is = tt
+unlisted_by names needs read fate.Memory is = is
+unlisted_by names needs read f is = absurd is
 
-unlisted : (needs : Needs) (disk : Disk) (path : Option (Bor (List ℕ))) (f : Fate) → LacksLabels disk path f → ComesByRefusal needs f
-unlisted needs disk None f lacks = absurd lacks
-unlisted needs disk (Some path) f (inl closed) = subst (ComesByRefusal needs) (sym closed.0) tt
-unlisted needs disk (Some path) f (inr broken) = unlisted_by needs broken.read.bytes f broken.unsaid
+unlisted : (names : NameLists) (needs : Needs) (disk : Disk) (path : Option (Bor (List ℕ))) (f : Fate) → LacksLabels names disk path f → ComesByRefusal needs f
+unlisted names needs disk None f lacks = absurd lacks
+unlisted names needs disk (Some path) f (inl closed) = subst (ComesByRefusal needs) (sym closed.0) tt
+unlisted names needs disk (Some path) f (inr broken) = unlisted_by names needs broken.read.bytes f broken.unsaid
 
 -- nor what is to be ignored
 of_words : (needs : Needs) (names : NameLists) (what : Ignorable) (words : List (Bor (List ℕ))) (f : Fate) → MeanNothing names what words f → ComesByRefusal needs f
@@ -334,7 +336,7 @@ of_done store (request.Watch options) stdout f (inl h) = unnamed Growths store.d
 of_done store (request.Watch options) stdout f (inr (names, read, (shown, are, inl h))) = unread Growths store.disk Log options.input.now None f h.0
 of_done store (request.Watch options) stdout f (inr (names, read, (shown, are, inr h))) = of_watch shown options h.0.bytes stdout f h.3
 of_done store (request.Audit options) stdout f (inl h) = unnamed Growths store.disk options.names f h.0
-of_done store (request.Audit options) stdout f (inr (names, read, inl h)) = unlisted Growths store.disk options.known f h.0
+of_done store (request.Audit options) stdout f (inr (names, read, inl h)) = unlisted names Growths store.disk options.known f h.0
 of_done store (request.Audit options) stdout f (inr (names, read, inr (known, list, inl h))) = unmeant Growths names options f h.0
 of_done store (request.Audit options) stdout f (inr (names, read, inr (known, list, inr (asked, asks, inl h)))) = unread Growths store.disk Log options.input.now None f h.0
 of_done store (request.Audit options) stdout f (inr (names, read, inr (known, list, inr (asked, asks, inr h)))) = of_delivered Growths store None stdout h.1 f (of_audit Growths names asked options h.0.bytes h.1 tt h.4) h.5

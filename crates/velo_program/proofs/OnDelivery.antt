@@ -7,12 +7,12 @@ use Rattle.velo_program.specs.declared.fate.Fate.{Fate}
 use Rattle.velo_program.specs.declared.fate.Fate.TheVariants as fate
 use Rattle.velo_program.specs.Check.{IsCheckAnswer}
 use Rattle.velo_program.specs.Delivery.{Answer, DeliversBy, FailsSaving, IsDelivered, IsDeliveredInTurn, IsPrinted, IsTaken, Saves}
-use Rattle.velo_program.specs.Disk.{Store, behind}
+use Rattle.velo_delivery.specs.Disk.{Store, behind}
 use Rattle.velo_program.specs.Playing.{text_of_names}
 use Rattle.velo_program.specs.Steps.{AreNamesFor, IsSavedInTurn}
 use Rattle.velo_workload.specs.Program.{Program}
-use Rattle.velo_program.specs.Reading.{failures_told}
-use Rattle.velo_program.specs.Writing.{Writing, WritesNothing}
+use Rattle.velo_program.specs.Failures.{failures_told}
+use Rattle.velo_delivery.specs.Writing.{Writing, WritesNothing}
 
 module _ (store : Store) (target : Option (Bor (List ℕ))) (stdout : Writing) where
   -- what was saved, and does not come to an unopened file, is delivered where it is printed

@@ -14,10 +14,10 @@ use Rattle.velo_worker.specs.declared.ending.Ending.TheVariants as ending
 use Rattle.velo_program.specs.declared.fate.Fate.{Fate}
 use Rattle.velo_program.specs.declared.fate.Fate.TheVariants as fate
 use Rattle.velo_program.specs.Delivery.{Answer, IsDelivered, IsPrinted, LacksMemory, Saves, printing, silent}
-use Rattle.velo_program.specs.Disk.{Store}
+use Rattle.velo_delivery.specs.Disk.{Store}
 use Rattle.velo_program.specs.Explaining.{ExplainsAlarm, ExplainsVerdict, counted, explained}
-use Rattle.velo_program.specs.Reading.{failures_told}
-use Rattle.velo_program.specs.Writing.{Writing, WritesNothing}
+use Rattle.velo_program.specs.Failures.{failures_told}
+use Rattle.velo_delivery.specs.Writing.{Writing, WritesNothing}
 use Rattle.velo_program.specs.Steps.{DeliversOrLacks, Explains, IsSaved, PrintsOrLacks}
 use Rattle.velo_program.proofs.OnDelivery.{delivered_reads, printed_put, same_fate}
 use Rattle.velo_program.proofs.OnVerdicts.{no_cycle_before}

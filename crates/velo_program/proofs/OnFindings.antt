@@ -10,7 +10,7 @@ use Rattle.std.specs.List.{list_any}
 use Rattle.std.specs.List.Sorted.{IsNonDecreasingBy}
 use Rattle.velo_events.specs.declared.config.Config.{Config}
 use Rattle.velo_events.specs.declared.event.ThreadId.{ThreadId}
-use Rattle.velo_events.specs.declared.limits.TheConstants.{MOST_THREADS}
+use Rattle.velo_events.specs.declared.limits.TheConstants.{MAX_THREADS}
 use Rattle.velo_bytes.proofs.OnDevices.{appends_nothing, appends_then, beginning_then}
 use Rattle.velo_bytes.specs.Device.{AppendsBeginning, with_failure}
 use Rattle.velo_report.specs.declared.names.Names.{Names}
@@ -41,11 +41,11 @@ use Rattle.velo_program.specs.declared.fate.Fate.{Fate}
 use Rattle.velo_program.specs.declared.fate.Fate.TheVariants as fate
 use Rattle.velo_program.specs.declared.request.ExploreOptions.{ExploreOptions}
 use Rattle.velo_program.specs.declared.saving.Saving.{Saving}
-use Rattle.velo_turns.specs.declared.limits.TheConstants.{MOST_TURNS}
+use Rattle.velo_turns.specs.declared.limits.TheConstants.{MAX_TURNS}
 use Rattle.velo_program.specs.Causes.{ComesByRefusal, Growths}
 use Rattle.velo_program.specs.Check.{IsOrderOrCycle, IsOutputOf, IsVerdict}
 use Rattle.velo_program.specs.Delivery.{Answer, FailsSaving, IsDelivered, IsDeliveredInTurn, LacksMemory, printing, silent}
-use Rattle.velo_program.specs.Disk.{Store, behind as store_behind}
+use Rattle.velo_delivery.specs.Disk.{Store, behind as store_behind}
 use Rattle.velo_program.specs.ByChance.{AreOfRuns, AreSayable, DoesNotShow, IsBlame, IsBlameOf, IsByChance, IsSayable, IsSayableFinding, IsSayableRefusal, OfRuns, RefusalOfRuns}
 use Rattle.velo_program.specs.Exploring.{AreOfAll, HasFirst, IsExplorationOf, IsExplored, IsFirstReplay, IsPrintedAlone, IsSearchOf, IsToldBy, IsToldOf, ReportsReplay, TellsFinding, TellsRefusal, TellsSearch, fate_by, fate_of_told, first_schedule, most_to_blame, run_of, schedule_of, told_text, waits_behind}
 use Rattle.velo_program.specs.declared.request.RandomRuns.{RandomRuns}
@@ -61,12 +61,12 @@ use Rattle.velo_program.specs.declared.check.Verdict.TheVariants as verdict
 use Rattle.velo_program.specs.Fate.{is_alarm}
 use Rattle.velo_program.specs.Findings.{Explores, Has, IsNoMore, IsNoMoreRefusal, IsReplayBy, IsRunFor, IsRunOfFirst, IsRunWith, IsRunWithout, IsRefusalSaidFor, IsSaidFor, Lacks, Puts, PutsBy, ReportsOrLacks, TellsNoMore, TellsOrLacks, TellsReplay, TellsFindings, TellsRun, WritesBehind, WritesReport, fate_behind, first_of, first_shown, left_open, refused_or_never, shown_or_never}
 use Rattle.velo_program.specs.Playing.{AreNamesOf, IsConfigOf, is_unreported, text_of_log, text_of_names}
-use Rattle.velo_program.specs.Reading.{failures_told}
+use Rattle.velo_program.specs.Failures.{failures_told}
 use Rattle.velo_turns.specs.Short.{short_text}
 use Rattle.velo_turns.proofs.OnShort.{short_reads_back}
 use Rattle.velo_turns.proofs.OnTexts.{threads_of_schedule}
 use Rattle.velo_program.specs.Steps.{AreNamesFor, HasAlarm, IsSavedInTurn}
-use Rattle.velo_program.specs.Writing.{BreaksOff, Delivers, Writes, Writing, WritesNothing}
+use Rattle.velo_delivery.specs.Writing.{BreaksOff, Delivers, Writes, Writing, WritesNothing}
 use Rattle.velo_program.proofs.OnDelivery.{in_turn_reads, same_fate}
 use Rattle.velo_program.proofs.OnVerdicts.{output_exists}
 
@@ -80,10 +80,10 @@ on_ok (Err e) f h = tt
 
 -- ---- what can be told
 
-pub sayable_by : (schedule : List ThreadId) → length schedule ≤ MOST_TURNS → All (λ t. t.0 < MOST_THREADS) schedule → IsSayable schedule
+pub sayable_by : (schedule : List ThreadId) → length schedule ≤ MAX_TURNS → All (λ t. t.0 < MAX_THREADS) schedule → IsSayable schedule
 sayable_by schedule few threads = short_reads_back schedule threads few
 
-pub threads_of_sayable : (schedule : List ThreadId) → IsSayable schedule → All (λ t. t.0 < MOST_THREADS) schedule
+pub threads_of_sayable : (schedule : List ThreadId) → IsSayable schedule → All (λ t. t.0 < MAX_THREADS) schedule
 threads_of_sayable schedule h = threads_of_schedule (short_text schedule) schedule h
 
 pub not_sayable : (result : Bool) (schedule lent : List ThreadId) → IsTrue result ↔ IsSayable lent → lent ≡ schedule → result ≡ false → ¬ IsSayable schedule

@@ -6,18 +6,21 @@ use Rattle.std.specs.Borrow.{Bor}
 use Rattle.velo_worker.specs.declared.ending.Ending.{Ending}
 use Rattle.velo_workload.specs.declared.fault.WorkFault.{WorkFault}
 use Rattle.velo_workload.specs.declared.fault.WorkFault.TheVariants as work_fault
-use Rattle.velo_workload.specs.declared.limits.TheConstants.{MOST_WORKLOAD_BYTES}
+use Rattle.velo_workload.specs.declared.limits.TheConstants.{MAX_WORKLOAD_BYTES}
 use Rattle.velo_workload.specs.Program.{Program, meaning_of}
 use Rattle.velo_world.specs.World.{WorldState}
 use Rattle.velo_program.specs.declared.fate.Fate.{Fate}
 use Rattle.velo_program.specs.declared.fate.Fate.TheVariants as fate
 use Rattle.velo_program.specs.declared.request.RunOptions.{RunOptions}
 use Rattle.velo_program.specs.Delivery.{Answer, IsDelivered, IsDeliveredInTurn, silent}
-use Rattle.velo_program.specs.Disk.{Disk, Store}
-use Rattle.velo_program.specs.Playing.{ByThreads, ByTurns, IsFaultOfText, IsFaultOfWork, IsRunAnswer, IsSaidOfRun, IsTextOf, IsUnread, Play}
-use Rattle.velo_program.specs.Reading.{FailuresAsTold, Reading, failures_told}
-use Rattle.velo_program.specs.Writing.{Writing, WritesNothing}
-use Rattle.velo_program.specs.Steps.{IsReadOf, OpensNoProgram, OpensProgram}
+use Rattle.velo_delivery.specs.Disk.{Disk, Store}
+use Rattle.velo_program.specs.Playing.{ByThreads, ByTurns, IsFaultOfText, IsFaultOfWork, IsRunAnswer, IsSaidOfRun, IsTextOf, IsUnread, Play, workload_file}
+use Rattle.velo_program.specs.Failures.{FailuresAsTold, failures_told}
+use Rattle.velo_delivery.specs.Reading.{Reading}
+use Rattle.velo_delivery.specs.Writing.{Writing, WritesNothing}
+use Rattle.velo_delivery.specs.Reading.{IsReadOf}
+use Rattle.velo_program.specs.Format.{Reads}
+use Rattle.velo_program.specs.Steps.{OpensNoProgram}
 use Rattle.velo_program.proofs.OnDelivery.{in_turn_reads, same_fate}
 
 -- ---- from the bytes that were read to those of the file
@@ -28,16 +31,16 @@ whole all bytes rest is none = sym (is ∙ ap (λ r. bytes ++ r) none ∙ append
 pub longer : (all bytes rest : List ℕ) → all ≡ bytes ++ rest → length bytes ≤ length all
 longer all bytes rest is = let n = ap length is in omega (arith, n, length-append bytes rest)
 
-pub text_read : (read : Option (List ℕ)) (bytes : List ℕ) (program : Program) → IsReadOf MOST_WORKLOAD_BYTES read bytes → IsTextOf (Some bytes) program → IsTextOf read program
+pub text_read : (read : Option (List ℕ)) (bytes : List ℕ) (program : Program) → IsReadOf MAX_WORKLOAD_BYTES read bytes → IsTextOf (Some bytes) program → IsTextOf read program
 text_read None bytes program is text = tt
 text_read (Some all) bytes program is text =
-    subst (λ (b : List ℕ). (length b ≤ MOST_WORKLOAD_BYTES) × (meaning_of b ≡ Ok program)) (whole all bytes is.0 is.1 (is.2 text.0)) text
+    subst (λ (b : List ℕ). (length b ≤ MAX_WORKLOAD_BYTES) × (meaning_of b ≡ Ok program)) (whole all bytes is.0 is.1 (is.2 text.0)) text
 
-fault_of_text : (all bytes : List ℕ) (fault : WorkFault) → IsReadOf MOST_WORKLOAD_BYTES (Some all) bytes → IsFaultOfText bytes fault → IsFaultOfText all fault
+fault_of_text : (all bytes : List ℕ) (fault : WorkFault) → IsReadOf MAX_WORKLOAD_BYTES (Some all) bytes → IsFaultOfText bytes fault → IsFaultOfText all fault
 fault_of_text all bytes fault is (inl many) = inl (let n = longer all bytes is.0 is.1 in let m = many.0 in omega (arith, n, m), many.1)
 fault_of_text all bytes fault is (inr few) = subst (λ (b : List ℕ). IsFaultOfText b fault) (whole all bytes is.0 is.1 (is.2 few.0)) (inr few)
 
-pub fault_read : (read : Option (List ℕ)) (bytes : List ℕ) (f : WorkFault) → IsReadOf MOST_WORKLOAD_BYTES read bytes → IsFaultOfWork (Some bytes) f → IsFaultOfWork read f
+pub fault_read : (read : Option (List ℕ)) (bytes : List ℕ) (f : WorkFault) → IsReadOf MAX_WORKLOAD_BYTES read bytes → IsFaultOfWork (Some bytes) f → IsFaultOfWork read f
 fault_read read bytes work_fault.Memory is h = h
 fault_read None bytes (work_fault.BadLine n) is h = tt
 fault_read None bytes (work_fault.Unknown n) is h = tt
@@ -78,11 +81,11 @@ unread_put read f unread store kept path out nothing = (refl, kept, nothing)
 
 -- a program that was read was opened; else there is none
 pub opened : (disk : Disk) (path : List ℕ) (read : Reading) → disk.gives path read → (result : Result Program Fate) → IfOk result (IsTextOf read.bytes)
-    → OnOk result (read.failures_after ≡ read.failures_before) → IfOk result (OpensProgram disk path)
-opened disk path read given (Ok program) text kept = record { read = read; given = given; is_text = text; no_failure = kept }
+    → OnOk result (read.failures_after ≡ read.failures_before) → IfOk result (Reads workload_file disk path)
+opened disk path read given (Ok program) text kept = record { read = read; given = given; said = text; no_failure = kept }
 opened disk path read given (Err f) text kept = tt
 
 pub not_opened : (disk : Disk) (options : RunOptions) (read : Reading) → disk.gives options.input.now read → (result : Result Program Fate) → IfErr result (IsUnread read.bytes)
     → IfErr result (FailuresAsTold read) → IfErr result (OpensNoProgram disk options)
 not_opened disk options read given (Ok program) unread failures = tt
-not_opened disk options read given (Err f) unread failures = inl (record { read = read; given = given; unread = unread; failures = failures })
+not_opened disk options read given (Err f) unread failures = inl (record { read = read; given = given; unsaid = unread; failures = failures })

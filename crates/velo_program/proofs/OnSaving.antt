@@ -1,5 +1,5 @@
 -- The names that are saved behind a log.
-use Rattle.std.proofs.Common.{◌≡◌, ◌≤◌, ◌<◌, ◌+◌, ℕ, true, false, List, [], ◌∷◌, ◌++◌, length, Option, Some, None, Err, Ok, inl, refl, sym, ap, subst, arith}
+use Rattle.std.proofs.Common.{◌≡◌, ◌≤◌, ◌<◌, ◌+◌, ℕ, true, false, List, [], ◌∷◌, ◌++◌, length, Option, Some, None, Err, Ok, ◌∙◌, inl, inr, refl, sym, ap, subst, arith}
 use Rattle.std.specs.Prelude.{◌&&◌, ◌^◌, IsTrue, codes, decimal, nat_eq, nat_le, nat_lt, not}
 use Rattle.std.specs.Borrow.{Bor}
 use Rattle.std.specs.List.{AllByRecursion, enumerate_from, list_all}
@@ -10,7 +10,7 @@ use Rattle.std.proofs.lemmas.List.FromFn.{length-enumerate_from}
 use Rattle.std.proofs.lemmas.Str.{IsUtf8-append, IsUtf8-from_ascii, IsUtf8-nil}
 use Rattle.std.proofs.lemmas.Str.Ascii.{IsAscii-cons, IsAscii-nil}
 use Rattle.std.proofs.lemmas.Bool.Decides.{nat_tests}
-use Rattle.velo_names.specs.declared.limits.TheConstants.{MOST_NAME_BYTES}
+use Rattle.velo_names.specs.declared.limits.TheConstants.{MAX_NAME_BYTES}
 use Rattle.velo_names.specs.declared.kind.NameKind.{NameKind}
 use Rattle.velo_names.specs.declared.kind.NameKind.TheVariants.{Thread, Variable, Lock, Label}
 use Rattle.velo_names.specs.Line as line
@@ -21,10 +21,20 @@ use Rattle.velo_workload.specs.Program.{AreWellNamed, IsWellNamed, Program, mean
 use Rattle.velo_workload.specs.Words.{Word, is_name, is_name_byte}
 use Rattle.velo_workload.proofs.OnNaming.{meant_names}
 use Rattle.velo_workload.proofs.OnPhrases.{name_text}
-use Rattle.velo_program.specs.declared.fate.Fate.{Fate}
-use Rattle.velo_program.specs.Disk.{Store}
-use Rattle.velo_program.specs.Playing.{FitsNames, listed, text_of_names}
-use Rattle.velo_program.specs.Steps.{AreNamesFor, IsSaved, IsSavedInTurn}
+use Rattle.velo_world.specs.World.{WorldState}
+use Rattle.velo_delivery.specs.declared.answer.Save.{Save}
+use Rattle.velo_delivery.specs.declared.failure.Failure.{Failure}
+use Rattle.velo_delivery.specs.declared.failure.Failure.TheVariants as failure
+use Rattle.velo_delivery.specs.declared.failure.Operand.{Operand}
+use Rattle.velo_delivery.specs.Answers.{AreAllSaved, BreaksOffText, IsOneUnsaved, IsUnsavedFor, OpensNoTarget, SavesText}
+use Rattle.velo_delivery.specs.Disk.{Disk, Store, store}
+use Rattle.velo_delivery.specs.Writing.{BreaksOff, Writes}
+use Rattle.velo_program.specs.declared.saving.Saved.{Saved}
+use Rattle.velo_program.specs.declared.saving.Saved.TheVariants as saved
+use Rattle.velo_program.specs.Delivery.{FailsSaving, FailsToSave, Saves, SavesPart}
+use Rattle.velo_program.specs.Fate.{fate_of_failure}
+use Rattle.velo_program.specs.Playing.{FitsNames, listed, text_of_log, text_of_names}
+use Rattle.velo_program.specs.Steps.{AreNamesFor, IsSaved, IsSavedInTurn, is_text_saved}
 
 -- ---- on the way out
 
@@ -32,11 +42,77 @@ use Rattle.velo_program.specs.Steps.{AreNamesFor, IsSaved, IsSavedInTurn}
 pub names_lent : (path : Option (Bor (List ℕ))) (program : Program) (text lent : List ℕ) → lent ≡ text → AreNamesFor path program text → AreNamesFor path program lent
 names_lent path program text lent is h = subst (AreNamesFor path program) (sym is) h
 
--- where the log is not saved nor are names
-pub lost_in_turn : (X : Type 0) (store : Store) (target : Option (Bor (List ℕ))) (names log : List ℕ) (f : Fate) (path : Option (Bor (List ℕ))) → IsSaved {X = X} store target log (Err f)
-    → IsSavedInTurn {X = X} store target path names log (Err f)
-lost_in_turn X store target names log f None h = h
-lost_in_turn X store target names log f (Some path) h = inl h
+-- ---- what was saved one after another
+
+-- a text that is known was saved
+whole_saved : (store : Store) (path : Option (Bor (List ℕ))) (text : List ℕ) → SavesText store path (λ t. t ≡ text) → Saves store path (Some text)
+whole_saved store None text h = h
+whole_saved store (Some path) text (file, written, (t, is, out)) = (file, written, subst (λ (t : List ℕ). Writes file t) is out)
+
+-- or why it was not
+not_opened : (store : Store) (path : Option (Bor (List ℕ))) (text : List ℕ) → OpensNoTarget store path → FailsToSave store path (Some text)
+not_opened store None text h = absurd h
+not_opened store (Some path) text h = h
+
+broken_off : (store : Store) (path : Option (Bor (List ℕ))) (text : List ℕ) → BreaksOffText store path (λ t. t ≡ text) → SavesPart store path (Some text)
+broken_off store None text h = absurd h
+broken_off store (Some path) text (file, written, (t, is, out)) = (file, written, subst (λ (t : List ℕ). BreaksOff file t) is out)
+
+module _ (store : Store) (operand : Operand) (path : Option (Bor (List ℕ))) where
+  log_unsaved : (closed : Bor WorldState) (f : Failure) → IsUnsavedFor is_text_saved store (record { operand = operand; path = path; text = saved.Log closed }) f
+      → FailsSaving store path (Some (text_of_log closed.now)) (fate_of_failure f)
+  log_unsaved closed (failure.CannotOpen which) h = not_opened store path _ h.1
+  log_unsaved closed (failure.WriteFailed which) h = broken_off store path _ h.1
+  log_unsaved closed f h = absurd h
+
+  bytes_unsaved : (bytes : Bor (List ℕ)) (f : Failure) → IsUnsavedFor is_text_saved store (record { operand = operand; path = path; text = saved.Bytes bytes }) f
+      → FailsSaving store path (Some bytes.now) (fate_of_failure f)
+  bytes_unsaved bytes (failure.CannotOpen which) h = not_opened store path _ h.1
+  bytes_unsaved bytes (failure.WriteFailed which) h = broken_off store path _ h.1
+  bytes_unsaved bytes f h = absurd h
+
+module _ {F : Type 0} (disk : F → Disk) (first left : F) (bytes : Bor (List ℕ)) (named : Operand) where
+  abbrev bytes_at : Option (Bor (List ℕ)) → Save Saved
+  bytes_at path = record { operand = named; path = path; text = saved.Bytes bytes }
+
+  -- a text alone
+  pub text_saved : {X : Type 0} (x : X) (path : Option (Bor (List ℕ))) → AreAllSaved is_text_saved (store disk first left) (bytes_at path ∷ []) → IsSaved (store disk first left) path bytes.now (Ok x)
+  text_saved x path (between, one, end) =
+      subst (λ (s : F). Saves (store disk first s) path (Some bytes.now)) (sym end) (whole_saved (store disk first between) path bytes.now one)
+
+  pub text_unsaved : {X : Type 0} (path : Option (Bor (List ℕ))) (f : Failure) → IsOneUnsaved is_text_saved (store disk first left) (bytes_at path ∷ []) f → IsSaved {X = X} (store disk first left) path bytes.now (Err (fate_of_failure f))
+  text_unsaved path f (inl h) = bytes_unsaved (store disk first left) named path bytes f h
+  text_unsaved path f (inr h) = absurd h.2
+
+  module _ (closed : Bor WorldState) (at : Operand) (target : Option (Bor (List ℕ))) where
+    abbrev log : List ℕ
+    log = text_of_log closed.now
+
+    abbrev both : Option (Bor (List ℕ)) → List (Save Saved)
+    both path = record { operand = at; path = target; text = saved.Log closed } ∷ bytes_at path ∷ []
+
+    -- a log, and then a text
+    pub run_saved : {X : Type 0} (x : X) (path : Option (Bor (List ℕ))) → AreAllSaved is_text_saved (store disk first left) (both path) → IsSavedInTurn (store disk first left) target path bytes.now log (Ok x)
+    run_saved x None (between, one, (last, same, end)) =
+        subst (λ (s : F). Saves (store disk first s) target (Some log)) (sym (end ∙ same)) (whole_saved (store disk first between) target log one)
+    run_saved x (Some path) (between, one, (last, other, end)) = inr (
+      between,
+      whole_saved (store disk first between) target log one,
+      subst (λ (s : F). Saves (store disk between s) (Some path) (Some bytes.now)) (sym end) (whole_saved (store disk between last) (Some path) bytes.now other),
+    )
+
+    pub run_unsaved : {X : Type 0} (path : Option (Bor (List ℕ))) (f : Failure) → IsOneUnsaved is_text_saved (store disk first left) (both path) f → IsSavedInTurn {X = X} (store disk first left) target path bytes.now log (Err (fate_of_failure f))
+    run_unsaved None f (inl h) = log_unsaved (store disk first left) at target closed f h
+    run_unsaved None f (inr (between, one, inl h)) = absurd (none_there f h)
+      where
+        none_there : (f : Failure) → IsUnsavedFor is_text_saved (store disk between left) (bytes_at None) f → ⊥
+        none_there (failure.CannotOpen which) h = h.1
+        none_there (failure.WriteFailed which) h = h.1
+        none_there f h = h
+    run_unsaved None f (inr (between, one, inr h)) = absurd h.2
+    run_unsaved (Some path) f (inl h) = inl (log_unsaved (store disk first left) at target closed f h)
+    run_unsaved (Some path) f (inr (between, one, inl h)) = inr (between, whole_saved (store disk first between) target log one, bytes_unsaved (store disk between left) named (Some path) bytes f h)
+    run_unsaved (Some path) f (inr (between, one, inr h)) = absurd h.2
 
 -- ---- a name of the language is one of a file of names
 
@@ -52,7 +128,7 @@ plain before (b ∷ bs) e =
 some_bytes : (c : ℕ) (cs : List ℕ) → nat_lt 0 (length (c ∷ cs)) ≡ true
 some_bytes c cs = grind (arith, nat_tests)
 
-few_bytes : (w : Word) → nat_le (length w) 32 ≡ true → nat_le (length w) MOST_NAME_BYTES ≡ true
+few_bytes : (w : Word) → nat_le (length w) 32 ≡ true → nat_le (length w) MAX_NAME_BYTES ≡ true
 few_bytes w e = grind (arith, nat_tests)
 
 good : (w : Word) → IsTrue (is_name w) → IsTrue (line.is_name w)

@@ -28,10 +28,10 @@ use Rattle.velo_program.specs.declared.check.CheckFault.TheVariants.{Log, Refuse
 use Rattle.velo_program.specs.declared.fate.Fate.TheVariants.{Check, Finished}
 use Rattle.velo_program.specs.Check.{Checks, ComesAbout, IsFaultOfInput, IsInput, IsOrderOrCycle, IsOutput, IsVerdict, WritesOutput}
 use Rattle.velo_program.specs.Delivery.{printing, silent}
-use Rattle.velo_program.specs.Reading.{failures_told}
+use Rattle.velo_program.specs.Failures.{failures_told}
 use Rattle.velo_program.specs.Fate.{fate_of, is_alarm}
 use Rattle.velo_program.specs.Faults.{IsFaultOfLog}
-use Rattle.velo_program.specs.Writing.{BreaksOff, Writes, Writing, WritesNothing}
+use Rattle.velo_delivery.specs.Writing.{BreaksOff, Writes, Writing, WritesNothing}
 use Rattle.velo_program.specs.Steps.{HasAlarm, Shows}
 use Rattle.velo_worker.specs.declared.ending.Ending.TheVariants.{Done}
 use Rattle.velo_world.specs.Faults.{IsRefusedAt, IsWrongValueAt}

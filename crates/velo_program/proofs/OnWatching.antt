@@ -30,11 +30,11 @@ use Rattle.velo_program.specs.declared.fate.Fate.TheVariants.{Check, Finished}
 use Rattle.velo_program.specs.declared.request.WatchOptions.{WatchOptions}
 use Rattle.velo_program.specs.Delivery.{printing, silent}
 use Rattle.velo_program.specs.Fate.{fate_of, is_alarm}
-use Rattle.velo_program.specs.Reading.{failures_told}
+use Rattle.velo_program.specs.Failures.{failures_told}
 use Rattle.velo_report.specs.declared.names.Names.{Names}
 use Rattle.velo_program.specs.Steps.{Shows}
 use Rattle.velo_program.specs.Watching.{check_fault_by, EndsBehind, Follows, GoesOn, HasWatched, IsSoFar, Watches}
-use Rattle.velo_program.specs.Writing.{Writing, WritesNothing}
+use Rattle.velo_delivery.specs.Writing.{Writing, WritesNothing}
 
 -- ---- while it goes on
 

@@ -23,8 +23,9 @@ use Rattle.velo_program.specs.declared.fate.Fate.TheVariants.{Check, Finished}
 use Rattle.velo_program.specs.declared.request.AuditOptions.{AuditOptions}
 use Rattle.velo_program.specs.Check.{ComesAbout, IsUnchecked}
 use Rattle.velo_program.specs.Delivery.{Answer, IsPrinted, LacksMemory, printing, silent}
-use Rattle.velo_program.specs.Reading.{FailuresAsTold, Reading}
-use Rattle.velo_program.specs.Writing.{Writing}
+use Rattle.velo_program.specs.Failures.{FailuresAsTold}
+use Rattle.velo_delivery.specs.Reading.{Reading}
+use Rattle.velo_delivery.specs.Writing.{Writing}
 
 -- ---- what is left out
 

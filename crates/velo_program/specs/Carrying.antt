@@ -12,7 +12,7 @@ use Rattle.velo_program.specs.declared.fate.Fate.{Fate}
 use Rattle.velo_program.specs.declared.fate.Fate.TheVariants.{Check, Finished, WriteFailed}
 use Rattle.velo_program.specs.Check.{IsFaultOfLogText, IsInput}
 use Rattle.velo_program.specs.Delivery.{Answer, IsTaken, silent}
-use Rattle.velo_program.specs.Writing.{Writing}
+use Rattle.velo_delivery.specs.Writing.{Writing}
 
 -- the text of version 2 is to be saved, and nothing is printed
 abbrev pub carried : Bounds → List Event → Answer

@@ -2,7 +2,7 @@
 use Rattle.std.specs.Prelude.{◌≡◌, ℕ, ◌≤◌, ◌↔◌, ◌⊎◌, ◌++◌, [], Bool, true, false, List, length, Option, IfSome, Result, Err}
 use Rattle.velo_events.specs.declared.config.Bounds.{Bounds}
 use Rattle.velo_events.specs.declared.event.Event.{Event}
-use Rattle.velo_events.specs.declared.limits.TheConstants.{MOST_EVENTS}
+use Rattle.velo_events.specs.declared.limits.TheConstants.{MAX_EVENTS}
 use Rattle.velo_events.specs.declared.refusal.Refusal.{Refusal}
 use Rattle.velo_events.specs.Refusals.{GrowthRefused}
 use Rattle.velo_events.specs.Reordering.{IsSerializable}
@@ -28,7 +28,7 @@ use Rattle.velo_program.specs.declared.fate.Fate.{Fate}
 use Rattle.velo_program.specs.declared.fate.Fate.TheVariants.{Check, Finished}
 use Rattle.velo_program.specs.Delivery.{Answer, IsPrinted, printing, silent}
 use Rattle.velo_program.specs.Fate.{is_alarm}
-use Rattle.velo_program.specs.Writing.{Writing, Delivers}
+use Rattle.velo_delivery.specs.Writing.{Writing, Delivers}
 
 -- ---- the log of an input
 
@@ -64,7 +64,7 @@ pub record IsWrongValue (limit : ℕ) (read : Option (List ℕ)) (p : ℕ) : Typ
 -- not known, only the last is said.
 abbrev pub IsFaultOfLogText : Option (List ℕ) → LogFault → Type 0
 IsFaultOfLogText read fault =
-    IfSome read (λ bytes. ReadsAs MOST_EVENTS bytes (Err fault))
+    IfSome read (λ bytes. ReadsAs MAX_EVENTS bytes (Err fault))
     × (fault ≡ log_fault.Memory → GrowthRefused)
 
 abbrev pub IsFaultOfInput : ℕ → ℕ → Option (List ℕ) → CheckFault → Type 0

@@ -2,8 +2,8 @@
 use Rattle.std.specs.Prelude.{◌≡◌, ◌⊎◌, ℕ, List, Option, Some, None}
 use Rattle.std.specs.Borrow.{Bor}
 use Rattle.velo_events.specs.Refusals.{GrowthRefused}
-use Rattle.velo_program.specs.Disk.{Store, IsWritten, behind, up_to}
-use Rattle.velo_program.specs.Writing.{Writing, Writes, BreaksOff, WritesNothing}
+use Rattle.velo_delivery.specs.Disk.{Store, IsWritten, behind, up_to}
+use Rattle.velo_delivery.specs.Writing.{Writing, Writes, BreaksOff, WritesNothing}
 use Rattle.velo_program.specs.declared.fate.Fate.{Fate}
 use Rattle.velo_program.specs.declared.fate.Fate.TheVariants.{CannotOpen, Memory, WriteFailed}
 

@@ -2,7 +2,7 @@
 use Rattle.std.specs.Prelude.{◌≡◌, ◌⊎◌, ℕ, true, false, List, length, Option, Some}
 use Rattle.velo_events.specs.declared.config.Bounds.{Bounds}
 use Rattle.velo_events.specs.declared.event.Event.{Event}
-use Rattle.velo_events.specs.declared.limits.TheConstants.{MOST_EVENTS, MOST_NODES}
+use Rattle.velo_events.specs.declared.limits.TheConstants.{MAX_EVENTS, MAX_NODES}
 use Rattle.velo_events.specs.Graph.{HasCycle}
 use Rattle.velo_world.specs.declared.analysis.Alarm.{Alarm}
 use Rattle.velo_world.specs.World.{IsAlarm}
@@ -56,7 +56,7 @@ pub record IsExplained (names : NameLists) (read : Option (List ℕ)) (answer : 
     : Type 0 where
   pub bounds : Bounds
   pub log : List Event
-  pub comes_about : ComesAbout MOST_EVENTS read bounds log
+  pub comes_about : ComesAbout MAX_EVENTS read bounds log
   pub verdict : ExplainsVerdict names log answer
 
 -- What an explanation has to say: the verdict in words, and the cycle of an alarm; or nothing, for
@@ -64,4 +64,4 @@ pub record IsExplained (names : NameLists) (read : Option (List ℕ)) (answer : 
 abbrev pub IsExplanation : NameLists → Option (List ℕ) → Answer → Type 0
 IsExplanation names read answer =
     IsExplained names read answer
-    ⊎ (IsUnchecked MOST_EVENTS MOST_NODES read answer ⊎ LacksMemory answer)
+    ⊎ (IsUnchecked MAX_EVENTS MAX_NODES read answer ⊎ LacksMemory answer)

@@ -32,7 +32,7 @@ use Rattle.velo_program.specs.declared.fate.Fate.TheVariants as fate
 use Rattle.velo_program.specs.declared.request.ExploreOptions.{ExploreOptions}
 use Rattle.velo_program.specs.declared.request.RandomRuns.{RandomRuns}
 use Rattle.velo_program.specs.declared.request.RunOptions.{RunOptions}
-use Rattle.velo_program.specs.declared.blaming.TheConstants.{MOST_BLAMING}
+use Rattle.velo_program.specs.declared.blaming.TheConstants.{MAX_BLAMING}
 use Rattle.velo_program.specs.declared.told.Found.{Found}
 use Rattle.velo_program.specs.declared.told.ToBlame.{ToBlame}
 use Rattle.velo_program.specs.declared.told.Told.{Told}
@@ -58,7 +58,7 @@ pub record AreOfAll (program : Program) (config : Config) (found : Found) : Type
 
 -- the most replays that are asked whom they blame; none where the first finding ends the search
 abbrev pub most_to_blame : Bool → ℕ
-most_to_blame first = if first then 0 else MOST_BLAMING
+most_to_blame first = if first then 0 else MAX_BLAMING
 
 -- what a search within the limits that were asked for may say of the program's schedules
 pub record IsSearchOf (program : Program) (config : Config) (options : ExploreOptions)

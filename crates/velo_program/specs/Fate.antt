@@ -18,7 +18,7 @@ use Rattle.velo_worker.specs.declared.ending.Ending.{Ending}
 use Rattle.velo_worker.specs.declared.ending.Ending.TheVariants as ending
 use Rattle.velo_workload.specs.declared.fault.WorkFault.{WorkFault}
 use Rattle.velo_workload.specs.declared.fault.WorkFault.TheVariants as work_fault
-use Rattle.velo_program.specs.Writing.{BreaksOff, Writing, Writes}
+use Rattle.velo_delivery.specs.Writing.{BreaksOff, Writing, Writes}
 use Rattle.velo_turns.specs.declared.schedule.ScheduleFault.{ScheduleFault}
 use Rattle.velo_turns.specs.declared.schedule.ScheduleFault.TheVariants as schedule_fault
 use Rattle.velo_program.specs.declared.check.Verdict.{Verdict}
@@ -30,8 +30,10 @@ use Rattle.velo_program.specs.declared.fate.Fate.TheVariants.{Finished, Schedule
 use Rattle.velo_program.specs.declared.fate.Fate.TheVariants as fate
 use Rattle.velo_program.specs.declared.request.Ignorable.{Ignorable}
 use Rattle.velo_program.specs.declared.request.Ignorable.TheVariants as ignorable
-use Rattle.velo_program.specs.declared.request.Operand.{Operand}
-use Rattle.velo_program.specs.declared.request.Operand.TheVariants as operand
+use Rattle.velo_delivery.specs.declared.failure.Failure.{Failure}
+use Rattle.velo_delivery.specs.declared.failure.Failure.TheVariants as failure
+use Rattle.velo_delivery.specs.declared.failure.Operand.{Operand}
+use Rattle.velo_delivery.specs.declared.failure.Operand.TheVariants as operand
 
 -- the numbers of refusals
 abbrev pub number_of : Refusal → ℕ
@@ -187,9 +189,18 @@ abbrev pub line_of_ignored : Ignorable → List ℕ
 line_of_ignored ignorable.Lock = codes "ignored fault 1\n"
 line_of_ignored ignorable.Variable = codes "ignored fault 2\n"
 
+-- the word of the command line
+abbrev pub word_of : Operand → List ℕ
+word_of operand.Log = codes "LOG"
+word_of operand.File = codes "FILE"
+word_of operand.Names = codes "NAMES"
+word_of operand.List = codes "LIST"
+word_of operand.Turns = codes "TURNS"
+word_of operand.Out = codes "OUT"
+word_of operand.NamesOut = codes "NAMES"
+
 abbrev pub line_of_one_file : Operand → List ℕ
-line_of_one_file operand.Log = codes "error: LOG and OUT are one file\n"
-line_of_one_file operand.File = codes "error: FILE and OUT are one file\n"
+line_of_one_file named = codes "error: " ++ word_of named ++ codes " and OUT are one file\n"
 
 abbrev pub line_of : Fate → List ℕ
 line_of (Finished how alarm) = line_of_ending how
@@ -221,6 +232,14 @@ abbrev pub fate_of : Result Verdict CheckFault → Fate
 fate_of (Ok answer) = Finished ending.Done (is_alarm answer)
 fate_of (Err Write) = WriteFailed
 fate_of (Err fault) = Check fault
+
+-- what a failure comes to, without the file that it is about
+abbrev pub fate_of_failure : Failure → Fate
+fate_of_failure (failure.CannotOpen which) = CannotOpen
+fate_of_failure (failure.ReadFailed which) = ReadFailed
+fate_of_failure (failure.WriteFailed which) = WriteFailed
+fate_of_failure failure.PrintFailed = WriteFailed
+fate_of_failure (failure.Memory refused) = fate.Memory
 
 -- the line went out, and this is the status; or it broke off, and the status is 5
 abbrev pub Closes : ℕ → List ℕ → Writing → ℕ → Type 0

@@ -30,12 +30,12 @@ use Rattle.velo_program.specs.declared.told.Told.{Told}
 use Rattle.velo_program.specs.ByChance.{IsSayableFinding, IsSayableRefusal}
 use Rattle.velo_program.specs.Check.{IsOutputOf, IsVerdict}
 use Rattle.velo_program.specs.Delivery.{Answer, FailsToSave, IsDeliveredInTurn, LacksMemory, Saves, SavesPart}
-use Rattle.velo_program.specs.Disk.{Store, behind as store_behind, up_to}
+use Rattle.velo_delivery.specs.Disk.{Store, behind as store_behind, up_to}
 use Rattle.velo_program.specs.Fate.{is_alarm}
 use Rattle.velo_program.specs.Exploring.{IsExplored, IsFirstReplay, fate_of_told, schedule_of, told_text, waits_behind}
 use Rattle.velo_program.specs.Playing.{AreNamesOf, is_unreported, text_of_log, text_of_names}
 use Rattle.velo_program.specs.Steps.{HasAlarm, IsUnsaved}
-use Rattle.velo_program.specs.Writing.{BreaksOff, Delivers, Writes, WritesNothing, Writing}
+use Rattle.velo_delivery.specs.Writing.{BreaksOff, Delivers, Writes, WritesNothing, Writing}
 
 -- ---- what can be told
 

@@ -6,7 +6,7 @@ use Rattle.velo_events.specs.declared.event.ThreadId.{ThreadId}
 use Rattle.velo_events.specs.declared.refusal.Refusal.TheVariants as refusal
 use Rattle.velo_events.specs.Refusals.{GrowthRefused}
 use Rattle.velo_logtext.specs.Text.{log_text}
-use Rattle.velo_names.specs.declared.limits.TheConstants.{MOST_NAME_LINES, MOST_NAMES_BYTES}
+use Rattle.velo_names.specs.declared.limits.TheConstants.{MAX_NAME_LINES, MAX_NAMES_BYTES}
 use Rattle.velo_names.specs.Names.{NameLists, by_place, names_text}
 use Rattle.velo_report.specs.declared.names.Names.{Names}
 use Rattle.velo_report.specs.declared.names.Names.TheVariants.{Listed, Numbers, Words}
@@ -18,28 +18,29 @@ use Rattle.velo_worker.specs.Logs.{IsLogOf}
 use Rattle.velo_worker.specs.Schedule.{Replays}
 use Rattle.velo_workload.specs.declared.fault.WorkFault.{WorkFault}
 use Rattle.velo_workload.specs.declared.fault.WorkFault.TheVariants as work_fault
-use Rattle.velo_workload.specs.declared.limits.TheConstants.{MOST_WORKLOAD_BYTES}
+use Rattle.velo_workload.specs.declared.limits.TheConstants.{MAX_WORKLOAD_BYTES}
 use Rattle.velo_workload.specs.Program.{Program, ParsesAs, meaning_of}
 use Rattle.velo_world.specs.World.{WorldState}
 use Rattle.velo_program.specs.declared.check.Verdict.{Verdict}
 use Rattle.velo_program.specs.declared.fate.Fate.{Fate}
-use Rattle.velo_program.specs.declared.fate.Fate.TheVariants.{Finished, Lost, Memory, ReadFailed, Work}
+use Rattle.velo_program.specs.declared.fate.Fate.TheVariants.{Finished, Lost, Work}
 use Rattle.velo_program.specs.declared.request.RunOptions.{RunOptions}
 use Rattle.velo_program.specs.Check.{IsOutput, IsVerdict}
 use Rattle.velo_program.specs.Delivery.{Answer, LacksMemory, silent}
 use Rattle.velo_program.specs.Fate.{is_alarm}
+use Rattle.velo_program.specs.Format.{Format, SaysNone}
 
 -- ---- the workload of an input
 
 -- the bytes are the text of this program; where they are not known nothing is said
 abbrev pub IsTextOf : Option (List ℕ) → Program → Type 0
 IsTextOf read program =
-    IfSome read (λ bytes. (length bytes ≤ MOST_WORKLOAD_BYTES) × (meaning_of bytes ≡ Ok program))
+    IfSome read (λ bytes. (length bytes ≤ MAX_WORKLOAD_BYTES) × (meaning_of bytes ≡ Ok program))
 
 -- there are more bytes than a workload may have
 abbrev pub IsTooLong : List ℕ → WorkFault → Type 0
 IsTooLong bytes fault =
-    (MOST_WORKLOAD_BYTES < length bytes) × (fault ≡ work_fault.TooMany 0)
+    (MAX_WORKLOAD_BYTES < length bytes) × (fault ≡ work_fault.TooMany 0)
 
 -- they are not UTF-8; or this is the fault of the text that they are
 abbrev pub HasFault : List ℕ → WorkFault → Type 0
@@ -49,19 +50,24 @@ HasFault bytes fault =
 -- why bytes are the text of no workload: there are too many; else by what they are
 abbrev pub IsFaultOfText : List ℕ → WorkFault → Type 0
 IsFaultOfText bytes fault =
-    IsTooLong bytes fault ⊎ ((length bytes ≤ MOST_WORKLOAD_BYTES) × HasFault bytes fault)
+    IsTooLong bytes fault ⊎ ((length bytes ≤ MAX_WORKLOAD_BYTES) × HasFault bytes fault)
 
 abbrev pub IsFaultOfWork : Option (List ℕ) → WorkFault → Type 0
 IsFaultOfWork read work_fault.Memory = GrowthRefused
 IsFaultOfWork read fault = IfSome read (λ bytes. IsFaultOfText bytes fault)
 
--- Why there is no workload: the bytes are the text of none, or the source failed, or a growth was
--- refused. That the source failed stands in `FailuresAsTold`.
+-- what comes of bytes that are the text of none
+abbrev pub HaveNoWorkload : Option (List ℕ) → Fate → Type 0
+HaveNoWorkload read (Work fault) = IsFaultOfWork read fault
+HaveNoWorkload read f = ⊥
+
+-- a file of a workload
+abbrev pub workload_file : Format Program
+workload_file = record { says = IsTextOf; lacks = HaveNoWorkload }
+
+-- why there is no workload
 abbrev pub IsUnread : Option (List ℕ) → Fate → Type 0
-IsUnread read (Work fault) = IsFaultOfWork read fault
-IsUnread read ReadFailed = ⊤
-IsUnread read Memory = GrowthRefused
-IsUnread read f = ⊥
+IsUnread read f = SaysNone workload_file read f
 
 -- ---- its runs
 
@@ -131,8 +137,8 @@ text_of_names program = names_text (listed program)
 -- it is no longer than a file of names may be
 pub record FitsNames (program : Program) : Type 0 where
   pub few_lines : length program.thread_names + (length program.variable_names
-      + (length program.lock_names + length program.label_names)) ≤ MOST_NAME_LINES
-  pub few_bytes : length (text_of_names program) ≤ MOST_NAMES_BYTES
+      + (length program.lock_names + length program.label_names)) ≤ MAX_NAME_LINES
+  pub few_bytes : length (text_of_names program) ≤ MAX_NAMES_BYTES
 
 -- the text of the world's log
 abbrev pub text_of_log : WorldState → List ℕ

@@ -17,8 +17,8 @@ use Rattle.velo_program.specs.declared.request.CarryOptions.{CarryOptions}
 use Rattle.velo_program.specs.declared.request.CheckOptions.{CheckOptions}
 use Rattle.velo_program.specs.declared.request.ExplainOptions.{ExplainOptions}
 use Rattle.velo_program.specs.declared.request.ExploreOptions.{ExploreOptions}
-use Rattle.velo_program.specs.declared.request.Operand.{Operand}
-use Rattle.velo_program.specs.declared.request.Operand.TheVariants.{Log}
+use Rattle.velo_delivery.specs.declared.failure.Operand.{Operand}
+use Rattle.velo_delivery.specs.declared.failure.Operand.TheVariants.{Log}
 use Rattle.velo_program.specs.declared.request.ReplayOptions.{ReplayOptions}
 use Rattle.velo_program.specs.declared.request.Request.{Request}
 use Rattle.velo_program.specs.declared.request.Request.TheVariants.{Audit, Carry, Check, Explain, Explore, Replay, Run, Watch}
@@ -28,17 +28,19 @@ use Rattle.velo_program.specs.Auditing.{IsAuditAnswer}
 use Rattle.velo_program.specs.Carrying.{IsCarryAnswer, IsPut}
 use Rattle.velo_program.specs.Check.{IsCheckAnswer}
 use Rattle.velo_program.specs.Delivery.{Answer, IsDelivered, IsDeliveredInTurn}
-use Rattle.velo_program.specs.Disk.{IsBarred, IsBarredRun, IsWritten, Store}
+use Rattle.velo_program.specs.Barred.{IsBarred, IsBarredRun}
+use Rattle.velo_delivery.specs.Disk.{IsWritten, Store}
 use Rattle.velo_program.specs.Explaining.{IsExplanation}
 use Rattle.velo_program.specs.Exploring.{IsExploreAnswer}
 use Rattle.velo_program.specs.Ignoring.{AsksInVain, IsAsked}
 use Rattle.velo_program.specs.Listing.{AreLabelsOf, LacksLabels}
 use Rattle.velo_program.specs.Naming.{AreNamesOf, AreShown, LacksNames}
 use Rattle.velo_program.specs.Playing.{ByThreads, ByTurns, IsPlayAnswer, Play}
-use Rattle.velo_program.specs.Reading.{FailuresAsTold, Reading}
+use Rattle.velo_program.specs.Failures.{FailuresAsTold}
+use Rattle.velo_delivery.specs.Reading.{Reading}
 use Rattle.velo_program.specs.Scheduling.{IsScheduleOf, LacksSchedule}
 use Rattle.velo_program.specs.Watching.{Watches}
-use Rattle.velo_program.specs.Writing.{Writing, WritesNothing}
+use Rattle.velo_delivery.specs.Writing.{Writing, WritesNothing}
 
 -- ---- what they share
 
@@ -216,7 +218,7 @@ AuditsKnown names known options store stdout f =
 -- else none is.
 abbrev pub AuditsNamed : NameLists → AuditOptions → Store → Writing → Fate → Type 0
 AuditsNamed names options store stdout f =
-    (LacksLabels store.disk options.known f × WritesNowhere store stdout)
+    (LacksLabels names store.disk options.known f × WritesNowhere store stdout)
     ⊎ ((known : List ℕ) × AreLabelsOf names store.disk options.known known
     × AuditsKnown names known options store stdout f)
 

@@ -1,11 +1,9 @@
 -- Words of the contracts within the crate: how far each step has come. What the program does is
 -- said without them.
 use Rattle.std.specs.Borrow.{Bor}
-use Rattle.std.specs.Io.KnownBytes.{Consumes, IsAtEnd}
-use Rattle.std.specs.Prelude.{◌≡◌, ◌≤◌, ◌⊎◌, ◌++◌, [], ⊤, ℕ, Bool, List, length, Option, Some, None, Result, Ok, Err}
+use Rattle.std.specs.Prelude.{◌≡◌, ◌⊎◌, ⊤, ℕ, Bool, List, Option, Some, None, Result, Ok, Err}
 use Rattle.velo_events.specs.Refusals.{GrowthRefused}
 use Rattle.velo_events.specs.declared.event.Event.{Event}
-use Rattle.velo_bytes.specs.Device.{with_failure}
 use Rattle.velo_names.specs.Names.{NameLists}
 use Rattle.velo_report.specs.declared.names.Names.{Names}
 use Rattle.velo_worker.specs.declared.ending.Ending.{Ending}
@@ -17,41 +15,21 @@ use Rattle.velo_program.specs.declared.check.CheckFault.TheVariants as check_fau
 use Rattle.velo_program.specs.declared.check.Verdict.{Verdict}
 use Rattle.velo_program.specs.declared.fate.Fate.{Fate}
 use Rattle.velo_program.specs.declared.fate.Fate.TheVariants.{CannotOpen, Memory}
-use Rattle.velo_program.specs.declared.reading.ReadFault.{ReadFault}
-use Rattle.velo_program.specs.declared.reading.ReadFault.TheVariants as read_fault
 use Rattle.velo_program.specs.declared.request.RunOptions.{RunOptions}
+use Rattle.velo_program.specs.declared.saving.Saved.{Saved}
+use Rattle.velo_program.specs.declared.saving.Saved.TheVariants as saved
 use Rattle.velo_program.specs.declared.saving.Saving.{Saving}
 use Rattle.velo_program.specs.Carrying.{Carries}
 use Rattle.velo_program.specs.Check.{IsOutputOf, IsVerdict}
 use Rattle.velo_program.specs.Delivery.{Answer, FailsSaving, IsDelivered, IsDeliveredInTurn, IsPrinted, LacksMemory, Saves}
-use Rattle.velo_program.specs.Disk.{Disk, IsBarredRun, IsWritten, Store, behind, up_to}
+use Rattle.velo_delivery.specs.Disk.{Disk, IsWritten, Store, behind, up_to}
+use Rattle.velo_program.specs.Barred.{IsBarredRun}
 use Rattle.velo_program.specs.Explaining.{ExplainsVerdict, IsExplanation}
-use Rattle.velo_program.specs.Playing.{IsReported, IsRunAnswer, IsSaidOfRun, IsTextOf, IsUnread, Play, text_of_names}
-use Rattle.velo_program.specs.Reading.{FailuresAsTold, Reading}
-use Rattle.velo_program.specs.Writing.{BreaksOff, Writes, WritesNothing, Writing}
-
--- ---- reading a whole source
-
--- the bytes are all that the source gives, where they are known; or they are more than the most
--- that are wanted, and a beginning
-abbrev pub IsReadOf : ℕ → Option (List ℕ) → List ℕ → Type 0
-IsReadOf most None bytes = ⊤
-IsReadOf most (Some all) bytes =
-    (rest : List ℕ) × (all ≡ bytes ++ rest) × (length bytes ≤ most → rest ≡ [])
-
--- the bytes grew by a piece of what the source gives, of so many bytes, and of none only at its end
-pub record GrowsByPiece (before after : Option (List ℕ)) (old new : List ℕ) (count : ℕ)
-    : Type 0 where
-  pub piece : List ℕ
-  pub grown : new ≡ old ++ piece
-  pub given : Consumes before after piece
-  pub last : count ≡ 0 → IsAtEnd after
-
--- the count of failures of the source behind a read
-abbrev pub failures_by : {X : Type 0} → Result X ReadFault → ℕ → ℕ
-failures_by (Ok x) failures = failures
-failures_by (Err read_fault.Failed) failures = with_failure failures
-failures_by (Err read_fault.Memory) failures = failures
+use Rattle.velo_program.specs.Playing.{IsReported, IsRunAnswer, IsSaidOfRun, Play, text_of_log, text_of_names, workload_file}
+use Rattle.velo_program.specs.Failures.{FailuresAsTold}
+use Rattle.velo_program.specs.Format.{ReadsNone}
+use Rattle.velo_delivery.specs.Reading.{Reading}
+use Rattle.velo_delivery.specs.Writing.{BreaksOff, Writes, WritesNothing, Writing}
 
 -- ---- a check
 
@@ -98,6 +76,11 @@ ExplainsInput names target store read stdout f =
     × IsDelivered store target stdout answer f)
 
 -- ---- the target
+
+-- the bytes of a text that is saved
+abbrev pub is_text_saved : Saved → List ℕ → Type 0
+is_text_saved (saved.Log closed) text = text ≡ text_of_log closed.now
+is_text_saved (saved.Bytes bytes) text = text ≡ bytes.now
 
 -- what writing the file came to
 abbrev pub IsSaved : {X : Type 0} → Store → Option (Bor (List ℕ)) → List ℕ → Result X Fate
@@ -159,21 +142,8 @@ CarriesTo store target read f =
 
 -- ---- a workload
 
--- the workload that was opened at the path
-pub record OpensProgram (disk : Disk) (path : List ℕ) (program : Program) : Type 0 where
-  pub read : Reading
-  pub given : disk.gives path read
-  pub is_text : IsTextOf read.bytes program
-  pub no_failure : read.failures_after ≡ read.failures_before
-
--- why there is none
-pub record IsNoWorkload (disk : Disk) (path : List ℕ) (fate : Fate) : Type 0 where
-  pub read : Reading
-  pub given : disk.gives path read
-  pub unread : IsUnread read.bytes fate
-  pub failures : FailuresAsTold read fate
-
+-- the workload that was asked for is not read, or two of the files are one
 abbrev pub OpensNoProgram : Disk → RunOptions → Fate → Type 0
 OpensNoProgram disk options f =
-    IsNoWorkload disk options.input.now f
+    ReadsNone workload_file disk options.input.now f
     ⊎ IsBarredRun disk options.input.now options.target options.names_target f

@@ -27,7 +27,7 @@ use Rattle.velo_program.specs.Check.{IsFaultOfLogText, IsInput, IsOutput, IsVerd
 use Rattle.velo_program.specs.Delivery.{Answer, IsPrinted, printing, silent}
 use Rattle.velo_program.specs.Fate.{is_alarm}
 use Rattle.velo_program.specs.Faults.{check_fault_of}
-use Rattle.velo_program.specs.Writing.{BreaksOff, Writes, Writing}
+use Rattle.velo_delivery.specs.Writing.{BreaksOff, Writes, Writing}
 
 -- ---- the events so far
 

@@ -3,32 +3,33 @@ ghost use Rattle.std.specs.Prelude.{◌≡◌, ◌≤◌, All, false, length, ma
 ghost use Rattle.velo_events.specs.declared.event.Label.{Label as LabelOf};
 ghost use Rattle.velo_events.specs.declared.event.LockId.{LockId as LockOf};
 ghost use Rattle.velo_events.specs.declared.event.VarId.{VarId as VariableOf};
-ghost use Rattle.velo_events.specs.declared.limits.TheConstants.{MOST_EVENTS};
+ghost use Rattle.velo_events.specs.declared.limits.TheConstants.{MAX_EVENTS};
 ghost use Rattle.velo_thin.specs.Left.{with_labels};
 ghost use Rattle.velo_thin.specs.Tables.{left_of};
 ghost use Rattle.velo_thin.specs.Thinned.{CanComeAbout};
 ghost use Rattle.velo_audit.specs.Audit.{TellsTruly};
 ghost use Rattle.velo_program.specs.Auditing.{Audits, AuditsInput, audited, is_found, left_at_first, left_at_last, with_locks, with_variables};
-ghost use Rattle.velo_program.specs.Disk.{store};
+ghost use Rattle.velo_delivery.specs.Disk.{store};
 ghost use Rattle.velo_program.specs.Program.{AuditsKnown, AuditsLog, AuditsNamed, DoesAudit};
-ghost use Rattle.velo_program.specs.Reading.{reading};
+ghost use Rattle.velo_delivery.specs.Reading.{reading};
 ghost use Rattle.velo_program.specs.Steps.{PrintsOrLacks};
-ghost use Rattle.velo_program.specs.Writing.{writing};
+ghost use Rattle.velo_delivery.specs.Writing.{writing};
 
 use crate::check::{CheckFault, do_input};
 use crate::explaining::print;
 use crate::fate::Fate;
-use crate::files::{Files, is_standard_input, open_input};
+use crate::files::open_input;
 use crate::ignoring::{ignored_locks, ignored_variables};
 use crate::listing::labels_of;
 use crate::naming::{names_in, read_given};
-use crate::request::{AuditOptions, Limits, Operand};
+use crate::request::{AuditOptions, Limits};
 use std::alloc::Global;
 use velo_audit::{AuditFault, Told, audit, count_atomic};
 use velo_audit_text::{Asked, audit_text};
 use velo_bytes::{Sink, Source};
+use velo_delivery::{Files, Operand, is_standard_input};
 use velo_events::{Config, Label, LockId, Memory, Refusal, VarId};
-use velo_names::{MOST_NAMES_BYTES, Names};
+use velo_names::{MAX_NAMES_BYTES, Names};
 use velo_thin::LeftOut;
 use velo_traces::Trace;
 use velo_world::Closed;
@@ -110,7 +111,7 @@ fn tell_rounds<O: Sink>(
     left: &LeftOut,
     out: &mut O,
 ) -> Fate
-    requires few { length log.now.events ≤ MOST_EVENTS }
+    requires few { length log.now.events ≤ MAX_EVENTS }
     requires can_come_about { CanComeAbout log.now.events }
     requires truly { All (TellsTruly log.now.events) rounds.now }
     requires left { left_of left.now
@@ -286,7 +287,7 @@ pub fn audit_file<F: Files, O: Sink>(
     ensures { DoesAudit options.now (store F.disk files.old files.new)
         (writing O.contents O.failures out.old out.new) result }
 {
-    let bytes = match read_given(alloc, options.names, MOST_NAMES_BYTES, files) {
+    let bytes = match read_given(alloc, options.names, MAX_NAMES_BYTES, files) {
         Ok(bytes) => bytes,
         Err(fate) => return fate,
     };

@@ -10,13 +10,13 @@ use velo_events::{Config, Memory, ThreadId};
 use velo_workload::Workload;
 
 /// The most replays that are asked whom they blame.
-pub const MOST_BLAMING: usize = 100;
+pub const MAX_BLAMING: usize = 100;
 
 /// The most replays that are asked, where the first finding ends the search or does not.
 fn most_to_blame(first: bool) -> usize
     ensures { result ≡ most_to_blame first }
 {
-    if first { 0 } else { MOST_BLAMING }
+    if first { 0 } else { MAX_BLAMING }
 }
 
 /// Whom the replays by these schedules blame, each made once. Behind the most of them the others are left out; where the first

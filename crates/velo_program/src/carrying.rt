@@ -2,18 +2,20 @@
 ghost use Rattle.std.specs.Prelude.{◌≡◌};
 ghost use Rattle.velo_program.specs.Carrying.{Carries, fate_of_carrying};
 ghost use Rattle.velo_program.specs.Program.{DoesCarry};
-ghost use Rattle.velo_program.specs.Reading.{failures_told, reading};
-ghost use Rattle.velo_program.specs.Disk.{store};
-ghost use Rattle.velo_program.specs.Writing.{Writing, WritesNothing, writing};
+ghost use Rattle.velo_program.specs.Failures.{failures_told};
+ghost use Rattle.velo_delivery.specs.Reading.{reading};
+ghost use Rattle.velo_delivery.specs.Disk.{store};
+ghost use Rattle.velo_delivery.specs.Writing.{Writing, WritesNothing, writing};
 ghost use Rattle.velo_program.specs.Steps.{CarriesTo};
 
 use crate::check::CheckFault;
 use crate::fate::Fate;
-use crate::files::{Files, is_standard_input, open_input};
-use crate::request::{CarryOptions, Operand};
+use crate::files::open_input;
+use crate::request::CarryOptions;
 use std::alloc::Global;
 use thiserror::Error;
 use velo_bytes::{Sink, Source, WriteFault};
+use velo_delivery::{Files, Operand, is_standard_input};
 use velo_logtext::{LogFault, read_log, write_log};
 use velo_worker::Ending;
 

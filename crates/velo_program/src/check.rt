@@ -4,31 +4,32 @@ ghost use Rattle.velo_events.specs.Certificate.{IsSerialOrder};
 ghost use Rattle.velo_certify.specs.Shortest.{IsShortestCycleAt};
 ghost use Rattle.velo_events.specs.Graph.{HasCycle, IsClosing};
 ghost use Rattle.velo_events.specs.WellFormed.{IsWellFormed};
-ghost use Rattle.velo_events.specs.declared.limits.TheConstants.{MOST_EVENTS, MOST_NODES};
+ghost use Rattle.velo_events.specs.declared.limits.TheConstants.{MAX_EVENTS, MAX_NODES};
 ghost use Rattle.velo_logtext.specs.Text.{AreBounds};
 ghost use Rattle.velo_report.specs.declared.names.Names.TheVariants.{Numbers};
 ghost use Rattle.velo_world.specs.Faults.{world_of};
 ghost use Rattle.velo_program.specs.Check.{Checks, ComesAbout, IsFaultOfInput, IsOrderOrCycle, IsVerdict, WritesOutput};
 ghost use Rattle.velo_program.specs.Program.{ChecksBy, ChecksLog, DoesCheck};
-ghost use Rattle.velo_program.specs.Reading.{failures_told};
-ghost use Rattle.velo_program.specs.Disk.{store};
+ghost use Rattle.velo_program.specs.Failures.{failures_told};
+ghost use Rattle.velo_delivery.specs.Disk.{store};
 ghost use Rattle.velo_program.specs.Fate.{fate_of, is_alarm};
 ghost use Rattle.velo_program.specs.Faults.{check_fault_of, IsFaultOfLog};
-ghost use Rattle.velo_program.specs.Writing.{writing};
+ghost use Rattle.velo_delivery.specs.Writing.{writing};
 ghost use Rattle.velo_program.specs.declared.fate.Fate.TheVariants as fate;
 ghost use Rattle.velo_program.specs.Steps.{HasAlarm, Shows};
 
 use crate::fate::Fate;
-use crate::files::{Files, is_standard_input, open_input};
+use crate::files::open_input;
 use crate::naming::{names_in, read_given, shown_by};
-use crate::request::{CheckOptions, Operand};
+use crate::request::CheckOptions;
 use std::alloc::Global;
 use thiserror::Error;
 use velo_bytes::{Sink, Source, WriteFault};
 use velo_certify::{CertFault, cycle_of, serial_order};
+use velo_delivery::{Files, Operand, is_standard_input};
 use velo_events::{Bounds, Config, Memory, Refusal};
 use velo_logtext::{LogFault, read_log};
-use velo_names::MOST_NAMES_BYTES;
+use velo_names::MAX_NAMES_BYTES;
 use velo_report::{Names, certificate_lines, report};
 use velo_traces::Trace;
 use velo_worker::Ending;
@@ -108,12 +109,12 @@ pub fn do_log(alloc: Global, config: Config, log: Trace) -> Result<Closed, Check
 }
 
 /// The configuration of a check, which goes on after an alarm: the bounds of the log, the most events that it may have,
-/// 1 to [`MOST_EVENTS`](velo_events::MOST_EVENTS), and the most nodes that the graph may have at one time, 1 to
-/// [`MOST_NODES`](velo_events::MOST_NODES).
+/// 1 to [`MAX_EVENTS`](velo_events::MAX_EVENTS), and the most nodes that the graph may have at one time, 1 to
+/// [`MAX_NODES`](velo_events::MAX_NODES).
 pub fn config_of(bounds: Bounds, events: u32, nodes: u16) -> Config
     requires bounds { AreBounds bounds }
-    requires events { (1 ≤ events) × (events ≤ MOST_EVENTS) }
-    requires nodes { (1 ≤ nodes) × (nodes ≤ MOST_NODES) }
+    requires events { (1 ≤ events) × (events ≤ MAX_EVENTS) }
+    requires nodes { (1 ≤ nodes) × (nodes ≤ MAX_NODES) }
     ensures bounds { result.bounds ≡ bounds }
     ensures events { result.events ≡ events }
     ensures nodes { result.nodes ≡ nodes }
@@ -263,8 +264,8 @@ pub fn do_input<I: Source>(
     events: u32,
     nodes: u16,
 ) -> Result<Closed, CheckFault>
-    requires events { (1 ≤ events) × (events ≤ MOST_EVENTS) }
-    requires nodes { (1 ≤ nodes) × (nodes ≤ MOST_NODES) }
+    requires events { (1 ≤ events) × (events ≤ MAX_EVENTS) }
+    requires nodes { (1 ≤ nodes) × (nodes ≤ MAX_NODES) }
     ensures ok { IfOk result (λ closed. ComesAbout events (I.remaining source.old)
         closed.config.bounds closed.log) }
     ensures err { IfErr result (IsFaultOfInput events nodes (I.remaining source.old)) }
@@ -285,8 +286,8 @@ pub fn do_input<I: Source>(
 /// Reads a whole log, does its events one after another, and writes the report, and behind it, if it is asked for, the
 /// certificate of the verdict: the lines of a serial order, or with an alarm the line of a shortest cycle at its position.
 ///
-/// The limits are the most events that the log may have, 1 to [`MOST_EVENTS`](velo_events::MOST_EVENTS), and the most nodes
-/// that the graph may have at one time, 1 to [`MOST_NODES`](velo_events::MOST_NODES).
+/// The limits are the most events that the log may have, 1 to [`MAX_EVENTS`](velo_events::MAX_EVENTS), and the most nodes
+/// that the graph may have at one time, 1 to [`MAX_NODES`](velo_events::MAX_NODES).
 ///
 /// # Errors
 /// A fault of the text comes before any other; else the first event that can't come about decides, and a refusal there
@@ -300,8 +301,8 @@ pub fn check_run<I: Source, O: Sink>(
     nodes: u16,
     certificate: bool,
 ) -> Result<Verdict, CheckFault>
-    requires events { (1 ≤ events) × (events ≤ MOST_EVENTS) }
-    requires nodes { (1 ≤ nodes) × (nodes ≤ MOST_NODES) }
+    requires events { (1 ≤ events) × (events ≤ MAX_EVENTS) }
+    requires nodes { (1 ≤ nodes) × (nodes ≤ MAX_NODES) }
     ensures answer { Checks Numbers events nodes certificate (I.remaining source.old)
         (writing O.contents O.failures sink.old sink.new) (fate_of result) }
     ensures read { I.failures source.new ≡ failures_told (fate_of result) (I.failures source.old) }
@@ -391,7 +392,7 @@ pub fn check_file<F: Files, O: Sink>(
     ensures { DoesCheck options.now (store F.disk files.old files.new)
         (writing O.contents O.failures out.old out.new) result }
 {
-    let bytes = match read_given(alloc, options.names, MOST_NAMES_BYTES, files) {
+    let bytes = match read_given(alloc, options.names, MAX_NAMES_BYTES, files) {
         Ok(bytes) => bytes,
         Err(fate) => return fate,
     };

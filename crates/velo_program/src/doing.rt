@@ -1,8 +1,8 @@
 //! Each command is done, whatever the files and the output are.
 ghost use Rattle.velo_program.specs.Causes.{AnswersWithCause};
 ghost use Rattle.velo_program.specs.Program.{Does};
-ghost use Rattle.velo_program.specs.Disk.{store};
-ghost use Rattle.velo_program.specs.Writing.{writing};
+ghost use Rattle.velo_delivery.specs.Disk.{store};
+ghost use Rattle.velo_delivery.specs.Writing.{writing};
 
 use crate::auditing::audit_file;
 use crate::carrying::carry_file;
@@ -10,7 +10,6 @@ use crate::check::check_file;
 use crate::explaining::explain_file;
 use crate::exploring::explore_file;
 use crate::fate::Fate;
-use crate::files::Files;
 use crate::progress::ExploreProgress;
 use crate::replaying::replay_file;
 use crate::request::Request;
@@ -20,6 +19,7 @@ use std::alloc::Global;
 use std::sync::Wait;
 use std::thread::Threads;
 use velo_bytes::Sink;
+use velo_delivery::Files;
 
 /// Does what was asked for, with the report, the certificate or the words of an explanation on the sink, and answers what it
 /// came to. How far a search is goes to `progress`. A run of a workload by threads of its own may wait; the other commands start

@@ -1,29 +1,31 @@
 //! `velodrome explain`.
 ghost use Rattle.std.specs.Prelude.{◌≤◌, Some, length};
 ghost use Rattle.velo_events.specs.Graph.{HasCycle};
-ghost use Rattle.velo_events.specs.declared.limits.TheConstants.{MOST_EVENTS};
+ghost use Rattle.velo_events.specs.declared.limits.TheConstants.{MAX_EVENTS};
 ghost use Rattle.velo_explain.specs.Evidence.{IsEvidenceAt};
 ghost use Rattle.velo_worker.specs.declared.ending.Ending.TheVariants.{Done};
 ghost use Rattle.velo_program.specs.Delivery.{IsPrinted, printing};
 ghost use Rattle.velo_program.specs.Explaining.{counted, explained};
 ghost use Rattle.velo_program.specs.Program.{DoesExplain, ExplainsLog};
-ghost use Rattle.velo_program.specs.Reading.{reading};
-ghost use Rattle.velo_program.specs.Disk.{store};
-ghost use Rattle.velo_program.specs.Writing.{writing};
+ghost use Rattle.velo_delivery.specs.Reading.{reading};
+ghost use Rattle.velo_delivery.specs.Disk.{store};
+ghost use Rattle.velo_delivery.specs.Writing.{writing};
 ghost use Rattle.velo_program.specs.declared.fate.Fate.TheVariants.{Finished};
 ghost use Rattle.velo_program.specs.Steps.{DeliversOrLacks, Explains, ExplainsInput, IsSaved, PrintsOrLacks};
 
 use crate::check::do_input;
-use crate::fate::Fate;
-use crate::files::{Files, is_standard_input, open_input};
+use crate::fate::{Fate, fate_of_failure};
+use crate::files::open_input;
 use crate::naming::{names_in, read_given};
-use crate::request::{ExplainOptions, Operand};
+use crate::request::ExplainOptions;
+use crate::saving::Saved;
 use std::alloc::Global;
 use velo_bytes::{Sink, Source, WriteFault, write_all};
 use velo_certify::CertFault;
-use velo_events::{MOST_EVENTS, MOST_NODES, Memory};
+use velo_delivery::{Files, Operand, Save, is_standard_input, save_all};
+use velo_events::{MAX_EVENTS, MAX_NODES, Memory};
 use velo_explain::{Evidence, evidence_of, explain_clean, explain_named, picture_named};
-use velo_names::{MOST_NAMES_BYTES, Names};
+use velo_names::{MAX_NAMES_BYTES, Names};
 use velo_traces::Trace;
 use velo_worker::Ending;
 use velo_world::Closed;
@@ -32,17 +34,17 @@ use velo_world::Closed;
 ///
 /// # Errors
 /// `CannotOpen` where no file opens there; `WriteFailed` where it failed, behind a beginning.
-pub fn save<F: Files>(text: &[u8], path: &str, files: &mut F) -> Result<(), Fate>
+fn save_text<F: Files>(text: &[u8], path: &str, files: &mut F) -> Result<(), Fate>
     ensures { IsSaved (store F.disk files.old files.new) (Some path.entry) text.now result }
 {
-    let Some(mut file) = files.create(path) else {
-        return Err(Fate::CannotOpen);
-    };
-    let written = write_all(&mut file, text);
-    files.close(path, file);
-    match written {
+    let saves = [Save {
+        operand: Operand::Out,
+        path: Some(path),
+        text: Saved::Bytes(text),
+    }];
+    match save_all(&saves, files) {
         Ok(()) => Ok(()),
-        Err(WriteFault) => Err(Fate::WriteFailed),
+        Err(failure) => Err(fate_of_failure(failure)),
     }
 }
 
@@ -72,7 +74,7 @@ fn explain_by<F: Files, O: Sink>(
     files: &mut F,
     out: &mut O,
 ) -> Fate
-    requires few { length log.now.events ≤ MOST_EVENTS }
+    requires few { length log.now.events ≤ MAX_EVENTS }
     requires evidence { IsEvidenceAt log.now.events position evidence.now }
     ensures { DeliversOrLacks (explained names.now log.now.events position evidence.now)
         (store F.disk files.old files.new) target.entry
@@ -89,7 +91,7 @@ fn explain_by<F: Files, O: Sink>(
         Ok(drawing) => drawing,
         Err(Memory) => return Fate::Memory,
     };
-    match save(drawing.as_slice(), path, files) {
+    match save_text(drawing.as_slice(), path, files) {
         Ok(()) => print(words.as_slice(), true, out),
         Err(fate) => fate,
     }
@@ -116,7 +118,7 @@ fn explain_closed<F: Files, O: Sink>(
     files: &mut F,
     out: &mut O,
 ) -> Fate
-    requires { length closed.now.log ≤ MOST_EVENTS }
+    requires { length closed.now.log ≤ MAX_EVENTS }
     ensures { Explains names.now closed.now.log (store F.disk files.old files.new) target.entry
         (writing O.contents O.failures out.old out.new) result }
 {
@@ -150,7 +152,7 @@ fn explain_log<I: Source, F: Files, O: Sink>(
         (reading I.remaining I.failures source.old source.new)
         (writing O.contents O.failures out.old out.new) result }
 {
-    match do_input(alloc, source, MOST_EVENTS, MOST_NODES) {
+    match do_input(alloc, source, MAX_EVENTS, MAX_NODES) {
         Ok(closed) => {
             let fate = explain_closed(alloc, &closed, names, options.target, files, out);
             drop(closed);
@@ -191,7 +193,7 @@ pub fn explain_file<F: Files, O: Sink>(
     ensures { DoesExplain options.now (store F.disk files.old files.new)
         (writing O.contents O.failures out.old out.new) result }
 {
-    let bytes = match read_given(alloc, options.names, MOST_NAMES_BYTES, files) {
+    let bytes = match read_given(alloc, options.names, MAX_NAMES_BYTES, files) {
         Ok(bytes) => bytes,
         Err(fate) => return fate,
     };

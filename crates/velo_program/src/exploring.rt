@@ -1,18 +1,17 @@
 //! `velodrome explore`.
 ghost use Rattle.std.specs.Prelude.{◌≡◌, IfOk, IfSome, is_some};
 ghost use Rattle.velo_program.specs.Check.{IsOrderOrCycle};
-ghost use Rattle.velo_program.specs.Disk.{store};
+ghost use Rattle.velo_delivery.specs.Disk.{store};
 ghost use Rattle.velo_program.specs.Exploring.{IsToldOf, fate_of_found, run_of, waits_behind};
 ghost use Rattle.velo_program.specs.Findings.{Explores, ReportsOrLacks, TellsFindings, TellsOrLacks, TellsReplay, TellsRun, WritesBehind, WritesReport, fate_of_refusal, fate_without_alarm};
 ghost use Rattle.velo_program.specs.Playing.{IsConfigOf};
 ghost use Rattle.velo_program.specs.Program.{DoesExplore};
 ghost use Rattle.velo_program.specs.Steps.{AreNamesFor, HasAlarm};
-ghost use Rattle.velo_program.specs.Writing.{writing};
+ghost use Rattle.velo_delivery.specs.Writing.{writing};
 
 use crate::check::{order_or_cycle_of, write_output};
 use crate::exploration_text::text_of_told;
 use crate::fate::Fate;
-use crate::files::Files;
 use crate::findings::{first_replay, told_of};
 use crate::progress::ExploreProgress;
 use crate::request::{ExploreOptions, RunOptions};
@@ -21,6 +20,7 @@ use crate::told::{Found, Told};
 use crate::work::{config_of_run, open_workload};
 use std::alloc::Global;
 use velo_bytes::{Sink, WriteFault, write_all};
+use velo_delivery::Files;
 use velo_events::{Config, Memory};
 use velo_report::Names;
 use velo_schedules::{Finding, RefusalFinding};

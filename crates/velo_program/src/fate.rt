@@ -1,14 +1,15 @@
 //! How the program ends: its status, and the line on standard error.
-ghost use Rattle.std.specs.Prelude.{◌≡◌, ◌≢◌, ◌≤◌, ◌++◌, [], codes, decimal, length, take, IfOk, OnOk, OnErr};
+ghost use Rattle.std.specs.Prelude.{◌≡◌, ◌≢◌, ◌≤◌, ◌+◌, ◌++◌, [], codes, decimal, length, take, IfOk, OnOk, OnErr};
 ghost use Rattle.velo_list.specs.Fault.{fault_line as line_of_list_fault, fault_number as number_of_list_fault};
 ghost use Rattle.velo_names.specs.Fault.{fault_line, fault_number};
-ghost use Rattle.velo_program.specs.Writing.{BreaksOff, Writes, writing};
-ghost use Rattle.velo_program.specs.Fate.{Ends, number_of, status_of, status_of_check, status_of_list, status_of_log, status_of_refused, status_of_ending, status_of_names, status_of_schedule, status_of_work, place_of_work, line_of, line_of_check, line_of_log, line_of_ending, line_of_ignored, line_of_list, line_of_names, line_of_one_file, line_of_refused, line_of_schedule, line_of_work};
+ghost use Rattle.velo_delivery.specs.Writing.{BreaksOff, Writes, writing};
+ghost use Rattle.velo_program.specs.Fate.{Ends, fate_of_failure, number_of, status_of, status_of_check, status_of_list, status_of_log, status_of_refused, status_of_ending, status_of_names, status_of_schedule, status_of_work, place_of_work, line_of, line_of_check, line_of_log, line_of_ending, line_of_ignored, line_of_list, line_of_names, line_of_one_file, line_of_refused, line_of_schedule, line_of_work, word_of};
 
 use crate::check::CheckFault;
-use crate::request::{Ignorable, Operand};
+use crate::request::Ignorable;
 use crate::status::{ALARM, BAD_INPUT, DONE, FAILED, INCOMPLETE};
 use velo_bytes::{Sink, WriteFault, put_bytes, put_number, write_all};
+use velo_delivery::{Failure, Operand};
 use velo_events::{Refusal, ThreadId};
 use velo_list::ListFault;
 use velo_logtext::LogFault;
@@ -55,6 +56,18 @@ pub enum Fate {
     Lost,
     /// Not every schedule was tried, and nothing was found.
     Open,
+}
+
+/// What a failure comes to.
+pub(crate) fn fate_of_failure(failure: Failure) -> Fate
+    ensures { result ≡ fate_of_failure failure }
+{
+    match failure {
+        Failure::CannotOpen(_) => Fate::CannotOpen,
+        Failure::ReadFailed(_) => Fate::ReadFailed,
+        Failure::WriteFailed(_) | Failure::PrintFailed => Fate::WriteFailed,
+        Failure::Memory(_) => Fate::Memory,
+    }
 }
 
 /// The number of a refusal.
@@ -331,16 +344,31 @@ fn put_ignored(buffer: &mut [u8], what: Ignorable) -> usize
     }
 }
 
+/// Puts the word of an operand at a place of a buffer, and answers the place behind it.
+fn put_operand(buffer: &mut [u8], at: usize, operand: Operand) -> usize
+    requires { at + 5 ≤ length buffer.old }
+    ensures text { take result buffer.new ≡ take at buffer.old ++ word_of operand }
+    ensures end { result ≤ at + 5 }
+{
+    match operand {
+        Operand::Log => put_bytes(buffer, at, b"LOG"),
+        Operand::File => put_bytes(buffer, at, b"FILE"),
+        Operand::List => put_bytes(buffer, at, b"LIST"),
+        Operand::Turns => put_bytes(buffer, at, b"TURNS"),
+        Operand::Out => put_bytes(buffer, at, b"OUT"),
+        Operand::Names | Operand::NamesOut => put_bytes(buffer, at, b"NAMES"),
+    }
+}
+
 /// Puts the line of an input that is the file to be written at the front of a buffer, and answers where it ends.
 fn put_one_file(buffer: &mut [u8], operand: Operand) -> usize
     requires { 64 ≤ length buffer.old }
     ensures text { take result buffer.new ≡ line_of_one_file operand }
     ensures end { result ≤ length buffer.new }
 {
-    match operand {
-        Operand::Log => put_bytes(buffer, 0, b"error: LOG and OUT are one file\n"),
-        Operand::File => put_bytes(buffer, 0, b"error: FILE and OUT are one file\n"),
-    }
+    let at = put_bytes(buffer, 0, b"error: ");
+    let at = put_operand(buffer, at, operand);
+    put_bytes(buffer, at, b" and OUT are one file\n")
 }
 
 /// Puts the line that tells how a run ended at the front of a buffer, and answers where it ends: at 0 if there is none.

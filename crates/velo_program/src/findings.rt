@@ -1,6 +1,6 @@
 //! What the schedules of a workload come to, and the replay that is reported.
 ghost use Rattle.std.specs.Prelude.{◌≡◌, ◌<◌, ◌↔◌, All, IfOk, IfSome, IsNone, IsTrue, None, OnOk, Some};
-ghost use Rattle.velo_events.specs.declared.limits.TheConstants.{MOST_THREADS};
+ghost use Rattle.velo_events.specs.declared.limits.TheConstants.{MAX_THREADS};
 ghost use Rattle.velo_program.specs.ByChance.{IsByChance, IsSayable};
 ghost use Rattle.velo_program.specs.Check.{IsVerdict};
 ghost use Rattle.velo_program.specs.Exploring.{IsExplorationOf, IsToldOf};
@@ -14,20 +14,20 @@ use crate::told::{Found, ToBlame, Told, Tried};
 use crate::work::is_unreported;
 use std::alloc::Global;
 use velo_chance::{Tally, explore_by_chance};
-use velo_events::{Config, MOST_THREADS, Memory, ThreadId};
+use velo_events::{Config, MAX_THREADS, Memory, ThreadId};
 use velo_schedules::{Exploration, Finding, Progress, RefusalFinding, RefusedRun, explore};
 use velo_shrink::{Goal, shrink_told};
-use velo_turns::MOST_TURNS;
+use velo_turns::MAX_TURNS;
 use velo_worker::{Ending, replay};
 use velo_workload::Workload;
 use velo_world::Closed;
 
 /// Whether all turns are of threads that there may be.
 fn are_threads(schedule: &[ThreadId]) -> bool
-    ensures { IsTrue result ↔ All (λ t. t.0 < MOST_THREADS) schedule.now }
+    ensures { IsTrue result ↔ All (λ t. t.0 < MAX_THREADS) schedule.now }
 {
     for turn in schedule {
-        if turn.0 >= MOST_THREADS {
+        if turn.0 >= MAX_THREADS {
             return false;
         }
     }
@@ -38,7 +38,7 @@ fn are_threads(schedule: &[ThreadId]) -> bool
 fn is_sayable(schedule: &[ThreadId]) -> bool
     ensures { IsTrue result ↔ IsSayable schedule.now }
 {
-    schedule.len() <= MOST_TURNS && are_threads(schedule)
+    schedule.len() <= MAX_TURNS && are_threads(schedule)
 }
 
 /// The finding, which is open where its schedule can't be told.

@@ -17,7 +17,6 @@ mod laws;
 mod listing;
 mod naming;
 mod progress;
-mod reading;
 mod replaying;
 mod request;
 mod running;
@@ -28,20 +27,20 @@ mod told;
 mod watching;
 mod work;
 
-pub use blaming::MOST_BLAMING;
+pub use blaming::MAX_BLAMING;
 pub use carrying::{CarryFault, carry_run};
 pub use check::{
     CheckFault, Verdict, check_run, config_of, do_log, order_or_cycle_of, write_output,
 };
 pub use doing::do_request;
 pub use fate::{Fate, end_line, end_with};
-pub use files::Files;
 pub use laws::names_read_back;
 pub use progress::ExploreProgress;
 pub use request::{
     AuditOptions, CarryOptions, CheckOptions, DEFAULT_SEED, ExplainOptions, ExploreOptions,
-    Ignorable, Limits, MOST_RUNS, MOST_STATES, Operand, RandomRuns, ReplayOptions, Request,
-    RunOptions, ScheduleSource, WatchOptions,
+    Ignorable, Limits, MAX_RUNS, MAX_STATES, RandomRuns, ReplayOptions, Request, RunOptions,
+    ScheduleSource, WatchOptions,
 };
+pub use velo_delivery::{Files, Operand};
 pub use velo_schedules::{Progress, Quiet};
-pub use velo_turns::{MOST_SCHEDULE_BYTES, MOST_TURNS, ScheduleFault, schedule_of, turns_of};
+pub use velo_turns::{MAX_SCHEDULE_BYTES, MAX_TURNS, ScheduleFault, schedule_of, turns_of};

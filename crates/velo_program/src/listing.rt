@@ -1,15 +1,16 @@
 //! The labels that are known already, of a list.
 ghost use Rattle.std.specs.Prelude.{◌≡◌, IfErr, IfOk, IfSome, map};
 ghost use Rattle.velo_list.specs.Answers.{numbers};
-ghost use Rattle.velo_program.specs.Listing.{AreLabelsOf, AreNoList, LacksLabels, LacksLabelsAt, MeansLabels, ReadsLabels};
+ghost use Rattle.velo_program.specs.Format.{LacksAt, Reads};
+ghost use Rattle.velo_program.specs.Listing.{AreLabelsOf, AreNoList, LacksLabels, MeansLabels, list_file};
 
 use crate::fate::Fate;
-use crate::files::Files;
 use crate::naming::read_file;
 use std::alloc::Global;
+use velo_delivery::Files;
 use velo_events::{Label, Memory};
 use velo_list::{known_labels, parse_list};
-use velo_names::{MOST_NAMES_BYTES, Names};
+use velo_names::{MAX_NAMES_BYTES, Names};
 
 /// The labels that the bytes of a list mean by these names.
 ///
@@ -36,11 +37,11 @@ fn labels_at<F: Files>(
     path: &str,
     files: &F,
 ) -> Result<Vec<Label>, Fate>
-    ensures labels { IfOk result (λ labels. ReadsLabels names.now (F.disk files.now) path.now
+    ensures labels { IfOk result (λ labels. Reads (list_file names.now) (F.disk files.now) path.now
         (numbers labels.items)) }
-    ensures none { IfErr result (LacksLabelsAt (F.disk files.now) path.now) }
+    ensures none { IfErr result (LacksAt (list_file names.now) (F.disk files.now) path.now) }
 {
-    let bytes = match read_file(alloc, path, MOST_NAMES_BYTES, files) {
+    let bytes = match read_file(alloc, path, MAX_NAMES_BYTES, files) {
         Ok(bytes) => bytes,
         Err(fate) => return Err(fate),
     };
@@ -60,7 +61,7 @@ pub fn labels_of<F: Files>(
 ) -> Result<Vec<Label>, Fate>
     ensures labels { IfOk result (λ labels. AreLabelsOf names.now (F.disk files.now) path.entry
         (numbers labels.items)) }
-    ensures none { IfErr result (LacksLabels (F.disk files.now) path.entry) }
+    ensures none { IfErr result (LacksLabels names.now (F.disk files.now) path.entry) }
 {
     match path {
         None => Ok(Vec::new(alloc)),

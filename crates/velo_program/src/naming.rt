@@ -1,22 +1,22 @@
 //! Files of names, and other files that are read whole beside a command's input.
 ghost use Rattle.std.specs.Prelude.{◌≡◌, IfErr, IfOk, OnOk};
-ghost use Rattle.velo_names.specs.declared.limits.TheConstants.{MOST_NAMES_BYTES};
-ghost use Rattle.velo_program.specs.Naming.{AreBytesOf, AreNamesIn, AreNoBytesOf, AreNoNamesIn, AreShown, IsFailure, IsFileRead, IsFileUnread};
-ghost use Rattle.velo_program.specs.Reading.{failures_told};
-ghost use Rattle.velo_program.specs.Steps.{IsReadOf};
+ghost use Rattle.velo_names.specs.declared.limits.TheConstants.{MAX_NAMES_BYTES};
+ghost use Rattle.velo_program.specs.Format.{LacksAt, LacksGiven, Reads, SaysNone, bytes_up_to};
+ghost use Rattle.velo_program.specs.Naming.{AreBytesOf, AreNamesIn, AreNoNamesIn, AreShown};
+ghost use Rattle.velo_program.specs.Failures.{failures_told};
+ghost use Rattle.velo_delivery.specs.Reading.{IsReadOf};
 
 use crate::fate::Fate;
-use crate::files::{Files, is_standard_input};
-use crate::reading::{ReadFault, read_whole};
 use std::alloc::Global;
 use velo_bytes::Source;
+use velo_delivery::{Files, ReadFault, is_standard_input, read_whole};
 use velo_names::Names;
 use velo_report::Names as ReportNames;
 
 /// All bytes of a source; or where there are more than the most that are wanted, more than so many of them.
 fn read_source<I: Source>(alloc: Global, source: &mut I, most: usize) -> Result<Vec<u8>, Fate>
     ensures bytes { IfOk result (λ bytes. IsReadOf most (I.remaining source.old) bytes.items) }
-    ensures failed { IfErr result IsFailure }
+    ensures failed { IfErr result (SaysNone (bytes_up_to most) (I.remaining source.old)) }
     ensures read { OnOk result (I.failures source.new ≡ I.failures source.old) }
     ensures failure { IfErr result (λ fate. I.failures source.new ≡ failures_told fate
         (I.failures source.old)) }
@@ -39,8 +39,9 @@ pub fn read_file<F: Files>(
     most: usize,
     files: &F,
 ) -> Result<Vec<u8>, Fate>
-    ensures bytes { IfOk result (λ bytes. IsFileRead (F.disk files.now) path.now most bytes.items) }
-    ensures unread { IfErr result (IsFileUnread (F.disk files.now) path.now) }
+    ensures bytes { IfOk result (λ bytes. Reads (bytes_up_to most) (F.disk files.now) path.now
+        bytes.items) }
+    ensures unread { IfErr result (LacksAt (bytes_up_to most) (F.disk files.now) path.now) }
 {
     if is_standard_input(path) {
         return read_source(alloc, &mut files.standard_input(), most);
@@ -62,7 +63,7 @@ pub fn read_given<F: Files>(
     files: &F,
 ) -> Result<Vec<u8>, Fate>
     ensures bytes { IfOk result (λ bytes. AreBytesOf (F.disk files.now) most path.entry bytes.items) }
-    ensures unread { IfErr result (AreNoBytesOf (F.disk files.now) path.entry) }
+    ensures unread { IfErr result (LacksGiven (bytes_up_to most) (F.disk files.now) path.entry) }
 {
     match path {
         Some(path) => read_file(alloc, path, most, files),

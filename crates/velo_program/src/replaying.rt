@@ -1,17 +1,17 @@
 //! `velodrome replay`.
 ghost use Rattle.velo_program.specs.Playing.{ByTurns};
 ghost use Rattle.velo_program.specs.Program.{DoesPlay, DoesReplay};
-ghost use Rattle.velo_program.specs.Disk.{store};
-ghost use Rattle.velo_program.specs.Writing.{writing};
+ghost use Rattle.velo_delivery.specs.Disk.{store};
+ghost use Rattle.velo_delivery.specs.Writing.{writing};
 ghost use Rattle.velo_program.specs.Steps.{Plays};
 
 use crate::fate::Fate;
-use crate::files::Files;
 use crate::request::{ReplayOptions, RunOptions};
 use crate::scheduling::schedule_of_source;
 use crate::work::{config_of_run, finish_run, open_workload};
 use std::alloc::Global;
 use velo_bytes::Sink;
+use velo_delivery::Files;
 use velo_events::{Memory, ThreadId};
 use velo_worker::replay;
 use velo_workload::Workload;

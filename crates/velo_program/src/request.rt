@@ -1,19 +1,19 @@
 //! What the program can be asked for.
 ghost use Rattle.std.specs.Prelude.{◌≤◌};
-ghost use Rattle.velo_events.specs.declared.limits.TheConstants.{MOST_EVENTS, MOST_NODES};
-ghost use Rattle.velo_program.specs.declared.request.TheConstants.{MOST_RUNS, MOST_STATES};
+ghost use Rattle.velo_events.specs.declared.limits.TheConstants.{MAX_EVENTS, MAX_NODES};
+ghost use Rattle.velo_program.specs.declared.request.TheConstants.{MAX_RUNS, MAX_STATES};
 
 /// The limits of a run.
 #[derive(Clone, Copy, Debug)]
 pub struct Limits {
-    /// The most events that the log may have, 1 to [`MOST_EVENTS`](velo_events::MOST_EVENTS).
+    /// The most events that the log may have, 1 to [`MAX_EVENTS`](velo_events::MAX_EVENTS).
     pub events: u32,
-    /// The most nodes that the graph may have at one time, 1 to [`MOST_NODES`](velo_events::MOST_NODES).
+    /// The most nodes that the graph may have at one time, 1 to [`MAX_NODES`](velo_events::MAX_NODES).
     pub nodes: u16,
     ghost some_event: { 1 ≤ events },
-    ghost few_events: { events ≤ MOST_EVENTS },
+    ghost few_events: { events ≤ MAX_EVENTS },
     ghost some_node: { 1 ≤ nodes },
-    ghost few_nodes: { nodes ≤ MOST_NODES },
+    ghost few_nodes: { nodes ≤ MAX_NODES },
 }
 
 /// What `velodrome check` was asked for.
@@ -87,10 +87,10 @@ pub struct CarryOptions<'a> {
 }
 
 /// The most states that a search may look at.
-pub const MOST_STATES: u32 = 16_777_216;
+pub const MAX_STATES: u32 = 16_777_216;
 
 /// The most runs by chance: each is a whole replay.
-pub const MOST_RUNS: u32 = 1_000_000;
+pub const MAX_RUNS: u32 = 1_000_000;
 
 /// The seed of runs by chance where none is given.
 pub const DEFAULT_SEED: u64 = 1;
@@ -98,12 +98,12 @@ pub const DEFAULT_SEED: u64 = 1;
 /// Runs of a workload whose turns are drawn by chance.
 #[derive(Clone, Copy, Debug)]
 pub struct RandomRuns {
-    /// How many runs there are, 1 to [`MOST_RUNS`].
+    /// How many runs there are, 1 to [`MAX_RUNS`].
     pub runs: u32,
     /// The seed that the turns are drawn by.
     pub seed: u64,
     ghost some_run: { 1 ≤ runs },
-    ghost few_runs: { runs ≤ MOST_RUNS },
+    ghost few_runs: { runs ≤ MAX_RUNS },
 }
 
 /// What `velodrome explore` was asked for.
@@ -111,7 +111,7 @@ pub struct RandomRuns {
 pub struct ExploreOptions<'a> {
     /// The path of the workload, or `-`.
     pub input: &'a str,
-    /// The most states that are looked at, 1 to [`MOST_STATES`].
+    /// The most states that are looked at, 1 to [`MAX_STATES`].
     pub states: u32,
     /// Whether the first finding ends the search.
     pub first: bool,
@@ -128,7 +128,7 @@ pub struct ExploreOptions<'a> {
     /// The runs by chance that stand for the search, if they are asked for.
     pub random: Option<RandomRuns>,
     ghost some_state: { 1 ≤ states },
-    ghost few_states: { states ≤ MOST_STATES },
+    ghost few_states: { states ≤ MAX_STATES },
 }
 
 /// What `velodrome watch` was asked for.
@@ -163,15 +163,6 @@ pub struct AuditOptions<'a> {
     pub witness: bool,
     /// The limits within which the log is checked.
     pub limits: Limits,
-}
-
-/// The word of the command line that names an input.
-#[derive(Clone, Copy, Debug, PartialEq, Eq)]
-pub enum Operand {
-    /// `LOG`, a recorded log.
-    Log,
-    /// `FILE`, a workload.
-    File,
 }
 
 /// What events can be ignored by.

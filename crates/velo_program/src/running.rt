@@ -1,18 +1,18 @@
 //! `velodrome run`.
 ghost use Rattle.velo_program.specs.Playing.{ByThreads};
 ghost use Rattle.velo_program.specs.Program.{DoesRun};
-ghost use Rattle.velo_program.specs.Disk.{store};
-ghost use Rattle.velo_program.specs.Writing.{writing};
+ghost use Rattle.velo_delivery.specs.Disk.{store};
+ghost use Rattle.velo_delivery.specs.Writing.{writing};
 ghost use Rattle.velo_program.specs.Steps.{Plays};
 
 use crate::fate::Fate;
-use crate::files::Files;
 use crate::request::RunOptions;
 use crate::work::{config_of_run, finish_run, open_workload};
 use std::alloc::Global;
 use std::sync::Wait;
 use std::thread::Threads;
 use velo_bytes::Sink;
+use velo_delivery::Files;
 use velo_worker::{LiveFault, OpenGate, live};
 use velo_workload::Workload;
 

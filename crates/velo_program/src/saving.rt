@@ -1,15 +1,15 @@
 //! What is saved of a run of a workload: its log, and behind it the names of the workload.
 ghost use Rattle.std.specs.Prelude.{◌≡◌, IfOk};
-ghost use Rattle.velo_program.specs.Disk.{store};
+ghost use Rattle.velo_delivery.specs.Disk.{store};
 ghost use Rattle.velo_program.specs.Playing.{text_of_log, text_of_names};
-ghost use Rattle.velo_program.specs.Steps.{AreNamesFor, IsSavedInTurn};
+ghost use Rattle.velo_program.specs.Steps.{AreNamesFor, IsSavedInTurn, is_text_saved};
 
-use crate::explaining::save;
-use crate::fate::Fate;
-use crate::files::Files;
-use crate::work::save_log;
+use crate::fate::{Fate, fate_of_failure};
 use std::alloc::Global;
+use velo_bytes::{Sink, WriteFault, write_all};
+use velo_delivery::{Files, Operand, Save, Text, save_all};
 use velo_events::Memory;
+use velo_logtext::write_log;
 use velo_names::{NameKind, append_names};
 use velo_workload::Workload;
 use velo_world::Closed;
@@ -47,6 +47,26 @@ pub fn names_for(alloc: Global, workload: &Workload, path: Option<&str>) -> Resu
     }
 }
 
+/// A text that is saved.
+#[derive(Drop)]
+pub enum Saved<'c, 't> {
+    /// The log of a run.
+    Log(&'c Closed),
+    /// These bytes.
+    Bytes(&'t [u8]),
+}
+
+impl<'c, 't> Text for Saved<'c, 't> {
+    ghost is_text = { is_text_saved };
+
+    fn write_to<S: Sink>(&self, sink: &mut S) -> Result<(), WriteFault> {
+        match self {
+            Saved::Log(closed) => write_log(closed.bounds(), closed.log(), sink),
+            Saved::Bytes(bytes) => write_all(sink, bytes),
+        }
+    }
+}
+
 /// Saves the log of a run at the target, if there is one, and then the names at theirs, if there is one.
 ///
 /// # Errors
@@ -55,12 +75,20 @@ pub fn save_run<F: Files>(closed: &Closed, saving: &Saving, files: &mut F) -> Re
     ensures { IsSavedInTurn (store F.disk files.old files.new) saving.now.target
         saving.now.names_target saving.now.names.now (text_of_log closed.now) result }
 {
-    match save_log(closed, saving.target, files) {
-        Ok(()) => {}
-        Err(fate) => return Err(fate),
-    }
-    match saving.names_target {
-        Some(path) => save(saving.names, path, files),
-        None => Ok(()),
+    let saves = [
+        Save {
+            operand: Operand::Out,
+            path: saving.target,
+            text: Saved::Log(closed),
+        },
+        Save {
+            operand: Operand::NamesOut,
+            path: saving.names_target,
+            text: Saved::Bytes(saving.names),
+        },
+    ];
+    match save_all(&saves, files) {
+        Ok(()) => Ok(()),
+        Err(failure) => Err(fate_of_failure(failure)),
     }
 }

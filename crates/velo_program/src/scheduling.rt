@@ -1,15 +1,16 @@
 //! The schedule of a replay.
 ghost use Rattle.std.specs.Prelude.{IfErr, IfOk};
 ghost use Rattle.velo_turns.specs.File.{IsScheduleIn};
-ghost use Rattle.velo_program.specs.Scheduling.{IsNoScheduleIn, IsScheduleOf, LacksSchedule, LacksScheduleAt, ReadsSchedule};
+ghost use Rattle.velo_program.specs.Format.{LacksAt, Reads};
+ghost use Rattle.velo_program.specs.Scheduling.{IsNoScheduleIn, IsScheduleOf, LacksSchedule, turns_file};
 
 use crate::fate::Fate;
-use crate::files::Files;
 use crate::naming::read_file;
 use crate::request::ScheduleSource;
 use std::alloc::Global;
+use velo_delivery::Files;
 use velo_events::ThreadId;
-use velo_turns::{MOST_SCHEDULE_BYTES, schedule_in, schedule_of, turns_of};
+use velo_turns::{MAX_SCHEDULE_BYTES, schedule_in, schedule_of, turns_of};
 
 /// The schedule that the bytes of a file say.
 ///
@@ -24,11 +25,11 @@ fn schedule_of_bytes(alloc: Global, bytes: &[u8]) -> Result<Vec<ThreadId>, Fate>
 
 /// The schedule of the file at a path.
 fn schedule_at<F: Files>(alloc: Global, path: &str, files: &F) -> Result<Vec<ThreadId>, Fate>
-    ensures schedule { IfOk result (λ schedule. ReadsSchedule (F.disk files.now) path.now
+    ensures schedule { IfOk result (λ schedule. Reads turns_file (F.disk files.now) path.now
         schedule.items) }
-    ensures none { IfErr result (LacksScheduleAt (F.disk files.now) path.now) }
+    ensures none { IfErr result (LacksAt turns_file (F.disk files.now) path.now) }
 {
-    let bytes = match read_file(alloc, path, MOST_SCHEDULE_BYTES, files) {
+    let bytes = match read_file(alloc, path, MAX_SCHEDULE_BYTES, files) {
         Ok(bytes) => bytes,
         Err(fate) => return Err(fate),
     };

@@ -1,22 +1,23 @@
 //! `velodrome watch`: a log that is checked as it comes.
 ghost use Rattle.std.specs.Prelude.{◌≡◌, List, ℕ, Option, Err, IfOk, IfErr, OnOk, false};
 ghost use Rattle.velo_watch.specs.UnderWay.{CanGoOn, IsUnderWay, read_failures, write_failures};
-ghost use Rattle.velo_program.specs.Disk.{store};
+ghost use Rattle.velo_delivery.specs.Disk.{store};
 ghost use Rattle.velo_program.specs.Fate.{fate_of};
 ghost use Rattle.velo_program.specs.Program.{DoesWatch, WatchesBy, WatchesLog};
-ghost use Rattle.velo_program.specs.Reading.{failures_told};
+ghost use Rattle.velo_program.specs.Failures.{failures_told};
 ghost use Rattle.velo_report.specs.declared.names.Names.{Names as Shown};
 ghost use Rattle.velo_program.specs.Watching.{check_fault_by, Follows, HasWatched, Watches};
-ghost use Rattle.velo_program.specs.Writing.{writing};
+ghost use Rattle.velo_delivery.specs.Writing.{writing};
 
 use crate::check::{CheckFault, Verdict, fate_of, fault_of, finish};
 use crate::fate::Fate;
-use crate::files::{Files, is_standard_input, open_input};
+use crate::files::open_input;
 use crate::naming::{names_in, read_given, shown_by};
-use crate::request::{Operand, WatchOptions};
+use crate::request::WatchOptions;
 use std::alloc::Global;
 use velo_bytes::{Sink, Source};
-use velo_names::MOST_NAMES_BYTES;
+use velo_delivery::{Files, Operand, is_standard_input};
+use velo_names::MAX_NAMES_BYTES;
 use velo_report::Names;
 use velo_watch::{Watch, WatchFault};
 use velo_world::Closed;
@@ -150,7 +151,7 @@ pub fn watch_file<F: Files, O: Sink>(
     ensures { DoesWatch options.now (store F.disk files.old files.new)
         (writing O.contents O.failures out.old out.new) result }
 {
-    let bytes = match read_given(alloc, options.names, MOST_NAMES_BYTES, files) {
+    let bytes = match read_given(alloc, options.names, MAX_NAMES_BYTES, files) {
         Ok(bytes) => bytes,
         Err(fate) => return fate,
     };

@@ -1,25 +1,25 @@
 //! Workloads that run: where they are read, and what their runs show.
 ghost use Rattle.std.specs.Prelude.{◌≡◌, false, Some, IfOk, IfErr, IfSome, OnOk, is_some};
 ghost use Rattle.velo_program.specs.Check.{IsOrderOrCycle};
-ghost use Rattle.velo_program.specs.Reading.{failures_told};
-ghost use Rattle.velo_program.specs.Playing.{IsConfigOf, IsFaultOfWork, IsTextOf, IsUnread, is_unreported, text_of_log};
-ghost use Rattle.velo_program.specs.Disk.{store};
-ghost use Rattle.velo_program.specs.Writing.{writing};
-ghost use Rattle.velo_program.specs.Steps.{AreNamesFor, IsSaved, OpensNoProgram, OpensProgram, Reports, TellsEnd};
+ghost use Rattle.velo_program.specs.Failures.{failures_told};
+ghost use Rattle.velo_program.specs.Format.{Reads};
+ghost use Rattle.velo_program.specs.Playing.{IsConfigOf, IsFaultOfWork, IsTextOf, IsUnread, is_unreported, workload_file};
+ghost use Rattle.velo_delivery.specs.Disk.{store};
+ghost use Rattle.velo_delivery.specs.Writing.{writing};
+ghost use Rattle.velo_program.specs.Steps.{AreNamesFor, OpensNoProgram, Reports, TellsEnd};
 
 use crate::check::{is_alarm, order_or_cycle_of, verdict_of, write_output};
 use crate::fate::Fate;
-use crate::files::{Files, are_one_target, is_standard_input, open_to_run};
-use crate::reading::{ReadFault, read_whole};
+use crate::files::{are_one_target, open_to_run};
 use crate::request::RunOptions;
 use crate::saving::{Saving, names_for, save_run};
 use std::alloc::Global;
 use velo_bytes::{Sink, Source, WriteFault};
+use velo_delivery::{Files, ReadFault, is_standard_input, read_whole};
 use velo_events::{Config, Memory, Refusal};
-use velo_logtext::write_log;
 use velo_report::Names;
 use velo_worker::Ending;
-use velo_workload::{MOST_WORKLOAD_BYTES, WorkFault, Workload, parse, text_of};
+use velo_workload::{MAX_WORKLOAD_BYTES, WorkFault, Workload, parse, text_of};
 use velo_world::Closed;
 
 /// Reads a workload from a source.
@@ -30,7 +30,7 @@ fn read_workload<I: Source>(alloc: Global, source: &mut I) -> Result<Workload, F
     ensures failure { IfErr result (λ fate. I.failures source.new ≡ failures_told fate
         (I.failures source.old)) }
 {
-    match read_whole(alloc, source, MOST_WORKLOAD_BYTES) {
+    match read_whole(alloc, source, MAX_WORKLOAD_BYTES) {
         Ok(bytes) => {
             let workload = workload_of(alloc, &bytes);
             drop(bytes);
@@ -61,7 +61,7 @@ pub fn open_workload<F: Files>(
     options: &RunOptions,
     files: &F,
 ) -> Result<Workload, Fate>
-    ensures some { IfOk result (OpensProgram (F.disk files.now) options.now.input.now) }
+    ensures some { IfOk result (Reads workload_file (F.disk files.now) options.now.input.now) }
     ensures none { IfErr result (OpensNoProgram (F.disk files.now) options.now) }
 {
     if are_one_target(files, options.target, options.names_target) {
@@ -101,25 +101,6 @@ pub fn is_unreported(ending: Ending) -> bool
         ending,
         Ending::Refused(_, Refusal::Memory | Refusal::RuntimeMemory)
     )
-}
-
-/// Saves the log of a run at the target, if there is one.
-pub fn save_log<F: Files>(closed: &Closed, target: Option<&str>, files: &mut F) -> Result<(), Fate>
-    ensures { IsSaved (store F.disk files.old files.new) target.entry
-        (text_of_log closed.now) result }
-{
-    let Some(path) = target else {
-        return Ok(());
-    };
-    let Some(mut file) = files.create(path) else {
-        return Err(Fate::CannotOpen);
-    };
-    let written = write_log(closed.bounds(), closed.log(), &mut file);
-    files.close(path, file);
-    match written {
-        Ok(()) => Ok(()),
-        Err(WriteFault) => Err(Fate::WriteFailed),
-    }
 }
 
 /// Saves the log of a run and the names, where there are paths for them, then writes the report, and then the certificate, if

@@ -1,6 +1,6 @@
 //! The variables whose accesses are in order.
 ghost use Rattle.std.specs.Prelude.{◌≡◌, ◌≤◌, ◌<◌, ℕ, length, IfOk, IsTrue};
-ghost use Rattle.velo_events.specs.declared.limits.TheConstants.{MOST_EVENTS};
+ghost use Rattle.velo_events.specs.declared.limits.TheConstants.{MAX_EVENTS};
 ghost use Rattle.velo_events.specs.WellFormed.{IsWellFormed};
 ghost use Rattle.velo_laws.specs.Ordered.{only, IsOrderedWithin};
 ghost use Rattle.velo_thin.specs.Tables.{marked};
@@ -17,7 +17,7 @@ use velo_traces::Trace;
 /// # Errors
 /// `Memory` where a growth was refused.
 pub fn ordered_variables(alloc: Global, config: &Config, log: &Trace) -> Result<Vec<bool>, Memory>
-    requires few { length log.now.events ≤ MOST_EVENTS }
+    requires few { length log.now.events ≤ MAX_EVENTS }
     requires well_formed { IsWellFormed config.now.bounds log.now.events }
     ensures count { IfOk result (λ ordered. length ordered.items ≡ config.now.bounds.variables) }
     ensures ordered { IfOk result (λ ordered.

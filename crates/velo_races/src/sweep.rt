@@ -1,6 +1,6 @@
 //! One pass over the events of a log, from the first on.
 ghost use Rattle.std.specs.Prelude.{◌≡◌, ◌↔◌, List, ◌≤◌, ◌<◌, ◌+◌, ◌*◌, ◌^◌, ◌&&◌, ◌||◌, ◌==◌, ℕ, nat_le, if◌then◌else◌, true, false, not, length, slice_index_or, slice_set, IfOk, OnOk, IsTrue, IsFalse};
-ghost use Rattle.velo_events.specs.declared.limits.TheConstants.{MOST_EVENTS};
+ghost use Rattle.velo_events.specs.declared.limits.TheConstants.{MAX_EVENTS};
 ghost use Rattle.velo_events.specs.declared.event.Event.{Event};
 ghost use Rattle.velo_events.specs.WellFormed.{IsWellFormed};
 ghost use Rattle.velo_clocks.specs.Clocks.{ClockState};
@@ -177,7 +177,7 @@ impl Sweep {
     /// `Memory` where a growth was refused.
     pub fn take_in(&mut self, events: &[Event], position: usize) -> Result<(), Memory>
         requires within { position < length events.now }
-        requires few { length events.now ≤ MOST_EVENTS }
+        requires few { length events.now ≤ MAX_EVENTS }
         requires well { IsWellFormed self.old.bounds events.now }
         requires swept { IsSwept events.now position self.old }
         ensures bounds { self.new.bounds ≡ self.old.bounds }

@@ -1,6 +1,6 @@
 //! A log without the variables that are in order.
 ghost use Rattle.std.specs.Prelude.{◌≡◌, ◌≤◌, ◌<◌, length, IfOk, OnOk};
-ghost use Rattle.velo_events.specs.declared.limits.TheConstants.{MOST_EVENTS};
+ghost use Rattle.velo_events.specs.declared.limits.TheConstants.{MAX_EVENTS};
 ghost use Rattle.velo_events.specs.WellFormed.{IsWellFormed};
 ghost use Rattle.velo_thin.specs.Tables.{left_of, marked};
 ghost use Rattle.velo_laws.specs.Ordered.{only};
@@ -48,7 +48,7 @@ fn marked_out(alloc: Global, marks: &[bool], variables: u16) -> Result<LeftOut, 
 /// # Errors
 /// `Memory` where a growth was refused.
 pub fn thin_ordered(alloc: Global, config: &Config, log: &Trace) -> Result<Thinned, Memory>
-    requires few { length log.now.events ≤ MOST_EVENTS }
+    requires few { length log.now.events ≤ MAX_EVENTS }
     requires well_formed { IsWellFormed config.now.bounds log.now.events }
     ensures { IfOk result (IsThinned config.now.bounds log.now.events) }
 {

@@ -7,7 +7,7 @@ use mathlib.Core.HLevel.{is_prop→PathP}
 use native.Mathlib.Bridge.{le_prop}
 use Rattle.velo_events.specs.declared.config.Bounds.{Bounds}
 use Rattle.velo_events.specs.declared.config.Config.{Config}
-use Rattle.velo_events.specs.declared.limits.TheConstants.{MOST_EVENTS, MOST_LOCKS, MOST_NODES, MOST_THREADS}
+use Rattle.velo_events.specs.declared.limits.TheConstants.{MAX_EVENTS, MAX_LOCKS, MAX_NODES, MAX_THREADS}
 
 abbrev same_bounds : Bounds → Bounds → Bool
 same_bounds a b = (a.threads == b.threads) && ((a.variables == b.variables) && (a.locks == b.locks))
@@ -47,12 +47,12 @@ config_by a b run bounds events nodes stop = λ i. record {
   nodes = nodes i;
   stop = stop i;
   some_thread = is_prop→PathP (λ j. 1 ≤ (bounds j).threads) (λ j x y k. le_prop x y k) a.some_thread b.some_thread i;
-  few_threads = is_prop→PathP (λ j. (bounds j).threads ≤ MOST_THREADS) (λ j x y k. le_prop x y k) a.few_threads b.few_threads i;
-  few_locks = is_prop→PathP (λ j. (bounds j).locks ≤ MOST_LOCKS) (λ j x y k. le_prop x y k) a.few_locks b.few_locks i;
+  few_threads = is_prop→PathP (λ j. (bounds j).threads ≤ MAX_THREADS) (λ j x y k. le_prop x y k) a.few_threads b.few_threads i;
+  few_locks = is_prop→PathP (λ j. (bounds j).locks ≤ MAX_LOCKS) (λ j x y k. le_prop x y k) a.few_locks b.few_locks i;
   some_event = is_prop→PathP (λ j. 1 ≤ events j) (λ j x y k. le_prop x y k) a.some_event b.some_event i;
-  few_events = is_prop→PathP (λ j. events j ≤ MOST_EVENTS) (λ j x y k. le_prop x y k) a.few_events b.few_events i;
+  few_events = is_prop→PathP (λ j. events j ≤ MAX_EVENTS) (λ j x y k. le_prop x y k) a.few_events b.few_events i;
   some_node = is_prop→PathP (λ j. 1 ≤ nodes j) (λ j x y k. le_prop x y k) a.some_node b.some_node i;
-  few_nodes = is_prop→PathP (λ j. nodes j ≤ MOST_NODES) (λ j x y k. le_prop x y k) a.few_nodes b.few_nodes i;
+  few_nodes = is_prop→PathP (λ j. nodes j ≤ MAX_NODES) (λ j x y k. le_prop x y k) a.few_nodes b.few_nodes i;
 }
 
 -- ---- the values but for the first, the first two, and so on

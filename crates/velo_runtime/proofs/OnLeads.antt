@@ -8,7 +8,7 @@ use Rattle.velo_events.specs.declared.config.Bounds.{Bounds}
 use Rattle.velo_events.specs.declared.event.Event.{Event}
 use Rattle.velo_events.specs.declared.event.LockId.{LockId}
 use Rattle.velo_events.specs.declared.event.ThreadId.{ThreadId}
-use Rattle.velo_events.specs.declared.limits.TheConstants.{MOST_THREADS}
+use Rattle.velo_events.specs.declared.limits.TheConstants.{MAX_THREADS}
 use Rattle.velo_events.specs.declared.thread_set.ThreadSet.{ThreadSet}
 use Rattle.velo_events.specs.Event.{thread_of, is_acquire, is_on_lock}
 use Rattle.velo_events.specs.Heap.{holder_in, shares_in, status_in, latest}
@@ -28,7 +28,7 @@ use Rattle.velo_runtime.specs.Leads.{set_of, AreLeads, AreNextLeads}
 pub no_member : (u : ℕ) → IsFalse (has_thread no_threads u)
 no_member u = ap (λ n. n == 1) (bit_at-zero u)
 
-pub set_of-is : (o : Option ThreadId) → IfSome o (λ t. t.0 < MOST_THREADS) → (u : ℕ) → IsTrue (has_thread (set_of o) u) ↔ (option_map (λ t. t.0) o ≡ Some u)
+pub set_of-is : (o : Option ThreadId) → IfSome o (λ t. t.0 < MAX_THREADS) → (u : ℕ) → IsTrue (has_thread (set_of o) u) ↔ (option_map (λ t. t.0) o ≡ Some u)
 set_of-is None few u = (λ is. absurd (false≢true (sym (no_member u) ∙ is)), λ is. cc)
 set_of-is (Some t) few u = (
   λ is. ap Some (eqb-true t.0 u (sym member ∙ is)),
@@ -59,11 +59,11 @@ holder_there bounds log well = IsWellFormed-induct bounds (λ trace. (m t : ℕ)
         by true false h = cc
         by false acquires h = before m t h
 
-few_named : (o : Option ThreadId) (n : ℕ) → n ≤ 64 → ((t : ℕ) → option_map (λ t. t.0) o ≡ Some t → t < n) → IfSome o (λ t. t.0 < MOST_THREADS)
+few_named : (o : Option ThreadId) (n : ℕ) → n ≤ 64 → ((t : ℕ) → option_map (λ t. t.0) o ≡ Some t → t < n) → IfSome o (λ t. t.0 < MAX_THREADS)
 few_named None n few there = tt
 few_named (Some t) n few there = let within = there t.0 refl in omega (arith, within, few)
 
-pub holder_few : (bounds : Bounds) (log : List Event) (m : ℕ) (holder : Option ThreadId) → IsWellFormed bounds log → bounds.threads ≤ 64 → option_map (λ t. t.0) holder ≡ holder_in log m → IfSome holder (λ t. t.0 < MOST_THREADS)
+pub holder_few : (bounds : Bounds) (log : List Event) (m : ℕ) (holder : Option ThreadId) → IsWellFormed bounds log → bounds.threads ≤ 64 → option_map (λ t. t.0) holder ≡ holder_in log m → IfSome holder (λ t. t.0 < MAX_THREADS)
 holder_few bounds log m holder well few held = few_named holder bounds.threads few (λ t is. holder_there bounds log well m t (sym held ∙ is))
 
 -- ---- what a wanted thing leads to

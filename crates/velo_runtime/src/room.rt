@@ -1,7 +1,7 @@
 ghost use Rattle.velo_events.specs.Refusals.{GrowthRefused};
 ghost use Rattle.std.specs.Prelude.{◌≡◌, ◌≢◌, ◌<◌, ◌+◌, ◌⊎◌, ◌↔◌, None, Err, IfOk, IfErr, IfSome, IfNone, IsFalse, IsTrue, sum_by, length, replicate};
 ghost use Rattle.velo_events.specs.declared.refusal.Refusal.TheVariants as refusal;
-ghost use Rattle.velo_events.specs.declared.limits.TheConstants.{MOST_THREADS};
+ghost use Rattle.velo_events.specs.declared.limits.TheConstants.{MAX_THREADS};
 ghost use Rattle.velo_events.specs.Graph.{HasCycle};
 ghost use Rattle.velo_events.specs.Reordering.{IsSerializable};
 ghost use Rattle.velo_ledger.specs.Shares.{events_in_all, opening_share};
@@ -388,7 +388,7 @@ pub fn comes_back(room: &Room, caller: ThreadId, wanted: Wanted) -> bool
 
 /// The thread, if there is one.
 fn set_of(thread: Option<ThreadId>) -> ThreadSet
-    requires { IfSome thread (λ t. t.0 < MOST_THREADS) }
+    requires { IfSome thread (λ t. t.0 < MAX_THREADS) }
     ensures { result ≡ set_of thread }
 {
     match thread {

@@ -2,7 +2,7 @@
 use std::alloc::Global;
 use velo_events::{Config, ThreadId};
 use velo_schedules::{Exploration, Finding, Quiet, RefusalFinding, RefusedRun, explore};
-use velo_shrink::{Goal, MOST_TRIES, shrink};
+use velo_shrink::{Goal, MAX_TRIES, shrink};
 use velo_turns::append_turns;
 use velo_workload::parse;
 
@@ -15,7 +15,7 @@ fn to_alarm(alloc: Global, text: &str) -> Option<Vec<ThreadId>> {
     ).ok()?;
     match alarm {
         Finding::Shown(schedule) => {
-            shrink(alloc, &workload, Goal::Alarm, schedule, MOST_TRIES, config).ok()
+            shrink(alloc, &workload, Goal::Alarm, schedule, MAX_TRIES, config).ok()
         }
         _ => None,
     }
@@ -30,7 +30,7 @@ fn to_deadlock(alloc: Global, text: &str) -> Option<Vec<ThreadId>> {
     ).ok()?;
     match stuck {
         Finding::Shown(schedule) => {
-            shrink(alloc, &workload, Goal::Stuck, schedule, MOST_TRIES, config).ok()
+            shrink(alloc, &workload, Goal::Stuck, schedule, MAX_TRIES, config).ok()
         }
         _ => None,
     }
@@ -51,7 +51,7 @@ fn to_refusal(alloc: Global, text: &str) -> Option<Vec<ThreadId>> {
                 refusal,
             } = run;
             let goal = Goal::Refused(thread, refusal);
-            shrink(alloc, &workload, goal, schedule, MOST_TRIES, config).ok()
+            shrink(alloc, &workload, goal, schedule, MAX_TRIES, config).ok()
         }
         _ => None,
     }

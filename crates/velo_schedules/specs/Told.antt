@@ -3,7 +3,7 @@ use Rattle.std.specs.Prelude.{◌≡◌, ◌⊎◌, ◌↔◌, ◌*◌, ◌<◌,
 use Rattle.velo_events.specs.declared.config.Config.{Config}
 use Rattle.velo_events.specs.declared.event.ThreadId.{ThreadId}
 use Rattle.velo_events.specs.Graph.{HasCycle}
-use Rattle.velo_explore.specs.declared.schedules.TheConstants.{MOST_ALARMS}
+use Rattle.velo_explore.specs.declared.schedules.TheConstants.{MAX_ALARMS}
 use Rattle.velo_explore.specs.Faults.{Fault, Cycle, IsFault}
 use Rattle.velo_explore.specs.Runs.{NeverWithin}
 use Rattle.velo_explore.specs.Search.{SomeRun, ways}
@@ -141,6 +141,6 @@ OnShown finding P = ⊤
 -- each leads to an alarm; where the first finding is enough there is none, and else one at least where an alarm is shown
 pub record AreAlarms (program : Program) (config : Config) (first : Bool) (alarm : Finding) (alarms : List (List ThreadId)) : Type 0 where
   pub each : All (LeadsToAlarm program config) alarms
-  pub few : length alarms ≤ MOST_ALARMS
+  pub few : length alarms ≤ MAX_ALARMS
   pub none : first ≡ true → alarms ≡ []
   pub some : first ≡ false → OnShown alarm (0 < length alarms)

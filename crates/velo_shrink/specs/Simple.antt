@@ -14,7 +14,7 @@ use Rattle.velo_schedules.specs.declared.finding.RefusalFinding.{RefusalFinding}
 use Rattle.velo_schedules.specs.declared.finding.RefusalFinding.TheVariants as refusals
 use Rattle.velo_shrink.specs.declared.goal.Goal.{Goal}
 use Rattle.velo_shrink.specs.declared.goal.Goal.TheVariants.{Alarm, Stuck, Refused}
-use Rattle.velo_shrink.specs.declared.minimizing.TheConstants.{MOST_MINIMAL}
+use Rattle.velo_shrink.specs.declared.minimizing.TheConstants.{MAX_MINIMAL}
 use Rattle.velo_shrink.specs.Shown.{Reaches}
 
 -- the turns but the one at position i
@@ -63,7 +63,7 @@ pub record IsMinimal (program : Program) (config : Config) (goal : Goal) (turns 
 -- left out
 pub record Simplifies (program : Program) (config : Config) (goal : Goal) (found told : List ThreadId) : Type 0 where
   pub shorter : length told ≤ length found
-  pub minimal : length told ≤ MOST_MINIMAL → IsMinimal program config goal told
+  pub minimal : length told ≤ MAX_MINIMAL → IsMinimal program config goal told
 
 -- a finding that is told in place of one that was found
 abbrev pub SimplifiesFinding : Program → Config → Goal → Finding → Finding → Type 0

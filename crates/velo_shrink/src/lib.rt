@@ -11,6 +11,6 @@ mod told;
 mod trying;
 
 pub use goal::Goal;
-pub use minimizing::MOST_MINIMAL;
-pub use shrinking::{MOST_TRIES, shrink};
+pub use minimizing::MAX_MINIMAL;
+pub use shrinking::{MAX_TRIES, shrink};
 pub use told::shrink_told;

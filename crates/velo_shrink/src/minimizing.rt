@@ -12,7 +12,7 @@ use velo_events::{Config, Memory, ThreadId};
 use velo_workload::Workload;
 
 /// The most turns of a schedule of which each single one is tried to be left out.
-pub const MOST_MINIMAL: usize = 256;
+pub const MAX_MINIMAL: usize = 256;
 
 /// A shorter schedule that shows the goal, if the turn at the position can be left out: the run's own turns up to where it shows
 /// the goal, or, if a limit is in their way, the other turns of the schedule.

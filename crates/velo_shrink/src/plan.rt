@@ -1,6 +1,6 @@
 //! Which changes are tried, one after another. Nothing is proved of it: what it leads to is replayed.
 use crate::edit::Edit;
-use velo_events::{MOST_THREADS, ThreadId};
+use velo_events::{MAX_THREADS, ThreadId};
 
 /// One kind of change.
 #[derive(Clone, Copy, Debug, PartialEq, Eq)]
@@ -43,7 +43,7 @@ fn next_turn(schedule: &[ThreadId], from: usize, thread: ThreadId) -> Option<usi
 
 /// The least thread from this number on that has a turn.
 fn next_thread(schedule: &[ThreadId], from: usize) -> Option<ThreadId> {
-    for thread in 0..MOST_THREADS {
+    for thread in 0..MAX_THREADS {
         if usize::from(thread) >= from && next_turn(schedule, 0, ThreadId(thread)).is_some() {
             return Some(ThreadId(thread));
         }

@@ -6,7 +6,7 @@ ghost use Rattle.velo_shrink.specs.Simple.{Simplifies};
 use crate::budget::Budget;
 use crate::edit::edited;
 use crate::goal::Goal;
-use crate::minimizing::{MOST_MINIMAL, minimal};
+use crate::minimizing::{MAX_MINIMAL, minimal};
 use crate::plan::Plan;
 use crate::trying::simpler;
 use std::alloc::Global;
@@ -14,10 +14,10 @@ use velo_events::{Config, Memory, ThreadId};
 use velo_workload::Workload;
 
 /// How many tries are enough for most schedules.
-pub const MOST_TRIES: u32 = 4_000;
+pub const MAX_TRIES: u32 = 4_000;
 
 /// The most turns and events of all tries together.
-const MOST_STEPS: u64 = 20_000_000;
+const MAX_STEPS: u64 = 20_000_000;
 
 /// The simplest schedule of so many tries, unless the budget is spent before.
 fn simplest(
@@ -64,7 +64,7 @@ fn simplest(
 /// together some 20,000,000 turns and events are done. Where a try shows the finding, the threads of its own events up to
 /// there are the next schedule, if they are simpler and show it again.
 ///
-/// If at most [`MOST_MINIMAL`] turns are left then, single ones are left out until none can be, however many tries this takes:
+/// If at most [`MAX_MINIMAL`] turns are left then, single ones are left out until none can be, however many tries this takes:
 /// without any one of them a replay does not come to the finding within as many turns as are left.
 ///
 /// # Errors
@@ -83,7 +83,7 @@ pub fn shrink(
     ensures simple { IfOk result (λ turns.
         Simplifies workload.now config goal schedule.items turns.items) }
 {
-    let mut budget = Budget::new(MOST_STEPS);
+    let mut budget = Budget::new(MAX_STEPS);
     let best = simplest(
         alloc,
         workload,
@@ -93,7 +93,7 @@ pub fn shrink(
         config,
         &mut budget,
     )?;
-    if best.len() > MOST_MINIMAL {
+    if best.len() > MAX_MINIMAL {
         return Ok(best);
     }
     minimal(alloc, workload, goal, best, config, &mut budget)

@@ -5,7 +5,7 @@ ghost use Rattle.velo_shrink.specs.declared.goal.Goal.TheVariants.{Alarm, Stuck}
 ghost use Rattle.velo_shrink.specs.Simple.{SimplifiesFinding, SimplifiesRefusal};
 
 use crate::goal::Goal;
-use crate::shrinking::{MOST_TRIES, shrink};
+use crate::shrinking::{MAX_TRIES, shrink};
 use std::alloc::Global;
 use velo_events::{Config, Memory};
 use velo_schedules::{Exploration, Finding, RefusalFinding, RefusedRun};
@@ -25,7 +25,7 @@ fn shrink_alarm(
 {
     match found {
         Finding::Shown(schedule) => {
-            let short = shrink(alloc, workload, Goal::Alarm, schedule, MOST_TRIES, config)?;
+            let short = shrink(alloc, workload, Goal::Alarm, schedule, MAX_TRIES, config)?;
             Ok(Finding::Shown(short))
         }
         Finding::Never => Ok(Finding::Never),
@@ -47,7 +47,7 @@ fn shrink_stuck(
 {
     match found {
         Finding::Shown(schedule) => {
-            let short = shrink(alloc, workload, Goal::Stuck, schedule, MOST_TRIES, config)?;
+            let short = shrink(alloc, workload, Goal::Stuck, schedule, MAX_TRIES, config)?;
             Ok(Finding::Shown(short))
         }
         Finding::Never => Ok(Finding::Never),
@@ -75,7 +75,7 @@ fn shrink_refusal(
                 refusal,
             } = run;
             let goal = Goal::Refused(thread, refusal);
-            let schedule = shrink(alloc, workload, goal, schedule, MOST_TRIES, config)?;
+            let schedule = shrink(alloc, workload, goal, schedule, MAX_TRIES, config)?;
             Ok(RefusalFinding::Shown(RefusedRun {
                 schedule,
                 thread,

@@ -2,7 +2,7 @@ ghost use Rattle.std.specs.Prelude.{◌≡◌, ◌<◌, ◌≤◌, ◌+◌, ◌+
 ghost use Rattle.std.specs.List.{filter_map};
 ghost use Rattle.std.specs.Option.{option_to_list};
 ghost use Rattle.smallvec.specs.SmallVec.{HasRoomFor};
-ghost use Rattle.velo_events.specs.declared.limits.TheConstants.{MOST_THREADS};
+ghost use Rattle.velo_events.specs.declared.limits.TheConstants.{MAX_THREADS};
 ghost use Rattle.velo_arena.specs.declared.step.Step.{Step as StepOf};
 ghost use Rattle.velo_events.specs.Place.{thread_numbers};
 ghost use Rattle.velo_tables.specs.Readers.{AreReaders};
@@ -14,7 +14,7 @@ ghost use Rattle.velo_arena.specs.Heirs.{renamed};
 ghost use Rattle.velo_tables.specs.Recorded.{with_write, with_read, with_reads_of, with_heirs, with_write_by};
 
 use crate::entry::{Entry, entry_at, rename_entries};
-use crate::tables::MOST_PREDECESSORS;
+use crate::tables::MAX_PREDECESSORS;
 use smallvec::SmallVec;
 use std::alloc::Global;
 use std::marker::Model;
@@ -62,7 +62,7 @@ impl Model for Cells {
 }
 
 /// Appends the step, if there is one.
-pub(crate) fn push_step(list: &mut SmallVec<Step, MOST_PREDECESSORS>, step: Option<Step>)
+pub(crate) fn push_step(list: &mut SmallVec<Step, MAX_PREDECESSORS>, step: Option<Step>)
     requires { HasRoomFor list.old 1 }
     ensures items { list.new.items ≡ list.old.items ++ option_to_list step }
     ensures capacity { list.new.capacity ≡ list.old.capacity }
@@ -89,10 +89,10 @@ fn push_reads_of(
     reads: &[Entry],
     readers: u64,
     slot: Option<u16>,
-    list: &mut SmallVec<Step, MOST_PREDECESSORS>,
+    list: &mut SmallVec<Step, MAX_PREDECESSORS>,
 )
     requires covered { AreReaders readers reads.now }
-    requires room { HasRoomFor list.old MOST_THREADS }
+    requires room { HasRoomFor list.old MAX_THREADS }
     ensures items { list.new.items ≡ list.old.items ++ filter_map (λ t. but_for slot (slice_index_or reads.now t None)) thread_numbers }
     ensures capacity { list.new.capacity ≡ list.old.capacity }
 {
@@ -130,7 +130,7 @@ fn are_of(reads: &[Entry], readers: u64, slot: u16) -> bool
 
 /// The bits of the readers with that of the thread, if its read has a step.
 fn with_reader(readers: u64, t: ThreadId, step: Option<Step>) -> u64
-    requires { t.0 < MOST_THREADS }
+    requires { t.0 < MAX_THREADS }
     ensures { (reads : List (Option StepOf)) → t.0 < length reads → AreReaders readers reads → AreReaders result (slice_set reads t.0 step) }
 {
     match step {
@@ -141,7 +141,7 @@ fn with_reader(readers: u64, t: ThreadId, step: Option<Step>) -> u64
 
 /// The bits of the readers without that of the thread.
 fn without_reader(readers: u64, t: ThreadId) -> u64
-    requires { t.0 < MOST_THREADS }
+    requires { t.0 < MAX_THREADS }
     ensures { (reads : List (Option StepOf)) → t.0 < length reads → AreReaders readers reads → AreReaders result (slice_set reads t.0 None) }
 {
     readers & !(1 << t.0)
@@ -288,9 +288,9 @@ impl Cells {
         &self,
         c: Cell,
         slot: Option<u16>,
-        list: &mut SmallVec<Step, MOST_PREDECESSORS>,
+        list: &mut SmallVec<Step, MAX_PREDECESSORS>,
     )
-        requires { HasRoomFor list.old (1 + MOST_THREADS) }
+        requires { HasRoomFor list.old (1 + MAX_THREADS) }
         ensures items { list.new.items ≡ list.old.items ++ steps_of slot (slice_index_or self.now c.0 no_accesses) }
         ensures capacity { list.new.capacity ≡ list.old.capacity }
     {
@@ -323,7 +323,7 @@ impl Cells {
     /// `Memory` where a growth was refused. Nothing changes then.
     pub fn reserve_reads(&mut self, c: Cell, threads: usize) -> Result<(), Memory>
         requires there { c.0 < length self.old }
-        requires few { threads ≤ MOST_THREADS }
+        requires few { threads ≤ MAX_THREADS }
         ensures ok { OnOk result (self.new ≡ slice_set self.old c.0 (with_reads_of threads (slice_index_or self.old c.0 no_accesses))) }
         ensures err { OnErr result (self.new ≡ self.old) }
     {

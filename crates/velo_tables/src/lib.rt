@@ -6,5 +6,5 @@ mod cells;
 mod entry;
 mod tables;
 
-pub use tables::{MOST_PREDECESSORS, Tables};
+pub use tables::{MAX_PREDECESSORS, Tables};
 pub use velo_clocks::ClockTables;

@@ -2,8 +2,8 @@ ghost use Rattle.std.specs.Prelude.{◌≡◌, ◌+◌, ◌^◌, ◌<◌, ◌≤
 ghost use Rattle.std.specs.List.{filter_map};
 ghost use Rattle.std.specs.Option.{option_to_list};
 ghost use Rattle.smallvec.specs.SmallVec.{HasRoomFor as HasSpace};
-ghost use Rattle.velo_events.specs.declared.limits.TheConstants.{MOST_THREADS};
-ghost use Rattle.velo_tables.specs.declared.tables.TheConstants.{MOST_PREDECESSORS};
+ghost use Rattle.velo_events.specs.declared.limits.TheConstants.{MAX_THREADS};
+ghost use Rattle.velo_tables.specs.declared.tables.TheConstants.{MAX_PREDECESSORS};
 ghost use Rattle.velo_events.specs.Place.{LastOf, LastWrite, LastRead, thread_numbers};
 ghost use Rattle.velo_tables.specs.LastAccesses.{entry, no_accesses, steps_looked_up, HasItsThreads, HasRoomFor, HasRoomToRead, HasRoomBeside, CoverReaders, IsBlank, IsUnchanged, IsRecorded, IsReadForgotten, IsRenamed, accesses_of};
 ghost use Rattle.velo_tables.specs.Others.{but_for, accesses_but_for};
@@ -17,10 +17,10 @@ use std::alloc::Global;
 use std::marker::Model;
 use velo_arena::{Heir, Step};
 use velo_events::growth::resize;
-use velo_events::{Access, Cell, Config, Event, MOST_THREADS, Memory, Resolved, ThreadId};
+use velo_events::{Access, Cell, Config, Event, MAX_THREADS, Memory, Resolved, ThreadId};
 
 /// The most steps that an event looks up: of its thread, of the last write, and of a read by each thread.
-pub const MOST_PREDECESSORS: usize = MOST_THREADS as usize + 2;
+pub const MAX_PREDECESSORS: usize = MAX_THREADS as usize + 2;
 
 /// The step of the last event at each place: of each thread, the last write of each cell, and its last read by each thread.
 /// A variable is written and read; a lock is written by who takes or leaves it alone, and read by who does so beside others.
@@ -33,14 +33,14 @@ pub struct Tables {
 
 impl Model for Tables {
     ghost use Rattle.std.specs.Prelude.{◌≤◌, length};
-    ghost use Rattle.velo_events.specs.declared.limits.TheConstants.{MOST_THREADS};
+    ghost use Rattle.velo_events.specs.declared.limits.TheConstants.{MAX_THREADS};
     ghost use Rattle.velo_tables.specs.LastAccesses.{LastAccesses};
 
     ghost Value = { LastAccesses };
 
     ghost view = { λ s. record { threads = s.threads.items; cells = s.cells } };
 
-    ghost invariant = { λ s. length s.threads.items ≤ MOST_THREADS };
+    ghost invariant = { λ s. length s.threads.items ≤ MAX_THREADS };
 }
 
 /// Puts the step, or none, in the place of the entry with this number.
@@ -262,9 +262,9 @@ impl Tables {
     pub fn predecessors_into(
         &self,
         event: &Resolved<'_>,
-        list: &mut SmallVec<Step, MOST_PREDECESSORS>,
+        list: &mut SmallVec<Step, MAX_PREDECESSORS>,
     )
-        requires { MOST_PREDECESSORS ≤ list.old.capacity }
+        requires { MAX_PREDECESSORS ≤ list.old.capacity }
         ensures items { list.new.items ≡ steps_looked_up self.now event.now }
         ensures capacity { list.new.capacity ≡ list.old.capacity }
     {
@@ -293,8 +293,8 @@ impl Tables {
     /// Puts the steps that a write of the cell looks up beside that of its thread into the list, in place of what it
     /// had, but for those of the slot.
     #[tactic(auto, unfolding(crate::specs::Others::accesses_but_for))]
-    pub fn accesses_into(&self, c: Cell, slot: u16, list: &mut SmallVec<Step, MOST_PREDECESSORS>)
-        requires { MOST_PREDECESSORS ≤ list.old.capacity }
+    pub fn accesses_into(&self, c: Cell, slot: u16, list: &mut SmallVec<Step, MAX_PREDECESSORS>)
+        requires { MAX_PREDECESSORS ≤ list.old.capacity }
         ensures items { list.new.items ≡ accesses_but_for self.now c.0 slot }
         ensures capacity { list.new.capacity ≡ list.old.capacity }
     {
@@ -322,13 +322,8 @@ impl Tables {
 
     /// Appends the steps of the cell's last write and reads, but for those of the slot.
     #[inline]
-    fn push_accesses(
-        &self,
-        c: Cell,
-        slot: Option<u16>,
-        list: &mut SmallVec<Step, MOST_PREDECESSORS>,
-    )
-        requires { HasSpace list.old (1 + MOST_THREADS) }
+    fn push_accesses(&self, c: Cell, slot: Option<u16>, list: &mut SmallVec<Step, MAX_PREDECESSORS>)
+        requires { HasSpace list.old (1 + MAX_THREADS) }
         ensures items { list.new.items ≡ list.old.items ++ filter_map (λ p. but_for slot (entry self.now p)) (LastWrite c.0 ∷ map (LastRead c.0) thread_numbers) }
         ensures capacity { list.new.capacity ≡ list.old.capacity }
     {
@@ -337,7 +332,7 @@ impl Tables {
 
     /// The steps that the event looks up: first that of the thread's last event, and a write's reads in the order of their
     /// threads.
-    pub fn predecessors(&self, event: &Event) -> SmallVec<Step, MOST_PREDECESSORS>
+    pub fn predecessors(&self, event: &Event) -> SmallVec<Step, MAX_PREDECESSORS>
         ensures { result.items ≡ steps_looked_up self.now event.now }
     {
         let mut list = SmallVec::new(*self.threads.allocator());

@@ -1,6 +1,6 @@
 -- For each thread which of its open blocks are left out. Private contracts cite these words.
 use Rattle.std.specs.Prelude.{◌≡◌, ℕ, ◌+◌, ◌*◌, ◌<◌, ◌≤◌, Bool, if◌then◌else◌, List, [], ◌∷◌, length, map, slice_index}
-use Rattle.velo_events.specs.declared.limits.TheConstants.{MOST_OPEN_BLOCKS}
+use Rattle.velo_events.specs.declared.limits.TheConstants.{MAX_OPEN_BLOCKS}
 use Rattle.velo_events.specs.declared.event.Event.{Event}
 use Rattle.velo_thin.specs.Left.{Left, is_dissolved}
 use Rattle.velo_thin.specs.Stacks.{stack}
@@ -16,4 +16,4 @@ pub record AreMarks (left : Left) (log : List Event) (n : ℕ) (rows : List ℕ)
 
 -- so few blocks are open everywhere that such a number is small
 pub record IsShallow (log : List Event) : Type 0 where
-  pub each : (t n : ℕ) → n ≤ length log → length (stack log t n) ≤ MOST_OPEN_BLOCKS
+  pub each : (t n : ℕ) → n ≤ length log → length (stack log t n) ≤ MAX_OPEN_BLOCKS

@@ -1,6 +1,6 @@
 //! What is left of a log, as a trace of its own.
 ghost use Rattle.std.specs.Prelude.{◌≡◌, ◌≤◌, ◌<◌, ◌+◌, ◌++◌, ◌∷◌, [], length, IfOk, OnOk};
-ghost use Rattle.velo_events.specs.declared.limits.TheConstants.{MOST_EVENTS};
+ghost use Rattle.velo_events.specs.declared.limits.TheConstants.{MAX_EVENTS};
 ghost use Rattle.velo_events.specs.declared.config.Bounds.{Bounds};
 ghost use Rattle.velo_events.specs.Reordering.{IsSerializable};
 ghost use Rattle.velo_events.specs.WellFormed.{IsWellFormed};
@@ -47,7 +47,7 @@ fn take_in(
     position: usize,
 ) -> Result<(), Memory>
     requires within { position < length events.now }
-    requires few { length events.now ≤ MOST_EVENTS }
+    requires few { length events.now ≤ MAX_EVENTS }
     requires shallow { IsShallow events.now }
     requires stands { IsThinnedTo (left_of left.now) events.now position thinned.old rows.old }
     ensures { OnOk result (IsThinnedTo (left_of left.now) events.now (position + 1) thinned.new rows.new) }
@@ -66,7 +66,7 @@ fn take_in(
 /// # Errors
 /// `Memory` where a growth was refused.
 pub fn thin(alloc: Global, log: &Trace, left: &LeftOut) -> Result<Thinned, Memory>
-    requires few { length log.now.events ≤ MOST_EVENTS }
+    requires few { length log.now.events ≤ MAX_EVENTS }
     requires can_come_about { CanComeAbout log.now.events }
     ensures events { IfOk result (λ thinned. thinned.trace.events ≡ rest_of (left_of left.now) log.now.events) }
     ensures places { IfOk result (λ thinned. thinned.places.items ≡ places_of (left_of left.now) log.now.events) }

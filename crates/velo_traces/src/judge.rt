@@ -7,9 +7,7 @@ ghost use Rattle.velo_events.specs.WellFormed.{IsWellFormed};
 ghost use Rattle.velo_traces.specs.Flaws.{flaw_of, IsFirstFlaw};
 
 use crate::Trace;
-use velo_events::{
-    Bounds, Event, Kind, LockId, MOST_OPEN_BLOCKS, Refusal, Status, ThreadId, VarId,
-};
+use velo_events::{Bounds, Event, Kind, LockId, MAX_OPEN_BLOCKS, Refusal, Status, ThreadId, VarId};
 
 /// Why an event can't stand where it does in a trace.
 #[derive(Clone, Copy, Debug, PartialEq, Eq)]
@@ -299,7 +297,7 @@ fn refusal(events: &[Event], bounds: Bounds, t: ThreadId, kind: Kind) -> Option<
             }
             (!shares_in(events, m, t)).then_some(Refusal::NotHolder)
         }
-        Kind::Begin(_) => (depth_in(events, t) >= MOST_OPEN_BLOCKS).then_some(Refusal::TooDeep),
+        Kind::Begin(_) => (depth_in(events, t) >= MAX_OPEN_BLOCKS).then_some(Refusal::TooDeep),
         Kind::End => (depth_in(events, t) == 0).then_some(Refusal::NoOpenBlock),
         Kind::Fork(u) => {
             if u.0 >= bounds.threads {

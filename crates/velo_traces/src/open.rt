@@ -1,6 +1,6 @@
 //! The open blocks of a thread, found in one pass from the end of a trace towards its start.
 ghost use Rattle.std.specs.Prelude.{◌≡◌, ◌≤◌, ◌<◌, ◌+◌, [], ◌∷◌, ℕ, IsFalse, length, map};
-ghost use Rattle.velo_events.specs.declared.limits.TheConstants.{MOST_OPEN_BLOCKS};
+ghost use Rattle.velo_events.specs.declared.limits.TheConstants.{MAX_OPEN_BLOCKS};
 ghost use Rattle.velo_events.specs.Block.{is_open_at, open_blocks};
 ghost use Rattle.velo_events.specs.Scan.{LeavesEnds, open_from};
 ghost use Rattle.velo_traces.specs.Blocks.{block_at};
@@ -9,14 +9,14 @@ ghost use Rattle.velo_traces.specs.Open.{open_block_at};
 use crate::block::Block;
 use smallvec::SmallVec;
 use std::alloc::Global;
-use velo_events::{Event, Kind, MOST_OPEN_BLOCKS, ThreadId};
+use velo_events::{Event, Kind, MAX_OPEN_BLOCKS, ThreadId};
 
 /// Puts a block before the others. There is room for it.
-fn put_first(blocks: &mut SmallVec<Block, MOST_OPEN_BLOCKS>, block: Block)
-    requires room { length blocks.old.items < MOST_OPEN_BLOCKS }
-    requires inline { blocks.old.capacity ≡ MOST_OPEN_BLOCKS }
+fn put_first(blocks: &mut SmallVec<Block, MAX_OPEN_BLOCKS>, block: Block)
+    requires room { length blocks.old.items < MAX_OPEN_BLOCKS }
+    requires inline { blocks.old.capacity ≡ MAX_OPEN_BLOCKS }
     ensures items { blocks.new.items ≡ block ∷ blocks.old.items }
-    ensures inline { blocks.new.capacity ≡ MOST_OPEN_BLOCKS }
+    ensures inline { blocks.new.capacity ≡ MAX_OPEN_BLOCKS }
 {
     match blocks.insert(0, block) {
         Ok(()) => {}
@@ -74,18 +74,18 @@ fn take_in(
     thread: ThreadId,
     at: usize,
     ends: usize,
-    blocks: &mut SmallVec<Block, MOST_OPEN_BLOCKS>,
+    blocks: &mut SmallVec<Block, MAX_OPEN_BLOCKS>,
 ) -> usize
     requires within { at < length events.now }
     requires few_ends { ends + at < length events.now }
-    requires few_blocks { length (open_blocks events.now thread.0) ≤ MOST_OPEN_BLOCKS }
+    requires few_blocks { length (open_blocks events.now thread.0) ≤ MAX_OPEN_BLOCKS }
     requires ends { LeavesEnds events.now thread.0 (at + 1) ends }
     requires blocks { blocks.old.items ≡ map (block_at events.now) (open_from events.now thread.0 (at + 1)) }
-    requires inline { blocks.old.capacity ≡ MOST_OPEN_BLOCKS }
+    requires inline { blocks.old.capacity ≡ MAX_OPEN_BLOCKS }
     ensures few_ends { result + at ≤ length events.now }
     ensures ends { LeavesEnds events.now thread.0 at result }
     ensures blocks { blocks.new.items ≡ map (block_at events.now) (open_from events.now thread.0 at) }
-    ensures inline { blocks.new.capacity ≡ MOST_OPEN_BLOCKS }
+    ensures inline { blocks.new.capacity ≡ MAX_OPEN_BLOCKS }
 {
     let found = scan_back(events, thread, at, ends);
     if let Some(block) = found.block {
@@ -94,28 +94,28 @@ fn take_in(
     found.ends
 }
 
-/// The blocks of a thread that are open at the end of the events, outermost first. At most [`MOST_OPEN_BLOCKS`] may be
+/// The blocks of a thread that are open at the end of the events, outermost first. At most [`MAX_OPEN_BLOCKS`] may be
 /// open.
 pub fn open_blocks_in(
     events: &[Event],
     thread: ThreadId,
     alloc: Global,
-) -> SmallVec<Block, MOST_OPEN_BLOCKS>
-    requires { length (open_blocks events.now thread.0) ≤ MOST_OPEN_BLOCKS }
+) -> SmallVec<Block, MAX_OPEN_BLOCKS>
+    requires { length (open_blocks events.now thread.0) ≤ MAX_OPEN_BLOCKS }
     ensures { result.items ≡ map (block_at events.now) (open_blocks events.now thread.0) }
 {
     open_blocks_since(events, thread, 0, alloc)
 }
 
-/// The blocks of a thread that are open at the end of the events, outermost first, where at most [`MOST_OPEN_BLOCKS`]
+/// The blocks of a thread that are open at the end of the events, outermost first, where at most [`MAX_OPEN_BLOCKS`]
 /// are open and none of them begins before the position `first`. It looks at no event before that position.
 pub fn open_blocks_since(
     events: &[Event],
     thread: ThreadId,
     first: usize,
     alloc: Global,
-) -> SmallVec<Block, MOST_OPEN_BLOCKS>
-    requires few { length (open_blocks events.now thread.0) ≤ MOST_OPEN_BLOCKS }
+) -> SmallVec<Block, MAX_OPEN_BLOCKS>
+    requires few { length (open_blocks events.now thread.0) ≤ MAX_OPEN_BLOCKS }
     requires none_before { (b : ℕ) → b < first → IsFalse (is_open_at events.now thread.0 b (length events.now)) }
     ensures { result.items ≡ map (block_at events.now) (open_blocks events.now thread.0) }
 {

@@ -1,4 +1,4 @@
-ghost use Rattle.velo_events.specs.declared.limits.TheConstants.{MOST_OPEN_BLOCKS};
+ghost use Rattle.velo_events.specs.declared.limits.TheConstants.{MAX_OPEN_BLOCKS};
 ghost use Rattle.velo_events.specs.Block.{owner, open_blocks};
 ghost use Rattle.velo_traces.specs.Blocks.{block_at};
 ghost use Rattle.std.specs.Prelude.{◌≤◌, ◌+◌, ◌≡◌, ◌∷◌, [], ◌++◌, ◌<◌, length, map, slice_get, OnOk, OnErr, IsOk, option_copied, IsTrue, ◌↔◌};
@@ -10,7 +10,7 @@ use smallvec::SmallVec;
 use std::alloc::Global;
 use std::marker::Model;
 use velo_events::growth::reserve;
-use velo_events::{Event, MOST_OPEN_BLOCKS, Memory, ThreadId};
+use velo_events::{Event, MAX_OPEN_BLOCKS, Memory, ThreadId};
 
 /// The events that threads performed over a shared heap, in order. It stores whatever is pushed: `well_formed` judges it.
 #[derive(Debug, Drop)]
@@ -102,8 +102,8 @@ impl Trace {
 
     /// The blocks of a thread that are open at the end, outermost first. So few are open that they fit, as in every trace
     /// that is well-formed. It takes no memory, and one pass over the trace.
-    pub fn open_blocks(&self, t: ThreadId) -> SmallVec<Block, MOST_OPEN_BLOCKS>
-        requires { length (open_blocks self.now.events t.0) ≤ MOST_OPEN_BLOCKS }
+    pub fn open_blocks(&self, t: ThreadId) -> SmallVec<Block, MAX_OPEN_BLOCKS>
+        requires { length (open_blocks self.now.events t.0) ≤ MAX_OPEN_BLOCKS }
         ensures { result.items ≡ map (block_at self.now.events) (open_blocks self.now.events t.0) }
     {
         open_blocks_in(self.as_slice(), t, *self.items.allocator())

@@ -10,7 +10,7 @@ use Rattle.std.proofs.lemmas.List.Elements.{All-head, All-tail}
 use Rattle.std.proofs.lemmas.Str.{IsAscii-append, IsUtf8-from_ascii}
 use Rattle.std.proofs.lemmas.Str.Ascii.{IsAscii-cons, IsAscii-nil}
 use Rattle.velo_events.specs.declared.event.ThreadId.{ThreadId}
-use Rattle.velo_turns.specs.declared.limits.TheConstants.{MOST_SCHEDULE_BYTES, MOST_TURNS}
+use Rattle.velo_turns.specs.declared.limits.TheConstants.{MAX_SCHEDULE_BYTES, MAX_TURNS}
 use Rattle.velo_turns.specs.declared.schedule.ScheduleFault.{ScheduleFault}
 use Rattle.velo_turns.specs.declared.schedule.ScheduleFault.TheVariants.{Bad, Memory}
 use Rattle.velo_turns.specs.declared.turns.Turns.{Turns}
@@ -21,7 +21,7 @@ use Rattle.velo_turns.proofs.OnWords.{count_text}
 -- ---- how long
 
 -- what stands behind the thread's number is short beside its turns
-count_length : (n : ℕ) → 1 ≤ n → n ≤ MOST_TURNS → length (count_text n) + 3 ≤ 3 * n
+count_length : (n : ℕ) → 1 ≤ n → n ≤ MAX_TURNS → length (count_text n) + 3 ≤ 3 * n
 count_length n some few =
     ⊎_elim
     (λ one.
@@ -58,28 +58,28 @@ spaced_length (x ∷ rest) each =
       length-replicate x.count x.thread,
     )
 
-words_length : (words : List Turns) → All AreTurns words → length (in_order words) ≤ MOST_TURNS → length (words_text words) + 1 ≤ MOST_SCHEDULE_BYTES
+words_length : (words : List Turns) → All AreTurns words → length (in_order words) ≤ MAX_TURNS → length (words_text words) + 1 ≤ MAX_SCHEDULE_BYTES
 words_length [] each few = omega arith
 words_length (x ∷ rest) each few = omega (arith, spaced_length (x ∷ rest) each, few)
 
-text_length : (text : List ℕ) (schedule : List ThreadId) → SaysTurns text schedule → length text + 1 ≤ MOST_SCHEDULE_BYTES
+text_length : (text : List ℕ) (schedule : List ThreadId) → SaysTurns text schedule → length text + 1 ≤ MAX_SCHEDULE_BYTES
 text_length text schedule is =
     omega (arith, ap length is.whole, words_length is.words is.each (omega (arith, ap length is.turns, is.few)))
 
 -- bytes that say a schedule are few
-pub schedule_bytes : (bytes : List ℕ) (schedule : List ThreadId) → IsScheduleIn bytes schedule → length bytes ≤ MOST_SCHEDULE_BYTES
+pub schedule_bytes : (bytes : List ℕ) (schedule : List ThreadId) → IsScheduleIn bytes schedule → length bytes ≤ MAX_SCHEDULE_BYTES
 schedule_bytes bytes schedule is = go is.are
   where
-    few : length is.text + 1 ≤ MOST_SCHEDULE_BYTES
+    few : length is.text + 1 ≤ MAX_SCHEDULE_BYTES
     few = text_length is.text schedule is.says
 
-    go : AreOfText bytes is.text → length bytes ≤ MOST_SCHEDULE_BYTES
+    go : AreOfText bytes is.text → length bytes ≤ MAX_SCHEDULE_BYTES
     go (inl line) = omega (arith, few, ap length line, length-append is.text (codes "\n"))
     go (inr alone) = omega (arith, few, ap length alone.0)
 
 -- ---- a text
 
-count_ascii : (n : ℕ) → n ≤ MOST_TURNS → IsAscii (count_text n)
+count_ascii : (n : ℕ) → n ≤ MAX_TURNS → IsAscii (count_text n)
 count_ascii n few = go (eqb n 1)
   where
     go : (b : Bool) → IsAscii (cond b [] (42 ∷ decimal n))

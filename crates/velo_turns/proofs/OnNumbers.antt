@@ -4,7 +4,7 @@ use Rattle.std.specs.Prelude.{decimal}
 use Rattle.std.proofs.lemmas.Bool.Decides.{eqb_tells}
 use Rattle.std.proofs.lemmas.List.Elements.{All-nil, All-cons, All-append, All-head, All-tail, All-map, All-from_get_or}
 use Rattle.velo_events.specs.declared.event.ThreadId.{ThreadId}
-use Rattle.velo_events.specs.declared.limits.TheConstants.{MOST_THREADS}
+use Rattle.velo_events.specs.declared.limits.TheConstants.{MAX_THREADS}
 use Rattle.velo_turns.specs.declared.turns.Turns.{Turns}
 use Rattle.velo_turns.specs.declared.schedule.ScheduleFault.{ScheduleFault}
 use Rattle.velo_turns.specs.declared.schedule.ScheduleFault.TheVariants.{Bad, Memory}
@@ -14,7 +14,7 @@ use Rattle.velo_turns.proofs.OnTexts.{Apart, digits_apart, threads_of_schedule}
 use Rattle.velo_turns.proofs.OnWords.{count_text}
 
 abbrev Small : ThreadId → Type 0
-Small t = t.0 < MOST_THREADS
+Small t = t.0 < MAX_THREADS
 
 -- ---- numbers say turns
 

@@ -5,8 +5,8 @@ use Rattle.std.proofs.lemmas.Bool.Decides.{eqb_tells}
 use Rattle.std.proofs.lemmas.List.{drop_more}
 use Rattle.std.proofs.lemmas.List.Elements.{All-nil, All-cons, All-head, All-tail}
 use Rattle.velo_events.specs.declared.event.ThreadId.{ThreadId}
-use Rattle.velo_events.specs.declared.limits.TheConstants.{MOST_THREADS}
-use Rattle.velo_turns.specs.declared.limits.TheConstants.{MOST_TURNS}
+use Rattle.velo_events.specs.declared.limits.TheConstants.{MAX_THREADS}
+use Rattle.velo_turns.specs.declared.limits.TheConstants.{MAX_TURNS}
 use Rattle.velo_turns.specs.declared.turns.Turns.{Turns}
 use Rattle.velo_turns.specs.Schedule.{in_order, spaced, turns_text, SaysTurns}
 use Rattle.velo_turns.specs.Short.{one_turn, with_turn, longest, short_text}
@@ -40,11 +40,11 @@ in_order_longest [] = refl
 in_order_longest (t ∷ rest) = turn_first t (longest rest) ∙ ap (λ (turns : List ThreadId). t ∷ turns) (in_order_longest rest)
 
 pub record AreShort (most : ℕ) (turns : Turns) : Type 0 where
-  pub thread : turns.thread.0 < MOST_THREADS
+  pub thread : turns.thread.0 < MAX_THREADS
   pub some : 1 ≤ turns.count
   pub few : turns.count ≤ most
 
-short_turn : (most : ℕ) (t : ThreadId) (words : List Turns) → t.0 < MOST_THREADS → All (AreShort most) words → All (AreShort (suc most)) (with_turn t words)
+short_turn : (most : ℕ) (t : ThreadId) (words : List Turns) → t.0 < MAX_THREADS → All (AreShort most) words → All (AreShort (suc most)) (with_turn t words)
 short_turn most t [] small each = All-cons (AreShort (suc most)) (one_turn t) [] (record { thread = small; some = omega arith; few = omega arith }) (All-nil (AreShort (suc most)))
 short_turn most t (x ∷ rest) small each =
     let wider : (ys : List Turns) → All (AreShort most) ys → All (AreShort (suc most)) ys = λ ys h k d lt. (let y = h k d lt in record { thread = y.thread; some = y.some; few = omega (arith, y.few) }) in
@@ -55,13 +55,13 @@ short_turn most t (x ∷ rest) small each =
     (eqb_tells t.0 x.thread.0)
 
 abbrev Small : ThreadId → Type 0
-Small t = t.0 < MOST_THREADS
+Small t = t.0 < MAX_THREADS
 
 short_words : (schedule : List ThreadId) → All Small schedule → All (AreShort (length schedule)) (longest schedule)
 short_words [] each = All-nil (AreShort 0)
 short_words (t ∷ rest) each = short_turn (length rest) t (longest rest) (All-head Small t rest each) (short_words rest (All-tail Small t rest each))
 
-pub short_reads_back : (schedule : List ThreadId) → All Small schedule → length schedule ≤ MOST_TURNS → SaysTurns (short_text schedule) schedule
+pub short_reads_back : (schedule : List ThreadId) → All Small schedule → length schedule ≤ MAX_TURNS → SaysTurns (short_text schedule) schedule
 short_reads_back schedule each few =
     let short = short_words schedule each in
     record {

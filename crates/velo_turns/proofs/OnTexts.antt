@@ -9,9 +9,9 @@ use Rattle.std.proofs.lemmas.List.Elements.{All-nil, All-cons, All-head, All-tai
 use Rattle.std.proofs.lemmas.List.Splits.{slice_split_none, slice_split_at, join_with_byte-slice_split}
 use Rattle.velo_events.specs.Refusals.{GrowthRefused}
 use Rattle.velo_events.specs.declared.event.ThreadId.{ThreadId}
-use Rattle.velo_events.specs.declared.limits.TheConstants.{MOST_THREADS}
+use Rattle.velo_events.specs.declared.limits.TheConstants.{MAX_THREADS}
 use Rattle.velo_bytes.proofs.Choices.{some_is}
-use Rattle.velo_turns.specs.declared.limits.TheConstants.{MOST_TURNS}
+use Rattle.velo_turns.specs.declared.limits.TheConstants.{MAX_TURNS}
 use Rattle.velo_turns.specs.declared.turns.Turns.{Turns}
 use Rattle.velo_turns.specs.declared.schedule.ScheduleFault.{ScheduleFault}
 use Rattle.velo_turns.specs.declared.schedule.ScheduleFault.TheVariants.{Bad, Memory}
@@ -101,7 +101,7 @@ pub record Reads (text : List ℕ) (k : ℕ) (schedule : List ThreadId) : Type 0
   pub each : All AreTurns words
   pub texts : texts_of words ≡ take k (words_in text)
   pub turns : schedule ≡ in_order words
-  pub few : length schedule ≤ MOST_TURNS
+  pub few : length schedule ≤ MAX_TURNS
 
 pub nothing_read : (text : List ℕ) → Reads text 0 []
 nothing_read text = record { words = []; each = All-nil AreTurns; texts = refl; turns = refl; few = omega arith }
@@ -119,7 +119,7 @@ texts_push text k word words x so_far more is says =
     ∙ sym (take_more (words_in text) k word more)
 
 -- one word more
-pub read_more : (text : List ℕ) (k : ℕ) (word : List ℕ) (before after : List ThreadId) (x : Turns) → Reads text k before → k < length (words_in text) → word ≡ get_or (words_in text) k word → Some x ≡ turns_in word → after ≡ before ++ replicate x.count x.thread → length after ≤ MOST_TURNS → Reads text (k + 1) after
+pub read_more : (text : List ℕ) (k : ℕ) (word : List ℕ) (before after : List ThreadId) (x : Turns) → Reads text k before → k < length (words_in text) → word ≡ get_or (words_in text) k word → Some x ≡ turns_in word → after ≡ before ++ replicate x.count x.thread → length after ≤ MAX_TURNS → Reads text (k + 1) after
 read_more text k word before after x h more is says pushed few =
     let said = turns_taken word x (sym says) in
     record {
@@ -163,7 +163,7 @@ length_in_order (x ∷ xs) ys =
     omega (arith, length_in_order xs ys, length-append (replicate x.count x.thread) (in_order xs), length-append (replicate x.count x.thread) (in_order (xs ++ ys)))
 
 -- the words that are read, and one that has too many turns
-pub none_beyond : (text : List ℕ) (k : ℕ) (word : List ℕ) (before : List ThreadId) (x : Turns) → 0 < length text → Reads text k before → k < length (words_in text) → word ≡ get_or (words_in text) k word → Some x ≡ turns_in word → MOST_TURNS < length before + x.count → (schedule : List ThreadId) → SaysTurns text schedule → ⊥
+pub none_beyond : (text : List ℕ) (k : ℕ) (word : List ℕ) (before : List ThreadId) (x : Turns) → 0 < length text → Reads text k before → k < length (words_in text) → word ≡ get_or (words_in text) k word → Some x ≡ turns_in word → MAX_TURNS < length before + x.count → (schedule : List ThreadId) → SaysTurns text schedule → ⊥
 none_beyond text k word before x some r more is says many schedule h =
     let e = words_of_schedule text schedule some h in
     let said = turns_taken word x (sym says) in
@@ -206,12 +206,12 @@ one_of_text (c ∷ cs) one other a b =
 
 -- ---- the threads of a schedule
 
-threads_in_order : (words : List Turns) → All AreTurns words → All (λ (t : ThreadId). t.0 < MOST_THREADS) (in_order words)
-threads_in_order [] each = All-nil (λ (t : ThreadId). t.0 < MOST_THREADS)
+threads_in_order : (words : List Turns) → All AreTurns words → All (λ (t : ThreadId). t.0 < MAX_THREADS) (in_order words)
+threads_in_order [] each = All-nil (λ (t : ThreadId). t.0 < MAX_THREADS)
 threads_in_order (x ∷ rest) each =
-    let Small : ThreadId → Type 0 = λ t. t.0 < MOST_THREADS in
+    let Small : ThreadId → Type 0 = λ t. t.0 < MAX_THREADS in
     let first = All-head AreTurns x rest each in
     All-append Small (replicate x.count x.thread) (in_order rest) (All-replicate Small x.count x.thread first.thread) (threads_in_order rest (All-tail AreTurns x rest each))
 
-pub threads_of_schedule : (text : List ℕ) (schedule : List ThreadId) → SaysTurns text schedule → All (λ (t : ThreadId). t.0 < MOST_THREADS) schedule
-threads_of_schedule text schedule h = subst (All (λ (t : ThreadId). t.0 < MOST_THREADS)) (sym h.turns) (threads_in_order h.words h.each)
+pub threads_of_schedule : (text : List ℕ) (schedule : List ThreadId) → SaysTurns text schedule → All (λ (t : ThreadId). t.0 < MAX_THREADS) schedule
+threads_of_schedule text schedule h = subst (All (λ (t : ThreadId). t.0 < MAX_THREADS)) (sym h.turns) (threads_in_order h.words h.each)

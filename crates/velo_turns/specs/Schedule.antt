@@ -1,9 +1,9 @@
 -- The texts of a schedule: thread numbers alone, or turns.
 use Rattle.std.specs.Prelude.{◌≡◌, ◌≤◌, ◌<◌, ◌++◌, ◌∷◌, ◌==◌, [], ℕ, List, All, length, decimal, replicate, if◌then◌else◌}
 use Rattle.velo_events.specs.declared.event.ThreadId.{ThreadId}
-use Rattle.velo_events.specs.declared.limits.TheConstants.{MOST_THREADS}
+use Rattle.velo_events.specs.declared.limits.TheConstants.{MAX_THREADS}
 use Rattle.velo_events.specs.Refusals.{GrowthRefused}
-use Rattle.velo_turns.specs.declared.limits.TheConstants.{MOST_TURNS}
+use Rattle.velo_turns.specs.declared.limits.TheConstants.{MAX_TURNS}
 use Rattle.velo_turns.specs.declared.turns.Turns.{Turns}
 use Rattle.velo_turns.specs.declared.schedule.ScheduleFault.{ScheduleFault}
 use Rattle.velo_turns.specs.declared.schedule.ScheduleFault.TheVariants.{Bad, Memory}
@@ -23,8 +23,8 @@ numbers_text (t ∷ rest) = decimal t.0 ++ numbers rest
 -- the text is the numbers of this schedule's threads
 pub record IsSchedule (text : List ℕ) (schedule : List ThreadId) : Type 0 where
   pub whole : text ≡ numbers_text schedule
-  pub threads : All (λ t. t.0 < MOST_THREADS) schedule
-  pub few : length schedule ≤ MOST_TURNS
+  pub threads : All (λ t. t.0 < MAX_THREADS) schedule
+  pub few : length schedule ≤ MAX_TURNS
 
 -- why a text is that of none
 abbrev pub IsFaultOfSchedule : List ℕ → ScheduleFault → Type 0
@@ -39,9 +39,9 @@ turns_text turns = decimal turns.thread.0 ++ (if turns.count == 1 then [] else 4
 
 -- of a thread that there may be, and not too many
 pub record AreTurns (turns : Turns) : Type 0 where
-  pub thread : turns.thread.0 < MOST_THREADS
+  pub thread : turns.thread.0 < MAX_THREADS
   pub some : 1 ≤ turns.count
-  pub few : turns.count ≤ MOST_TURNS
+  pub few : turns.count ≤ MAX_TURNS
 
 -- words, each behind a space
 abbrev pub spaced : List Turns → List ℕ
@@ -64,7 +64,7 @@ pub record SaysTurns (text : List ℕ) (schedule : List ThreadId) : Type 0 where
   pub each : All AreTurns words
   pub whole : text ≡ words_text words
   pub turns : schedule ≡ in_order words
-  pub few : length schedule ≤ MOST_TURNS
+  pub few : length schedule ≤ MAX_TURNS
 
 -- why a text says those of none
 abbrev pub IsFaultOfTurns : List ℕ → ScheduleFault → Type 0

@@ -2,7 +2,7 @@
 ghost use Rattle.std.specs.Prelude.{IfErr, IfOk};
 ghost use Rattle.velo_turns.specs.File.{AreOfText, IsFaultOfBytes, IsScheduleIn};
 
-use crate::limits::MOST_SCHEDULE_BYTES;
+use crate::limits::MAX_SCHEDULE_BYTES;
 use crate::schedule::{ScheduleFault, turns_of};
 use std::alloc::Global;
 use velo_events::ThreadId;
@@ -18,7 +18,7 @@ fn without_newline(text: &str) -> &str
 }
 
 /// Reads the schedule that the bytes of a file say: its turns, as [`turns_of`] takes them, and at most one newline behind them.
-/// More bytes than [`MOST_SCHEDULE_BYTES`] say none.
+/// More bytes than [`MAX_SCHEDULE_BYTES`] say none.
 ///
 /// # Errors
 /// `Bad` for other bytes, `Memory` where a growth was refused.
@@ -26,7 +26,7 @@ pub fn schedule_in(alloc: Global, bytes: &[u8]) -> Result<Vec<ThreadId>, Schedul
     ensures schedule { IfOk result (λ schedule. IsScheduleIn bytes.now schedule.items) }
     ensures fault { IfErr result (IsFaultOfBytes bytes.now) }
 {
-    if bytes.len() > MOST_SCHEDULE_BYTES {
+    if bytes.len() > MAX_SCHEDULE_BYTES {
         return Err(ScheduleFault::Bad);
     }
     match std::str::from_utf8(bytes) {

@@ -1,8 +1,8 @@
 //! What holds of schedules and their texts, whoever reads or writes them.
 ghost use Rattle.std.specs.Prelude.{◌≡◌, ◌≤◌, ◌<◌, ℕ, List, All, length};
 ghost use Rattle.velo_events.specs.declared.event.ThreadId.{ThreadId};
-ghost use Rattle.velo_events.specs.declared.limits.TheConstants.{MOST_THREADS};
-ghost use Rattle.velo_turns.specs.declared.limits.TheConstants.{MOST_TURNS};
+ghost use Rattle.velo_events.specs.declared.limits.TheConstants.{MAX_THREADS};
+ghost use Rattle.velo_turns.specs.declared.limits.TheConstants.{MAX_TURNS};
 ghost use Rattle.velo_turns.specs.Schedule.{IsSchedule, SaysTurns};
 ghost use Rattle.velo_turns.specs.Short.{short_text};
 
@@ -18,6 +18,6 @@ pub fn numbers_are_turns()
 
 /// The short text of a schedule says its turns.
 pub fn reads_back()
-    ensures { (schedule : List ThreadId) → All (λ t. t.0 < MOST_THREADS) schedule
-        → length schedule ≤ MOST_TURNS → SaysTurns (short_text schedule) schedule }
+    ensures { (schedule : List ThreadId) → All (λ t. t.0 < MAX_THREADS) schedule
+        → length schedule ≤ MAX_TURNS → SaysTurns (short_text schedule) schedule }
 {}

@@ -13,6 +13,6 @@ mod turns;
 
 pub use file::schedule_in;
 pub use laws::{numbers_are_turns, one_schedule, reads_back};
-pub use limits::{MOST_SCHEDULE_BYTES, MOST_TURNS};
+pub use limits::{MAX_SCHEDULE_BYTES, MAX_TURNS};
 pub use schedule::{ScheduleFault, schedule_of, turns_of};
 pub use short::append_turns;

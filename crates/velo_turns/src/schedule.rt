@@ -4,7 +4,7 @@ ghost use Rattle.velo_events.specs.Refusals.{GrowthRefused};
 ghost use Rattle.velo_turns.specs.declared.schedule.ScheduleFault.TheVariants as schedule_fault;
 ghost use Rattle.velo_turns.specs.Schedule.{IsFaultOfSchedule, IsFaultOfTurns, IsSchedule, SaysTurns};
 
-use crate::limits::MOST_TURNS;
+use crate::limits::MAX_TURNS;
 use crate::turns::{Turns, turns_in};
 use std::alloc::Global;
 use thiserror::Error;
@@ -25,12 +25,12 @@ pub enum ScheduleFault {
 /// Adds the turns of a word to a schedule.
 fn push(schedule: &mut Vec<ThreadId>, turns: Turns) -> Result<(), ScheduleFault>
     ensures pushed { OnOk result (schedule.new.items ≡ schedule.old.items ++ replicate turns.count turns.thread) }
-    ensures few { OnOk result (vec_len schedule.new ≤ MOST_TURNS) }
-    ensures full { result ≡ Err schedule_fault.Bad → MOST_TURNS < vec_len schedule.old + turns.count }
+    ensures few { OnOk result (vec_len schedule.new ≤ MAX_TURNS) }
+    ensures full { result ≡ Err schedule_fault.Bad → MAX_TURNS < vec_len schedule.old + turns.count }
     ensures memory { result ≡ Err schedule_fault.Memory → GrowthRefused }
 {
     let len = schedule.len();
-    if len > MOST_TURNS || turns.count > MOST_TURNS - len {
+    if len > MAX_TURNS || turns.count > MAX_TURNS - len {
         return Err(ScheduleFault::Bad);
     }
     match resize(schedule, len + turns.count, turns.thread) {
@@ -40,8 +40,8 @@ fn push(schedule: &mut Vec<ThreadId>, turns: Turns) -> Result<(), ScheduleFault>
 }
 
 /// Reads a schedule that is told by turns: the threads whose turns come one after another. The text has words parted by
-/// one space. A word is a thread's number, below [`MOST_THREADS`](velo_events::MOST_THREADS), for one turn, or such a
-/// number, a star and how many turns, 2 or more. Numbers have no leading zeros. There are at most [`MOST_TURNS`] turns in
+/// one space. A word is a thread's number, below [`MAX_THREADS`](velo_events::MAX_THREADS), for one turn, or such a
+/// number, a star and how many turns, 2 or more. Numbers have no leading zeros. There are at most [`MAX_TURNS`] turns in
 /// all; the empty text is the empty schedule.
 ///
 /// # Errors
@@ -67,8 +67,8 @@ pub fn turns_of(alloc: Global, text: &str) -> Result<Vec<ThreadId>, ScheduleFaul
 }
 
 /// Reads a schedule that is told by thread numbers alone, one for each turn. They are below
-/// [`MOST_THREADS`](velo_events::MOST_THREADS), have no leading zeros and are parted by one space. There are at most
-/// [`MOST_TURNS`]; the empty text is the empty schedule. So these are the texts that [`turns_of`] takes and that have no
+/// [`MAX_THREADS`](velo_events::MAX_THREADS), have no leading zeros and are parted by one space. There are at most
+/// [`MAX_TURNS`]; the empty text is the empty schedule. So these are the texts that [`turns_of`] takes and that have no
 /// star.
 ///
 /// # Errors

@@ -2,9 +2,9 @@
 ghost use Rattle.std.specs.Prelude.{◌≡◌};
 ghost use Rattle.velo_turns.specs.Words.{count_in, turns_in};
 
-use crate::limits::MOST_TURNS;
+use crate::limits::MAX_TURNS;
 use velo_bytes::{after, number};
-use velo_events::{MOST_THREADS, ThreadId};
+use velo_events::{MAX_THREADS, ThreadId};
 
 /// Turns of one thread that come one after another.
 #[derive(Clone, Copy, Debug, PartialEq, Eq)]
@@ -23,7 +23,7 @@ fn count_in(rest: &[u8]) -> Option<usize>
         return Some(1);
     }
     let digits = after(rest, b"*")?;
-    let (count, rest) = number(digits, MOST_TURNS as u64)?;
+    let (count, rest) = number(digits, MAX_TURNS as u64)?;
     if rest.is_empty() && count >= 2 {
         Some(count as usize)
     } else {
@@ -35,7 +35,7 @@ fn count_in(rest: &[u8]) -> Option<usize>
 pub(crate) fn turns_in(word: &[u8]) -> Option<Turns>
     ensures { result ≡ turns_in word.now }
 {
-    let (thread, rest) = number(word, u64::from(MOST_THREADS - 1))?;
+    let (thread, rest) = number(word, u64::from(MAX_THREADS - 1))?;
     let count = count_in(rest)?;
     Some(Turns {
         thread: ThreadId(thread as u8),

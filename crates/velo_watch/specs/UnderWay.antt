@@ -2,7 +2,7 @@
 use Rattle.std.specs.Prelude.{◌≡◌, ◌≤◌, ℕ, [], ◌∷◌, ◌++◌, Bool, true, false, List, length, Option, IfSome, Result, Ok, Err}
 use Rattle.std.specs.Io.KnownBytes.{Appends}
 use Rattle.velo_events.specs.declared.event.Event.{Event}
-use Rattle.velo_events.specs.declared.limits.TheConstants.{MOST_EVENTS}
+use Rattle.velo_events.specs.declared.limits.TheConstants.{MAX_EVENTS}
 use Rattle.velo_events.specs.Graph.{HasCycle}
 use Rattle.velo_events.specs.Refusals.{GrowthRefused}
 use Rattle.velo_events.specs.WellFormed.{IsWellFormed}
@@ -63,7 +63,7 @@ pub record FailsToTell (read old new : Option (List ℕ)) (w : WorldState) (e : 
 -- why there is no next event behind the log of the world, which came about and whose alarm is told
 abbrev pub FailsAfter : Option (List ℕ) → Option (List ℕ) → Option (List ℕ) → WorldState → WatchFault → Type 0
 FailsAfter read old new w (Log fault) =
-    CameAbout w × Tells old new w.log × IsMetBehind (length w.log) fault × IfSome read (λ bytes. ReadsAs MOST_EVENTS bytes (Err fault))
+    CameAbout w × Tells old new w.log × IsMetBehind (length w.log) fault × IfSome read (λ bytes. ReadsAs MAX_EVENTS bytes (Err fault))
 FailsAfter read old new w (Replay fault) =
     CameAbout w × Tells old new w.log × ((e : Event) × IsFront read w.config.bounds (w.log ++ e ∷ []) × IsFaultOfLog w.config (w.log ++ e ∷ []) fault)
 FailsAfter read old new w Write = (e : Event) × FailsToTell read old new w e
@@ -78,7 +78,7 @@ Steps read old watch (Err fault) watch' remaining new = FailsAfter read old new 
 
 -- why there is no watch: the header, or a growth that was refused
 abbrev pub IsFaultOfOpening : Option (List ℕ) → WatchFault → Type 0
-IsFaultOfOpening read (Log fault) = IsMetInHeader fault × IfSome read (λ bytes. ReadsAs MOST_EVENTS bytes (Err fault))
+IsFaultOfOpening read (Log fault) = IsMetInHeader fault × IfSome read (λ bytes. ReadsAs MAX_EVENTS bytes (Err fault))
 IsFaultOfOpening read (Replay Memory) = GrowthRefused
 IsFaultOfOpening read _ = ⊥
 

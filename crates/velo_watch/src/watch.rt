@@ -1,6 +1,6 @@
 //! A log that is watched as it comes, event by event.
 ghost use Rattle.std.specs.Prelude.{◌≡◌, ◌≤◌, List, ℕ, false, [], Option, IfOk, IfErr, OnOk, OnErr};
-ghost use Rattle.velo_events.specs.declared.limits.TheConstants.{MOST_EVENTS, MOST_NODES};
+ghost use Rattle.velo_events.specs.declared.limits.TheConstants.{MAX_EVENTS, MAX_NODES};
 ghost use Rattle.velo_bytes.specs.Device.{with_failure};
 ghost use Rattle.velo_logtext.specs.Reader.{HasWholeLine};
 ghost use Rattle.velo_logtext.specs.Text.{AreBounds};
@@ -30,8 +30,8 @@ impl Watch {
         events: u32,
         nodes: u16,
     ) -> Result<Watch, WatchFault>
-        requires events { (1 ≤ events) × (events ≤ MOST_EVENTS) }
-        requires nodes { (1 ≤ nodes) × (nodes ≤ MOST_NODES) }
+        requires events { (1 ≤ events) × (events ≤ MAX_EVENTS) }
+        requires nodes { (1 ≤ nodes) × (nodes ≤ MAX_NODES) }
         ensures ok { IfOk result (λ watch. (contents : Option (List ℕ)) → IsUnderWay (I.remaining source.old) (I.remaining source.new) contents contents watch) }
         ensures goes_on { IfOk result CanGoOn }
         ensures no_events { IfOk result (λ watch. watch.world.log ≡ []) }
@@ -118,8 +118,8 @@ impl Watch {
 /// The configuration of a watch, which goes on after an alarm.
 fn config_of(bounds: Bounds, events: u32, nodes: u16) -> Config
     requires bounds { AreBounds bounds }
-    requires events { (1 ≤ events) × (events ≤ MOST_EVENTS) }
-    requires nodes { (1 ≤ nodes) × (nodes ≤ MOST_NODES) }
+    requires events { (1 ≤ events) × (events ≤ MAX_EVENTS) }
+    requires nodes { (1 ≤ nodes) × (nodes ≤ MAX_NODES) }
     ensures bounds { result.bounds ≡ bounds }
     ensures events { result.events ≡ events }
     ensures nodes { result.nodes ≡ nodes }

@@ -2,7 +2,7 @@
 use Rattle.std.specs.Prelude.{◌≡◌, ◌≤◌, ◌<◌, ⊤, ℕ, zero, suc, ◌+◌, ◌-◌, List, [], ◌∷◌, ◌++◌, length, drop, IsTrue, slice_index_or}
 use Rattle.velo_workload.specs.declared.statement.Statement.{Statement}
 use Rattle.velo_workload.specs.declared.statement.Statement.TheVariants.{Repeat, Done}
-use Rattle.velo_workload.specs.declared.limits.TheConstants.{MOST_OPEN_REPEATS}
+use Rattle.velo_workload.specs.declared.limits.TheConstants.{MAX_OPEN_REPEATS}
 use Rattle.velo_workload.specs.Bodies.{is_nested}
 use Rattle.velo_worker.specs.declared.cursor.OpenRepeat.{OpenRepeat}
 use Rattle.velo_worker.specs.Walk.{repeated, first, others, levels}
@@ -95,7 +95,7 @@ past statement at ends = moved_on at
 
 -- a repeat has room, and a `Done` its repeat
 abbrev pub MayPass : Statement → Cursor → Type 0
-MayPass (Repeat n) at = length at.repeats < MOST_OPEN_REPEATS
+MayPass (Repeat n) at = length at.repeats < MAX_OPEN_REPEATS
 MayPass Done at = 0 < length at.repeats
 MayPass statement at = ⊤
 

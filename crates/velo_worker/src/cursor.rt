@@ -3,7 +3,7 @@ ghost use Rattle.std.specs.Prelude.{◌≡◌, ◌<◌, ◌+◌, [], length};
 ghost use Rattle.velo_worker.specs.Cursor.{moved_on, entered, repeated_or_left};
 
 use std::marker::Model;
-use velo_workload::MOST_OPEN_REPEATS;
+use velo_workload::MAX_OPEN_REPEATS;
 
 /// A repeat that is being done.
 #[derive(Clone, Copy, Debug)]
@@ -18,20 +18,20 @@ pub struct OpenRepeat {
 #[derive(Debug, Drop)]
 pub struct Cursor {
     position: usize,
-    repeats: [OpenRepeat; MOST_OPEN_REPEATS],
+    repeats: [OpenRepeat; MAX_OPEN_REPEATS],
     depth: usize,
 }
 
 impl Model for Cursor {
     ghost use Rattle.std.specs.Prelude.{◌≤◌};
-    ghost use Rattle.velo_workload.specs.declared.limits.TheConstants.{MOST_OPEN_REPEATS};
+    ghost use Rattle.velo_workload.specs.declared.limits.TheConstants.{MAX_OPEN_REPEATS};
     ghost use Rattle.velo_worker.specs.Cursor.{Cursor, innermost_first};
 
     ghost Value = { Cursor };
 
     ghost view = { λ p. record { position = p.position; repeats = innermost_first p.repeats p.depth } };
 
-    ghost invariant = { λ p. p.depth ≤ MOST_OPEN_REPEATS };
+    ghost invariant = { λ p. p.depth ≤ MAX_OPEN_REPEATS };
 }
 
 impl Cursor {
@@ -42,7 +42,7 @@ impl Cursor {
         let none = OpenRepeat { start: 0, again: 0 };
         Cursor {
             position: 0,
-            repeats: [none; MOST_OPEN_REPEATS],
+            repeats: [none; MAX_OPEN_REPEATS],
             depth: 0,
         }
     }
@@ -65,7 +65,7 @@ impl Cursor {
     /// Goes into a repeat, or to its end where it is to be done no time.
     pub fn enter_repeat(&mut self, times: u64, end: usize)
         requires within { self.old.position < usize.MAX }
-        requires room { length self.old.repeats < MOST_OPEN_REPEATS }
+        requires room { length self.old.repeats < MAX_OPEN_REPEATS }
         ensures { self.new ≡ entered self.old times end }
     {
         if times == 0 {

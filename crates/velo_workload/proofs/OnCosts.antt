@@ -4,7 +4,7 @@ use Rattle.std.specs.Prelude.{option_map}
 use Rattle.std.specs.Option.{option_map_or}
 use Rattle.std.proofs.lemmas.List.{map-append, take-map, length-map, reverse-append}
 use Rattle.std.proofs.lemmas.Option.{slice_get-map}
-use Rattle.velo_workload.specs.declared.limits.TheConstants.{MOST_COST}
+use Rattle.velo_workload.specs.declared.limits.TheConstants.{MAX_COST}
 use Rattle.velo_workload.specs.declared.fault.WorkFault.{WorkFault}
 use Rattle.velo_workload.specs.declared.fault.WorkFault.TheVariants.{Unmatched, TooMany}
 use Rattle.velo_workload.specs.declared.nesting.Open.{Open}
@@ -165,7 +165,7 @@ unmatched_line (Some o) other = refl
 pub same_end : (t : NestingState) (b : Reading) → Agrees t b → nesting_fault t ≡ end_fault b
 same_end t b h =
     let so_far : cost_of b.said ≡ t.cost = ap cost_of (sym (append-nil b.said)) ∙ h.cost [] ∙ omega arith in
-    let costly : ℕ → ℕ → Option WorkFault = λ c n. cond (ltb MOST_COST c) (Some (TooMany n)) None in
+    let costly : ℕ → ℕ → Option WorkFault = λ c n. cond (ltb MAX_COST c) (Some (TooMany n)) None in
     let last : option_map (λ o. o.line) (last_open t.open_repeats) ≡ slice_get b.open_repeats (length b.open_repeats - 1) =
     sym (slice_get-map (λ o. o.line) t.open_repeats (length t.open_repeats - 1)) ∙ (λ i. slice_get (h.lines i) (same_depth t b h i - 1)) in
     unmatched_line (last_open t.open_repeats) (costly t.cost t.thread_line)

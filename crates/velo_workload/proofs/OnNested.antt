@@ -7,7 +7,7 @@ use Rattle.std.proofs.lemmas.Bool.{and_from, lt-ltb, cases_lt}
 use Rattle.std.proofs.lemmas.Bool.Decides.{nat_tests}
 use Rattle.velo_workload.specs.declared.fault.WorkFault.{WorkFault}
 use Rattle.velo_workload.specs.declared.fault.WorkFault.TheVariants.{Unmatched}
-use Rattle.velo_workload.specs.declared.limits.TheConstants.{MOST_OPEN_REPEATS}
+use Rattle.velo_workload.specs.declared.limits.TheConstants.{MAX_OPEN_REPEATS}
 use Rattle.velo_workload.specs.declared.statement.Statement.{Statement}
 use Rattle.velo_workload.specs.declared.statement.Statement.TheVariants as of_statement
 use Rattle.velo_workload.specs.Bodies.{is_nested, IsBody, AreBodies}
@@ -48,13 +48,13 @@ named : (d : ℕ) (rest : List Statement) (f : ℕ → Statement) (o : Option �
 named d rest f None same h = h
 named d rest f (Some i) same h = same i ∙ h
 
-room_by : (d c : ℕ) (w : WorkFault) (other : Option WorkFault) → c ≡ d → (if nat_le MOST_OPEN_REPEATS c then Some w else other) ≡ None → IsTrue (nat_lt d MOST_OPEN_REPEATS)
-room_by d c w other e f = by_case (cases_lt d MOST_OPEN_REPEATS)
+room_by : (d c : ℕ) (w : WorkFault) (other : Option WorkFault) → c ≡ d → (if nat_le MAX_OPEN_REPEATS c then Some w else other) ≡ None → IsTrue (nat_lt d MAX_OPEN_REPEATS)
+room_by d c w other e f = by_case (cases_lt d MAX_OPEN_REPEATS)
   where
-    by_case : (d < MOST_OPEN_REPEATS) ⊎ (MOST_OPEN_REPEATS ≤ d) → IsTrue (nat_lt d MOST_OPEN_REPEATS)
-    by_case (inl l) = lt-ltb d MOST_OPEN_REPEATS l
+    by_case : (d < MAX_OPEN_REPEATS) ⊎ (MAX_OPEN_REPEATS ≤ d) → IsTrue (nat_lt d MAX_OPEN_REPEATS)
+    by_case (inl l) = lt-ltb d MAX_OPEN_REPEATS l
     by_case (inr l) =
-        let full : nat_le MOST_OPEN_REPEATS c ≡ true = rw e (grind (arith, nat_tests)) in
+        let full : nat_le MAX_OPEN_REPEATS c ≡ true = rw e (grind (arith, nat_tests)) in
         let is : Some w ≡ None = sym (ap (λ b. if b then Some w else other) full) ∙ f in
         cc
 
@@ -85,7 +85,7 @@ nested_statement names k repeats End m n rest e f h = h
 nested_statement names k repeats (Fork x) m n rest e f h = named (length repeats) rest (λ i. of_statement.Fork (record { 0 = i })) (number_of names.threads x) (λ i. refl) h
 nested_statement names k repeats (Join x) m n rest e f h = named (length repeats) rest (λ i. of_statement.Join (record { 0 = i })) (number_of names.threads x) (λ i. refl) h
 nested_statement names k repeats (Repeat x) m n rest e f h =
-    and_from (nat_lt (length repeats) MOST_OPEN_REPEATS) (is_nested (suc (length repeats)) rest)
+    and_from (nat_lt (length repeats) MAX_OPEN_REPEATS) (is_nested (suc (length repeats)) rest)
     (room_by (length repeats) k.depth _ _ e f)
     (let longer : length (repeats ++ m ∷ []) ≡ suc (length repeats) = omega (arith, length-append repeats (m ∷ [])) in
     subst (λ d. IsTrue (is_nested d rest)) longer h)

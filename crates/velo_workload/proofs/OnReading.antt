@@ -12,7 +12,7 @@ use Rattle.std.proofs.lemmas.List.Concat.{flat_map-append}
 use Rattle.std.proofs.lemmas.List.Sums.{fold-append}
 use Rattle.std.proofs.lemmas.Option.{slice_get-map}
 use Rattle.indexmap.specs.IndexSet.{insert_all, insert_key}
-use Rattle.velo_workload.specs.declared.limits.TheConstants.{MOST_COST, MOST_OPEN_REPEATS, MOST_STATEMENTS}
+use Rattle.velo_workload.specs.declared.limits.TheConstants.{MAX_COST, MAX_OPEN_REPEATS, MAX_STATEMENTS}
 use Rattle.velo_workload.specs.declared.fault.WorkFault.{WorkFault}
 use Rattle.velo_workload.specs.declared.fault.WorkFault.TheVariants.{BadLine, Unknown, Twice, Unmatched, TooMany, Memory}
 use Rattle.velo_workload.specs.declared.outline.Outline.{Outline}
@@ -137,9 +137,9 @@ unmatched_kept (Some o) other = refl
 pub end_kept : (b : NestingState) → nesting_fault (kept b) ≡ nesting_fault b
 end_kept b =
     let costly : (t : Bool) → Option WorkFault = λ t. cond t (Some (TooMany b.thread_line)) None in
-    ap (λ (o : Option Open). unmatched_or o (costly (ltb MOST_COST (min b.cost most_kept)))) (last_kept b.open_repeats)
-    ∙ unmatched_kept (last_open b.open_repeats) (costly (ltb MOST_COST (min b.cost most_kept)))
-    ∙ ap (λ (t : Bool). unmatched_or (last_open b.open_repeats) (costly t)) (over MOST_COST b.cost)
+    ap (λ (o : Option Open). unmatched_or o (costly (ltb MAX_COST (min b.cost most_kept)))) (last_kept b.open_repeats)
+    ∙ unmatched_kept (last_open b.open_repeats) (costly (ltb MAX_COST (min b.cost most_kept)))
+    ∙ ap (λ (t : Bool). unmatched_or (last_open b.open_repeats) (costly t)) (over MAX_COST b.cost)
 
 -- what is known by what is kept is what is known of the lines
 pub known_kept : (k : LineState) → known_by (up_to_most k) ≡ known_by k
@@ -175,15 +175,15 @@ declared_few names most w n e =
     let lt = leb_false most (length names) k.0 in
     omega (arith, lt, length-append names (w ∷ []))
 
-full_few : (count n : ℕ) → full_fault count n ≡ None → count + 1 ≤ MOST_STATEMENTS
+full_few : (count n : ℕ) → full_fault count n ≡ None → count + 1 ≤ MAX_STATEMENTS
 full_few count n e =
-    let k = behind (leb MOST_STATEMENTS count) (TooMany n) None e in
-    let lt = leb_false MOST_STATEMENTS count k.0 in
+    let k = behind (leb MAX_STATEMENTS count) (TooMany n) None e in
+    let lt = leb_false MAX_STATEMENTS count k.0 in
     omega (arith, lt)
 
-statement_few : (k : Known) (s : Spoken) (n : ℕ) → statement_fault k s n ≡ None → k.statements + 1 ≤ MOST_STATEMENTS
+statement_few : (k : Known) (s : Spoken) (n : ℕ) → statement_fault k s n ≡ None → k.statements + 1 ≤ MAX_STATEMENTS
 statement_few k Done n e = full_few k.statements n (behind (eqb k.depth 0) (Unmatched n) (full_fault k.statements n) e).1
-statement_few k (Repeat times) n e = full_few k.statements n (behind (leb MOST_OPEN_REPEATS k.depth) (TooMany n) (full_fault k.statements n) e).1
+statement_few k (Repeat times) n e = full_few k.statements n (behind (leb MAX_OPEN_REPEATS k.depth) (TooMany n) (full_fault k.statements n) e).1
 statement_few k s n e = full_few k.statements n e
 
 one_label : (ls : List Word) (w : Word) → length (insert_key bytes_eq ls w) ≤ length ls + 1

@@ -1,7 +1,7 @@
 -- What the first pass keeps of the body that it reads. Private contracts cite these words.
 use Rattle.std.specs.Prelude.{ℕ, ◌+◌, ◌-◌, ◌*◌, nat_lt, min, List, [], ◌∷◌, ◌++◌, length, take, map, slice_get, Option, Some, None, if◌then◌else◌}
 use Rattle.std.specs.Option.{option_map_or}
-use Rattle.velo_workload.specs.declared.limits.TheConstants.{MOST_COST}
+use Rattle.velo_workload.specs.declared.limits.TheConstants.{MAX_COST}
 use Rattle.velo_workload.specs.declared.fault.WorkFault.{WorkFault}
 use Rattle.velo_workload.specs.declared.fault.WorkFault.TheVariants.{Unmatched, TooMany}
 use Rattle.velo_workload.specs.declared.nesting.Open.{Open}
@@ -44,12 +44,12 @@ nesting_of_lines ps = nesting_from (new_nesting 0) 0 ps
 
 -- the fault of a body that ends here
 abbrev pub nesting_fault : NestingState → Option WorkFault
-nesting_fault b = option_map_or (λ o. Some (Unmatched o.line)) (last_open b.open_repeats) (if nat_lt MOST_COST b.cost then Some (TooMany b.thread_line) else None)
+nesting_fault b = option_map_or (λ o. Some (Unmatched o.line)) (last_open b.open_repeats) (if nat_lt MAX_COST b.cost then Some (TooMany b.thread_line) else None)
 
 -- ---- what a reader keeps: its rounds and costs grow no further than one above the most that a body may cost
 
 abbrev pub most_kept : ℕ
-most_kept = MOST_COST + 1
+most_kept = MAX_COST + 1
 
 abbrev pub kept_open : Open → Open
 kept_open o = record { line = o.line; outside = min o.outside most_kept }

@@ -5,8 +5,8 @@ use Rattle.std.specs.Option.{option_map_or}
 use Rattle.std.specs.Str.{bytes_eq}
 use Rattle.indexmap.specs.IndexSet.{insert_all}
 use Rattle.velo_events.specs.Refusals.{GrowthRefused}
-use Rattle.velo_events.specs.declared.limits.TheConstants.{MOST_THREADS, MOST_LOCKS}
-use Rattle.velo_workload.specs.declared.limits.TheConstants.{MOST_VARIABLES, MOST_OPEN_REPEATS, MOST_STATEMENTS, MOST_COST}
+use Rattle.velo_events.specs.declared.limits.TheConstants.{MAX_THREADS, MAX_LOCKS}
+use Rattle.velo_workload.specs.declared.limits.TheConstants.{MAX_VARIABLES, MAX_OPEN_REPEATS, MAX_STATEMENTS, MAX_COST}
 use Rattle.velo_workload.specs.declared.fault.WorkFault.{WorkFault}
 use Rattle.velo_workload.specs.declared.fault.WorkFault.TheVariants.{BadLine, Twice, Unmatched, TooMany, Memory}
 use Rattle.velo_workload.specs.Words.{Word}
@@ -112,7 +112,7 @@ reading ps = read_from (new_body 0) 0 ps
 
 -- a body ends here
 abbrev pub end_fault : Reading → Option WorkFault
-end_fault b = option_map_or (λ n. Some (Unmatched n)) (slice_get b.open_repeats (length b.open_repeats - 1)) (if nat_lt MOST_COST (cost_of b.said) then Some (TooMany b.thread_line) else None)
+end_fault b = option_map_or (λ n. Some (Unmatched n)) (slice_get b.open_repeats (length b.open_repeats - 1)) (if nat_lt MAX_COST (cost_of b.said) then Some (TooMany b.thread_line) else None)
 
 -- ---- faults of a line, by what is known of the lines before it
 
@@ -155,20 +155,20 @@ declared_fault names most name n =
     else (if nat_le most (length names) then Some (TooMany n) else None)
 
 abbrev pub full_fault : ℕ → ℕ → Option WorkFault
-full_fault count n = if nat_le MOST_STATEMENTS count then Some (TooMany n) else None
+full_fault count n = if nat_le MAX_STATEMENTS count then Some (TooMany n) else None
 
 abbrev pub statement_fault : Known → Spoken → ℕ → Option WorkFault
 statement_fault k Done n = if k.depth == 0 then Some (Unmatched n) else full_fault k.statements n
-statement_fault k (Repeat times) n = if nat_le MOST_OPEN_REPEATS (k.depth) then Some (TooMany n) else full_fault k.statements n
+statement_fault k (Repeat times) n = if nat_le MAX_OPEN_REPEATS (k.depth) then Some (TooMany n) else full_fault k.statements n
 statement_fault k s n = full_fault k.statements n
 
 abbrev pub fault_of_line : Known → Phrase → ℕ → Option WorkFault
 fault_of_line k Blank n = None
 fault_of_line k Bad n = Some (BadLine n)
 fault_of_line k BadThread n = first_of_two k.body_end (Some (BadLine n))
-fault_of_line k (Variable name) n = if length k.threads == 0 then declared_fault k.variables MOST_VARIABLES name n else Some (BadLine n)
-fault_of_line k (Lock name) n = if length k.threads == 0 then declared_fault k.locks MOST_LOCKS name n else Some (BadLine n)
-fault_of_line k (Thread name) n = first_of_two k.body_end (declared_fault k.threads MOST_THREADS name n)
+fault_of_line k (Variable name) n = if length k.threads == 0 then declared_fault k.variables MAX_VARIABLES name n else Some (BadLine n)
+fault_of_line k (Lock name) n = if length k.threads == 0 then declared_fault k.locks MAX_LOCKS name n else Some (BadLine n)
+fault_of_line k (Thread name) n = first_of_two k.body_end (declared_fault k.threads MAX_THREADS name n)
 fault_of_line k (Body s) n = if length k.threads == 0 then Some (BadLine n) else statement_fault k s n
 
 -- the text ends here
@@ -195,8 +195,8 @@ Judges fault (Err f) = fault ≡ Some f
 -- ---- how many there are where no line has a fault
 
 pub record AreFew (k : Known) : Type 0 where
-  pub variables : length k.variables ≤ MOST_VARIABLES
-  pub locks : length k.locks ≤ MOST_LOCKS
-  pub threads : length k.threads ≤ MOST_THREADS
+  pub variables : length k.variables ≤ MAX_VARIABLES
+  pub locks : length k.locks ≤ MAX_LOCKS
+  pub threads : length k.threads ≤ MAX_THREADS
   pub labels : length k.labels ≤ k.statements
-  pub statements : k.statements ≤ MOST_STATEMENTS
+  pub statements : k.statements ≤ MAX_STATEMENTS

@@ -5,8 +5,8 @@ use Rattle.std.specs.Option.{option_to_list}
 use Rattle.std.specs.Str.{bytes_eq}
 use Rattle.velo_events.specs.Refusals.{GrowthRefused}
 use Rattle.velo_events.specs.declared.config.Bounds.{Bounds}
-use Rattle.velo_events.specs.declared.limits.TheConstants.{MOST_THREADS, MOST_LOCKS}
-use Rattle.velo_workload.specs.declared.limits.TheConstants.{MOST_VARIABLES, MOST_STATEMENTS}
+use Rattle.velo_events.specs.declared.limits.TheConstants.{MAX_THREADS, MAX_LOCKS}
+use Rattle.velo_workload.specs.declared.limits.TheConstants.{MAX_VARIABLES, MAX_STATEMENTS}
 use Rattle.velo_workload.specs.declared.fault.WorkFault.{WorkFault}
 use Rattle.velo_workload.specs.declared.fault.WorkFault.TheVariants.{Unknown, Memory}
 use Rattle.velo_workload.specs.declared.statement.Statement.{Statement}
@@ -114,7 +114,7 @@ pub record IsWellNamed (w : Program) : Type 0 where
   pub variables : AreWellNamed w.variable_names
   pub locks : AreWellNamed w.lock_names
   pub labels : AreWellNamed w.label_names
-  pub few_threads : length w.thread_names ≤ MOST_THREADS
-  pub few_variables : length w.variable_names ≤ MOST_VARIABLES
-  pub few_locks : length w.lock_names ≤ MOST_LOCKS
-  pub few_labels : length w.label_names ≤ MOST_STATEMENTS
+  pub few_threads : length w.thread_names ≤ MAX_THREADS
+  pub few_variables : length w.variable_names ≤ MAX_VARIABLES
+  pub few_locks : length w.lock_names ≤ MAX_LOCKS
+  pub few_labels : length w.label_names ≤ MAX_STATEMENTS

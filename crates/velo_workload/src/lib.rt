@@ -20,8 +20,7 @@ mod workload;
 pub use fault::WorkFault;
 pub use laws::well_named;
 pub use limits::{
-    MOST_COST, MOST_NAME_LENGTH, MOST_OPEN_REPEATS, MOST_STATEMENTS, MOST_VARIABLES,
-    MOST_WORKLOAD_BYTES,
+    MAX_COST, MAX_NAME_LENGTH, MAX_OPEN_REPEATS, MAX_STATEMENTS, MAX_VARIABLES, MAX_WORKLOAD_BYTES,
 };
 pub use statement::Statement;
 pub use workload::{Workload, parse, text_of};

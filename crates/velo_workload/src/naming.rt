@@ -3,7 +3,7 @@ ghost use Rattle.std.specs.Prelude.{◌≡◌, option_map, if◌then◌else◌, 
 ghost use Rattle.std.specs.List.{list_all};
 ghost use Rattle.velo_workload.specs.Words.{is_name, is_name_byte};
 
-use crate::limits::MOST_NAME_LENGTH;
+use crate::limits::MAX_NAME_LENGTH;
 
 /// Whether each byte is a letter, a digit or an underscore.
 fn has_name_bytes(word: &[u8]) -> bool
@@ -20,7 +20,7 @@ fn is_name(word: &[u8]) -> bool
     match word.first() {
         None => false,
         Some(first) => {
-            !first.is_ascii_digit() && word.len() <= MOST_NAME_LENGTH && has_name_bytes(word)
+            !first.is_ascii_digit() && word.len() <= MAX_NAME_LENGTH && has_name_bytes(word)
         }
     }
 }

@@ -5,13 +5,13 @@ ghost use Rattle.velo_workload.specs.Outline.{Judges};
 ghost use Rattle.velo_workload.specs.Nesting.{last_open, most_kept, nesting_fault, nesting_of};
 
 use crate::fault::WorkFault;
-use crate::limits::MOST_COST;
+use crate::limits::MAX_COST;
 use std::alloc::Global;
 use velo_events::Memory;
 use velo_events::growth::reserve;
 
 /// What is kept of a number of rounds or of a cost: no more than one above the most that a body may cost.
-const MOST_KEPT: u64 = MOST_COST + 1;
+const MAX_KEPT: u64 = MAX_COST + 1;
 
 /// An open repeat.
 #[derive(Clone, Copy)]
@@ -37,7 +37,7 @@ fn kept_sum(a: u64, b: u64) -> u64
     ensures { result ≡ min (a + b) most_kept }
 {
     let sum = a.saturating_add(b);
-    if sum > MOST_KEPT { MOST_KEPT } else { sum }
+    if sum > MAX_KEPT { MAX_KEPT } else { sum }
 }
 
 /// A product, or the most that is kept.
@@ -45,8 +45,8 @@ fn kept_product(a: u64, b: u64) -> u64
     ensures { result ≡ min (a * b) most_kept }
 {
     let product = a.saturating_mul(b);
-    if product > MOST_KEPT {
-        MOST_KEPT
+    if product > MAX_KEPT {
+        MAX_KEPT
     } else {
         product
     }
@@ -149,7 +149,7 @@ impl Nesting {
         if let Some(open) = self.open.last() {
             return Err(WorkFault::Unmatched(open.line));
         }
-        if self.cost > MOST_COST {
+        if self.cost > MAX_COST {
             return Err(WorkFault::TooMany(self.thread_line));
         }
         Ok(())

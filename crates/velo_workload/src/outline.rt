@@ -8,13 +8,13 @@ ghost use Rattle.velo_workload.specs.Sketch.{sketches_of, AreSketches};
 use crate::bodies::Bodies;
 use crate::fault::WorkFault;
 use crate::growth::insert;
-use crate::limits::{MOST_OPEN_REPEATS, MOST_STATEMENTS, MOST_VARIABLES};
+use crate::limits::{MAX_OPEN_REPEATS, MAX_STATEMENTS, MAX_VARIABLES};
 use crate::names::{count, declare};
 use crate::nesting::Nesting;
 use crate::phrase::{Phrase, Spoken, next_phrase};
 use indexmap::IndexSet;
 use std::alloc::Global;
-use velo_events::{MOST_LOCKS, MOST_THREADS, Memory};
+use velo_events::{MAX_LOCKS, MAX_THREADS, Memory};
 
 /// What is known of the lines that are read.
 #[derive(Drop)]
@@ -53,17 +53,17 @@ impl<'a> Outline<'a> {
     {
         match statement {
             Spoken::Done if self.body.depth() == 0 => Err(WorkFault::Unmatched(line)),
-            Spoken::Repeat(_) if self.body.depth() >= MOST_OPEN_REPEATS => {
+            Spoken::Repeat(_) if self.body.depth() >= MAX_OPEN_REPEATS => {
                 Err(WorkFault::TooMany(line))
             }
-            _ if self.statements >= MOST_STATEMENTS => Err(WorkFault::TooMany(line)),
+            _ if self.statements >= MAX_STATEMENTS => Err(WorkFault::TooMany(line)),
             _ => Ok(()),
         }
     }
 
     /// Takes in a statement that has no fault.
     fn put_statement(&mut self, statement: Spoken<'a>, line: usize) -> Result<(), Memory>
-        requires { self.old.statements < MOST_STATEMENTS }
+        requires { self.old.statements < MAX_STATEMENTS }
         ensures { OnOk result (kept_of self.new ≡ with_line (kept_of self.old) (Body (spoken statement.entry)) line) }
     {
         match statement {
@@ -104,7 +104,7 @@ impl<'a> Outline<'a> {
     {
         match self.body.end() {
             Err(fault) => Err(fault),
-            Ok(()) => match declare(&mut self.threads, name, usize::from(MOST_THREADS), line) {
+            Ok(()) => match declare(&mut self.threads, name, usize::from(MAX_THREADS), line) {
                 Err(fault) => Err(fault),
                 Ok(()) => {
                     self.body.begin(line);
@@ -130,13 +130,13 @@ impl<'a> Outline<'a> {
                 if count(&self.threads) > 0 {
                     return Err(WorkFault::BadLine(line));
                 }
-                declare(&mut self.variables, name, MOST_VARIABLES, line)
+                declare(&mut self.variables, name, MAX_VARIABLES, line)
             }
             Phrase::Lock(name) => {
                 if count(&self.threads) > 0 {
                     return Err(WorkFault::BadLine(line));
                 }
-                declare(&mut self.locks, name, usize::from(MOST_LOCKS), line)
+                declare(&mut self.locks, name, usize::from(MAX_LOCKS), line)
             }
             Phrase::Thread(name) => self.take_thread(name, line),
             Phrase::Body(statement) => self.take_statement(statement, line),

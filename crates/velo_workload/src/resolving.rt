@@ -1,7 +1,7 @@
 //! From names to numbers.
 ghost use Rattle.std.specs.Prelude.{◌≡◌, ◌≤◌, length, option_map};
-ghost use Rattle.velo_events.specs.declared.limits.TheConstants.{MOST_LOCKS, MOST_THREADS};
-ghost use Rattle.velo_workload.specs.declared.limits.TheConstants.{MOST_STATEMENTS, MOST_VARIABLES};
+ghost use Rattle.velo_events.specs.declared.limits.TheConstants.{MAX_LOCKS, MAX_THREADS};
+ghost use Rattle.velo_workload.specs.declared.limits.TheConstants.{MAX_STATEMENTS, MAX_VARIABLES};
 ghost use Rattle.velo_workload.specs.Names.{names_of};
 ghost use Rattle.velo_workload.specs.Known.{known_of};
 ghost use Rattle.velo_workload.specs.Outline.{AreFew, names_in};
@@ -16,7 +16,7 @@ use indexmap::IndexSet;
 use velo_events::{Label, LockId, ThreadId, VarId};
 
 fn variable(names: &IndexSet<&str>, name: &str) -> Option<VarId>
-    requires { length (names_of names.now) ≤ MOST_VARIABLES }
+    requires { length (names_of names.now) ≤ MAX_VARIABLES }
     ensures { result ≡ option_map (λ i. record { 0 = i }) (number_of (names_of names.now) name.now) }
 {
     let number = number_of(names, name)?;
@@ -24,7 +24,7 @@ fn variable(names: &IndexSet<&str>, name: &str) -> Option<VarId>
 }
 
 fn lock(names: &IndexSet<&str>, name: &str) -> Option<LockId>
-    requires { length (names_of names.now) ≤ MOST_LOCKS }
+    requires { length (names_of names.now) ≤ MAX_LOCKS }
     ensures { result ≡ option_map (λ i. record { 0 = i }) (number_of (names_of names.now) name.now) }
 {
     let number = number_of(names, name)?;
@@ -32,7 +32,7 @@ fn lock(names: &IndexSet<&str>, name: &str) -> Option<LockId>
 }
 
 fn thread(names: &IndexSet<&str>, name: &str) -> Option<ThreadId>
-    requires { length (names_of names.now) ≤ MOST_THREADS }
+    requires { length (names_of names.now) ≤ MAX_THREADS }
     ensures { result ≡ option_map (λ i. record { 0 = i }) (number_of (names_of names.now) name.now) }
 {
     let number = number_of(names, name)?;
@@ -40,7 +40,7 @@ fn thread(names: &IndexSet<&str>, name: &str) -> Option<ThreadId>
 }
 
 fn label(names: &IndexSet<&str>, name: &str) -> Option<Label>
-    requires { length (names_of names.now) ≤ MOST_STATEMENTS }
+    requires { length (names_of names.now) ≤ MAX_STATEMENTS }
     ensures { result ≡ option_map (λ i. record { 0 = i }) (number_of (names_of names.now) name.now) }
 {
     let number = number_of(names, name)?;

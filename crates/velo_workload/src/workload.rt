@@ -8,13 +8,13 @@ ghost use Rattle.velo_workload.specs.Outline.{AreFew, Judges, names_in};
 ghost use Rattle.velo_workload.specs.Known.{known_of, kept_of, whole};
 ghost use Rattle.velo_workload.specs.Program.{Program, program_of, meaning_of, ParsesAs};
 ghost use Rattle.velo_workload.specs.Sketch.{sketches_of, drafted, unknown_in_sketches, bodies_completed};
-ghost use Rattle.velo_events.specs.declared.limits.TheConstants.{MOST_THREADS, MOST_LOCKS};
-ghost use Rattle.velo_workload.specs.declared.limits.TheConstants.{MOST_WORKLOAD_BYTES};
+ghost use Rattle.velo_events.specs.declared.limits.TheConstants.{MAX_THREADS, MAX_LOCKS};
+ghost use Rattle.velo_workload.specs.declared.limits.TheConstants.{MAX_WORKLOAD_BYTES};
 
 use crate::bodies::{Bodies, complete_bodies};
 use crate::fault::WorkFault;
 use crate::growth::copy_of;
-use crate::limits::MOST_WORKLOAD_BYTES;
+use crate::limits::MAX_WORKLOAD_BYTES;
 use crate::names::count;
 use crate::outline::Outline;
 use crate::statement::Statement;
@@ -49,14 +49,14 @@ impl Model for Workload {
 }
 
 impl Workload {
-    /// How many threads, variables and locks it has: 1 to [`MOST_THREADS`](velo_events::MOST_THREADS) threads, at most
-    /// [`MOST_VARIABLES`](crate::MOST_VARIABLES) variables and at most [`MOST_LOCKS`](velo_events::MOST_LOCKS) locks.
+    /// How many threads, variables and locks it has: 1 to [`MAX_THREADS`](velo_events::MAX_THREADS) threads, at most
+    /// [`MAX_VARIABLES`](crate::MAX_VARIABLES) variables and at most [`MAX_LOCKS`](velo_events::MAX_LOCKS) locks.
     pub fn bounds(&self) -> Bounds
         ensures bounds { result ≡ self.now.bounds }
         ensures bodies { length self.now.bodies ≡ result.threads }
         ensures some_thread { 1 ≤ result.threads }
-        ensures few_threads { result.threads ≤ MOST_THREADS }
-        ensures few_locks { result.locks ≤ MOST_LOCKS }
+        ensures few_threads { result.threads ≤ MAX_THREADS }
+        ensures few_locks { result.locks ≤ MAX_LOCKS }
     {
         self.bounds
     }
@@ -205,16 +205,16 @@ pub fn parse(alloc: Global, text: &str) -> Result<Workload, WorkFault>
 /// The text that a file's bytes are, for [`parse`].
 ///
 /// # Errors
-/// `TooMany(0)` exactly where there are more bytes than [`MOST_WORKLOAD_BYTES`](crate::MOST_WORKLOAD_BYTES), and else
+/// `TooMany(0)` exactly where there are more bytes than [`MAX_WORKLOAD_BYTES`](crate::MAX_WORKLOAD_BYTES), and else
 /// `BadLine(0)` where they are not UTF-8.
 pub fn text_of(bytes: &[u8]) -> Result<&str, WorkFault>
     ensures text { IfOk result (λ text. text.now ≡ bytes.now) }
-    ensures few { OnOk result (length bytes.now ≤ MOST_WORKLOAD_BYTES) }
-    ensures too_many { (MOST_WORKLOAD_BYTES < length bytes.now) ↔ (result ≡ Err (WorkFault.TooMany 0)) }
+    ensures few { OnOk result (length bytes.now ≤ MAX_WORKLOAD_BYTES) }
+    ensures too_many { (MAX_WORKLOAD_BYTES < length bytes.now) ↔ (result ≡ Err (WorkFault.TooMany 0)) }
     ensures no_text { OnErr result
-        (length bytes.now ≤ MOST_WORKLOAD_BYTES → (result ≡ Err (WorkFault.BadLine 0)) × (¬ IsUtf8 bytes.now)) }
+        (length bytes.now ≤ MAX_WORKLOAD_BYTES → (result ≡ Err (WorkFault.BadLine 0)) × (¬ IsUtf8 bytes.now)) }
 {
-    if bytes.len() > MOST_WORKLOAD_BYTES {
+    if bytes.len() > MAX_WORKLOAD_BYTES {
         return Err(WorkFault::TooMany(0));
     }
     match std::str::from_utf8(bytes) {

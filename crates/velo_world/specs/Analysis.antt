@@ -2,7 +2,7 @@
 use Rattle.std.specs.Prelude.{◌≡◌, ◌<◌, ℕ, List, length, take, Option, Some, None}
 use Rattle.velo_events.specs.declared.config.Bounds.{Bounds}
 use Rattle.velo_events.specs.declared.event.Event.{Event}
-use Rattle.velo_events.specs.declared.limits.TheConstants.{MOST_EVENTS}
+use Rattle.velo_events.specs.declared.limits.TheConstants.{MAX_EVENTS}
 use Rattle.velo_events.specs.WellFormed.{MayFollow}
 use Rattle.velo_heap.specs.Contents.{bounds_of, IsHeapOf}
 use Rattle.velo_arena.specs.Slots.{used_in, limit_of}
@@ -58,4 +58,4 @@ FindsRoom old new e = (trace : List Event) → IsAnalysisOf old trace → MayFol
 pub record ComesNext (analysis : Analysis) (trace : List Event) (e : Event) : Type 0 where
   pub stands : IsAnalysisOf analysis trace
   pub follows : MayFollow (bounds_of analysis.heap) trace e
-  pub short : length trace < MOST_EVENTS
+  pub short : length trace < MAX_EVENTS

@@ -15,7 +15,7 @@ use smallvec::SmallVec;
 use std::alloc::Global;
 use velo_arena::GraphFull;
 use velo_blame::Clocks;
-use velo_events::{Config, Event, MOST_OPEN_BLOCKS, Memory, Resolved};
+use velo_events::{Config, Event, MAX_OPEN_BLOCKS, Memory, Resolved};
 use velo_heap::Heap;
 use velo_monitor::{Monitor, Seen};
 use velo_traces::{Block, open_blocks_since};
@@ -29,7 +29,7 @@ pub struct Alarm {
     pub transaction: usize,
     /// The blocks to blame: those that its thread has open there and that are not self-serializable in the events up to
     /// it, outermost first.
-    pub blamed: SmallVec<Block, MOST_OPEN_BLOCKS>,
+    pub blamed: SmallVec<Block, MAX_OPEN_BLOCKS>,
 }
 
 /// What an action came to.

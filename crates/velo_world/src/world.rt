@@ -1,6 +1,6 @@
 ghost use Rattle.std.specs.Prelude.{◌≡◌, List, ◌≤◌, ◌<◌, ◌↔◌, ◌∷◌, ◌++◌, [], ℕ, length, None, Some, IfOk, IfSome, IfNone, OnErr, IsTrue, slice_get, slice_set};
 ghost use Rattle.velo_events.specs.declared.event.Action.TheVariants.{Fork};
-ghost use Rattle.velo_events.specs.declared.limits.TheConstants.{MOST_EVENTS};
+ghost use Rattle.velo_events.specs.declared.limits.TheConstants.{MAX_EVENTS};
 ghost use Rattle.velo_events.specs.Block.{IsTransaction};
 ghost use Rattle.velo_events.specs.Meaning.{action_of};
 ghost use Rattle.velo_monitor.specs.Collection.{IsAccountedFor, IsGivenUp, IsHarmless};

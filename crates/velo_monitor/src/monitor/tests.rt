@@ -1,5 +1,5 @@
 ghost use Rattle.std.specs.Prelude.{◌≡◌, ◌<◌, [], ◌∷◌, ◌++◌, length, IsTrue};
-ghost use Rattle.velo_events.specs.declared.limits.TheConstants.{MOST_EVENTS};
+ghost use Rattle.velo_events.specs.declared.limits.TheConstants.{MAX_EVENTS};
 ghost use Rattle.velo_events.specs.declared.event.Event.{Event as EventOf};
 ghost use Rattle.velo_arena.specs.Slots.{used_in, limit_of};
 ghost use Rattle.velo_events.specs.WellFormed.{IsWellFormed, MayFollow};
@@ -10,7 +10,7 @@ ghost use Rattle.velo_monitor.specs.Answers.{NeedsNode};
 use super::{Monitor, Seen};
 use std::alloc::Global;
 use std::process::Abort;
-use velo_events::{Bounds, Config, Event, Kind, Label, LockId, MOST_EVENTS, ThreadId, VarId};
+use velo_events::{Bounds, Config, Event, Kind, Label, LockId, MAX_EVENTS, ThreadId, VarId};
 use velo_graph::Graph;
 use velo_rows::BitRow;
 use velo_traces::{Trace, well_formed};
@@ -135,7 +135,7 @@ fn observe(
 ) -> Seen
     requires stands { IsMonitorOf BOUNDS monitor.old before.now }
     requires follows { MayFollow BOUNDS before.now event.now }
-    requires within { length before.now < MOST_EVENTS }
+    requires within { length before.now < MAX_EVENTS }
     ensures { result ≡ Seen.Quiet → IsMonitorOf BOUNDS monitor.new (before.now ++ event.now ∷ []) }
 {
     monitor.reserve(event).expect(rt, "memory");
@@ -149,7 +149,7 @@ fn follow(rt: &impl Abort, monitor: &mut Monitor, events: &[Event], rows: &[Row]
     requires stands { IsMonitorOf BOUNDS monitor.old [] }
     requires well_formed { IsWellFormed BOUNDS events.now }
 {
-    assert!(rt; events.len() == rows.len() && events.len() < MOST_EVENTS as usize);
+    assert!(rt; events.len() == rows.len() && events.len() < MAX_EVENTS as usize);
     for i in 0..events.len() {
         let (_, _, needs_node, seen, after) = rows[i];
         let answer = observe(rt, monitor, &events[..i], &events[i], needs_node);

@@ -6,8 +6,8 @@ use std::process::Abort;
 use std::test::Fail;
 use velo_bytes::Text;
 use velo_command::{end_without_words, help};
-use velo_events::{MOST_EVENTS, MOST_NODES, MOST_THREADS, Refusal};
-use velo_program::{DEFAULT_SEED, MOST_RUNS, MOST_STATES};
+use velo_events::{MAX_EVENTS, MAX_NODES, MAX_THREADS, Refusal};
+use velo_program::{DEFAULT_SEED, MAX_RUNS, MAX_STATES};
 
 /// Right words, with the status and standard error: of the two logs one raises an alarm at its last event.
 const RIGHT_WORDS: [(&[&str], u8, &str); 9] = [
@@ -330,20 +330,20 @@ fn help_goes_to_standard_output(rt: HostRuntime) {
 
 /// The words of a command's help before a limit and after it.
 const LIMITS: [(&str, &str, u32, &str); 14] = [
-    ("check", "have, 1 to ", MOST_EVENTS, " ["),
-    ("check", "one time, 1 to ", MOST_NODES as u32, " ["),
-    ("replay", "have, 1 to ", MOST_EVENTS, " ["),
-    ("replay", "one time, 1 to ", MOST_NODES as u32, " ["),
-    ("replay", "from 0 to ", MOST_THREADS as u32 - 1, ","),
-    ("run", "have, 1 to ", MOST_EVENTS, " ["),
-    ("run", "one time, 1 to ", MOST_NODES as u32, " ["),
-    ("explore", "have, 1 to ", MOST_EVENTS, " ["),
-    ("explore", "look at, 1 to ", MOST_STATES, " ["),
-    ("explore", "search, 1 to ", MOST_RUNS, "\n"),
+    ("check", "have, 1 to ", MAX_EVENTS, " ["),
+    ("check", "one time, 1 to ", MAX_NODES as u32, " ["),
+    ("replay", "have, 1 to ", MAX_EVENTS, " ["),
+    ("replay", "one time, 1 to ", MAX_NODES as u32, " ["),
+    ("replay", "from 0 to ", MAX_THREADS as u32 - 1, ","),
+    ("run", "have, 1 to ", MAX_EVENTS, " ["),
+    ("run", "one time, 1 to ", MAX_NODES as u32, " ["),
+    ("explore", "have, 1 to ", MAX_EVENTS, " ["),
+    ("explore", "look at, 1 to ", MAX_STATES, " ["),
+    ("explore", "search, 1 to ", MAX_RUNS, "\n"),
     ("explore", "615 [default: ", DEFAULT_SEED as u32, "]"),
-    ("watch", "have, 1 to ", MOST_EVENTS, " ["),
-    ("audit", "have, 1 to ", MOST_EVENTS, " ["),
-    ("audit", "one time, 1 to ", MOST_NODES as u32, " ["),
+    ("watch", "have, 1 to ", MAX_EVENTS, " ["),
+    ("audit", "have, 1 to ", MAX_EVENTS, " ["),
+    ("audit", "one time, 1 to ", MAX_NODES as u32, " ["),
 ];
 
 /// Whether these words stand in what went to standard output.

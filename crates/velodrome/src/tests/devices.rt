@@ -6,7 +6,7 @@ use std::sync::Wait;
 use std::thread::Threads;
 use velo_bytes::{Bytes, Text, WriterSink};
 use velo_command::run;
-use velo_events::{MOST_EVENTS, Refusal};
+use velo_events::{MAX_EVENTS, Refusal};
 use velo_logtext::LogFault;
 use velo_program::{CheckFault, Fate, Quiet, check_run, end_with};
 
@@ -16,7 +16,7 @@ fn reads_fail(rt: HostRuntime) {
     for count in 0..=log.len() {
         let mut source = Bytes::new(log).in_steps(1).failing_after(count);
         let mut sink = Text::new(rt.alloc());
-        let answer = check_run(rt.alloc(), &mut source, &mut sink, MOST_EVENTS, 1024, false);
+        let answer = check_run(rt.alloc(), &mut source, &mut sink, MAX_EVENTS, 1024, false);
         assert_eq!(rt; answer, Err(CheckFault::Log(LogFault::Read)));
         assert!(rt; sink.as_slice().is_empty());
         drop(sink);
@@ -29,7 +29,7 @@ fn writes_fail(rt: HostRuntime) {
     for count in 0..written.len() {
         let mut source = Bytes::new(LOST_UPDATE.as_bytes());
         let mut sink = Text::new(rt.alloc()).failing_after(count);
-        let answer = check_run(rt.alloc(), &mut source, &mut sink, MOST_EVENTS, 1024, true);
+        let answer = check_run(rt.alloc(), &mut source, &mut sink, MAX_EVENTS, 1024, true);
         assert_eq!(rt; answer, Err(CheckFault::Write));
         assert_eq!(rt; sink.as_slice(), &written[..count]);
         drop(sink);

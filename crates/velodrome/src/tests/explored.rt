@@ -5,10 +5,9 @@ use std::process::Abort;
 use std::sync::Wait;
 use std::thread::Threads;
 use velo_bytes::Text;
-use velo_events::MOST_EVENTS;
+use velo_events::MAX_EVENTS;
 use velo_program::{
-    ExploreOptions, Limits, MOST_RUNS, MOST_STATES, Quiet, RandomRuns, Request, do_request,
-    end_with,
+    ExploreOptions, Limits, MAX_RUNS, MAX_STATES, Quiet, RandomRuns, Request, do_request, end_with,
 };
 
 /// A block that reads and writes, and a thread that writes.
@@ -262,7 +261,7 @@ static ROWS: [Row; 24] = [
 fn runs_of(random: Option<(u32, u64)>) -> Option<RandomRuns> {
     match random {
         Some((runs, seed)) => Some(RandomRuns {
-            runs: runs.clamp(1, MOST_RUNS),
+            runs: runs.clamp(1, MAX_RUNS),
             seed,
         }),
         None => None,
@@ -275,12 +274,12 @@ fn explore_it<R: Threads + Wait + Abort + Sync>(rt: &R, alloc: Global, row: &Row
     let mut folder = Folder::new(alloc, &files, step);
     let request = Request::Explore(ExploreOptions {
         input: "w",
-        states: row.states.clamp(1, MOST_STATES),
+        states: row.states.clamp(1, MAX_STATES),
         first: row.first,
         target: row.target,
         names_target: None,
         limits: Limits {
-            events: row.events.clamp(1, MOST_EVENTS),
+            events: row.events.clamp(1, MAX_EVENTS),
             nodes: 64,
         },
         certificate: row.certificate,

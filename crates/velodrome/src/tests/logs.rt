@@ -6,7 +6,7 @@ use std::process::Abort;
 use std::sync::Wait;
 use std::thread::Threads;
 use velo_bytes::{Bytes, Text};
-use velo_events::MOST_EVENTS;
+use velo_events::MAX_EVENTS;
 use velo_program::check_run;
 
 /// Reads of one block's write by operations outside blocks.
@@ -563,7 +563,7 @@ fn certificates_are_written(rt: HostRuntime) {
     for (log, written) in CERTIFIED {
         let mut sink = Text::new(rt.alloc()).in_steps(1);
         let mut source = Bytes::new(log.as_bytes());
-        check_run(rt.alloc(), &mut source, &mut sink, MOST_EVENTS, 1024, true).expect(
+        check_run(rt.alloc(), &mut source, &mut sink, MAX_EVENTS, 1024, true).expect(
             &rt,
             "a verdict",
         );

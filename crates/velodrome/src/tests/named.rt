@@ -6,7 +6,7 @@ use std::process::Abort;
 use std::sync::Wait;
 use std::thread::Threads;
 use velo_bytes::{Bytes, Text, WriterSink};
-use velo_events::MOST_EVENTS;
+use velo_events::MAX_EVENTS;
 use velo_program::{
     ExploreOptions, Fate, Files, Limits, Quiet, ReplayOptions, Request, RunOptions, ScheduleSource,
     do_request, end_with,
@@ -117,7 +117,7 @@ enum How {
 }
 
 const LIMITS: Limits = Limits {
-    events: MOST_EVENTS,
+    events: MAX_EVENTS,
     nodes: 64,
 };
 

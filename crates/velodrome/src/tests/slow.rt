@@ -5,7 +5,7 @@ use std::alloc::{AllocError, Global};
 use std::process::Abort;
 use std::test::Fail;
 use velo_events::{
-    Action, Bounds, Label, LockId, MOST_EVENTS, MOST_NODES, ThreadId, VarId, conflicts,
+    Action, Bounds, Label, LockId, MAX_EVENTS, MAX_NODES, ThreadId, VarId, conflicts,
 };
 use velo_program::config_of;
 use velo_traces::Trace;
@@ -105,7 +105,7 @@ impl Dice {
 
 /// A world whose log came about by chance: of 48 actions those that were not refused.
 pub fn world_by_chance(rt: &impl Abort, alloc: Global, seed: u64) -> World {
-    let config = config_of(BOUNDS, MOST_EVENTS, MOST_NODES);
+    let config = config_of(BOUNDS, MAX_EVENTS, MAX_NODES);
     let replayed = World::from_log(alloc, config, Trace::new(alloc));
     let (mut world, mut shares) = replayed.expect(rt, "a world");
     let mut dice = Dice::new(seed);

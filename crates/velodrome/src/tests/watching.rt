@@ -5,7 +5,7 @@ use std::process::Abort;
 use std::sync::Wait;
 use std::thread::Threads;
 use velo_bytes::{Bytes, Sink, Text, WriterSink};
-use velo_events::{MOST_EVENTS, Refusal};
+use velo_events::{MAX_EVENTS, Refusal};
 use velo_logtext::LogFault;
 use velo_program::{CheckFault, Fate, Files, Limits, Quiet, Request, WatchOptions, do_request};
 use velo_worker::Ending;
@@ -77,7 +77,7 @@ fn asked(stop: bool, certificate: bool, events: u32) -> Request<'static> {
         input: "-",
         stop,
         limits: Limits {
-            events: events.clamp(1, MOST_EVENTS),
+            events: events.clamp(1, MAX_EVENTS),
             nodes: 64,
         },
         certificate,

@@ -5,7 +5,7 @@ use std::process::Abort;
 use std::sync::Wait;
 use std::test::Fail;
 use std::thread::Threads;
-use velo_program::{MOST_TURNS, ScheduleFault, schedule_of};
+use velo_program::{MAX_TURNS, ScheduleFault, schedule_of};
 
 /// The lost update as a workload.
 pub const COLLIDING: &str =
@@ -477,7 +477,7 @@ fn bad_schedules(rt: HostRuntime) {
 #[test]
 fn long_schedules(rt: HostRuntime) -> Result<(), Fail> {
     let mut text = String::from_str(rt.alloc(), "0")?;
-    for _ in 1..MOST_TURNS {
+    for _ in 1..MAX_TURNS {
         text.push_str(" 0")?;
     }
     assert!(rt; schedule_of(rt.alloc(), text.as_str()).is_ok());

@@ -2,7 +2,7 @@ use Rattle.std.proofs.Common.{◌≡◌, ◌≤◌, ℕ, Option, Some, None, ari
 use Rattle.std.specs.Prelude.{IfNone}
 use Rattle.std.specs.Str.Parse.{ExplainsUnsignedError, HasUnsignedDigitsIfOk, ParsesUnsigned}
 use Rattle.clap.specs.Words.{found_of, one_of, rows_of}
-use Rattle.velo_program.specs.declared.request.TheConstants.{MOST_STATES}
+use Rattle.velo_program.specs.declared.request.TheConstants.{MAX_STATES}
 use Rattle.velo_command.specs.Asked.{WritesNumber}
 use Rattle.velo_command.proofs.OnAsked.{no_number, number_read, one_number}
 use Rattle.velo_command.proofs.requests.states_of.Goals as goal
@@ -21,7 +21,7 @@ if_none None P holds = holds
 if_none (Some value) P holds = tt
 
 pub returns-in_err-states-clause-none : goal.returns-in_err-states-clause-none
-returns-in_err-states-clause-none c = if_none _ ((states : ℕ) → 1 ≤ states → states ≤ MOST_STATES
+returns-in_err-states-clause-none c = if_none _ ((states : ℕ) → 1 ≤ states → states ≤ MAX_STATES
     → ¬ WritesNumber 32 (one_of (codes "states") (rows_of (found_of c.args.found.now))) states) (λ states low high asks.
     no_number _ (λ t x. ParsesUnsigned 32 10 t x × ExplainsUnsignedError 10 t x × HasUnsignedDigitsIfOk t x) 32 (found_of c.args.found.now) (codes "states") c.get_one.result states
     (λ t x given. given.0) c.get_one.ensures.value c.in_err-states.was asks)

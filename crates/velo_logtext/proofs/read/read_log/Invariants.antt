@@ -1,5 +1,5 @@
 use Rattle.std.proofs.Common.{◌≡◌, ◌-◌, length}
-use Rattle.velo_events.specs.declared.limits.TheConstants.{MOST_EVENTS}
+use Rattle.velo_events.specs.declared.limits.TheConstants.{MAX_EVENTS}
 use Rattle.velo_logtext.specs.Reader.{HasGiven}
 use Rattle.velo_logtext.proofs.read.read_log.Given as goal
 
@@ -11,4 +11,4 @@ invariant-loop-trace g l =
     }
 
 abbrev pub decreases-loop-trace : goal.decreases-loop-trace
-decreases-loop-trace g l = MOST_EVENTS - length l.trace.events
+decreases-loop-trace g l = MAX_EVENTS - length l.trace.events

@@ -1,5 +1,5 @@
 use Rattle.std.proofs.Common.{◌≡◌, ◌+◌, ◌≤◌, ◌++◌, length}
-use Rattle.velo_events.specs.declared.limits.TheConstants.{MOST_EVENTS}
+use Rattle.velo_events.specs.declared.limits.TheConstants.{MAX_EVENTS}
 use Rattle.velo_logtext.specs.Text.{AreEventsIn, event_lines}
 use Rattle.velo_logtext.proofs.reader.append_lines.Given as goal
 
@@ -9,7 +9,7 @@ invariant-loop-rest l =
       stream : event_lines l.trace.events ++ l.rest ≡ event_lines l.fn.trace.events ++ l.bytes;
       fit : AreEventsIn l.shares l.fn.trace.events → AreEventsIn l.shares l.trace.events;
       count : l.given + length l.fn.trace.events ≡ l.fn.given + length l.trace.events;
-      few : l.given ≤ MOST_EVENTS;
+      few : l.given ≤ MAX_EVENTS;
       grows : length l.fn.trace.events ≤ length l.trace.events;
       shorter : length l.rest ≤ length l.bytes;
     }

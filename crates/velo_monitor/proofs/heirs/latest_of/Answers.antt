@@ -1,5 +1,5 @@
 use Rattle.std.proofs.Common.{ℕ, ◌+◌, ◌<◌, ◌∙◌, Option, None, get_or, sym, ap, subst, arith}
-use Rattle.velo_events.specs.declared.limits.TheConstants.{MOST_THREADS}
+use Rattle.velo_events.specs.declared.limits.TheConstants.{MAX_THREADS}
 use Rattle.velo_monitor.specs.Heirs.{later_of, IsLatest}
 use Rattle.velo_monitor.proofs.OnLatest.{latest-step, latest-stay, latest-rest}
 use Rattle.velo_monitor.proofs.heirs.latest_of.Goals as goal
@@ -13,7 +13,7 @@ loop-s-preserved c =
     let t = c.args.t in
     let slot = c.args.slot in
     let s = c.loop-s.s in
-    let small : s < MOST_THREADS = omega (arith, c.loop-s-test.true, c.requires.few) in
+    let small : s < MAX_THREADS = omega (arith, c.loop-s-test.true, c.requires.few) in
     elim c.if-is_reached.branch [
       | then-is_reached w ↦
           let is = w.latest-is ∙ w.later_of-latest.ensures ∙ ap (λ i. later_of graph c.loop-s.latest (get_or firsts i None)) w.pair_of.ensures in

@@ -1,5 +1,5 @@
 use Rattle.std.proofs.Common.{ℕ, ◌+◌, ◌<◌, ◌≡◌, ◌∙◌, List, length, Option, Some, None, get_or, set, sym, ap, subst, arith}
-use Rattle.velo_events.specs.declared.limits.TheConstants.{MOST_THREADS}
+use Rattle.velo_events.specs.declared.limits.TheConstants.{MAX_THREADS}
 use Rattle.std.specs.Prelude.{IsTrue}
 use Rattle.velo_events.specs.declared.event.Event.{Event}
 use Rattle.velo_graph.specs.Nodes.{Nodes}
@@ -30,7 +30,7 @@ loop-s-preserved c =
     let slot = c.args.slot in
     let t = c.thread_of-t.result in
     let s = c.loop-s.s in
-    let small : s < MOST_THREADS = omega (arith, c.loop-s-test.true, c.requires.few) in
+    let small : s < MAX_THREADS = omega (arith, c.loop-s-test.true, c.requires.few) in
     elim c.if-is_reached.branch [
       | then-is_reached w ↦
           let pair = w.pair_of-pair.ensures in

@@ -1,7 +1,7 @@
 use Rattle.std.proofs.Common.{◌∙◌, inl, inr, refl, sym, ⊎_elim}
 use Rattle.velo_program.specs.declared.fate.Fate.TheVariants.{Check}
 use Rattle.velo_program.specs.Delivery.{silent}
-use Rattle.velo_program.specs.Writing.{writing}
+use Rattle.velo_delivery.specs.Writing.{writing}
 use Rattle.velo_program.proofs.OnAuditing.{audits_reads}
 use Rattle.velo_program.proofs.auditing.audit_log.Goals as goal
 

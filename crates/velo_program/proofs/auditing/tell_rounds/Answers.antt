@@ -1,6 +1,6 @@
 use Rattle.std.proofs.Common.{◌∙◌, inl, inr, refl, rules}
 use Rattle.velo_thin.specs.Tables.{left_of}
-use Rattle.velo_program.specs.Writing.{writing}
+use Rattle.velo_delivery.specs.Writing.{writing}
 use Rattle.velo_program.proofs.OnAuditing.{told_put}
 use Rattle.velo_program.proofs.auditing.tell_rounds.Goals as goal
 

@@ -1,5 +1,5 @@
 use Rattle.std.proofs.Common.{inl, inr, refl, rules}
-use Rattle.velo_program.specs.Writing.{writing}
+use Rattle.velo_delivery.specs.Writing.{writing}
 use Rattle.velo_program.proofs.carrying.carry_log.Goals as goal
 
 pub returns : goal.returns

@@ -1,8 +1,8 @@
 use Rattle.std.proofs.Common.{◌≡◌, ◌∙◌, refl, subst, sym}
 use Rattle.velo_program.specs.declared.fate.Fate.{Fate}
 use Rattle.velo_program.specs.Check.{Checks}
-use Rattle.velo_program.specs.Reading.{failures_told}
-use Rattle.velo_program.specs.Writing.{writing}
+use Rattle.velo_program.specs.Failures.{failures_told}
+use Rattle.velo_delivery.specs.Writing.{writing}
 use Rattle.velo_program.proofs.OnVerdicts.{checked_by, failures_so, faulty, reads_nothing}
 use Rattle.velo_program.proofs.check.check_log.Goals as goal
 

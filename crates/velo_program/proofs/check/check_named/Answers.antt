@@ -1,8 +1,8 @@
 use Rattle.std.proofs.Common.{◌≡◌, inl, inr, refl, rules, subst, sym, codes}
 use Rattle.std.specs.Prelude.{ℕ, List, None}
-use Rattle.velo_program.specs.Disk.{store}
-use Rattle.velo_program.specs.Reading.{reading}
-use Rattle.velo_program.specs.Writing.{writing}
+use Rattle.velo_delivery.specs.Disk.{store}
+use Rattle.velo_delivery.specs.Reading.{reading}
+use Rattle.velo_delivery.specs.Writing.{writing}
 use Rattle.velo_program.proofs.OnDelivery.{check_put}
 use Rattle.velo_program.proofs.check.check_named.Goals as goal
 

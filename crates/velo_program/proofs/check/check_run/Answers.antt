@@ -1,6 +1,6 @@
 use Rattle.std.proofs.Common.{◌∙◌, refl, sym}
 use Rattle.velo_report.specs.declared.names.Names.TheVariants.{Numbers}
-use Rattle.velo_program.specs.Writing.{writing}
+use Rattle.velo_delivery.specs.Writing.{writing}
 use Rattle.velo_program.proofs.OnVerdicts.{checked_by, failures_so, faulty, reads_nothing}
 use Rattle.velo_program.proofs.check.check_run.Goals as goal
 

@@ -1,5 +1,5 @@
 use Rattle.std.proofs.Common.{Bool, sym, subst}
-use Rattle.velo_program.specs.Writing.{writing}
+use Rattle.velo_delivery.specs.Writing.{writing}
 use Rattle.velo_program.specs.Steps.{Shows}
 use Rattle.velo_program.proofs.check.write_answer.Goals as goal
 

@@ -1,4 +1,4 @@
-use Rattle.velo_program.specs.Writing.{writing}
+use Rattle.velo_delivery.specs.Writing.{writing}
 use Rattle.velo_program.proofs.OnVerdicts.{Certifies-order_or_cycle, behind_report, report_alone, report_breaks}
 use Rattle.velo_program.proofs.check.write_output.Goals as goal
 

@@ -3,9 +3,9 @@ use Rattle.velo_events.specs.declared.event.Event.{Event}
 use Rattle.velo_events.specs.Graph.{IsClosing}
 use Rattle.velo_program.specs.declared.fate.Fate.TheVariants.{Memory}
 use Rattle.velo_program.specs.Delivery.{silent}
-use Rattle.velo_program.specs.Disk.{store}
+use Rattle.velo_delivery.specs.Disk.{store}
 use Rattle.velo_program.specs.Explaining.{counted, explained}
-use Rattle.velo_program.specs.Writing.{writing}
+use Rattle.velo_delivery.specs.Writing.{writing}
 use Rattle.velo_program.specs.Steps.{PrintsOrLacks}
 use Rattle.velo_program.proofs.OnExplaining.{explains_by, explains_clean, of_evidence}
 use Rattle.velo_program.proofs.OnVerdicts.{closing_cycle}

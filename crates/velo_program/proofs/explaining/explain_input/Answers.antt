@@ -1,6 +1,6 @@
 use Rattle.std.proofs.Common.{◌≡◌, inl, inr, refl, rules, subst, sym, codes}
 use Rattle.std.specs.Prelude.{ℕ, List}
-use Rattle.velo_program.specs.Reading.{reading}
+use Rattle.velo_delivery.specs.Reading.{reading}
 use Rattle.velo_program.proofs.explaining.explain_input.Goals as goal
 
 pub returns-then-is_standard_input : goal.returns-then-is_standard_input

@@ -1,8 +1,8 @@
 use Rattle.std.proofs.Common.{◌∙◌, inl, inr, refl, sym, ⊎_elim}
 use Rattle.velo_program.specs.declared.fate.Fate.TheVariants.{Check}
 use Rattle.velo_program.specs.Delivery.{silent}
-use Rattle.velo_program.specs.Disk.{store}
-use Rattle.velo_program.specs.Writing.{writing}
+use Rattle.velo_delivery.specs.Disk.{store}
+use Rattle.velo_delivery.specs.Writing.{writing}
 use Rattle.velo_program.proofs.OnExplaining.{explains_reads}
 use Rattle.velo_program.proofs.explaining.explain_log.Goals as goal
 

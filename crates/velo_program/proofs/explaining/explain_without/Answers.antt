@@ -3,7 +3,7 @@ use Rattle.std.specs.Prelude.{ℕ, false}
 use Rattle.velo_worker.specs.declared.ending.Ending.TheVariants.{Done}
 use Rattle.velo_program.specs.declared.fate.Fate.TheVariants.{Finished}
 use Rattle.velo_program.specs.Delivery.{IsPrinted, printing}
-use Rattle.velo_program.specs.Writing.{writing}
+use Rattle.velo_delivery.specs.Writing.{writing}
 use Rattle.velo_program.proofs.explaining.explain_without.Goals as goal
 
 pub returns-in-Ok : goal.returns-in-Ok

@@ -1,7 +1,7 @@
 use Rattle.std.proofs.Common.{◌++◌, refl}
-use Rattle.velo_program.specs.Disk.{store}
+use Rattle.velo_delivery.specs.Disk.{store}
 use Rattle.velo_program.specs.Playing.{text_of_log}
-use Rattle.velo_program.specs.Writing.{writing}
+use Rattle.velo_delivery.specs.Writing.{writing}
 use Rattle.velo_program.proofs.OnFindings.{broken_in_turn, printed_in_turn, unsaved_puts_in_turn}
 use Rattle.velo_program.proofs.OnVerdicts.{output_exists}
 use Rattle.velo_program.proofs.exploring.report_by.Goals as goal

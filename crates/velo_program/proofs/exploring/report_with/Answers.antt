@@ -1,6 +1,6 @@
 use Rattle.std.proofs.Common.{true, false, inr, refl, rules}
-use Rattle.velo_program.specs.Disk.{store}
-use Rattle.velo_program.specs.Writing.{writing}
+use Rattle.velo_delivery.specs.Disk.{store}
+use Rattle.velo_delivery.specs.Writing.{writing}
 use Rattle.velo_program.proofs.OnFindings.{reported_by}
 use Rattle.velo_program.proofs.exploring.report_with.Goals as goal
 

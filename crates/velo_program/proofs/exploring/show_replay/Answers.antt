@@ -1,5 +1,5 @@
-use Rattle.velo_program.specs.Disk.{store}
-use Rattle.velo_program.specs.Writing.{writing}
+use Rattle.velo_delivery.specs.Disk.{store}
+use Rattle.velo_delivery.specs.Writing.{writing}
 use Rattle.velo_program.proofs.OnFindings.{reported_named}
 use Rattle.velo_program.proofs.exploring.show_replay.Goals as goal
 

@@ -1,8 +1,8 @@
 use Rattle.std.proofs.Common.{inr, refl, rules}
 use Rattle.velo_program.specs.declared.fate.Fate.TheVariants.{Memory}
 use Rattle.velo_program.specs.Delivery.{silent}
-use Rattle.velo_program.specs.Disk.{store}
-use Rattle.velo_program.specs.Writing.{writing}
+use Rattle.velo_delivery.specs.Disk.{store}
+use Rattle.velo_delivery.specs.Writing.{writing}
 use Rattle.velo_program.proofs.OnFindings.{has_alarm, run_bounds, still_told, told_found}
 use Rattle.velo_program.proofs.exploring.show_told.Goals as goal
 

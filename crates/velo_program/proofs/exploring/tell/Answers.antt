@@ -1,7 +1,7 @@
 use Rattle.std.proofs.Common.{◌∙◌, ℕ, List, inr, refl, subst, rules}
-use Rattle.velo_program.specs.Disk.{store}
+use Rattle.velo_delivery.specs.Disk.{store}
 use Rattle.velo_program.specs.Findings.{ReportsOrLacks}
-use Rattle.velo_program.specs.Writing.{writing}
+use Rattle.velo_delivery.specs.Writing.{writing}
 use Rattle.velo_program.proofs.exploring.tell.Goals as goal
 
 pub waits_behind-requires : goal.waits_behind-requires

@@ -1,5 +1,5 @@
 use Rattle.std.specs.Prelude.{is_some}
-use Rattle.velo_program.specs.Writing.{writing}
+use Rattle.velo_delivery.specs.Writing.{writing}
 use Rattle.velo_program.proofs.OnFindings.{behind_text, text_breaks}
 use Rattle.velo_program.proofs.exploring.write_behind.Goals as goal
 

@@ -1,8 +1,8 @@
 use Rattle.std.proofs.Common.{◌∙◌, [], inl, inr, refl, sym, ⊎_elim}
 use Rattle.velo_program.specs.Delivery.{silent}
 use Rattle.velo_program.specs.Playing.{ByTurns, text_of_names}
-use Rattle.velo_program.specs.Disk.{store}
-use Rattle.velo_program.specs.Writing.{writing}
+use Rattle.velo_delivery.specs.Disk.{store}
+use Rattle.velo_delivery.specs.Writing.{writing}
 use Rattle.velo_program.proofs.OnPlaying.{plays_reads, unread_put}
 use Rattle.velo_program.proofs.replaying.replay_by.Goals as goal
 
@@ -18,7 +18,7 @@ returns-in-Ok g c =
       text_of_names c.in-Ok.workload,
       from.given,
       from.no_failure ∙ sym (plays_reads (ByTurns c.args.schedule.now) c.args.options.now c.in-Ok.workload played.0 _ played.1 files (text_of_names c.in-Ok.workload) stdout c.replay_workload-fate.result played.2),
-      inl (c.in-Ok.workload, from.is_text, refl, played.1),
+      inl (c.in-Ok.workload, from.said, refl, played.1),
       played.2,
     )
 
@@ -31,8 +31,8 @@ returns-in-Err g c =
       [],
       none.given,
       none.failures,
-      inr (c.in-Err.fate, none.unread, refl),
-      unread_put none.read.bytes c.in-Err.fate none.unread (store g.F.Files.disk c.args.files.now c.args.files.now) refl c.args.options.now.target (writing g.O.Sink.contents g.O.Sink.failures c.args.out.now c.args.out.now) (refl, refl),
+      inr (c.in-Err.fate, none.unsaid, refl),
+      unread_put none.read.bytes c.in-Err.fate none.unsaid (store g.F.Files.disk c.args.files.now c.args.files.now) refl c.args.options.now.target (writing g.O.Sink.contents g.O.Sink.failures c.args.out.now c.args.out.now) (refl, refl),
     ))
     (λ barred. inl (barred, (refl, (refl, refl))))
     c.in-Err.ensures.none

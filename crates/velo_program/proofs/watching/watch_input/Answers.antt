@@ -1,9 +1,9 @@
 use Rattle.std.proofs.Common.{◌≡◌, ◌∙◌, ℕ, Err, refl, sym, subst, ap}
 use Rattle.velo_program.specs.declared.check.CheckFault.{CheckFault}
 use Rattle.velo_program.specs.Fate.{fate_of}
-use Rattle.velo_program.specs.Reading.{failures_told}
+use Rattle.velo_program.specs.Failures.{failures_told}
 use Rattle.velo_program.specs.Watching.{check_fault_by, HasWatched, Watches}
-use Rattle.velo_program.specs.Writing.{writing}
+use Rattle.velo_delivery.specs.Writing.{writing}
 use Rattle.velo_world.specs.World.{WorldState}
 use Rattle.velo_program.proofs.OnWatching.{ended_early, reads_told, unopened, watched}
 use Rattle.velo_program.proofs.watching.watch_input.Goals as goal

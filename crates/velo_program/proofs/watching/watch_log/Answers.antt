@@ -1,5 +1,5 @@
 use Rattle.std.proofs.Common.{refl}
-use Rattle.velo_program.specs.Writing.{writing}
+use Rattle.velo_delivery.specs.Writing.{writing}
 use Rattle.velo_program.proofs.OnWatching.{shown}
 use Rattle.velo_program.proofs.watching.watch_log.Goals as goal
 use Rattle.velo_program.proofs.watching.watch_log.Goals.{in-Ok, in-Err}

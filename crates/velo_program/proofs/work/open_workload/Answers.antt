@@ -1,6 +1,6 @@
 use Rattle.std.proofs.Common.{◌≡◌, inl, inr, refl, rules, subst, sym, codes}
 use Rattle.std.specs.Prelude.{ℕ, List}
-use Rattle.velo_program.specs.Reading.{reading}
+use Rattle.velo_delivery.specs.Reading.{reading}
 use Rattle.velo_program.proofs.OnPlaying.{not_opened, opened}
 use Rattle.velo_program.proofs.work.open_workload.Goals as goal
 

@@ -2,8 +2,8 @@ use Rattle.std.proofs.Common.{Bool, Some, ap, inl, refl}
 use Rattle.velo_program.specs.declared.fate.Fate.TheVariants.{Finished, WriteFailed}
 use Rattle.velo_program.specs.Fate.{is_alarm}
 use Rattle.velo_program.specs.Playing.{reported, text_of_log}
-use Rattle.velo_program.specs.Disk.{store}
-use Rattle.velo_program.specs.Writing.{writing}
+use Rattle.velo_delivery.specs.Disk.{store}
+use Rattle.velo_delivery.specs.Writing.{writing}
 use Rattle.velo_program.proofs.OnDelivery.{saved_in_turn, unsaved_in_turn}
 use Rattle.velo_program.proofs.OnVerdicts.{output_exists}
 use Rattle.velo_program.proofs.work.report_by.Goals as goal

@@ -1,8 +1,8 @@
 use Rattle.std.proofs.Common.{Bool, inr, refl, subst, sym, rules}
 use Rattle.velo_program.specs.declared.fate.Fate.TheVariants.{Memory}
 use Rattle.velo_program.specs.Delivery.{silent}
-use Rattle.velo_program.specs.Disk.{store}
-use Rattle.velo_program.specs.Writing.{writing}
+use Rattle.velo_delivery.specs.Disk.{store}
+use Rattle.velo_delivery.specs.Writing.{writing}
 use Rattle.velo_program.specs.Steps.{Reports}
 use Rattle.velo_program.proofs.work.tell.Goals as goal
 

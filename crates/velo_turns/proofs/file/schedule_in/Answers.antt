@@ -3,10 +3,10 @@ use Rattle.std.proofs.lemmas.Result.{IfErr-weaker, IfOk-weaker}
 use Rattle.velo_turns.proofs.OnFile.{found_in, none_in, schedule_bytes, schedule_utf8}
 use Rattle.velo_turns.proofs.file.schedule_in.Goals as goal
 
-pub returns-then-bytes-gt-MOST_SCHEDULE_BYTES-clause-fault : goal.returns-then-bytes-gt-MOST_SCHEDULE_BYTES-clause-fault
-returns-then-bytes-gt-MOST_SCHEDULE_BYTES-clause-fault c = λ schedule says.
+pub returns-then-bytes-gt-MAX_SCHEDULE_BYTES-clause-fault : goal.returns-then-bytes-gt-MAX_SCHEDULE_BYTES-clause-fault
+returns-then-bytes-gt-MAX_SCHEDULE_BYTES-clause-fault c = λ schedule says.
     let few = schedule_bytes _ schedule says in
-    omega (arith, few, c.if-bytes-gt-MOST_SCHEDULE_BYTES.true)
+    omega (arith, few, c.if-bytes-gt-MAX_SCHEDULE_BYTES.true)
 
 pub returns-in-Ok-clause-schedule : goal.returns-in-Ok-clause-schedule
 returns-in-Ok-clause-schedule c =

@@ -3,7 +3,7 @@ use Rattle.std.proofs.lemmas.Iterator.Splits.{YieldsList-from_str_split}
 use Rattle.std.proofs.lemmas.Iterator.Consumers.{YieldsList-turn, YieldsList-end}
 use Rattle.std.proofs.lemmas.List.{take_all, length_push}
 use Rattle.velo_turns.specs.declared.schedule.ScheduleFault.{ScheduleFault}
-use Rattle.velo_turns.specs.declared.limits.TheConstants.{MOST_TURNS}
+use Rattle.velo_turns.specs.declared.limits.TheConstants.{MAX_TURNS}
 use Rattle.velo_turns.specs.Words.{turns_in}
 use Rattle.velo_turns.proofs.OnTexts.{words_in, read_more, all_read, none_with, none_beyond, fault_by_cases}
 use Rattle.velo_turns.proofs.schedule.turns_of.Goals as goal
@@ -29,7 +29,7 @@ returns-in_default-clause-fault c =
 pub loop-word-preserved : goal.loop-word-preserved
 loop-word-preserved c =
     let word = word_at (goal.at.loop-word-preserved c).In-Some in
-    let few : length c.push.new.schedule.items ≤ MOST_TURNS = omega (arith, c.in-Ok.ensures.few, c.push.new.schedule.ok.0) in
+    let few : length c.push.new.schedule.items ≤ MAX_TURNS = omega (arith, c.in-Ok.ensures.few, c.push.new.schedule.ok.0) in
     rw (length_push c.loop-word.yielded c.in-Some.word)
     (read_more _ _ _ _ _ _ c.loop-word.invariant word.0 word.1 (sym c.in-Some-turns_in.is ∙ (c.turns_in.ensures ∙ ap turns_in c.as_bytes.ensures.value)) c.in-Ok.ensures.pushed few)
 

@@ -48,7 +48,7 @@ returns-clause-noted c =
     let row = c.row_of-row.result in
     let spare = is_ready c.spread.new.self in
     subst (λ (by : ThreadId). state_of c.spread.new.self
-        ≡ with_spare spare (state_after_beside (state (alones_in mid.rows.rows (set mid.threads.items by.0 (record { by = by; number = c.args.position + 1; row = row }))) (alones_in mid.rows.rows mid.writes.items) (reads_in mid.rows mid.reads) (is_ready mid)) by.0 (access_of e.kind) (clock_in mid.rows.rows (record { by = by; number = c.args.position + 1; row = row })))) c.thread.ensures c.spread.ensures.noted
+    ≡ with_spare spare (state_after_beside (state (alones_in mid.rows.rows (set mid.threads.items by.0 (record { by = by; number = c.args.position + 1; row = row }))) (alones_in mid.rows.rows mid.writes.items) (reads_in mid.rows mid.reads) (is_ready mid)) by.0 (access_of e.kind) (clock_in mid.rows.rows (record { by = by; number = c.args.position + 1; row = row })))) c.thread.ensures c.spread.ensures.noted
     ∙ (ap (λ s. with_spare spare (state_after_beside s t (access_of e.kind) (clock_in mid.rows.rows (record { by = e.thread; number = c.args.position + 1; row = row })))) (thread-noted n old mid c.requires.places c.row_of-row.ensures.kept c.args.position row e c.row_of-row.ensures.row)
     ∙ (ap (λ xs. with_spare spare (state_after_beside (with_thread (with_spare (is_ready mid) (state_of old)) t (alone_at clock t)) t (access_of e.kind) xs)) (clock-noted n old mid c.requires.places c.row_of-row.ensures.kept c.args.position row e c.row_of-row.ensures.row)
     ∙ ap (with_spare spare) (after-spare (state_of old) (is_ready mid) clock e)))

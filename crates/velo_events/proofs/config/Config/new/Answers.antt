@@ -1,8 +1,8 @@
 use Rattle.std.proofs.Common.{rules}
 use Rattle.velo_events.proofs.config.Config.new.Goals as goal
 
-pub returns-then-bounds-gt-MOST_LOCKS-clause-bad : goal.returns-then-bounds-gt-MOST_LOCKS-clause-bad
-returns-then-bounds-gt-MOST_LOCKS-clause-bad c = search rules
+pub returns-then-bounds-gt-MAX_LOCKS-clause-bad : goal.returns-then-bounds-gt-MAX_LOCKS-clause-bad
+returns-then-bounds-gt-MAX_LOCKS-clause-bad c = search rules
 
 pub returns-clause-stop : goal.returns-clause-stop
 returns-clause-stop c = search rules

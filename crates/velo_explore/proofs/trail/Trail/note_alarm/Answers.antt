@@ -1,7 +1,7 @@
 use Rattle.std.proofs.Common.{◌≡◌, ◌<◌, ◌≤◌, ◌∷◌, ◌++◌, [], length, length-append, map, refl, sym, ap, ◌∙◌, subst, arith, inl, inr}
 use Rattle.std.proofs.lemmas.Bool.{and_parts, ltb-true}
 use Rattle.std.proofs.lemmas.List.{length-map, map-append}
-use Rattle.velo_explore.specs.declared.schedules.TheConstants.{MOST_ALARMS}
+use Rattle.velo_explore.specs.declared.schedules.TheConstants.{MAX_ALARMS}
 use Rattle.velo_explore.specs.Steps.{IsWay}
 use Rattle.velo_explore.specs.Trail.{alarms_of}
 use Rattle.velo_explore.proofs.OnTrails.{kept-many, wants-none}
@@ -18,7 +18,7 @@ returns-then-not-wants_alarm-clause-notes c =
       few = λ l. l;
       none = λ first. refl;
       some = λ first.
-          let many = kept-many c.args.self.now.first (length kept) MOST_ALARMS (sym c.wants_alarm.ensures ∙ c.if-not-wants_alarm.true) first in
+          let many = kept-many c.args.self.now.first (length kept) MAX_ALARMS (sym c.wants_alarm.ensures ∙ c.if-not-wants_alarm.true) first in
           omega (arith, many, length-map kept (λ v. v.items));
     }
 
@@ -36,7 +36,7 @@ returns-clause-notes c =
       first = refl;
       shown = λ fault. refl;
       alarms = inr (turns.items, is, subst (λ xs. IsWay xs c.args.place turns.items) c.deref.ensures.value c.in_ok-turns.ensures);
-      few = λ l. let room = ltb-true (length kept) MOST_ALARMS wants.1 in omega (arith, room, long, one, length-map kept (λ v. v.items));
+      few = λ l. let room = ltb-true (length kept) MAX_ALARMS wants.1 in omega (arith, room, long, one, length-map kept (λ v. v.items));
       none = λ first. absurd (wants-none c.args.self.now.first wants.0 first);
       some = λ first. omega (arith, long, one);
     }

@@ -1,5 +1,5 @@
 use Rattle.std.proofs.Common.{◌≡◌, ℕ, ◌+◌, ◌<◌, ◌∷◌, ◌++◌, [], List, Some, None, ap, sym, subst, ◌∙◌, refl, arith}
-use Rattle.velo_events.specs.declared.limits.TheConstants.{MOST_EVENTS}
+use Rattle.velo_events.specs.declared.limits.TheConstants.{MAX_EVENTS}
 use Rattle.velo_logtext.specs.Front.{Takes, Finds, judged_front}
 use Rattle.velo_logtext.specs.Window.{Window}
 use Rattle.velo_logtext.specs.Reader.{ReaderState, HasGiven}
@@ -22,7 +22,7 @@ returns-in-Some c =
     let is : Some (c.in-Some.event, rest) ≡ event_in r.shares held = c.in-Some.ensures ∙ ap (event_in r.shares) c.bytes-held.ensures in
     let left : Window = record { bytes = rest; ended = r.window.ended } in
     let after : left ≡ c.take_to.new.self = sym (c.take_to.ensures ∙ ap (λ (t : List ℕ). record { bytes = t; ended = r.window.ended }) (event_left r.shares held c.in-Some.event rest is)) in
-    let room : r.given < MOST_EVENTS = omega (arith, c.if-self.false, c.self.invariant) in
+    let room : r.given < MAX_EVENTS = omega (arith, c.if-self.false, c.self.invariant) in
     record {
       takes = ap (λ (v : ReaderState). v.bounds) c.self.view_is;
       finds = λ bytes remaining events h.
@@ -37,7 +37,7 @@ returns-in-None c =
     let held = r.window.bytes in
     let v : ReaderState = record { shares = r.shares; bounds = r.bounds; given = r.given; held = held; ended = r.window.ended } in
     let none : event_in r.shares held ≡ None = sym (c.in-None.ensures ∙ ap (event_in r.shares) c.bytes-held.ensures) in
-    let room : r.given < MOST_EVENTS = omega (arith, c.if-self.false, c.self.invariant) in
+    let room : r.given < MAX_EVENTS = omega (arith, c.if-self.false, c.self.invariant) in
     let is : judged_front held r.window.ended (r.given + 2) ≡ c.judge_front.result = sym (c.judge_front.ensures ∙ rw (c.bytes-held.ensures, c.is_ended-in-None.ensures) refl) in
     record {
       takes = subst (λ (x : ReaderState). Takes x c.judge_front.result x) c.self.view_is (subst (λ f. Takes v f v) is (takes_front v));

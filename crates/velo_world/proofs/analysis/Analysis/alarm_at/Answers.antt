@@ -2,7 +2,7 @@ use Rattle.std.proofs.Common.{◌≡◌, ℕ, Some, ◌+◌, ◌<◌, ◌≤◌,
 use Rattle.std.specs.Prelude.{IsFalse}
 use Rattle.std.proofs.lemmas.Bool.{both_ways, eq-eqb, false_from_ne_true}
 use Rattle.std.proofs.lemmas.List.{length-map}
-use Rattle.velo_events.specs.declared.limits.TheConstants.{MOST_OPEN_BLOCKS}
+use Rattle.velo_events.specs.declared.limits.TheConstants.{MAX_OPEN_BLOCKS}
 use Rattle.velo_events.specs.declared.event.Event.{Event}
 use Rattle.std.specs.Prelude.{slice_get}
 use Rattle.velo_events.specs.declared.config.Bounds.{Bounds}
@@ -20,8 +20,8 @@ use Rattle.velo_blame.proofs.OnAnswers.{begins_of-blocks}
 use Rattle.velo_world.proofs.OnAlarms.{IsAlarm-closing, length-before}
 use Rattle.velo_world.proofs.analysis.Analysis.alarm_at.Goals as goal
 
-few_open : (bounds : Bounds) (events : List Event) (p : ℕ) (e : Event) → slice_get events p ≡ Some e → IsWellFormed bounds (take p events ++ e ∷ []) → length (open_blocks (take (p + 1) events) e.thread.0) ≤ MOST_OPEN_BLOCKS
-few_open bounds events p e here well = subst (λ xs. length (open_blocks xs e.thread.0) ≤ MOST_OPEN_BLOCKS) (sym (take-next events p e here)) (length-open_blocks-le bounds (take p events ++ e ∷ []) e.thread.0 well)
+few_open : (bounds : Bounds) (events : List Event) (p : ℕ) (e : Event) → slice_get events p ≡ Some e → IsWellFormed bounds (take p events ++ e ∷ []) → length (open_blocks (take (p + 1) events) e.thread.0) ≤ MAX_OPEN_BLOCKS
+few_open bounds events p e here well = subst (λ xs. length (open_blocks xs e.thread.0) ≤ MAX_OPEN_BLOCKS) (sym (take-next events p e here)) (length-open_blocks-le bounds (take p events ++ e ∷ []) e.thread.0 well)
 
 -- no block that is open begins before the transaction of the last event
 none_open : (past : List Event) (e : Event) (b : ℕ) → b < owner (past ++ e ∷ []) (length past) → IsFalse (is_open_at (past ++ e ∷ []) e.thread.0 b (length (past ++ e ∷ [])))

@@ -1,0 +1,2 @@
+pub mod OnAnswers
+pub mod OnReading

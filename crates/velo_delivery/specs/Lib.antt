@@ -1,0 +1,4 @@
+pub mod Answers
+pub mod Disk
+pub mod Reading
+pub mod Writing

@@ -1,0 +1,12 @@
+//! The files that a command finds and leaves, and how what it has to say goes out.
+#![tactic(auto)]
+
+mod answer;
+mod failure;
+mod files;
+mod reading;
+
+pub use answer::{Answer, Save, Text, deliver, save_all};
+pub use failure::{Failure, Operand};
+pub use files::{Files, is_standard_input};
+pub use reading::{ReadFault, read_whole};

@@ -1,0 +1,4 @@
+pub mod Predictions
+pub mod Deadlocks
+pub mod Feasible
+pub mod Courses

@@ -1,0 +1,114 @@
+//! Which traces small logs foretell.
+use crate::is_prediction;
+use std::alloc::Global;
+use std::process::Abort;
+use velo_events::{Bounds, Config, Event, Kind, LockId, ThreadId, VarId};
+use velo_traces::Trace;
+
+const BOUNDS: Bounds = Bounds {
+    threads: 3,
+    variables: 2,
+    locks: 1,
+};
+
+const X: VarId = VarId(0);
+
+const Y: VarId = VarId(1);
+
+const M: LockId = LockId(0);
+
+fn by(thread: u8, kind: Kind) -> Event {
+    Event {
+        thread: ThreadId(thread),
+        kind,
+    }
+}
+
+fn fork(u: u8) -> Event {
+    by(0, Kind::Fork(ThreadId(u)))
+}
+
+fn trace_of(rt: &impl Abort, alloc: Global, events: &[Event]) -> Trace {
+    let mut trace = Trace::new(alloc);
+    for event in events {
+        trace.push(*event).expect(rt, "memory");
+    }
+    trace
+}
+
+fn foretells(rt: &impl Abort, alloc: Global, log: &[Event], events: &[Event]) -> bool {
+    let config = Config::new(1, BOUNDS, 100, 1, false).expect(rt, "in range");
+    let log = trace_of(rt, alloc, log);
+    let trace = trace_of(rt, alloc, events);
+    is_prediction(alloc, &config, &log, &trace).expect(rt, "memory")
+}
+
+/// Thread 1 adds to what thread 0 wrote, both under the lock; thread 2 reads and writes on its own.
+fn added() -> [Event; 13] {
+    [
+        fork(1),
+        fork(2),
+        by(0, Kind::Acquire(M)),
+        by(0, Kind::Write(X, 1)),
+        by(0, Kind::Release(M)),
+        by(1, Kind::Acquire(M)),
+        by(1, Kind::Read(X, 1)),
+        by(1, Kind::Write(X, 2)),
+        by(1, Kind::Release(M)),
+        by(2, Kind::Read(Y, 0)),
+        by(2, Kind::Write(Y, 1)),
+        by(0, Kind::Acquire(M)),
+        by(0, Kind::Read(X, 2)),
+    ]
+}
+
+#[test]
+fn log_foretells_itself(rt: HostRuntime) {
+    assert!(rt; foretells(&rt, rt.alloc(), &added(), &added()));
+    assert!(rt; foretells(&rt, rt.alloc(), &added(), &[]));
+}
+
+/// What comes behind a read of another value, and whether it is foretold.
+#[test]
+fn thread_that_turned_gives_up_its_lock(rt: HostRuntime) {
+    let turned = [
+        fork(1),
+        fork(2),
+        by(1, Kind::Acquire(M)),
+        by(1, Kind::Read(X, 0)),
+    ];
+    let ends = [
+        (by(1, Kind::Release(M)), true),
+        (by(1, Kind::Write(X, 2)), false),
+        (by(2, Kind::Read(Y, 0)), true),
+        (by(0, Kind::Acquire(M)), false),
+    ];
+    for (event, expected) in ends {
+        let mut events = trace_of(&rt, rt.alloc(), &turned);
+        events.push(event).expect(&rt, "memory");
+        assert_eq!(rt;
+            foretells(&rt, rt.alloc(), &added(), events.as_slice()),
+            expected
+        );
+    }
+}
+
+/// Behind the release of a thread that has turned a read is the last that is known of its thread.
+#[test]
+fn read_behind_such_a_release_is_the_last(rt: HostRuntime) {
+    let mut events = trace_of(
+        &rt,
+        rt.alloc(),
+        &[fork(1), fork(2), by(1, Kind::Acquire(M))],
+    );
+    for event in [
+        by(1, Kind::Read(X, 0)),
+        by(1, Kind::Release(M)),
+        by(2, Kind::Read(Y, 0)),
+    ] {
+        events.push(event).expect(&rt, "memory");
+        assert!(rt; foretells(&rt, rt.alloc(), &added(), events.as_slice()));
+    }
+    events.push(by(2, Kind::Write(Y, 1))).expect(&rt, "memory");
+    assert!(rt; !foretells(&rt, rt.alloc(), &added(), events.as_slice()));
+}

@@ -1,0 +1,47 @@
+-- What is read by a format, from the bytes that were read.
+use Rattle.std.proofs.Common.{◌≡◌, ◌∙◌, inl, inr, sym}
+use Rattle.std.specs.Prelude.{ℕ, List, Option, Some, None, Result, Ok, Err, IfOk, IfErr, OnOk}
+use Rattle.std.specs.Borrow.{Bor}
+use Rattle.velo_delivery.specs.Disk.{Disk}
+use Rattle.velo_delivery.specs.Reading.{IsReadOf, Reading}
+use Rattle.velo_program.specs.declared.fate.Fate.{Fate}
+use Rattle.velo_program.specs.declared.fate.Fate.TheVariants as fate
+use Rattle.velo_program.specs.Failures.{FailuresAsTold, failures_told}
+use Rattle.velo_program.specs.Format.{Format, LacksAt, LacksGiven, Reads, ReadsNone, SaysNone, bytes_up_to}
+
+-- ---- a file that is read whole
+
+pub file_read : (disk : Disk) (path : List ℕ) (most : ℕ) (read : Reading) → disk.gives path read → (result : Result (List ℕ) Fate) → IfOk result (IsReadOf most read.bytes)
+    → OnOk result (read.failures_after ≡ read.failures_before) → IfOk result (Reads (bytes_up_to most) disk path)
+file_read disk path most read given (Ok bytes) is kept = record { read = read; given = given; said = is; no_failure = kept }
+file_read disk path most read given (Err f) is kept = tt
+
+pub file_broken : {X : Type 0} (disk : Disk) (path : List ℕ) (most : ℕ) (read : Reading) → disk.gives path read → (result : Result X Fate) → IfErr result (SaysNone (bytes_up_to most) read.bytes)
+    → IfErr result (FailuresAsTold read) → IfErr result (LacksAt (bytes_up_to most) disk path)
+file_broken disk path most read given (Ok bytes) failed failures = tt
+file_broken disk path most read given (Err f) failed failures = inr (record { read = read; given = given; unsaid = failed; failures = failures })
+
+-- ---- what its bytes mean
+
+module _ {X : Type 0} (format : Format X) (disk : Disk) (path : List ℕ) (most : ℕ) where
+  pub meant : (bytes : List ℕ) (x : X) → Reads (bytes_up_to most) disk path bytes → ((read : Option (List ℕ)) → IsReadOf most read bytes → format.says read x) → Reads format disk path x
+  meant bytes x read says = record { read = read.read; given = read.given; said = says read.read.bytes read.said; no_failure = read.no_failure }
+
+  pub unmeant : (bytes : List ℕ) (f : Fate) → Reads (bytes_up_to most) disk path bytes → ((n : ℕ) → failures_told f n ≡ n) → ((read : Option (List ℕ)) → IsReadOf most read bytes → SaysNone format read f)
+      → LacksAt format disk path f
+  unmeant bytes f read kept none =
+      inr (record { read = read.read; given = read.given; unsaid = none read.read.bytes read.said; failures = read.no_failure ∙ sym (kept read.read.failures_before) })
+
+  broken : (read : Option (List ℕ)) (f : Fate) → SaysNone (bytes_up_to most) read f → SaysNone format read f
+  broken read fate.ReadFailed h = h
+  broken read fate.Memory h = h
+  broken read f h = absurd h
+
+  -- bytes that are not read mean nothing
+  pub unread : (f : Fate) → LacksAt (bytes_up_to most) disk path f → LacksAt format disk path f
+  unread f (inl h) = inl h
+  unread f (inr h) = inr (record { read = h.read; given = h.given; unsaid = broken h.read.bytes f h.unsaid; failures = h.failures })
+
+pub unread_given : {X : Type 0} (format : Format X) (disk : Disk) (most : ℕ) (path : Option (Bor (List ℕ))) (f : Fate) → LacksGiven (bytes_up_to most) disk path f → LacksGiven format disk path f
+unread_given format disk most None f h = h
+unread_given format disk most (Some path) f h = unread format disk path.now most f h
