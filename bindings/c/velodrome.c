@@ -6,11 +6,11 @@
 const char *velodrome_version(void) { return VELODROME_VERSION; }
 
 /* The words of each status, and at the end those of any other number, as the proved call gives them. They are written when the
- * library is loaded, before any thread may read them. */
+ * library is loaded, before any thread and any constructor of the program (101: the first of theirs) may read them. */
 enum { STATUSES = VELODROME_ALARMED + 1, WORDS_ROOM = 31 };
 static char words[STATUSES + 1][WORDS_ROOM + 1];
 
-__attribute__((constructor)) static void write_words(void) {
+__attribute__((constructor(101))) static void write_words(void) {
     for (uint32_t status = 0; status <= STATUSES; status++) {
         size_t count;
         velo_words(status, words[status], WORDS_ROOM, &count);
