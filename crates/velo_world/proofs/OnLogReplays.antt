@@ -1,6 +1,6 @@
 -- A recorded log that comes about again, or does not.
 use Rattle.std.proofs.Common.{◌≡◌, ℕ, ◌+◌, ◌<◌, ◌≤◌, Bool, true, false, List, [], ◌∷◌, ◌++◌, length, take, Option, Some, None, Result, Ok, Err, refl, sym, ap, ◌∙◌, subst, arith, inl, inr}
-use Rattle.std.specs.Prelude.{slice_get, ◌⊎◌, IsTrue, IsFalse, is_some, is_err, OnOk, OnErr}
+use Rattle.std.specs.Prelude.{slice_get, IsTrue, IsFalse, is_some, is_err, OnOk, OnErr}
 use Rattle.std.proofs.lemmas.Bool.{eqb-true, lt-leb, false≢true}
 use Rattle.std.proofs.lemmas.Option.{slice_get_within}
 use Rattle.velo_events.specs.declared.config.Bounds.{Bounds}
@@ -10,7 +10,6 @@ use Rattle.velo_events.specs.declared.event.Kind.{Kind}
 use Rattle.velo_events.specs.declared.event.Kind.TheVariants.{Read, Write, Acquire, Release, AcquireShared, ReleaseShared, Begin, End, Fork, Join, Exit}
 use Rattle.velo_events.specs.declared.event.ThreadId.{ThreadId}
 use Rattle.velo_events.specs.declared.refusal.Refusal.{Refusal}
-use Rattle.velo_events.specs.declared.refusal.Refusal.TheVariants.{LogFull, GraphFull}
 use Rattle.velo_events.specs.WellFormed.{MayFollow, NamesKnown, IsWellFormed}
 use Rattle.velo_events.specs.Meaning.{kind_for, event_for, action_of, refusal_of, has_its_value}
 use Rattle.velo_events.proofs.OnMeaning.{HasItsValue-kind_for, MayFollow-refusal_of}
@@ -136,12 +135,15 @@ limit_in_log config log p e refusal here short well (inl (full, limit)) =
     inr (inl (full, record { within = slice_get_within log p e here; well_formed = well; full = omega (arith, count, short, limit) }))
 limit_in_log config log p e refusal here short well (inr (full, room, graph)) =
     let count : length (take p log) ≡ p = length-before log p e here in
-    inr (inr (full, record {
-      within = slice_get_within log p e here;
-      well_formed = well;
-      room = omega (arith, count, room);
-      no_node = record { event = e; here = here; finds_none = graph };
-    }))
+    inr (inr (
+      full,
+      record {
+        within = slice_get_within log p e here;
+        well_formed = well;
+        room = omega (arith, count, room);
+        no_node = record { event = e; here = here; finds_none = graph };
+      },
+    ))
 
 pub fault_in_log : (config : Config) (log : List Event) (i : ℕ) (e : Event) (fault : LogReplayFault) → slice_get log i ≡ Some e
     → IsWellFormed config.bounds (take i log) → length (take i log) ≤ config.events → IsFaultAtEvent config (take i log) e fault → IsFaultOfLog config log fault
