@@ -14,7 +14,7 @@ use Rattle.velo_events.specs.Event.{thread_of}
 use Rattle.velo_events.specs.Heap.{value_in}
 use Rattle.velo_events.specs.Meaning.{refusal_of}
 use Rattle.velo_events.specs.Tally.{events_of}
-use Rattle.velo_events.proofs.OnMeaning.{MayFollow-refusal_of}
+use Rattle.velo_events.proofs.OnMeaning.{HasItsValue, MayFollow-refusal_of}
 use Rattle.velo_events.proofs.OnScans.{take-next}
 use Rattle.velo_explore.specs.Plain.{plain_kind, plain, plain_log}
 use Rattle.velo_explore.specs.Runs.{script_of, IsRunOf, IsNext}

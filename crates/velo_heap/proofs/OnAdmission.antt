@@ -24,7 +24,7 @@ use Rattle.velo_events.specs.Block.{any_below}
 use Rattle.velo_events.specs.Meaning.{refusal_of, holds, holds_a_lock, is_busy, kind_for, event_for, action_of, is_another, is_live, is_unborn, is_joined}
 use Rattle.velo_events.proofs.OnWellFormed.{Facts, Facts-from, any_below-never, count_below-zero, count_below-none, count_below, is_held_by}
 use Rattle.velo_events.proofs.OnBlocks.{any_below-none}
-use Rattle.velo_events.proofs.OnMeaning.{MayFollow-refusal_of, HasItsValue-kind_for}
+use Rattle.velo_events.proofs.OnMeaning.{HasItsValue, MayFollow-refusal_of, HasItsValue-kind_for}
 use Rattle.velo_heap.specs.Contents.{Contents, bounds_of, Tabulates, lock_in, locks_in, thread_state_in, IsHeapOf, unless_refused, admission, IsAdmitted}
 use Rattle.velo_heap.proofs.OnLocks.{is_holder-in, is_sharer-in, is_held_by-in, is_taken-in, is_shared-in}
 use Rattle.velo_heap.specs.Steps.{refusal_in, read_at, write_at, acquire_in, acquire_shared_in, release_in, release_shared_in, acquire_at, acquire_shared_at, release_at, release_shared_at, fork_by, fork_at, join_by, join_at, live_kind, kind_in}
