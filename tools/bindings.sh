@@ -230,7 +230,8 @@ if wants cpp; then
         step "cpp: ThreadSanitizer is silent ($compiler)" in_time env -C "$out" TSAN_OPTIONS=die_after_fork=0 "$out/cpp_tsan" -timed_mutexes
     done
     if [ -x "$out/cpp_test" ] && have valgrind; then
-        valgrinds "cpp: tests" env -C "$out" "$out/cpp_test" -noise_finds_what_is_rare -more_objects_than_numbers -many_labels -thousands_of_sessions
+        # a child of fork(2) has lost what the threads of its parent had on their stacks
+        valgrinds "cpp: tests" env -C "$out" "$out/cpp_test" -noise_finds_what_is_rare -more_objects_than_numbers -many_labels -thousands_of_sessions -children_of_fork -a_fork_within_an_access
     fi
 fi
 

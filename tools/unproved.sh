@@ -36,5 +36,6 @@ module=$(ls -S "$work"/kept/*.bc 2>/dev/null | head -n 1)
 clang() { "$kit/toolchain/bin/clang" --target=x86_64-unknown-linux-gnu -march=x86-64-v2 -fPIE -Wno-everything -x ir "$@"; }
 clang -S -emit-llvm -Xclang -disable-llvm-passes "$module" -o "$work/program.ll"
 sed -i '/call void @llvm\.trap()/d' "$work/program.ll"
-clang -O2 -c "$work/program.ll" -o "$work/program.o"
+python3 "$top/tools/inline_attributes.py" "$work/program.ll" "$work/inlined.ll"
+clang -O2 -c "$work/inlined.ll" -o "$work/program.o"
 gcc -pie -o "$out" "$work/program.o" "$kit"/c/libos_c.a "$kit"/c/liblibc_c.a -lm -pthread

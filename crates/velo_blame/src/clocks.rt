@@ -76,8 +76,10 @@ impl Clocks {
     /// `Memory` where a growth was refused.
     pub fn reserve_for(&mut self, event: &Event) -> Result<(), Memory>
         ensures bounds { self.new.bounds ≡ self.old.bounds }
-        ensures same { (first : ℕ) (trace : List Event) → AreClocksSince first self.old.state trace → AreClocksSince first self.new.state trace }
-        ensures ok { OnOk result (IsOfThreads self.old.bounds.threads event.now → HasRoomToNote self.new.bounds.threads self.new.state event.now) }
+        ensures same { (first : ℕ) (trace : List Event) → AreClocksSince first self.old.state trace
+            → AreClocksSince first self.new.state trace }
+        ensures ok { OnOk result (IsOfThreads self.old.bounds.threads event.now
+            → HasRoomToNote self.new.bounds.threads self.new.state event.now) }
         ensures err { OnErr result (¬ HasRoomToNote self.old.bounds.threads self.old.state event.now) }
     {
         self.tables.reserve_for(event)
@@ -86,7 +88,8 @@ impl Clocks {
     /// Whether there is room for what the event notes, where its threads are the run's.
     #[inline(always)]
     pub fn has_room_for(&self, event: &Resolved<'_>) -> bool
-        ensures { IsTrue result → IsOfThreads self.now.bounds.threads event.now → HasRoomToNote self.now.bounds.threads self.now.state event.now }
+        ensures { IsTrue result → IsOfThreads self.now.bounds.threads event.now
+            → HasRoomToNote self.now.bounds.threads self.now.state event.now }
     {
         self.tables.has_room_for(event)
     }
@@ -118,8 +121,8 @@ impl Clocks {
 
     /// Those of the open blocks of the event's thread that are to blame where the event, at this position, closes the first
     /// cycle: they are not self-serializable in the events up to it. They come outermost first, as the open blocks do. The
-    /// clocks need to stand for no event before the outermost of them. It takes no memory, and answers what `Scan::blamed`
-    /// answers.
+    /// clocks need to stand for no event before the outermost of them. It takes no memory, and returns what `Scan::blamed`
+    /// returns.
     pub fn blamed(
         &self,
         blocks: &[Block],

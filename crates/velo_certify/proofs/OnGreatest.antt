@@ -4,7 +4,7 @@ use Rattle.std.specs.Prelude.{◌⊎◌, ◌&&◌, ◌||◌, ◌==◌, nat_lt, n
 use Rattle.std.specs.Cmp.{nat_eq_equiv}
 use Rattle.std.proofs.lemmas.Bool.{cases_lt, cases_eq, lt-ltb, le-leb, le-ltb, lt-leb, cond-true}
 use Rattle.velo_events.specs.declared.event.Event.{Event}
-use Rattle.velo_events.specs.Event.{are_same, thread_of, access_of, cell_of, handled_by, is_exclusive}
+use Rattle.velo_events.specs.Event.{are_same, thread_of, access_of, cell_of, thread_forked_or_joined, is_exclusive}
 use Rattle.velo_events.specs.Block.{passes_at}
 use Rattle.velo_events.specs.Graph.{conflict_at, both_conflict}
 use Rattle.velo_events.specs.Conflict.{conflict}
@@ -82,10 +82,10 @@ or-swap false b c = or-comm b c
 
 pub conflict-comm : (a b : Event) → conflict a b ≡ conflict b a
 conflict-comm a b =
-    ap (λ s. s || (are_same (cell_of (access_of a.kind)) (cell_of (access_of b.kind)) && (is_exclusive (access_of a.kind) || is_exclusive (access_of b.kind))) || are_same (handled_by a.kind) (Some (thread_of b)) || are_same (handled_by b.kind) (Some (thread_of a))) (nat_eq_equiv.symm (thread_of a) (thread_of b))
-    ∙ (ap (λ s. (thread_of b == thread_of a) || (s && (is_exclusive (access_of a.kind) || is_exclusive (access_of b.kind))) || are_same (handled_by a.kind) (Some (thread_of b)) || are_same (handled_by b.kind) (Some (thread_of a))) (are_same-comm (cell_of (access_of a.kind)) (cell_of (access_of b.kind)))
-    ∙ (ap (λ s. (thread_of b == thread_of a) || (are_same (cell_of (access_of b.kind)) (cell_of (access_of a.kind)) && s) || are_same (handled_by a.kind) (Some (thread_of b)) || are_same (handled_by b.kind) (Some (thread_of a))) (or-comm (is_exclusive (access_of a.kind)) (is_exclusive (access_of b.kind)))
-    ∙ or-swap ((thread_of b == thread_of a) || (are_same (cell_of (access_of b.kind)) (cell_of (access_of a.kind)) && (is_exclusive (access_of b.kind) || is_exclusive (access_of a.kind)))) (are_same (handled_by a.kind) (Some (thread_of b))) (are_same (handled_by b.kind) (Some (thread_of a)))))
+    ap (λ s. s || (are_same (cell_of (access_of a.kind)) (cell_of (access_of b.kind)) && (is_exclusive (access_of a.kind) || is_exclusive (access_of b.kind))) || are_same (thread_forked_or_joined a.kind) (Some (thread_of b)) || are_same (thread_forked_or_joined b.kind) (Some (thread_of a))) (nat_eq_equiv.symm (thread_of a) (thread_of b))
+    ∙ (ap (λ s. (thread_of b == thread_of a) || (s && (is_exclusive (access_of a.kind) || is_exclusive (access_of b.kind))) || are_same (thread_forked_or_joined a.kind) (Some (thread_of b)) || are_same (thread_forked_or_joined b.kind) (Some (thread_of a))) (are_same-comm (cell_of (access_of a.kind)) (cell_of (access_of b.kind)))
+    ∙ (ap (λ s. (thread_of b == thread_of a) || (are_same (cell_of (access_of b.kind)) (cell_of (access_of a.kind)) && s) || are_same (thread_forked_or_joined a.kind) (Some (thread_of b)) || are_same (thread_forked_or_joined b.kind) (Some (thread_of a))) (or-comm (is_exclusive (access_of a.kind)) (is_exclusive (access_of b.kind)))
+    ∙ or-swap ((thread_of b == thread_of a) || (are_same (cell_of (access_of b.kind)) (cell_of (access_of a.kind)) && (is_exclusive (access_of b.kind) || is_exclusive (access_of a.kind)))) (are_same (thread_forked_or_joined a.kind) (Some (thread_of b))) (are_same (thread_forked_or_joined b.kind) (Some (thread_of a)))))
 
 both_conflict-comm : (a b : Option Event) → both_conflict a b ≡ both_conflict b a
 both_conflict-comm None None = refl

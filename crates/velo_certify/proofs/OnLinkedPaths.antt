@@ -8,7 +8,7 @@ use Rattle.velo_events.specs.declared.event.Access.{Access}
 use Rattle.velo_events.specs.declared.event.Access.TheVariants.{Shared, Exclusive, Nothing}
 use Rattle.velo_events.specs.About.{is_about, thread_in, written_in, cell_written}
 use Rattle.velo_events.specs.Conflict.{conflict}
-use Rattle.velo_events.specs.Event.{thread_of, are_same, access_of, cell_of, is_exclusive, handled_of}
+use Rattle.velo_events.specs.Event.{thread_of, are_same, access_of, cell_of, is_exclusive, forked_or_joined_of}
 use Rattle.velo_events.specs.Block.{owner, passes_at}
 use Rattle.velo_events.specs.Graph.{conflict_at, Edge, Path, Reaches}
 use Rattle.velo_events.proofs.OnGraphs.{Reaches-trans}
@@ -136,7 +136,7 @@ written_changes : (x : ℕ) (a : Access) → IsTrue (are_same (cell_written a) (
 written_changes x (Exclusive c) h = ap (λ (n : ℕ). is_about written_in n) (eqb-true c.0 x h)
 written_changes x _ h = absurd (false≢true h)
 
-handled_uses : (u : ℕ) (a : Access) → IsTrue (are_same (handled_of a) (Some u)) → (strong_for a ≡ is_about thread_in u) × IsTrue (is_weak a)
+handled_uses : (u : ℕ) (a : Access) → IsTrue (are_same (forked_or_joined_of a) (Some u)) → (strong_for a ≡ is_about thread_in u) × IsTrue (is_weak a)
 handled_uses u (Access.Fork n) h = (ap (λ (i : ℕ). is_about thread_in i) (eqb-true n.0 u h), refl)
 handled_uses u (Access.Join n) h = (ap (λ (i : ℕ). is_about thread_in i) (eqb-true n.0 u h), refl)
 handled_uses u _ h = absurd (false≢true h)

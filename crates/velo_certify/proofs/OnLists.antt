@@ -7,9 +7,9 @@ use Rattle.std.proofs.lemmas.Option.{same_Some, none-some, slice_get-get_or}
 use Rattle.velo_events.specs.declared.event.Event.{Event}
 use Rattle.velo_events.specs.declared.event.Access.{Access}
 use Rattle.velo_events.specs.declared.event.Access.TheVariants.{Shared, Exclusive, Nothing}
-use Rattle.velo_events.specs.About.{is_about, thread_in, handled_in, written_in, read_in, cell_written, cell_read}
+use Rattle.velo_events.specs.About.{is_about, thread_in, forked_or_joined_in, written_in, read_in, cell_written, cell_read}
 use Rattle.velo_events.specs.Block.{passes_at}
-use Rattle.velo_events.specs.Event.{are_same, thread_of, access_of, handled_of}
+use Rattle.velo_events.specs.Event.{are_same, thread_of, access_of, forked_or_joined_of}
 use Rattle.velo_events.proofs.OnScans.{passes_at-is}
 use Rattle.velo_events.proofs.OnOwners.{passes_at-within}
 use Rattle.velo_traces.proofs.Past.{past}
@@ -160,7 +160,7 @@ alike_with old Nothing n = old.next_same.items
 -- the lists with a position of this thread and kind put before their fronts
 pub record ArePut (old : Lists) (t : ℕ) (k : Access) (n : ℕ) (new : Lists) : Type 0 where
   pub threads : new.threads.items ≡ set old.threads.items t n
-  pub handles : new.handles.items ≡ with_front old.handles.items (handled_of k) n
+  pub handles : new.handles.items ≡ with_front old.handles.items (forked_or_joined_of k) n
   pub writes : new.writes.items ≡ with_front old.writes.items (cell_written k) n
   pub reads : new.reads.items ≡ with_front old.reads.items (cell_read k) n
   pub following : new.following.items ≡ set old.following.items n (slice_index old.threads.items t)
@@ -180,7 +180,7 @@ module _ (trace : List Event) (n : ℕ) (old : Lists) (within : n < length trace
   there : (m : ℕ) → slice_index (set old.next_same.items n m) n ≡ m
   there m = get_or-set_same old.next_same.items n m 0 alike_long
 
-  handle-next : (k : Access) (x : ℕ) → handled_of k ≡ Some x → slice_index (alike_with old k n) n ≡ slice_index old.handles.items x
+  handle-next : (k : Access) (x : ℕ) → forked_or_joined_of k ≡ Some x → slice_index (alike_with old k n) n ≡ slice_index old.handles.items x
   handle-next (Access.Fork u) x h = there (slice_index old.handles.items u.0) ∙ ap (slice_index old.handles.items) (same_Some u.0 x h)
   handle-next (Access.Join u) x h = there (slice_index old.handles.items u.0) ∙ ap (slice_index old.handles.items) (same_Some u.0 x h)
   handle-next _ x h = absurd (none-some x h)
@@ -199,11 +199,11 @@ module _ (trace : List Event) (n : ℕ) (old : Lists) (within : n < length trace
   next_same-rising : (k : Access) → NamesPlaces (list_sizes old) k → IsRising trace (alike_with old k n)
   next_same-rising (Shared x) h = IsRising-set trace old.next_same.items n (slice_index old.reads.items x.0) within (after_n read_in old.reads.items old.next_same.items x.0 w.reads h.1) w.next_same
   next_same-rising (Exclusive x) h = IsRising-set trace old.next_same.items n (slice_index old.writes.items x.0) within (after_n written_in old.writes.items old.next_same.items x.0 w.writes h.0) w.next_same
-  next_same-rising (Access.Fork u) h = IsRising-set trace old.next_same.items n (slice_index old.handles.items u.0) within (after_n handled_in old.handles.items old.next_same.items u.0 w.handles h.1) w.next_same
-  next_same-rising (Access.Join u) h = IsRising-set trace old.next_same.items n (slice_index old.handles.items u.0) within (after_n handled_in old.handles.items old.next_same.items u.0 w.handles h.1) w.next_same
+  next_same-rising (Access.Fork u) h = IsRising-set trace old.next_same.items n (slice_index old.handles.items u.0) within (after_n forked_or_joined_in old.handles.items old.next_same.items u.0 w.handles h.1) w.next_same
+  next_same-rising (Access.Join u) h = IsRising-set trace old.next_same.items n (slice_index old.handles.items u.0) within (after_n forked_or_joined_in old.handles.items old.next_same.items u.0 w.handles h.1) w.next_same
   next_same-rising _ h = w.next_same
 
-placed-handle : (old : Lists) (k : Access) → NamesPlaces (list_sizes old) k → IsPlaced old.handles.items (handled_of k)
+placed-handle : (old : Lists) (k : Access) → NamesPlaces (list_sizes old) k → IsPlaced old.handles.items (forked_or_joined_of k)
 placed-handle old (Access.Fork u) h = h.1
 placed-handle old (Access.Join u) h = h.1
 placed-handle old _ h = tt
@@ -221,7 +221,7 @@ AreListed-put trace n e old new here within names w k kind is = record {
   threads = subst (λ xs. IsListed trace thread_in n xs new.following.items) (sym is.threads) (subst (IsListed trace thread_in n (set old.threads.items (thread_of e) n)) (sym is.following)
       (IsListed-after trace n e here within thread_in old.threads.items old.following.items (set old.following.items n (slice_index old.threads.items (thread_of e))) w.threads (AreSameBut-set old.following.items n (slice_index old.threads.items (thread_of e))) (Some (thread_of e)) refl names.thread
       (λ x h. get_or-set_same old.following.items n (slice_index old.threads.items (thread_of e)) 0 (let c = w.following.count in omega (arith, within, c)) ∙ ap (slice_index old.threads.items) (same_Some (thread_of e) x h))));
-  handles = alike_row handled_in (handled_of k) (ap handled_of kind) old.handles.items new.handles.items w.handles is.handles (placed-handle old k places) (handle-next trace n old within w k);
+  handles = alike_row forked_or_joined_in (forked_or_joined_of k) (ap forked_or_joined_of kind) old.handles.items new.handles.items w.handles is.handles (placed-handle old k places) (handle-next trace n old within w k);
   writes = alike_row written_in (cell_written k) (ap cell_written kind) old.writes.items new.writes.items w.writes is.writes (placed-write old k places) (write-next trace n old within w k);
   reads = alike_row read_in (cell_read k) (ap cell_read kind) old.reads.items new.reads.items w.reads is.reads (placed-read old k places) (read-next trace n old within w k);
   following = subst (IsRising trace) (sym is.following) (IsRising-set trace old.following.items n (slice_index old.threads.items (thread_of e)) within (after_n trace n old within w thread_in old.threads.items old.following.items (thread_of e) w.threads names.thread) w.following);
@@ -238,7 +238,7 @@ AreListed-put trace n e old new here within names w k kind is = record {
 pub AreListed-start : (trace : List Event) (threads things : ℕ) (lists : Lists) → lists.threads.items ≡ replicate threads (length trace) → lists.handles.items ≡ replicate threads (length trace) → lists.writes.items ≡ replicate things (length trace) → lists.reads.items ≡ replicate things (length trace) → lists.following.items ≡ replicate (length trace) (length trace) → lists.next_same.items ≡ replicate (length trace) (length trace) → AreListed trace (length trace) lists
 AreListed-start trace threads things lists a b c d f g = record {
   threads = IsListed-start trace thread_in threads lists.threads.items lists.following.items a;
-  handles = IsListed-start trace handled_in threads lists.handles.items lists.next_same.items b;
+  handles = IsListed-start trace forked_or_joined_in threads lists.handles.items lists.next_same.items b;
   writes = IsListed-start trace written_in things lists.writes.items lists.next_same.items c;
   reads = IsListed-start trace read_in things lists.reads.items lists.next_same.items d;
   following = IsRising-start trace lists.following.items f;

@@ -15,7 +15,7 @@ use Rattle.velo_events.specs.declared.config.Bounds.{Bounds}
 use Rattle.velo_events.specs.declared.event.Event.{Event}
 use Rattle.velo_events.specs.declared.event.Kind.{Kind}
 use Rattle.velo_events.specs.declared.event.Kind.TheVariants.{Read, Write, Acquire, Release, AcquireShared, ReleaseShared, Begin, End, Fork, Join, Exit}
-use Rattle.velo_events.specs.Event.{are_same, thread_of, variable_of, forked_by, joined_by, handled_by, value_of, is_write, is_acquire, is_release, is_begin, is_end, is_by, is_begin_by, is_end_by, is_exit_by, is_write_of, is_on_lock, is_fork_of, is_join_of, access_of, cell_of, is_exclusive, locked_by, shared_by, is_on_share, is_acquire_shared, is_release_shared}
+use Rattle.velo_events.specs.Event.{are_same, thread_of, variable_of, thread_forked, thread_joined, thread_forked_or_joined, value_of, is_write, is_acquire, is_release, is_begin, is_end, is_by, is_begin_by, is_end_by, is_exit_by, is_write_of, is_on_lock, is_fork_of, is_join_of, access_of, cell_of, is_exclusive, exclusive_lock_of, shared_lock_of, is_on_share, is_acquire_shared, is_release_shared}
 use Rattle.velo_events.specs.Conflict.{conflict}
 use Rattle.velo_events.specs.Graph.{conflict_at}
 use Rattle.velo_events.specs.Heap.{latest, happened, times}
@@ -322,13 +322,13 @@ clash-thread f g t h k = or_left _ _ (or_left _ _ (or_left _ _ (eq-eqb (thread_o
 clash-cell : (f g : Event) (c : ℕ) → IsTrue (are_same (cell_of (access_of f.kind)) (Some c)) → IsTrue (are_same (cell_of (access_of g.kind)) (Some c)) → IsTrue (is_exclusive (access_of f.kind) || is_exclusive (access_of g.kind)) → IsTrue (conflict f g)
 clash-cell f g c h k w = or_left _ _ (or_left _ _ (or_right (thread_of f == thread_of g) _ (and_from _ _ (are_same-join (cell_of (access_of f.kind)) (cell_of (access_of g.kind)) c h k) w)))
 
-clash-handled : (f g : Event) → IsTrue (are_same (handled_by f.kind) (Some (thread_of g))) → IsTrue (conflict f g)
+clash-handled : (f g : Event) → IsTrue (are_same (thread_forked_or_joined f.kind) (Some (thread_of g))) → IsTrue (conflict f g)
 clash-handled f g h = or_left _ _ (or_right ((thread_of f == thread_of g) || (are_same (cell_of (access_of f.kind)) (cell_of (access_of g.kind)) && (is_exclusive (access_of f.kind) || is_exclusive (access_of g.kind)))) _ h)
 
-clash-handles : (f g : Event) → IsTrue (are_same (handled_by g.kind) (Some (thread_of f))) → IsTrue (conflict f g)
-clash-handles f g h = or_right ((thread_of f == thread_of g) || (are_same (cell_of (access_of f.kind)) (cell_of (access_of g.kind)) && (is_exclusive (access_of f.kind) || is_exclusive (access_of g.kind))) || are_same (handled_by f.kind) (Some (thread_of g))) _ h
+clash-handles : (f g : Event) → IsTrue (are_same (thread_forked_or_joined g.kind) (Some (thread_of f))) → IsTrue (conflict f g)
+clash-handles f g h = or_right ((thread_of f == thread_of g) || (are_same (cell_of (access_of f.kind)) (cell_of (access_of g.kind)) && (is_exclusive (access_of f.kind) || is_exclusive (access_of g.kind))) || are_same (thread_forked_or_joined f.kind) (Some (thread_of g))) _ h
 
-forked-handled : (k : Kind) (u : ℕ) → IsTrue (are_same (forked_by k) (Some u)) → IsTrue (are_same (handled_by k) (Some u))
+forked-handled : (k : Kind) (u : ℕ) → IsTrue (are_same (thread_forked k) (Some u)) → IsTrue (are_same (thread_forked_or_joined k) (Some u))
 forked-handled (Fork v) u h = h
 forked-handled _ u h = absurd (false≢true h)
 
@@ -337,12 +337,12 @@ write-cell : (x : ℕ) (k : Kind) → IsTrue (is_write k && are_same (variable_o
 write-cell x (Write y v) h = (let same = eqb-true y.0 x h in eq-eqb _ _ (ap (λ n. n + n) same), refl)
 write-cell x _ h = absurd (false≢true h)
 
-lock-cell : (m : ℕ) (k : Kind) → IsTrue (are_same (locked_by k) (Some m)) → IsTrue (are_same (cell_of (access_of k)) (Some (m + m + 1))) × IsTrue (is_exclusive (access_of k))
+lock-cell : (m : ℕ) (k : Kind) → IsTrue (are_same (exclusive_lock_of k) (Some m)) → IsTrue (are_same (cell_of (access_of k)) (Some (m + m + 1))) × IsTrue (is_exclusive (access_of k))
 lock-cell m (Acquire n) h = (let same = eqb-true n.0 m h in eq-eqb _ _ (ap (λ i. i + i + 1) same), refl)
 lock-cell m (Release n) h = (let same = eqb-true n.0 m h in eq-eqb _ _ (ap (λ i. i + i + 1) same), refl)
 lock-cell m _ h = absurd (false≢true h)
 
-share-cell : (m : ℕ) (k : Kind) → IsTrue (are_same (shared_by k) (Some m)) → IsTrue (are_same (cell_of (access_of k)) (Some (m + m + 1)))
+share-cell : (m : ℕ) (k : Kind) → IsTrue (are_same (shared_lock_of k) (Some m)) → IsTrue (are_same (cell_of (access_of k)) (Some (m + m + 1)))
 share-cell m (AcquireShared n) h = let same = eqb-true n.0 m h in eq-eqb _ _ (ap (λ i. i + i + 1) same)
 share-cell m (ReleaseShared n) h = let same = eqb-true n.0 m h in eq-eqb _ _ (ap (λ i. i + i + 1) same)
 share-cell m _ h = absurd (false≢true h)
@@ -357,11 +357,11 @@ own-pair : (t : ℕ) (part : Event → Bool) (f g : Event) → IsTrue (is_by t f
 own-pair t part f g h k = clash-thread f g t (and_parts _ _ h).0 (and_parts _ _ k).0
 
 -- a fork or join of a thread may come once
-fork-once : (earlier : List Event) (t u : ℕ) (k : Kind) → IsTrue (are_same (forked_by k) (Some u)) → IsInTurn earlier t k → IsFalse (happened (is_fork_of u) earlier)
+fork-once : (earlier : List Event) (t u : ℕ) (k : Kind) → IsTrue (are_same (thread_forked k) (Some u)) → IsInTurn earlier t k → IsFalse (happened (is_fork_of u) earlier)
 fork-once earlier t u (Fork v) h w = subst (λ x. IsFalse (happened (is_fork_of x) earlier)) (eqb-true v.0 u h) w.1
 fork-once earlier t u _ h w = absurd (false≢true h)
 
-join-once : (earlier : List Event) (t u : ℕ) (k : Kind) → IsTrue (are_same (joined_by k) (Some u)) → IsInTurn earlier t k → IsFalse (happened (is_join_of u) earlier)
+join-once : (earlier : List Event) (t u : ℕ) (k : Kind) → IsTrue (are_same (thread_joined k) (Some u)) → IsInTurn earlier t k → IsFalse (happened (is_join_of u) earlier)
 join-once earlier t u (Join v) h w = subst (λ x. IsFalse (happened (is_join_of x) earlier)) (eqb-true v.0 u h) w.1
 join-once earlier t u _ h w = absurd (false≢true h)
 
@@ -395,7 +395,7 @@ module _ (bounds : Bounds) (trace : List Event) (well : IsWellFormed bounds trac
     share_same : (m u : ℕ) → IsTrue (are_same (cell_of (access_of here.kind)) (Some (m + m + 1))) → IsTrue (is_exclusive (access_of here.kind)) → TellTheSame (is_on_share m u) new_past old_past
     share_same m u h x = same_before trace order r k within (is_on_share m u)
         (λ f w. clash-cell f here (m + m + 1) (share-cell m f.kind (and_parts (is_by u f) _ w).1) h (or_right (is_exclusive (access_of f.kind)) _ x))
-        (own-pair u (λ f. are_same (shared_by f.kind) (Some m)))
+        (own-pair u (λ f. are_same (shared_lock_of f.kind) (Some m)))
 
     abbrev held : Option Event → Option ℕ
     held = option_and_then (λ e. if is_acquire e.kind then Some (thread_of e) else None)
@@ -415,8 +415,8 @@ module _ (bounds : Bounds) (trace : List Event) (well : IsWellFormed bounds trac
         let cell = of_lock m.0 (Acquire m) is (eq-eqb _ _ refl) in
         (ap held (lock_same m.0 cell).last ∙ w.0, λ u. ap shared (share_same m.0 u cell (subst (λ a. IsTrue (is_exclusive (access_of a))) (sym is) refl)).last ∙ w.1 u)
     turn (Release m) is w = ap held (lock_same m.0 (of_lock m.0 (Release m) is (eq-eqb _ _ refl))).last ∙ w
-    turn (AcquireShared m) is w = (ap held (lock_same m.0 (of_lock m.0 (AcquireShared m) is (eq-eqb _ _ refl))).last ∙ w.0, ap shared (own_same (λ f. are_same (shared_by f.kind) (Some m.0))).last ∙ w.1)
-    turn (ReleaseShared m) is w = ap shared (own_same (λ f. are_same (shared_by f.kind) (Some m.0))).last ∙ w
+    turn (AcquireShared m) is w = (ap held (lock_same m.0 (of_lock m.0 (AcquireShared m) is (eq-eqb _ _ refl))).last ∙ w.0, ap shared (own_same (λ f. are_same (shared_lock_of f.kind) (Some m.0))).last ∙ w.1)
+    turn (ReleaseShared m) is w = ap shared (own_same (λ f. are_same (shared_lock_of f.kind) (Some m.0))).last ∙ w
     turn (Write x v) is w = tt
     turn (Begin l) is w =
         let begins : times (is_begin_by (thread_of here)) new_past ≡ times (is_begin_by (thread_of here)) old_past = (own_same (λ e. is_begin e.kind)).count in
@@ -428,13 +428,13 @@ module _ (bounds : Bounds) (trace : List Event) (well : IsWellFormed bounds trac
         rw (begins, ends) w
     turn (Fork u) is w = (
       w.0,
-      never_twice trace order r k within (is_fork_of u.0) (ap (λ a. are_same (forked_by a) (Some u.0)) is ∙ eq-eqb u.0 u.0 refl)
+      never_twice trace order r k within (is_fork_of u.0) (ap (λ a. are_same (thread_forked a) (Some u.0)) is ∙ eq-eqb u.0 u.0 refl)
           (λ y l h. fork-once (map (E trace) (range_with_len 0 y)) (thread_of (E trace y)) u.0 (E trace y).kind h (may_follow y l).in_turn),
     )
     turn (Join u) is w = (
       happened-before trace order r k within (is_exit_by u.0)
-          (λ f h. clash-handles f here (ap (λ a. are_same (handled_by a) (Some (thread_of f))) is ∙ eq-eqb u.0 (thread_of f) (sym (eqb-true (thread_of f) u.0 (and_parts _ _ h).0)))) w.0,
-      never_twice trace order r k within (is_join_of u.0) (ap (λ a. are_same (joined_by a) (Some u.0)) is ∙ eq-eqb u.0 u.0 refl)
+          (λ f h. clash-handles f here (ap (λ a. are_same (thread_forked_or_joined a) (Some (thread_of f))) is ∙ eq-eqb u.0 (thread_of f) (sym (eqb-true (thread_of f) u.0 (and_parts _ _ h).0)))) w.0,
+      never_twice trace order r k within (is_join_of u.0) (ap (λ a. are_same (thread_joined a) (Some u.0)) is ∙ eq-eqb u.0 u.0 refl)
           (λ y l h. join-once (map (E trace) (range_with_len 0 y)) (thread_of (E trace y)) u.0 (E trace y).kind h (may_follow y l).in_turn),
     )
     turn Exit is w =
@@ -510,7 +510,7 @@ module _ (trace : List Event) (order : List ℕ) (r : IsReordering trace order) 
   LeavesSameHeap-reordered = record {
     values = λ x. ap (λ o. option_map_or (λ e. value_of e.kind) o 0) (told_whole (is_write_of x) (writes-pair x)).last;
     holders = λ m. ap (option_and_then (λ e. if is_acquire e.kind then Some (thread_of e) else None)) (told_whole (is_on_lock m) (locks-pair m)).last;
-    sharers = λ m t. ap (λ o. option_map_or (λ e. is_acquire_shared e.kind) o false) (told_whole (is_on_share m t) (own-pair t (λ f. are_same (shared_by f.kind) (Some m)))).last;
+    sharers = λ m t. ap (λ o. option_map_or (λ e. is_acquire_shared e.kind) o false) (told_whole (is_on_share m t) (own-pair t (λ f. are_same (shared_lock_of f.kind) (Some m)))).last;
     statuses = λ t. rw (happened_whole (is_join_of t), happened_whole (is_exit_by t), happened_whole (is_fork_of t)) refl;
     depths = λ t.
         let begins : times (is_begin_by t) (events_in_order trace order) ≡ times (is_begin_by t) trace = (told_whole (is_begin_by t) (own-pair t (λ e. is_begin e.kind))).count in

@@ -5,7 +5,7 @@ use Rattle.std.proofs.lemmas.Bool.{cases_lt}
 use Rattle.std.proofs.lemmas.List.{get_or_past}
 use Rattle.std.proofs.lemmas.Option.{same_Some}
 use Rattle.velo_events.specs.declared.event.Event.{Event}
-use Rattle.velo_events.specs.About.{is_about, thread_in, handled_in, written_in, read_in}
+use Rattle.velo_events.specs.About.{is_about, thread_in, forked_or_joined_in, written_in, read_in}
 use Rattle.velo_events.specs.Block.{owner}
 use Rattle.velo_events.specs.Conflict.{conflict}
 use Rattle.velo_events.specs.Graph.{conflict_at, Edge}
@@ -38,7 +38,7 @@ IsVisited-start trace named distance fronts following w = record {
 pub AreVisited-start : (trace : List Event) (lists : Lists) (reached : Reached) → AreListed trace 0 lists → AllHavePlaces (list_sizes lists) trace (length trace) → length reached.distance.items ≡ length trace → AreVisited trace lists reached
 AreVisited-start trace lists reached w names count = record {
   threads = IsVisited-start trace thread_in reached.distance.items lists.threads.items lists.following.items w.threads;
-  handles = IsVisited-start trace handled_in reached.distance.items lists.handles.items lists.next_same.items w.handles;
+  handles = IsVisited-start trace forked_or_joined_in reached.distance.items lists.handles.items lists.next_same.items w.handles;
   writes = IsVisited-start trace written_in reached.distance.items lists.writes.items lists.next_same.items w.writes;
   reads = IsVisited-start trace read_in reached.distance.items lists.reads.items lists.next_same.items w.reads;
   following = w.following;

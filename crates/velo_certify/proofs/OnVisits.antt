@@ -7,7 +7,7 @@ use Rattle.std.proofs.lemmas.Option.{same_Some}
 use Rattle.velo_events.specs.declared.event.Event.{Event}
 use Rattle.velo_events.specs.declared.event.Cell.{Cell}
 use Rattle.velo_events.specs.declared.event.ThreadId.{ThreadId}
-use Rattle.velo_events.specs.About.{is_about, thread_in, handled_in, written_in, read_in}
+use Rattle.velo_events.specs.About.{is_about, thread_in, forked_or_joined_in, written_in, read_in}
 use Rattle.velo_events.specs.Conflict.{conflict}
 use Rattle.velo_events.specs.declared.event.Access.{Access}
 use Rattle.velo_events.specs.declared.event.Access.TheVariants.{Shared, Exclusive, Nothing}
@@ -114,7 +114,7 @@ module _ (trace : List Event) (owners : List ℕ) (at_hand x : ℕ) (lists : Lis
   pub IsSearching-threads : VisitsList trace at_hand x lists.following.items lists.threads.items row.items old new → IsSearching trace owners (record { threads = row; handles = lists.handles; writes = lists.writes; reads = lists.reads; following = lists.following; next_same = lists.next_same }) new at_hand
   IsSearching-threads p = IsSearching-by trace owners level at_hand lists (record { threads = row; handles = lists.handles; writes = lists.writes; reads = lists.reads; following = lists.following; next_same = lists.next_same }) old new w p.grows (record {
     threads = p.visited thread_in w.visited.threads;
-    handles = grows-row handled_in lists.handles.items lists.next_same.items p.grows w.visited.handles;
+    handles = grows-row forked_or_joined_in lists.handles.items lists.next_same.items p.grows w.visited.handles;
     writes = grows-row written_in lists.writes.items lists.next_same.items p.grows w.visited.writes;
     reads = grows-row read_in lists.reads.items lists.next_same.items p.grows w.visited.reads;
     following = w.visited.following;
@@ -126,7 +126,7 @@ module _ (trace : List Event) (owners : List ℕ) (at_hand x : ℕ) (lists : Lis
   pub IsSearching-handles : VisitsList trace at_hand x lists.next_same.items lists.handles.items row.items old new → IsSearching trace owners (record { threads = lists.threads; handles = row; writes = lists.writes; reads = lists.reads; following = lists.following; next_same = lists.next_same }) new at_hand
   IsSearching-handles p = IsSearching-by trace owners level at_hand lists (record { threads = lists.threads; handles = row; writes = lists.writes; reads = lists.reads; following = lists.following; next_same = lists.next_same }) old new w p.grows (record {
     threads = grows-row thread_in lists.threads.items lists.following.items p.grows w.visited.threads;
-    handles = p.visited handled_in w.visited.handles;
+    handles = p.visited forked_or_joined_in w.visited.handles;
     writes = grows-row written_in lists.writes.items lists.next_same.items p.grows w.visited.writes;
     reads = grows-row read_in lists.reads.items lists.next_same.items p.grows w.visited.reads;
     following = w.visited.following;
@@ -138,7 +138,7 @@ module _ (trace : List Event) (owners : List ℕ) (at_hand x : ℕ) (lists : Lis
   pub IsSearching-writes : VisitsList trace at_hand x lists.next_same.items lists.writes.items row.items old new → IsSearching trace owners (record { threads = lists.threads; handles = lists.handles; writes = row; reads = lists.reads; following = lists.following; next_same = lists.next_same }) new at_hand
   IsSearching-writes p = IsSearching-by trace owners level at_hand lists (record { threads = lists.threads; handles = lists.handles; writes = row; reads = lists.reads; following = lists.following; next_same = lists.next_same }) old new w p.grows (record {
     threads = grows-row thread_in lists.threads.items lists.following.items p.grows w.visited.threads;
-    handles = grows-row handled_in lists.handles.items lists.next_same.items p.grows w.visited.handles;
+    handles = grows-row forked_or_joined_in lists.handles.items lists.next_same.items p.grows w.visited.handles;
     writes = p.visited written_in w.visited.writes;
     reads = grows-row read_in lists.reads.items lists.next_same.items p.grows w.visited.reads;
     following = w.visited.following;
@@ -150,7 +150,7 @@ module _ (trace : List Event) (owners : List ℕ) (at_hand x : ℕ) (lists : Lis
   pub IsSearching-reads : VisitsList trace at_hand x lists.next_same.items lists.reads.items row.items old new → IsSearching trace owners (record { threads = lists.threads; handles = lists.handles; writes = lists.writes; reads = row; following = lists.following; next_same = lists.next_same }) new at_hand
   IsSearching-reads p = IsSearching-by trace owners level at_hand lists (record { threads = lists.threads; handles = lists.handles; writes = lists.writes; reads = row; following = lists.following; next_same = lists.next_same }) old new w p.grows (record {
     threads = grows-row thread_in lists.threads.items lists.following.items p.grows w.visited.threads;
-    handles = grows-row handled_in lists.handles.items lists.next_same.items p.grows w.visited.handles;
+    handles = grows-row forked_or_joined_in lists.handles.items lists.next_same.items p.grows w.visited.handles;
     writes = grows-row written_in lists.writes.items lists.next_same.items p.grows w.visited.writes;
     reads = p.visited read_in w.visited.reads;
     following = w.visited.following;
@@ -205,8 +205,8 @@ module _ (trace : List Event) (n : ℕ) (old mid near new : Reached) (within : n
   e = event_at trace n
 
   -- its thread, and what forks or joins it
-  pub Visits-near : Visits trace n (is_about thread_in (thread_of e)) old mid → Visits trace n (is_about handled_in (thread_of e)) mid near → Visits trace n (is_near e) old near
-  Visits-near v w = Visits-or trace n (is_about thread_in (thread_of e)) (is_about handled_in (thread_of e)) old mid near positive v w
+  pub Visits-near : Visits trace n (is_about thread_in (thread_of e)) old mid → Visits trace n (is_about forked_or_joined_in (thread_of e)) mid near → Visits trace n (is_near e) old near
+  Visits-near v w = Visits-or trace n (is_about thread_in (thread_of e)) (is_about forked_or_joined_in (thread_of e)) old mid near positive v w
 
   pub VisitsConflicts-by : Visits trace n (λ f. conflict f e) old new → VisitsConflicts trace n old new
   VisitsConflicts-by w = record { each = λ f there. subst (λ g. Visits trace n (λ h. conflict h g) old new) (same_Some e f (sym (event_here trace n within) ∙ there)) w }

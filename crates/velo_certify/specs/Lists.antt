@@ -1,7 +1,7 @@
 -- Positions in rising lists, by what their events are about. Private contracts cite these words.
 use Rattle.std.specs.Prelude.{◌≡◌, ℕ, ◌+◌, ◌<◌, ◌≤◌, Bool, List, length, Option, slice_index, IsTrue}
 use Rattle.velo_events.specs.declared.event.Event.{Event}
-use Rattle.velo_events.specs.About.{is_about, thread_in, handled_in, written_in, read_in}
+use Rattle.velo_events.specs.About.{is_about, thread_in, forked_or_joined_in, written_in, read_in}
 use Rattle.velo_events.specs.Block.{passes_at}
 use Rattle.velo_certify.specs.declared.lists.Lists.{Lists}
 use Rattle.velo_conflicts.specs.Places.{Sizes}
@@ -39,7 +39,7 @@ list_sizes lists = record {
 -- the positions from n on are in the lists
 pub record AreListed (trace : List Event) (n : ℕ) (lists : Lists) : Type 0 where
   pub threads : IsListed trace thread_in n lists.threads.items lists.following.items
-  pub handles : IsListed trace handled_in n lists.handles.items lists.next_same.items
+  pub handles : IsListed trace forked_or_joined_in n lists.handles.items lists.next_same.items
   pub writes : IsListed trace written_in n lists.writes.items lists.next_same.items
   pub reads : IsListed trace read_in n lists.reads.items lists.next_same.items
   pub following : IsRising trace lists.following.items

@@ -1,7 +1,7 @@
 -- A search backwards along the edges of the graph, which visits rising lists of positions. Private contracts cite these words.
 use Rattle.std.specs.Prelude.{◌≡◌, ℕ, ◌+◌, ◌<◌, ◌≤◌, Bool, List, length, Option, Some, slice_get, slice_index, IsTrue}
 use Rattle.velo_events.specs.declared.event.Event.{Event}
-use Rattle.velo_events.specs.About.{is_about, thread_in, handled_in, written_in, read_in}
+use Rattle.velo_events.specs.About.{is_about, thread_in, forked_or_joined_in, written_in, read_in}
 use Rattle.velo_events.specs.Conflict.{conflict}
 use Rattle.velo_events.specs.Block.{owner, passes_at}
 use Rattle.velo_events.specs.Graph.{conflict_at, Edge}
@@ -56,7 +56,7 @@ pub record IsVisited (trace : List Event) (named : Event → Option ℕ) (distan
 
 pub record AreVisited (trace : List Event) (lists : Lists) (reached : Reached) : Type 0 where
   pub threads : IsVisited trace thread_in reached.distance.items lists.threads.items lists.following.items
-  pub handles : IsVisited trace handled_in reached.distance.items lists.handles.items lists.next_same.items
+  pub handles : IsVisited trace forked_or_joined_in reached.distance.items lists.handles.items lists.next_same.items
   pub writes : IsVisited trace written_in reached.distance.items lists.writes.items lists.next_same.items
   pub reads : IsVisited trace read_in reached.distance.items lists.reads.items lists.next_same.items
   pub following : IsRising trace lists.following.items

@@ -3,7 +3,7 @@ ghost use Rattle.std.specs.Prelude.{◌≡◌, ◌≤◌, ◌<◌, ◌+◌, leng
 ghost use Rattle.velo_certify.specs.Lists.{AreListed, IsRising, list_sizes};
 ghost use Rattle.velo_certify.specs.Owners.{AreOwners};
 ghost use Rattle.velo_certify.specs.Search.{AreVisited, IsSearching, Visits, VisitsConflicts, VisitsList, level_at};
-ghost use Rattle.velo_events.specs.About.{is_about, thread_in, handled_in, written_in, read_in};
+ghost use Rattle.velo_events.specs.About.{is_about, thread_in, forked_or_joined_in, written_in, read_in};
 ghost use Rattle.velo_conflicts.specs.Places.{AllHavePlaces};
 
 use crate::reached::Reached;
@@ -166,7 +166,7 @@ impl Lists {
         requires thing { thread < length self.old.handles.items }
         ensures search { IsSearching events.now owners.now self.new reached.new at }
         ensures sizes { list_sizes self.new ≡ list_sizes self.old }
-        ensures visits { Visits events.now at (is_about handled_in thread) reached.old reached.new }
+        ensures visits { Visits events.now at (is_about forked_or_joined_in thread) reached.old reached.new }
     {
         visit_list(
             events,

@@ -11,9 +11,17 @@ use Rattle.velo_events.specs.declared.event.Access.TheVariants.{Shared, Exclusiv
 use Rattle.velo_events.specs.Event.{are_same, thread_of, access_of, cell_of, forked_of, is_exclusive, is_shared}
 use Rattle.velo_events.proofs.OnLists.{get_or-set}
 use Rattle.velo_clocks.specs.Clocks.{Clock, ClockState, ClockPlace, OfLast, OfWrite, OfReads, IsNoted, blank_clock, clock_at, known_at, by_others_at, clock_of, beside, greatest_of, stays, is_noted, is_cleared}
-use Rattle.velo_clocks.specs.Noted.{maxima, cleared_at, alone_at, joint_at, clock_beside, joined_clock, state_after_beside, state_after, with_thread, HasRoomAt, AreWithin, IsSized, HasRoomToNoteBeside, HasRoomToNote}
+use Rattle.velo_clocks.specs.Noted.{maxima, cleared_at, alone_at, joint_at, clock_beside, joined_clock, state_after_beside, state_after, with_thread, HasRoomAt, AreWithin, HasRoomToNoteBeside, HasRoomToNote}
 use Rattle.velo_clocks.proofs.OnRaised.{get_or-raised, length-raised}
 use Rattle.velo_clocks.proofs.OnCleared.{get_or-nothing}
+
+-- each of the n threads has a number for each, and no place more
+pub record IsSized (n : ℕ) (s : ClockState) : Type 0 where
+  pub count : length s.threads ≡ n
+  pub each : (t : ℕ) → t < n → HasRoomAt n s.threads t
+  pub threads : AreWithin n s.threads
+  pub writes : AreWithin n s.writes
+  pub reads : AreWithin n s.reads
 
 -- ---- the clock of the event
 

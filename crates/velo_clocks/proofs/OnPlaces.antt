@@ -17,7 +17,7 @@ use Rattle.velo_clocks.specs.declared.clock_places.PlaceClocks.{PlaceClocks}
 use Rattle.velo_events.specs.Growth.{filled_up}
 use Rattle.velo_events.proofs.OnFilling.{get_or-blanks, get_or-filled_up, length-filled_up}
 use Rattle.velo_clocks.specs.Clocks.{Clock, ClockState, ClockPlace, OfLast, OfWrite, OfReads, KnowsTheSame, KnowsNothing, IsNoted, blank_clock, clock_at, known_at, by_others_at, beside, greatest_of}
-use Rattle.velo_clocks.specs.Noted.{maxima, alone_at, clock_beside, joined_clock, state_after_beside, state_after, with_spare, with_thread, HasRoomToNote, HasRoomToNoteBeside, HasRoomAt, AreWithin, KeepNumbers, IsSized}
+use Rattle.velo_clocks.specs.Noted.{maxima, alone_at, clock_beside, joined_clock, state_after_beside, state_after, with_spare, with_thread, HasRoomToNote, HasRoomToNoteBeside, HasRoomAt, AreWithin, KeepNumbers}
 use Rattle.velo_clocks.specs.Order.{IsLed, IsAhead}
 use Rattle.velo_clocks.specs.Epochs.{blank_epoch, clock_in, alone_in, alones_in, IsInUse, AreRows, RefersTo}
 use Rattle.velo_clocks.specs.Reads.{read_clock, reads_of, reads_in, epoch_in, blank_reads, clock_of_reads}
@@ -25,7 +25,7 @@ use Rattle.velo_clocks.specs.Places.{state_of, is_ready, ArePlaces, KeepsPlaces}
 use Rattle.velo_clocks.proofs.OnRaised.{raised-nil, raised-same}
 use Rattle.velo_events.proofs.OnResults.{from_either, OnOk-weaker}
 use Rattle.velo_clocks.proofs.OnReadClocks.{clock-long, reads-within}
-use Rattle.velo_clocks.proofs.OnNoted.{length-joined_clock, joined_clock-at, IsNoted-noted}
+use Rattle.velo_clocks.proofs.OnNoted.{IsSized, length-joined_clock, joined_clock-at, IsNoted-noted}
 
 -- ---- epochs by number
 

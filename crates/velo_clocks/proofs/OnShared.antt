@@ -7,7 +7,7 @@ use Rattle.std.proofs.lemmas.List.{get_or_default, get_or-set_same, get_or-set_o
 use Rattle.velo_events.specs.declared.event.Event.{Event}
 use Rattle.velo_events.specs.declared.event.Access.{Access}
 use Rattle.velo_events.specs.declared.event.Access.TheVariants.{Shared, Exclusive, Nothing}
-use Rattle.velo_events.specs.Event.{thread_of, access_of, forked_by, forked_of}
+use Rattle.velo_events.specs.Event.{thread_of, access_of, thread_forked, forked_of}
 use Rattle.velo_clocks.specs.declared.epochs.Epoch.{Epoch}
 use Rattle.velo_clocks.specs.declared.shared_rows.SharedRows.{SharedRows}
 use Rattle.velo_clocks.specs.declared.clock_places.PlaceClocks.{PlaceClocks}
@@ -144,7 +144,7 @@ module _ (n : ℕ) (p : PlaceClocks) (are : ArePlaces n p) (position : ℕ) (e :
         ∙ ap (λ xs. set xs t (position + 1)) (sym (learns-nothing ∙ own-known))))
 
     -- the event is noted once the places beside know it, and its thread
-    pub event-shared : (b : Bool) (mid : ClockState) → mid ≡ with_spare b (state_after_beside s own.by.0 (access_of e.kind) (clock_in p.rows.rows shared_epoch)) → forked_by e.kind ≡ None
+    pub event-shared : (b : Bool) (mid : ClockState) → mid ≡ with_spare b (state_after_beside s own.by.0 (access_of e.kind) (clock_in p.rows.rows shared_epoch)) → thread_forked e.kind ≡ None
         → with_thread mid t (alone_in p.rows.rows shared_epoch) ≡ with_spare b (state_after s (joined_clock s position e) e)
     unfolding state_after
     event-shared b mid is_mid none =

@@ -5,8 +5,9 @@ use Rattle.velo_events.specs.declared.event.Access.TheVariants.{Shared, Exclusiv
 use Rattle.std.proofs.lemmas.Bool.{cases_eq, cases_lt}
 use Rattle.std.proofs.lemmas.List.{get_or-set_other}
 use Rattle.velo_clocks.specs.Clocks.{ClockState, ClockPlace, OfLast, OfWrite, OfReads, clock_at, known_at}
-use Rattle.velo_clocks.specs.Noted.{maxima, alone_at, clock_beside, IsSized}
+use Rattle.velo_clocks.specs.Noted.{maxima, alone_at, clock_beside}
 use Rattle.velo_clocks.specs.Order.{KnowsTops, KnowsBeside, TopsTell, IsClosed}
+use Rattle.velo_clocks.proofs.OnNoted.{IsSized}
 use Rattle.velo_clocks.proofs.OnRaised.{raised-same}
 use Rattle.velo_clocks.proofs.OnOrder.{IsGathered, follows-gathered}
 

@@ -1,4 +1,5 @@
--- What the clocks have after an event was noted, list by list. Private contracts cite these words, and public ones those of room; else public ones say it place by place.
+-- What the clocks have after an event was noted, list by list. For private contracts, except the `HasRoom..` words, which
+-- public ones use too.
 use Rattle.std.specs.Prelude.{◌≡◌, ℕ, Bool, ◌+◌, ◌<◌, ◌≤◌, max, List, [], ◌∷◌, length, replicate, slice_index_or, slice_set, IsTrue, ⊤}
 use Rattle.velo_events.specs.declared.event.Event.{Event}
 use Rattle.velo_events.specs.declared.event.Access.{Access}
@@ -50,14 +51,6 @@ pub record KeepNumbers (old new : List Clock) : Type 0 where
   pub by_others : (i u : ℕ) → slice_index_or (slice_index_or new i blank_clock).by_others u 0 ≡ slice_index_or (slice_index_or old i blank_clock).by_others u 0
 
 -- ---- all places
-
--- each of the n threads has a number for each, and no place more
-pub record IsSized (n : ℕ) (s : ClockState) : Type 0 where
-  pub count : length s.threads ≡ n
-  pub each : (t : ℕ) → t < n → HasRoomAt n s.threads t
-  pub threads : AreWithin n s.threads
-  pub writes : AreWithin n s.writes
-  pub reads : AreWithin n s.reads
 
 -- a thread that the operation forks is one of the n
 abbrev pub ForksOneOf : ℕ → Access → Type 0

@@ -1,5 +1,5 @@
 -- Places at which reads stand: of nobody, of one thread or of several. Private contracts cite these words.
-use Rattle.std.specs.Prelude.{◌≡◌, ℕ, Bool, ◌<◌, ◌≤◌, nat_lt, List, [], length, map, slice_index_or}
+use Rattle.std.specs.Prelude.{◌≡◌, ◌≢◌, ℕ, Bool, ◌<◌, ◌≤◌, nat_lt, List, [], length, map, slice_index_or}
 use Rattle.velo_clocks.specs.declared.epochs.Epoch.{Epoch}
 use Rattle.velo_clocks.specs.declared.shared_rows.SharedRows.{SharedRows}
 use Rattle.velo_clocks.specs.declared.read_clocks.ReadBy.{ReadBy}
@@ -47,17 +47,20 @@ epoch_in Several = blank_epoch
 abbrev pub ReadsReferTo : SharedRows → List ReadPlace → Type 0
 ReadsReferTo rows rs = (i : ℕ) → IsInUse rows (epoch_in (slice_index_or rs i blank_reads).by).row
 
+-- the lists of the place, or 0 for none
+abbrev pub lists_of : ReadClocks → ℕ → ℕ
+lists_of reads i = (slice_index_or reads.places.items i blank_reads).lists
+
 -- Lists have n numbers, the spare ones are there and nobody's, no two places have the same, and the rows of the reads are in use.
 pub record AreReads (n : ℕ) (rows : SharedRows) (reads : ReadClocks) : Type 0 where
   pub lists : length reads.own ≤ length reads.by_others
   pub own_long : (l : ℕ) → l < length reads.own → length (slice_index_or reads.own l []) ≡ n
   pub by_others_long : (l : ℕ) → l < length reads.by_others → length (slice_index_or reads.by_others l []) ≡ n
   pub spare : 0 < reads.spare → reads.spare < length reads.own
-  pub given : (i : ℕ) → 0 < (slice_index_or reads.places.items i blank_reads).lists → (slice_index_or reads.places.items i blank_reads).lists < length reads.own
-  pub free : (i : ℕ) → 0 < (slice_index_or reads.places.items i blank_reads).lists → ¬ ((slice_index_or reads.places.items i blank_reads).lists ≡ reads.spare)
-  pub several : (i : ℕ) → (slice_index_or reads.places.items i blank_reads).by ≡ Several → 0 < (slice_index_or reads.places.items i blank_reads).lists
-  pub apart : (i j : ℕ) → ¬ (i ≡ j) → 0 < (slice_index_or reads.places.items i blank_reads).lists
-      → ¬ ((slice_index_or reads.places.items i blank_reads).lists ≡ (slice_index_or reads.places.items j blank_reads).lists)
+  pub given : (i : ℕ) → 0 < lists_of reads i → lists_of reads i < length reads.own
+  pub free : (i : ℕ) → 0 < lists_of reads i → lists_of reads i ≢ reads.spare
+  pub several : (i : ℕ) → (slice_index_or reads.places.items i blank_reads).by ≡ Several → 0 < lists_of reads i
+  pub apart : (i j : ℕ) → i ≢ j → 0 < lists_of reads i → lists_of reads i ≢ lists_of reads j
   pub refers : ReadsReferTo rows reads.places.items
 
 -- the event knows all that reads of its thread know which stand alone at a place

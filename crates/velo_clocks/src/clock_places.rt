@@ -1,5 +1,5 @@
 ghost use Rattle.std.specs.Prelude.{◌≡◌, ◌<◌, ◌≤◌, ◌+◌, ◌-◌, ◌^◌, ℕ, min, true, false, [], length, slice_index_or, slice_set, None, IsTrue, IsFalse, IfOk, OnOk, OnErr};
-ghost use Rattle.velo_events.specs.Event.{thread_of, access_of, forked_by};
+ghost use Rattle.velo_events.specs.Event.{thread_of, access_of, thread_forked};
 ghost use Rattle.velo_clocks.specs.Clocks.{ClockPlace, blank_clock, clock_at, known_at, OfLast, blame_bound, KnowsNothing, KnowsTheSame};
 ghost use Rattle.velo_clocks.specs.Noted.{clock_beside, joined_clock, state_after_beside, state_after, with_spare, HasRoomToNoteBeside, HasRoomToNote, IsOfThreads};
 ghost use Rattle.velo_clocks.specs.Order.{KnowsOwn, KeepsOrder, KnowsBeside, IsAhead};
@@ -54,7 +54,8 @@ impl PlaceClocks {
     /// Whether there is room for what the event notes already.
     #[inline(always)]
     pub fn has_room_for(&self, event: &Resolved<'_>) -> bool
-        ensures { (threads : ℕ) → ArePlaces threads self.now → IsTrue result → IsOfThreads threads event.now → HasRoomToNote threads (state_of self.now) event.now }
+        ensures { (threads : ℕ) → ArePlaces threads self.now → IsTrue result
+            → IsOfThreads threads event.now → HasRoomToNote threads (state_of self.now) event.now }
     {
         self.rows.has_spare() && self.reads.has_lists() && self.has_room_beside(event)
     }
@@ -62,7 +63,9 @@ impl PlaceClocks {
     /// Whether there is at the places beside the last of the event's thread.
     #[inline(always)]
     fn has_room_beside(&self, event: &Resolved<'_>) -> bool
-        ensures { (threads : ℕ) → ArePlaces threads self.now → IsTrue result → IsOfThreads threads event.now → HasRoomToNoteBeside threads (state_of self.now) (access_of event.now.kind) }
+        ensures { (threads : ℕ) → ArePlaces threads self.now → IsTrue result
+            → IsOfThreads threads event.now
+            → HasRoomToNoteBeside threads (state_of self.now) (access_of event.now.kind) }
     {
         match event.access() {
             Access::Shared(c) => (c.0 as usize) < self.reads.count(),
@@ -97,7 +100,8 @@ impl PlaceClocks {
         ensures few { HasFewRows self.old → HasFewRows self.new }
         ensures rows { self.new.rows ≡ self.old.rows }
         ensures lists { has_lists self.new.reads ≡ has_lists self.old.reads }
-        ensures ok { OnOk result (IsOfThreads threads event.now → HasRoomToNoteBeside threads (state_of self.new) (access_of event.now.kind)) }
+        ensures ok { OnOk result (IsOfThreads threads event.now
+            → HasRoomToNoteBeside threads (state_of self.new) (access_of event.now.kind)) }
         ensures err { OnErr result (0 < threads → ¬ HasRoomToNoteBeside threads (state_of self.old) (access_of event.now.kind)) }
     {
         match event.access() {
@@ -219,8 +223,10 @@ impl PlaceClocks {
         requires fits { position + 1 < 2 ^ 32 }
         requires ahead { IsAhead (state_of self.old) position }
         ensures places { ArePlaces threads self.new }
-        ensures forks_none { IsTrue result → forked_by event.now.kind ≡ None }
-        ensures noted { IsTrue result → state_of self.new ≡ with_spare (is_ready self.new) (state_after (state_of self.old) (joined_clock (state_of self.old) position event.now) event.now) }
+        ensures forks_none { IsTrue result → thread_forked event.now.kind ≡ None }
+        ensures noted { IsTrue result → state_of self.new
+            ≡ with_spare (is_ready self.new) (state_after (state_of self.old)
+            (joined_clock (state_of self.old) position event.now) event.now) }
         ensures same { IsFalse result → self.new ≡ self.old }
         ensures few { HasFewRows self.old → HasFewRows self.new }
     {
@@ -256,8 +262,10 @@ impl PlaceClocks {
         ensures places { ArePlaces threads self.new }
         ensures rows { self.new.rows ≡ self.old.rows }
         ensures threads { self.new.threads ≡ self.old.threads }
-        ensures known { IsTrue result → KnowsBeside (state_of self.old) (access_of event.now.kind) (clock_in self.old.rows.rows own) }
-        ensures forks_none { IsTrue result → forked_by event.now.kind ≡ None }
+        ensures known { IsTrue result
+            → KnowsBeside (state_of self.old) (access_of event.now.kind)
+            (clock_in self.old.rows.rows own) }
+        ensures forks_none { IsTrue result → thread_forked event.now.kind ≡ None }
         ensures noted { IsTrue result → state_of self.new
             ≡ with_spare (is_ready self.new) (state_after_beside (state_of self.old) own.by.0 (access_of event.now.kind) (clock_in self.old.rows.rows (record { by = own.by; number = number; row = own.row }))) }
         ensures same { IsFalse result → self.new ≡ self.old }
@@ -301,7 +309,9 @@ impl PlaceClocks {
         requires fits { position + 1 < 2 ^ 32 }
         requires ahead { IsTrue in_order → IsAhead (state_of self.old) position }
         ensures places { ArePlaces (length clock.old) self.new }
-        ensures noted { state_of self.new ≡ with_spare (is_ready self.new) (state_after (state_of self.old) (joined_clock (state_of self.old) position event.now) event.now) }
+        ensures noted { state_of self.new
+            ≡ with_spare (is_ready self.new) (state_after (state_of self.old)
+            (joined_clock (state_of self.old) position event.now) event.now) }
         ensures few { HasFewRows self.old → HasFewRows self.new }
     {
         let row = self.row_of(clock, event);
@@ -364,7 +374,10 @@ impl PlaceClocks {
         requires follows { IsTrue in_order → FollowsOwn self.old.rows self.old.reads epoch }
         ensures places { ArePlaces threads self.new }
         ensures rows { self.new.rows ≡ self.old.rows }
-        ensures noted { state_of self.new ≡ with_spare (is_ready self.new) (state_after_beside (state_of self.old) epoch.by.0 (access_of event.now.kind) (clock_in self.old.rows.rows epoch)) }
+        ensures noted { state_of self.new
+            ≡ with_spare (is_ready self.new)
+            (state_after_beside (state_of self.old) epoch.by.0 (access_of event.now.kind)
+            (clock_in self.old.rows.rows epoch)) }
         ensures few { HasFewRows self.old → HasFewRows self.new }
     {
         match event.access() {
@@ -408,7 +421,9 @@ impl PlaceClocks {
 
     /// How far the event at the place with this number knows the thread, if it is of another.
     fn by_others_in(&self, epochs: &[Epoch], number: usize, t: ThreadId) -> usize
-        ensures { (threads : ℕ) → AreRows threads self.now.rows → result ≡ slice_index_or (slice_index_or (alones_in self.now.rows.rows epochs.now) number blank_clock).by_others t.0 0 }
+        ensures { (threads : ℕ) → AreRows threads self.now.rows
+            → result ≡ slice_index_or
+            (slice_index_or (alones_in self.now.rows.rows epochs.now) number blank_clock).by_others t.0 0 }
     {
         self.rows.by_others(Epoch::at(epochs, number), t) as usize
     }

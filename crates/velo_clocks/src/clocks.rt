@@ -57,7 +57,8 @@ impl ClockTables {
     /// Whether there is room for what the event notes already.
     #[inline(always)]
     pub fn has_room_for(&self, event: &Resolved<'_>) -> bool
-        ensures { IsTrue result → IsOfThreads (length self.now.threads) event.now → HasRoomToNote (length self.now.threads) self.now event.now }
+        ensures { IsTrue result → IsOfThreads (length self.now.threads) event.now
+            → HasRoomToNote (length self.now.threads) self.now event.now }
     {
         self.places.has_room_for(event)
     }
@@ -69,7 +70,8 @@ impl ClockTables {
     pub fn reserve_for(&mut self, event: &Event) -> Result<(), Memory>
         ensures unchanged { KnowsTheSame self.old self.new }
         ensures threads { length self.new.threads ≡ length self.old.threads }
-        ensures ok { OnOk result (IsOfThreads (length self.old.threads) event.now → HasRoomToNote (length self.new.threads) self.new event.now) }
+        ensures ok { OnOk result (IsOfThreads (length self.old.threads) event.now
+            → HasRoomToNote (length self.new.threads) self.new event.now) }
         ensures err { OnErr result (¬ HasRoomToNote (length self.old.threads) self.old event.now) }
     {
         let threads = self.clock.len();

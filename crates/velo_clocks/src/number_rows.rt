@@ -116,7 +116,10 @@ impl NumberRows {
     /// Raises the number of one thread in the row to this one.
     pub fn raise_number(&mut self, number: usize, t: ThreadId, to: u32)
         requires { number < length self.old }
-        ensures { self.new ≡ slice_set self.old number (slice_set (slice_index_or self.old number []) t.0 (max (slice_index_or (slice_index_or self.old number []) t.0 0) to)) }
+        ensures { self.new
+            ≡ slice_set self.old number
+            (slice_set (slice_index_or self.old number []) t.0
+            (max (slice_index_or (slice_index_or self.old number []) t.0 0) to)) }
     {
         let start = number * self.width;
         raise_number(&mut self.numbers[start..start + self.width], t, to);
@@ -127,7 +130,10 @@ impl NumberRows {
         requires there { number < length self.old }
         requires within { length list.now ≤ length (slice_index_or self.old number []) }
         requires by { by.0 < length (slice_index_or self.old number []) }
-        ensures { self.new ≡ slice_set self.old number (slice_set (maxima (slice_index_or self.old number []) list.now) by.0 (slice_index_or (slice_index_or self.old number []) by.0 0)) }
+        ensures { self.new
+            ≡ slice_set self.old number
+            (slice_set (maxima (slice_index_or self.old number []) list.now) by.0
+            (slice_index_or (slice_index_or self.old number []) by.0 0)) }
     {
         let start = number * self.width;
         raise_but(&mut self.numbers[start..start + self.width], list, by);

@@ -90,10 +90,14 @@ impl ReadClocks {
         ensures by_others { self.new.by_others ≡ self.old.by_others }
         ensures spare { self.new.spare ≡ self.old.spare }
         ensures count { length self.old.places.items ≤ length self.new.places.items }
-        ensures reads { (threads : ℕ) (rows : SharedRows) → AreRows threads rows → AreReads threads rows self.old → AreReads threads rows self.new }
-        ensures same { (threads : ℕ) (rows : SharedRows) → AreRows threads rows → KeepNumbers (reads_in rows self.old) (reads_in rows self.new) }
-        ensures ok { OnOk result ((threads : ℕ) (rows : SharedRows) → AreRows threads rows → AreReads threads rows self.new → HasRoomAt threads (reads_in rows self.new) number) }
-        ensures refused { OnErr result ((threads : ℕ) (rows : SharedRows) → 0 < threads → ¬ HasRoomAt threads (reads_in rows self.old) number) }
+        ensures reads { (threads : ℕ) (rows : SharedRows) → AreRows threads rows
+            → AreReads threads rows self.old → AreReads threads rows self.new }
+        ensures same { (threads : ℕ) (rows : SharedRows) → AreRows threads rows
+            → KeepNumbers (reads_in rows self.old) (reads_in rows self.new) }
+        ensures ok { OnOk result ((threads : ℕ) (rows : SharedRows) → AreRows threads rows
+            → AreReads threads rows self.new → HasRoomAt threads (reads_in rows self.new) number) }
+        ensures refused { OnErr result ((threads : ℕ) (rows : SharedRows) → 0 < threads
+            → ¬ HasRoomAt threads (reads_in rows self.old) number) }
     {
         fill_up_to(
             &mut self.places,
@@ -294,7 +298,8 @@ impl ReadClocks {
         ensures own { self.new.own ≡ self.old.own }
         ensures by_others { self.new.by_others ≡ self.old.by_others }
         ensures count { length self.new.places.items ≡ length self.old.places.items }
-        ensures by { (slice_index_or self.new.places.items number blank_reads).by ≡ (slice_index_or self.old.places.items number blank_reads).by }
+        ensures by { (slice_index_or self.new.places.items number blank_reads).by
+            ≡ (slice_index_or self.old.places.items number blank_reads).by }
         ensures result { (slice_index_or self.new.places.items number blank_reads).lists ≡ result }
         ensures some { 0 < result }
     {
@@ -337,7 +342,8 @@ impl ReadClocks {
     pub fn clear(&mut self, number: usize)
         ensures count { length self.new.places.items ≡ length self.old.places.items }
         ensures lists { has_lists self.new ≡ has_lists self.old }
-        ensures reads { (threads : ℕ) (rows : SharedRows) → AreRows threads rows → AreReads threads rows self.old → AreReads threads rows self.new }
+        ensures reads { (threads : ℕ) (rows : SharedRows) → AreRows threads rows
+            → AreReads threads rows self.old → AreReads threads rows self.new }
         ensures cleared { (threads : ℕ) (rows : SharedRows) → AreRows threads rows → AreReads threads rows self.old
             → reads_in rows self.new ≡ slice_set (reads_in rows self.old) number (cleared_at (slice_index_or (reads_in rows self.old) number blank_clock)) }
     {
@@ -349,7 +355,9 @@ impl ReadClocks {
     /// The rows of all reads are in use.
     pub fn keep_rows(&self, rows: &mut SharedRows)
         requires first { IsInUse rows.old 0 }
-        requires inside { (i : ℕ) → (epoch_in (slice_index_or self.now.places.items i blank_reads).by).row < length rows.old.in_use.items }
+        requires inside { (i : ℕ)
+            → (epoch_in (slice_index_or self.now.places.items i blank_reads).by).row
+            < length rows.old.in_use.items }
         ensures same { rows.new.rows ≡ rows.old.rows }
         ensures count { length rows.new.in_use.items ≡ length rows.old.in_use.items }
         ensures more { UsesMore rows.old rows.new }

@@ -142,7 +142,8 @@ impl SharedRows {
     pub fn seek(&mut self)
         ensures rows { self.new.rows ≡ self.old.rows }
         ensures in_use { self.new.in_use.items ≡ self.old.in_use.items }
-        ensures found { self.old.next ≡ 1 → IsInUse self.old 0 → count_used self.old < length self.old.in_use.items → has_spare self.new ≡ true }
+        ensures found { self.old.next ≡ 1 → IsInUse self.old 0
+            → count_used self.old < length self.old.in_use.items → has_spare self.new ≡ true }
     {
         self.next = free_from(&self.in_use, self.next);
     }
@@ -155,7 +156,8 @@ impl SharedRows {
         requires { AreRows threads self.old }
         ensures rows { AreRows threads self.new }
         ensures kept { KeepsRows self.old self.new }
-        ensures same { (r : ℕ) → r < length self.old.rows → slice_index_or self.new.rows r [] ≡ slice_index_or self.old.rows r [] }
+        ensures same { (r : ℕ) → r < length self.old.rows
+            → slice_index_or self.new.rows r [] ≡ slice_index_or self.old.rows r [] }
         ensures ok { OnOk result (has_spare self.new ≡ true) }
         ensures count { length self.new.in_use.items ≤ length self.old.in_use.items + 1 }
     {

@@ -25,7 +25,7 @@ use velo_bytes::Sink;
 use velo_events::Memory;
 use velo_program::{ExploreProgress, Fate, Files, do_request, end_with};
 
-/// Does what the words ask for, with reports and help on the one sink and all else on the other, and answers the status
+/// Does what the words ask for, with reports and help on the one sink and all else on the other, and returns the status
 /// to end with. How far a search is goes to `progress`.
 pub fn run<R: Threads + Wait + Sync, F: Files, W: AsStr, O: Sink, E: Sink, P: ExploreProgress>(
     rt: &R,
@@ -59,7 +59,7 @@ pub fn run<R: Threads + Wait + Sync, F: Files, W: AsStr, O: Sink, E: Sink, P: Ex
     }
 }
 
-/// Does what the matches ask for, if its options go together, and answers the status to end with. Behind words without a
+/// Does what the matches ask for, if its options go together, and returns the status to end with. Behind words without a
 /// fault they ask for something.
 fn do_asked<R: Threads + Wait + Sync, F: Files, O: Sink, E: Sink, P: ExploreProgress>(
     rt: &R,
@@ -85,7 +85,7 @@ fn do_asked<R: Threads + Wait + Sync, F: Files, O: Sink, E: Sink, P: ExploreProg
     }
 }
 
-/// Tells why the words of the command line could not be had, and answers the status to end with.
+/// Tells why the words of the command line could not be had, and returns the status to end with.
 pub fn end_without_words<E: Sink>(kind: io::ErrorKind, err: &mut E) -> u8
     ensures not_utf8 { kind ≡ InvalidData → Closes bad_usage not_utf8
         (writing E.contents E.failures err.old err.new) result }

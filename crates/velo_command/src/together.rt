@@ -201,7 +201,7 @@ fn line_of_clash(clash: Clash) -> &'static [u8]
     }
 }
 
-/// Tells why the options of a request do not go together, and answers the status to end with.
+/// Tells why the options of a request do not go together, and returns the status to end with.
 pub fn tell_clash<E: Sink>(clash: Clash, err: &mut E) -> u8
     ensures { Closes bad_usage (line_of_clash clash)
         (writing E.contents E.failures err.old err.new) result }

@@ -9,8 +9,8 @@ use Rattle.velo_events.specs.declared.event.Cell.{Cell}
 use Rattle.velo_events.specs.declared.event.ThreadId.{ThreadId}
 use Rattle.velo_events.specs.declared.event.Access.{Access}
 use Rattle.velo_events.specs.declared.event.Access.TheVariants.{Shared, Exclusive, Nothing}
-use Rattle.velo_events.specs.About.{cell_written, cell_read, thread_in, handled_in, written_in, read_in, is_about}
-use Rattle.velo_events.specs.Event.{thread_of, access_of, handled_of}
+use Rattle.velo_events.specs.About.{cell_written, cell_read, thread_in, forked_or_joined_in, written_in, read_in, is_about}
+use Rattle.velo_events.specs.Event.{thread_of, access_of, forked_or_joined_of}
 use Rattle.velo_events.specs.Conflict.{conflict}
 use Rattle.velo_events.proofs.OnScans.{passes_at-event}
 use Rattle.velo_events.proofs.OnConflicts.{is_near, conflict-read, conflict-write, conflict-fork, conflict-join, conflict-plain}
@@ -23,7 +23,7 @@ use Rattle.velo_conflicts.proofs.OnGreatest.{IsGreatest-or, IsGreatest-same, IsR
 pub HasNumbers-none : (trace : List Event) (numbers : ℕ → ℕ) (table : Rows) → ((i : ℕ) → i < length trace → numbers i ≡ 0) → AreBlank table → HasNumbers trace numbers table
 HasNumbers-none trace numbers table none blank = record {
   threads = IsRow-none trace numbers none thread_in table.threads blank.threads;
-  handles = IsRow-none trace numbers none handled_in table.handles blank.handles;
+  handles = IsRow-none trace numbers none forked_or_joined_in table.handles blank.handles;
   writes = IsRow-none trace numbers none written_in table.writes blank.writes;
   reads = IsRow-none trace numbers none read_in table.reads blank.reads;
 }
@@ -39,9 +39,9 @@ module _ (table : Rows) (e : Event) (names : HasPlaces (sizes table) e) (a b nea
   IsGreatest-near : (trace : List Event) (numbers : ℕ → ℕ) → HasNumbers trace numbers table → IsGreatest trace numbers (is_near e) near
   IsGreatest-near trace numbers has =
       subst (IsGreatest trace numbers (is_near e)) (sym both)
-      (IsGreatest-or trace numbers (is_about thread_in (thread_of e)) (is_about handled_in (thread_of e)) a b
+      (IsGreatest-or trace numbers (is_about thread_in (thread_of e)) (is_about forked_or_joined_in (thread_of e)) a b
       (IsRow-at trace numbers thread_in table.threads (thread_of e) a names.thread first has.threads)
-      (IsRow-at trace numbers handled_in table.handles (thread_of e) b names.handle second has.handles))
+      (IsRow-at trace numbers forked_or_joined_in table.handles (thread_of e) b names.handle second has.handles))
 
   -- and with one number more
   look_up-with : (test : Event → Bool) (c result : ℕ) → ((f : Event) → (is_near e f || test f) ≡ conflict f e) → result ≡ max near c → ((trace : List Event) (numbers : ℕ → ℕ) → HasNumbers trace numbers table → IsGreatest trace numbers test c) → IsLookedUp table e result
@@ -125,7 +125,7 @@ IsRow-raised : (trace : List Event) (n : ℕ) (e : Event) → slice_get trace n 
 IsRow-raised trace n e here before after number step named (Some x) about row within w = IsRow-noted trace n e here before after number step named row x about within w
 IsRow-raised trace n e here before after number step named None about row within w = IsRow-passed trace n e here before after number step named row about w
 
-places-handled : (s : Rows) (k : Access) → NamesPlaces (sizes s) k → IsPlaced s.handles (handled_of k)
+places-handled : (s : Rows) (k : Access) → NamesPlaces (sizes s) k → IsPlaced s.handles (forked_or_joined_of k)
 places-handled s (Access.Fork u) h = h.1
 places-handled s (Access.Join u) h = h.1
 places-handled s _ h = tt
@@ -142,7 +142,7 @@ pub IsRecorded-in : (old : Rows) (e : Event) (number : ℕ) → HasPlaces (sizes
 IsRecorded-in old e number places = record {
   each = λ trace n before after here step has. record {
     threads = IsRow-raised trace n e here before after number step thread_in (thread_in e) refl old.threads places.thread has.threads;
-    handles = IsRow-raised trace n e here before after number step handled_in (handled_in e) refl old.handles (places-handled old (access_of e.kind) places.names) has.handles;
+    handles = IsRow-raised trace n e here before after number step forked_or_joined_in (forked_or_joined_in e) refl old.handles (places-handled old (access_of e.kind) places.names) has.handles;
     writes = IsRow-raised trace n e here before after number step written_in (written_in e) refl old.writes (places-written old (access_of e.kind) places.names) has.writes;
     reads = IsRow-raised trace n e here before after number step read_in (read_in e) refl old.reads (places-read old (access_of e.kind) places.names) has.reads;
   };
@@ -155,7 +155,7 @@ length-raised row None number = refl
 pub sizes-recorded_in : (old : Rows) (e : Event) (number : ℕ) → sizes (recorded_in old e number) ≡ sizes old
 sizes-recorded_in old e number =
     let threads = length-raised old.threads (thread_in e) number in
-    let handles = length-raised old.handles (handled_in e) number in
+    let handles = length-raised old.handles (forked_or_joined_in e) number in
     let writes = length-raised old.writes (written_in e) number in
     let reads = length-raised old.reads (read_in e) number in
     cc

@@ -3,7 +3,7 @@ use Rattle.std.specs.Prelude.{◌≡◌, ◌≢◌, ℕ, ◌<◌, ◌≤◌, Boo
 use Rattle.velo_events.specs.declared.event.Event.{Event}
 use Rattle.velo_events.specs.declared.event.Access.{Access}
 use Rattle.velo_events.specs.declared.event.Access.TheVariants.{Shared, Exclusive, Nothing}
-use Rattle.velo_events.specs.About.{thread_in, handled_in, written_in, read_in, is_about}
+use Rattle.velo_events.specs.About.{thread_in, forked_or_joined_in, written_in, read_in, is_about}
 use Rattle.velo_events.specs.Event.{access_of}
 use Rattle.velo_events.specs.Conflict.{conflict}
 use Rattle.velo_events.specs.Block.{passes_at}
@@ -29,7 +29,7 @@ pub record IsRow (trace : List Event) (numbers : ℕ → ℕ) (named : Event →
 -- the table has the numbers of the trace's positions
 pub record HasNumbers (trace : List Event) (numbers : ℕ → ℕ) (table : Rows) : Type 0 where
   pub threads : IsRow trace numbers thread_in table.threads
-  pub handles : IsRow trace numbers handled_in table.handles
+  pub handles : IsRow trace numbers forked_or_joined_in table.handles
   pub writes : IsRow trace numbers written_in table.writes
   pub reads : IsRow trace numbers read_in table.reads
 

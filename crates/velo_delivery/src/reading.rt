@@ -21,7 +21,7 @@ pub enum ReadFault {
     Memory,
 }
 
-/// Reads the next bytes to the end of those that are there, and answers how many.
+/// Reads the next bytes to the end of those that are there, and returns how many.
 fn read_more<I: Source>(source: &mut I, bytes: &mut Vec<u8>) -> Result<usize, ReadFault>
     ensures grows { IfOk result (λ count. vec_len bytes.new ≡ vec_len bytes.old + count) }
     ensures bytes { IfOk result (GrowsByPiece (I.remaining source.old) (I.remaining source.new)

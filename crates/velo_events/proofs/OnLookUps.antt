@@ -13,7 +13,7 @@ use Rattle.velo_events.specs.declared.event.Kind.{Kind}
 use Rattle.velo_events.specs.declared.event.Kind.TheVariants.{Fork, Join}
 use Rattle.velo_events.specs.declared.event.Access.{Access}
 use Rattle.velo_events.specs.declared.event.Access.TheVariants.{Shared, Exclusive}
-use Rattle.velo_events.specs.Event.{are_same, thread_of, access_of, cell_of, forked_by, joined_by, forked_of, joined_of, handled_by, handled_of, is_shared, is_exclusive, is_exit_by, is_fork_of, is_join_of, is_writing}
+use Rattle.velo_events.specs.Event.{are_same, thread_of, access_of, cell_of, thread_forked, thread_joined, forked_of, joined_of, thread_forked_or_joined, forked_or_joined_of, is_shared, is_exclusive, is_exit_by, is_fork_of, is_join_of, is_writing}
 use Rattle.velo_events.specs.Conflict.{conflict}
 use Rattle.velo_events.specs.Heap.{happened, was_born}
 use Rattle.velo_events.specs.WellFormed.{IsWellFormed, MayFollow, IsInTurn}
@@ -46,10 +46,10 @@ module _ (a b : Event) where
   pub conflict-cell : IsTrue (are_same (cell_of (access_of a.kind)) (cell_of (access_of b.kind))) → IsTrue (is_exclusive (access_of a.kind) || is_exclusive (access_of b.kind)) → IsTrue (conflict a b)
   conflict-cell same writes = or_left _ _ (or_left _ _ (or_right (thread_of a == thread_of b) _ (and_from _ _ same writes)))
 
-  conflict-handles : handled_by a.kind ≡ Some (thread_of b) → IsTrue (conflict a b)
+  conflict-handles : thread_forked_or_joined a.kind ≡ Some (thread_of b) → IsTrue (conflict a b)
   conflict-handles h = or_left _ _ (or_right _ _ (are_same-from _ _ (thread_of b) h refl))
 
-  pub conflict-handled : handled_by b.kind ≡ Some (thread_of a) → IsTrue (conflict a b)
+  pub conflict-handled : thread_forked_or_joined b.kind ≡ Some (thread_of a) → IsTrue (conflict a b)
   conflict-handled h = or_right _ _ (are_same-from _ _ (thread_of a) h refl)
 
 -- the two events at positions of a trace
@@ -59,15 +59,15 @@ conflict_at-events trace i j f g at also h = rw (at, also) h
 
 -- ---- accesses
 
-pub fork_handles : (a : Access) (t : ℕ) → IsTrue (are_same (forked_of a) (Some t)) → handled_of a ≡ Some t
+pub fork_handles : (a : Access) (t : ℕ) → IsTrue (are_same (forked_of a) (Some t)) → forked_or_joined_of a ≡ Some t
 fork_handles (Access.Fork u) t h = ap (λ n. Some n) (eqb-true u.0 t h)
 fork_handles _ t h = absurd (false≢true h)
 
-join_handles : (a : Access) (t : ℕ) → IsTrue (are_same (joined_of a) (Some t)) → handled_of a ≡ Some t
+join_handles : (a : Access) (t : ℕ) → IsTrue (are_same (joined_of a) (Some t)) → forked_or_joined_of a ≡ Some t
 join_handles (Access.Join u) t h = ap (λ n. Some n) (eqb-true u.0 t h)
 join_handles _ t h = absurd (false≢true h)
 
-pub forks_or_joins : (a : Access) (t : ℕ) → IsTrue (are_same (handled_of a) (Some t)) → IsTrue (are_same (forked_of a) (Some t)) ⊎ IsTrue (are_same (joined_of a) (Some t))
+pub forks_or_joins : (a : Access) (t : ℕ) → IsTrue (are_same (forked_or_joined_of a) (Some t)) → IsTrue (are_same (forked_of a) (Some t)) ⊎ IsTrue (are_same (joined_of a) (Some t))
 forks_or_joins (Access.Fork u) t h = inl h
 forks_or_joins (Access.Join u) t h = inr h
 forks_or_joins _ t h = absurd (false≢true h)
@@ -79,12 +79,12 @@ reads_or_writes (Exclusive d) c h = inl refl
 reads_or_writes _ c h = absurd (none-some c h)
 
 -- a thread is forked once, and thread 0 never
-fork_turn : (earlier : List Event) (by : ℕ) (k : Kind) (t : ℕ) → IsTrue (are_same (forked_by k) (Some t)) → IsInTurn earlier by k → (t ≢ 0) × IsFalse (happened (is_fork_of t) earlier)
+fork_turn : (earlier : List Event) (by : ℕ) (k : Kind) (t : ℕ) → IsTrue (are_same (thread_forked k) (Some t)) → IsInTurn earlier by k → (t ≢ 0) × IsFalse (happened (is_fork_of t) earlier)
 fork_turn earlier by (Fork u) t h turn = subst (λ n. (n ≢ 0) × IsFalse (happened (is_fork_of n) earlier)) (eqb-true u.0 t h) turn
 fork_turn earlier by _ t h turn = absurd (false≢true h)
 
 -- a thread is joined after its exit
-join_turn : (earlier : List Event) (by : ℕ) (k : Kind) (t : ℕ) → IsTrue (are_same (joined_by k) (Some t)) → IsInTurn earlier by k → IsTrue (happened (is_exit_by t) earlier)
+join_turn : (earlier : List Event) (by : ℕ) (k : Kind) (t : ℕ) → IsTrue (are_same (thread_joined k) (Some t)) → IsInTurn earlier by k → IsTrue (happened (is_exit_by t) earlier)
 join_turn earlier by (Join u) t h turn = subst (λ n. IsTrue (happened (is_exit_by n) earlier)) (eqb-true u.0 t h) turn.0
 join_turn earlier by _ t h turn = absurd (false≢true h)
 

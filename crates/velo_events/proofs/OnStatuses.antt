@@ -8,7 +8,7 @@ use Rattle.velo_events.specs.declared.event.Kind.{Kind}
 use Rattle.velo_events.specs.declared.event.Kind.TheVariants.{Fork, Join}
 use Rattle.velo_events.specs.declared.event.Status.{Status}
 use Rattle.velo_events.specs.declared.event.Status.TheVariants.{Unborn, Live, Exited, Joined}
-use Rattle.velo_events.specs.Event.{thread_of, is_by, is_exit, is_fork_of, is_join_of, is_exit_by, joined_by, forked_by, are_same}
+use Rattle.velo_events.specs.Event.{thread_of, is_by, is_exit, is_fork_of, is_join_of, is_exit_by, thread_joined, thread_forked, are_same}
 use Rattle.velo_events.specs.Heap.{happened, was_born, status_in}
 use Rattle.velo_events.specs.WellFormed.{MayFollow, IsWellFormed, IsInTurn}
 use Rattle.velo_events.specs.Meaning.{is_unborn, is_live, is_joined}
@@ -107,7 +107,7 @@ live-before log e t h no_fork =
 pub actor-born : (bounds : Bounds) (log : List Event) (e : Event) → MayFollow bounds log e → IsFalse (is_unborn (status_in log (thread_of e)))
 actor-born bounds log e f = false_from_ne_true _ (λ h. let parts = unborn_parts _ _ _ h in false≢true (sym parts.2 ∙ f.born))
 
-no_join : (k : Kind) (log : List Event) (s t : ℕ) → IsInTurn log s k → IsFalse (happened (is_exit_by t) log) → IsFalse (are_same (joined_by k) (Some t))
+no_join : (k : Kind) (log : List Event) (s t : ℕ) → IsInTurn log s k → IsFalse (happened (is_exit_by t) log) → IsFalse (are_same (thread_joined k) (Some t))
 no_join (Join u) log s t turn h = ne_eqb u.0 t (λ is. false≢true (sym (subst (λ n. IsFalse (happened (is_exit_by n) log)) (sym is) h) ∙ turn.0))
 no_join _ log s t turn h = refl
 
@@ -133,7 +133,7 @@ unborn-same bounds log e t f no_fork = at (is_unborn (status_in log t)) refl
 pub forked-after : (log : List Event) (e : Event) (t : ℕ) → IsTrue (is_fork_of t e) → IsFalse (is_unborn (status_in (log ++ e ∷ []) t))
 forked-after log e t fork = false_from_ne_true _ (λ h. false≢true (sym (unborn-before log e t h).1 ∙ fork))
 
-forked_in : (k : Kind) (log : List Event) (s t : ℕ) → IsInTurn log s k → IsTrue (are_same (forked_by k) (Some t)) → IsFalse (was_born log t)
+forked_in : (k : Kind) (log : List Event) (s t : ℕ) → IsInTurn log s k → IsTrue (are_same (thread_forked k) (Some t)) → IsFalse (was_born log t)
 forked_in (Fork u) log s t turn h =
     let is : u.0 ≡ t = eqb-true u.0 t h in
     subst (λ n. IsFalse (was_born log n)) is (or_from (u.0 == 0) (happened (is_fork_of u.0) log) (ne_eqb u.0 0 turn.0) turn.1)

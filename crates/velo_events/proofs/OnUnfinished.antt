@@ -11,7 +11,7 @@ use Rattle.velo_events.specs.declared.event.Event.{Event}
 use Rattle.velo_events.specs.Event.{thread_of, is_by, is_begin, is_begin_by}
 use Rattle.velo_events.specs.Heap.{depth_in}
 use Rattle.velo_events.specs.WellFormed.{IsWellFormed}
-use Rattle.velo_events.specs.Block.{positions, passes_at, is_open_at, is_in_block, is_open, owner, open_blocks, IsTransaction, IsUnfinished, IsFinished, IsOutside}
+use Rattle.velo_events.specs.Block.{positions, passes_at, is_open_at, is_in_block, is_open, owner, open_blocks, IsTransaction, IsUnfinished, IsFinished}
 use Rattle.velo_events.proofs.OnPositions.{Contains-filter, Contains-positions, positions-increase}
 use Rattle.velo_events.proofs.OnTraces.{slice_get-append, slice_get-push, passes_at-push}
 use Rattle.velo_events.proofs.OnBlocks.{is_open_at-append, owner-append, owner-le, owner-in_block, owner-first}
@@ -19,6 +19,10 @@ use Rattle.velo_events.proofs.OnScans.{event_at, passes_at-event, passes_at-is, 
 use Rattle.velo_events.proofs.OnDepths.{length-open_blocks}
 use Rattle.velo_events.proofs.OnGraphs.{newest}
 use Rattle.velo_events.proofs.OnOwners.{owner-outermost, is_open_at-thread, is_open_at-within, is_in_block-open, is_in_block-parts, newest-open, newest-outermost, newest-not_alone}
+
+-- position i is in no block
+abbrev pub IsOutside : List Event → ℕ → Type 0
+IsOutside trace i = (b : ℕ) → IsFalse (is_in_block trace b i)
 
 -- ---- transactions of a longer trace
 

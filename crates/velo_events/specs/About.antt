@@ -3,7 +3,7 @@ use Rattle.std.specs.Prelude.{ℕ, Bool, Option, Some, None}
 use Rattle.velo_events.specs.declared.event.Event.{Event}
 use Rattle.velo_events.specs.declared.event.Access.{Access}
 use Rattle.velo_events.specs.declared.event.Access.TheVariants.{Shared, Exclusive}
-use Rattle.velo_events.specs.Event.{are_same, thread_of, access_of, handled_by}
+use Rattle.velo_events.specs.Event.{are_same, thread_of, access_of, thread_forked_or_joined}
 
 -- the cell that the operation writes
 abbrev pub cell_written : Access → Option ℕ
@@ -19,8 +19,8 @@ cell_read _ = None
 abbrev pub thread_in : Event → Option ℕ
 thread_in e = Some (thread_of e)
 
-abbrev pub handled_in : Event → Option ℕ
-handled_in e = handled_by e.kind
+abbrev pub forked_or_joined_in : Event → Option ℕ
+forked_or_joined_in e = thread_forked_or_joined e.kind
 
 abbrev pub written_in : Event → Option ℕ
 written_in e = cell_written (access_of e.kind)

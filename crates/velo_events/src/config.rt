@@ -21,7 +21,7 @@ pub enum BadConfig {
     /// There is no thread, or there are more than [`MAX_THREADS`].
     #[error("the number of threads is not from 1 to {}", MAX_THREADS)]
     Threads = 1,
-    /// Never answered, since each `u16` is in range.
+    /// Never returned: each `u16` is in range.
     #[error("the number of variables is out of range")]
     Variables = 2,
     /// There are more than [`MAX_LOCKS`] locks.

@@ -45,7 +45,10 @@ pub fn with_capacity<T>(alloc: Global, capacity: usize) -> Result<Vec<T>, Memory
 /// # Errors
 /// `Memory` where there was too little room and the growth was refused. The items are as before then.
 pub fn resize<T: Copy>(items: &mut Vec<T>, count: usize, item: T) -> Result<(), Memory>
-    ensures items { items.new.items ≡ (if is_ok result then take count items.old.items ++ replicate (count - vec_len items.old) item else items.old.items) }
+    ensures items { items.new.items
+        ≡ (if is_ok result
+        then take count items.old.items ++ replicate (count - vec_len items.old) item
+        else items.old.items) }
     ensures len { vec_len items.new ≡ (if is_ok result then count else vec_len items.old) }
     ensures capacity { vec_capacity items.old ≤ vec_capacity items.new }
     ensures full { OnErr result (vec_capacity items.old < count) }
@@ -88,7 +91,8 @@ fn lengthen<T: Copy>(items: &mut Vec<T>, count: usize, blank: T) -> Result<(), M
 /// # Errors
 /// `Memory` where a growth was refused.
 pub fn filled<T: Clone + Drop>(alloc: Global, item: T, count: usize) -> Result<Vec<T>, Memory>
-    ensures items_if_clones_equal { IfOk result (λ items. ((y : T) → T.is_clone item y → y ≡ item) → items.items ≡ replicate count item) }
+    ensures items_if_clones_equal { IfOk result (λ items.
+        ((y : T) → T.is_clone item y → y ≡ item) → items.items ≡ replicate count item) }
     ensures len { IfOk result (λ items. vec_len items ≡ count) }
 {
     match Vec::from_elem(alloc, item, count) {

@@ -21,7 +21,7 @@ pub enum Refusal {
     /// A fork or join beyond the threads.
     #[error("no such thread")]
     NoSuchThread = 5,
-    /// An acquire of a lock that another thread holds, or a shared one where that holds it alone.
+    /// Another thread holds the lock; for a shared acquire, holds it alone.
     #[error("lock busy")]
     Busy = 6,
     /// An acquire, also a shared one, of a lock that the thread holds already, alone or with others: locks are not re-entrant.

@@ -10,7 +10,7 @@ use Rattle.velo_events.specs.declared.event.Kind.{Kind}
 use Rattle.velo_events.specs.declared.event.Kind.TheVariants.{Join}
 use Rattle.velo_events.specs.declared.event.Access.{Access}
 use Rattle.velo_events.specs.declared.event.Access.TheVariants.{Shared, Exclusive}
-use Rattle.velo_events.specs.Event.{are_same, thread_of, access_of, cell_of, joined_of, handled_of, joined_by, handled_by, is_exclusive, is_shared, is_by, is_exit_by, is_fork_of, is_join_of, is_writing}
+use Rattle.velo_events.specs.Event.{are_same, thread_of, access_of, cell_of, joined_of, forked_or_joined_of, thread_joined, thread_forked_or_joined, is_exclusive, is_shared, is_by, is_exit_by, is_fork_of, is_join_of, is_writing}
 use Rattle.velo_events.specs.Conflict.{conflict}
 use Rattle.velo_events.specs.WellFormed.{IsWellFormed, MayFollow, IsInTurn}
 use Rattle.velo_events.specs.Heap.{happened}
@@ -61,15 +61,15 @@ module _ (e : Event) where
   looks_at-does g w = All-contains LooksAt (looks_at e) g (All-cons LooksAt (OfThread e.thread) (also_looks_at (access_of e.kind)) (or_left (is_by (thread_of e) e) (is_join_of (thread_of e) e) (eq-eqb (thread_of e) (thread_of e) refl)) (all_also (access_of e.kind) refl)) w
 
 -- a thread is joined after its exit
-join_turn : (earlier : List Event) (by : ℕ) (k : Kind) (t : ℕ) → IsTrue (are_same (joined_by k) (Some t)) → IsInTurn earlier by k → IsTrue (happened (is_exit_by t) earlier)
+join_turn : (earlier : List Event) (by : ℕ) (k : Kind) (t : ℕ) → IsTrue (are_same (thread_joined k) (Some t)) → IsInTurn earlier by k → IsTrue (happened (is_exit_by t) earlier)
 join_turn earlier by (Join u) t h turn = subst (λ n. IsTrue (happened (is_exit_by n) earlier)) (eqb-true u.0 t h) turn.0
 join_turn earlier by _ t h turn = absurd (false≢true h)
 
-join_handles : (a : Access) (t : ℕ) → IsTrue (are_same (joined_of a) (Some t)) → handled_of a ≡ Some t
+join_handles : (a : Access) (t : ℕ) → IsTrue (are_same (joined_of a) (Some t)) → forked_or_joined_of a ≡ Some t
 join_handles (Access.Join u) t h = ap (λ n. Some n) (eqb-true u.0 t h)
 join_handles _ t h = absurd (false≢true h)
 
-conflict-handles : (a b : Event) → handled_by a.kind ≡ Some (thread_of b) → IsTrue (conflict a b)
+conflict-handles : (a b : Event) → thread_forked_or_joined a.kind ≡ Some (thread_of b) → IsTrue (conflict a b)
 conflict-handles a b h = or_left _ _ (or_right _ _ (are_same-from _ _ (thread_of b) h refl))
 
 -- an event of the trace conflicts with the appended one, or does so with a later event of the trace that does

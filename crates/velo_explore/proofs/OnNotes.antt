@@ -7,7 +7,7 @@ use Rattle.velo_events.specs.declared.event.Access.{Access}
 use Rattle.velo_events.specs.declared.event.Access.TheVariants.{Shared, Exclusive, Nothing}
 use Rattle.velo_events.specs.declared.event.Kind.{Kind}
 use Rattle.velo_events.specs.declared.event.Kind.TheVariants.{Release, ReleaseShared, Begin, End, Exit}
-use Rattle.velo_events.specs.Event.{are_same, access_of, cell_of, forked_of, joined_of, forked_by, joined_by}
+use Rattle.velo_events.specs.Event.{are_same, access_of, cell_of, forked_of, joined_of, thread_forked, thread_joined}
 use Rattle.velo_events.proofs.OnBlocks.{any_below-at, any_below-some}
 use Rattle.velo_heap.proofs.OnTables.{get_or-tabulated}
 use Rattle.velo_moves.specs.Free.{gives_up, do_clash, are_rivals, are_twins, is_private}
@@ -127,8 +127,8 @@ private-hinders_none locks ours k theirs l h = or_from _ _ (false_from_ne_true _
     no_rival Exit is = false_from_ne_true _ (λ g. both_ways _ (no_cell (cell_of (access_of k))) (and_parts _ _ (and_parts _ _ g).0).0)
     no_rival _ is = absurd (false≢true is)
 
-    none : IsFalse (are_same (forked_by k) None || are_same (joined_by k) None || are_same (forked_by k) None)
-    none = or_from _ _ (or_from _ _ (no_cell (forked_by k)) (no_cell (joined_by k))) (no_cell (forked_by k))
+    none : IsFalse (are_same (thread_forked k) None || are_same (thread_joined k) None || are_same (thread_forked k) None)
+    none = or_from _ _ (or_from _ _ (no_cell (thread_forked k)) (no_cell (thread_joined k))) (no_cell (thread_forked k))
 
     no_twin : (l : Kind) → IsTrue (is_private l) → IsFalse (are_twins k l)
     no_twin (Begin x) is = none

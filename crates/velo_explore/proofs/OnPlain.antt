@@ -10,7 +10,7 @@ use Rattle.velo_events.specs.declared.config.Bounds.{Bounds}
 use Rattle.velo_events.specs.declared.event.Event.{Event}
 use Rattle.velo_events.specs.declared.event.Kind.{Kind}
 use Rattle.velo_events.specs.declared.event.Kind.TheVariants.{Read, Write, Acquire, Release, AcquireShared, ReleaseShared, Begin, End, Fork, Join, Exit}
-use Rattle.velo_events.specs.Event.{are_same, thread_of, variable_of, locked_by, shared_by, access_of, forked_of, joined_of, value_of, is_write, is_acquire, is_release, is_acquire_shared, is_release_shared, is_begin, is_end, is_exit, is_by, is_begin_by, is_end_by, is_acquire_by, is_release_by, is_acquire_shared_by, is_release_shared_by, is_exit_by, is_write_of, is_on_lock, is_on_share, is_fork_of, is_join_of}
+use Rattle.velo_events.specs.Event.{are_same, thread_of, variable_of, exclusive_lock_of, shared_lock_of, access_of, forked_of, joined_of, value_of, is_write, is_acquire, is_release, is_acquire_shared, is_release_shared, is_begin, is_end, is_exit, is_by, is_begin_by, is_end_by, is_acquire_by, is_release_by, is_acquire_shared_by, is_release_shared_by, is_exit_by, is_write_of, is_on_lock, is_on_share, is_fork_of, is_join_of}
 use Rattle.velo_events.specs.Conflict.{conflict}
 use Rattle.velo_events.specs.Heap.{latest, happened, times, value_in, holder_in, shares_in, was_born, status_in, depth_in}
 use Rattle.velo_events.specs.Block.{any_below, passes_at, is_balanced, is_open_at, is_in_block, owner}
@@ -27,12 +27,12 @@ same_variable (Read x v) = refl
 same_variable (Write x v) = refl
 same_variable _ = refl
 
-same_locked : (k : Kind) → locked_by (plain_kind k) ≡ locked_by k
+same_locked : (k : Kind) → exclusive_lock_of (plain_kind k) ≡ exclusive_lock_of k
 same_locked (Read x v) = refl
 same_locked (Write x v) = refl
 same_locked _ = refl
 
-same_shared : (k : Kind) → shared_by (plain_kind k) ≡ shared_by k
+same_shared : (k : Kind) → shared_lock_of (plain_kind k) ≡ shared_lock_of k
 same_shared (Read x v) = refl
 same_shared (Write x v) = refl
 same_shared _ = refl

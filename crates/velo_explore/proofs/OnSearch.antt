@@ -12,9 +12,9 @@ use Rattle.velo_events.specs.declared.event.Kind.{Kind}
 use Rattle.velo_events.specs.declared.event.Kind.TheVariants.{Read, Write, Acquire, Release, AcquireShared, ReleaseShared, Begin, End, Fork, Join, Exit}
 use Rattle.velo_events.specs.Event.{thread_of}
 use Rattle.velo_events.specs.Heap.{value_in}
-use Rattle.velo_events.specs.Meaning.{refusal_of, HasItsValue}
+use Rattle.velo_events.specs.Meaning.{refusal_of}
 use Rattle.velo_events.specs.Tally.{events_of}
-use Rattle.velo_events.proofs.OnMeaning.{MayFollow-refusal_of}
+use Rattle.velo_events.proofs.OnMeaning.{HasItsValue, MayFollow-refusal_of}
 use Rattle.velo_events.proofs.OnScans.{take-next}
 use Rattle.velo_explore.specs.Plain.{plain_kind, plain, plain_log}
 use Rattle.velo_explore.specs.Runs.{script_of, IsRunOf, IsNext}

@@ -14,7 +14,7 @@ use Rattle.velo_events.specs.declared.event.Status.TheVariants.{Unborn}
 use Rattle.velo_events.specs.declared.refusal.Refusal.{Refusal}
 use Rattle.velo_events.specs.declared.refusal.Refusal.TheVariants.{Busy, NotExited}
 use Rattle.velo_events.specs.Heap.{status_in}
-use Rattle.velo_events.specs.Event.{are_same, forked_by}
+use Rattle.velo_events.specs.Event.{are_same, thread_forked}
 use Rattle.velo_events.specs.Meaning.{action_of, is_unborn, kind_for, refusal_of}
 use Rattle.velo_events.specs.Tally.{events_of}
 use Rattle.velo_events.specs.WellFormed.{IsWellFormed, NamesKnown}
@@ -61,7 +61,7 @@ known-few bounds scripts few log t k due born = ⊎_elim (λ l. l)
     (cases_lt t bounds.threads)
 
 module _ (bounds : Bounds) (log : List Event) (well : IsWellFormed bounds log) (some : 0 < bounds.threads) (t : ℕ) (beyond : bounds.threads ≤ t) where
-  no_fork : (k : Kind) → NamesKnown bounds k → IsFalse (are_same (forked_by k) (Some t))
+  no_fork : (k : Kind) → NamesKnown bounds k → IsFalse (are_same (thread_forked k) (Some t))
   no_fork (Fork u) known = ne_eqb u.0 t (λ same. omega (arith, same, known, beyond))
   no_fork _ known = refl
 

@@ -54,7 +54,7 @@ pub fn first_length(events: &[Event]) -> usize
     }
 }
 
-/// Puts the lines of events, as many as there is room for, and answers the place behind them and how many they are: at least
+/// Puts the lines of events, as many as there is room for, and returns the place behind them and how many they are: at least
 /// one, if there is room for the first.
 pub fn put_lines(buffer: &mut [u8], at: usize, events: &[Event]) -> (usize, usize)
     requires { at ≤ length buffer.old }

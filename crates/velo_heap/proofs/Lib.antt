@@ -2,6 +2,6 @@ pub mod OnTables
 pub mod OnMasks
 pub mod OnLocks
 pub mod OnAdmission
-pub mod OnStandings
+pub mod OnThreadStates
 pub mod OnChanges
 pub mod OnSameness

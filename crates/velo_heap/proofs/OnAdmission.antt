@@ -21,11 +21,11 @@ use Rattle.velo_events.specs.ThreadSets.{has_none}
 use Rattle.velo_events.specs.Heap.{value_in, holder_in, shares_in, status_in, depth_in}
 use Rattle.velo_events.specs.WellFormed.{MayFollow, IsWellFormed}
 use Rattle.velo_events.specs.Block.{any_below}
-use Rattle.velo_events.specs.Meaning.{refusal_of, holds, holds_a_lock, is_busy, kind_for, event_for, action_of, HasItsValue, is_another, is_live, is_unborn, is_joined}
+use Rattle.velo_events.specs.Meaning.{refusal_of, holds, holds_a_lock, is_busy, kind_for, event_for, action_of, is_another, is_live, is_unborn, is_joined}
 use Rattle.velo_events.proofs.OnWellFormed.{Facts, Facts-from, any_below-never, count_below-zero, count_below-none, count_below, is_held_by}
 use Rattle.velo_events.proofs.OnBlocks.{any_below-none}
-use Rattle.velo_events.proofs.OnMeaning.{MayFollow-refusal_of, HasItsValue-kind_for}
-use Rattle.velo_heap.specs.Contents.{Contents, bounds_of, Tabulates, lock_in, locks_in, standing_in, IsHeapOf, unless_refused, admission, IsAdmitted}
+use Rattle.velo_events.proofs.OnMeaning.{HasItsValue, MayFollow-refusal_of, HasItsValue-kind_for}
+use Rattle.velo_heap.specs.Contents.{Contents, bounds_of, Tabulates, lock_in, locks_in, thread_state_in, IsHeapOf, unless_refused, admission, IsAdmitted}
 use Rattle.velo_heap.proofs.OnLocks.{is_holder-in, is_sharer-in, is_held_by-in, is_taken-in, is_shared-in}
 use Rattle.velo_heap.specs.Steps.{refusal_in, read_at, write_at, acquire_in, acquire_shared_in, release_in, release_shared_in, acquire_at, acquire_shared_at, release_at, release_shared_at, fork_by, fork_at, join_by, join_at, live_kind, kind_in}
 
@@ -105,14 +105,14 @@ module _ (heap : Contents) (trace : List Event) (stands : IsHeapOf heap trace) w
   kind_or-if false r k rest = refl
 
   -- only a live thread acts
-  when_live : (t : ThreadId) (action : Action) (k : Kind) (rest : Option Refusal) → live_kind heap t (standing_in trace t.0) action ≡ kind_or k rest →
+  when_live : (t : ThreadId) (action : Action) (k : Kind) (rest : Option Refusal) → live_kind heap t (thread_state_in trace t.0) action ≡ kind_or k rest →
       kind_in heap t action ≡ kind_or k (if not (nat_lt t.0 (length heap.threads) && is_live (status_in trace t.0)) then Some NotLive else rest)
   when_live t action k rest h = ⊎_elim
       (λ within. rw (stands.threads.each t.0 within, lt-ltb t.0 (length heap.threads) within) (acts (is_live (status_in trace t.0))))
       (λ past. rw (slice_get_past heap.threads t.0 past, le-ltb t.0 (length heap.threads) past) refl)
       (cases_lt t.0 (length heap.threads))
     where
-      acts : (b : Bool) → (if b then live_kind heap t (standing_in trace t.0) action else Err NotLive) ≡ kind_or k (if not b then Some NotLive else rest)
+      acts : (b : Bool) → (if b then live_kind heap t (thread_state_in trace t.0) action else Err NotLive) ≡ kind_or k (if not b then Some NotLive else rest)
       acts true = h
       acts false = refl
 
@@ -161,10 +161,10 @@ module _ (heap : Contents) (trace : List Event) (stands : IsHeapOf heap trace) w
   kind_in-refusal_of t (Begin label) = when_live t (Begin label) _ _ (refused_if (nat_le MAX_OPEN_BLOCKS (depth_in trace t.0)) TooDeep (kind.Begin label))
   kind_in-refusal_of t End = when_live t End _ _ (refused_if (depth_in trace t.0 == 0) NoOpenBlock kind.End)
   kind_in-refusal_of t (Fork u) = when_live t (Fork u) _ _
-      (tabulated heap.threads (standing_in trace) u.0 (fork_at u) (Err NoSuchThread) _ stands.threads refl (fork_of u (status_in trace u.0))
+      (tabulated heap.threads (thread_state_in trace) u.0 (fork_at u) (Err NoSuchThread) _ stands.threads refl (fork_of u (status_in trace u.0))
       ∙ sym (kind_or-if (nat_le (length heap.threads) u.0) NoSuchThread _ _))
   kind_in-refusal_of t (Join u) = when_live t (Join u) _ _
-      (tabulated heap.threads (standing_in trace) u.0 (join_at u) (Err NoSuchThread) _ stands.threads refl (join_of u (status_in trace u.0))
+      (tabulated heap.threads (thread_state_in trace) u.0 (join_at u) (Err NoSuchThread) _ stands.threads refl (join_of u (status_in trace u.0))
       ∙ sym (kind_or-if (nat_le (length heap.threads) u.0) NoSuchThread _ _))
   kind_in-refusal_of t Exit = when_live t Exit _ _
       (subst (λ b. (if not (depth_in trace t.0 == 0) then Err BlockOpen else (if not (locks_in trace t.0 == 0) then Err LockHeld else Ok kind.Exit)) ≡ kind_or kind.Exit (if not (depth_in trace t.0 == 0) then Some BlockOpen else (if b then Some LockHeld else None)))

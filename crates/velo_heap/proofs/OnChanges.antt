@@ -10,22 +10,22 @@ use Rattle.velo_events.specs.declared.event.Kind.{Kind}
 use Rattle.velo_events.specs.declared.event.Kind.TheVariants.{Read, Write, Acquire, Release, AcquireShared, ReleaseShared, Begin, End, Fork, Join, Exit}
 use Rattle.velo_events.specs.declared.event.Status.{Status}
 use Rattle.velo_events.specs.declared.event.Status.TheVariants.{Unborn, Live, Joined}
-use Rattle.velo_events.specs.Event.{are_same, handled_by, forked_by, joined_by}
+use Rattle.velo_events.specs.Event.{are_same, thread_forked_or_joined, thread_forked, thread_joined}
 use Rattle.velo_events.specs.Heap.{latest, value_in, holder_in, depth_in}
 use Rattle.velo_events.specs.WellFormed.{MayFollow, IsWellFormed}
 use Rattle.velo_events.proofs.OnTraces.{value_in-push}
 use Rattle.velo_events.proofs.OnWellFormed.{Facts, Facts-from, IsWellFormed-nil, IsWellFormed-push}
 use Rattle.velo_heap.specs.declared.lock.Lock.{Lock}
-use Rattle.velo_heap.specs.declared.standing.Standing.{Standing}
-use Rattle.velo_heap.specs.Contents.{Contents, bounds_of, Tabulates, mask_below, lock_in, locks_in, standing_in, IsHeapOf, IsAdmitted}
-use Rattle.velo_heap.specs.Steps.{CountsFit, CanChange, contents_after, standing_after, standing_at, with_status, unborn, free, with_holder, with_sharer, without_sharer}
+use Rattle.velo_heap.specs.declared.thread_state.ThreadState.{ThreadState}
+use Rattle.velo_heap.specs.Contents.{Contents, bounds_of, Tabulates, mask_below, lock_in, locks_in, thread_state_in, IsHeapOf, IsAdmitted}
+use Rattle.velo_heap.specs.Steps.{CountsFit, CanChange, contents_after, thread_state_after, thread_state_at, with_status, unborn, free, with_holder, with_sharer, without_sharer}
 use Rattle.velo_heap.proofs.OnAdmission.{MayFollow-each}
 use Rattle.velo_heap.proofs.OnMasks.{mask_below-none}
 use Rattle.velo_heap.proofs.OnLocks.{same_lock, lock-no_lock, lock-elsewhere, lock-elsewhere-shared, lock-held, lock-shared, lock-unshared}
 use Rattle.velo_heap.proofs.OnTables.{get_or-tabulated, Tabulates-same, Tabulates-set, Tabulates-replicate}
-use Rattle.velo_heap.proofs.OnStandings.{standing-elsewhere, standing-own, standing-forked, standing-joined, standing-not_forked, standing-not_joined, standing-nil, CountsFit-admitted}
+use Rattle.velo_heap.proofs.OnThreadStates.{thread_state-elsewhere, thread_state-own, thread_state-forked, thread_state-joined, thread_state-not_forked, thread_state-not_joined, thread_state-nil, CountsFit-admitted}
 
-not_handled : (k : Kind) (i : ℕ) → handled_by k ≡ None → IsFalse (are_same (forked_by k) (Some i)) × IsFalse (are_same (joined_by k) (Some i))
+not_handled : (k : Kind) (i : ℕ) → thread_forked_or_joined k ≡ None → IsFalse (are_same (thread_forked k) (Some i)) × IsFalse (are_same (thread_joined k) (Some i))
 not_handled (Fork u) i h = cc
 not_handled (Join u) i h = cc
 not_handled _ i h = (refl, refl)
@@ -66,31 +66,31 @@ module _ (heap : Contents) (trace : List Event) (stands : IsHeapOf heap trace) (
   facts = Facts-from (bounds_of heap) trace stands.well_formed
 
   -- the acting thread's own place
-  own_place-after : (k : Kind) → MayFollow (bounds_of heap) trace (record { thread = by; kind = k }) → handled_by k ≡ None → Tabulates (set heap.threads by.0 (standing_after (standing_at heap.threads by.0) k)) (standing_in (trace ++ record { thread = by; kind = k } ∷ []))
+  own_place-after : (k : Kind) → MayFollow (bounds_of heap) trace (record { thread = by; kind = k }) → thread_forked_or_joined k ≡ None → Tabulates (set heap.threads by.0 (thread_state_after (thread_state_at heap.threads by.0) k)) (thread_state_in (trace ++ record { thread = by; kind = k } ∷ []))
   own_place-after k f own =
-      let now = get_or-tabulated heap.threads (standing_in trace) unborn by.0 stands.threads f.known_thread in
-      Tabulates-set heap.threads (standing_in trace) _ by.0 _ stands.threads f.known_thread
-      (standing-own (bounds_of heap) trace by k facts f own ∙ ap (λ s. standing_after s k) (sym now))
-      (λ i differ. let untouched = not_handled k i own in standing-elsewhere trace by k i differ untouched.0 untouched.1)
+      let now = get_or-tabulated heap.threads (thread_state_in trace) unborn by.0 stands.threads f.known_thread in
+      Tabulates-set heap.threads (thread_state_in trace) _ by.0 _ stands.threads f.known_thread
+      (thread_state-own (bounds_of heap) trace by k facts f own ∙ ap (λ s. thread_state_after s k) (sym now))
+      (λ i differ. let untouched = not_handled k i own in thread_state-elsewhere trace by k i differ untouched.0 untouched.1)
 
   -- all places, where the acting thread stands as before
-  places-kept : (k : Kind) → MayFollow (bounds_of heap) trace (record { thread = by; kind = k }) → handled_by k ≡ None → ((s : Standing) → standing_after s k ≡ s) → Tabulates heap.threads (standing_in (trace ++ record { thread = by; kind = k } ∷ []))
+  places-kept : (k : Kind) → MayFollow (bounds_of heap) trace (record { thread = by; kind = k }) → thread_forked_or_joined k ≡ None → ((s : ThreadState) → thread_state_after s k ≡ s) → Tabulates heap.threads (thread_state_in (trace ++ record { thread = by; kind = k } ∷ []))
   places-kept k f own kept =
-      let same : set heap.threads by.0 (standing_after (standing_at heap.threads by.0) k) ≡ heap.threads = ap (set heap.threads by.0) (kept (standing_at heap.threads by.0)) ∙ set-get_or heap.threads by.0 unborn in
-      subst (λ threads. Tabulates threads (standing_in (trace ++ record { thread = by; kind = k } ∷ []))) same (own_place-after k f own)
+      let same : set heap.threads by.0 (thread_state_after (thread_state_at heap.threads by.0) k) ≡ heap.threads = ap (set heap.threads by.0) (kept (thread_state_at heap.threads by.0)) ∙ set-get_or heap.threads by.0 unborn in
+      subst (λ threads. Tabulates threads (thread_state_in (trace ++ record { thread = by; kind = k } ∷ []))) same (own_place-after k f own)
 
   -- the place of a thread that is forked or joined
   status-after : (k : Kind) (u : ThreadId) (status : Status) → u.0 < length heap.threads →
-      standing_in (trace ++ record { thread = by; kind = k } ∷ []) u.0 ≡ record { status = status; depth = depth_in trace u.0; locks = locks_in trace u.0 } →
-      ((i : ℕ) → (i ≡ u.0 → ⊥) → standing_in (trace ++ record { thread = by; kind = k } ∷ []) i ≡ standing_in trace i) →
-      Tabulates (with_status heap.threads u.0 status) (standing_in (trace ++ record { thread = by; kind = k } ∷ []))
+      thread_state_in (trace ++ record { thread = by; kind = k } ∷ []) u.0 ≡ record { status = status; depth = depth_in trace u.0; locks = locks_in trace u.0 } →
+      ((i : ℕ) → (i ≡ u.0 → ⊥) → thread_state_in (trace ++ record { thread = by; kind = k } ∷ []) i ≡ thread_state_in trace i) →
+      Tabulates (with_status heap.threads u.0 status) (thread_state_in (trace ++ record { thread = by; kind = k } ∷ []))
   status-after k u status known here elsewhere =
-      let now = get_or-tabulated heap.threads (standing_in trace) unborn u.0 stands.threads known in
-      Tabulates-set heap.threads (standing_in trace) _ u.0 _ stands.threads known
-      (here ∙ ap (λ (s : Standing). record s { status = status }) (sym now))
+      let now = get_or-tabulated heap.threads (thread_state_in trace) unborn u.0 stands.threads known in
+      Tabulates-set heap.threads (thread_state_in trace) _ u.0 _ stands.threads known
+      (here ∙ ap (λ (s : ThreadState). record s { status = status }) (sym now))
       elsewhere
 
-  threads-after : (k : Kind) → MayFollow (bounds_of heap) trace (record { thread = by; kind = k }) → Tabulates (contents_after heap (record { thread = by; kind = k })).threads (standing_in (trace ++ record { thread = by; kind = k } ∷ []))
+  threads-after : (k : Kind) → MayFollow (bounds_of heap) trace (record { thread = by; kind = k }) → Tabulates (contents_after heap (record { thread = by; kind = k })).threads (thread_state_in (trace ++ record { thread = by; kind = k } ∷ []))
   threads-after (Read x v) f = places-kept (Read x v) f refl (λ s. refl)
   threads-after (Write x v) f = places-kept (Write x v) f refl (λ s. refl)
   threads-after (Acquire m) f = own_place-after (Acquire m) f refl
@@ -100,12 +100,12 @@ module _ (heap : Contents) (trace : List Event) (stands : IsHeapOf heap trace) (
   threads-after (Begin label) f = own_place-after (Begin label) f refl
   threads-after End f = own_place-after End f refl
   threads-after Exit f = own_place-after Exit f refl
-  threads-after (Fork u) f = status-after (Fork u) u Live f.known_names (standing-forked (bounds_of heap) trace by u facts f) (standing-not_forked trace by u)
-  threads-after (Join u) f = status-after (Join u) u Joined f.known_names (standing-joined trace by u) (standing-not_joined trace by u)
+  threads-after (Fork u) f = status-after (Fork u) u Live f.known_names (thread_state-forked (bounds_of heap) trace by u facts f) (thread_state-not_forked trace by u)
+  threads-after (Join u) f = status-after (Join u) u Joined f.known_names (thread_state-joined trace by u) (thread_state-not_joined trace by u)
 
 -- ---- the bounds stay
 
-as_many : (heap : Contents) (values : List ℕ) (locks : List Lock) (threads : List Standing) → length values ≡ length heap.values → length locks ≡ length heap.locks → length threads ≡ length heap.threads → bounds_of (record { values = values; locks = locks; threads = threads }) ≡ bounds_of heap
+as_many : (heap : Contents) (values : List ℕ) (locks : List Lock) (threads : List ThreadState) → length values ≡ length heap.values → length locks ≡ length heap.locks → length threads ≡ length heap.threads → bounds_of (record { values = values; locks = locks; threads = threads }) ≡ bounds_of heap
 as_many heap values locks threads hv hl ht = rw (hv, hl, ht) refl
 
 pub bounds_of-contents_after : (heap : Contents) (by : ThreadId) (k : Kind) → bounds_of (contents_after heap (record { thread = by; kind = k })) ≡ bounds_of heap
@@ -138,7 +138,7 @@ CanChange-admitted heap e admitted =
     let stands = admitted.stands in
     let f = admitted.follows in
     let longer : IsWellFormed (bounds_of heap) (trace ++ e ∷ []) = IsWellFormed-push (bounds_of heap) trace e stands.well_formed f in
-    let now = get_or-tabulated heap.threads (standing_in trace) unborn e.thread.0 stands.threads f.known_thread in
+    let now = get_or-tabulated heap.threads (thread_state_in trace) unborn e.thread.0 stands.threads f.known_thread in
     record {
       thread = f.known_thread;
       names = f.known_names;
@@ -151,7 +151,7 @@ IsHeapOf-apply heap e few admitted trace stands = IsHeapOf-after heap trace e fe
 
 -- ---- the start
 
-abbrev pub start_by : Bool → Standing
+abbrev pub start_by : Bool → ThreadState
 start_by b = record { status = (if b then Live else Unborn); depth = 0; locks = 0 }
 
 pub IsHeapOf-start : (threads variables locks : ℕ) → 0 < threads → IsHeapOf (record { values = replicate variables 0; locks = replicate locks free; threads = set (replicate threads unborn) 0 (start_by true) }) []
@@ -160,14 +160,14 @@ IsHeapOf-start threads variables locks some = record {
   well_formed = IsWellFormed-nil _;
   values = Tabulates-replicate variables 0 (value_in []) (λ i. refl);
   locks = Tabulates-replicate locks free _ (λ i. same_lock None None _ 0 refl (mask_below-none _));
-  threads = Tabulates-set (replicate threads unborn) (λ i. unborn) (standing_in []) 0 (start_by true)
+  threads = Tabulates-set (replicate threads unborn) (λ i. unborn) (thread_state_in []) 0 (start_by true)
       (Tabulates-replicate threads unborn (λ i. unborn) (λ i. refl))
       (omega (arith, some, length-replicate threads unborn))
-      (standing-nil 0)
-      (λ i differ. standing-nil i ∙ ap start_by (ne_eqb i 0 differ));
+      (thread_state-nil 0)
+      (λ i differ. thread_state-nil i ∙ ap start_by (ne_eqb i 0 differ));
 }
 
-pub IsHeapOf-made : (threads variables locks : ℕ) (values : List ℕ) (holding : List Lock) (standings : List Standing) (first : Standing) → 0 < threads →
-    values ≡ replicate variables 0 → holding ≡ replicate locks free → standings ≡ replicate threads unborn → first ≡ start_by true →
-    IsHeapOf (record { values = values; locks = holding; threads = set standings 0 first }) []
-IsHeapOf-made threads variables locks values holding standings first some hv hh ht hf = rw (hv, hh, ht, hf) (IsHeapOf-start threads variables locks some)
+pub IsHeapOf-made : (threads variables locks : ℕ) (values : List ℕ) (holding : List Lock) (thread_states : List ThreadState) (first : ThreadState) → 0 < threads →
+    values ≡ replicate variables 0 → holding ≡ replicate locks free → thread_states ≡ replicate threads unborn → first ≡ start_by true →
+    IsHeapOf (record { values = values; locks = holding; threads = set thread_states 0 first }) []
+IsHeapOf-made threads variables locks values holding thread_states first some hv hh ht hf = rw (hv, hh, ht, hf) (IsHeapOf-start threads variables locks some)

@@ -8,7 +8,7 @@ use Rattle.velo_events.specs.declared.event.LockId.{LockId}
 use Rattle.velo_events.specs.declared.event.Event.{Event}
 use Rattle.velo_events.specs.declared.event.Kind.{Kind}
 use Rattle.velo_events.specs.declared.event.Kind.TheVariants.{Acquire, Release, AcquireShared, ReleaseShared}
-use Rattle.velo_events.specs.Event.{are_same, locked_by, shared_by, is_on_lock, is_on_share, is_acquire}
+use Rattle.velo_events.specs.Event.{are_same, exclusive_lock_of, shared_lock_of, is_on_lock, is_on_share, is_acquire}
 use Rattle.velo_events.specs.Heap.{holder_in, shares_in}
 use Rattle.velo_events.specs.Block.{any_below}
 use Rattle.velo_events.specs.ThreadSets.{has_thread, has_none}
@@ -72,18 +72,18 @@ module _ (n : ℕ) (trace : List Event) (by : ThreadId) where
       (ap (option_map thread_named) (holder_in-push trace e m ∙ ap (λ b. if b then (if is_acquire k then Some by.0 else None) else holder_in trace m) off))
       (mask_below-same n (shares_in trace m) (shares_in (trace ++ e ∷ []) m) (λ t. shares_in-kept trace e m t (unshared t)))
 
-  pub lock-no_lock : (k : Kind) (m : ℕ) → locked_by k ≡ None → shared_by k ≡ None → lock_in n (trace ++ record { thread = by; kind = k } ∷ []) m ≡ lock_in n trace m
+  pub lock-no_lock : (k : Kind) (m : ℕ) → exclusive_lock_of k ≡ None → shared_lock_of k ≡ None → lock_in n (trace ++ record { thread = by; kind = k } ∷ []) m ≡ lock_in n trace m
   lock-no_lock k m none none_shared = lock-kept k m (ap (λ o. are_same o (Some m)) none) (λ t. and_right _ _ (ap (λ o. are_same o (Some m)) none_shared))
 
   -- an operation on another lock
-  pub lock-elsewhere : (k : Kind) (l : LockId) (m : ℕ) → (locked_by k ≡ Some l.0) × (shared_by k ≡ None) → (m ≡ l.0 → ⊥) → lock_in n (trace ++ record { thread = by; kind = k } ∷ []) m ≡ lock_in n trace m
+  pub lock-elsewhere : (k : Kind) (l : LockId) (m : ℕ) → (exclusive_lock_of k ≡ Some l.0) × (shared_lock_of k ≡ None) → (m ≡ l.0 → ⊥) → lock_in n (trace ++ record { thread = by; kind = k } ∷ []) m ≡ lock_in n trace m
   lock-elsewhere k l m is differ = lock-kept k m (ap (λ o. are_same o (Some m)) is.0 ∙ ne_eqb l.0 m (λ s. differ (sym s))) (λ t. and_right _ _ (ap (λ o. are_same o (Some m)) is.1))
 
-  pub lock-elsewhere-shared : (k : Kind) (l : LockId) (m : ℕ) → (locked_by k ≡ None) × (shared_by k ≡ Some l.0) → (m ≡ l.0 → ⊥) → lock_in n (trace ++ record { thread = by; kind = k } ∷ []) m ≡ lock_in n trace m
+  pub lock-elsewhere-shared : (k : Kind) (l : LockId) (m : ℕ) → (exclusive_lock_of k ≡ None) × (shared_lock_of k ≡ Some l.0) → (m ≡ l.0 → ⊥) → lock_in n (trace ++ record { thread = by; kind = k } ∷ []) m ≡ lock_in n trace m
   lock-elsewhere-shared k l m is differ = lock-kept k m (ap (λ o. are_same o (Some m)) is.0) (λ t. and_right _ _ (ap (λ o. are_same o (Some m)) is.1 ∙ ne_eqb l.0 m (λ s. differ (sym s))))
 
   -- taken or given up alone
-  pub lock-held : (k : Kind) (m : LockId) → locked_by k ≡ Some m.0 → shared_by k ≡ None → lock_in n (trace ++ record { thread = by; kind = k } ∷ []) m.0 ≡ with_holder (if is_acquire k then Some by else None) (lock_in n trace m.0)
+  pub lock-held : (k : Kind) (m : LockId) → exclusive_lock_of k ≡ Some m.0 → shared_lock_of k ≡ None → lock_in n (trace ++ record { thread = by; kind = k } ∷ []) m.0 ≡ with_holder (if is_acquire k then Some by else None) (lock_in n trace m.0)
   lock-held k m is unshared =
       let e : Event = record { thread = by; kind = k } in
       same_lock _ _ _ _

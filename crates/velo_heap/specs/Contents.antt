@@ -11,13 +11,13 @@ use Rattle.velo_events.specs.WellFormed.{MayFollow, IsWellFormed}
 use Rattle.velo_events.specs.Meaning.{refusal_of, kind_for, event_for}
 use Rattle.velo_events.specs.declared.thread_set.ThreadSet.{ThreadSet}
 use Rattle.velo_heap.specs.declared.lock.Lock.{Lock}
-use Rattle.velo_heap.specs.declared.standing.Standing.{Standing}
+use Rattle.velo_heap.specs.declared.thread_state.ThreadState.{ThreadState}
 
 -- the value of each variable, who holds each lock, and how each thread stands
 pub record Contents : Type 0 where
   pub values : List ℕ
   pub locks : List Lock
-  pub threads : List Standing
+  pub threads : List ThreadState
 
 -- as many threads, variables and locks as the heap has
 abbrev pub bounds_of : Contents → Bounds
@@ -49,16 +49,16 @@ lock_in n trace m = record { holder = option_map thread_named (holder_in trace m
 abbrev pub locks_in : List Event → ℕ → ℕ
 locks_in trace t = (times (is_acquire_by t) trace - times (is_release_by t) trace) + (times (is_acquire_shared_by t) trace - times (is_release_shared_by t) trace)
 
--- how the thread stands: its status, how many blocks it has open, how many locks it holds
-abbrev pub standing_in : List Event → ℕ → Standing
-standing_in trace t = record { status = status_in trace t; depth = depth_in trace t; locks = locks_in trace t }
+-- the state of the thread: its status, how many blocks it has open, how many locks it holds
+abbrev pub thread_state_in : List Event → ℕ → ThreadState
+thread_state_in trace t = record { status = status_in trace t; depth = depth_in trace t; locks = locks_in trace t }
 
 -- the heap is that of the trace, which can come about within the heap's bounds
 pub record IsHeapOf (heap : Contents) (trace : List Event) : Type 0 where
   pub well_formed : IsWellFormed (bounds_of heap) trace
   pub values : Tabulates heap.values (value_in trace)
   pub locks : Tabulates heap.locks (lock_in (length heap.threads) trace)
-  pub threads : Tabulates heap.threads (standing_in trace)
+  pub threads : Tabulates heap.threads (thread_state_in trace)
 
 -- a fact about each trace that the heap stands for
 abbrev pub ForItsTraces : Contents → (List Event → Type 0) → Type 0

@@ -18,7 +18,7 @@ use Rattle.velo_events.specs.ThreadSets.{has_thread, has_none, no_threads, with_
 use Rattle.velo_events.specs.declared.limits.TheConstants.{MAX_OPEN_BLOCKS}
 use Rattle.velo_events.specs.WellFormed.{NamesKnown}
 use Rattle.velo_heap.specs.declared.lock.Lock.{Lock}
-use Rattle.velo_heap.specs.declared.standing.Standing.{Standing}
+use Rattle.velo_heap.specs.declared.thread_state.ThreadState.{ThreadState}
 use Rattle.velo_heap.specs.Contents.{Contents, bounds_of}
 
 -- ---- which operation is admitted, by what stands at the place that the action names
@@ -70,7 +70,7 @@ abbrev pub fork_by : ThreadId → Status → Result Kind Refusal
 fork_by u Unborn = Ok (Fork u)
 fork_by u _ = Err AlreadyForked
 
-abbrev pub fork_at : ThreadId → Option Standing → Result Kind Refusal
+abbrev pub fork_at : ThreadId → Option ThreadState → Result Kind Refusal
 fork_at u (Some child) = fork_by u child.status
 fork_at u None = Err NoSuchThread
 
@@ -80,21 +80,21 @@ join_by u Live = Err NotExited
 join_by u Exited = Ok (Join u)
 join_by u Joined = Err AlreadyJoined
 
-abbrev pub join_at : ThreadId → Option Standing → Result Kind Refusal
+abbrev pub join_at : ThreadId → Option ThreadState → Result Kind Refusal
 join_at u (Some child) = join_by u child.status
 join_at u None = Err NoSuchThread
 
-abbrev pub begin_in : Standing → Label → Result Kind Refusal
+abbrev pub begin_in : ThreadState → Label → Result Kind Refusal
 begin_in own label = if nat_le MAX_OPEN_BLOCKS own.depth then Err TooDeep else Ok (Begin label)
 
-abbrev pub end_in : Standing → Result Kind Refusal
+abbrev pub end_in : ThreadState → Result Kind Refusal
 end_in own = if own.depth == 0 then Err NoOpenBlock else Ok End
 
-abbrev pub exit_in : Standing → Result Kind Refusal
+abbrev pub exit_in : ThreadState → Result Kind Refusal
 exit_in own = if not (own.depth == 0) then Err BlockOpen else (if not (own.locks == 0) then Err LockHeld else Ok Exit)
 
 -- what a live thread may do
-abbrev pub live_kind : Contents → ThreadId → Standing → Action → Result Kind Refusal
+abbrev pub live_kind : Contents → ThreadId → ThreadState → Action → Result Kind Refusal
 live_kind heap t own (Action.Read x) = read_at x (slice_get heap.values x.0)
 live_kind heap t own (Action.Write x v) = write_at x v (slice_get heap.values x.0)
 live_kind heap t own (Action.Acquire m) = acquire_at t m (slice_get heap.locks m.0)
@@ -107,7 +107,7 @@ live_kind heap t own (Action.Fork u) = fork_at u (slice_get heap.threads u.0)
 live_kind heap t own (Action.Join u) = join_at u (slice_get heap.threads u.0)
 live_kind heap t own Action.Exit = exit_in own
 
-abbrev pub kind_if_live : Contents → ThreadId → Option Standing → Action → Result Kind Refusal
+abbrev pub kind_if_live : Contents → ThreadId → Option ThreadState → Action → Result Kind Refusal
 kind_if_live heap t (Some own) action = if is_live own.status then live_kind heap t own action else Err NotLive
 kind_if_live heap t None action = Err NotLive
 
@@ -123,7 +123,7 @@ refusal_in (Err refusal) = Some refusal
 -- ---- how an operation changes the contents
 
 -- the operation makes no count of the thread wrap, where a thread may hold so many locks in each of two ways
-abbrev pub CountsFit : ℕ → Standing → Kind → Type 0
+abbrev pub CountsFit : ℕ → ThreadState → Kind → Type 0
 CountsFit most own (Acquire m) = own.locks < most + most
 CountsFit most own (Release m) = 0 < own.locks
 CountsFit most own (AcquireShared m) = own.locks < most + most
@@ -133,21 +133,21 @@ CountsFit most own End = 0 < own.depth
 CountsFit most own _ = ⊤
 
 -- a thread after its own operation
-abbrev pub standing_after : Standing → Kind → Standing
-standing_after own (Acquire m) = record own { locks = own.locks + 1 }
-standing_after own (Release m) = record own { locks = own.locks - 1 }
-standing_after own (AcquireShared m) = record own { locks = own.locks + 1 }
-standing_after own (ReleaseShared m) = record own { locks = own.locks - 1 }
-standing_after own (Begin label) = record own { depth = own.depth + 1 }
-standing_after own End = record own { depth = own.depth - 1 }
-standing_after own Exit = record own { status = Exited }
-standing_after own _ = own
+abbrev pub thread_state_after : ThreadState → Kind → ThreadState
+thread_state_after own (Acquire m) = record own { locks = own.locks + 1 }
+thread_state_after own (Release m) = record own { locks = own.locks - 1 }
+thread_state_after own (AcquireShared m) = record own { locks = own.locks + 1 }
+thread_state_after own (ReleaseShared m) = record own { locks = own.locks - 1 }
+thread_state_after own (Begin label) = record own { depth = own.depth + 1 }
+thread_state_after own End = record own { depth = own.depth - 1 }
+thread_state_after own Exit = record own { status = Exited }
+thread_state_after own _ = own
 
-abbrev pub unborn : Standing
+abbrev pub unborn : ThreadState
 unborn = record { status = Unborn; depth = 0; locks = 0 }
 
-abbrev pub standing_at : List Standing → ℕ → Standing
-standing_at threads t = get_or threads t unborn
+abbrev pub thread_state_at : List ThreadState → ℕ → ThreadState
+thread_state_at threads t = get_or threads t unborn
 
 abbrev pub free : Lock
 free = record { holder = None; sharers = no_threads }
@@ -165,12 +165,12 @@ without_sharer t lock = record lock { sharers = without_thread t lock.sharers }
 abbrev pub with_lock : List Lock → ℕ → (Lock → Lock) → List Lock
 with_lock locks m change = slice_set locks m (change (get_or locks m free))
 
-abbrev pub with_status : List Standing → ℕ → Status → List Standing
-with_status threads t status = slice_set threads t (record (standing_at threads t) { status = status })
+abbrev pub with_status : List ThreadState → ℕ → Status → List ThreadState
+with_status threads t status = slice_set threads t (record (thread_state_at threads t) { status = status })
 
 -- the thread stands as after its own operation
-abbrev pub own_after : List Standing → ℕ → Kind → List Standing
-own_after threads t kind = slice_set threads t (standing_after (standing_at threads t) kind)
+abbrev pub own_after : List ThreadState → ℕ → Kind → List ThreadState
+own_after threads t kind = slice_set threads t (thread_state_after (thread_state_at threads t) kind)
 
 -- the operation changes what it names, and its own thread where that stands otherwise then
 abbrev pub after_kind : Contents → ThreadId → Kind → Contents
@@ -193,4 +193,4 @@ contents_after heap event = after_kind heap event.thread event.kind
 pub record CanChange (heap : Contents) (event : Event) : Type 0 where
   pub thread : event.thread.0 < length heap.threads
   pub names : NamesKnown (bounds_of heap) event.kind
-  pub room : CountsFit (length heap.locks) (standing_at heap.threads event.thread.0) event.kind
+  pub room : CountsFit (length heap.locks) (thread_state_at heap.threads event.thread.0) event.kind

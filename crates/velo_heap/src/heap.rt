@@ -8,7 +8,7 @@ ghost use Rattle.velo_events.specs.WellFormed.{NamesKnown};
 ghost use Rattle.velo_heap.specs.Steps.{refusal_in, read_at, write_at, acquire_at, acquire_shared_at, release_at, release_shared_at, fork_at, join_at, kind_in, live_kind, contents_after, CanChange};
 
 use crate::lock::Lock;
-use crate::standing::Standing;
+use crate::thread_state::ThreadState;
 use std::alloc::Global;
 use std::marker::Model;
 use velo_events::growth::{filled, with_capacity};
@@ -23,7 +23,7 @@ use velo_events::{
 pub struct Heap {
     values: Vec<u64>,
     locks: Vec<Lock>,
-    threads: Vec<Standing>,
+    threads: Vec<ThreadState>,
 }
 
 impl Model for Heap {
@@ -68,7 +68,7 @@ fn are_held_alike(one: &[Lock], other: &[Lock]) -> bool
 }
 
 /// Whether the threads of the two stand alike.
-fn stand_alike(one: &[Standing], other: &[Standing]) -> bool
+fn stand_alike(one: &[ThreadState], other: &[ThreadState]) -> bool
     ensures { IsTrue result ↔ (one.now ≡ other.now) }
 {
     one == other
@@ -86,7 +86,7 @@ impl Heap {
         let bounds = config.bounds;
         let values = filled(alloc, 0, usize::from(bounds.variables))?;
         let locks = filled(alloc, Lock::free(), usize::from(bounds.locks))?;
-        let mut threads = filled(alloc, Standing::unborn(), usize::from(bounds.threads))?;
+        let mut threads = filled(alloc, ThreadState::unborn(), usize::from(bounds.threads))?;
         threads[0].status = Status::Live;
         Ok(Heap {
             values,
@@ -237,7 +237,7 @@ impl Heap {
 
     /// The operation that the action of a live thread becomes.
     #[inline]
-    fn live_kind(&self, own: Standing, thread: ThreadId, action: Action) -> Result<Kind, Refusal>
+    fn live_kind(&self, own: ThreadState, thread: ThreadId, action: Action) -> Result<Kind, Refusal>
         ensures { result ≡ live_kind self.now thread own action }
     {
         match action {
@@ -272,7 +272,7 @@ impl Heap {
 
     /// Why the operation of a live thread is refused.
     #[inline(always)]
-    fn live_reason(&self, own: Standing, event: &Event) -> Option<Refusal>
+    fn live_reason(&self, own: ThreadState, event: &Event) -> Option<Refusal>
         ensures { result ≡ refusal_in (live_kind self.now event.now.thread own (action_of event.now.kind)) }
     {
         match event.kind {

@@ -3,7 +3,7 @@
 
 mod heap;
 mod lock;
-mod standing;
+mod thread_state;
 
 pub use heap::Heap;
 pub use velo_events::Status;

@@ -7,7 +7,7 @@ use Rattle.velo_events.specs.declared.event.Kind.{Kind}
 use Rattle.velo_events.specs.declared.event.Kind.TheVariants.{Begin, End}
 use Rattle.velo_events.specs.declared.event.Access.{Access}
 use Rattle.velo_events.specs.declared.event.Access.TheVariants.{Shared, Exclusive}
-use Rattle.velo_events.specs.Event.{are_same, thread_of, access_of, cell_of, handled_of, handled_by, is_by, is_begin, is_end, is_begin_by, is_end_by, is_exclusive, is_shared, is_writing, is_reading}
+use Rattle.velo_events.specs.Event.{are_same, thread_of, access_of, cell_of, forked_or_joined_of, thread_forked_or_joined, is_by, is_begin, is_end, is_begin_by, is_end_by, is_exclusive, is_shared, is_writing, is_reading}
 use Rattle.velo_events.specs.Conflict.{conflict}
 use Rattle.velo_events.specs.Block.{passes_at, is_open_at, is_in_block, owner}
 use Rattle.velo_events.specs.Graph.{Path, Leads, IsCycle, Edge, HasCycle, conflict_at}
@@ -27,11 +27,11 @@ use Rattle.velo_laws.proofs.OnDropped.{sub, at, sub-long, begin-stays, owner-sta
 
 -- ---- two events of the same thread that do the same
 
-exclusive-handles : (a : Access) → IsTrue (is_exclusive a) → handled_of a ≡ Option.None
+exclusive-handles : (a : Access) → IsTrue (is_exclusive a) → forked_or_joined_of a ≡ Option.None
 exclusive-handles (Exclusive c) h = refl
 exclusive-handles _ h = absurd (false≢true h)
 
-shared-handles : (a : Access) → IsTrue (is_shared a) → handled_of a ≡ Option.None
+shared-handles : (a : Access) → IsTrue (is_shared a) → forked_or_joined_of a ≡ Option.None
 shared-handles (Shared c) h = refl
 shared-handles _ h = absurd (false≢true h)
 
@@ -53,22 +53,22 @@ pub record DoSame (e f : Event) : Type 0 where
   pub threads : thread_of e ≡ thread_of f
   pub cells : cell_of (access_of e.kind) ≡ cell_of (access_of f.kind)
   pub exclusive : is_exclusive (access_of e.kind) ≡ is_exclusive (access_of f.kind)
-  pub handled : handled_by e.kind ≡ handled_by f.kind
+  pub handled : thread_forked_or_joined e.kind ≡ thread_forked_or_joined f.kind
   pub first_inner : IsFalse (is_begin e.kind || is_end e.kind)
   pub inner : IsFalse (is_begin f.kind || is_end f.kind)
 
 first_words : ℕ → Option ℕ → Bool → Option ℕ → Event → Bool
-first_words t c x h g = (t == thread_of g) || (are_same c (cell_of (access_of g.kind)) && (x || is_exclusive (access_of g.kind))) || are_same h (Some (thread_of g)) || are_same (handled_by g.kind) (Some t)
+first_words t c x h g = (t == thread_of g) || (are_same c (cell_of (access_of g.kind)) && (x || is_exclusive (access_of g.kind))) || are_same h (Some (thread_of g)) || are_same (thread_forked_or_joined g.kind) (Some t)
 
 second_words : ℕ → Option ℕ → Bool → Option ℕ → Event → Bool
-second_words t c x h g = (thread_of g == t) || (are_same (cell_of (access_of g.kind)) c && (is_exclusive (access_of g.kind) || x)) || are_same (handled_by g.kind) (Some t) || are_same h (Some (thread_of g))
+second_words t c x h g = (thread_of g == t) || (are_same (cell_of (access_of g.kind)) c && (is_exclusive (access_of g.kind) || x)) || are_same (thread_forked_or_joined g.kind) (Some t) || are_same h (Some (thread_of g))
 
 four : (W : ℕ → Option ℕ → Bool → Option ℕ → Event → Bool) (e f g : Event) → DoSame e f
-    → W (thread_of e) (cell_of (access_of e.kind)) (is_exclusive (access_of e.kind)) (handled_by e.kind) g ≡ W (thread_of f) (cell_of (access_of f.kind)) (is_exclusive (access_of f.kind)) (handled_by f.kind) g
+    → W (thread_of e) (cell_of (access_of e.kind)) (is_exclusive (access_of e.kind)) (thread_forked_or_joined e.kind) g ≡ W (thread_of f) (cell_of (access_of f.kind)) (is_exclusive (access_of f.kind)) (thread_forked_or_joined f.kind) g
 four W e f g s =
-    ap (λ t. W t (cell_of (access_of e.kind)) (is_exclusive (access_of e.kind)) (handled_by e.kind) g) s.threads
-    ∙ (ap (λ c. W (thread_of f) c (is_exclusive (access_of e.kind)) (handled_by e.kind) g) s.cells
-    ∙ (ap (λ x. W (thread_of f) (cell_of (access_of f.kind)) x (handled_by e.kind) g) s.exclusive
+    ap (λ t. W t (cell_of (access_of e.kind)) (is_exclusive (access_of e.kind)) (thread_forked_or_joined e.kind) g) s.threads
+    ∙ (ap (λ c. W (thread_of f) c (is_exclusive (access_of e.kind)) (thread_forked_or_joined e.kind) g) s.cells
+    ∙ (ap (λ x. W (thread_of f) (cell_of (access_of f.kind)) x (thread_forked_or_joined e.kind) g) s.exclusive
     ∙ ap (λ h. W (thread_of f) (cell_of (access_of f.kind)) (is_exclusive (access_of f.kind)) h g) s.handled))
 
 conflict-first : (e f g : Event) → DoSame e f → conflict e g ≡ conflict f g

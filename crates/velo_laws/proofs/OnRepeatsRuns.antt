@@ -8,7 +8,7 @@ use Rattle.velo_events.specs.declared.config.Bounds.{Bounds}
 use Rattle.velo_events.specs.declared.event.Event.{Event}
 use Rattle.velo_events.specs.declared.event.Kind.{Kind}
 use Rattle.velo_events.specs.declared.event.Kind.TheVariants.{Read, Write, Acquire, Release, AcquireShared, ReleaseShared, Begin, End, Fork, Join, Exit}
-use Rattle.velo_events.specs.Event.{are_same, thread_of, variable_of, value_of, access_of, cell_of, is_exclusive, locked_by, shared_by, forked_by, joined_by, is_read, is_write, is_acquire, is_release, is_acquire_shared, is_release_shared, is_begin, is_end, is_exit, is_by, is_write_of, is_on_lock, is_on_share, is_begin_by, is_end_by, is_exit_by, is_fork_of, is_join_of}
+use Rattle.velo_events.specs.Event.{are_same, thread_of, variable_of, value_of, access_of, cell_of, is_exclusive, exclusive_lock_of, shared_lock_of, thread_forked, thread_joined, is_read, is_write, is_acquire, is_release, is_acquire_shared, is_release_shared, is_begin, is_end, is_exit, is_by, is_write_of, is_on_lock, is_on_share, is_begin_by, is_end_by, is_exit_by, is_fork_of, is_join_of}
 use Rattle.velo_events.specs.Heap.{latest, happened, times, value_in, holder_in, shares_in}
 use Rattle.velo_events.specs.WellFormed.{IsInTurn, MayFollow, IsWellFormed}
 use Rattle.velo_events.specs.Graph.{conflict_at}
@@ -26,22 +26,22 @@ use Rattle.velo_laws.proofs.OnDropped.{take-none}
 abbrev is_access : Kind → Bool
 is_access k = is_read k || is_write k
 
-lock_none : (o : Option ℕ) (k : Kind) → IsTrue (is_access k) → IsFalse (are_same (locked_by k) o)
+lock_none : (o : Option ℕ) (k : Kind) → IsTrue (is_access k) → IsFalse (are_same (exclusive_lock_of k) o)
 lock_none o (Read x v) h = refl
 lock_none o (Write x v) h = refl
 lock_none o _ h = absurd (false≢true h)
 
-share_none : (o : Option ℕ) (k : Kind) → IsTrue (is_access k) → IsFalse (are_same (shared_by k) o)
+share_none : (o : Option ℕ) (k : Kind) → IsTrue (is_access k) → IsFalse (are_same (shared_lock_of k) o)
 share_none o (Read x v) h = refl
 share_none o (Write x v) h = refl
 share_none o _ h = absurd (false≢true h)
 
-fork_none : (o : Option ℕ) (k : Kind) → IsTrue (is_access k) → IsFalse (are_same (forked_by k) o)
+fork_none : (o : Option ℕ) (k : Kind) → IsTrue (is_access k) → IsFalse (are_same (thread_forked k) o)
 fork_none o (Read x v) h = refl
 fork_none o (Write x v) h = refl
 fork_none o _ h = absurd (false≢true h)
 
-join_none : (o : Option ℕ) (k : Kind) → IsTrue (is_access k) → IsFalse (are_same (joined_by k) o)
+join_none : (o : Option ℕ) (k : Kind) → IsTrue (is_access k) → IsFalse (are_same (thread_joined k) o)
 join_none o (Read x v) h = refl
 join_none o (Write x v) h = refl
 join_none o _ h = absurd (false≢true h)

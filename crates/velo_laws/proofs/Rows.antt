@@ -64,15 +64,15 @@ unfoldable is_joined : Left → List Event → ℕ → ℕ → ℕ → Bool
 is_joined left log zero i j = is_step left log i j
 is_joined left log (suc n) i j = is_step left log i j || any_below j (λ k. is_step left log i k && is_joined left log n k j)
 
-joined_by : (left : Left) (log : List Event) (n i j : ℕ) → IsTrue (is_joined left log n i j) → Leads (IsStep left log) i j
+thread_joined : (left : Left) (log : List Event) (n i j : ℕ) → IsTrue (is_joined left log n i j) → Leads (IsStep left log) i j
 unfolding is_joined
-joined_by left log zero i j h = ([], step_by left log i j h)
-joined_by left log (suc n) i j h =
+thread_joined left log zero i j h = ([], step_by left log i j h)
+thread_joined left log (suc n) i j h =
     ⊎_elim (λ s. ([], step_by left log i j s))
     (λ s.
     let w = any_below-some j _ s in
     let p = and_parts _ _ w.2 in
-    let rest = joined_by left log n w.0 j p.1 in
+    let rest = thread_joined left log n w.0 j p.1 in
     (w.0 ∷ rest.0, (step_by left log i w.0 p.0, rest.1)))
     (or_cases _ _ h)
 
@@ -84,7 +84,7 @@ ordered_by : (left : Left) (log : List Event) (n : ℕ) → IsTrue (all_joined l
 unfolding all_joined
 ordered_by left log n h i j c =
     let cell = all_below-at j _ (all_below-at (length log) _ h j (conflict_at-within log i j c.1).1) i c.0 in
-    ⊎_elim (λ none. absurd (false≢true (sym (not-true _ none) ∙ c.1))) (λ joined. joined_by left log n i j joined) (or_cases _ _ cell)
+    ⊎_elim (λ none. absurd (false≢true (sym (not-true _ none) ∙ c.1))) (λ joined. thread_joined left log n i j joined) (or_cases _ _ cell)
 
 -- of two conflicting positions the first has no step to a later one
 unfoldable is_cut_off : Left → List Event → ℕ → Bool

@@ -1,5 +1,6 @@
 -- The tallies of the threads of a trace, one event after another, and their sum.
-use Rattle.std.proofs.Common.{◌≡◌, ◌≢◌, ℕ, zero, suc, ◌+◌, ◌<◌, ◌≤◌, Bool, cond, List, [], ◌∷◌, ◌++◌, length, take, set, Option, Some, refl, sym, ap, ◌∙◌, arith, sum_by, add-one, add-zero, ⊎_elim, inl, inr}
+use Rattle.std.proofs.Common.{◌≡◌, ◌≢◌, ℕ, zero, suc, ◌+◌, ◌<◌, ◌≤◌, Bool, cond, List, [], ◌∷◌, ◌++◌, length, take, set, Option, Some, None, refl, sym, ap, ◌∙◌, arith, sum_by, add-one, add-zero, ⊎_elim, inl, inr}
+use Rattle.std.specs.Option.{option_map_or}
 use Rattle.std.specs.Prelude.{slice_get, ◌⊎◌, ◌&&◌, if◌then◌else◌, IsTrue, IsFalse}
 use Rattle.std.proofs.lemmas.Bool.{cases_Bool, cases_eq, eq-eqb, ne_eqb}
 use Rattle.std.proofs.lemmas.List.{take_all, length-set, length-replicate}
@@ -10,7 +11,9 @@ use Rattle.velo_events.specs.declared.event.Kind.{Kind}
 use Rattle.velo_events.specs.declared.event.Kind.TheVariants.{Read, Write, Acquire, Release, AcquireShared, ReleaseShared, Begin, End, Fork, Join, Exit}
 use Rattle.velo_events.specs.Event.{thread_of, is_by, is_read, is_write, value_of}
 use Rattle.velo_events.specs.Heap.{times}
-use Rattle.velo_events.specs.Tally.{end_of_last, events_of, next_of, last_of, read_total_of, written_total_of}
+use Rattle.velo_events.specs.Tally.{events_of, next_of, last_of, read_total_of, written_total_of}
+use Rattle.velo_events.specs.Place.{last_position}
+use Rattle.velo_events.proofs.OnLast.{last_position-push, last_position-is, IsLast-within}
 use Rattle.velo_events.proofs.OnTraces.{latest-nil, latest-push, times-nil, times-push}
 use Rattle.velo_ledger.specs.declared.tally.Tally.{Tally}
 use Rattle.velo_ledger.specs.Tally.{blank, with_event, read_by, written_by}
@@ -18,28 +21,6 @@ use Rattle.velo_ledger.specs.Views.{Accounts, Holding}
 use Rattle.velo_ledger.specs.Book.{FitsBook, with_row, opening_accounts}
 use Rattle.velo_ledger.specs.Logs.{tally_of, AreTalliesOf, events_below}
 use Rattle.velo_ledger.proofs.Places.{slice_get-set_same, slice_get-set_other, slice_get-replicate}
-
--- ---- the last position that passes a test
-
-end_of_last-yes : (test : Event → Bool) (trace : List Event) (e : Event) → IsTrue (test e) → end_of_last test (trace ++ e ∷ []) ≡ length trace + 1
-unfolding end_of_last
-end_of_last-yes test [] e h = rw h refl
-end_of_last-yes test (f ∷ fs) e h = rw (end_of_last-yes test fs e h, add-one (length fs), add-one (suc (length fs))) refl
-
-end_of_last-no : (test : Event → Bool) (trace : List Event) (e : Event) → IsFalse (test e) → end_of_last test (trace ++ e ∷ []) ≡ end_of_last test trace
-unfolding end_of_last
-end_of_last-no test [] e h = rw h refl
-end_of_last-no test (f ∷ fs) e h = rw (end_of_last-no test fs e h) refl
-
-end_of_last-cons-le : (test : Event → Bool) (e : Event) (es : List Event) (n : ℕ) → end_of_last test es ≡ n → end_of_last test (e ∷ es) ≤ n + 1
-unfolding end_of_last
-end_of_last-cons-le test e es zero is = rw is (⊎_elim (λ h. rw h (omega arith)) (λ h. rw h (omega arith)) (cases_Bool (test e)))
-end_of_last-cons-le test e es (suc n) is = rw is (omega arith)
-
-end_of_last-le : (test : Event → Bool) (trace : List Event) → end_of_last test trace ≤ length trace
-unfolding end_of_last
-end_of_last-le test [] = omega arith
-end_of_last-le test (e ∷ es) = let rest = end_of_last-le test es in let first = end_of_last-cons-le test e es (end_of_last test es) refl in omega (arith, rest, first)
 
 -- ---- the parts of one event
 
@@ -96,7 +77,7 @@ written_total_of-other trace t e h =
 -- ---- one event more
 
 pub tally_of-nil : (t : ℕ) → tally_of [] t ≡ blank
-unfolding end_of_last read_total_of written_total_of
+unfolding last_position read_total_of written_total_of
 tally_of-nil t = rw (times-nil (is_by t), latest-nil (is_by t)) refl
 
 pub tally_of-own : (trace : List Event) (t : ℕ) (e : Event) → thread_of e ≡ t → tally_of (trace ++ e ∷ []) t ≡ with_event (tally_of trace t) (length trace) e
@@ -104,18 +85,24 @@ tally_of-own trace t e is =
     let by : IsTrue (is_by t e) = eq-eqb _ _ is in
     let count : events_of (trace ++ e ∷ []) t ≡ events_of trace t + 1 = times-push (is_by t) trace e ∙ ap (λ b. events_of trace t + cond {A = ℕ} b 1 0) by in
     let last : last_of (trace ++ e ∷ []) t ≡ Some e = latest-push (is_by t) trace e ∙ ap (λ b. cond {A = Option Event} b (Some e) (last_of trace t)) by in
-    rw (count, last, end_of_last-yes (is_by t) trace e by, read_total_of-own trace t e by, written_total_of-own trace t e by) refl
+    let next : next_of (trace ++ e ∷ []) t ≡ length trace + 1 = ap (λ o. option_map_or suc o 0) (last_position-push (is_by t) trace e) ∙ rw (by, add-one (length trace)) refl in
+    rw (count, last, next, read_total_of-own trace t e by, written_total_of-own trace t e by) refl
 
 pub tally_of-other : (trace : List Event) (t : ℕ) (e : Event) → thread_of e ≢ t → tally_of (trace ++ e ∷ []) t ≡ tally_of trace t
 tally_of-other trace t e other =
     let by : IsFalse (is_by t e) = ne_eqb _ _ other in
     let count : events_of (trace ++ e ∷ []) t ≡ events_of trace t = times-push (is_by t) trace e ∙ (ap (λ b. events_of trace t + cond {A = ℕ} b 1 0) by ∙ add-zero (events_of trace t)) in
     let last : last_of (trace ++ e ∷ []) t ≡ last_of trace t = latest-push (is_by t) trace e ∙ ap (λ b. cond {A = Option Event} b (Some e) (last_of trace t)) by in
-    rw (count, last, end_of_last-no (is_by t) trace e by, read_total_of-other trace t e by, written_total_of-other trace t e by) refl
+    let next : next_of (trace ++ e ∷ []) t ≡ next_of trace t = ap (λ o. option_map_or suc o 0) (last_position-push (is_by t) trace e ∙ ap (λ b. cond {A = Option ℕ} b (Some (length trace)) (last_position (is_by t) trace)) by) in
+    rw (count, last, next, read_total_of-other trace t e by, written_total_of-other trace t e by) refl
 
 -- a thread's next position is within the trace
 pub next_of-le : (trace : List Event) (t : ℕ) → next_of trace t ≤ length trace
-next_of-le trace t = end_of_last-le (is_by t) trace
+next_of-le trace t = go (last_position (is_by t) trace) refl
+  where
+    go : (o : Option ℕ) → last_position (is_by t) trace ≡ o → option_map_or suc o 0 ≤ length trace
+    go None is = omega arith
+    go (Some k) is = let within = IsLast-within (is_by t) trace k (last_position-is (is_by t) trace k is) in omega (arith, within)
 
 -- ---- rows
 

@@ -69,19 +69,13 @@ abbrev pub finding_of : Result (Bounds × Trace) LogFault → Finding
 finding_of (Ok log) = Ok (log.0, log.1.events)
 finding_of (Err fault) = Err fault
 
--- What a reader of the bytes answers: what stands in them, unless the device failed or a growth was refused.
+-- What a reader of the bytes returns: what stands in them, unless the device failed or a growth was refused. That the device
+-- failed is said by the count of its failures.
 abbrev pub ReadsAs : ℕ → List ℕ → Finding → Type 0
 ReadsAs limit bytes (Err Read) = Unit {0}
 ReadsAs limit bytes (Err Memory) = GrowthRefused
 ReadsAs limit bytes (Ok log) = Stands limit bytes (Ok log)
 ReadsAs limit bytes (Err fault) = Stands limit bytes (Err fault)
-
--- the answer is this finding, unless the device failed or a growth was refused
-abbrev pub IsFindingOrFailure : Finding → Finding → Type 0
-IsFindingOrFailure finding (Err Read) = Unit {0}
-IsFindingOrFailure finding (Err Memory) = GrowthRefused
-IsFindingOrFailure finding (Ok log) = finding ≡ Ok log
-IsFindingOrFailure finding (Err fault) = finding ≡ Err fault
 
 -- the count of failures after a reader's answer
 abbrev pub failures_after : {X : Type 0} → Result X LogFault → ℕ → ℕ

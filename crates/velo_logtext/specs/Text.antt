@@ -5,7 +5,7 @@ use Rattle.velo_events.specs.declared.config.Bounds.{Bounds}
 use Rattle.velo_events.specs.declared.event.Event.{Event}
 use Rattle.velo_events.specs.declared.limits.TheConstants.{MAX_LOCKS, MAX_THREADS}
 use Rattle.velo_events.specs.declared.event.Kind.{Kind}
-use Rattle.velo_events.specs.Event.{shared_by}
+use Rattle.velo_events.specs.Event.{shared_lock_of}
 use Rattle.velo_events.specs.declared.event.Kind.TheVariants.{Read, Write, Acquire, Release, AcquireShared, ReleaseShared, Begin, End, Fork, Join, Exit}
 
 -- an operation in words
@@ -76,7 +76,7 @@ AreEvents events = AllByRecursion IsEvent events
 
 -- the version has the operation
 abbrev pub has_kind : Bool → Kind → Bool
-has_kind shares k = shares || not (is_some (shared_by k))
+has_kind shares k = shares || not (is_some (shared_lock_of k))
 
 pub record IsEventIn (shares : Bool) (e : Event) : Type 0 where
   pub fits : IsEvent e

@@ -32,6 +32,11 @@ GetsNewNode monitor e = GetsNew monitor.nodes (live_stamps monitor.nodes (steps_
 abbrev pub NeedsNode : Watched → List Event → Event → Type 0
 NeedsNode monitor trace e = BeginsOutermost trace e ⊎ (ComesOutside trace e × GetsNewNode monitor e)
 
+-- a fact about each trace, within any bounds, that the monitor stands for and the event may follow
+abbrev pub ForNext : Watched → Event → (Bounds → List Event → Type 0) → Type 0
+ForNext monitor e Fact =
+    (bounds : Bounds) (trace : List Event) → IsMonitorOf bounds monitor trace → MayFollow bounds trace e → Fact bounds trace
+
 -- what the monitor is promised of an event: it comes next in a trace whose monitor this is, there is room for what it
 -- records, and a slot is free if it needs one
 pub record IsNext (monitor : Watched) (position : ℕ) (e : Event) : Type 0 where

@@ -18,7 +18,7 @@ ghost use Rattle.velo_events.specs.Place.{Place as PlaceOf, LastOf};
 ghost use Rattle.velo_tables.specs.LastAccesses.{entry, steps_looked_up, HasRoomFor};
 ghost use Rattle.velo_tables.specs.Others.{accesses_but_for};
 ghost use Rattle.velo_monitor.specs.Watched.{IsMonitorOf, ForItsTraces};
-ghost use Rattle.velo_monitor.specs.Answers.{NeedsNode, GetsNewNode, IsNext, IsSeen};
+ghost use Rattle.velo_monitor.specs.Answers.{NeedsNode, GetsNewNode, ForNext, IsNext, IsSeen};
 ghost use Rattle.velo_monitor.specs.Steps.{live_slots, ReachesSome};
 ghost use Rattle.velo_monitor.specs.Changed.{depth_of, CanCount, AfterInside, EndsBlock, CountsBlocks, BeginsBlock, IsPlaced, AfterOutside, ForgetsDead};
 
@@ -109,8 +109,9 @@ impl Monitor {
     pub fn reserve(&mut self, event: &Event) -> Result<(), Memory>
         ensures nodes { self.new.nodes ≡ self.old.nodes }
         ensures entries { (p : PlaceOf) → entry self.new.kept p ≡ entry self.old.kept p }
-        ensures same { (bounds : BoundsOf) (trace : List EventOf) → IsMonitorOf bounds self.old trace → IsMonitorOf bounds self.new trace }
-        ensures room { OnOk result ((bounds : BoundsOf) (trace : List EventOf) → IsMonitorOf bounds self.old trace → MayFollow bounds trace event.now → HasRoomFor self.new.kept event.now) }
+        ensures same { ForItsTraces self.old (λ bounds trace. IsMonitorOf bounds self.new trace) }
+        ensures room { OnOk result (ForNext self.old event.now (λ bounds trace.
+            HasRoomFor self.new.kept event.now)) }
         ensures full { OnErr result (¬ HasRoomFor self.old.kept event.now) }
     {
         self.tables.reserve_for(event)
@@ -119,15 +120,18 @@ impl Monitor {
     /// Whether there is room for what the next event leaves.
     #[inline(always)]
     pub fn has_room_for(&self, event: &Resolved<'_>) -> bool
-        ensures { (bounds : BoundsOf) (trace : List EventOf) → IsMonitorOf bounds self.now trace → MayFollow bounds trace event.now → IsTrue result ↔ HasRoomFor self.now.kept event.now }
+        ensures { ForNext self.now event.now (λ bounds trace.
+            IsTrue result ↔ HasRoomFor self.now.kept event.now) }
     {
         self.tables.has_room_for(event)
     }
 
     /// Whether the next event needs a slot of its own.
     pub fn needs_node(&self, event: &Event) -> bool
-        ensures exact { (bounds : BoundsOf) (trace : List EventOf) → IsMonitorOf bounds self.now trace → MayFollow bounds trace event.now → IsTrue result ↔ NeedsNode self.now trace event.now }
-        ensures outside { (bounds : BoundsOf) (trace : List EventOf) → IsMonitorOf bounds self.now trace → MayFollow bounds trace event.now → IsTrue result → depth_in trace (thread_of event.now) ≡ 0 }
+        ensures exact { ForNext self.now event.now (λ bounds trace.
+            IsTrue result ↔ NeedsNode self.now trace event.now) }
+        ensures outside { ForNext self.now event.now (λ bounds trace.
+            IsTrue result → depth_in trace (thread_of event.now) ≡ 0) }
     {
         if self.depth(event.thread) > 0 {
             return false;
@@ -150,7 +154,9 @@ impl Monitor {
     pub fn observe(&mut self, position: usize, event: &Event) -> Seen
         requires { IsNext self.old position event.now }
         ensures limit { limit_of self.new.nodes.slots ≡ limit_of self.old.nodes.slots }
-        ensures seen { (bounds : BoundsOf) (trace : List EventOf) → IsMonitorOf bounds self.old trace → position ≡ length trace → MayFollow bounds trace event.now → IsSeen bounds self.old trace event.now result self.new }
+        ensures seen { ForItsTraces self.old (λ bounds trace.
+            position ≡ length trace → MayFollow bounds trace event.now
+            → IsSeen bounds self.old trace event.now result self.new) }
         ensures nothing_left { HasNothingLeft self.new.nodes }
     {
         self.observe_resolved(position, &Resolved::of(event))
@@ -161,7 +167,9 @@ impl Monitor {
     pub fn observe_resolved(&mut self, position: usize, event: &Resolved<'_>) -> Seen
         requires { IsNext self.old position event.now }
         ensures limit { limit_of self.new.nodes.slots ≡ limit_of self.old.nodes.slots }
-        ensures seen { (bounds : BoundsOf) (trace : List EventOf) → IsMonitorOf bounds self.old trace → position ≡ length trace → MayFollow bounds trace event.now → IsSeen bounds self.old trace event.now result self.new }
+        ensures seen { ForItsTraces self.old (λ bounds trace.
+            position ≡ length trace → MayFollow bounds trace event.now
+            → IsSeen bounds self.old trace event.now result self.new) }
         ensures nothing_left { HasNothingLeft self.new.nodes }
     {
         self.forget_dead(event);
@@ -175,7 +183,9 @@ impl Monitor {
         ensures same { (bounds : BoundsOf) → IsMonitorOf bounds self.old events.now → IsMonitorOf bounds self.new events.now }
         ensures limit { limit_of self.new.nodes.slots ≡ limit_of self.old.nodes.slots }
         ensures room { (e : EventOf) → HasRoomFor self.old.kept e → HasRoomFor self.new.kept e }
-        ensures few { (bounds : BoundsOf) (t : ℕ) → IsMonitorOf bounds self.old events.now → t < bounds.threads → depth_in events.now t ≡ 0 → used_in self.new.nodes.slots < bounds.threads * bounds.threads }
+        ensures few { (bounds : BoundsOf) (t : ℕ) → IsMonitorOf bounds self.old events.now
+            → t < bounds.threads → depth_in events.now t ≡ 0
+            → used_in self.new.nodes.slots < bounds.threads * bounds.threads }
     {
         self.heirs.find(&self.graph, events, self.depths.len());
         self.graph.leave_out(self.heirs.list());
@@ -222,7 +232,9 @@ fn place_after_both(
     position: u32,
 ) -> Option<Step>
     requires stamp { ForSome graph.old.slots.newest (λ newest. newest < position) }
-    requires slot { GetsNew graph.old (live_stamps graph.old (option_to_list own ++ option_to_list beside)) → used_in graph.old.slots < limit_of graph.old.slots }
+    requires slot { GetsNew graph.old
+        (live_stamps graph.old (option_to_list own ++ option_to_list beside))
+        → used_in graph.old.slots < limit_of graph.old.slots }
     ensures placed { IsPlaced graph.old (option_to_list own ++ option_to_list beside) position result graph.new }
     ensures limit { limit_of graph.new.slots ≡ limit_of graph.old.slots }
 {
@@ -287,7 +299,9 @@ impl Monitor {
     fn take_in(&mut self, position: usize, event: &Resolved<'_>) -> Seen
         requires { IsNext self.old position event.now }
         ensures limit { limit_of self.new.nodes.slots ≡ limit_of self.old.nodes.slots }
-        ensures seen { (bounds : BoundsOf) (trace : List EventOf) → IsMonitorOf bounds self.old trace → position ≡ length trace → MayFollow bounds trace event.now → IsSeen bounds self.old trace event.now result self.new }
+        ensures seen { ForItsTraces self.old (λ bounds trace.
+            position ≡ length trace → MayFollow bounds trace event.now
+            → IsSeen bounds self.old trace event.now result self.new) }
         ensures nothing_left { HasNothingLeft self.new.nodes }
     {
         if self.depth(event.thread()) > 0 {
@@ -307,7 +321,9 @@ impl Monitor {
         requires room { HasRoomFor self.old.kept event.now }
         requires sound { IsSound self.old.nodes }
         requires nothing { HasNothingLeft self.old.nodes }
-        requires current { (own : StepOf) × (entry self.old.kept (LastOf (thread_of event.now)) ≡ Some own) × Bears self.old.nodes own.slot own.stamp }
+        requires current { (own : StepOf)
+            × (entry self.old.kept (LastOf (thread_of event.now)) ≡ Some own)
+            × Bears self.old.nodes own.slot own.stamp }
         requires depth { CanCount self.old (thread_of event.now) event.now.kind }
         ensures inside { AfterInside self.old event.now result self.new }
         ensures limit { limit_of self.new.nodes.slots ≡ limit_of self.old.nodes.slots }
@@ -333,7 +349,9 @@ impl Monitor {
         requires sound { IsSound self.old.nodes }
         ensures closes { IsTrue result ↔ ReachesSome self.old.nodes own.slot (steps_looked_up self.old.kept event.now) }
         ensures same { IsTrue result → self.new ≡ self.old }
-        ensures adds { IsFalse result → AddsEdges self.old.nodes self.new.nodes (live_slots self.old.nodes (steps_looked_up self.old.kept event.now)) own.slot }
+        ensures adds { IsFalse result
+            → AddsEdges self.old.nodes self.new.nodes
+            (live_slots self.old.nodes (steps_looked_up self.old.kept event.now)) own.slot }
         ensures kept { self.new.kept ≡ self.old.kept }
         ensures depths { self.new.depths ≡ self.old.depths }
         ensures sound { IsSound self.new.nodes }
@@ -355,7 +373,9 @@ impl Monitor {
         requires sound { IsSound self.old.nodes }
         ensures closes { IsTrue result ↔ ReachesSome self.old.nodes own.slot (accesses_but_for self.old.kept cell.0 own.slot) }
         ensures same { IsTrue result → self.new ≡ self.old }
-        ensures adds { IsFalse result → AddsEdges self.old.nodes self.new.nodes (live_slots self.old.nodes (accesses_but_for self.old.kept cell.0 own.slot)) own.slot }
+        ensures adds { IsFalse result
+            → AddsEdges self.old.nodes self.new.nodes
+            (live_slots self.old.nodes (accesses_but_for self.old.kept cell.0 own.slot)) own.slot }
         ensures kept { self.new.kept ≡ self.old.kept }
         ensures depths { self.new.depths ≡ self.old.depths }
         ensures sound { IsSound self.new.nodes }

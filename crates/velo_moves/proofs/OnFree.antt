@@ -8,7 +8,7 @@ use Rattle.velo_events.specs.declared.event.Event.{Event}
 use Rattle.velo_events.specs.declared.event.Kind.{Kind}
 use Rattle.velo_events.specs.declared.event.Status.TheVariants.{Unborn}
 use Rattle.velo_events.specs.declared.event.Kind.TheVariants.{Read, Write, Acquire, Release, AcquireShared, ReleaseShared, Begin, End, Fork, Join, Exit}
-use Rattle.velo_events.specs.Event.{are_same, thread_of, value_of, variable_of, locked_by, shared_by, access_of, cell_of, is_exclusive, forked_by, joined_by, handled_by, is_write, is_acquire, is_by, is_begin_by, is_end_by, is_acquire_by, is_release_by, is_acquire_shared_by, is_release_shared_by, is_exit_by, is_write_of, is_on_lock, is_on_share, is_fork_of, is_join_of}
+use Rattle.velo_events.specs.Event.{are_same, thread_of, value_of, variable_of, exclusive_lock_of, shared_lock_of, access_of, cell_of, is_exclusive, thread_forked, thread_joined, thread_forked_or_joined, is_write, is_acquire, is_by, is_begin_by, is_end_by, is_acquire_by, is_release_by, is_acquire_shared_by, is_release_shared_by, is_exit_by, is_write_of, is_on_lock, is_on_share, is_fork_of, is_join_of}
 use Rattle.velo_events.specs.Conflict.{conflict}
 use Rattle.velo_events.specs.Heap.{happened, times, value_in, holder_in, status_in}
 use Rattle.velo_events.specs.Meaning.{is_unborn}
@@ -50,12 +50,12 @@ write-cell : (x : ℕ) (k : Kind) → IsTrue (is_write k && are_same (variable_o
 write-cell x (Write y v) h = (let same = eqb-true y.0 x h in eq-eqb _ _ (ap (λ n. n + n) (sym same)), refl)
 write-cell x _ h = absurd (false≢true h)
 
-lock-cell : (m : ℕ) (k : Kind) → IsTrue (are_same (locked_by k) (Some m)) → IsTrue (are_same (Some (m + m + 1)) (cell_of (access_of k))) × IsTrue (is_exclusive (access_of k))
+lock-cell : (m : ℕ) (k : Kind) → IsTrue (are_same (exclusive_lock_of k) (Some m)) → IsTrue (are_same (Some (m + m + 1)) (cell_of (access_of k))) × IsTrue (is_exclusive (access_of k))
 lock-cell m (Acquire n) h = (let same = eqb-true n.0 m h in eq-eqb _ _ (ap (λ i. i + i + 1) (sym same)), refl)
 lock-cell m (Release n) h = (let same = eqb-true n.0 m h in eq-eqb _ _ (ap (λ i. i + i + 1) (sym same)), refl)
 lock-cell m _ h = absurd (false≢true h)
 
-share-cell : (m : ℕ) (k : Kind) → IsTrue (are_same (shared_by k) (Some m)) → IsTrue (are_same (Some (m + m + 1)) (cell_of (access_of k)))
+share-cell : (m : ℕ) (k : Kind) → IsTrue (are_same (shared_lock_of k) (Some m)) → IsTrue (are_same (Some (m + m + 1)) (cell_of (access_of k)))
 share-cell m (AcquireShared n) h = let same = eqb-true n.0 m h in eq-eqb _ _ (ap (λ i. i + i + 1) (sym same))
 share-cell m (ReleaseShared n) h = let same = eqb-true n.0 m h in eq-eqb _ _ (ap (λ i. i + i + 1) (sym same))
 share-cell m _ h = absurd (false≢true h)
@@ -85,7 +85,7 @@ module _ (bounds : Bounds) (May : ℕ → List Event → Type 0) (log : List Eve
       (cases_Bool (gives_up e.kind || gives_up g.kind))
 
   -- it neither forks nor joins the event's thread, which is born and has not exited
-  no_handling : (l : Kind) → IsInTurn log (thread_of g) l → IsFalse (are_same (handled_by l) (Some (thread_of e)))
+  no_handling : (l : Kind) → IsInTurn log (thread_of g) l → IsFalse (are_same (thread_forked_or_joined l) (Some (thread_of e)))
   no_handling (Fork u) turn = ne_eqb u.0 (thread_of e) (λ same. ⊎_elim
       (λ first. turn.0 (same ∙ eqb-true (thread_of e) 0 first))
       (λ forked. both_ways _ turn.1 (subst (λ i. IsTrue (happened (is_fork_of i) log)) (sym same) forked))
@@ -94,7 +94,7 @@ module _ (bounds : Bounds) (May : ℕ → List Event → Type 0) (log : List Eve
   no_handling _ turn = refl
 
   -- and the event neither forks nor joins its thread
-  not_handled : (k : Kind) → IsInTurn log (thread_of e) k → IsFalse (are_same (handled_by k) (Some (thread_of g)))
+  not_handled : (k : Kind) → IsInTurn log (thread_of e) k → IsFalse (are_same (thread_forked_or_joined k) (Some (thread_of g)))
   not_handled (Fork u) turn = ne_eqb u.0 (thread_of g) (λ same. ⊎_elim
       (λ first. turn.0 (same ∙ eqb-true (thread_of g) 0 first))
       (λ forked. both_ways _ turn.1 (subst (λ i. IsTrue (happened (is_fork_of i) log)) (sym same) forked))
@@ -153,11 +153,11 @@ module _ (bounds : Bounds) (May : ℕ → List Event → Type 0) (log : List Eve
       rw (begins, ends) turn
   turn_after (Fork u) is turn = (
     turn.0,
-    happened-no (is_fork_of u.0) log g (are_same-comm (forked_by g.kind) (Some u.0) ∙ (ap (λ k. are_same (forked_by k) (forked_by g.kind)) (sym is) ∙ (or_parts _ _ (or_parts _ _ apart.1).0).0)) ∙ turn.1,
+    happened-no (is_fork_of u.0) log g (are_same-comm (thread_forked g.kind) (Some u.0) ∙ (ap (λ k. are_same (thread_forked k) (thread_forked g.kind)) (sym is) ∙ (or_parts _ _ (or_parts _ _ apart.1).0).0)) ∙ turn.1,
   )
   turn_after (Join u) is turn = (
     happened-push (is_exit_by u.0) log g ∙ or_left _ _ turn.0,
-    happened-no (is_join_of u.0) log g (are_same-comm (joined_by g.kind) (Some u.0) ∙ (ap (λ k. are_same (joined_by k) (joined_by g.kind)) (sym is) ∙ (or_parts _ _ (or_parts _ _ apart.1).0).1)) ∙ turn.1,
+    happened-no (is_join_of u.0) log g (are_same-comm (thread_joined g.kind) (Some u.0) ∙ (ap (λ k. are_same (thread_joined k) (thread_joined g.kind)) (sym is) ∙ (or_parts _ _ (or_parts _ _ apart.1).0).1)) ∙ turn.1,
   )
   turn_after Exit is turn =
       let begins = times-no (is_begin_by (thread_of e)) log g (and_left _ _ not_own) in

@@ -8,7 +8,7 @@ use Rattle.velo_events.specs.declared.config.Bounds.{Bounds}
 use Rattle.velo_events.specs.declared.event.Event.{Event}
 use Rattle.velo_events.specs.declared.event.Kind.{Kind}
 use Rattle.velo_events.specs.declared.event.Kind.TheVariants.{Read, Write, Acquire, Release, AcquireShared, ReleaseShared, Begin, End, Fork, Join, Exit}
-use Rattle.velo_events.specs.Event.{are_same, thread_of, locked_by, shared_by, access_of, cell_of, is_exclusive, is_by, is_acquire, is_acquire_shared, is_on_lock, is_on_share}
+use Rattle.velo_events.specs.Event.{are_same, thread_of, exclusive_lock_of, shared_lock_of, access_of, cell_of, is_exclusive, is_by, is_acquire, is_acquire_shared, is_on_lock, is_on_share}
 use Rattle.velo_events.specs.Heap.{latest, holder_in, shares_in}
 use Rattle.velo_events.specs.WellFormed.{IsInTurn, MayFollow, IsWellFormed}
 use Rattle.velo_events.proofs.OnWellFormed.{IsWellFormed-induct, holder_in-push, shares_in-push, shares_in-kept, shares_in-set}
@@ -32,7 +32,7 @@ pub some_holder : (o : Option ℕ) (t : ℕ) → o ≡ Some t → o ≡ None →
 some_holder o t h k = false≢true (ap (λ (p : Option ℕ). are_same p (Some t)) (sym k ∙ h) ∙ eq-eqb t t refl)
 
 -- no other thread operates on a lock that is held
-pub held-not_touched : (log : List Event) (u t m : ℕ) (k : Kind) → u ≢ t → holder_in log m ≡ Some t → IsInTurn log u k → IsFalse (are_same (locked_by k) (Some m))
+pub held-not_touched : (log : List Event) (u t m : ℕ) (k : Kind) → u ≢ t → holder_in log m ≡ Some t → IsInTurn log u k → IsFalse (are_same (exclusive_lock_of k) (Some m))
 held-not_touched log u t m (Acquire n) other held turn = ne_eqb n.0 m (λ e. some_holder (holder_in log m) t held (subst (λ i. holder_in log i ≡ None) e turn.0))
 held-not_touched log u t m (Release n) other held turn = ne_eqb n.0 m (λ e. other (one_holder (holder_in log m) u t (subst (λ i. holder_in log i ≡ Some u) e turn) held))
 held-not_touched log u t m _ other held turn = refl
@@ -63,15 +63,15 @@ holder-by_own bounds t m = IsWellFormed-induct bounds (λ log. holder_in (own t 
 
 -- ---- shares
 
-on_lock : (log : List Event) (s m : ℕ) (k : Kind) → IsTrue (are_same (locked_by k) (Some m)) → IsInTurn log s k → IsTrue (is_acquire k) → (u : ℕ) → IsFalse (shares_in log m u)
+on_lock : (log : List Event) (s m : ℕ) (k : Kind) → IsTrue (are_same (exclusive_lock_of k) (Some m)) → IsInTurn log s k → IsTrue (is_acquire k) → (u : ℕ) → IsFalse (shares_in log m u)
 on_lock log s m (Acquire n) on turn takes u = subst (λ i. IsFalse (shares_in log i u)) (eqb-true n.0 m on) (turn.1 u)
 on_lock log s m _ on turn takes u = absurd (false≢true takes)
 
-on_share : (log : List Event) (s m : ℕ) (k : Kind) → IsTrue (are_same (shared_by k) (Some m)) → IsInTurn log s k → IsTrue (is_acquire_shared k) → holder_in log m ≡ None
+on_share : (log : List Event) (s m : ℕ) (k : Kind) → IsTrue (are_same (shared_lock_of k) (Some m)) → IsInTurn log s k → IsTrue (is_acquire_shared k) → holder_in log m ≡ None
 on_share log s m (AcquireShared n) on turn takes = subst (λ i. holder_in log i ≡ None) (eqb-true n.0 m on) turn.0
 on_share log s m _ on turn takes = absurd (false≢true takes)
 
-not_shared : (k : Kind) (m : ℕ) → IsTrue (are_same (locked_by k) (Some m)) → IsFalse (are_same (shared_by k) (Some m))
+not_shared : (k : Kind) (m : ℕ) → IsTrue (are_same (exclusive_lock_of k) (Some m)) → IsFalse (are_same (shared_lock_of k) (Some m))
 not_shared (Acquire n) m on = refl
 not_shared (Release n) m on = refl
 not_shared _ m on = absurd (false≢true on)

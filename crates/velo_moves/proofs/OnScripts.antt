@@ -10,7 +10,7 @@ use Rattle.velo_events.specs.declared.event.Action.{Action}
 use Rattle.velo_events.specs.declared.event.Event.{Event}
 use Rattle.velo_events.specs.declared.event.Kind.{Kind}
 use Rattle.velo_events.specs.declared.event.Kind.TheVariants.{Read, Write, Acquire, Release, AcquireShared, ReleaseShared, Begin, End, Fork, Join, Exit}
-use Rattle.velo_events.specs.Event.{are_same, thread_of, access_of, cell_of, is_exclusive, forked_by, joined_by, forked_of, joined_of, locked_by, shared_by, is_acquire, is_acquire_shared, is_release, is_release_shared, is_on_share}
+use Rattle.velo_events.specs.Event.{are_same, thread_of, access_of, cell_of, is_exclusive, thread_forked, thread_joined, forked_of, joined_of, exclusive_lock_of, shared_lock_of, is_acquire, is_acquire_shared, is_release, is_release_shared, is_on_share}
 use Rattle.velo_events.specs.Heap.{latest, holder_in, shares_in}
 use Rattle.velo_events.specs.Meaning.{action_of}
 use Rattle.velo_events.proofs.OnBlocks.{any_below-at, any_below-some}
@@ -44,8 +44,8 @@ plain-rivals k l =
 
 plain-twins : (k l : Kind) → are_twins (plain_kind k) (plain_kind l) ≡ are_twins k l
 plain-twins k l =
-    ap (λ a. are_same (forked_of a) (forked_by (plain_kind l)) || are_same (joined_of a) (joined_by (plain_kind l)) || are_same (forked_of a) (joined_by (plain_kind l))) (plain-access k)
-    ∙ ap (λ a. are_same (forked_by k) (forked_of a) || are_same (joined_by k) (joined_of a) || are_same (forked_by k) (joined_of a)) (plain-access l)
+    ap (λ a. are_same (forked_of a) (thread_forked (plain_kind l)) || are_same (joined_of a) (thread_joined (plain_kind l)) || are_same (forked_of a) (thread_joined (plain_kind l))) (plain-access k)
+    ∙ ap (λ a. are_same (thread_forked k) (forked_of a) || are_same (thread_joined k) (joined_of a) || are_same (thread_forked k) (joined_of a)) (plain-access l)
 
 -- ---- who has a lock by his own events
 
@@ -59,7 +59,7 @@ has-push log e m = ap (λ (o : Option ℕ). are_same o (Some (thread_of e))) (ho
     t : ℕ
     t = thread_of e
 
-    at : (k : Kind) → are_same (cond (are_same (locked_by k) (Some m)) (cond (is_acquire k) (Some (thread_of e)) None) (holder_in log m)) (Some (thread_of e)) ≡ has_after m (are_same (holder_in log m) (Some (thread_of e))) (plain_kind k)
+    at : (k : Kind) → are_same (cond (are_same (exclusive_lock_of k) (Some m)) (cond (is_acquire k) (Some (thread_of e)) None) (holder_in log m)) (Some (thread_of e)) ≡ has_after m (are_same (holder_in log m) (Some (thread_of e))) (plain_kind k)
     at (Acquire n) = ⊎_elim
         (λ on. rw on (eq-eqb (thread_of e) (thread_of e) refl))
         (λ off. rw off refl)
@@ -97,9 +97,9 @@ holder-by_script t m events by h = is_holder (holder_in events m) (has-events t 
 shares-push : (log : List Event) (e : Event) (m : ℕ) → shares_in (log ++ e ∷ []) m (thread_of e) ≡ shares_after m (shares_in log m (thread_of e)) (plain_kind e.kind)
 shares-push log e m =
     shares_in-push log e m (thread_of e)
-    ∙ (ap (λ b. cond (b && are_same (shared_by e.kind) (Some m)) (is_acquire_shared e.kind) (shares_in log m (thread_of e))) (eq-eqb (thread_of e) (thread_of e) refl) ∙ at e.kind)
+    ∙ (ap (λ b. cond (b && are_same (shared_lock_of e.kind) (Some m)) (is_acquire_shared e.kind) (shares_in log m (thread_of e))) (eq-eqb (thread_of e) (thread_of e) refl) ∙ at e.kind)
   where
-    at : (k : Kind) → cond (are_same (shared_by k) (Some m)) (is_acquire_shared k) (shares_in log m (thread_of e)) ≡ shares_after m (shares_in log m (thread_of e)) (plain_kind k)
+    at : (k : Kind) → cond (are_same (shared_lock_of k) (Some m)) (is_acquire_shared k) (shares_in log m (thread_of e)) ≡ shares_after m (shares_in log m (thread_of e)) (plain_kind k)
     at (AcquireShared n) = ⊎_elim (λ on. rw on refl) (λ off. rw off refl) (cases_Bool (n.0 == m))
     at (ReleaseShared n) = ⊎_elim (λ on. rw on refl) (λ off. rw off refl) (cases_Bool (n.0 == m))
     at (Read x v) = refl

@@ -14,7 +14,7 @@ use Rattle.velo_events.specs.declared.event.Kind.TheVariants.{Read, Acquire, Rel
 use Rattle.velo_events.specs.declared.event.Status.{Status}
 use Rattle.velo_events.specs.declared.refusal.Refusal.{Refusal}
 use Rattle.velo_events.specs.declared.refusal.Refusal.TheVariants.{NotLive, NoSuchVariable, NoSuchLock, NoSuchThread, Busy, AlreadyHeld, NotHolder, NoOpenBlock, TooDeep, AlreadyForked, NotForked, NotExited, AlreadyJoined, BlockOpen, LockHeld}
-use Rattle.velo_events.specs.Event.{are_same, thread_of, variable_of, lock_of, forked_by, joined_by, handled_by, is_begin, is_end, is_exit}
+use Rattle.velo_events.specs.Event.{are_same, thread_of, variable_of, lock_of, thread_forked, thread_joined, thread_forked_or_joined, is_begin, is_end, is_exit}
 use Rattle.velo_events.specs.Heap.{status_in, depth_in, holder_in, shares_in}
 use Rattle.velo_events.specs.Meaning.{kind_for, action_of, refusal_of, is_beyond, is_another, is_unborn, is_live, is_joined, holds, is_shared_beside, is_busy, is_held_already, is_unheld, status_is, holds_a_lock}
 use Rattle.velo_events.proofs.OnTraces.{slice_get-append, slice_get-push}
@@ -120,16 +120,16 @@ module _ (bounds : Bounds) (old new : List Event) (heap : StandsAlike old new) w
       reason_step _ _ NotLive _ _ (ap (λ s. not (nat_lt t bounds.threads && is_live s)) (heap.statuses t))
       (reason_step (is_beyond (variable_of k) bounds.variables) _ NoSuchVariable _ _ refl
       (reason_step (is_beyond (lock_of k) bounds.locks) _ NoSuchLock _ _ refl
-      (reason_step (is_beyond (handled_by k) bounds.threads) _ NoSuchThread _ _ refl
+      (reason_step (is_beyond (thread_forked_or_joined k) bounds.threads) _ NoSuchThread _ _ refl
       (reason_step _ _ Busy _ _ (busy-same t k)
       (reason_step _ _ AlreadyHeld _ _ (already-same t k)
       (reason_step _ _ NotHolder _ _ (unheld-same t k)
       (reason_step _ _ NoOpenBlock _ _ (ap (λ d. is_end k && (d == 0)) (heap.depths t))
       (reason_step _ _ TooDeep _ _ (ap (λ d. is_begin k && nat_le MAX_OPEN_BLOCKS d) (heap.depths t))
-      (reason_step _ _ AlreadyForked _ _ (status-same (forked_by k) (λ s. not (is_unborn s)))
-      (reason_step _ _ NotForked _ _ (status-same (joined_by k) is_unborn)
-      (reason_step _ _ NotExited _ _ (status-same (joined_by k) is_live)
-      (reason_step _ _ AlreadyJoined _ _ (status-same (joined_by k) is_joined)
+      (reason_step _ _ AlreadyForked _ _ (status-same (thread_forked k) (λ s. not (is_unborn s)))
+      (reason_step _ _ NotForked _ _ (status-same (thread_joined k) is_unborn)
+      (reason_step _ _ NotExited _ _ (status-same (thread_joined k) is_live)
+      (reason_step _ _ AlreadyJoined _ _ (status-same (thread_joined k) is_joined)
       (reason_step _ _ BlockOpen _ _ (ap (λ d. is_exit k && not (d == 0)) (heap.depths t))
       (reason_step _ _ LockHeld None None (ap (λ b. is_exit k && b) (holds-same t)) refl))))))))))))))
 

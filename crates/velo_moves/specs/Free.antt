@@ -4,7 +4,7 @@ use Rattle.velo_events.specs.declared.config.Bounds.{Bounds}
 use Rattle.velo_events.specs.declared.event.Event.{Event}
 use Rattle.velo_events.specs.declared.event.Kind.{Kind}
 use Rattle.velo_events.specs.declared.event.Status.TheVariants.{Unborn}
-use Rattle.velo_events.specs.Event.{are_same, thread_of, access_of, cell_of, is_exclusive, forked_by, joined_by, is_release, is_release_shared, is_begin, is_end, is_exit}
+use Rattle.velo_events.specs.Event.{are_same, thread_of, access_of, cell_of, is_exclusive, thread_forked, thread_joined, is_release, is_release_shared, is_begin, is_end, is_exit}
 use Rattle.velo_events.specs.Heap.{holder_in, shares_in, status_in}
 use Rattle.velo_moves.specs.Moves.{DoesNotConflict}
 use Rattle.velo_moves.specs.Programs.{own, IsLog}
@@ -23,7 +23,7 @@ are_rivals k l = do_clash k l && not (gives_up k || gives_up l)
 
 -- both fork one thread, or both join one, or the second joins the thread that the first forks
 abbrev pub are_twins : Kind → Kind → Bool
-are_twins k l = are_same (forked_by k) (forked_by l) || are_same (joined_by k) (joined_by l) || are_same (forked_by k) (joined_by l)
+are_twins k l = are_same (thread_forked k) (thread_forked l) || are_same (thread_joined k) (thread_joined l) || are_same (thread_forked k) (thread_joined l)
 
 -- No other thread comes, before the event's thread acts again, to where it tries a rival or a twin of the event
 pub record IsFree (bounds : Bounds) (May : ℕ → List Event → Type 0) (log : List Event) (e : Event) : Type 0 where

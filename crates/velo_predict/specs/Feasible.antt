@@ -3,7 +3,7 @@ use Rattle.std.specs.Prelude.{◌≡◌, ℕ, List, [], ◌∷◌, ◌++◌, Opt
 use Rattle.velo_events.specs.declared.config.Bounds.{Bounds}
 use Rattle.velo_events.specs.declared.event.Action.{Action}
 use Rattle.velo_events.specs.declared.event.Event.{Event}
-use Rattle.velo_events.specs.Event.{thread_of, is_read, handled_by}
+use Rattle.velo_events.specs.Event.{thread_of, is_read, thread_forked_or_joined}
 use Rattle.velo_events.specs.Graph.{HasCycle}
 use Rattle.velo_events.specs.Meaning.{holds}
 use Rattle.velo_moves.specs.Programs.{own, IsLog}
@@ -18,7 +18,7 @@ IsRun bounds wants run = IsLog bounds (Does wants) run
 -- alone, without forking or joining, thread t comes to where it has no lock
 pub record GivesBack (bounds : Bounds) (wants : ℕ → List Event → Option Action) (run : List Event) (t : ℕ) : Type 0 where
   pub more : List Event
-  pub alone : (i : ℕ) (e : Event) → slice_get more i ≡ Some e → (thread_of e ≡ t) × (handled_by e.kind ≡ None)
+  pub alone : (i : ℕ) (e : Event) → slice_get more i ≡ Some e → (thread_of e ≡ t) × (thread_forked_or_joined e.kind ≡ None)
   pub goes_on : IsRun bounds wants (run ++ more)
   pub nothing_held : (m : ℕ) → IsFalse (holds (run ++ more) t m)
 

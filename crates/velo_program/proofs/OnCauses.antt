@@ -94,8 +94,8 @@ of_flaw bounds log e r is = of_flaw_by (refusal_of bounds log (thread_of e) e.ki
 pub of_refused : (limit nodes : ℕ) (bounds : Bounds) (log : List Event) (p : ℕ) (r : Refusal) → IsRefusedAt limit nodes bounds log p r → RefusedByGrowth r
 of_refused limit nodes bounds log p r refused =
     ⊎_elim
-    (λ first. of_flaw bounds _ first.0.event r first.0.reason)
-    (λ full. ⊎_elim (λ h. rw h.0 tt) (λ h. rw h.0 tt) full.2)
+    (λ wrong. of_flaw bounds _ wrong.first.event r wrong.first.reason)
+    (λ full. ⊎_elim (λ h. rw h.0 tt) (λ h. rw h.0 tt) full)
     refused
 
 pub of_log : (f : LogFault) → (f ≡ log_fault.Memory → GrowthRefused) → LogByGrowth f

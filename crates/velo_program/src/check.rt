@@ -200,7 +200,7 @@ pub fn write_output<O: Sink>(
     }
 }
 
-/// Writes what a closed world shows by the names, and answers its verdict.
+/// Writes what a closed world shows by the names, and returns its verdict.
 fn show<O: Sink>(
     closed: &Closed,
     names: &Names,

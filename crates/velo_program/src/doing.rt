@@ -21,7 +21,7 @@ use std::thread::Threads;
 use velo_bytes::Sink;
 use velo_delivery::Files;
 
-/// Does what was asked for, with the report, the certificate or the words of an explanation on the sink, and answers what it
+/// Does what was asked for, with the report, the certificate or the words of an explanation on the sink, and returns what it
 /// came to. How far a search is goes to `progress`. A run of a workload by threads of its own may wait; the other commands start
 /// no thread.
 pub fn do_request<R: Threads + Wait + Sync, F: Files, O: Sink, P: ExploreProgress>(

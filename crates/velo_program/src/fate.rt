@@ -173,7 +173,7 @@ fn status_of(fate: Fate) -> u8
     }
 }
 
-/// Puts the line of a log's fault at the front of a buffer, and answers where it ends.
+/// Puts the line of a log's fault at the front of a buffer, and returns where it ends.
 fn put_log_fault(buffer: &mut [u8], fault: LogFault) -> usize
     requires { 64 ≤ length buffer.old }
     ensures text { take result buffer.new ≡ line_of_log fault }
@@ -197,7 +197,7 @@ fn put_log_fault(buffer: &mut [u8], fault: LogFault) -> usize
     }
 }
 
-/// Puts the line of a check's fault at the front of a buffer, and answers where it ends.
+/// Puts the line of a check's fault at the front of a buffer, and returns where it ends.
 fn put_check_fault(buffer: &mut [u8], fault: CheckFault) -> usize
     requires { 64 ≤ length buffer.old }
     ensures text { take result buffer.new ≡ line_of_check fault }
@@ -222,7 +222,7 @@ fn put_check_fault(buffer: &mut [u8], fault: CheckFault) -> usize
     }
 }
 
-/// Puts the line of an ending at the front of a buffer, and answers where it ends: at 0 if there is none.
+/// Puts the line of an ending at the front of a buffer, and returns where it ends: at 0 if there is none.
 fn put_ending(buffer: &mut [u8], ending: Ending) -> usize
     requires { 64 ≤ length buffer.old }
     ensures text { take result buffer.new ≡ line_of_ending ending }
@@ -238,7 +238,7 @@ fn put_ending(buffer: &mut [u8], ending: Ending) -> usize
     }
 }
 
-/// Puts the line of a refusal that ended a run at the front of a buffer, and answers where it ends.
+/// Puts the line of a refusal that ended a run at the front of a buffer, and returns where it ends.
 fn put_refused(buffer: &mut [u8], thread: ThreadId, refusal: Refusal) -> usize
     requires { 64 ≤ length buffer.old }
     ensures text { take result buffer.new ≡ line_of_refused thread refusal }
@@ -251,7 +251,7 @@ fn put_refused(buffer: &mut [u8], thread: ThreadId, refusal: Refusal) -> usize
     put_bytes(buffer, at, b"\n")
 }
 
-/// Puts the line of a schedule's fault at the front of a buffer, and answers where it ends.
+/// Puts the line of a schedule's fault at the front of a buffer, and returns where it ends.
 fn put_schedule_fault(buffer: &mut [u8], fault: ScheduleFault) -> usize
     requires { 64 ≤ length buffer.old }
     ensures text { take result buffer.new ≡ line_of_schedule fault }
@@ -277,7 +277,7 @@ fn place_of_work(fault: WorkFault) -> Option<(u64, usize)>
     }
 }
 
-/// Puts the line of a workload's fault at the front of a buffer, and answers where it ends.
+/// Puts the line of a workload's fault at the front of a buffer, and returns where it ends.
 fn put_work_fault(buffer: &mut [u8], fault: WorkFault) -> usize
     requires { 64 ≤ length buffer.old }
     ensures text { take result buffer.new ≡ line_of_work (place_of_work fault) }
@@ -295,7 +295,7 @@ fn put_work_fault(buffer: &mut [u8], fault: WorkFault) -> usize
     }
 }
 
-/// Puts the line of a fault of names at the front of a buffer, and answers where it ends.
+/// Puts the line of a fault of names at the front of a buffer, and returns where it ends.
 fn put_names_fault(buffer: &mut [u8], fault: NamesFault) -> usize
     requires { 64 ≤ length buffer.old }
     ensures text { take result buffer.new ≡ line_of_names (fault_number fault) (fault_line fault) }
@@ -313,7 +313,7 @@ fn put_names_fault(buffer: &mut [u8], fault: NamesFault) -> usize
     }
 }
 
-/// Puts the line of a fault of a list at the front of a buffer, and answers where it ends.
+/// Puts the line of a fault of a list at the front of a buffer, and returns where it ends.
 fn put_list_fault(buffer: &mut [u8], fault: ListFault) -> usize
     requires { 64 ≤ length buffer.old }
     ensures text { take result buffer.new
@@ -332,7 +332,7 @@ fn put_list_fault(buffer: &mut [u8], fault: ListFault) -> usize
     }
 }
 
-/// Puts the line of what was to be ignored and means nothing at the front of a buffer, and answers where it ends.
+/// Puts the line of what was to be ignored and means nothing at the front of a buffer, and returns where it ends.
 fn put_ignored(buffer: &mut [u8], what: Ignorable) -> usize
     requires { 64 ≤ length buffer.old }
     ensures text { take result buffer.new ≡ line_of_ignored what }
@@ -344,7 +344,7 @@ fn put_ignored(buffer: &mut [u8], what: Ignorable) -> usize
     }
 }
 
-/// Puts the word of an operand at a place of a buffer, and answers the place behind it.
+/// Puts the word of an operand at a place of a buffer, and returns the place behind it.
 fn put_operand(buffer: &mut [u8], at: usize, operand: Operand) -> usize
     requires { at + 5 ≤ length buffer.old }
     ensures text { take result buffer.new ≡ take at buffer.old ++ word_of operand }
@@ -360,7 +360,7 @@ fn put_operand(buffer: &mut [u8], at: usize, operand: Operand) -> usize
     }
 }
 
-/// Puts the line of an input that is the file to be written at the front of a buffer, and answers where it ends.
+/// Puts the line of an input that is the file to be written at the front of a buffer, and returns where it ends.
 fn put_one_file(buffer: &mut [u8], operand: Operand) -> usize
     requires { 64 ≤ length buffer.old }
     ensures text { take result buffer.new ≡ line_of_one_file operand }
@@ -371,7 +371,7 @@ fn put_one_file(buffer: &mut [u8], operand: Operand) -> usize
     put_bytes(buffer, at, b" and OUT are one file\n")
 }
 
-/// Puts the line that tells how a run ended at the front of a buffer, and answers where it ends: at 0 if there is none.
+/// Puts the line that tells how a run ended at the front of a buffer, and returns where it ends: at 0 if there is none.
 fn put_line(buffer: &mut [u8], fate: Fate) -> usize
     requires { 64 ≤ length buffer.old }
     ensures text { take result buffer.new ≡ line_of fate }
@@ -397,7 +397,7 @@ fn put_line(buffer: &mut [u8], fate: Fate) -> usize
     }
 }
 
-/// Writes the line that tells how a run ended, if there is one, in one piece, and answers the status to end with, 0 to 5
+/// Writes the line that tells how a run ended, if there is one, in one piece, and returns the status to end with, 0 to 5
 /// (see [`status`](crate::status)). It takes no memory.
 ///
 /// # Errors
@@ -418,7 +418,7 @@ pub fn end_line<S: Sink>(fate: &Fate, sink: &mut S) -> Result<u8, WriteFault>
     Ok(status_of(*fate))
 }
 
-/// Tells how a run ended, and answers the status to end with: that of `end_line`, or [`FAILED`] where the line could not be
+/// Tells how a run ended, and returns the status to end with: that of `end_line`, or [`FAILED`] where the line could not be
 /// written.
 pub fn end_with<S: Sink>(fate: &Fate, sink: &mut S) -> u8
     ensures { Ends fate.now (writing S.contents S.failures sink.old sink.new) result }

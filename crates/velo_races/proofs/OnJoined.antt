@@ -6,7 +6,7 @@ use Rattle.std.proofs.lemmas.Option.{same_Some, slice_get_within}
 use Rattle.velo_events.specs.declared.event.Event.{Event}
 use Rattle.velo_events.specs.declared.event.Kind.{Kind}
 use Rattle.velo_events.specs.declared.event.Kind.TheVariants.{Read, Write, Begin, End}
-use Rattle.velo_events.specs.Event.{thread_of, is_by, is_begin, is_end, access_of, handled_by, lock_of, variable_of}
+use Rattle.velo_events.specs.Event.{thread_of, is_by, is_begin, is_end, access_of, thread_forked_or_joined, lock_of, variable_of}
 use Rattle.velo_events.specs.Block.{passes_at}
 use Rattle.velo_events.specs.Graph.{Path, Leads, ConflictsInOrder}
 use Rattle.velo_events.specs.Place.{LastOf, is_recorded, last_at}
@@ -46,7 +46,7 @@ inner_kind _ h = refl
 pub near-recorded : (t : ℕ) (f : Event) → IsTrue (is_recorded f (LastOf t)) → IsTrue (near t f)
 near-recorded t f h = ⊎_elim
     (λ own. or_left _ _ own)
-    (λ forks. or_right _ _ (are_same-from (handled_by f.kind) (Some t) t (fork_handles (access_of f.kind) t forks) refl))
+    (λ forks. or_right _ _ (are_same-from (thread_forked_or_joined f.kind) (Some t) t (fork_handles (access_of f.kind) t forks) refl))
     (or_cases _ _ h)
 
 module _ (log : List Event) where

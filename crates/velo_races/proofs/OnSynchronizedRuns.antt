@@ -7,7 +7,7 @@ use Rattle.velo_events.specs.declared.config.Bounds.{Bounds}
 use Rattle.velo_events.specs.declared.event.Event.{Event}
 use Rattle.velo_events.specs.declared.event.Kind.{Kind}
 use Rattle.velo_events.specs.declared.event.Kind.TheVariants.{Read, Write, Acquire, Release, AcquireShared, ReleaseShared, Begin, End, Fork, Join, Exit}
-use Rattle.velo_events.specs.Event.{are_same, thread_of, locked_by, shared_by, forked_by, joined_by, is_acquire, is_release, is_acquire_shared, is_release_shared, is_begin, is_end, is_exit, is_by, is_on_lock, is_on_share, is_exit_by, is_fork_of, is_join_of}
+use Rattle.velo_events.specs.Event.{are_same, thread_of, exclusive_lock_of, shared_lock_of, thread_forked, thread_joined, is_acquire, is_release, is_acquire_shared, is_release_shared, is_begin, is_end, is_exit, is_by, is_on_lock, is_on_share, is_exit_by, is_fork_of, is_join_of}
 use Rattle.velo_events.specs.Heap.{latest, happened, times, holder_in, shares_in}
 use Rattle.velo_events.specs.WellFormed.{IsInTurn, MayFollow, IsWellFormed}
 use Rattle.velo_events.proofs.OnTraces.{append-induct}
@@ -63,21 +63,21 @@ none-times test none xs = append-induct (λ ys. times test (synchronizing ys) �
 
 -- ---- by kinds
 
-lock_kind : (k : Kind) (o : Option ℕ) → IsTrue (are_same (locked_by k) o) → IsTrue (is_synchronizing k)
+lock_kind : (k : Kind) (o : Option ℕ) → IsTrue (are_same (exclusive_lock_of k) o) → IsTrue (is_synchronizing k)
 lock_kind (Acquire m) o h = refl
 lock_kind (Release m) o h = refl
 lock_kind _ o h = absurd (false≢true h)
 
-share_kind : (k : Kind) (o : Option ℕ) → IsTrue (are_same (shared_by k) o) → IsTrue (is_synchronizing k)
+share_kind : (k : Kind) (o : Option ℕ) → IsTrue (are_same (shared_lock_of k) o) → IsTrue (is_synchronizing k)
 share_kind (AcquireShared m) o h = refl
 share_kind (ReleaseShared m) o h = refl
 share_kind _ o h = absurd (false≢true h)
 
-fork_kind : (k : Kind) (o : Option ℕ) → IsTrue (are_same (forked_by k) o) → IsTrue (is_synchronizing k)
+fork_kind : (k : Kind) (o : Option ℕ) → IsTrue (are_same (thread_forked k) o) → IsTrue (is_synchronizing k)
 fork_kind (Fork u) o h = refl
 fork_kind _ o h = absurd (false≢true h)
 
-join_kind : (k : Kind) (o : Option ℕ) → IsTrue (are_same (joined_by k) o) → IsTrue (is_synchronizing k)
+join_kind : (k : Kind) (o : Option ℕ) → IsTrue (are_same (thread_joined k) o) → IsTrue (is_synchronizing k)
 join_kind (Join u) o h = refl
 join_kind _ o h = absurd (false≢true h)
 

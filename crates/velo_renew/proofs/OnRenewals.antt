@@ -25,7 +25,7 @@ use Rattle.velo_laws.specs.Restart.{HasNoBegin, IsPrologueOf}
 use Rattle.velo_laws.proofs.OnFresh.{fresh_law}
 use Rattle.velo_laws.proofs.OnRestart.{prologue_law}
 use Rattle.velo_world.specs.World.{WorldState}
-use Rattle.velo_world.specs.Faults.{world_of, IsRefusedAt, IsWrongValueAt}
+use Rattle.velo_world.specs.Faults.{world_of, IsRefusedAt}
 use Rattle.velo_renew.specs.declared.renewal.NotRenewed.{NotRenewed}
 use Rattle.velo_renew.specs.declared.renewal.NotRenewed.TheVariants.{Alarm, BlockOpen, LogFull, Memory}
 use Rattle.velo_renew.specs.Opening.{IsReasonToRefuse}
@@ -86,15 +86,12 @@ not_live log n none some many = first many.transactions refl
 -- a prologue is refused only where it is longer than the limit
 pub too_long : (config : Config) (made : List Event) (p : ℕ) (refusal : Refusal) → IsWellFormed config.bounds made → HasNoBegin made → IsRefusedAt config.events config.nodes config.bounds made p refusal → config.events < length made
 too_long config made p refusal well none h = ⊎_elim
-    (λ flaw. absurd (no_flaw config.bounds made p _ well flaw.0))
+    (λ flaw. absurd (no_flaw config.bounds made p _ well flaw.first))
     (λ limit. ⊎_elim
-    (λ full. omega (arith, full.1, limit.0))
-    (λ graph. absurd (not_live (take p made) config.nodes (no_begin-take made p none) config.some_node graph.2.finds_none.many_live))
-    limit.2)
+    (λ full. let within = full.1.within in omega (arith, full.1.full, within))
+    (λ full. absurd (not_live (take p made) config.nodes (no_begin-take made p none) config.some_node full.1.no_node.finds_none.many_live))
+    limit)
     h
-
-pub no_wrong_value : (limit : ℕ) (bounds : Bounds) (made : List Event) (p : ℕ) → IsWellFormed bounds made → IsWrongValueAt limit bounds made p → ⊥
-no_wrong_value limit bounds made p well h = no_flaw bounds made p _ well h.reason
 
 -- ---- the world of a prologue
 

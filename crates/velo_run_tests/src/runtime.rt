@@ -353,7 +353,7 @@ fn first_wrong(
     None
 }
 
-/// Has both threads follow their scripts at once, and answers the first step of each that goes wrong.
+/// Has both threads follow their scripts at once, and returns the first step of each that goes wrong.
 fn follow<R: Wait + Clock + Threads + Sync>(
     rt: &R,
     shared: &Shared,
@@ -461,7 +461,7 @@ fn first_wrong_of_three(
     }
 }
 
-/// Has three threads follow their scripts at once, and answers the first step of each that goes wrong.
+/// Has three threads follow their scripts at once, and returns the first step of each that goes wrong.
 fn all_wake<R: Wait + Clock + Threads + Sync>(
     rt: &R,
     alloc: Global,
@@ -501,7 +501,7 @@ const JOINED: Case = Case {
     alarm: Some((4, 1)),
 };
 
-/// Has a thread that is started for it follow a script, joins it, and answers the first step that goes wrong.
+/// Has a thread that is started for it follow a script, joins it, and returns the first step that goes wrong.
 fn first_wrong_apart<R: Wait + Clock + Threads + Sync>(
     rt: &R,
     shared: &Shared,

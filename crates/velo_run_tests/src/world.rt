@@ -348,7 +348,7 @@ fn two_threads(rt: &impl Abort, events: u32, nodes: u16) -> Config
     Config::new(1, bounds, events, nodes, false).expect(rt, "a configuration")
 }
 
-/// Replays the recorded events, the one at the place changed, and answers whether the world has the alarm and the whole log.
+/// Replays the recorded events, the one at the place changed, and returns whether the world has the alarm and the whole log.
 fn replay_changed_at(
     rt: &impl Abort,
     alloc: Global,
@@ -427,7 +427,7 @@ fn a_recorded_log_is_replayed(rt: HostRuntime) {
     }
 }
 
-/// Replays the recorded events, lets the threads go on by the steps, and answers whether the alarm of the lost update comes.
+/// Replays the recorded events, lets the threads go on by the steps, and returns whether the alarm of the lost update comes.
 fn goes_on(rt: &impl Abort, alloc: Global, recorded: &[(ThreadId, Kind)], steps: &[Step]) -> bool {
     let mut log = Trace::new(alloc);
     for (thread, kind) in recorded {
@@ -477,7 +477,7 @@ fn events_at_its_end(world: World, shares: Shares) -> Option<u64> {
     }
 }
 
-/// Forks the other thread, reads, and answers what the read came to.
+/// Forks the other thread, reads, and returns what the read came to.
 fn forks_and_reads(world: &mut World, main: &mut Share) -> Outcome
     requires { FitsLog world.old main.old }
 {

@@ -93,7 +93,8 @@ fn push_reads_of(
 )
     requires covered { AreReaders readers reads.now }
     requires room { HasRoomFor list.old MAX_THREADS }
-    ensures items { list.new.items ≡ list.old.items ++ filter_map (λ t. but_for slot (slice_index_or reads.now t None)) thread_numbers }
+    ensures items { list.new.items ≡ list.old.items
+        ++ filter_map (λ t. but_for slot (slice_index_or reads.now t None)) thread_numbers }
     ensures capacity { list.new.capacity ≡ list.old.capacity }
 {
     let mut rest = readers;
@@ -131,7 +132,8 @@ fn are_of(reads: &[Entry], readers: u64, slot: u16) -> bool
 /// The bits of the readers with that of the thread, if its read has a step.
 fn with_reader(readers: u64, t: ThreadId, step: Option<Step>) -> u64
     requires { t.0 < MAX_THREADS }
-    ensures { (reads : List (Option StepOf)) → t.0 < length reads → AreReaders readers reads → AreReaders result (slice_set reads t.0 step) }
+    ensures { (reads : List (Option StepOf)) → t.0 < length reads → AreReaders readers reads
+        → AreReaders result (slice_set reads t.0 step) }
 {
     match step {
         Some(_) => readers | 1 << t.0,
@@ -142,7 +144,8 @@ fn with_reader(readers: u64, t: ThreadId, step: Option<Step>) -> u64
 /// The bits of the readers without that of the thread.
 fn without_reader(readers: u64, t: ThreadId) -> u64
     requires { t.0 < MAX_THREADS }
-    ensures { (reads : List (Option StepOf)) → t.0 < length reads → AreReaders readers reads → AreReaders result (slice_set reads t.0 None) }
+    ensures { (reads : List (Option StepOf)) → t.0 < length reads → AreReaders readers reads
+        → AreReaders result (slice_set reads t.0 None) }
 {
     readers & !(1 << t.0)
 }
@@ -324,7 +327,8 @@ impl Cells {
     pub fn reserve_reads(&mut self, c: Cell, threads: usize) -> Result<(), Memory>
         requires there { c.0 < length self.old }
         requires few { threads ≤ MAX_THREADS }
-        ensures ok { OnOk result (self.new ≡ slice_set self.old c.0 (with_reads_of threads (slice_index_or self.old c.0 no_accesses))) }
+        ensures ok { OnOk result (self.new
+            ≡ slice_set self.old c.0 (with_reads_of threads (slice_index_or self.old c.0 no_accesses))) }
         ensures err { OnErr result (self.new ≡ self.old) }
     {
         let reads = self.cells[c.0 as usize].reads;
@@ -341,7 +345,7 @@ impl Cells {
         Ok(())
     }
 
-    /// Keeps the step, or none, as that of the cell's last write, for which there is room.
+    /// Records the step, or none, as the cell's last write, for which there is room.
     pub fn record_write(&mut self, c: Cell, step: Option<Step>)
         requires { c.0 < length self.old }
         ensures { self.new ≡ slice_set self.old c.0 (with_write (slice_index_or self.old c.0 no_accesses) step) }
@@ -349,7 +353,7 @@ impl Cells {
         self.cells[c.0 as usize].write = Entry::new(step);
     }
 
-    /// Keeps the step, or none, as that of the thread's last read of the cell, for which there is room.
+    /// Records the step, or none, as the thread's last read of the cell, for which there is room.
     pub fn record_read(&mut self, c: Cell, t: ThreadId, step: Option<Step>)
         requires there { c.0 < length self.old }
         requires room { t.0 < length (slice_index_or self.old c.0 no_accesses).reads }

@@ -169,7 +169,7 @@ impl Tables {
         self.cells.reserve_reads(c, self.threads.len())
     }
 
-    /// Keeps the step, or none, as that of the last event at each place that the event records. There has to be room
+    /// Records the step, or none, as the last at each place that the event touches. There has to be room
     /// for it, as after `reserve_for`.
     pub fn record(&mut self, event: &Event, step: Option<Step>)
         requires { HasRoomFor self.old event.now }
@@ -281,7 +281,9 @@ impl Tables {
     #[tactic(auto, unfolding(crate::specs::LastAccesses::steps_looked_up))]
     pub fn step_beside(&self, event: &Resolved<'_>) -> Option<Step>
         requires { IsFalse (is_exclusive (access_of event.now.kind)) }
-        ensures { steps_looked_up self.now event.now ≡ option_to_list (entry self.now (LastOf (thread_of event.now))) ++ option_to_list result }
+        ensures { steps_looked_up self.now event.now
+            ≡ option_to_list (entry self.now (LastOf (thread_of event.now)))
+            ++ option_to_list result }
     {
         match event.access() {
             Access::Shared(c) => self.last_write(c),
@@ -307,7 +309,9 @@ impl Tables {
     #[inline(always)]
     #[tactic(auto, unfolding(crate::specs::Others::accesses_but_for))]
     pub fn reads_are_of(&self, c: Cell, slot: u16) -> bool
-        ensures { IsTrue result ↔ (accesses_but_for self.now c.0 slot ≡ option_to_list (but_for (Some slot) (entry self.now (LastWrite c.0)))) }
+        ensures { IsTrue result
+            ↔ (accesses_but_for self.now c.0 slot
+            ≡ option_to_list (but_for (Some slot) (entry self.now (LastWrite c.0)))) }
     {
         self.cells.reads_are_of(c, slot)
     }
@@ -324,7 +328,9 @@ impl Tables {
     #[inline]
     fn push_accesses(&self, c: Cell, slot: Option<u16>, list: &mut SmallVec<Step, MAX_PREDECESSORS>)
         requires { HasSpace list.old (1 + MAX_THREADS) }
-        ensures items { list.new.items ≡ list.old.items ++ filter_map (λ p. but_for slot (entry self.now p)) (LastWrite c.0 ∷ map (LastRead c.0) thread_numbers) }
+        ensures items { list.new.items ≡ list.old.items
+            ++ filter_map (λ p. but_for slot (entry self.now p))
+            (LastWrite c.0 ∷ map (LastRead c.0) thread_numbers) }
         ensures capacity { list.new.capacity ≡ list.old.capacity }
     {
         self.cells.push_accesses(c, slot, list);

@@ -11,7 +11,7 @@ use Rattle.velo_events.specs.declared.config.Bounds.{Bounds}
 use Rattle.velo_events.specs.declared.event.Event.{Event}
 use Rattle.velo_events.specs.declared.event.Kind.{Kind}
 use Rattle.velo_events.specs.declared.event.Kind.TheVariants.{Read, Write, Acquire, Release, AcquireShared, ReleaseShared, Begin, End, Fork, Join, Exit}
-use Rattle.velo_events.specs.Event.{are_same, thread_of, value_of, variable_of, lock_of, locked_by, shared_by, forked_by, joined_by, is_by, is_begin, is_end, is_exit, is_write, is_acquire, is_acquire_shared, is_begin_by, is_end_by, is_acquire_by, is_release_by, is_acquire_shared_by, is_release_shared_by, is_exit_by, is_fork_of, is_join_of, is_write_of, is_on_lock, is_on_share}
+use Rattle.velo_events.specs.Event.{are_same, thread_of, value_of, variable_of, lock_of, exclusive_lock_of, shared_lock_of, thread_forked, thread_joined, is_by, is_begin, is_end, is_exit, is_write, is_acquire, is_acquire_shared, is_begin_by, is_end_by, is_acquire_by, is_release_by, is_acquire_shared_by, is_release_shared_by, is_exit_by, is_fork_of, is_join_of, is_write_of, is_on_lock, is_on_share}
 use Rattle.velo_events.specs.Heap.{latest, happened, times, value_in, holder_in, shares_in}
 use Rattle.velo_events.specs.Scan.{begins, ends}
 use Rattle.velo_events.specs.WellFormed.{MayFollow, IsWellFormed, IsInTurn}
@@ -133,7 +133,7 @@ module _ (left : Left) (log : List Event) where
   lock-as m free Exit h = absurd (false≢true h)
 
   -- an operation on a lock, alone or shared
-  alone-lock : (m : ℕ) (k : Kind) → IsTrue (are_same (locked_by k) (Some m)) → IsTrue (are_same (lock_of k) (Some m))
+  alone-lock : (m : ℕ) (k : Kind) → IsTrue (are_same (exclusive_lock_of k) (Some m)) → IsTrue (are_same (lock_of k) (Some m))
   alone-lock m (Read y v) h = absurd (false≢true h)
   alone-lock m (Write y v) h = absurd (false≢true h)
   alone-lock m (Acquire n) h = h
@@ -146,7 +146,7 @@ module _ (left : Left) (log : List Event) where
   alone-lock m (Join u) h = absurd (false≢true h)
   alone-lock m Exit h = absurd (false≢true h)
 
-  shared-lock : (m : ℕ) (k : Kind) → IsTrue (are_same (shared_by k) (Some m)) → IsTrue (are_same (lock_of k) (Some m))
+  shared-lock : (m : ℕ) (k : Kind) → IsTrue (are_same (shared_lock_of k) (Some m)) → IsTrue (are_same (lock_of k) (Some m))
   shared-lock m (Read y v) h = absurd (false≢true h)
   shared-lock m (Write y v) h = absurd (false≢true h)
   shared-lock m (Acquire n) h = absurd (false≢true h)
@@ -159,7 +159,7 @@ module _ (left : Left) (log : List Event) where
   shared-lock m (Join u) h = absurd (false≢true h)
   shared-lock m Exit h = absurd (false≢true h)
 
-  fork-as : (t : ℕ) → (k : Kind) → IsTrue (are_same (forked_by k) (Some t)) → StaysAs k
+  fork-as : (t : ℕ) → (k : Kind) → IsTrue (are_same (thread_forked k) (Some t)) → StaysAs k
   fork-as t (Read y v) h = absurd (false≢true h)
   fork-as t (Write y v) h = absurd (false≢true h)
   fork-as t (Acquire n) h = absurd (false≢true h)
@@ -172,7 +172,7 @@ module _ (left : Left) (log : List Event) where
   fork-as t (Join u) h = absurd (false≢true h)
   fork-as t Exit h = absurd (false≢true h)
 
-  join-as : (t : ℕ) → (k : Kind) → IsTrue (are_same (joined_by k) (Some t)) → StaysAs k
+  join-as : (t : ℕ) → (k : Kind) → IsTrue (are_same (thread_joined k) (Some t)) → StaysAs k
   join-as t (Read y v) h = absurd (false≢true h)
   join-as t (Write y v) h = absurd (false≢true h)
   join-as t (Acquire n) h = absurd (false≢true h)

@@ -3,9 +3,10 @@ use Rattle.std.specs.Prelude.{ℕ, ◌≡◌, ◌<◌, List, [], ◌∷◌, ◌+
 use Rattle.std.specs.Option.{option_to_list}
 use Rattle.velo_workload.specs.declared.statement.Statement.{Statement}
 use Rattle.velo_workload.specs.declared.outline.Outline.{Outline}
-use Rattle.velo_workload.specs.Phrase.{Phrase, Thread, Body, phrases}
+use Rattle.velo_workload.specs.Phrase.{Phrase, Thread, Body, phrase_of, phrases}
 use Rattle.velo_workload.specs.Outline.{AreFew, Names, fault_from, first_fault, first_of_two}
-use Rattle.velo_workload.specs.Known.{kept_of, known_by, phrases_left, up_to_most, whole}
+use Rattle.velo_workload.specs.Nesting.{kept}
+use Rattle.velo_workload.specs.Known.{LineState, kept_of, known_by, lines_left, whole}
 use Rattle.velo_workload.specs.Program.{statement_of, first_unknown, body_from, bodies}
 use Rattle.velo_workload.specs.declared.draft.Later.{Later}
 use Rattle.velo_workload.specs.declared.draft.Draft.{Draft}
@@ -41,6 +42,14 @@ pub record IsSketchedUpTo (names : Names) (ps rest : List Phrase) (n : ℕ) (b :
   pub all : unknown_in_sketches names (drafted b) ≡ None → bodies_with names (built_by names b) rest ≡ body_from names ps ∷ bodies names ps
 
 -- ---- how far the first pass has come
+
+-- what is kept of a state whose costs go beyond what a body may cost
+abbrev pub up_to_most : LineState → LineState
+up_to_most k = record k { body = kept k.body }
+
+-- the lines that are left, if any
+abbrev pub phrases_left : Option (List ℕ) → List Phrase
+phrases_left rest = map phrase_of (lines_left rest)
 
 -- n lines of the text were read without a fault, and these are left
 pub record IsReadUpTo (text : List ℕ) (rest : Option (List ℕ)) (o : Outline) (n : ℕ) : Type 0 where

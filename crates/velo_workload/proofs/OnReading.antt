@@ -21,8 +21,8 @@ use Rattle.velo_workload.specs.Words.{Word, lines}
 use Rattle.velo_workload.specs.Phrase.{phrase_of, phrases, Spoken, Begin, Repeat, Done, Phrase, Blank, Bad, BadThread, Variable, Lock, Thread, Body}
 use Rattle.velo_workload.specs.Outline.{AreFew, is_among, Judges, fault_from, first_fault, variable_in, lock_in, thread_in, label_in, label_of, statement_in, variables, locks, threads, labels, statements, reading, Known, known, Names, names_in, first_of_two, fault_of_line, fault_at_end, declared_fault, statement_fault, full_fault}
 use Rattle.velo_workload.specs.Nesting.{NestingState, new_nesting, last_open, nesting_after, nesting_after_line, nesting_from, nesting_of_lines, nesting_fault, most_kept, kept_open, kept}
-use Rattle.velo_workload.proofs.Building.{IsReadUpTo}
-use Rattle.velo_workload.specs.Known.{lines_left, phrases_left, LineState, kept_of, known_by, known_of, statement_kept, labelled, with_line, whole, up_to_most}
+use Rattle.velo_workload.proofs.Building.{up_to_most, phrases_left, IsReadUpTo}
+use Rattle.velo_workload.specs.Known.{lines_left, LineState, kept_of, known_by, known_of, statement_kept, labelled, with_line, whole}
 use Rattle.velo_workload.proofs.OnCosts.{agrees, same_depth, same_end}
 use Rattle.velo_workload.proofs.OnLonger.{IsLonger, names_longer}
 

@@ -50,15 +50,9 @@ with_line k p n = k
 abbrev pub whole : List Phrase → LineState
 whole ps = record { variables = variables ps; locks = locks ps; threads = threads ps; labels = labels ps; statements = length (statements ps); body = nesting_of_lines ps }
 
-abbrev pub up_to_most : LineState → LineState
-up_to_most k = record k { body = kept k.body }
-
 -- ---- how far the first pass has come
 
 -- the lines that are left, if any
 abbrev pub lines_left : Option (List ℕ) → List (List ℕ)
 lines_left None = []
 lines_left (Some bytes) = lines bytes
-
-abbrev pub phrases_left : Option (List ℕ) → List Phrase
-phrases_left rest = map phrase_of (lines_left rest)

@@ -1,6 +1,6 @@
 -- A recorded log that comes about again, or does not.
 use Rattle.std.proofs.Common.{◌≡◌, ℕ, ◌+◌, ◌<◌, ◌≤◌, Bool, true, false, List, [], ◌∷◌, ◌++◌, length, take, Option, Some, None, Result, Ok, Err, refl, sym, ap, ◌∙◌, subst, arith, inl, inr}
-use Rattle.std.specs.Prelude.{slice_get, ◌⊎◌, IsTrue, IsFalse, is_some, is_err, OnOk, OnErr}
+use Rattle.std.specs.Prelude.{slice_get, IsTrue, IsFalse, is_some, is_err, OnOk, OnErr}
 use Rattle.std.proofs.lemmas.Bool.{eqb-true, lt-leb, false≢true}
 use Rattle.std.proofs.lemmas.Option.{slice_get_within}
 use Rattle.velo_events.specs.declared.config.Bounds.{Bounds}
@@ -10,7 +10,6 @@ use Rattle.velo_events.specs.declared.event.Kind.{Kind}
 use Rattle.velo_events.specs.declared.event.Kind.TheVariants.{Read, Write, Acquire, Release, AcquireShared, ReleaseShared, Begin, End, Fork, Join, Exit}
 use Rattle.velo_events.specs.declared.event.ThreadId.{ThreadId}
 use Rattle.velo_events.specs.declared.refusal.Refusal.{Refusal}
-use Rattle.velo_events.specs.declared.refusal.Refusal.TheVariants.{LogFull, GraphFull}
 use Rattle.velo_events.specs.WellFormed.{MayFollow, NamesKnown, IsWellFormed}
 use Rattle.velo_events.specs.Meaning.{kind_for, event_for, action_of, refusal_of, has_its_value}
 use Rattle.velo_events.proofs.OnMeaning.{HasItsValue-kind_for, MayFollow-refusal_of}
@@ -26,7 +25,7 @@ use Rattle.velo_world.specs.declared.analysis.Reply.{Reply}
 use Rattle.velo_events.specs.Event.{value_read}
 use Rattle.velo_world.specs.World.{meaning, AlarmOf}
 use Rattle.velo_world.specs.LoggedRun.{AddsToLog}
-use Rattle.velo_world.specs.Faults.{world_of, IsLimit, IsFaultAtEvent, FindsNoNodeAt, IsFaultOfLog}
+use Rattle.velo_world.specs.Faults.{world_of, IsLimit, IsFaultAtEvent, IsRefusedAt, IsFaultOfLog}
 use Rattle.velo_world.proofs.OnAlarms.{AlarmOf-alarmed, length-before}
 
 -- ---- the event that is asked for
@@ -129,30 +128,37 @@ first_flaw bounds log i p e flaw here well at flawed =
     (record { before = well; event = e; here = here; does_not_follow = flaw-not_MayFollow bounds (take i log) e flaw well flawed; reason = flawed })
 
 -- which limit was met
-limit_in_log : (config : Config) (log : List Event) (i : ℕ) (e : Event) (p : ℕ) (refusal : Refusal) → slice_get log i ≡ Some e → i ≡ p → length (take i log) ≤ config.events
-    → IsLimit config (take i log) e refusal → ((refusal ≡ LogFull) × (p ≡ config.events)) ⊎ ((refusal ≡ GraphFull) × (p < config.events) × FindsNoNodeAt config.bounds.threads config.nodes log p)
-limit_in_log config log i e p refusal here same short (inl (full, limit)) =
-    let count : length (take i log) ≡ i = length-before log i e here in
-    inl (full, omega (arith, same, count, short, limit))
-limit_in_log config log i e p refusal here same short (inr (full, room, graph)) =
-    let count : length (take i log) ≡ i = length-before log i e here in
-    inr (full, omega (arith, same, count, room), subst (λ n. FindsNoNodeAt config.bounds.threads config.nodes log n) same (record { event = e; here = here; finds_none = graph }))
+limit_in_log : (config : Config) (log : List Event) (p : ℕ) (e : Event) (refusal : Refusal) → slice_get log p ≡ Some e → length (take p log) ≤ config.events → IsWellFormed config.bounds (take (p + 1) log)
+    → IsLimit config (take p log) e refusal → IsRefusedAt config.events config.nodes config.bounds log p refusal
+limit_in_log config log p e refusal here short well (inl (full, limit)) =
+    let count : length (take p log) ≡ p = length-before log p e here in
+    inr (inl (full, record { within = slice_get_within log p e here; well_formed = well; full = omega (arith, count, short, limit) }))
+limit_in_log config log p e refusal here short well (inr (full, room, graph)) =
+    let count : length (take p log) ≡ p = length-before log p e here in
+    inr (inr (
+      full,
+      record {
+        within = slice_get_within log p e here;
+        well_formed = well;
+        room = omega (arith, count, room);
+        no_node = record { event = e; here = here; finds_none = graph };
+      },
+    ))
 
 pub fault_in_log : (config : Config) (log : List Event) (i : ℕ) (e : Event) (fault : LogReplayFault) → slice_get log i ≡ Some e
     → IsWellFormed config.bounds (take i log) → length (take i log) ≤ config.events → IsFaultAtEvent config (take i log) e fault → IsFaultOfLog config log fault
 fault_in_log config log i e (Refused p refusal) here well short (at, inl flawed) =
-    inl (first_flaw config.bounds log i p e _ here well at flawed, omega (arith, at, short))
+    inl (record { first = first_flaw config.bounds log i p e _ here well at flawed; within = omega (arith, at, short) })
 fault_in_log config log i e (Refused p refusal) here well short (at, inr (none, limit)) =
-    let within : i < length log = slice_get_within log i e here in
     let count : length (take i log) ≡ i = length-before log i e here in
     let next : take (i + 1) log ≡ take i log ++ e ∷ [] = take-next log i e here in
     let well_next : IsWellFormed config.bounds (take (i + 1) log) =
     subst (IsWellFormed config.bounds) (sym next)
     (IsWellFormed-push config.bounds (take i log) e well (MayFollow-from_no_flaw config.bounds (take i log) e well none)) in
     let same : i ≡ p = omega (arith, at, count) in
-    inr (omega (arith, same, within), subst (λ n. IsWellFormed config.bounds (take (n + 1) log)) same well_next, limit_in_log config log i e p refusal here same short limit)
+    subst (λ n. IsRefusedAt config.events config.nodes config.bounds log n refusal) same (limit_in_log config log i e refusal here short well_next limit)
 fault_in_log config log i e (WrongValue p) here well short (at, flawed) =
-    record { reason = first_flaw config.bounds log i p e _ here well at flawed; within = omega (arith, at, short) }
+    record { first = first_flaw config.bounds log i p e _ here well at flawed; within = omega (arith, at, short) }
 fault_in_log config log i e Memory here well short stops = stops
 
 -- ---- a call that went well, or did not

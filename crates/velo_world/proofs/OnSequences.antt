@@ -13,7 +13,7 @@ use Rattle.velo_events.specs.declared.event.Kind.TheVariants.{Read, Write, Acqui
 use Rattle.velo_events.specs.declared.event.Status.{Status}
 use Rattle.velo_events.specs.declared.event.Status.TheVariants.{Unborn, Live}
 use Rattle.velo_events.specs.declared.refusal.Refusal.{Refusal}
-use Rattle.velo_events.specs.Event.{thread_of, is_fork_of, forked_by, are_same}
+use Rattle.velo_events.specs.Event.{thread_of, is_fork_of, thread_forked, are_same}
 use Rattle.velo_events.specs.Heap.{status_in}
 use Rattle.velo_events.specs.WellFormed.{MayFollow, IsWellFormed, NamesKnown}
 use Rattle.velo_events.specs.Meaning.{is_unborn, event_for}
@@ -38,7 +38,7 @@ not_there places u share none some = let same : ◌≡◌ {A = Option (Option Ho
 
 -- ---- the thread that is forked
 
-forked-known : (bounds : Bounds) (k : Kind) (u : ℕ) → NamesKnown bounds k → IsTrue (are_same (forked_by k) (Some u)) → u < bounds.threads
+forked-known : (bounds : Bounds) (k : Kind) (u : ℕ) → NamesKnown bounds k → IsTrue (are_same (thread_forked k) (Some u)) → u < bounds.threads
 forked-known bounds (Read x v) u known fork = absurd (false≢true fork)
 forked-known bounds (Write x v) u known fork = absurd (false≢true fork)
 forked-known bounds (Acquire m) u known fork = absurd (false≢true fork)

@@ -7,6 +7,7 @@ use Rattle.velo_events.specs.declared.refusal.Refusal.{Refusal}
 use Rattle.velo_events.specs.declared.refusal.Refusal.TheVariants.{LogFull, GraphFull}
 use Rattle.velo_events.specs.Refusals.{GrowthRefused}
 use Rattle.velo_events.specs.WellFormed.{IsWellFormed}
+use Rattle.velo_traces.specs.declared.judge.Flaw.{Flaw}
 use Rattle.velo_traces.specs.declared.judge.Flaw.TheVariants as flaw
 use Rattle.velo_traces.specs.Flaws.{flaw_of, IsFirstFlaw}
 use Rattle.velo_world.specs.World.{WorldState, FindsNoNode}
@@ -36,18 +37,34 @@ pub record FindsNoNodeAt (threads nodes : ℕ) (log : List Event) (p : ℕ) : Ty
   pub here : slice_get log p ≡ Some event
   pub finds_none : FindsNoNode threads (take p log) event nodes
 
--- The first event that can't come about, at position p within the limit, is refused for this reason; or the events up to p
--- came about, and p is at the limit of events or, before it, at the limit of nodes.
+-- the first event that can't come about is at position p within the limit, and this is its flaw
+pub record IsFlawAt (limit : ℕ) (bounds : Bounds) (log : List Event) (p : ℕ) (flaw : Flaw) : Type 0 where
+  pub first : IsFirstFlaw bounds log p flaw
+  pub within : p ≤ limit
+
+-- the events up to position p can come about, and p is the limit of events
+pub record IsAtEventLimit (limit : ℕ) (bounds : Bounds) (log : List Event) (p : ℕ) : Type 0 where
+  pub within : p < length log
+  pub well_formed : IsWellFormed bounds (take (p + 1) log)
+  pub full : p ≡ limit
+
+-- they can, p is below the limit of events, and the event there finds no node
+pub record IsAtNodeLimit (limit nodes : ℕ) (bounds : Bounds) (log : List Event) (p : ℕ) : Type 0 where
+  pub within : p < length log
+  pub well_formed : IsWellFormed bounds (take (p + 1) log)
+  pub room : p < limit
+  pub no_node : FindsNoNodeAt bounds.threads nodes log p
+
+-- the event at position p is refused for this reason
 abbrev pub IsRefusedAt : ℕ → ℕ → Bounds → List Event → ℕ → Refusal → Type 0
 IsRefusedAt limit nodes bounds log p refusal =
-    (IsFirstFlaw bounds log p (flaw.Refused refusal) × (p ≤ limit))
-    ⊎ ((p < length log) × IsWellFormed bounds (take (p + 1) log)
-    × (((refusal ≡ LogFull) × (p ≡ limit)) ⊎ ((refusal ≡ GraphFull) × (p < limit) × FindsNoNodeAt bounds.threads nodes log p)))
+    IsFlawAt limit bounds log p (flaw.Refused refusal)
+    ⊎ ((refusal ≡ LogFull) × IsAtEventLimit limit bounds log p)
+    ⊎ ((refusal ≡ GraphFull) × IsAtNodeLimit limit nodes bounds log p)
 
--- the first event that can't come about, at position p within the limit, reads a value that its variable does not have
-pub record IsWrongValueAt (limit : ℕ) (bounds : Bounds) (log : List Event) (p : ℕ) : Type 0 where
-  pub reason : IsFirstFlaw bounds log p flaw.WrongValue
-  pub within : p ≤ limit
+-- it reads a value that its variable does not have
+abbrev pub IsWrongValueAt : ℕ → Bounds → List Event → ℕ → Type 0
+IsWrongValueAt limit bounds log p = IsFlawAt limit bounds log p flaw.WrongValue
 
 -- why the log can't be replayed to its end
 abbrev pub IsFaultOfLog : Config → List Event → LogReplayFault → Type 0

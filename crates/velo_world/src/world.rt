@@ -112,13 +112,9 @@ impl World {
         ensures fits { FitsLog self.new share.new }
         ensures others { OthersStillFit self.old share.old.thread self.new }
     {
-        match self.logged.perform(share.thread(), action) {
-            Ok((event, reply)) => {
-                self.book.enter(share, reply.position, &event);
-                Ok(reply)
-            }
-            Err(refusal) => Err(refusal),
-        }
+        let (event, reply) = self.logged.perform(share.thread(), action)?;
+        self.book.enter(share, reply.position, &event);
+        Ok(reply)
     }
 
     /// Forks a thread, which is one event of the share's thread, and hands out the share that the child begins with. The
@@ -133,15 +129,11 @@ impl World {
         ensures born { IfOk result (λ forked. FitsLog self.new forked.1) }
         ensures others { OthersStillFit self.old share.old.thread self.new }
     {
-        match self.logged.perform(share.thread(), Action::Fork(child)) {
-            Ok((event, reply)) => {
-                self.book.enter(share, reply.position, &event);
-                match self.kept.take(child) {
-                    Some(born) => Ok((reply, born)),
-                    None => unreachable!(),
-                }
-            }
-            Err(refusal) => Err(refusal),
+        let (event, reply) = self.logged.perform(share.thread(), Action::Fork(child))?;
+        self.book.enter(share, reply.position, &event);
+        match self.kept.take(child) {
+            Some(born) => Ok((reply, born)),
+            None => unreachable!(),
         }
     }
 
@@ -189,14 +181,10 @@ impl World {
         ensures filled { (t : ℕ) → IsFilled shares.old t → IsFilled shares.new t }
         ensures complete { CompletesShares self.old shares.old → CompletesShares self.new shares.new }
     {
-        match self.logged.perform(thread, action) {
-            Ok((event, reply)) => {
-                self.book.enter_at(shares, reply.position, &event);
-                hand_over(&mut self.kept, shares, &event);
-                Ok(reply)
-            }
-            Err(refusal) => Err(refusal),
-        }
+        let (event, reply) = self.logged.perform(thread, action)?;
+        self.book.enter_at(shares, reply.position, &event);
+        hand_over(&mut self.kept, shares, &event);
+        Ok(reply)
     }
 
     /// What the world was opened with.

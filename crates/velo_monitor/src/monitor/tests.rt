@@ -91,7 +91,8 @@ fn find_slot(monitor: &mut Monitor, events: &[Event], event: &Event) -> (bool, b
     requires follows { MayFollow BOUNDS events.now event.now }
     ensures same { IsMonitorOf BOUNDS monitor.new events.now }
     ensures room { (e : EventOf) → HasRoomFor monitor.old.kept e → HasRoomFor monitor.new.kept e }
-    ensures slot { IsTrue result.1 → NeedsNode monitor.new events.now event.now → used_in monitor.new.nodes.slots < limit_of monitor.new.nodes.slots }
+    ensures slot { IsTrue result.1 → NeedsNode monitor.new events.now event.now
+        → used_in monitor.new.nodes.slots < limit_of monitor.new.nodes.slots }
 {
     let needs_node = monitor.needs_node(event);
     make_slot(monitor, events, needs_node);

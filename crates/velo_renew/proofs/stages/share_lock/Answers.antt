@@ -7,9 +7,7 @@ use Rattle.velo_renew.proofs.stages.share_lock.Goals as goal
 
 pub loop-thread-init : goal.loop-thread-init
 loop-thread-init c = record {
-  so_far = λ log stands start.
-      let well = subst (λ (b : Bounds). IsWellFormed b log) c.requires.bounds stands.well_formed in
-      start;
+  so_far = λ log stands start. start;
 }
 
 pub loop-thread-preserved : goal.loop-thread-preserved

@@ -3,10 +3,10 @@ use Rattle.std.specs.Prelude.{option_copied}
 use Rattle.std.specs.List.{before_first}
 use Rattle.velo_workload.specs.Words.{is_newline}
 use Rattle.velo_workload.specs.Outline.{Judges, fault_of_line, names_in, known}
-use Rattle.velo_workload.specs.Known.{phrases_left, known_of, kept_of, with_line}
+use Rattle.velo_workload.specs.Known.{known_of, kept_of, with_line}
 use Rattle.velo_workload.specs.Phrase.{phrases, phrase_of}
 use Rattle.velo_workload.specs.Sketch.{sketches_of, with_phrase}
-use Rattle.velo_workload.proofs.Building.{IsReadUpTo, IsSketchedUpTo}
+use Rattle.velo_workload.proofs.Building.{phrases_left, IsReadUpTo, IsSketchedUpTo}
 use Rattle.velo_workload.proofs.OnReading.{line_wrong, line_right, all_names, few_then, longer_then, end_is, on_ok, wrong}
 use Rattle.velo_workload.proofs.OnSketches.{sketched_more, sketched_all}
 use Rattle.velo_workload.proofs.outline.Outline.read.Goals as goal

@@ -1,11 +1,10 @@
 use Rattle.std.proofs.Common.{◌+◌, ◌≤◌, length}
 use Rattle.std.specs.Prelude.{MatchOption, option_copied}
 use Rattle.std.specs.Option.{option_map_or}
-use Rattle.velo_workload.specs.Known.{phrases_left}
 use Rattle.velo_workload.specs.Phrase.{phrases}
 use Rattle.velo_workload.specs.Outline.{names_in, known}
 use Rattle.velo_workload.specs.Sketch.{sketches_of}
-use Rattle.velo_workload.proofs.Building.{IsReadUpTo, IsSketchedUpTo}
+use Rattle.velo_workload.proofs.Building.{phrases_left, IsReadUpTo, IsSketchedUpTo}
 use Rattle.velo_workload.proofs.outline.Outline.read.Given as goal
 
 abbrev pub invariant-loop-rest : goal.invariant-loop-rest

@@ -3,9 +3,9 @@ ghost use Rattle.velo_heap.specs.Steps.{begin_in, end_in, exit_in, fork_by, join
 
 use velo_events::{Kind, Label, MAX_OPEN_BLOCKS, Refusal, Status, ThreadId};
 
-/// How one thread stands.
+/// The state of one thread.
 #[derive(Clone, Copy, Debug, PartialEq, Eq)]
-pub struct Standing {
+pub struct ThreadState {
     /// How far it has come.
     pub status: Status,
     /// How many blocks it has open.
@@ -14,12 +14,12 @@ pub struct Standing {
     pub locks: u16,
 }
 
-impl Standing {
+impl ThreadState {
     /// A thread that nobody has forked yet.
-    pub fn unborn() -> Standing
+    pub fn unborn() -> ThreadState
         ensures { result ≡ unborn }
     {
-        Standing {
+        ThreadState {
             status: Status::Unborn,
             depth: 0,
             locks: 0,
