@@ -76,13 +76,13 @@ module _ {F : Type 0} (disk : F → Disk) (first left : F) (bytes : Bor (List �
   bytes_at path = record { operand = named; path = path; text = saved.Bytes bytes }
 
   -- a text alone
-  pub text_saved : {X : Type 0} (x : X) (path : Option (Bor (List ℕ))) → AreAllSaved is_text_saved (store disk first left) (bytes_at path ∷ []) → IsSaved (store disk first left) path bytes.now (Ok x)
-  text_saved x path (between, one, end) =
+  pub text_saved : (X : Type 0) (x : X) (path : Option (Bor (List ℕ))) → AreAllSaved is_text_saved (store disk first left) (bytes_at path ∷ []) → IsSaved (store disk first left) path bytes.now (Ok x)
+  text_saved X x path (between, one, end) =
       subst (λ (s : F). Saves (store disk first s) path (Some bytes.now)) (sym end) (whole_saved (store disk first between) path bytes.now one)
 
-  pub text_unsaved : {X : Type 0} (path : Option (Bor (List ℕ))) (f : Failure) → IsOneUnsaved is_text_saved (store disk first left) (bytes_at path ∷ []) f → IsSaved {X = X} (store disk first left) path bytes.now (Err (fate_of_failure f))
-  text_unsaved path f (inl h) = bytes_unsaved (store disk first left) named path bytes f h
-  text_unsaved path f (inr h) = absurd h.2
+  pub text_unsaved : (X : Type 0) (path : Option (Bor (List ℕ))) (f : Failure) → IsOneUnsaved is_text_saved (store disk first left) (bytes_at path ∷ []) f → IsSaved {X = X} (store disk first left) path bytes.now (Err (fate_of_failure f))
+  text_unsaved X path f (inl h) = bytes_unsaved (store disk first left) named path bytes f h
+  text_unsaved X path f (inr h) = absurd h.2
 
   module _ (closed : Bor WorldState) (at : Operand) (target : Option (Bor (List ℕ))) where
     abbrev log : List ℕ
@@ -92,27 +92,27 @@ module _ {F : Type 0} (disk : F → Disk) (first left : F) (bytes : Bor (List �
     both path = record { operand = at; path = target; text = saved.Log closed } ∷ bytes_at path ∷ []
 
     -- a log, and then a text
-    pub run_saved : {X : Type 0} (x : X) (path : Option (Bor (List ℕ))) → AreAllSaved is_text_saved (store disk first left) (both path) → IsSavedInTurn (store disk first left) target path bytes.now log (Ok x)
-    run_saved x None (between, one, (last, same, end)) =
+    pub run_saved : (X : Type 0) (x : X) (path : Option (Bor (List ℕ))) → AreAllSaved is_text_saved (store disk first left) (both path) → IsSavedInTurn (store disk first left) target path bytes.now log (Ok x)
+    run_saved X x None (between, one, (last, same, end)) =
         subst (λ (s : F). Saves (store disk first s) target (Some log)) (sym (end ∙ same)) (whole_saved (store disk first between) target log one)
-    run_saved x (Some path) (between, one, (last, other, end)) = inr (
+    run_saved X x (Some path) (between, one, (last, other, end)) = inr (
       between,
       whole_saved (store disk first between) target log one,
       subst (λ (s : F). Saves (store disk between s) (Some path) (Some bytes.now)) (sym end) (whole_saved (store disk between last) (Some path) bytes.now other),
     )
 
-    pub run_unsaved : {X : Type 0} (path : Option (Bor (List ℕ))) (f : Failure) → IsOneUnsaved is_text_saved (store disk first left) (both path) f → IsSavedInTurn {X = X} (store disk first left) target path bytes.now log (Err (fate_of_failure f))
-    run_unsaved None f (inl h) = log_unsaved (store disk first left) at target closed f h
-    run_unsaved None f (inr (between, one, inl h)) = absurd (none_there f h)
+    pub run_unsaved : (X : Type 0) (path : Option (Bor (List ℕ))) (f : Failure) → IsOneUnsaved is_text_saved (store disk first left) (both path) f → IsSavedInTurn {X = X} (store disk first left) target path bytes.now log (Err (fate_of_failure f))
+    run_unsaved X None f (inl h) = log_unsaved (store disk first left) at target closed f h
+    run_unsaved X None f (inr (between, one, inl h)) = absurd (none_there f h)
       where
         none_there : (f : Failure) → IsUnsavedFor is_text_saved (store disk between left) (bytes_at None) f → ⊥
         none_there (failure.CannotOpen which) h = h.1
         none_there (failure.WriteFailed which) h = h.1
         none_there f h = h
-    run_unsaved None f (inr (between, one, inr h)) = absurd h.2
-    run_unsaved (Some path) f (inl h) = inl (log_unsaved (store disk first left) at target closed f h)
-    run_unsaved (Some path) f (inr (between, one, inl h)) = inr (between, whole_saved (store disk first between) target log one, bytes_unsaved (store disk between left) named (Some path) bytes f h)
-    run_unsaved (Some path) f (inr (between, one, inr h)) = absurd h.2
+    run_unsaved X None f (inr (between, one, inr h)) = absurd h.2
+    run_unsaved X (Some path) f (inl h) = inl (log_unsaved (store disk first left) at target closed f h)
+    run_unsaved X (Some path) f (inr (between, one, inl h)) = inr (between, whole_saved (store disk first between) target log one, bytes_unsaved (store disk between left) named (Some path) bytes f h)
+    run_unsaved X (Some path) f (inr (between, one, inr h)) = absurd h.2
 
 -- ---- a name of the language is one of a file of names
 
