@@ -1,4 +1,4 @@
-"""Checks the names in DEFINITIONS.md and ARCHITECTURE.md, of docs/internals: each is in the specs
+"""Checks the names in docs/DEFINITIONS.md and docs/internals/ARCHITECTURE.md: each is in the specs
 or the sources of the crates.
 
     python3 tools/check_definitions.py
@@ -27,8 +27,8 @@ def main():
     known = set().union(*(words_of(path) for path in sources))
     files = {os.path.splitext(os.path.basename(path))[0] for path in sources}
     faults = 0
-    for page in ("DEFINITIONS.md", "ARCHITECTURE.md"):
-        with open(os.path.join(ROOT, "docs", "internals", page), encoding="utf-8") as file:
+    for page in ("DEFINITIONS.md", "internals/ARCHITECTURE.md"):
+        with open(os.path.join(ROOT, "docs", page), encoding="utf-8") as file:
             lines = file.read().splitlines()
         for number, line in enumerate(lines, 1):
             for name in re.findall(r"(?<!`)`([^`]+)`(?!`)", line):

@@ -1,11 +1,11 @@
 """Writes the definitions of the crates' specs.
 
     python3 tools/definitions.py            writes out/definitions.md, which is not committed, and
-                                            refreshes the quotations in docs/internals/DEFINITIONS.md
+                                            refreshes the quotations in docs/DEFINITIONS.md
     python3 tools/definitions.py --check    writes nothing; fails where a quotation is stale
 
 out/definitions.md has all definitions that public contracts cite, in an order for reading.
-docs/internals/DEFINITIONS.md is written by hand, but for its blocks "```antt NAME..": each quotes
+docs/DEFINITIONS.md is written by hand, but for its blocks "```antt NAME..": each quotes
 these definitions, from the first listed file that has one of the name.
 """
 import os
@@ -13,7 +13,7 @@ import re
 import sys
 
 ROOT = os.path.dirname(os.path.dirname(os.path.abspath(__file__)))
-PAGE = os.path.join(ROOT, "docs", "internals", "DEFINITIONS.md")
+PAGE = os.path.join(ROOT, "docs", "DEFINITIONS.md")
 WHOLE = os.path.join(ROOT, "out", "definitions.md")
 QUOTED = re.compile(r"^```antt ([^\n]+)\n.*?^```$", re.M | re.S)
 
@@ -126,7 +126,7 @@ def definition(name):
             if (item := ITEM.match(line)) and item[1] == name:
                 ends = (n for n, it in enumerate(lines[at:]) if not it.strip() or it.startswith("--"))
                 return "\n".join(lines[at : at + next(ends, len(lines))])
-    sys.exit(f"docs/internals/DEFINITIONS.md quotes {name}, of which there is no definition")
+    sys.exit(f"docs/DEFINITIONS.md quotes {name}, of which there is no definition")
 
 
 def quotation(found):
@@ -142,7 +142,7 @@ def main(words):
     new, every = QUOTED.sub(quotation, old), all_definitions()
     if words:
         if new != old:
-            sys.exit("docs/internals/DEFINITIONS.md is stale: run tools/definitions.py")
+            sys.exit("docs/DEFINITIONS.md is stale: run tools/definitions.py")
         return
     os.makedirs(os.path.dirname(WHOLE), exist_ok=True)
     for path, text in ((WHOLE, every), (PAGE, new)):
