@@ -212,8 +212,8 @@ looked at. Then come three findings:
                   no schedule leads there
   'alarm open', 'stuck open', 'refused open'
                   undecided: --states or --first cut the search short
-After an alarm, 'to blame NAME (K of N alarms)' says how many of the alarms that the search found blame
-a block with this label.
+After an alarm, except with --first, 'to blame NAME (K of N alarms)' says that K of the N alarms that
+were found and replayed, at most 100 of a search, blame a block with this label.
 
 If a schedule was found, the report of its replay follows, as 'velodrome replay' prints it: of the
 alarm's, else of the deadlock's, else of the refusal's. --certificate, --log and --names-out apply to
