@@ -6,5 +6,5 @@ mod stages;
 #[cfg(test)]
 mod tests;
 
-pub use renewal::{NotRenewed, renew};
+pub use renewal::{NotRenewed, renew, restart};
 pub use stages::prologue;
