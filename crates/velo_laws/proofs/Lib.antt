@@ -26,4 +26,8 @@ pub mod OnRepeats
 pub mod OnRepeatsClosing
 pub mod OnRepeatsBlame
 pub mod OnRepeatsRuns
+pub mod OnEitherOrder
+pub mod OnJudged
+pub mod OnJudgedRepeats
+pub mod OnJudgedOperations
 pub mod Rows

@@ -2,7 +2,8 @@
 use Rattle.std.proofs.Common.{◌≡◌, ℕ, suc, ◌+◌, ◌<◌, ◌≤◌, Bool, not, take, List, [], ◌∷◌, length, map, get_or, refl, sym, ap, ◌∙◌, subst, arith, ⊎_elim, inl, inr}
 use Rattle.std.specs.Prelude.{◌↔◌, IsTrue, IsFalse, Contains}
 use Rattle.std.proofs.lemmas.Bool.{both_ways, or_left, false_from_ne_true}
-use Rattle.std.proofs.lemmas.List.{get_or-map, get_or_default, length-map}
+use Rattle.std.proofs.lemmas.List.{get_or-map, get_or_default, length-map, length-take-le}
+use Rattle.std.proofs.lemmas.Option.{get_or_from_slice_get}
 use Rattle.velo_events.specs.declared.event.Event.{Event}
 use Rattle.velo_events.specs.Event.{is_by, is_begin, is_end}
 use Rattle.velo_events.specs.Block.{passes_at, is_open_at, open_blocks}
@@ -15,9 +16,9 @@ use Rattle.velo_events.proofs.OnUnfinished.{Contains-open_blocks}
 use Rattle.velo_events.proofs.OnHappening.{HappensBefore-within}
 use Rattle.velo_events.proofs.OnReorderings.{conflict_at-within}
 use Rattle.velo_events.proofs.OnBlame.{IsInterrupted, self_serializable_law}
-use Rattle.velo_thin.proofs.OnRanks.{rank, rank-stays, rank-lt, rank-lt_back, rank-one, rank-from}
+use Rattle.velo_thin.proofs.OnRanks.{rank, rank-stays, rank-lt, rank-lt_back, rank-le_back, rank-one, rank-from, staying, staying-at}
 use Rattle.velo_thin.proofs.OnRestricted.{conflict-sub}
-use Rattle.velo_laws.specs.Repeats.{Repeats, AreRepeats, BlamesSameRepeated, place_without, without}
+use Rattle.velo_laws.specs.Repeats.{Repeats, AreRepeats, BlamesSameRepeated, place_without, place_with, without}
 use Rattle.velo_laws.proofs.OnDropped.{sub-long, sub-passes, open-to, open-from}
 use Rattle.velo_laws.proofs.OnOrderedBlame.{contains-map, contains-from_map, leads-else}
 use Rattle.velo_laws.proofs.OnRepeats.{stays, here, back, blocks, what, on, IsFor, rep, for-here, for-le, for-conflict}
@@ -76,7 +77,7 @@ module _ (goes : ℕ → Bool) (log : List Event) (repeats : AreRepeats goes log
   long : length left ≡ at (length log)
   long = sub-long log its (blocks goes log repeats)
 
-  place : (k : ℕ) → k < length left → (i : ℕ) × (i < length log) × IsTrue (its i) × (at i ≡ k)
+  pub place : (k : ℕ) → k < length left → (i : ℕ) × (i < length log) × IsTrue (its i) × (at i ≡ k)
   place k l = rank-from its (length log) k (let e = long in omega (arith, l, e))
 
   chain-back : (k : ℕ) (between : List ℕ) (l i j : ℕ) → i < length log → j < length log → IsTrue (its i) → IsTrue (its j) → at i ≡ k → at j ≡ l → Path (ConflictsInOrder left) k between l → Leads (ConflictsInOrder log) i j
@@ -86,6 +87,11 @@ module _ (goes : ℕ → Bool) (log : List Event) (repeats : AreRepeats goes log
       let m = place c (conflict_at-within left k c p.0.1).1 in
       let rest = chain-back c cs l m.0 j m.1 in_j m.2 stay_j m.3 at_j p.1 in
       (m.0 ∷ rest.0, (link-back i m.0 in_i m.1 stay_i m.2 (subst (λ x. ConflictsInOrder left x (at m.0)) (sym at_i) (subst (ConflictsInOrder left k) (sym m.3) p.0)), rest.1))
+
+  -- the position of the log for which it stands
+  pub placed : (k i : ℕ) → i < length log → IsTrue (its i) → at i ≡ k → place_with goes log k ≡ i
+  placed k i l h ranked =
+      ap (place_with goes log) (sym ranked) ∙ get_or_from_slice_get (staying its (length log)) (at i) i 0 (staying-at its (length log) i l h)
 
   -- ---- interruptions
 
@@ -190,9 +196,46 @@ module _ (goes : ℕ → Bool) (log : List Event) (repeats : AreRepeats goes log
           omega (arith, first, second, less);
     }
 
+    -- ---- and back
+
+    blamed-log : (blamed : List ℕ) → AreBlamed left t blamed → AreBlamed log t (map (place_with goes log) blamed)
+    blamed-log blamed w = record {
+      which = λ c. (
+        (λ m.
+            let x = contains-from_map (place_with goes log) blamed c m in
+            let i = here_left x.0 x.1 in
+            let open_i = open-log i.0 i.1 i.2 (subst (λ d. IsTrue (is_open_at left t d (length left))) (sym i.3) (opened x.0 x.1)) in
+            subst (λ d. Contains (open_blocks log t) d × ¬ IsSelfSerializable log d) (sym (placed x.0 i.0 i.1 i.2 i.3) ∙ x.2)
+            ((Contains-open_blocks log t i.0).1 open_i, λ s. ((w.which x.0).0 x.1).1 (subst (IsSelfSerializable left) i.3 ((self i.0 open_i).1 s)))),
+        (λ v.
+            let open_c = (Contains-open_blocks log t c).0 v.0 in
+            let k = open-stays c open_c in
+            subst (Contains (map (place_with goes log) blamed)) (placed (at c) c k.within k.stay refl)
+            (contains-map (place_with goes log) blamed (at c)
+            ((w.which (at c)).1 ((Contains-open_blocks left t (at c)).1 (open-left c k.within k.stay open_c), λ s. v.1 ((self c open_c).0 s))))),
+      );
+      outermost_first = λ i l.
+          let m : i + 1 < length blamed = (let e = length-map blamed (place_with goes log) in omega (arith, l, e)) in
+          let x = get_or blamed i 0 in
+          let y = get_or blamed (i + 1) 0 in
+          let a = here_left x (i, (omega (arith, m)), get_or_default blamed i x 0 (omega (arith, m))) in
+          let b = here_left y (i + 1, m, get_or_default blamed (i + 1) y 0 m) in
+          let first = get_or-map (place_with goes log) blamed i 0 0 (omega (arith, m)) ∙ placed x a.0 a.1 a.2 a.3 in
+          let second = get_or-map (place_with goes log) blamed (i + 1) 0 0 m ∙ placed y b.0 b.1 b.2 b.3 in
+          let up = w.outermost_first i m in
+          let less = rank-lt_back its a.0 b.0 (let p = a.3 in let q = b.3 in omega (arith, p, q, up)) in
+          omega (arith, first, second, less);
+    }
+      where
+        opened : (x : ℕ) → Contains blamed x → IsTrue (is_open_at left t x (length left))
+        opened x m = (Contains-open_blocks left t x).0 ((w.which x).0 m).0
+
+        here_left : (x : ℕ) → Contains blamed x → (i : ℕ) × (i < length log) × IsTrue (its i) × (at i ≡ x)
+        here_left x m = place x (is_open_at-within left t x (length left) (opened x m))
+
 -- ---- the same at any event that stays
 
-map-same : (f g : ℕ → ℕ) (xs : List ℕ) → ((i : ℕ) → i < length xs → f (get_or xs i 0) ≡ g (get_or xs i 0)) → map f xs ≡ map g xs
+pub map-same : (f g : ℕ → ℕ) (xs : List ℕ) → ((i : ℕ) → i < length xs → f (get_or xs i 0) ≡ g (get_or xs i 0)) → map f xs ≡ map g xs
 map-same f g [] h = refl
 map-same f g (x ∷ xs) h =
     ap (λ y. y ∷ map f xs) (h 0 (omega arith)) ∙ ap (λ ys. g x ∷ ys) (map-same f g xs (λ i l. h (suc i) (omega (arith, l))))
@@ -237,3 +280,69 @@ repeat_blame_law goes log repeats p t blamed stay own w =
         let below : b < n = omega (arith, in_T, size) in
         count_below-same b (λ j. not (first j)) (λ j. not (goes j)) (λ j m. ap not (early-is goes log repeats n most j (omega (arith, m, below))))
         ∙ sym (counted goes log repeats b (omega (arith, below, most)))
+
+-- ---- and what is to blame at any event without them
+
+module _ (goes : ℕ → Bool) (log : List Event) (repeats : AreRepeats goes log) (k t : ℕ) (blamed : List ℕ)
+    (own : IsTrue (passes_at (without goes log) (is_by t) k)) (are : AreBlamed (take (k + 1) (without goes log)) t blamed) where
+  abbrev keeps : ℕ → Bool
+  keeps = stays goes log repeats
+
+  within : k < length (without goes log)
+  within = passes_at-within (without goes log) (is_by t) k own
+
+  abbrev p : ℕ
+  p = (place goes log repeats k within).0
+
+  inside : p < length log
+  inside = (place goes log repeats k within).1
+
+  stay_p : IsTrue (keeps p)
+  stay_p = (place goes log repeats k within).2
+
+  at_p : at goes log repeats p ≡ k
+  at_p = (place goes log repeats k within).3
+
+  upto_p : p + 1 ≤ length log
+  upto_p = let l = inside in omega (arith, l)
+
+  abbrev first : ℕ → Bool
+  first = early goes log repeats (p + 1) upto_p
+
+  first-same : (j : ℕ) → j < p + 1 → not (first j) ≡ keeps j
+  first-same j l = ap not (early-is goes log repeats (p + 1) upto_p j l)
+
+  own-log : IsTrue (passes_at log (is_by t) p)
+  own-log = sym (sub-passes log keeps (blocks goes log repeats) (is_by t) p inside stay_p) ∙ (ap (passes_at (without goes log) (is_by t)) at_p ∙ own)
+
+  own_T : IsTrue (passes_at (take (p + 1) log) (is_by t) p)
+  own_T = passes-take (only (λ x. Bool.false) (λ x. Bool.false)) log (p + 1) upto_p (is_by t) p (omega arith) ∙ own-log
+
+  same : without first (take (p + 1) log) ≡ take (k + 1) (without goes log)
+  same = rest-take goes log repeats (p + 1) upto_p
+      ∙ ap (λ n. take n (without goes log)) (ap (rank keeps) (let e : p + 1 ≡ suc p = omega arith in e) ∙ (rank-stays keeps p stay_p ∙ ap (λ n. n + 1) at_p))
+
+  places : (i : ℕ) → i < length blamed → place_with first (take (p + 1) log) (get_or blamed i 0) ≡ place_with goes log (get_or blamed i 0)
+  places i l =
+      let b = get_or blamed i 0 in
+      let T = take (k + 1) (without goes log) in
+      let opened = (Contains-open_blocks T t b).0 ((are.which b).0 (i, l, get_or_default blamed i b 0 l)).0 in
+      let in_T = is_open_at-within T t b (length T) opened in
+      let size = length-take-le (k + 1) (without goes log) (let m = within in omega (arith, m)) in
+      let j = place goes log repeats b (let m = within in omega (arith, in_T, size, m)) in
+      let most = rank-le_back keeps j.0 p stay_p (let a = j.3 in let c = at_p in omega (arith, in_T, size, a, c)) in
+      placed first (take (p + 1) log) (repeats-take goes log repeats (p + 1) upto_p) b j.0
+      (let e = short goes log repeats (p + 1) upto_p in omega (arith, most, e))
+      (first-same j.0 (omega (arith, most)) ∙ j.2)
+      (count_below-same j.0 (λ i. not (first i)) keeps (λ i m. first-same i (omega (arith, m, most))) ∙ j.3)
+      ∙ sym (placed goes log repeats b j.0 j.1 j.2 j.3)
+
+  blamed-back : AreBlamed (take (p + 1) log) t (map (place_with goes log) blamed)
+  blamed-back =
+      subst (AreBlamed (take (p + 1) log) t) (map-same (place_with first (take (p + 1) log)) (place_with goes log) blamed places)
+      (blamed-log first (take (p + 1) log) (repeats-take goes log repeats (p + 1) upto_p) t p (short goes log repeats (p + 1) upto_p) (first-same p (omega arith) ∙ stay_p) own_T
+      blamed (subst (λ es. AreBlamed es t blamed) (sym same) are))
+
+  pub blame-with : IsTrue (passes_at log (is_by t) (place_with goes log k)) × AreBlamed (take (place_with goes log k + 1) log) t (map (place_with goes log) blamed)
+  blame-with = subst (λ i. IsTrue (passes_at log (is_by t) i) × AreBlamed (take (i + 1) log) t (map (place_with goes log) blamed))
+      (sym (placed goes log repeats k p inside stay_p at_p)) (own-log, blamed-back)

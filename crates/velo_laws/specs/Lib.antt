@@ -5,3 +5,4 @@ pub mod Stages
 pub mod Renumber
 pub mod Ordered
 pub mod Repeats
+pub mod Judged

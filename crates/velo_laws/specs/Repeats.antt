@@ -1,5 +1,5 @@
 -- Accesses that repeat one of their thread.
-use Rattle.std.specs.Prelude.{◌≡◌, ◌||◌, ℕ, ◌+◌, ◌<◌, Bool, not, List, length, map, filter, filter_map, slice_get, take, IsTrue, IsFalse, ◌⊎◌}
+use Rattle.std.specs.Prelude.{◌≡◌, ◌||◌, ℕ, ◌+◌, ◌<◌, Bool, not, List, length, map, filter, filter_map, slice_get, slice_index, take, IsTrue, IsFalse, ◌⊎◌}
 use Rattle.velo_events.specs.declared.event.Event.{Event}
 use Rattle.velo_events.specs.Event.{is_read, is_write, is_by, is_writing, is_reading}
 use Rattle.velo_events.specs.Block.{passes_at, positions}
@@ -39,6 +39,10 @@ without goes log = filter_map (slice_get log) (filter (λ i. not (goes i)) (posi
 -- where a position of the log stands then: how many stay before it
 abbrev pub place_without : (ℕ → Bool) → List Event → ℕ → ℕ
 place_without goes log i = length (without goes (take i log))
+
+-- the position of the log for which position k stands then
+abbrev pub place_with : (ℕ → Bool) → List Event → ℕ → ℕ
+place_with goes log k = slice_index (filter (λ i. not (goes i)) (positions log)) k
 
 -- the first closing event is none of these positions, and it is the first one without them
 abbrev pub ClosesAtSameRepeated : (ℕ → Bool) → List Event → Type 0

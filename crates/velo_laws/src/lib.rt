@@ -2,12 +2,14 @@
 #![tactic(auto)]
 
 mod cuts;
+mod judged;
 mod numbers;
 mod ordered;
 mod repeats;
 mod restarts;
 
 pub use cuts::{chain, cut, cut_anywhere, quiet};
+pub use judged::{judged_through, judged_without_operations, judged_without_repeats};
 pub use numbers::renumber;
 pub use ordered::{
     chained_in_order, last_in_order, ordered_within, rest_of_rest, same_blame,
