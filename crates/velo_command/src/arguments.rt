@@ -10,14 +10,15 @@ use std::alloc::Global;
 use velo_events::{MAX_EVENTS, MAX_NODES, Memory};
 use velo_program::{MAX_RUNS, MAX_STATES};
 
-/// The command line of the program, as [`run`](crate::run) reads its words: the subcommands `check`, `replay`, `run`,
-/// `explain`, `carry`, `explore`, `watch` and `audit`, each with its operand and its options. A word of no subcommand, or a
-/// limit out of its range, is a fault of usage: `--events` is 1 to [`MAX_EVENTS`], and 1,048,576 where it is not given;
-/// `--nodes` is 1 to [`MAX_NODES`], and 1,024; for `audit` both are the greatest where they are not given. `--states` is 1 to
-/// [`MAX_STATES`], and 2,097,152. `--random` is 1 to [`MAX_RUNS`], and `--seed` is what 64 bits hold.
+/// The command line of the program, whose words [`run`](crate::run) reads: the subcommands `check`,
+/// `replay`, `run`, `explain`, `carry`, `explore`, `watch` and `audit`, each with its operand and its
+/// options. An unknown subcommand, or a number out of its range, is an error of usage: `--events` is
+/// 1 to [`MAX_EVENTS`], by default 1,048,576; `--nodes` is 1 to [`MAX_NODES`], by default 1,024; for
+/// `audit` the default of both is the greatest. `--states` is 1 to [`MAX_STATES`], by default
+/// 2,097,152. `--random` is 1 to [`MAX_RUNS`], and `--seed` any number of 64 bits.
 ///
 /// # Errors
-/// `Memory` where a growth was refused.
+/// `Memory` if an allocation failed.
 pub fn command<'a>(alloc: Global) -> Result<Command<'a>, Memory>
     ensures { IfOk result (λ c. app_of c ≡ command_line) }
 {
@@ -36,7 +37,7 @@ fn bare<'a>(alloc: Global) -> Command<'a>
     ensures { app_of result ≡ bare }
 {
     Command::new(alloc, "velodrome")
-        .about("Tells whether the atomic blocks of an observed run can be serialized")
+        .about("Checks whether the atomic blocks of an observed run can be serialized")
         .version(help::VERSION)
         .after_help(help::OF_PROGRAM)
         .subcommand_required(true)
@@ -69,7 +70,7 @@ fn run<'a>(alloc: Global) -> Result<Command<'a>, Memory>
     ensures { IfOk result (IsSubcommand run) }
 {
     let command = Command::new(alloc, "run")
-        .about("Runs a workload by threads of its own and reports the verdict")
+        .about("Runs a workload on real threads and reports the verdict")
         .after_help(help::OF_RUN);
     let command = with_argument(command, file(alloc))?;
     with_run_options(alloc, command)
@@ -90,7 +91,7 @@ fn carry<'a>(alloc: Global) -> Result<Command<'a>, Memory>
     ensures { IfOk result (IsSubcommand carry) }
 {
     let command = Command::new(alloc, "carry")
-        .about("Reads a recorded log and writes it in the newest version of its text")
+        .about("Reads a recorded log and writes it in the newest version")
         .after_help(help::OF_CARRY);
     let command = with_argument(command, log(alloc))?;
     with_argument(command, carried(alloc))
@@ -110,7 +111,7 @@ fn watch<'a>(alloc: Global) -> Result<Command<'a>, Memory>
     ensures { IfOk result (IsSubcommand watch) }
 {
     let command = Command::new(alloc, "watch")
-        .about("Reads a log as it comes, tells its alarm at once, and reports the verdict")
+        .about("Reads a log as it is written, prints its alarm at once, and reports the verdict")
         .after_help(help::OF_WATCH);
     let command = with_argument(command, log(alloc))?;
     let command = with_argument(command, names(alloc))?;
@@ -190,7 +191,7 @@ fn schedule<'a>(alloc: Global) -> Arg<'a>
         alloc,
         "schedule",
         "TEXT",
-        "Whose turns come first: thread numbers from 0 to 63, parted by one space",
+        "Whose turns come first: thread numbers from 0 to 63, separated by one space",
     )
 }
 
@@ -201,7 +202,7 @@ fn turns<'a>(alloc: Global) -> Arg<'a>
         alloc,
         "turns",
         "TEXT",
-        "The same in short, as explore tells it: THREAD*N is N turns; or @PATH of a file with this text",
+        "The same in short, as explore prints it: THREAD*N is N turns; @PATH reads it from a file",
     )
 }
 
@@ -218,7 +219,7 @@ fn out<'a>(alloc: Global) -> Arg<'a>
         alloc,
         "log",
         "OUT",
-        "Write the log of the run to this path, before the report",
+        "Write the log of the run to OUT, before the report",
     )
 }
 
@@ -229,7 +230,7 @@ fn saved_names<'a>(alloc: Global) -> Arg<'a>
         alloc,
         "names-out",
         "NAMES",
-        "Write the names of the workload to this path, behind the log",
+        "Write the names of the workload to NAMES, after the log",
     )
 }
 
@@ -240,7 +241,7 @@ fn names<'a>(alloc: Global) -> Arg<'a>
         alloc,
         "names",
         "FILE",
-        "The path of the names of threads, variables, locks and labels, or -",
+        "Read the names of threads, variables, locks and labels; - is standard input",
     )
 }
 
@@ -256,29 +257,29 @@ fn progress<'a>(alloc: Global) -> Arg<'a>
     flag(
         alloc,
         "progress",
-        "Tell on standard error how far the search is, also where that is no terminal",
+        "Print progress on standard error, also where that is no terminal",
     )
 }
 
-/// How many runs by chance there are.
+/// How many random runs there are.
 fn random<'a>(alloc: Global) -> Arg<'a>
     ensures { IsArgument random result }
 {
     Arg::new(alloc, "random")
         .long("random")
         .value_name("N")
-        .help("Make so many runs by chance in place of the search, 1 to 1000000")
+        .help("Make N random runs in place of the search, 1 to 1000000")
         .value_parser(value_parser!(u32).range(1..=i64::from(MAX_RUNS)))
 }
 
-/// The seed of the runs by chance.
+/// The seed of the random runs.
 fn seed<'a>(alloc: Global) -> Arg<'a>
     ensures { IsArgument seed result }
 {
     Arg::new(alloc, "seed")
         .long("seed")
         .value_name("S")
-        .help("What the runs by chance are drawn by, 0 to 18446744073709551615 [default: 1]")
+        .help("The seed of the random runs, 0 to 18446744073709551615 [default: 1]")
         .value_parser(value_parser!(u64))
 }
 
@@ -289,7 +290,7 @@ fn found_log<'a>(alloc: Global) -> Arg<'a>
         alloc,
         "log",
         "OUT",
-        "Write the log of the replay that is reported to this path, before the report",
+        "Write the log of the reported replay to OUT, before the report",
     )
 }
 
@@ -300,7 +301,7 @@ fn not_atomic<'a>(alloc: Global) -> Arg<'a>
         alloc,
         "not-atomic",
         "FILE",
-        "The path of the labels that are known already, or -; leave out their blocks",
+        "Read known labels, and leave out their begins and ends; - is standard input",
     )
 }
 
@@ -317,7 +318,7 @@ fn ignored_locks<'a>(alloc: Global) -> Arg<'a>
         alloc,
         "ignore-lock",
         "N",
-        "Leave out the events on this lock, a number or a name; may be given again",
+        "Leave out the events on this lock, a number or a name; may be repeated",
     )
     .action(ArgAction::Append)
 }
@@ -329,7 +330,7 @@ fn ignored_variables<'a>(alloc: Global) -> Arg<'a>
         alloc,
         "ignore-variable",
         "N",
-        "Leave out the events on this variable, a number or a name; may be given again",
+        "Leave out the events on this variable, a number or a name; may be repeated",
     )
     .action(ArgAction::Append)
 }
@@ -337,7 +338,7 @@ fn ignored_variables<'a>(alloc: Global) -> Arg<'a>
 fn no_witness<'a>(alloc: Global) -> Arg<'a>
     ensures { IsArgument (flag (codes "no-witness")) result }
 {
-    flag(alloc, "no-witness", "Leave out the witnesses of the rounds")
+    flag(alloc, "no-witness", "Print no witnesses")
 }
 
 fn carried<'a>(alloc: Global) -> Arg<'a>
@@ -347,7 +348,7 @@ fn carried<'a>(alloc: Global) -> Arg<'a>
         alloc,
         "log",
         "OUT",
-        "Write the log to this path, which is emptied first",
+        "Write the log to OUT, which is emptied first",
     )
     .required(true)
 }
@@ -359,7 +360,7 @@ fn dot<'a>(alloc: Global) -> Arg<'a>
         alloc,
         "dot",
         "OUT",
-        "Write the cycle of an alarm to this path, as a Graphviz picture",
+        "Write the cycle of an alarm to OUT, as a Graphviz picture",
     )
 }
 
@@ -369,11 +370,11 @@ fn certificate<'a>(alloc: Global) -> Arg<'a>
     flag(
         alloc,
         "certificate",
-        "Write a serial order, or with an alarm a shortest cycle, behind the report",
+        "Print a serial order, or with an alarm a shortest cycle, after the report",
     )
 }
 
-/// A word that has to be there.
+/// A required operand.
 fn word<'a>(alloc: Global, name: &'a str, help: &'a str) -> Arg<'a>
     ensures { IsArgument (word name.entry.now) result }
 {
@@ -422,7 +423,7 @@ fn nodes_argument<'a>(alloc: Global, default: &'a str) -> Arg<'a>
     Arg::new(alloc, "nodes")
         .long("nodes")
         .value_name("N")
-        .help("The most nodes that the graph may have at one time, 1 to 4096")
+        .help("The most transactions that the graph may hold at once, 1 to 4096")
         .value_parser(value_parser!(u16).range(1..=i64::from(MAX_NODES)))
         .default_value(default)
 }

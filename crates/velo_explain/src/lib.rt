@@ -1,5 +1,5 @@
-//! A verdict in words, for people: the cycle that an alarm tells of, event by event, the blocks to blame and why; and the
-//! cycle as a picture.
+//! A verdict in words, for people: the cycle of an alarm, event by event, the blocks to blame and
+//! why; and the cycle as a picture.
 #![tactic(auto)]
 
 mod count;

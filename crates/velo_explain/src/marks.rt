@@ -17,7 +17,7 @@ use velo_certify::EdgeEvents;
 use velo_events::{Event, Memory};
 use velo_names::Names;
 
-/// The events behind the edges of the cycle.
+/// The events of the edges of the cycle.
 fn cycle_marks(alloc: Global, edges: &[EdgeEvents]) -> Result<Vec<usize>, Memory>
     ensures { IfOk result (λ marks. marks.items ≡ flat_map ends_of edges.now) }
 {
@@ -105,7 +105,7 @@ fn add_mark(
     Ok(())
 }
 
-/// Marks those of some positions for which there is room, one after the other.
+/// Marks those of some positions that have room, one after the other.
 fn add_marks(
     alloc: Global,
     names: &Names,
@@ -157,7 +157,7 @@ fn add_marked(
 /// Adds the picture of a cycle.
 ///
 /// # Errors
-/// `Memory` where a growth was refused.
+/// `Memory` if an allocation failed.
 pub(crate) fn add_lanes(
     page: &mut Page,
     alloc: Global,

@@ -1,4 +1,5 @@
-//! Names of threads, variables, locks and labels: the text of a file of names, and the mapping that it says.
+//! Names of threads, variables, locks and labels: the text of a file of names, and the mapping that
+//! it says.
 #![tactic(auto)]
 
 mod fault;

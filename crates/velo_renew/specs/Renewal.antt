@@ -17,8 +17,9 @@ pub record IsFirstOpen (log : List Event) (thread : ThreadId) : Type 0 where
   pub is_open : depth_in log thread.0 ≢ 0
   pub none_before : (t : ℕ) → t < thread.0 → depth_in log t ≡ 0
 
--- The log of the first world ended with no block open and no cycle, and that of the second is a prologue that stands for it:
--- whatever may come after the one may come after the other, and is judged the same
+-- The log of the first world ended with no block open and no cycle, and that of the second is a
+-- prologue that stands for it: whatever may follow the one may follow the other, and is judged the
+-- same
 pub record Renews (w w' : WorldState) : Type 0 where
   pub config : w'.config ≡ w.config
   pub live : w'.halted ≡ false

@@ -31,7 +31,7 @@ pub enum NotRenewed {
     /// What stands for the run has more events than its log may have.
     #[error("log full")]
     LogFull,
-    /// A growth was refused.
+    /// An allocation failed.
     #[error("out of memory")]
     Memory,
 }
@@ -47,16 +47,17 @@ impl From<Memory> for NotRenewed {
     }
 }
 
-/// The world in which a run goes on, and the shares of its threads at their places. Its log is a prologue: it leaves what the
-/// world's log left, and whatever comes after is judged as it would be after all that came before. A thread that was joined is
-/// forgotten, and its number may be given anew.
+/// The world in which a run goes on, and the shares of its threads at their places. Its log is a
+/// prologue: it leaves what the world's log left, and whatever comes after is judged as it would be
+/// after all that came before. A thread that was joined is forgotten, and its number may be given
+/// anew.
 ///
-/// Positions count anew: the event that would be the k-th after the world's log is the k-th after the prologue. The world stays
-/// as it is, and is to be given up, since both are of one run. It must not be halted, and its configuration's `stop` has to be
-/// off.
+/// Positions count anew: the event that would be the k-th after the world's log is the k-th after
+/// the prologue. The world stays as it is, and is to be given up, since both are of one run. It
+/// must not be halted, and its configuration's `stop` has to be off.
 ///
 /// # Errors
-/// The first that applies, in the order of the variants; `Memory` where a growth was refused.
+/// The first that applies, in the order of the variants; `Memory` if an allocation failed.
 pub fn renew(alloc: Global, world: &World) -> Result<(World, Shares), NotRenewed>
     requires live { world.now.halted ≡ false }
     requires goes_on { world.now.config.stop ≡ false }
