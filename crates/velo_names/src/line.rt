@@ -27,8 +27,8 @@ fn is_control(before: u8, byte: u8) -> bool
     byte < 32 || byte == 127 || (before == 194 && 128 <= byte && byte < 160)
 }
 
-/// Whether the bytes have a control character.
-fn has_control(bytes: &[u8]) -> bool
+/// Whether the bytes have a control character, of ASCII or of U+0080 to U+009F.
+pub fn has_control(bytes: &[u8]) -> bool
     ensures { result ≡ has_control 0 bytes.now }
 {
     let mut before = 0;
