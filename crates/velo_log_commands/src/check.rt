@@ -18,7 +18,7 @@ ghost use Rattle.velo_log_commands.specs.Steps.{Shows};
 use crate::naming::{names_in, read_given, shown_by};
 use std::alloc::Global;
 use velo_bytes::{Sink, Source, WriteFault};
-use velo_delivery::{Files, Operand, is_standard_input};
+use velo_delivery::{Files, Operand};
 use velo_events::{Bounds, Config, Memory};
 use velo_fate::{
     CheckFault, Fate, Verdict, is_alarm, open_input, order_or_cycle_of, verdict_of, write_output,
@@ -244,9 +244,6 @@ fn check_named<F: Files, O: Sink>(
     ensures { ChecksLog names.now options.now (store F.disk files.now files.now)
         (writing O.contents O.failures out.old out.new) result }
 {
-    if is_standard_input(options.input) {
-        return check_log(alloc, options, names, &mut files.standard_input(), out);
-    }
     match open_input(files, Operand::Log, options.input, None) {
         Ok(mut log) => check_log(alloc, options, names, &mut log, out),
         Err(fate) => fate,
