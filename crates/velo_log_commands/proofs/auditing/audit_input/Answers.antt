@@ -1,7 +1,5 @@
-use Rattle.std.proofs.Common.{◌≡◌, inl, inr, refl, rules, subst, sym, codes}
-use Rattle.std.specs.Prelude.{ℕ, List}
+use Rattle.std.proofs.Common.{inl, inr, refl}
 use Rattle.velo_delivery.specs.Disk.{store}
-use Rattle.velo_delivery.specs.Reading.{reading}
 use Rattle.velo_delivery.specs.Writing.{writing}
 use Rattle.velo_log_commands.proofs.OnAuditing.{audit_put}
 use Rattle.velo_log_commands.proofs.auditing.audit_input.Goals as goal

@@ -1,6 +1,4 @@
-use Rattle.std.proofs.Common.{◌≡◌, inl, inr, refl, rules, subst, sym, codes}
-use Rattle.std.specs.Prelude.{ℕ, List}
-use Rattle.velo_delivery.specs.Reading.{reading}
+use Rattle.std.proofs.Common.{inl, inr, refl}
 use Rattle.velo_log_commands.proofs.watching.watch_named.Goals as goal
 
 pub returns-in-Ok : goal.returns-in-Ok

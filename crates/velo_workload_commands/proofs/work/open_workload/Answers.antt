@@ -1,5 +1,4 @@
-use Rattle.std.proofs.Common.{◌≡◌, inl, inr, refl, rules, subst, sym, codes}
-use Rattle.std.specs.Prelude.{ℕ, List}
+use Rattle.std.proofs.Common.{inl, inr, refl}
 use Rattle.velo_delivery.specs.Reading.{reading}
 use Rattle.velo_workload_commands.proofs.OnPlaying.{not_opened, opened}
 use Rattle.velo_workload_commands.proofs.work.open_workload.Goals as goal
