@@ -1,6 +1,6 @@
 -- What becomes of an answer.
 use Rattle.std.proofs.Common.{◌≡◌, ◌∙◌, ap, inr, refl, subst, sym}
-use Rattle.std.specs.Prelude.{ℕ, List, Option, None, ◌-◌, Result, Ok, Err, OnErr, OnOk}
+use Rattle.std.specs.Prelude.{ℕ, List, Option, None, Result, Ok, Err, OnErr, OnOk}
 use Rattle.std.specs.Borrow.{Bor}
 use Rattle.velo_fate.specs.declared.fate.Fate.{Fate}
 use Rattle.velo_fate.specs.declared.fate.Fate.TheVariants as fate

@@ -1,6 +1,5 @@
 -- What was saved at a path.
 use Rattle.std.proofs.Common.{◌≡◌, ℕ, List, [], ◌∷◌, Option, Some, None, Err, Ok, inl, inr, sym, subst}
-use Rattle.std.specs.Prelude.{not}
 use Rattle.std.specs.Borrow.{Bor}
 use Rattle.velo_world.specs.World.{WorldState}
 use Rattle.velo_delivery.specs.declared.answer.Save.{Save}

@@ -1,12 +1,19 @@
 //! The files of a command that are to be read and written: none is both.
-ghost use Rattle.std.specs.Prelude.{◌≢◌, codes, IfErr, IfOk, IsTrue};
+ghost use Rattle.std.specs.Prelude.{IfErr, IfOk, IsTrue};
 ghost use Rattle.velo_delivery.specs.Disk.{AreOneTarget, IsOpened};
 ghost use Rattle.velo_fate.specs.Barred.{IsBarred, IsBarredRun};
 
 use crate::fate::Fate;
-use velo_delivery::{Files, Operand};
+use velo_delivery::{Files, Operand, is_standard_input, open_at};
 
-/// Opens the file of a command's input. It may not be the command's target, which is to be emptied, if there is one.
+/// Whether the input is the file that is to be written. Standard input is none.
+fn is_one_file<F: Files>(files: &F, input: &str, target: &str) -> bool
+    ensures { IsTrue result → (F.disk files.now).one input.now target.now }
+{
+    !is_standard_input(input) && files.are_one(input, target)
+}
+
+/// Opens a command's input. Its file may not be the command's target, which is to be emptied, if there is one.
 ///
 /// # Errors
 /// `CannotOpen` where it does not open; else `OneFile` where it is the target.
@@ -16,16 +23,15 @@ pub fn open_input<F: Files>(
     input: &str,
     target: Option<&str>,
 ) -> Result<F::Input, Fate>
-    requires { input.now ≢ codes "-" }
     ensures given { IfOk result (IsOpened (F.disk files.now) input.now
         F.Input.remaining F.Input.failures) }
     ensures barred { IfErr result (IsBarred (F.disk files.now) operand input.now target.entry) }
 {
-    let Some(file) = files.open(input) else {
+    let Some(file) = open_at(files, input) else {
         return Err(Fate::CannotOpen);
     };
     match target {
-        Some(target) if files.are_one(input, target) => Err(Fate::OneFile(operand)),
+        Some(target) if is_one_file(files, input, target) => Err(Fate::OneFile(operand)),
         _ => Ok(file),
     }
 }
@@ -50,7 +56,6 @@ pub fn open_to_run<F: Files>(
     target: Option<&str>,
     names: Option<&str>,
 ) -> Result<F::Input, Fate>
-    requires { input.now ≢ codes "-" }
     ensures given { IfOk result (IsOpened (F.disk files.now) input.now
         F.Input.remaining F.Input.failures) }
     ensures barred { IfErr result (IsBarredRun (F.disk files.now) input.now target.entry
@@ -61,7 +66,7 @@ pub fn open_to_run<F: Files>(
         Err(fate) => return Err(fate),
     };
     match names {
-        Some(names) if files.are_one(input, names) => Err(Fate::NamesAtInput),
+        Some(names) if is_one_file(files, input, names) => Err(Fate::NamesAtInput),
         _ => Ok(file),
     }
 }

@@ -7,7 +7,7 @@ ghost use Rattle.velo_delivery.specs.Reading.{IsReadOf};
 use crate::fate::Fate;
 use std::alloc::Global;
 use velo_bytes::Source;
-use velo_delivery::{Files, ReadFault, is_standard_input, read_whole};
+use velo_delivery::{Files, ReadFault, open_at, read_whole};
 
 /// All bytes of a source; or where there are more than the most that are wanted, more than so many of them.
 fn read_source<I: Source>(alloc: Global, source: &mut I, most: usize) -> Result<Vec<u8>, Fate>
@@ -39,10 +39,7 @@ pub fn read_file<F: Files>(
         bytes.items) }
     ensures unread { IfErr result (LacksAt (bytes_up_to most) (F.disk files.now) path.now) }
 {
-    if is_standard_input(path) {
-        return read_source(alloc, &mut files.standard_input(), most);
-    }
-    match files.open(path) {
+    match open_at(files, path) {
         Some(mut file) => read_source(alloc, &mut file, most),
         None => Err(Fate::CannotOpen),
     }

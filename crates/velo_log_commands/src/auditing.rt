@@ -24,7 +24,7 @@ use std::alloc::Global;
 use velo_audit::{AuditFault, Told, audit, count_atomic};
 use velo_audit_text::{Asked, audit_text};
 use velo_bytes::{Sink, Source};
-use velo_delivery::{Files, Operand, is_standard_input};
+use velo_delivery::{Files, Operand};
 use velo_events::{Config, Label, LockId, Memory, Refusal, VarId};
 use velo_fate::{CheckFault, Fate, open_input};
 use velo_names::{MAX_NAMES_BYTES, Names};
@@ -217,10 +217,6 @@ fn audit_input<F: Files, O: Sink>(
     ensures { AuditsLog names.now asked.now options.now (store F.disk files.now files.now)
         (writing O.contents O.failures out.old out.new) result }
 {
-    if is_standard_input(options.input) {
-        let mut log = files.standard_input();
-        return audit_log(alloc, options, names, asked, &mut log, out);
-    }
     match open_input(files, Operand::Log, options.input, None) {
         Ok(mut log) => audit_log(alloc, options, names, asked, &mut log, out),
         Err(fate) => fate,

@@ -11,7 +11,7 @@ ghost use Rattle.velo_log_commands.specs.Steps.{CarriesTo};
 use std::alloc::Global;
 use thiserror::Error;
 use velo_bytes::{Sink, Source, WriteFault};
-use velo_delivery::{Files, Operand, is_standard_input};
+use velo_delivery::{Files, Operand};
 use velo_fate::{CheckFault, Fate, open_input};
 use velo_logtext::{LogFault, read_log, write_log};
 use velo_request::CarryOptions;
@@ -92,10 +92,6 @@ pub fn carry_file<F: Files>(alloc: Global, options: &CarryOptions, files: &mut F
     ensures { (stdout : Writing) → WritesNothing stdout
         → DoesCarry options.now (store F.disk files.old files.new) stdout result }
 {
-    if is_standard_input(options.input) {
-        let mut log = files.standard_input();
-        return carry_log(alloc, options, &mut log, files);
-    }
     match open_input(files, Operand::Log, options.input, Some(options.target)) {
         Ok(mut log) => carry_log(alloc, options, &mut log, files),
         Err(fate) => fate,

@@ -18,7 +18,7 @@ ghost use Rattle.velo_log_commands.specs.Steps.{Shows};
 use crate::naming::{names_in, read_given, shown_by};
 use std::alloc::Global;
 use velo_bytes::{Sink, Source, WriteFault};
-use velo_delivery::{Files, Operand, is_standard_input};
+use velo_delivery::{Files, Operand};
 use velo_events::{Bounds, Config, Memory};
 use velo_fate::{
     CheckFault, Fate, Verdict, is_alarm, open_input, order_or_cycle_of, verdict_of, write_output,
@@ -26,7 +26,7 @@ use velo_fate::{
 use velo_logtext::read_log;
 use velo_names::MAX_NAMES_BYTES;
 use velo_report::Names;
-use velo_request::CheckOptions;
+use velo_request::{CheckOptions, Limits};
 use velo_traces::Trace;
 use velo_worker::Ending;
 use velo_world::{Closed, LogReplayFault, World};
@@ -193,8 +193,29 @@ pub fn check_run<I: Source, O: Sink>(
         (writing O.contents O.failures sink.old sink.new) (fate_of result) }
     ensures read { I.failures source.new ≡ failures_told (fate_of result) (I.failures source.old) }
 {
-    match do_input(alloc, source, events, nodes) {
-        Ok(closed) => finish(alloc, closed, &Names::Numbers, certificate, sink),
+    let limits = Limits { events, nodes };
+    check_source(alloc, source, sink, limits, &Names::Numbers, certificate)
+}
+
+/// As `check_run`, by these names.
+///
+/// # Errors
+/// As `check_run`.
+fn check_source<I: Source, O: Sink>(
+    alloc: Global,
+    source: &mut I,
+    sink: &mut O,
+    limits: Limits,
+    names: &Names,
+    certificate: bool,
+) -> Result<Verdict, CheckFault>
+    ensures answer { Checks names.now limits.events limits.nodes certificate
+        (I.remaining source.old) (writing O.contents O.failures sink.old sink.new)
+        (fate_of result) }
+    ensures read { I.failures source.new ≡ failures_told (fate_of result) (I.failures source.old) }
+{
+    match do_input(alloc, source, limits.events, limits.nodes) {
+        Ok(closed) => finish(alloc, closed, names, certificate, sink),
         Err(fault) => Err(fault),
     }
 }
@@ -213,26 +234,6 @@ pub fn fate_of(answer: Result<Verdict, CheckFault>) -> Fate
     }
 }
 
-/// Checks a log within the limits that were asked for, and writes the report by the names, with its certificate if that was
-/// asked for.
-fn check_log<I: Source, O: Sink>(
-    alloc: Global,
-    options: &CheckOptions,
-    names: &Names,
-    log: &mut I,
-    out: &mut O,
-) -> Fate
-    ensures told { Checks names.now options.now.limits.events options.now.limits.nodes
-        options.now.certificate (I.remaining log.old)
-        (writing O.contents O.failures out.old out.new) result }
-    ensures failures { I.failures log.new ≡ failures_told result (I.failures log.old) }
-{
-    match do_input(alloc, log, options.limits.events, options.limits.nodes) {
-        Ok(closed) => fate_of(finish(alloc, closed, names, options.certificate, out)),
-        Err(fault) => fate_of(Err(fault)),
-    }
-}
-
 /// Checks the log that was asked for, and tells it by the names.
 fn check_named<F: Files, O: Sink>(
     alloc: Global,
@@ -244,11 +245,15 @@ fn check_named<F: Files, O: Sink>(
     ensures { ChecksLog names.now options.now (store F.disk files.now files.now)
         (writing O.contents O.failures out.old out.new) result }
 {
-    if is_standard_input(options.input) {
-        return check_log(alloc, options, names, &mut files.standard_input(), out);
-    }
     match open_input(files, Operand::Log, options.input, None) {
-        Ok(mut log) => check_log(alloc, options, names, &mut log, out),
+        Ok(mut log) => fate_of(check_source(
+            alloc,
+            &mut log,
+            out,
+            options.limits,
+            names,
+            options.certificate,
+        )),
         Err(fate) => fate,
     }
 }

@@ -19,7 +19,7 @@ use crate::naming::{names_in, read_given};
 use std::alloc::Global;
 use velo_bytes::{Sink, Source, WriteFault, write_all};
 use velo_certify::CertFault;
-use velo_delivery::{Files, Operand, Save, is_standard_input, save_all};
+use velo_delivery::{Files, Operand, Save, save_all};
 use velo_events::{MAX_EVENTS, MAX_NODES, Memory};
 use velo_explain::{Evidence, evidence_of, explain_clean, explain_named, picture_named};
 use velo_fate::{Fate, Saved, fate_of_failure, open_input};
@@ -172,10 +172,6 @@ fn explain_input<F: Files, O: Sink>(
     ensures { ExplainsLog names.now options.now (store F.disk files.old files.new)
         (writing O.contents O.failures out.old out.new) result }
 {
-    if is_standard_input(options.input) {
-        let mut log = files.standard_input();
-        return explain_log(alloc, options, names, &mut log, files, out);
-    }
     match open_input(files, Operand::Log, options.input, options.target) {
         Ok(mut log) => explain_log(alloc, options, names, &mut log, files, out),
         Err(fate) => fate,

@@ -13,7 +13,7 @@ use crate::check::{fate_of, fault_of, finish};
 use crate::naming::{names_in, read_given, shown_by};
 use std::alloc::Global;
 use velo_bytes::{Sink, Source};
-use velo_delivery::{Files, Operand, is_standard_input};
+use velo_delivery::{Files, Operand};
 use velo_fate::{CheckFault, Fate, open_input};
 use velo_names::MAX_NAMES_BYTES;
 use velo_report::Names;
@@ -116,9 +116,6 @@ fn watch_named<F: Files, O: Sink>(
     ensures { WatchesLog names.now options.now (store F.disk files.now files.now)
         (writing O.contents O.failures out.old out.new) result }
 {
-    if is_standard_input(options.input) {
-        return watch_log(alloc, options, names, &mut files.standard_input(), out);
-    }
     match open_input(files, Operand::Log, options.input, None) {
         Ok(mut log) => watch_log(alloc, options, names, &mut log, out),
         Err(fate) => fate,

@@ -11,7 +11,7 @@ ghost use Rattle.velo_workload_commands.specs.Steps.{AreNamesFor, OpensNoProgram
 use crate::saving::{Saving, names_for, save_run};
 use std::alloc::Global;
 use velo_bytes::{Sink, Source, WriteFault};
-use velo_delivery::{Files, ReadFault, is_standard_input, read_whole};
+use velo_delivery::{Files, ReadFault, read_whole};
 use velo_events::{Config, Memory, Refusal};
 use velo_fate::{
     Fate, are_one_target, is_alarm, open_to_run, order_or_cycle_of, verdict_of, write_output,
@@ -66,9 +66,6 @@ pub fn open_workload<F: Files>(
 {
     if are_one_target(files, options.target, options.names_target) {
         return Err(Fate::NamesAtTarget);
-    }
-    if is_standard_input(options.input) {
-        return read_workload(alloc, &mut files.standard_input());
     }
     match open_to_run(files, options.input, options.target, options.names_target) {
         Ok(mut file) => read_workload(alloc, &mut file),
