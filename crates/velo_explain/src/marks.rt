@@ -18,7 +18,7 @@ use velo_events::{Event, Memory};
 use velo_names::Names;
 
 /// The events of the edges of the cycle.
-fn cycle_marks(alloc: Global, edges: &[EdgeEvents]) -> Result<Vec<usize>, Memory>
+pub(crate) fn cycle_marks(alloc: Global, edges: &[EdgeEvents]) -> Result<Vec<usize>, Memory>
     ensures { IfOk result (λ marks. marks.items ≡ flat_map ends_of edges.now) }
 {
     let mut marks = Vec::new(alloc);
@@ -60,7 +60,7 @@ fn add_begins(marks: &mut Vec<usize>, blames: &[BlameOf]) -> Result<(), Memory>
 }
 
 /// What is shown where there is room.
-fn other_marks(alloc: Global, evidence: &Evidence) -> Result<Vec<usize>, Memory>
+pub(crate) fn other_marks(alloc: Global, evidence: &Evidence) -> Result<Vec<usize>, Memory>
     ensures { IfOk result (λ marks. marks.items ≡ other_marks evidence.now) }
 {
     let mut marks = Vec::new(alloc);

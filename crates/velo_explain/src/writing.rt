@@ -5,16 +5,19 @@ ghost use Rattle.velo_events.specs.declared.limits.TheConstants.{MAX_EVENTS};
 ghost use Rattle.velo_explain.specs.Count.{transactions_of};
 ghost use Rattle.velo_explain.specs.Evidence.{IsEvidenceAt};
 ghost use Rattle.velo_explain.specs.Picture.{picture_text, named_picture_text};
+ghost use Rattle.velo_explain.specs.Places.{sited_explanation_text};
 ghost use Rattle.velo_explain.specs.Text.{explanation_text, named_explanation_text, clean_text};
 
 use crate::count::transactions_of;
 use crate::drawing::picture_of;
 use crate::evidence::Evidence;
 use crate::pieces::Page;
+use crate::places::add_places;
 use crate::words::{clean_explanation, explanation};
 use std::alloc::Global;
 use velo_events::Memory;
 use velo_names::Names;
+use velo_sites::Sites;
 use velo_traces::Trace;
 
 /// What an alarm at the position means: first as a picture with a lane for each thread and a row
@@ -66,6 +69,29 @@ pub fn explain_named(
         page ≡ named_explanation_text names.now trace.now.events position evidence.now) }
 {
     explanation(alloc, names, trace.as_slice(), position, evidence)
+}
+
+/// The same, and after it where in the source each event happened that it mentions, by line: of those
+/// whose place the sites give.
+///
+/// # Errors
+/// As `explain`.
+pub fn explain_sited(
+    alloc: Global,
+    trace: &Trace,
+    position: usize,
+    evidence: &Evidence,
+    names: &Names,
+    sites: &Sites,
+) -> Result<Page, Memory>
+    requires few { length trace.now.events ≤ MAX_EVENTS }
+    requires evidence { IsEvidenceAt trace.now.events position evidence.now }
+    ensures { IfOk result (λ page. page ≡ sited_explanation_text names.now sites.now
+        trace.now.events position evidence.now) }
+{
+    let mut page = explain_named(alloc, trace, position, evidence, names)?;
+    add_places(&mut page, alloc, sites, trace.len(), position, evidence)?;
+    Ok(page)
 }
 
 /// The cycle of an alarm as a Graphviz picture: a column for each thread, a box for each

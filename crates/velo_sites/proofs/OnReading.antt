@@ -15,9 +15,9 @@ pub early : (bytes first others : List ℕ) (header : Header) (table : Table) (l
 early bytes first others header table last text are says gives is lacking =
     let rest = lines others in
     let read : sites_in (lines bytes) ≡ Ok (header, table) =
-        ap sites_in are
-        ∙ ap (λ (o : Option Header). option_map_or (λ h. and_then (table_from h no_sites 1 rest)
-        (λ t. Ok (h, t))) o (Err (BadLine 1))) says
-        ∙ ap (λ (r : Result Table SitesFault). and_then r (λ t. Ok (header, t))) gives in
+    ap sites_in are
+    ∙ ap (λ (o : Option Header). option_map_or (λ h. and_then (table_from h no_sites 1 rest)
+    (λ t. Ok (h, t))) o (Err (BadLine 1))) says
+    ∙ ap (λ (r : Result Table SitesFault). and_then r (λ t. Ok (header, t))) gives in
     let on : 1 + length rest ≡ suc (length rest) = omega arith in
     (text, is ∙ (on ∙ sym (ap length are)), (header, table, read, lacking))

@@ -1,5 +1,5 @@
 -- What a line of a file of sites says.
-use Rattle.std.specs.Prelude.{◌≡◌, ℕ, ◌&&◌, nat_lt, nat_le, not, Bool, List, codes, length, Option, Some, None, if◌then◌else◌}
+use Rattle.std.specs.Prelude.{ℕ, ◌&&◌, nat_lt, nat_le, not, Bool, List, codes, length, Option, Some, None, if◌then◌else◌}
 use Rattle.velo_bytes.specs.Parsing.{◌>>=◌, after_word, spaced_number_at, whole_number}
 use Rattle.velo_events.specs.declared.limits.TheConstants.{MAX_EVENTS}
 use Rattle.velo_names.specs.Line.{has_control}

@@ -1,4 +1,4 @@
-use Rattle.std.proofs.Common.{◌≡◌, ap, sym, ◌∙◌, rules}
+use Rattle.std.proofs.Common.{ap, sym, ◌∙◌, rules}
 use Rattle.velo_names.specs.Line.{lines}
 use Rattle.velo_sites.specs.Answers.{header}
 use Rattle.velo_sites.specs.Sites.{IsText, table_from}
